@@ -1,0 +1,11 @@
+pub use Rattle.resp_core.specs.Fault
+pub mod Address
+pub mod AddressText
+pub mod Bytes
+pub mod HashTag
+pub mod KeySlot
+pub mod Nodes
+pub mod RangeMap
+pub mod RangeTree
+pub mod RouteNode
+pub mod RouteTo

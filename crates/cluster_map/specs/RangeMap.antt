@@ -1,0 +1,39 @@
+-- Entries of slot ranges with distinct ends, and which of them answers for a slot.
+use Rattle.std.specs.Prelude.{◌<◌, ◌≤◌, ℕ, nat_lt, List, [], ◌∷◌, ◌++◌, filter, Contains}
+
+-- a start, an end and a value
+abbrev pub Entry : Type 0 → Type 0
+Entry V = ℕ × ℕ × V
+
+abbrev pub end_of : {V : Type 0} → Entry V → ℕ
+end_of e = e.1
+
+abbrev pub value_of : {V : Type 0} → Entry V → V
+value_of e = e.2
+
+-- the ends ascend, so they are distinct
+abbrev pub EndsAfter : {V : Type 0} → ℕ → List (Entry V) → Type 0
+EndsAfter end [] = Unit {0}
+EndsAfter end (e ∷ es) = end < end_of e
+
+abbrev pub Ascends : {V : Type 0} → List (Entry V) → Type 0
+Ascends [] = Unit {0}
+Ascends (e ∷ es) = EndsAfter (end_of e) es × Ascends es
+
+-- the entries with one more: it stands in the place of the entry with its end, if there is one
+abbrev pub insert_entry : {V : Type 0} → List (Entry V) → ℕ → ℕ → V → List (Entry V)
+insert_entry es start end value =
+    filter (λ e. nat_lt (end_of e) end) es ++ (start, end, value) ∷ filter (λ e. nat_lt end (end_of e)) es
+
+-- the entry holds the slot, and none ends between the slot and the end of this one
+pub record Answers {V : Type 0} (es : List (Entry V)) (slot : ℕ) (value : V) : Type 0 where
+  pub start : ℕ
+  pub end : ℕ
+  pub there : Contains es (start, end, value)
+  pub after_start : start ≤ slot
+  pub before_end : slot ≤ end
+  pub least : (e : Entry V) → Contains es e → slot ≤ end_of e → end ≤ end_of e
+
+-- no entry answers for the slot
+abbrev pub IsUncovered : {V : Type 0} → List (Entry V) → ℕ → Type 0
+IsUncovered {V} es slot = (value : V) → ¬ (Answers es slot value)

@@ -1,0 +1,118 @@
+ghost use Rattle.std.specs.Prelude.{◌≡◌, ◌↔◌, IsTrue, Some, None, ◌==◌, IfOk, option_copied, option_map, string_bytes};
+ghost use Rattle.resp_core.specs.Fault.{Fault, out_of_memory, same_fault};
+ghost use Rattle.std.specs.Cmp.Rules.{comparing};
+ghost use Rattle.std.proofs.Common.{rules};
+
+use std::alloc::AllocError;
+use std::marker::Model;
+
+/// What went wrong, in the large.
+#[derive(Clone, Copy, Debug, PartialEq, Eq, Hash)]
+pub enum ErrorKind {
+    /// An address or a setting that cannot be used.
+    InvalidClientConfig,
+    /// A reply of a shape that the command does not answer with.
+    UnexpectedReturnType,
+    /// The client was asked for something that it cannot do.
+    Client,
+    /// Memory ran out.
+    OutOfMemory,
+}
+
+/// An error: its kind, a fixed text, and in some cases a detail.
+#[derive(Debug, Drop)]
+pub struct RedisError {
+    kind: ErrorKind,
+    desc: &'static str,
+    detail: Option<String>,
+}
+
+impl Model for RedisError {
+    ghost use Rattle.std.specs.Prelude.{option_map, string_bytes};
+    ghost use Rattle.resp_core.specs.Fault.{Fault};
+
+    ghost Value = { Fault };
+
+    ghost view = { λ e. record { kind = e.kind; desc = e.desc.now; detail = option_map string_bytes e.detail } };
+}
+
+/// An answer of the layer, or why there is none.
+pub type RedisResult<T> = Result<T, RedisError>;
+
+impl RedisError {
+    pub fn kind(&self) -> ErrorKind
+        ensures { result ≡ self.now.kind }
+    {
+        self.kind
+    }
+
+    /// The fixed text of this error.
+    pub fn desc(&self) -> &'static str
+        ensures { result.now ≡ self.now.desc }
+    {
+        self.desc
+    }
+
+    /// What this occurrence adds to the text, if anything.
+    pub fn detail(&self) -> Option<&str>
+        ensures { option_copied result ≡ self.now.detail }
+    {
+        match &self.detail {
+            Some(detail) => Some(detail.as_str()),
+            None => None,
+        }
+    }
+}
+
+impl PartialEq for RedisError {
+    ghost eq = { same_fault };
+
+    ghost laws = { Prim.search (comparing, rules) depth 9 };
+
+    fn eq(&self, other: &Self) -> bool
+        ensures value { result ≡ same_fault self.now other.now }
+        ensures same { IsTrue result ↔ (self.now ≡ other.now) }
+    {
+        self.kind == other.kind && self.desc == other.desc && self.detail == other.detail
+    }
+}
+
+impl Eq for RedisError {
+    ghost laws = { Prim.search (comparing, rules) depth 9 };
+}
+
+impl From<AllocError> for RedisError {
+    ghost from_gives = { λ _ e. e ≡ out_of_memory };
+
+    fn from(_error: AllocError) -> Self {
+        RedisError {
+            kind: ErrorKind::OutOfMemory,
+            desc: "out of memory",
+            detail: None,
+        }
+    }
+}
+
+impl From<(ErrorKind, &'static str)> for RedisError {
+    ghost from_gives = { λ parts e. e ≡ record { kind = parts.0; desc = parts.1.now; detail = None } };
+
+    fn from((kind, desc): (ErrorKind, &'static str)) -> Self {
+        RedisError {
+            kind,
+            desc,
+            detail: None,
+        }
+    }
+}
+
+impl From<(ErrorKind, &'static str, String)> for RedisError {
+    ghost from_gives = { λ parts e. e ≡ record { kind = parts.0; desc = parts.1.now; detail = Some (string_bytes parts.2) } };
+
+    fn from((kind, desc, detail): (ErrorKind, &'static str, String)) -> Self {
+        RedisError {
+            kind,
+            desc,
+            detail: Some(detail),
+        }
+    }
+}
