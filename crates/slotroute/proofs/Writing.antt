@@ -1,0 +1,36 @@
+-- Bytes that grow in steps.
+use Rattle.std.proofs.Common.{◌≡◌, ℕ, ◌+◌, ◌-◌, ◌≤◌, List, ◌++◌, append_assoc, refl, sym, ◌∙◌, ap, rules, arith, length, take, drop}
+use Rattle.std.proofs.Math.Seq.{take-add, take-length}
+use Rattle.std.proofs.lemmas.List.{length-drop}
+use Rattle.std.specs.Prelude.{Option, Some, None, Result, Ok, Err, OnErr}
+use Rattle.std.specs.Io.KnownBytes.{Appends, Keeps}
+
+pub grows : (old mid new : Option (List ℕ)) (a b ab : List ℕ) → Appends old mid a → Appends mid new b → ab ≡ a ++ b → Appends old new ab
+grows None mid new a b ab h k e = tt
+grows (Some x) None new a b ab h k e = absurd h
+grows (Some x) (Some y) None a b ab h k e = absurd k
+grows (Some x) (Some y) (Some z) a b ab h k e = k ∙ ap (λ t. t ++ b) h ∙ append_assoc x a b ∙ ap (λ t. x ++ t) (sym e)
+
+pub kept : (old mid new : Option (List ℕ)) (a : List ℕ) → Appends old mid a → Keeps mid new → Appends old new a
+kept None mid new a h k = tt
+kept (Some x) None new a h k = absurd h
+kept (Some x) (Some y) None a h k = absurd k
+kept (Some x) (Some y) (Some z) a h k = k ∙ h
+
+rest_all : (d : ℕ) (text : List ℕ) → take (length text - d) (drop d text) ≡ drop d text
+rest_all d text = let e : take (length (drop d text)) (drop d text) ≡ drop d text = take-length (drop d text) in rw length-drop at e
+
+pub written : (d n : ℕ) (text : List ℕ) → take (d + n) text ≡ take d text ++ take n (take (length text - d) (drop d text))
+written d n text = take-add d n text ∙ ap (λ t. take d text ++ take n t) (sym (rest_all d text))
+
+pub fits : (d n : ℕ) (text : List ℕ) → d ≤ length text → n ≤ length (take (length text - d) (drop d text)) → d + n ≤ length text
+fits d n text h k = let e : n ≤ length text - d = rw (rest_all d text, length-drop) at k in omega arith
+
+-- what holds of either result holds of an error
+pub on_either : {T E : Type 0} (r : Result T E) (P : Type 0) → P → OnErr r P
+on_either (Ok x) P p = tt
+on_either (Err e) P p = p
+
+-- a text that was written whole, and kept, is one of its beginnings
+pub whole_written : (old mid new : Option (List ℕ)) (text : List ℕ) → Appends old mid text → Keeps mid new → (k : ℕ) × Appends old new (take k text)
+whole_written old mid new text a k = (length text, rw (take-length text) (kept old mid new text a k))

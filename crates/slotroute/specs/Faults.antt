@@ -1,0 +1,30 @@
+-- What a fault says of the input, and its line.
+use Rattle.std.specs.Prelude.{◌≡◌, ℕ, List, codes, ⊤}
+use Rattle.slotroute.specs.MapLines.{IsFirstBad}
+use Rattle.slotroute.specs.Output.{usage_line, bad_map_line}
+use Rattle.slotroute.specs.declared.fault.Fault.{Fault}
+use Rattle.slotroute.specs.declared.fault.Fault.TheVariants.{Usage, BadMapLine, Memory, Input, Output as OutputFailed}
+
+-- the line that tells of a fault
+abbrev pub fault_line : Fault → List ℕ
+fault_line Usage = usage_line
+fault_line (BadMapLine number) = bad_map_line number
+fault_line Memory = codes "slotroute: no memory\n"
+fault_line Input = codes "slotroute: input failed\n"
+fault_line OutputFailed = codes "slotroute: output failed\n"
+
+-- a fault that comes of memory or of the reader, whatever the input is
+abbrev pub IsReadingTrouble : Fault → Type 0
+IsReadingTrouble Usage = ⊥
+IsReadingTrouble (BadMapLine number) = ⊥
+IsReadingTrouble Memory = ⊤
+IsReadingTrouble Input = ⊤
+IsReadingTrouble OutputFailed = ⊥
+
+-- why there is no map of these leading lines: one of them is bad, or there was trouble
+abbrev pub IsNoMap : List (List (List ℕ)) → Fault → Type 0
+IsNoMap lines Usage = ⊥
+IsNoMap lines (BadMapLine number) = IsFirstBad lines number
+IsNoMap lines Memory = ⊤
+IsNoMap lines Input = ⊤
+IsNoMap lines OutputFailed = ⊥

@@ -1,0 +1,45 @@
+-- The lines of the input, and their fields.
+use Rattle.std.specs.Prelude.{ℕ, List, [], ◌∷◌, ◌==◌, if◌then◌else◌, length, map, filter, nat_lt}
+use Rattle.std.specs.Io.BufRead.{strip_last, first_piece}
+use Rattle.std.specs.List.{slice_split}
+
+abbrev pub line_feed : ℕ
+line_feed = 10
+
+abbrev pub carriage_return : ℕ
+carriage_return = 13
+
+abbrev pub space : ℕ
+space = 32
+
+-- a byte at the front of the first line
+abbrev pub onto_first_line : ℕ → List (List ℕ) → List (List ℕ)
+onto_first_line x [] = (x ∷ []) ∷ []
+onto_first_line x (l ∷ ls) = (x ∷ l) ∷ ls
+
+-- the lines: each ends with a line feed, which the last one may lack
+abbrev pub raw_lines : List ℕ → List (List ℕ)
+raw_lines [] = []
+raw_lines (x ∷ xs) = if x == line_feed then [] ∷ raw_lines xs else onto_first_line x (raw_lines xs)
+
+-- the lines, each without one carriage return at its end
+abbrev pub lines_of : List ℕ → List (List ℕ)
+lines_of input = map (strip_last carriage_return) (raw_lines input)
+
+-- the first line
+abbrev pub line_of : List ℕ → List ℕ
+line_of input = strip_last carriage_return (first_piece line_feed input)
+
+-- the fields of a line: the longest runs of bytes other than space
+abbrev pub fields_of : List ℕ → List (List ℕ)
+fields_of line = filter (λ f. nat_lt 0 (length f)) (slice_split (λ b. b == space) line)
+
+-- the lines, as their fields, before the first that has none
+abbrev pub until_blank : List (List (List ℕ)) → List (List (List ℕ))
+until_blank [] = []
+until_blank ([] ∷ lines) = []
+until_blank ((field ∷ fields) ∷ lines) = (field ∷ fields) ∷ until_blank lines
+
+-- the leading lines of the input, as their fields
+abbrev pub leading : List ℕ → List (List (List ℕ))
+leading input = until_blank (map fields_of (lines_of input))

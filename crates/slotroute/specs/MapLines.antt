@@ -1,0 +1,36 @@
+-- What the leading lines say of a slot map.
+use Rattle.std.specs.Prelude.{◌≡◌, ℕ, ◌+◌, List, [], ◌∷◌, ◌++◌, length}
+use Rattle.std.specs.List.{AllZip}
+use Rattle.std.specs.Str.{IsUtf8}
+use Rattle.cluster_map.specs.Address.{Address}
+use Rattle.cluster_map.specs.AddressText.{IsNumberText, IsAddressText}
+use Rattle.cluster_map.specs.Nodes.{RangeNodes}
+
+-- a field is a number, or an address, only where it is UTF-8
+abbrev pub IsNumberField : List ℕ → ℕ → Type 0
+IsNumberField field number = IsUtf8 field × IsNumberText field number
+
+abbrev pub IsNodeField : List ℕ → Address → Type 0
+IsNodeField field address = IsUtf8 field × IsAddressText field address.host address.port
+
+-- the fields of a map line: a start, an end, the primary, and replicas
+abbrev pub IsMapLine : List (List ℕ) → RangeNodes → Type 0
+IsMapLine [] range = ⊥
+IsMapLine (start ∷ []) range = ⊥
+IsMapLine (start ∷ end ∷ []) range = ⊥
+IsMapLine (start ∷ end ∷ primary ∷ replicas) range =
+    IsNumberField start range.start × IsNumberField end range.end × IsNodeField primary range.master × AllZip IsNodeField replicas range.replicas
+
+-- the lines are map lines, and these are their ranges
+abbrev pub IsMap : List (List (List ℕ)) → List RangeNodes → Type 0
+IsMap lines ranges = AllZip IsMapLine lines ranges
+
+-- the line of this number, from 1 on, is the first that is no map line
+pub record IsFirstBad (lines : List (List (List ℕ))) (number : ℕ) : Type 0 where
+  pub good : List (List (List ℕ))
+  pub bad : List (List ℕ)
+  pub later : List (List (List ℕ))
+  pub split : lines ≡ good ++ bad ∷ later
+  pub before : (ranges : List RangeNodes) × IsMap good ranges
+  pub there : (range : RangeNodes) → ¬ (IsMapLine bad range)
+  pub counted : number ≡ length good + 1

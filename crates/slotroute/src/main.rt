@@ -1,0 +1,38 @@
+//! Tells which node of a Redis cluster serves a key.
+//!
+//! `slotroute node KEY` reads a slot map from standard input, one range a line as
+//! `START END HOST:PORT [HOST:PORT ..]`, and prints the slot of the key and the primary that
+//! serves it.
+#![tactic(auto)]
+
+mod fault;
+mod input;
+mod output;
+mod serve;
+
+use serve::serve;
+use std::alloc::Global;
+use std::env;
+use std::io::{self, BufReader, BufWriter};
+use std::process::ExitCode;
+
+fn run(rt: &HostRuntime, alloc: Global) -> io::Result<u8> {
+    let mut words = Vec::new(alloc);
+    for word in env::args(rt)?.skip(1) {
+        words.push(word)?;
+    }
+    let mut reader = BufReader::new(alloc, rt.stdin())?;
+    let mut out = BufWriter::new(alloc, rt.stdout())?;
+    let mut err = rt.stderr();
+    Ok(serve(alloc, &words, &mut reader, &mut out, &mut err))
+}
+
+fn main(rt: HostRuntime) -> ExitCode {
+    match run(&rt, rt.alloc()) {
+        Ok(status) => ExitCode::from(status),
+        Err(_) => {
+            let _ = eprintln!(rt; "slotroute: no memory");
+            ExitCode::from(2)
+        }
+    }
+}

@@ -1,0 +1,102 @@
+ghost use Rattle.std.specs.Prelude.{◌≡◌, ◌≢◌, ℕ, List, map, string_bytes, IfOk, MatchOption, MatchResult};
+ghost use Rattle.slotroute.specs.Output.{node_words, IsNodeAnswer};
+ghost use Rattle.slotroute.specs.Faults.{fault_line};
+ghost use Rattle.slotroute.specs.Serves.{Serves, Answers, Explains, Reports};
+
+use crate::fault::Fault;
+use crate::input::read_map;
+use crate::output::emit;
+use cluster_map::{Route, SlotAddr, SlotMap};
+use std::alloc::{AllocError, Global};
+use std::io::{BufRead, Write};
+
+/// Runs the program on the words after its name, and gives its status.
+///
+/// Answers go to `out`, and a fault goes to `err` as one line.
+pub fn serve<R: BufRead, O: Write, E: Write>(
+    alloc: Global,
+    words: &[String],
+    reader: &mut R,
+    out: &mut O,
+    err: &mut E,
+) -> u8
+    ensures { Serves (map string_bytes words.now) (R.remaining reader.old)
+        (O.contents out.old) (O.contents out.new) (E.contents err.old) (E.contents err.new) result }
+{
+    match run(alloc, words, reader, out) {
+        Ok(status) => status,
+        Err(fault) => {
+            report(alloc, &fault, err);
+            2
+        }
+    }
+}
+
+fn run<R: BufRead, O: Write>(
+    alloc: Global,
+    words: &[String],
+    reader: &mut R,
+    out: &mut O,
+) -> Result<u8, Fault>
+    ensures { MatchResult result
+        (Answers (map string_bytes words.now) (R.remaining reader.old) (O.contents out.old) (O.contents out.new))
+        (Explains (map string_bytes words.now) (R.remaining reader.old) (O.contents out.old) (O.contents out.new)) }
+{
+    let Some(key) = node_key(words) else {
+        return Err(Fault::Usage);
+    };
+    let ranges = read_map(alloc, reader)?;
+    let map = SlotMap::from_slots(alloc, ranges)?;
+    let (line, status) = node_answer(alloc, &map, key)?;
+    emit(out, line.as_bytes())?;
+    Ok(status)
+}
+
+/// The key of the words `node KEY`.
+fn node_key(words: &[String]) -> Option<&[u8]>
+    ensures { MatchOption result
+        ((key : List ℕ) → map string_bytes words.now ≢ node_words key)
+        (λ key. map string_bytes words.now ≡ node_words key.now) }
+{
+    match words {
+        [word, key] if word.as_str() == "node" => Some(key.as_bytes()),
+        _ => None,
+    }
+}
+
+/// The line and the status that answer for a key.
+fn node_answer(alloc: Global, map: &SlotMap, key: &[u8]) -> Result<(String, u8), AllocError>
+    ensures { IfOk result (λ answer. IsNodeAnswer map.now key.now (string_bytes answer.0) answer.1) }
+{
+    let route = Route::with_key(key, SlotAddr::Master);
+    let slot = route.slot();
+    match map.slot_addr_for_route(route, 0) {
+        Some(node) => Ok((format!(in alloc; "slot {slot} {node}\n")?, 0)),
+        None => Ok((format!(in alloc; "slot {slot} none\n")?, 1)),
+    }
+}
+
+/// Writes the line of a fault.
+fn report<E: Write>(alloc: Global, fault: &Fault, err: &mut E)
+    ensures { Reports (E.contents err.old) (E.contents err.new) (fault_line fault.now) }
+{
+    let _ = match fault_text(alloc, fault) {
+        Ok(text) => emit(err, text.as_bytes()),
+        Err(_) => emit(err, b"slotroute: no memory\n"),
+    };
+}
+
+fn fault_text(alloc: Global, fault: &Fault) -> Result<String, AllocError>
+    ensures { IfOk result (λ text. string_bytes text ≡ fault_line fault.now) }
+{
+    match fault {
+        Fault::Usage => String::from_str(
+            alloc,
+            "usage: slotroute node KEY | split WORD .. | run forward|reverse [first|pick=N|shard]\n",
+        ),
+        Fault::BadMapLine(number) => format!(in alloc; "slotroute: bad map line {number}\n"),
+        Fault::Memory => String::from_str(alloc, "slotroute: no memory\n"),
+        Fault::Input => String::from_str(alloc, "slotroute: input failed\n"),
+        Fault::Output => String::from_str(alloc, "slotroute: output failed\n"),
+    }
+}
