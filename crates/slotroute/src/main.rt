@@ -9,6 +9,8 @@ mod fault;
 mod input;
 mod output;
 mod serve;
+#[cfg(test)]
+mod tests;
 
 use serve::serve;
 use std::alloc::Global;
