@@ -1,5 +1,7 @@
 -- What a fault says of the input, and its line.
-use Rattle.std.specs.Prelude.{◌≡◌, ℕ, List, codes, ⊤}
+use Rattle.std.specs.Prelude.{◌≡◌, ◌≢◌, ℕ, List, codes, ⊤}
+use Rattle.std.specs.declared.io.ErrorKind.{ErrorKind}
+use Rattle.std.specs.declared.io.ErrorKind.TheVariants.{OutOfMemory}
 use Rattle.slotroute.specs.MapLines.{IsFirstBad}
 use Rattle.slotroute.specs.Output.{usage_line, bad_map_line}
 use Rattle.slotroute.specs.declared.fault.Fault.{Fault}
@@ -13,13 +15,10 @@ fault_line Memory = codes "slotroute: no memory\n"
 fault_line Input = codes "slotroute: input failed\n"
 fault_line OutputFailed = codes "slotroute: output failed\n"
 
--- a fault that comes of memory or of the reader, whatever the input is
-abbrev pub IsReadingTrouble : Fault → Type 0
-IsReadingTrouble Usage = ⊥
-IsReadingTrouble (BadMapLine number) = ⊥
-IsReadingTrouble Memory = ⊤
-IsReadingTrouble Input = ⊤
-IsReadingTrouble OutputFailed = ⊥
+-- what an error of the reader becomes, by its kind: want of memory, or a failed input
+pub record IsReaderFault (kind : ErrorKind) (fault : Fault) : Type 0 where
+  pub memory : kind ≡ OutOfMemory → fault ≡ Memory
+  pub input : kind ≢ OutOfMemory → fault ≡ Input
 
 -- why there is no map of these leading lines: one of them is bad, or there was trouble
 abbrev pub IsNoMap : List (List (List ℕ)) → Fault → Type 0

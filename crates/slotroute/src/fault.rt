@@ -37,9 +37,10 @@ impl<T: Drop> From<AllocFailed<T>> for Fault {
 
 /// A failure of the reader.
 impl From<io::Error> for Fault {
-    ghost use Rattle.slotroute.specs.Faults.{IsReadingTrouble};
+    ghost use Rattle.std.specs.IoError.{error_kind};
+    ghost use Rattle.slotroute.specs.Faults.{IsReaderFault};
 
-    ghost from_gives = { λ _ fault. IsReadingTrouble fault };
+    ghost from_gives = { λ error fault. IsReaderFault (error_kind error) fault };
 
     fn from(error: io::Error) -> Self {
         if error.kind() == io::ErrorKind::OutOfMemory {
