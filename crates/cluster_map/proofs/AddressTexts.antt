@@ -1,10 +1,9 @@
 -- What the searches of a text find, and what an address text is made of.
-use Rattle.std.proofs.Common.{◌≡◌, ◌≢◌, ◌<◌, ◌+◌, ◌-◌, ◌^◌, ℕ, zero, suc, IsTrue, nat_eq, eq-eqb, rules, List, [], ◌∷◌, ◌++◌, length, get_or, take, drop, Option, Some, None, MatchOption, IfSome, Bor, refl, ap, sym, ◌∙◌, subst, arith, lit<, replicate, append_assoc}
+use Rattle.std.proofs.Common.{◌≡◌, ◌≢◌, ◌<◌, ◌-◌, ℕ, zero, suc, IsTrue, nat_eq, eq-eqb, rules, List, [], ◌∷◌, ◌++◌, length, get_or, take, drop, Option, Some, None, MatchOption, IfSome, Bor, refl, ap, sym, ◌∙◌, subst, arith, lit<, replicate, append_assoc}
 use Rattle.std.proofs.lemmas.List.{take-append-drop, append-nil}
 use Rattle.std.proofs.Math.Seq.{drop-length}
 use Rattle.std.proofs.lemmas.Str.Pattern.{drop_at_char, NoCharPasses-char}
-use Rattle.std.specs.Prelude.{Contains}
-use Rattle.std.specs.Str.Parse.{IsNumeral, digits_value, without_leading_plus}
+use Rattle.std.specs.Str.Parse.{digits_value, without_leading_plus}
 use Rattle.std.specs.Str.Pattern.{CutsPrefixes, CutsSuffixes, FindsCharPrefix, FindsCharSuffix, IsTrimStartMatches, IsTrimEndMatches, RFindsChar, SplitsAroundMatch}
 use Rattle.cluster_map.specs.AddressText.{IsNumberText, IsBracketed, ReadsAs, IsAddressText, IsNoAddress}
 use Rattle.cluster_map.proofs.Lists.{Lacks, lacks_from, free_from, has, last_cut}
@@ -136,18 +135,25 @@ no_host text left right middle inner k m c e start d end empty host port (l, r, 
     b.some (host_is left middle inner host k m o n e start d end (subst P (cut_is text left right l r host port c a).0 b) ∙ empty)
 
 pub reads : (text left right middle inner : List ℕ) (k m port : ℕ) → CutsAtColon text left right → left ≡ replicate k 91 ++ middle → NoStart middle → middle ≡ inner ++ replicate m 93 → NoEnd inner → inner ≢ [] → IsNumberText right port → IsAddressText text inner port
-reads text left right middle inner k m port c e start d end some number =
-    (left, right, record {
-      cut = c.0;
-      last = free_from 58 right c.1;
-      number = number;
-      bracketed = (k, m, record {
+reads text left right middle inner k m port c e start d end some number = (
+  left,
+  right,
+  record {
+    cut = c.0;
+    last = free_from 58 right c.1;
+    number = number;
+    bracketed = (
+      k,
+      m,
+      record {
         whole = e ∙ ap (λ y. replicate k 91 ++ y) d ∙ sym (append_assoc (replicate k 91) inner (replicate m 93));
         some = some;
         start = λ rest q. start (rest ++ replicate m 93) (d ∙ ap (λ y. y ++ replicate m 93) q);
-        end = end
-      })
-    })
+        end = end;
+      },
+    );
+  },
+)
 
 -- a text names one address at most
 pub one_address : (text host other : List ℕ) (port number : ℕ) → IsAddressText text host port → IsAddressText text other number → (host ≡ other) × (port ≡ number)
@@ -163,9 +169,9 @@ pub names_port : (text host other : List ℕ) (port number : ℕ) → IsAddressT
     → (IsTrue (nat_eq port number) → IsAddressText text other number) × (IsAddressText text other number → IsTrue (nat_eq port number))
 names_port text host other port number a e = (
   (λ t.
-    let same : port ≡ number = search (rules, t) in
-    let P : List ℕ → Type 0 = λ x. IsAddressText text x number in
-    let Q : ℕ → Type 0 = λ x. IsAddressText text host x in
-    subst P e (subst Q same a)),
+      let same : port ≡ number = search (rules, t) in
+      let P : List ℕ → Type 0 = λ x. IsAddressText text x number in
+      let Q : ℕ → Type 0 = λ x. IsAddressText text host x in
+      subst P e (subst Q same a)),
   (λ b. eq-eqb port number (one_address text host other port number a b).1),
 )

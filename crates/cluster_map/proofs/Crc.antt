@@ -1,6 +1,5 @@
 -- Division is linear, so the bits may come in at the top.
-use Rattle.std.proofs.Common.{◌≡◌, ◌<◌, ◌≤◌, ◌⊎◌, inl, inr, ℕ, zero, suc, ◌+◌, ◌*◌, ◌-◌, ◌%◌, ◌/◌, ◌^◌, Bool, true, false, nat_le, cond, List, [], ◌∷◌, ◌++◌, fold, replicate, bit_xor, refl, ap, sym, ◌∙◌, subst, arith, rules, lit<, lit≤, zero-add}
-use Rattle.std.proofs.lemmas.Grind.{common_steps}
+use Rattle.std.proofs.Common.{◌≡◌, ◌<◌, ◌≤◌, inl, inr, ℕ, zero, suc, ◌+◌, ◌*◌, ◌-◌, ◌%◌, ◌/◌, ◌^◌, List, [], ◌∷◌, ◌++◌, fold, replicate, bit_xor, refl, ap, sym, ◌∙◌, subst, arith, lit<, lit≤, zero-add}
 use Rattle.std.proofs.lemmas.Bool.{cases_lt}
 use Rattle.std.proofs.lemmas.Bool.Decides.{nat_tests}
 use Rattle.std.proofs.lemmas.Nat.{xor_block, xor_comm, xor_lt, mod_low}
@@ -27,8 +26,8 @@ bring_down_top q h = let e : 2 * (32768 + q) + 0 - 65536 ≡ 2 * q = omega arith
 pub bring_down_lt : (r b : ℕ) → r < 2 ^ 16 → b < 2 → bring_down r b < 2 ^ 16
 bring_down_lt r b h k =
     elim (cases_lt (2 * r + b) 65536) [
-      inl l ↦ subst (λ n. n < 2 ^ 16) (sym (bring_down_low r b l)) l
-    | inr l ↦ subst (λ n. n < 2 ^ 16) (sym (bring_down_high r b l)) (xor_lt 16 (2 * r + b - 65536) 4129 (omega arith) (lit< tt))
+      | inl l ↦ subst (λ n. n < 2 ^ 16) (sym (bring_down_low r b l)) l
+      | inr l ↦ subst (λ n. n < 2 ^ 16) (sym (bring_down_high r b l)) (xor_lt 16 (2 * r + b - 65536) 4129 (omega arith) (lit< tt))
     ]
 
 pub double_xor : (a b : ℕ) → bit_xor (2 * a) (2 * b) ≡ 2 * bit_xor a b
@@ -47,13 +46,13 @@ swap_right a b c = xor_assoc a b c ∙ ap (bit_xor a) (xor_comm b c) ∙ sym (xo
 pub bring_down-bit : (r b : ℕ) → r < 2 ^ 16 → b < 2 → bring_down r b ≡ bit_xor (bring_down r 0) b
 bring_down-bit r b h k =
     elim (cases_lt r 32768) [
-      inl l ↦ bring_down_low r b (omega arith) ∙ sym (doubled_bit r b k) ∙ ap (λ x. bit_xor x b) (sym (bring_down_bottom r l))
-    | inr l ↦
-        let q = r - 32768 in
-        let e : 2 * r + b - 65536 ≡ 2 * (r - 32768) + b = omega arith in
-        let f : 2 * r + 0 - 65536 ≡ 2 * (r - 32768) = omega arith in
-        bring_down_high r b (omega arith) ∙ ap (λ x. bit_xor x 4129) (e ∙ sym (doubled_bit (r - 32768) b k)) ∙ swap_right (2 * (r - 32768)) b 4129
-            ∙ ap (λ x. bit_xor (bit_xor x 4129) b) (sym f) ∙ ap (λ x. bit_xor x b) (sym (bring_down_high r 0 (omega arith)))
+      | inl l ↦ bring_down_low r b (omega arith) ∙ sym (doubled_bit r b k) ∙ ap (λ x. bit_xor x b) (sym (bring_down_bottom r l))
+      | inr l ↦
+          let q = r - 32768 in
+          let e : 2 * r + b - 65536 ≡ 2 * (r - 32768) + b = omega arith in
+          let f : 2 * r + 0 - 65536 ≡ 2 * (r - 32768) = omega arith in
+          bring_down_high r b (omega arith) ∙ ap (λ x. bit_xor x 4129) (e ∙ sym (doubled_bit (r - 32768) b k)) ∙ swap_right (2 * (r - 32768)) b 4129
+          ∙ ap (λ x. bit_xor (bit_xor x 4129) b) (sym f) ∙ ap (λ x. bit_xor x b) (sym (bring_down_high r 0 (omega arith)))
     ]
 
 top_bottom : (q s : ℕ) → q < 32768 → s < 32768 → bit_xor (32768 + q) s ≡ 32768 + bit_xor q s
@@ -65,7 +64,7 @@ top_top q t h k = xor_block 15 1 1 q t h k ∙ zero-add (bit_xor q t)
 xor_top_bottom : (q s : ℕ) → q < 32768 → s < 32768 → bring_down (bit_xor (32768 + q) s) 0 ≡ bit_xor (bring_down (32768 + q) 0) (bring_down s 0)
 xor_top_bottom q s h k =
     ap (λ x. bring_down x 0) (top_bottom q s h k) ∙ bring_down_top (bit_xor q s) (xor_lt 15 q s h k) ∙ ap (λ x. bit_xor x 4129) (sym (double_xor q s))
-        ∙ swap_right (2 * q) (2 * s) 4129 ∙ ap (λ x. bit_xor x (2 * s)) (sym (bring_down_top q h)) ∙ ap (bit_xor (bring_down (32768 + q) 0)) (sym (bring_down_bottom s k))
+    ∙ swap_right (2 * q) (2 * s) 4129 ∙ ap (λ x. bit_xor x (2 * s)) (sym (bring_down_top q h)) ∙ ap (bit_xor (bring_down (32768 + q) 0)) (sym (bring_down_bottom s k))
 
 cancel : (a b g : ℕ) → bit_xor (bit_xor a g) (bit_xor b g) ≡ bit_xor a b
 cancel a b g =
@@ -74,7 +73,7 @@ cancel a b g =
 xor_top_top : (q t : ℕ) → q < 32768 → t < 32768 → bring_down (bit_xor (32768 + q) (32768 + t)) 0 ≡ bit_xor (bring_down (32768 + q) 0) (bring_down (32768 + t) 0)
 xor_top_top q t h k =
     ap (λ x. bring_down x 0) (top_top q t h k) ∙ bring_down_bottom (bit_xor q t) (xor_lt 15 q t h k) ∙ sym (double_xor q t) ∙ sym (cancel (2 * q) (2 * t) 4129)
-        ∙ ap (λ x. bit_xor x (bit_xor (2 * t) 4129)) (sym (bring_down_top q h)) ∙ ap (bit_xor (bring_down (32768 + q) 0)) (sym (bring_down_top t k))
+    ∙ ap (λ x. bit_xor x (bit_xor (2 * t) 4129)) (sym (bring_down_top q h)) ∙ ap (bit_xor (bring_down (32768 + q) 0)) (sym (bring_down_top t k))
 
 xor_bottom_bottom : (r s : ℕ) → r < 32768 → s < 32768 → bring_down (bit_xor r s) 0 ≡ bit_xor (bring_down r 0) (bring_down s 0)
 xor_bottom_bottom r s h k =
@@ -88,8 +87,8 @@ pub data Halved : ℕ → Type 0 where
 halved : (r : ℕ) → r < 2 ^ 16 → Halved r
 halved r h =
     elim (cases_lt r 32768) [
-      inl l ↦ bottom r l
-    | inr l ↦ let e : 32768 + (r - 32768) ≡ r = omega arith in subst Halved e (top (r - 32768) (omega arith))
+      | inl l ↦ bottom r l
+      | inr l ↦ let e : 32768 + (r - 32768) ≡ r = omega arith in subst Halved e (top (r - 32768) (omega arith))
     ]
 
 bring_down-xor_of : (r s : ℕ) → Halved r → Halved s → bring_down (bit_xor r s) 0 ≡ bit_xor (bring_down r 0) (bring_down s 0)
@@ -170,10 +169,10 @@ bits_in (suc n) r b l h =
     let small : bit_at b n < 2 = bit_at-lt b n in
     let m : b % 2 ^ n < 2 ^ n = omega (arith, pow_pos n) in
     bits_in n (bring_down r (bit_at b n)) b (omega arith) (bring_down_lt r (bit_at b n) h small)
-        ∙ ap (λ x. bit_xor (zeros_down n x) (b % 2 ^ n)) (bring_down-bit r (bit_at b n) h small)
-        ∙ ap (λ x. bit_xor x (b % 2 ^ n)) (zeros_down-xor n (bring_down r 0) (bit_at b n) (bring_down_lt r 0 h (lit< tt)) (omega arith) ∙ ap (bit_xor (zeros_down n (bring_down r 0))) (zeros_down_small n (bit_at b n) (bit_times (bit_at b n) (2 ^ n) small (omega arith))))
-        ∙ xor_assoc (zeros_down n (bring_down r 0)) (bit_at b n * 2 ^ n) (b % 2 ^ n)
-        ∙ ap (bit_xor (zeros_down n (bring_down r 0))) (xor_shifted (bit_at b n) n (b % 2 ^ n) m ∙ sym (mod_more b n))
+    ∙ ap (λ x. bit_xor (zeros_down n x) (b % 2 ^ n)) (bring_down-bit r (bit_at b n) h small)
+    ∙ ap (λ x. bit_xor x (b % 2 ^ n)) (zeros_down-xor n (bring_down r 0) (bit_at b n) (bring_down_lt r 0 h (lit< tt)) (omega arith) ∙ ap (bit_xor (zeros_down n (bring_down r 0))) (zeros_down_small n (bit_at b n) (bit_times (bit_at b n) (2 ^ n) small (omega arith))))
+    ∙ xor_assoc (zeros_down n (bring_down r 0)) (bit_at b n * 2 ^ n) (b % 2 ^ n)
+    ∙ ap (bit_xor (zeros_down n (bring_down r 0))) (xor_shifted (bit_at b n) n (b % 2 ^ n) m ∙ sym (mod_more b n))
 
 fold-append : (r : ℕ) (xs ys : List ℕ) → fold bring_down r (xs ++ ys) ≡ fold bring_down (fold bring_down r xs) ys
 fold-append r [] ys = refl
@@ -189,7 +188,7 @@ byte_in m n r b c l h k e d =
     let e0 : b ≡ 0 * 2 ^ n + b = omega arith in
     let same : b % 2 ^ n ≡ b = ap (λ y. y % 2 ^ n) e0 ∙ mod_low 0 n b k in
     ap (zeros_down m) (bits_in n r b l h ∙ ap (bit_xor (zeros_down n r)) same) ∙ zeros_down-xor m (zeros_down n r) b (zeros_down_lt n r h) (omega arith)
-        ∙ ap (λ x. bit_xor x (zeros_down m b)) (zeros_down-swap m n r) ∙ ap (bit_xor (zeros_down n (zeros_down m r))) e ∙ sym (zeros_down-xor n (zeros_down m r) c (zeros_down_lt m r h) d)
+    ∙ ap (λ x. bit_xor x (zeros_down m b)) (zeros_down-swap m n r) ∙ ap (bit_xor (zeros_down n (zeros_down m r))) e ∙ sym (zeros_down-xor n (zeros_down m r) c (zeros_down_lt m r h) d)
 
 all_lt : (r : ℕ) (bs : List ℕ) → r < 2 ^ 16 → fold bring_down r (bits_of bs) < 2 ^ 16
 all_lt r [] h = h
@@ -205,8 +204,8 @@ pub crc_more : (c x : ℕ) (xs : List ℕ) → x < 2 ^ 8 → c ≡ zeros_down 16
 crc_more c x xs h e =
     let shift : zeros_down 16 x ≡ zeros_down 8 (x * 256) = ap (zeros_down 8) (zeros_down_small 8 x (omega arith)) in
     ap (λ y. zeros_down 8 (bit_xor y (x * 256))) e
-        ∙ sym (byte_in 16 8 (fold bring_down 0 (bits_of xs)) x (x * 256) (lit≤ tt) (all_lt 0 xs (lit< tt)) h shift (omega arith))
-        ∙ ap (zeros_down 16) (sym (rem_more 0 xs x))
+    ∙ sym (byte_in 16 8 (fold bring_down 0 (bits_of xs)) x (x * 256) (lit≤ tt) (all_lt 0 xs (lit< tt)) h shift (omega arith))
+    ∙ ap (zeros_down 16) (sym (rem_more 0 xs x))
 
 pub crc_whole : (bs : List ℕ) → crc_of bs ≡ zeros_down 16 (fold bring_down 0 (bits_of bs))
 unfolding crc_of

@@ -215,3 +215,6 @@ fn port_number(text: &str) -> Option<u16>
 {
     text.parse().ok()
 }
+
+#[cfg(test)]
+mod tests;

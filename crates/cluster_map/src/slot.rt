@@ -176,3 +176,6 @@ fn crc16(bytes: &[u8]) -> u16
     }
     crc
 }
+
+#[cfg(test)]
+mod tests;

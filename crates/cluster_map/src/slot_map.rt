@@ -160,3 +160,6 @@ impl SlotMap {
         Some(addrs.slot_addr(route.slot_addr(), pick))
     }
 }
+
+#[cfg(test)]
+mod tests;

@@ -118,3 +118,6 @@ impl<'a, V> IntoIterator for &'a SlotRangeMap<V> {
         self.iter()
     }
 }
+
+#[cfg(test)]
+mod tests;

@@ -116,3 +116,6 @@ impl From<(ErrorKind, &'static str, String)> for RedisError {
         }
     }
 }
+
+#[cfg(test)]
+mod tests;

@@ -8,8 +8,8 @@ pub loop-byte-preserved : goal.loop-byte-preserved
 loop-byte-preserved c =
     let more = take_more c.args.bytes.now c.loop-byte.byte-index 0 c.loop-byte-test.true in
     c.update-crc.ensures
-        ∙ crc_more c.loop-byte.crc (get_or c.args.bytes.now c.loop-byte.byte-index 0) (take c.loop-byte.byte-index c.args.bytes.now) (omega (arith, c.type_inv.bytes c.loop-byte.byte-index)) c.loop-byte.invariant
-        ∙ ap (λ ys. zeros_down 16 (fold bring_down 0 (bits_of ys))) (sym more)
+    ∙ crc_more c.loop-byte.crc (get_or c.args.bytes.now c.loop-byte.byte-index 0) (take c.loop-byte.byte-index c.args.bytes.now) (omega (arith, c.type_inv.bytes c.loop-byte.byte-index)) c.loop-byte.invariant
+    ∙ ap (λ ys. zeros_down 16 (fold bring_down 0 (bits_of ys))) (sym more)
 
 pub returns : goal.returns
 returns c =

@@ -1,4 +1,4 @@
-use Rattle.std.proofs.Common.{rules, ◌≡◌, List, [], ℕ, length, arith, ◌∙◌}
+use Rattle.std.proofs.Common.{◌≡◌, length, arith}
 use Rattle.std.proofs.lemmas.Bool.Decides.{nat_tests}
 use Rattle.std.proofs.lemmas.List.{nil_from_length}
 use Rattle.cluster_map.proofs.HashTags.{no_open, no_close, nothing_between}
@@ -16,4 +16,4 @@ pub returns-then-is_empty : goal.returns-then-is_empty
 returns-then-is_empty c =
     let empty : length c.in_ok-tag.tag.now ≡ 0 = grind (arith, nat_tests, c.is_empty.ensures, c.if-is_empty.true) in
     nothing_between c.args.key.now c.in_ok-rest.field-0-0.now c.in_ok-rest.rest.now c.in_ok-tag.tag.now c.in_ok-tag.field-0-1.now
-        c.in_ok-rest.ensures.0 c.in_ok-rest.ensures.1 c.in_ok-tag.ensures.0 c.in_ok-tag.ensures.1 (nil_from_length c.in_ok-tag.tag.now empty)
+    c.in_ok-rest.ensures.0 c.in_ok-rest.ensures.1 c.in_ok-tag.ensures.0 c.in_ok-tag.ensures.1 (nil_from_length c.in_ok-tag.tag.now empty)
