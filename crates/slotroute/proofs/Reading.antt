@@ -1,5 +1,5 @@
 -- Taking one line off the input, and what the lines so far say of its map.
-use Rattle.std.proofs.Common.{◌≡◌, ◌≢◌, ℕ, ◌+◌, ◌-◌, ◌<◌, ◌≤◌, List, [], ◌∷◌, ◌++◌, map, length, refl, sym, ◌∙◌, ap, true, false, Bool, arith, rules, cond, take, drop, nat_lt, ◌==◌, get_or, ◌&&◌, suc, zero, Bor, append_assoc, subst}
+use Rattle.std.proofs.Common.{◌≡◌, ◌≢◌, ℕ, ◌+◌, ◌-◌, ◌<◌, List, [], ◌∷◌, ◌++◌, map, length, refl, sym, ◌∙◌, ap, true, false, Bool, arith, rules, cond, take, drop, nat_lt, ◌==◌, get_or, suc, zero, Bor, append_assoc, subst}
 use Rattle.std.specs.Prelude.{Option, Some, None, ⊤, IfSome}
 use Rattle.std.specs.List.{AllZip}
 use Rattle.std.specs.Io.BufRead.{take_through, drop_through, strip_last, first_piece, ends_with_byte, DropsThrough}
@@ -115,7 +115,7 @@ at_bad (Some input) (Some (x ∷ xs)) number ranges line (f ∷ fs) (front, spli
   split = split_at_line input x xs front line f fs split h.text e;
   before = (ranges, m);
   there = lacks;
-  counted = ap (λ k. k + 1) n
+  counted = ap (λ k. k + 1) n;
 }
 
 -- one more pair at the end

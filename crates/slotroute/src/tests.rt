@@ -39,10 +39,22 @@ fn check(rt: &impl Abort, alloc: Global, runs: &[Run]) -> Result<(), Fail> {
 fn node_of_a_key(rt: HostRuntime) -> Result<(), Fail> {
     let runs: [Run; 5] = [
         (&["node", "foo"], TWO_NODES, b"slot 12182 n2:2\n", b"", 0),
-        (&["node", "{foo}bar"], TWO_NODES, b"slot 12182 n2:2\n", b"", 0),
+        (
+            &["node", "{foo}bar"],
+            TWO_NODES,
+            b"slot 12182 n2:2\n",
+            b"",
+            0,
+        ),
         (&["node", ""], TWO_NODES, b"slot 0 n1:1\n", b"", 0),
         (&["node", "foo"], b"", b"slot 12182 none\n", b"", 1),
-        (&["node", "foo"], b"0 8191 n1:1\n", b"slot 12182 none\n", b"", 1),
+        (
+            &["node", "foo"],
+            b"0 8191 n1:1\n",
+            b"slot 12182 none\n",
+            b"",
+            1,
+        ),
     ];
     check(&rt, rt.alloc(), &runs)
 }
@@ -65,17 +77,77 @@ fn other_words(rt: HostRuntime) -> Result<(), Fail> {
 fn good_map_lines(rt: HostRuntime) -> Result<(), Fail> {
     let runs: [Run; 10] = [
         // Nothing behind a line with no field is read as a map line.
-        (&["node", "foo"], b"0 8191 n1:1\n\nx\n", b"slot 12182 none\n", b"", 1),
-        (&["node", "foo"], b"0 8191 n1:1\n   \nx\n", b"slot 12182 none\n", b"", 1),
-        (&["node", "foo"], b"\n0 16383 n1:1\n", b"slot 12182 none\n", b"", 1),
-        (&["node", "foo"], b"8192 16383 n2:2\r", b"slot 12182 n2:2\n", b"", 0),
-        (&["node", "foo"], b"0 8191 n1:1\r\n8192 16383 n2:2\r\n", b"slot 12182 n2:2\n", b"", 0),
-        (&["node", "foo"], b"  0   16383  n1:1   [::1]:+07  ", b"slot 12182 n1:1\n", b"", 0),
+        (
+            &["node", "foo"],
+            b"0 8191 n1:1\n\nx\n",
+            b"slot 12182 none\n",
+            b"",
+            1,
+        ),
+        (
+            &["node", "foo"],
+            b"0 8191 n1:1\n   \nx\n",
+            b"slot 12182 none\n",
+            b"",
+            1,
+        ),
+        (
+            &["node", "foo"],
+            b"\n0 16383 n1:1\n",
+            b"slot 12182 none\n",
+            b"",
+            1,
+        ),
+        (
+            &["node", "foo"],
+            b"8192 16383 n2:2\r",
+            b"slot 12182 n2:2\n",
+            b"",
+            0,
+        ),
+        (
+            &["node", "foo"],
+            b"0 8191 n1:1\r\n8192 16383 n2:2\r\n",
+            b"slot 12182 n2:2\n",
+            b"",
+            0,
+        ),
+        (
+            &["node", "foo"],
+            b"  0   16383  n1:1   [::1]:+07  ",
+            b"slot 12182 n1:1\n",
+            b"",
+            0,
+        ),
         // A reversed range hides another at its end, which is slot 0 here.
-        (&["node", "foo"], b"16383 0 n1:1\n0 65535 n2:2\n", b"slot 12182 n2:2\n", b"", 0),
-        (&["node", ""], b"16383 0 n1:1\n0 65535 n2:2\n", b"slot 0 none\n", b"", 1),
-        (&["node", "foo"], b"0 65535 n2:2\n", b"slot 12182 n2:2\n", b"", 0),
-        (&["node", "foo"], b"+0 +16383 [[h]]]:0\n", b"slot 12182 h:0\n", b"", 0),
+        (
+            &["node", "foo"],
+            b"16383 0 n1:1\n0 65535 n2:2\n",
+            b"slot 12182 n2:2\n",
+            b"",
+            0,
+        ),
+        (
+            &["node", ""],
+            b"16383 0 n1:1\n0 65535 n2:2\n",
+            b"slot 0 none\n",
+            b"",
+            1,
+        ),
+        (
+            &["node", "foo"],
+            b"0 65535 n2:2\n",
+            b"slot 12182 n2:2\n",
+            b"",
+            0,
+        ),
+        (
+            &["node", "foo"],
+            b"+0 +16383 [[h]]]:0\n",
+            b"slot 12182 h:0\n",
+            b"",
+            0,
+        ),
     ];
     check(&rt, rt.alloc(), &runs)
 }
@@ -86,13 +158,31 @@ fn bad_map_lines(rt: HostRuntime) -> Result<(), Fail> {
     let second: &[u8] = b"slotroute: bad map line 2\n";
     let runs: [Run; 11] = [
         (&["node", "foo"], b"0 8191\n", b"", first, 2),
-        (&["node", "foo"], b"0 8191 n1:1\n8192 16383\n", b"", second, 2),
+        (
+            &["node", "foo"],
+            b"0 8191 n1:1\n8192 16383\n",
+            b"",
+            second,
+            2,
+        ),
         (&["node", "foo"], b"0 65536 n1:1\n", b"", first, 2),
-        (&["node", "foo"], b"0 8191 n1:1\n-1 16383 n2:2\n", b"", second, 2),
+        (
+            &["node", "foo"],
+            b"0 8191 n1:1\n-1 16383 n2:2\n",
+            b"",
+            second,
+            2,
+        ),
         (&["node", "foo"], b"0 16383 n1\n", b"", first, 2),
         (&["node", "foo"], b"0 16383 n1:1 n2\n", b"", first, 2),
         (&["node", "foo"], b"0 16383 n\xff:1\n", b"", first, 2),
-        (&["node", "foo"], b"0 8191 n1:1\n8192 1638\xff n2:2\n", b"", second, 2),
+        (
+            &["node", "foo"],
+            b"0 8191 n1:1\n8192 1638\xff n2:2\n",
+            b"",
+            second,
+            2,
+        ),
         // A tab parts no fields, and of two carriage returns at the end one is dropped.
         (&["node", "foo"], b"0\t16383 n1:1\n", b"", first, 2),
         (&["node", "foo"], b"0 16383 n1:1\r\r\n", b"", first, 2),
@@ -174,11 +264,19 @@ fn each_read_fails_in_turn(rt: HostRuntime) -> Result<(), Fail> {
         let mut err = Vec::new(alloc);
         let status = serve(alloc, &words, &mut reader, &mut out, &mut err);
         if calls < needed {
-            assert_eq!(rt; err.as_slice(), b"slotroute: input failed\n".as_slice(), "at {calls}");
+            assert_eq!(rt;
+                err.as_slice(),
+                b"slotroute: input failed\n".as_slice(),
+                "at {calls}"
+            );
             assert_eq!(rt; out.len(), 0, "at {calls}");
             assert_eq!(rt; status, 2, "at {calls}");
         } else {
-            assert_eq!(rt; out.as_slice(), b"slot 12182 n2:2\n".as_slice(), "at {calls}");
+            assert_eq!(rt;
+                out.as_slice(),
+                b"slot 12182 n2:2\n".as_slice(),
+                "at {calls}"
+            );
             assert_eq!(rt; status, 0, "at {calls}");
         }
     }
@@ -200,7 +298,11 @@ fn each_write_fails_in_turn(rt: HostRuntime) -> Result<(), Fail> {
         let status = serve(alloc, &words, &mut reader, &mut out, &mut err);
         assert!(rt; whole.starts_with(out.bytes.as_slice()), "at {calls}");
         assert_eq!(rt; out.bytes.len(), calls, "at {calls}");
-        assert_eq!(rt; err.as_slice(), b"slotroute: output failed\n".as_slice(), "at {calls}");
+        assert_eq!(rt;
+            err.as_slice(),
+            b"slotroute: output failed\n".as_slice(),
+            "at {calls}"
+        );
         assert_eq!(rt; status, 2, "at {calls}");
     }
     Ok(())

@@ -1,4 +1,3 @@
-use Rattle.std.proofs.Common.{rules}
 use Rattle.slotroute.specs.MapLines.{IsNodeField}
 use Rattle.slotroute.proofs.Reading.{unpaired, paired_more}
 use Rattle.slotroute.proofs.input.nodes_in.Goals as goal

@@ -1,4 +1,3 @@
-use Rattle.std.proofs.Common.{rules, arith, ◌≡◌, ℕ, ◌+◌, ◌≤◌, List, ◌++◌, length, take, drop, ap, sym, ◌∙◌}
 use Rattle.slotroute.proofs.Writing.{grows, kept, written, fits}
 use Rattle.slotroute.proofs.output.put.Goals.{in-Ok, in-Err+else-ne}
 use Rattle.slotroute.proofs.output.put.Goals as goal
