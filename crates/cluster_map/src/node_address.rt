@@ -47,7 +47,7 @@ impl NodeAddress {
         })
     }
 
-    /// The same of a host text that is shared already.
+    /// The address of a host whose text is shared, and a port.
     pub fn from_parts(host: RcStr, port: u16) -> Self
         ensures { result ≡ record { host = rc_str_bytes host; port = port } }
     {

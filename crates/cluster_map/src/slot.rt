@@ -135,7 +135,7 @@ fn cut_at(bytes: &[u8], byte: u8) -> Option<(&[u8], &[u8])>
     Some((&bytes[..at], &bytes[at + 1..]))
 }
 
-/// What stands in the first braces of a key, if it is something.
+/// What stands between the first braces of a key, if it is not empty.
 fn get_hashtag(key: &[u8]) -> Option<&[u8]>
     ensures { MatchOption result (HasNoTag key.now) (λ tag. HasTag key.now tag.now) }
 {

@@ -6,7 +6,7 @@ ghost use Rattle.std.proofs.Common.{rules};
 use std::alloc::AllocError;
 use std::marker::Model;
 
-/// What went wrong, in the large.
+/// What kind of thing went wrong.
 #[derive(Clone, Copy, Debug, PartialEq, Eq, Hash)]
 pub enum ErrorKind {
     /// An address or a setting that cannot be used.

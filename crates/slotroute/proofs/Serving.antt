@@ -1,10 +1,11 @@
 -- What the words and the input call for.
-use Rattle.std.proofs.Common.{◌≡◌, ◌≢◌, ℕ, append_assoc, decimal, List, [], ◌∷◌, ◌++◌, refl, subst, rules, length, take, ◌⊎◌, inl, inr}
+use Rattle.std.proofs.Common.{◌≡◌, ◌≢◌, ◌<◌, ◌≤◌, ℕ, append_assoc, decimal, List, [], ◌∷◌, ◌++◌, refl, sym, ap, ◌∙◌, subst, rules, arith, length, take, ◌⊎◌, inl, inr}
 use Rattle.std.proofs.lemmas.Bool.{cases_lt}
 use Rattle.std.proofs.lemmas.List.{take_all}
 use Rattle.std.specs.Prelude.{Option, Some, None, Result, Ok, Err, OnOk, OnErr, IfSome, MatchResult, codes}
 use Rattle.std.specs.Result.{IsErrAnd}
 use Rattle.std.specs.Io.KnownBytes.{Appends}
+
 use Rattle.cluster_map.specs.Address.{Address, printed}
 use Rattle.cluster_map.specs.KeySlot.{IsKeySlot}
 use Rattle.cluster_map.specs.Nodes.{Nodes, RangeNodes, filled}
@@ -17,7 +18,7 @@ use Rattle.slotroute.specs.Lines.{leading}
 use Rattle.slotroute.specs.MapLines.{IsMap}
 use Rattle.slotroute.specs.Faults.{fault_line, IsNoMap}
 use Rattle.slotroute.specs.Output.{Output, IsNodeAnswer, node_words, slot_line, usage_line, bad_map_line, usage, bad_map, answer, served, unserved}
-use Rattle.slotroute.specs.Serves.{BeginsOutput, Answers, Explains, IsTroubleText, Reports, Serves}
+use Rattle.slotroute.specs.Serves.{BeginsOutput, Answers, Explains, IsBadMapLine, TellsOf, Reports, Serves, Answered, Troubled}
 use Rattle.slotroute.specs.declared.fault.Fault.{Fault}
 use Rattle.slotroute.specs.declared.fault.Fault.TheVariants as fault
 
@@ -46,8 +47,8 @@ usage_fault words None out h = (nothing out, tt)
 usage_fault words (Some bytes) out h = (nothing out, usage words bytes h)
 
 no_map_of : (words : List (List ℕ)) (key : List ℕ) (input out : Option (List ℕ)) (e : Fault) → words ≡ node_words key → IfSome input (λ bytes. IsNoMap (leading bytes) e) → Explains words input out out e
-no_map_of words key input out fault.Memory w h = nothing out
-no_map_of words key input out fault.Input w h = nothing out
+no_map_of words key input out fault.Memory w h = (nothing out, (key, w))
+no_map_of words key input out fault.Input w h = (nothing out, (key, w))
 no_map_of words key None out (fault.BadMapLine n) w h = (nothing out, tt)
 no_map_of words key (Some bytes) out (fault.BadMapLine n) w h = rw w (nothing out, bad_map key bytes n h)
 no_map_of words key None out fault.Usage w h = (nothing out, tt)
@@ -69,7 +70,7 @@ begun : (words : List (List ℕ)) (key : List ℕ) (input out new : Option (List
     → Appends out new (take k line) → Explains words input out new fault.Output
 begun words key None out new ranges line status k w m a l = (take k line, l, tt)
 begun words key (Some bytes) out new ranges line status k w m a l =
-    (take k line, l, record { whole = line; errs = []; status = status; called_for = rw w (answer key bytes line status ranges m a); count = k; begins = refl })
+    (take k line, l, record { whole = line; status = status; called_for = rw w (answer key bytes line status ranges m a); count = k; begins = refl })
 
 pub not_written : (words : List (List ℕ)) (key : List ℕ) (input out new : Option (List ℕ)) (ranges : List RangeNodes) (line : List ℕ) (status k : ℕ) (e : Fault) (r : Result ℕ Fault) → words ≡ node_words key → IfSome input (λ bytes. IsMap (leading bytes) ranges)
     → IsNodeAnswer (filled [] ranges) key line status → Appends out new (take k line) → e ≡ fault.Output → IsErrAnd r (λ x. x ≡ e) → MatchResult r (Answers words input out new) (Explains words input out new)
@@ -77,61 +78,34 @@ not_written words key input out new ranges line status k e (Ok x) w m a l f is =
 not_written words key input out new ranges line status k e (Err x) w m a l f is = rw (is, f) (begun words key input out new ranges line status k w m a l)
 
 -- The report of a fault.
-cut_text : (e : Fault) (k : ℕ) → (take k (fault_line e) ≡ fault_line e) ⊎ IsTroubleText (take k (fault_line e))
-cut_text e k = elim (cases_lt k (length (fault_line e))) [
-  | inl less ↦ inr (inr (e, k, less, refl))
-  | inr more ↦ inl (take_all k (fault_line e) more)
-]
-
 -- the line of a fault was written, or a beginning of it
-pub reported_line : (old new : Option (List ℕ)) (e : Fault) (text : List ℕ) (r : Result (Unit {0}) Fault) → text ≡ fault_line e → OnOk r (Appends old new text) → OnErr r ((k : ℕ) × Appends old new (take k text)) → Reports old new (fault_line e)
+pub reported_line : (old new : Option (List ℕ)) (e : Fault) (text : List ℕ) (r : Result (Unit {0}) Fault) → text ≡ fault_line e → OnOk r (Appends old new text) → OnErr r ((k : ℕ) × Appends old new (take k text)) → Reports old new e
 reported_line old new e text (Ok x) t whole part = (text, whole, inl t)
-reported_line old new e text (Err x) t whole (k, part) = (take k (fault_line e), rw t at part, cut_text e k)
+reported_line old new e text (Err x) t whole (k, part) = (take k (fault_line e), rw t at part, inr (k, inl refl))
 
--- want of memory was reported in the place of a fault
-pub reported_memory : (old new : Option (List ℕ)) (line text : List ℕ) (r : Result (Unit {0}) Fault) → text ≡ fault_line fault.Memory → OnOk r (Appends old new text) → OnErr r ((k : ℕ) × Appends old new (take k text)) → Reports old new line
-reported_memory old new line text (Ok x) t whole part = (text, whole, inr (inl (inl t)))
-reported_memory old new line text (Err x) t whole (k, part) = elim (cut_text fault.Memory k) [
-  | inl all ↦ (take k (fault_line fault.Memory), rw t at part, inr (inl (inl all)))
-  | inr cut ↦ (take k (fault_line fault.Memory), rw t at part, inr cut)
-]
+-- want of memory was reported in the place of a bad map line
+pub reported_memory : (old new : Option (List ℕ)) (e : Fault) (text : List ℕ) (r : Result (Unit {0}) Fault) → IsBadMapLine e → text ≡ fault_line fault.Memory → OnOk r (Appends old new text) → OnErr r ((k : ℕ) × Appends old new (take k text)) → Reports old new e
+reported_memory old new e text (Ok x) b t whole part =
+    (text, whole, inr (length text, inr (b, t ∙ sym (take_all (length text) (fault_line fault.Memory) (rw t (omega arith))))))
+reported_memory old new e text (Err x) b t whole (k, part) = (take k (fault_line fault.Memory), rw t at part, inr (k, inr (b, refl)))
 
 -- The run as a whole.
-
--- what was written before a fault is nothing, or a beginning of what is called for
-abbrev Written : List (List ℕ) → Option (List ℕ) → Option (List ℕ) → Option (List ℕ) → Type 0
-Written words input out new = (outs : List ℕ) × Appends out new outs × IfSome input (λ bytes. (outs ≡ []) ⊎ BeginsOutput words bytes outs)
-
-nothing_written : (words : List (List ℕ)) (input out new : Option (List ℕ)) → Appends out new [] → Written words input out new
-nothing_written words None out new a = ([], a, tt)
-nothing_written words (Some bytes) out new a = ([], a, inl refl)
-
-beginning_written : (words : List (List ℕ)) (input out new : Option (List ℕ)) → Explains words input out new fault.Output → Written words input out new
-beginning_written words None out new (outs, a, b) = (outs, a, tt)
-beginning_written words (Some bytes) out new (outs, a, b) = (outs, a, inr b)
-
-written_before : (words : List (List ℕ)) (input out new : Option (List ℕ)) (e : Fault) → Explains words input out new e → Written words input out new
-written_before words input out new fault.Usage x = nothing_written words input out new x.0
-written_before words input out new (fault.BadMapLine n) x = nothing_written words input out new x.0
-written_before words input out new fault.Memory x = nothing_written words input out new x
-written_before words input out new fault.Input x = nothing_written words input out new x
-written_before words input out new fault.Output x = beginning_written words input out new x
-
-troubled : (words : List (List ℕ)) (input out new err told : Option (List ℕ)) (e : Fault) (errs : List ℕ) → Explains words input out new e → Appends err told errs → IsTroubleText errs → Serves words input out new err told 2
-troubled words input out new err told e errs x a t =
-    let (outs, w, b) = written_before words input out new e x in
-    inr record { outs = outs; errs = errs; written = w; begun = b; told = a; trouble = t; failed = refl }
-
 called_as : (words : List (List ℕ)) (input : Option (List ℕ)) (errs line : List ℕ) → errs ≡ line → IfSome input (λ bytes. Output words bytes [] line 2) → IfSome input (λ bytes. Output words bytes [] errs 2)
 called_as words None errs line e h = tt
 called_as words (Some bytes) errs line e h = rw e h
 
-pub served_fault : (words : List (List ℕ)) (input out new err told : Option (List ℕ)) (e : Fault) → Explains words input out new e → Reports err told (fault_line e) → Serves words input out new err told 2
+troubled : (words : List (List ℕ)) (input out new err told : Option (List ℕ)) (e : Fault) (errs : List ℕ) → Explains words input out new e → Appends err told errs → TellsOf errs e → Serves words input out new err told 2
+troubled words input out new err told e errs x a t = inr record { fault = e; explained = x; errs = errs; told = a; text = t; failed = refl }
+
+all_of : (errs : List ℕ) (e : Fault) → errs ≡ fault_line e → TellsOf errs e
+all_of errs e same = (length (fault_line e), inl (same ∙ sym (take_all (length (fault_line e)) (fault_line e) (omega arith))))
+
+pub served_fault : (words : List (List ℕ)) (input out new err told : Option (List ℕ)) (e : Fault) → Explains words input out new e → Reports err told e → Serves words input out new err told 2
 served_fault words input out new err told e x (errs, a, inr trouble) = troubled words input out new err told e errs x a trouble
 served_fault words input out new err told fault.Usage x (errs, a, inl same) =
     inl record { outs = []; errs = errs; written = x.0; told = a; called_for = called_as words input errs usage_line same x.1 }
 served_fault words input out new err told (fault.BadMapLine n) x (errs, a, inl same) =
     inl record { outs = []; errs = errs; written = x.0; told = a; called_for = called_as words input errs (bad_map_line n) same x.1 }
-served_fault words input out new err told fault.Memory x (errs, a, inl same) = troubled words input out new err told fault.Memory errs x a (inl (inl same))
-served_fault words input out new err told fault.Input x (errs, a, inl same) = troubled words input out new err told fault.Input errs x a (inl (inr (inl same)))
-served_fault words input out new err told fault.Output x (errs, a, inl same) = troubled words input out new err told fault.Output errs x a (inl (inr (inr same)))
+served_fault words input out new err told fault.Memory x (errs, a, inl same) = troubled words input out new err told fault.Memory errs x a (all_of errs fault.Memory same)
+served_fault words input out new err told fault.Input x (errs, a, inl same) = troubled words input out new err told fault.Input errs x a (all_of errs fault.Input same)
+served_fault words input out new err told fault.Output x (errs, a, inl same) = troubled words input out new err told fault.Output errs x a (all_of errs fault.Output same)

@@ -14,6 +14,8 @@ use std::alloc::{AllocError, Global};
 use std::io::{self, BufRead};
 
 /// Reads the ranges of the leading lines, up to the first line with no field or the end.
+///
+/// An input of 2^64 lines counts as one that failed.
 pub fn read_map<R: BufRead>(alloc: Global, reader: &mut R) -> Result<Vec<SlotRange>, Fault>
     ensures { IfSome (R.remaining reader.old) (λ input. MatchResult result
         (λ ranges. IsMap (leading input) ranges.items)

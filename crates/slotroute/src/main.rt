@@ -12,7 +12,7 @@ mod serve;
 #[cfg(test)]
 mod tests;
 
-use serve::serve;
+use serve::{USAGE, serve};
 use std::alloc::Global;
 use std::env;
 use std::io::{self, BufReader, BufWriter};
@@ -30,11 +30,17 @@ fn run(rt: &HostRuntime, alloc: Global) -> io::Result<u8> {
 }
 
 fn main(rt: HostRuntime) -> ExitCode {
-    match run(&rt, rt.alloc()) {
-        Ok(status) => ExitCode::from(status),
-        Err(_) => {
-            let _ = eprintln!(rt; "slotroute: no memory");
-            ExitCode::from(2)
+    let status = match run(&rt, rt.alloc()) {
+        Ok(status) => status,
+        Err(error) => {
+            // The words are no text, or there is no memory.
+            let line = match error.kind() {
+                io::ErrorKind::InvalidData => USAGE,
+                _ => "slotroute: no memory\n",
+            };
+            let _ = eprint!(rt; "{line}");
+            2
         }
-    }
+    };
+    ExitCode::from(status)
 }

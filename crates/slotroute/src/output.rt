@@ -14,7 +14,7 @@ pub fn emit<W: Write>(writer: &mut W, text: &[u8]) -> Result<(), Fault>
     writer.flush().map_err(|_| Fault::Output)
 }
 
-/// Writes a text, where `write_all` would not say what stands after a failure.
+/// Writes a text as `write_all` does, and where that fails, a beginning of the text was written.
 fn put<W: Write>(writer: &mut W, text: &[u8]) -> Result<(), Fault>
     ensures ok { OnOk result (Appends (W.contents writer.old) (W.contents writer.new) text.now) }
     ensures fault { IfErr result (λ fault. fault ≡ Fault.Output) }

@@ -1,14 +1,20 @@
-ghost use Rattle.std.specs.Prelude.{◌≡◌, ◌≢◌, ℕ, List, map, string_bytes, IfOk, MatchOption, MatchResult};
+ghost use Rattle.std.specs.Prelude.{◌≡◌, ◌≢◌, ℕ, List, map, string_bytes, IfOk, OnErr, MatchOption, MatchResult};
+ghost use Rattle.std.specs.Cow.{cow_str_bytes};
 ghost use Rattle.slotroute.specs.Output.{node_words, IsNodeAnswer};
 ghost use Rattle.slotroute.specs.Faults.{fault_line};
-ghost use Rattle.slotroute.specs.Serves.{Serves, Answers, Explains, Reports};
+ghost use Rattle.slotroute.specs.Serves.{Serves, Answers, Explains, Reports, IsBadMapLine};
 
 use crate::fault::Fault;
 use crate::input::read_map;
 use crate::output::emit;
 use cluster_map::{Route, SlotAddr, SlotMap};
 use std::alloc::{AllocError, Global};
+use std::borrow::CowStr;
 use std::io::{BufRead, Write};
+
+/// The line that other words are answered with.
+pub const USAGE: &str =
+    "usage: slotroute node KEY | split WORD .. | run forward|reverse [first|pick=N|shard]\n";
 
 /// Runs the program on the words after its name, and gives its status.
 ///
@@ -76,27 +82,29 @@ fn node_answer(alloc: Global, map: &SlotMap, key: &[u8]) -> Result<(String, u8),
     }
 }
 
-/// Writes the line of a fault.
+/// Writes the line of a fault. Where there is no memory for that of a bad map line, it tells so.
 fn report<E: Write>(alloc: Global, fault: &Fault, err: &mut E)
-    ensures { Reports (E.contents err.old) (E.contents err.new) (fault_line fault.now) }
+    ensures { Reports (E.contents err.old) (E.contents err.new) fault.now }
 {
     let _ = match fault_text(alloc, fault) {
-        Ok(text) => emit(err, text.as_bytes()),
+        Ok(text) => emit(err, text.as_str().as_bytes()),
         Err(_) => emit(err, b"slotroute: no memory\n"),
     };
 }
 
-fn fault_text(alloc: Global, fault: &Fault) -> Result<String, AllocError>
-    ensures { IfOk result (λ text. string_bytes text ≡ fault_line fault.now) }
+fn fault_text(alloc: Global, fault: &Fault) -> Result<CowStr<'static>, AllocError>
+    ensures text { IfOk result (λ text. cow_str_bytes text ≡ fault_line fault.now) }
+    ensures memory { OnErr result (IsBadMapLine fault.now) }
 {
-    match fault {
-        Fault::Usage => String::from_str(
-            alloc,
-            "usage: slotroute node KEY | split WORD .. | run forward|reverse [first|pick=N|shard]\n",
-        ),
-        Fault::BadMapLine(number) => format!(in alloc; "slotroute: bad map line {number}\n"),
-        Fault::Memory => String::from_str(alloc, "slotroute: no memory\n"),
-        Fault::Input => String::from_str(alloc, "slotroute: input failed\n"),
-        Fault::Output => String::from_str(alloc, "slotroute: output failed\n"),
-    }
+    let text = match fault {
+        Fault::Usage => USAGE,
+        Fault::BadMapLine(number) => {
+            let line = format!(in alloc; "slotroute: bad map line {number}\n")?;
+            return Ok(CowStr::Owned(line));
+        }
+        Fault::Memory => "slotroute: no memory\n",
+        Fault::Input => "slotroute: input failed\n",
+        Fault::Output => "slotroute: output failed\n",
+    };
+    Ok(CowStr::Borrowed(text))
 }
