@@ -1,1 +1,6 @@
+pub mod CmdArgs
 pub mod Fault
+pub mod Reply
+pub mod SameReply
+pub mod SameReplyLaws
+pub mod View

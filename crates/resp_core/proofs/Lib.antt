@@ -1,0 +1,3 @@
+mod CmdLists
+mod SameItems
+pub mod Views

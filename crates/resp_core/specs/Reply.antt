@@ -1,0 +1,68 @@
+-- A reply as a tree of plain data, which a `Value` stands for.
+use Rattle.std.specs.Prelude.{ℕ, ℤ, List, [], ◌∷◌, Option, None, Some}
+
+mutual
+  pub data Reply : Type 0 where
+    nil : Reply
+    int : ℤ → Reply
+    bulk : List ℕ → Reply
+    array : Replies → Reply
+    simple : List ℕ → Reply
+    okay : Reply
+    pairs : Pairs → Reply
+
+  -- a list of replies
+  pub data Replies : Type 0 where
+    no_replies : Replies
+    reply : Reply → Replies → Replies
+
+  -- a list of pairs of replies
+  pub data Pairs : Type 0 where
+    no_pairs : Pairs
+    pair : Reply → Reply → Pairs → Pairs
+
+abbrev pub replies_of : List Reply → Replies
+replies_of [] = no_replies
+replies_of (r ∷ rs) = reply r (replies_of rs)
+
+abbrev pub items_in : Replies → List Reply
+items_in no_replies = []
+items_in (reply r rs) = r ∷ items_in rs
+
+abbrev pub pairs_of : List (Reply × Reply) → Pairs
+pairs_of [] = no_pairs
+pairs_of (p ∷ ps) = pair p.0 p.1 (pairs_of ps)
+
+abbrev pub pairs_in : Pairs → List (Reply × Reply)
+pairs_in no_pairs = []
+pairs_in (pair k v ps) = (k, v) ∷ pairs_in ps
+
+-- the number, if it is one
+abbrev pub int_of : Reply → Option ℤ
+int_of nil = None
+int_of (int n) = Some n
+int_of (bulk bytes) = None
+int_of (array items) = None
+int_of (simple text) = None
+int_of okay = None
+int_of (pairs items) = None
+
+-- the bytes, if it is a bulk string
+abbrev pub bulk_of : Reply → Option (List ℕ)
+bulk_of nil = None
+bulk_of (int n) = None
+bulk_of (bulk bytes) = Some bytes
+bulk_of (array items) = None
+bulk_of (simple text) = None
+bulk_of okay = None
+bulk_of (pairs items) = None
+
+-- the items, if it is an array
+abbrev pub items_of : Reply → Option (List Reply)
+items_of nil = None
+items_of (int n) = None
+items_of (bulk bytes) = None
+items_of (array items) = Some (items_in items)
+items_of (simple text) = None
+items_of okay = None
+items_of (pairs items) = None

@@ -1,0 +1,189 @@
+ghost use Rattle.std.specs.Prelude.{◌≡◌, ◌<◌, ◌^◌, IfOk, IfSome, IsTrue, ◌↔◌, map, length, option_map, option_copied};
+ghost use Rattle.std.specs.Cmp.{on_per, on_equiv, partial_equiv_from_equiv};
+ghost use Rattle.resp_core.specs.View.{view, view_pair};
+ghost use Rattle.resp_core.specs.SameReply.{same_reply};
+ghost use Rattle.resp_core.specs.SameReplyLaws.{same_reply-equivalence};
+ghost use Rattle.resp_core.specs.Reply.{int_of, bulk_of, items_of};
+
+use std::alloc::AllocError;
+
+/// A reply of a Redis server, as a tree.
+#[derive(Debug, Drop)]
+pub enum Value {
+    /// No value.
+    Nil,
+    /// A whole number.
+    Int(i64),
+    /// Bytes of any kind, as the value of a key.
+    BulkString(Vec<u8>),
+    /// Replies in order.
+    Array(Vec<Value>),
+    /// A short text, as a status.
+    SimpleString(String),
+    /// The status `OK`.
+    Okay,
+    /// Pairs of a key and a value, in the order of the reply.
+    Map(Vec<(Value, Value)>),
+}
+
+impl Value {
+    /// The number, if this is one.
+    pub fn as_int(&self) -> Option<i64>
+        ensures { result ≡ int_of (view self.now) }
+    {
+        if let Value::Int(n) = self {
+            Some(*n)
+        } else {
+            None
+        }
+    }
+
+    /// The bytes, if this is a bulk string.
+    pub fn as_bulk(&self) -> Option<&[u8]>
+        ensures { option_copied result ≡ bulk_of (view self.now) }
+    {
+        if let Value::BulkString(bytes) = self {
+            Some(bytes.as_slice())
+        } else {
+            None
+        }
+    }
+
+    /// The items, if this is an array.
+    pub fn as_items(&self) -> Option<&[Value]>
+        ensures items { option_map (λ vs. map view vs.now) result ≡ items_of (view self.now) }
+        ensures few { IfSome result (λ vs. length vs.now < 2 ^ 63) }
+    {
+        if let Value::Array(items) = self {
+            Some(items.as_slice())
+        } else {
+            None
+        }
+    }
+
+    /// The bytes, if this is a bulk string.
+    pub fn into_bulk(self) -> Option<Vec<u8>>
+        ensures { option_map (λ v. v.items) result ≡ bulk_of (view self) }
+    {
+        if let Value::BulkString(bytes) = self {
+            Some(bytes)
+        } else {
+            None
+        }
+    }
+
+    /// The items, if this is an array.
+    pub fn into_items(self) -> Option<Vec<Value>>
+        ensures { option_map (λ v. map view v.items) result ≡ items_of (view self) }
+    {
+        if let Value::Array(items) = self {
+            Some(items)
+        } else {
+            None
+        }
+    }
+}
+
+impl Clone for Value {
+    ghost is_clone = { λ value copy. view copy ≡ view value };
+
+    #[cycle(copy)]
+    fn clone(&self) -> Result<Self, AllocError> {
+        match self {
+            Value::Nil => Ok(Value::Nil),
+            Value::Int(n) => Ok(Value::Int(*n)),
+            Value::BulkString(bytes) => Ok(Value::BulkString(bytes.clone()?)),
+            Value::Array(items) => Ok(Value::Array(copy_items(items)?)),
+            Value::SimpleString(text) => Ok(Value::SimpleString(text.clone()?)),
+            Value::Okay => Ok(Value::Okay),
+            Value::Map(items) => Ok(Value::Map(copy_pairs(items)?)),
+        }
+    }
+}
+
+#[cycle(copy)]
+fn copy_items(items: &Vec<Value>) -> Result<Vec<Value>, AllocError>
+    ensures { IfOk result (λ copies. map view copies.items ≡ map view items.now.items) }
+{
+    let mut copies = Vec::with_capacity(*items.allocator(), items.len())?;
+    for item in items {
+        copies.push(item.clone()?)?;
+    }
+    Ok(copies)
+}
+
+#[cycle(copy)]
+fn copy_pairs(items: &Vec<(Value, Value)>) -> Result<Vec<(Value, Value)>, AllocError>
+    ensures { IfOk result (λ copies. map view_pair copies.items ≡ map view_pair items.now.items) }
+{
+    let mut copies = Vec::with_capacity(*items.allocator(), items.len())?;
+    for (key, value) in items {
+        copies.push((key.clone()?, value.clone()?))?;
+    }
+    Ok(copies)
+}
+
+impl PartialEq for Value {
+    ghost eq = { λ a b. same_reply (view a) (view b) };
+
+    ghost laws = { on_per view (partial_equiv_from_equiv same_reply-equivalence) };
+
+    fn eq(&self, other: &Self) -> bool
+        ensures value { result ≡ same_reply (view self.now) (view other.now) }
+        ensures same { IsTrue result ↔ (view self.now ≡ view other.now) }
+    {
+        same_value(self, other)
+    }
+}
+
+impl Eq for Value {
+    ghost laws = { on_equiv view same_reply-equivalence };
+}
+
+#[cycle(same)]
+fn same_value(a: &Value, b: &Value) -> bool
+    ensures { IsTrue result ↔ (view a.now ≡ view b.now) }
+{
+    match (a, b) {
+        (Value::Nil, Value::Nil) | (Value::Okay, Value::Okay) => true,
+        (Value::Int(m), Value::Int(n)) => m == n,
+        (Value::BulkString(x), Value::BulkString(y)) => x == y,
+        (Value::Array(xs), Value::Array(ys)) => same_items(xs, ys),
+        (Value::SimpleString(x), Value::SimpleString(y)) => x == y,
+        (Value::Map(xs), Value::Map(ys)) => same_pairs(xs, ys),
+        _ => false,
+    }
+}
+
+#[cycle(same)]
+fn same_items(xs: &[Value], ys: &[Value]) -> bool
+    ensures { IsTrue result ↔ (map view xs.now ≡ map view ys.now) }
+{
+    if xs.len() != ys.len() {
+        return false;
+    }
+    for (x, y) in xs.iter().zip(ys) {
+        if !same_value(x, y) {
+            return false;
+        }
+    }
+    true
+}
+
+#[cycle(same)]
+fn same_pairs(xs: &[(Value, Value)], ys: &[(Value, Value)]) -> bool
+    ensures { IsTrue result ↔ (map view_pair xs.now ≡ map view_pair ys.now) }
+{
+    if xs.len() != ys.len() {
+        return false;
+    }
+    for (x, y) in xs.iter().zip(ys) {
+        if !same_value(&x.0, &y.0) || !same_value(&x.1, &y.1) {
+            return false;
+        }
+    }
+    true
+}
+
+#[cfg(test)]
+mod tests;
