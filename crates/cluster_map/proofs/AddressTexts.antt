@@ -3,9 +3,15 @@ use Rattle.std.proofs.Common.{◌≡◌, ◌≢◌, ◌<◌, ◌-◌, ℕ, zero,
 use Rattle.std.proofs.lemmas.List.{take-append-drop, append-nil}
 use Rattle.std.proofs.Math.Seq.{drop-length}
 use Rattle.std.proofs.lemmas.Str.Pattern.{drop_at_char, NoCharPasses-char}
+use Rattle.std.proofs.lemmas.Bool.Decides.{nat_tests}
+use Rattle.std.proofs.lemmas.Fmt.{decimal_by_steps, decimal_is_IsNumeral}
+use Rattle.std.specs.Prelude.{◌≤◌, ◌+◌, ◌^◌, ◌%◌, ◌==◌, false, decimal}
 use Rattle.std.specs.Str.Parse.{digits_value, without_leading_plus}
+use Rattle.cluster_map.specs.Address.{Address, printed}
 use Rattle.std.specs.Str.Pattern.{CutsPrefixes, CutsSuffixes, FindsCharPrefix, FindsCharSuffix, IsTrimStartMatches, IsTrimEndMatches, RFindsChar, SplitsAroundMatch}
-use Rattle.cluster_map.specs.AddressText.{IsNumberText, IsBracketed, ReadsAs, IsAddressText, IsNoAddress}
+use Rattle.cluster_map.specs.AddressText.{IsBracketed, IsPlainHost, ReadsAs, IsAddressText, IsNoAddress}
+use Rattle.cluster_map.specs.Number.{number_in}
+use Rattle.cluster_map.proofs.Numerals.{number-ok}
 use Rattle.cluster_map.proofs.Lists.{Lacks, lacks_from, free_from, has, last_cut}
 
 -- xs does not begin with an opening bracket; xs does not end with a closing one
@@ -123,10 +129,11 @@ cut_is text left right l r host port c a = last_cut 58 l r left right (sym a.cut
 pub no_colon : (text : List ℕ) → Lacks 58 text → IsNoAddress text
 no_colon text h host port (l, r, a) = has 58 l r (subst (Lacks 58) a.cut h)
 
-pub no_port : (text left right : List ℕ) → CutsAtColon text left right → ((p : ℕ) → ¬ (IsNumberText right p)) → IsNoAddress text
+pub no_port : (text left right : List ℕ) → CutsAtColon text left right → (None ≡ number_in 16 right) → IsNoAddress text
 no_port text left right c f host port (l, r, a) =
-    let P : List ℕ → Type 0 = λ x. IsNumberText x port in
-    f port (subst P (cut_is text left right l r host port c a).1 a.number)
+    let here : number_in 16 right ≡ Some port = sym (ap (number_in 16) (cut_is text left right l r host port c a).1) ∙ a.number in
+    let there : None ≡ Some port = f ∙ here in
+    cc
 
 pub no_host : (text left right middle inner : List ℕ) (k m : ℕ) → CutsAtColon text left right → left ≡ replicate k 91 ++ middle → NoStart middle → middle ≡ inner ++ replicate m 93 → NoEnd inner → inner ≡ [] → IsNoAddress text
 no_host text left right middle inner k m c e start d end empty host port (l, r, a) =
@@ -134,14 +141,14 @@ no_host text left right middle inner k m c e start d end empty host port (l, r, 
     let P : List ℕ → Type 0 = λ x. IsBracketed x host o n in
     b.some (host_is left middle inner host k m o n e start d end (subst P (cut_is text left right l r host port c a).0 b) ∙ empty)
 
-pub reads : (text left right middle inner : List ℕ) (k m port : ℕ) → CutsAtColon text left right → left ≡ replicate k 91 ++ middle → NoStart middle → middle ≡ inner ++ replicate m 93 → NoEnd inner → inner ≢ [] → IsNumberText right port → IsAddressText text inner port
+pub reads : (text left right middle inner : List ℕ) (k m port : ℕ) → CutsAtColon text left right → left ≡ replicate k 91 ++ middle → NoStart middle → middle ≡ inner ++ replicate m 93 → NoEnd inner → inner ≢ [] → Some port ≡ number_in 16 right → IsAddressText text inner port
 reads text left right middle inner k m port c e start d end some number = (
   left,
   right,
   record {
     cut = c.0;
     last = free_from 58 right c.1;
-    number = number;
+    number = sym number;
     bracketed = (
       k,
       m,
@@ -162,7 +169,8 @@ one_address text host other port number (l, r, a) (left, right, b) =
     let (o, c, inner) = a.bracketed in
     let (p, d, outer) = b.bracketed in
     let P : List ℕ → Type 0 = λ x. IsBracketed x host o c in
-    (same_host left host other o c p d (subst P w.0 inner) outer, sym a.number.value ∙ ap (λ x. digits_value 10 (without_leading_plus x)) w.1 ∙ b.number.value)
+    let ports : Some port ≡ Some number = sym a.number ∙ ap (number_in 16) w.1 ∙ b.number in
+    (same_host left host other o c p d (subst P w.0 inner) outer, cc)
 
 -- a text that names the host names the address where it has the port too
 pub names_port : (text host other : List ℕ) (port number : ℕ) → IsAddressText text host port → host ≡ other
@@ -174,4 +182,49 @@ names_port text host other port number a e = (
       let Q : ℕ → Type 0 = λ x. IsAddressText text host x in
       subst P e (subst Q same a)),
   (λ b. eq-eqb port number (one_address text host other port number a b).1),
+)
+
+-- The printed form.
+
+-- decimal digits alone
+abbrev AreDigits : List ℕ → Type 0
+AreDigits [] = Unit {0}
+AreDigits (c ∷ cs) = ((48 ≤ c) × (c ≤ 57)) × AreDigits cs
+
+digits_push : (cs : List ℕ) (c : ℕ) → AreDigits cs → (48 ≤ c) × (c ≤ 57) → AreDigits (cs ++ c ∷ [])
+digits_push [] c h d = (d, tt)
+digits_push (x ∷ cs) c h d = (h.0, digits_push cs c h.1 d)
+
+decimal_digits : (n : ℕ) → n < 2 ^ 64 → AreDigits (decimal n)
+decimal_digits = decimal_by_steps (λ n ds. AreDigits ds) (λ n small. ((omega arith, omega arith), tt)) (λ n ds large h. digits_push ds (48 + n % 10) h (omega arith, omega arith))
+
+lacks_colon : (cs : List ℕ) → AreDigits cs → Lacks 58 cs
+lacks_colon [] h = tt
+lacks_colon (c ∷ cs) h = ((λ e. let most : c ≤ 57 = h.0.1 in absurd (omega arith)), lacks_colon cs h.1)
+
+no_plus : (cs : List ℕ) → AreDigits cs → without_leading_plus cs ≡ cs
+no_plus [] h = refl
+no_plus (c ∷ cs) h = let least : 48 ≤ c = h.0.0 in let other : c == 43 ≡ false = grind (arith, nat_tests) in rw other refl
+
+decimal_number : (n : ℕ) → n < 2 ^ 16 → number_in 16 (decimal n) ≡ Some n
+decimal_number n small =
+    let wide : n < 2 ^ 64 = omega arith in
+    let same = no_plus (decimal n) (decimal_digits n wide) in
+    let numeral = decimal_is_IsNumeral n wide in
+    let value : digits_value 10 (without_leading_plus (decimal n)) ≡ n = ap (digits_value 10) same ∙ numeral.1 in
+    sym (number-ok 16 (decimal n) n ((rw same numeral.0, rw value small), sym value))
+
+pub printed_law : (text : List ℕ) (a : Address) → a.port < 2 ^ 16 → text ≡ printed a → (IsAddressText text a.host a.port → IsPlainHost a.host) × (IsPlainHost a.host → IsAddressText text a.host a.port)
+printed_law text a small e = (
+  (λ (l, r, reading). let (o, c, b) = reading.bracketed in record { some = b.some; start = b.start; end = b.end }),
+  (λ plain. (
+    a.host,
+    decimal a.port,
+    record {
+      cut = e;
+      last = free_from 58 (decimal a.port) (lacks_colon (decimal a.port) (decimal_digits a.port (omega arith)));
+      number = decimal_number a.port small;
+      bracketed = (0, 0, record { whole = sym (append-nil a.host); some = plain.some; start = plain.start; end = plain.end });
+    },
+  )),
 )

@@ -1,7 +1,8 @@
 -- Where a key has a tag in braces, and where it has none.
-use Rattle.std.proofs.Common.{◌≡◌, ◌≢◌, ℕ, List, [], ◌∷◌, ◌++◌, sym, ◌∙◌, ap, subst}
+use Rattle.std.proofs.Common.{◌≡◌, ◌≢◌, ℕ, List, [], ◌∷◌, ◌++◌, ◌%◌, sym, ◌∙◌, ap, subst, inl, inr}
 use Rattle.std.specs.Prelude.{Contains}
-use Rattle.cluster_map.specs.HashTag.{HoldsTag, HasTag, HasNoTag}
+use Rattle.cluster_map.specs.HashTag.{HoldsTag, HasTag, HasNoTag, IsHashTag}
+use Rattle.cluster_map.specs.KeySlot.{IsKeySlot, crc_of}
 use Rattle.cluster_map.proofs.Lists.{Lacks, lacks_from, has, first_cut}
 
 pub no_open : (key : List ℕ) → ¬ (Contains key 123) → HasNoTag key
@@ -24,3 +25,26 @@ nothing_between key front rest tag back e h d k z t (u, v, held) =
 pub tagged : (key front rest tag back : List ℕ) → key ≡ front ++ 123 ∷ rest → ¬ (Contains front 123) → rest ≡ tag ++ 125 ∷ back → ¬ (Contains tag 125) → tag ≢ [] → HasTag key tag
 tagged key front rest tag back e h d k n =
     (front, back, record { split = e ∙ ap (λ r. front ++ 123 ∷ r) d; first = h; closed = k; some = n })
+
+-- a key has one tag in braces at most
+pub one_tag : (key t s : List ℕ) → HasTag key t → HasTag key s → t ≡ s
+one_tag key t s (u, v, held) (a, b, other) =
+    let w = first_cut 123 u (t ++ 125 ∷ v) a (s ++ 125 ∷ b) (sym held.split ∙ other.split) (lacks_from 123 u held.first) (lacks_from 123 a other.first) in
+    (first_cut 125 t v s b w.1 (lacks_from 125 t held.closed) (lacks_from 125 s other.closed)).0
+
+-- the tag in braces is what decides the slot of a key that has one
+hash_tag_is : (key t s : List ℕ) → HasTag key t → IsHashTag key s → s ≡ t
+hash_tag_is key t s h (inl g) = one_tag key s t g h
+hash_tag_is key t s h (inr whole) = absurd (whole.1 t h)
+
+-- a key has one hash tag
+pub one_hash_tag : (key t s : List ℕ) → IsHashTag key t → IsHashTag key s → s ≡ t
+one_hash_tag key t s (inl h) g = hash_tag_is key t s h g
+one_hash_tag key t s (inr whole) (inl g) = absurd (whole.1 s g)
+one_hash_tag key t s (inr whole) (inr other) = other.0 ∙ sym whole.0
+
+-- the law on tags
+pub tag_law : (key other t : List ℕ) (slot number : ℕ) → IsKeySlot key slot → IsHashTag key t → IsHashTag other t → IsKeySlot other number → slot ≡ number
+tag_law key other t slot number (a, is_a, e) h g (b, is_b, f) =
+    let same : a ≡ b = one_hash_tag key t a h is_a ∙ sym (one_hash_tag other t b g is_b) in
+    e ∙ ap (λ x. crc_of x % 16384) same ∙ sym f

@@ -1,8 +1,10 @@
 -- Facts on entries by ascending ends: which entry answers for a slot, and that an insert keeps the order.
 use Rattle.std.proofs.Common.{◌≡◌, ◌<◌, ◌≤◌, ℕ, zero, suc, inl, inr, ◌⊎◌, nat_le, nat_lt, List, [], ◌∷◌, ◌++◌, length, get_or, refl, sym, ap, ◌∙◌, arith}
+use Rattle.std.proofs.Common.{Bor}
+use Rattle.std.specs.Prelude.{Option, Some, None, MatchOption}
 use Rattle.std.specs.List.{Contains, filter}
 use Rattle.std.proofs.lemmas.Bool.{cases_lt, cases_order, le-leb, lt-leb, lt-ltb, le-ltb, cond-true, cond-false}
-use Rattle.cluster_map.specs.RangeMap.{Entry, end_of, value_of, EndsAfter, Ascends, Answers, IsUncovered, insert_entry}
+use Rattle.cluster_map.specs.RangeMap.{Entry, end_of, value_of, EndsAfter, Ascends, Answers, IsUncovered, insert_entry, Holds, AreDisjoint, IsHeldByNone, IsHeldWith}
 
 -- an element at a place of a longer list is its head, or an element of its tail
 cons_cases_at : {X : Type 0} (y : X) (ys : List X) (x : X) (k : ℕ) → k < length (y ∷ ys) → get_or (y ∷ ys) k x ≡ x → (y ≡ x) ⊎ Contains ys x
@@ -210,3 +212,34 @@ Ascends-insert_entry (r ∷ rs) start end value ascends = elim (cases_order end 
         (EndsAfter-insert_entry (end_of r) rs start end value later ascends.0 ascends.1, Ascends-insert_entry rs start end value ascends.1)
   ]
 ]
+
+-- an answer is the value of an entry that holds the slot
+pub IsHeldWith-answer : {V : Type 0} (es : List (Entry V)) (slot : ℕ) (value : V) → Answers es slot value → IsHeldWith es slot value
+IsHeldWith-answer es slot value a = ((a.start, a.end, value), a.there, (a.after_start, a.before_end), refl)
+
+-- where disjoint entries leave a slot uncovered, none holds it: the one that ends first would start after the slot, and an entry that holds the slot would hold that start too
+IsHeldByNone-first : {V : Type 0} (es : List (Entry V)) (slot : ℕ) (f e : Entry V) → AreDisjoint es → IsUncovered es slot → EndsFirstFrom es slot f → Contains es e → ¬ (Holds e slot)
+IsHeldByNone-first es slot f e disjoint uncovered first there holds = elim (cases_lt slot f.0) [
+  | inl starts ↦
+      let straight : f.0 ≤ end_of f = disjoint.straight f first.0 in
+      let ends : end_of f ≤ end_of e = first.2 e there holds.1 in
+      let from : e.0 ≤ slot = holds.0 in
+      let same : e ≡ f = disjoint.apart e f f.0 there first.0 (omega arith, omega arith) (omega arith, straight) in
+      let start : e.0 ≡ f.0 = ap (λ z. z.0) same in
+      absurd (omega arith)
+  | inr starts ↦ uncovered (value_of f) (Answers-first es slot f first starts)
+]
+
+pub IsHeldByNone-uncovered : {V : Type 0} (es : List (Entry V)) (slot : ℕ) → Ascends es → AreDisjoint es → IsUncovered es slot → IsHeldByNone es slot
+IsHeldByNone-uncovered {V} es slot ascends disjoint uncovered e there holds =
+    let P : List (Entry V) → Type 0 = λ rest. ending_from slot es ≡ rest → ⊥ in
+    (elim (ending_from slot es) as P [
+      | [] ↦ λ none. let ends : end_of e < slot = all_end_before es slot e none there in let from : slot ≤ end_of e = holds.1 in absurd (omega arith)
+      | f ∷ rest ↦ λ is. IsHeldByNone-first es slot f e disjoint uncovered (EndsFirstFrom-head es slot f rest ascends is) there holds
+    ]) refl
+
+-- the law on disjoint entries, at what a look-up gives
+pub disjoint_law : {V : Type 0} (es : List (Entry V)) (slot : ℕ) (found : Option (Bor V)) → Ascends es → MatchOption found (IsUncovered es slot) (λ x. Answers es slot x.now) → AreDisjoint es
+    → MatchOption found (IsHeldByNone es slot) (λ x. IsHeldWith es slot x.now)
+disjoint_law es slot None ascends uncovered disjoint = IsHeldByNone-uncovered es slot ascends disjoint uncovered
+disjoint_law es slot (Some x) ascends answers disjoint = IsHeldWith-answer es slot x.now answers

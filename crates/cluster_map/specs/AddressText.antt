@@ -1,15 +1,9 @@
 -- The texts that name a node's address.
-use Rattle.std.specs.Prelude.{◌≡◌, ◌≢◌, ◌<◌, ◌^◌, ℕ, List, [], ◌∷◌, ◌++◌, None, Contains, replicate, codes}
-use Rattle.std.specs.Str.Parse.{IsNumeral, digits_value, without_leading_plus}
+use Rattle.std.specs.Prelude.{◌≡◌, ◌≢◌, ℕ, List, [], ◌∷◌, ◌++◌, Some, None, Contains, replicate, codes}
 use Rattle.resp_core.specs.Fault.{Fault}
 use Rattle.resp_core.specs.declared.error.ErrorKind.TheVariants.{InvalidClientConfig}
+use Rattle.cluster_map.specs.Number.{number_in}
 use Rattle.cluster_map.specs.Bytes.{colon, open_bracket, close_bracket}
-
--- the text writes a number of 16 bits: an optional plus, and one or more digits
-pub record IsNumberText (text : List ℕ) (number : ℕ) : Type 0 where
-  pub digits : IsNumeral 10 (without_leading_plus text)
-  pub value : digits_value 10 (without_leading_plus text) ≡ number
-  pub fits : number < 2 ^ 16
 
 -- the text is the host with some opening brackets before it and some closing ones behind it, all that there are
 pub record IsBracketed (text host : List ℕ) (opens closes : ℕ) : Type 0 where
@@ -22,7 +16,7 @@ pub record IsBracketed (text host : List ℕ) (opens closes : ℕ) : Type 0 wher
 pub record ReadsAs (text left right host : List ℕ) (port : ℕ) : Type 0 where
   pub cut : text ≡ left ++ colon ∷ right
   pub last : ¬ (Contains right colon)
-  pub number : IsNumberText right port
+  pub number : number_in 16 right ≡ Some port
   pub bracketed : (opens : ℕ) × (closes : ℕ) × IsBracketed left host opens closes
 
 -- the text stands for the host and the port
@@ -32,6 +26,12 @@ IsAddressText text host port = (left : List ℕ) × (right : List ℕ) × ReadsA
 -- the text stands for no address
 abbrev pub IsNoAddress : List ℕ → Type 0
 IsNoAddress text = (host : List ℕ) (port : ℕ) → ¬ (IsAddressText text host port)
+
+-- a host that its printed form gives back: not empty, and with no bracket at its outside
+pub record IsPlainHost (host : List ℕ) : Type 0 where
+  pub some : host ≢ []
+  pub start : (rest : List ℕ) → host ≢ open_bracket ∷ rest
+  pub end : (front : List ℕ) → host ≢ front ++ close_bracket ∷ []
 
 -- the refusal of a text that stands for no address
 abbrev pub invalid_node_string : Fault

@@ -5,6 +5,7 @@ pub mod Bytes
 pub mod HashTag
 pub mod KeySlot
 pub mod Nodes
+pub mod Number
 pub mod RangeMap
 pub mod RangeTree
 pub mod RouteNode

@@ -1,5 +1,5 @@
 -- Entries of slot ranges with distinct ends, and which of them answers for a slot.
-use Rattle.std.specs.Prelude.{◌<◌, ◌≤◌, ℕ, nat_lt, List, [], ◌∷◌, ◌++◌, filter, Contains}
+use Rattle.std.specs.Prelude.{◌≡◌, ◌<◌, ◌≤◌, ℕ, nat_lt, List, [], ◌∷◌, ◌++◌, filter, Contains}
 
 -- a start, an end and a value
 abbrev pub Entry : Type 0 → Type 0
@@ -37,3 +37,20 @@ pub record Answers {V : Type 0} (es : List (Entry V)) (slot : ℕ) (value : V) :
 -- no entry answers for the slot
 abbrev pub IsUncovered : {V : Type 0} → List (Entry V) → ℕ → Type 0
 IsUncovered {V} es slot = (value : V) → ¬ (Answers es slot value)
+
+-- the slot stands between the ends of the entry, or is one of them
+abbrev pub Holds : {V : Type 0} → Entry V → ℕ → Type 0
+Holds e slot = (e.0 ≤ slot) × (slot ≤ end_of e)
+
+-- no entry is reversed, and no two hold one slot
+pub record AreDisjoint {V : Type 0} (es : List (Entry V)) : Type 0 where
+  pub straight : (e : Entry V) → Contains es e → e.0 ≤ end_of e
+  pub apart : (e f : Entry V) (slot : ℕ) → Contains es e → Contains es f → Holds e slot → Holds f slot → e ≡ f
+
+-- no entry holds the slot
+abbrev pub IsHeldByNone : {V : Type 0} → List (Entry V) → ℕ → Type 0
+IsHeldByNone {V} es slot = (e : Entry V) → Contains es e → ¬ (Holds e slot)
+
+-- an entry holds the slot and has the value
+abbrev pub IsHeldWith : {V : Type 0} → List (Entry V) → ℕ → V → Type 0
+IsHeldWith {V} es slot value = (e : Entry V) × Contains es e × Holds e slot × (value_of e ≡ value)

@@ -1,4 +1,4 @@
-ghost use Rattle.std.specs.Prelude.{◌≡◌, ◌++◌, ◌⊎◌, ◌↔◌, [], ℕ, Some, IsTrue, IfOk, IfErr, MatchOption};
+ghost use Rattle.std.specs.Prelude.{◌≡◌, ◌<◌, ◌^◌, ◌++◌, ◌∷◌, ◌⊎◌, ◌↔◌, [], ℕ, Some, IsTrue, IfOk, IfErr, MatchOption, codes};
 ghost use Rattle.std.specs.Ordering.{as_partial_cmp};
 ghost use Rattle.std.specs.Hash as hashed;
 ghost use Rattle.std.specs.Rc.{rc_str_bytes};
@@ -7,9 +7,10 @@ ghost use Rattle.std.specs.Cmp.Rules.{comparing, hashing};
 ghost use Rattle.std.proofs.Common.{rules, refl};
 ghost use Rattle.resp_core.specs.Fault.{out_of_memory};
 ghost use Rattle.cluster_map.specs.Address.{Address, printed, same_address, address_cmp};
-ghost use Rattle.cluster_map.specs.AddressText.{IsNumberText, IsAddressText, IsNoAddress, invalid_node_string};
+ghost use Rattle.cluster_map.specs.Number.{number_in};
+ghost use Rattle.cluster_map.specs.AddressText.{IsAddressText, IsNoAddress, IsPlainHost, invalid_node_string};
 
-use resp_core::{ErrorKind, RedisError, RedisResult};
+use resp_core::{Cmd, ErrorKind, RedisError, RedisResult};
 use std::alloc::{AllocError, Global};
 use std::cmp::Ordering;
 use std::fmt;
@@ -166,7 +167,10 @@ impl Ord for NodeAddress {
 
     ghost matches_eq = { Prim.search (comparing, rules) };
 
-    fn cmp(&self, other: &Self) -> Ordering {
+    fn cmp(&self, other: &Self) -> Ordering
+        ensures value { result ≡ address_cmp self.now other.now }
+        ensures equal { (result ≡ Ordering.Equal) ↔ (self.now ≡ other.now) }
+    {
         self.host.cmp(&other.host).then(self.port.cmp(&other.port))
     }
 }
@@ -193,6 +197,8 @@ impl Hash for NodeAddress {
 pub fn split_node_address(text: &str) -> RedisResult<(&str, u16)>
     ensures read { IfOk result (λ named. IsAddressText text.now named.0.now named.1) }
     ensures refused { IfErr result (λ e. (e ≡ invalid_node_string) × IsNoAddress text.now) }
+    // The printed form of an address names it exactly where its host is a plain one.
+    ensures printed { (a : Address) → a.port < 2 ^ 16 → text.now ≡ printed a → (IsAddressText text.now a.host a.port ↔ IsPlainHost a.host) }
 {
     let invalid = (ErrorKind::InvalidClientConfig, "Invalid node string");
     host_and_port(text).ok_or(RedisError::from(invalid))
@@ -211,9 +217,26 @@ fn host_and_port(text: &str) -> Option<(&str, u16)>
 }
 
 fn port_number(text: &str) -> Option<u16>
-    ensures { MatchOption result ((number : ℕ) → ¬ (IsNumberText text.now number)) (λ number. IsNumberText text.now number) }
+    ensures { result ≡ number_in 16 text.now }
 {
-    text.parse().ok()
+    match text.parse() {
+        Ok(number) => Some(number),
+        Err(_) => None,
+    }
+}
+
+/// The command that asks a node for the slot map: `CLUSTER SLOTS`.
+///
+/// # Errors
+///
+/// Kind `OutOfMemory` where there is no memory.
+pub fn slot_cmd(alloc: Global) -> RedisResult<Cmd>
+    ensures words { IfOk result (λ cmd. cmd ≡ codes "CLUSTER" ∷ codes "SLOTS" ∷ []) }
+    ensures memory { IfErr result (λ e. e ≡ out_of_memory) }
+{
+    let mut cmd = Cmd::new(alloc);
+    cmd.arg(b"CLUSTER")?.arg(b"SLOTS")?;
+    Ok(cmd)
 }
 
 #[cfg(test)]

@@ -1,5 +1,6 @@
-ghost use Rattle.std.specs.Prelude.{◌≡◌, ◌<◌, ◌*◌, ◌↔◌, ◌∷◌, ◌++◌, ℕ, IsSome, IfSome, MatchOption, Contains, position, ◌==◌, bit_xor};
-ghost use Rattle.cluster_map.specs.HashTag.{HasTag, HasNoTag};
+ghost use Rattle.std.specs.Prelude.{◌≡◌, ◌<◌, ◌*◌, ◌↔◌, ◌∷◌, ◌++◌, ℕ, List, IsSome, IfSome, MatchOption, Contains, position, ◌==◌, bit_xor};
+ghost use Rattle.cluster_map.specs.HashTag.{HasTag, HasNoTag, IsHashTag};
+ghost use Rattle.cluster_map.specs.declared.slot.TheConstants.{SLOT_SIZE};
 ghost use Rattle.cluster_map.specs.KeySlot.{bring_down, zeros_down, crc_of, IsKeySlot};
 
 use std::marker::Model;
@@ -32,6 +33,7 @@ impl Slot {
     /// The slot of this number, if there is one.
     pub fn new(number: u16) -> Option<Slot>
         ensures there { IsSome result ↔ (number < 16384) }
+        ensures size { SLOT_SIZE ≡ 16384 }
         ensures number { IfSome result (λ slot. slot ≡ number) }
     {
         if number < SLOT_SIZE {
@@ -47,6 +49,8 @@ impl Slot {
     /// key where there is nothing between them or no such pair (Redis cluster specification).
     pub fn for_key(key: &[u8]) -> Slot
         ensures slot { IsKeySlot key.now result }
+        // Keys with one hash tag have one slot.
+        ensures tag { (other tag : List ℕ) (slot : ℕ) → IsHashTag key.now tag → IsHashTag other tag → IsKeySlot other slot → result ≡ slot }
         ensures below { result < 16384 }
     {
         let tag = get_hashtag(key).unwrap_or(key);

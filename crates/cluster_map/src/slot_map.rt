@@ -2,7 +2,7 @@ ghost use Rattle.std.specs.Prelude.{◌≡◌, [], IfOk, IsTrue, ◌↔◌, Matc
 ghost use Rattle.std.specs.Cmp.Rules.{comparing};
 ghost use Rattle.std.proofs.Common.{rules};
 ghost use Rattle.cluster_map.specs.Nodes.{Nodes, RangeNodes, nodes_of, same_range, filled};
-ghost use Rattle.cluster_map.specs.RangeMap.{IsUncovered};
+ghost use Rattle.cluster_map.specs.RangeMap.{Ascends, IsUncovered};
 ghost use Rattle.cluster_map.specs.RouteNode.{IsAsked, IsNodeOfRoute};
 
 use crate::node_address::NodeAddress;
@@ -46,7 +46,10 @@ impl PartialEq for SlotRange {
 
     ghost laws = { Prim.search (comparing, rules) depth 9 };
 
-    fn eq(&self, other: &Self) -> bool {
+    fn eq(&self, other: &Self) -> bool
+        ensures value { result ≡ same_range self.now other.now }
+        ensures same { IsTrue result ↔ (self.now ≡ other.now) }
+    {
         self.start == other.start
             && self.end == other.end
             && self.master == other.master
@@ -154,7 +157,9 @@ impl SlotMap {
     /// It is the primary, or where a replica is required and there is one, the replica at `pick`
     /// modulo their number.
     pub fn slot_addr_for_route(&self, route: Route, pick: usize) -> Option<&NodeAddress>
-        ensures { MatchOption result (IsUncovered self.now route.slot) (λ address. IsNodeOfRoute self.now route pick address.now) }
+        ensures node { MatchOption result (IsUncovered self.now route.slot) (λ address. IsNodeOfRoute self.now route pick address.now) }
+        // So one range at most answers for a slot.
+        ensures order { Ascends self.now }
     {
         let addrs = self.slots.get(route.slot())?;
         Some(addrs.slot_addr(route.slot_addr(), pick))

@@ -1,6 +1,6 @@
 ghost use Rattle.std.specs.Prelude.{◌≡◌, [], OnOk, OnErr, MatchOption};
 ghost use Rattle.std.specs.Iterator.{YieldsFirstBy, item_count};
-ghost use Rattle.cluster_map.specs.RangeMap.{Entry, Ascends, Answers, IsUncovered, insert_entry};
+ghost use Rattle.cluster_map.specs.RangeMap.{Entry, Ascends, Answers, IsUncovered, AreDisjoint, IsHeldByNone, IsHeldWith, insert_entry};
 
 use std::alloc::{AllocError, Global};
 use std::collections::{BTreeMap, btree_map};
@@ -61,6 +61,8 @@ impl<V> SlotRangeMap<V> {
     /// The value that answers for the slot. O(log n).
     pub fn get(&self, slot: u16) -> Option<&V>
         ensures least { MatchOption result (IsUncovered self.now slot) (λ value. Answers self.now slot value.now) }
+        // Where no two ranges meet, it is the value of the one that contains the slot.
+        ensures disjoint { AreDisjoint self.now → MatchOption result (IsHeldByNone self.now slot) (λ value. IsHeldWith self.now slot value.now) }
         ensures order { Ascends self.now }
     {
         let (_, (start, value)) = self.ranges.range(slot..).next()?;
@@ -112,7 +114,7 @@ impl<'a, V> IntoIterator for &'a SlotRangeMap<V> {
 
     type IntoIter = Iter<'a, V>;
 
-    ghost into_iter_gives = { λ m it. it ≡ m.now };
+    ghost into_iter_gives = { λ m it. (it ≡ m.now) × Ascends m.now };
 
     fn into_iter(self) -> Iter<'a, V> {
         self.iter()

@@ -1,11 +1,9 @@
 -- What the words and the input call for.
-use Rattle.std.proofs.Common.{◌≡◌, ◌≢◌, ◌<◌, ◌≤◌, ℕ, append_assoc, decimal, List, [], ◌∷◌, ◌++◌, refl, sym, ap, ◌∙◌, subst, rules, arith, length, take, ◌⊎◌, inl, inr}
-use Rattle.std.proofs.lemmas.Bool.{cases_lt}
+use Rattle.std.proofs.Common.{◌≡◌, ◌≢◌, ℕ, append_assoc, decimal, List, [], ◌∷◌, ◌++◌, refl, sym, ◌∙◌, subst, rules, arith, length, take, inl, inr}
 use Rattle.std.proofs.lemmas.List.{take_all}
 use Rattle.std.specs.Prelude.{Option, Some, None, Result, Ok, Err, OnOk, OnErr, IfSome, MatchResult, codes}
 use Rattle.std.specs.Result.{IsErrAnd}
 use Rattle.std.specs.Io.KnownBytes.{Appends}
-
 use Rattle.cluster_map.specs.Address.{Address, printed}
 use Rattle.cluster_map.specs.KeySlot.{IsKeySlot}
 use Rattle.cluster_map.specs.Nodes.{Nodes, RangeNodes, filled}
@@ -18,7 +16,7 @@ use Rattle.slotroute.specs.Lines.{leading}
 use Rattle.slotroute.specs.MapLines.{IsMap}
 use Rattle.slotroute.specs.Faults.{fault_line, IsNoMap}
 use Rattle.slotroute.specs.Output.{Output, IsNodeAnswer, node_words, slot_line, usage_line, bad_map_line, usage, bad_map, answer, served, unserved}
-use Rattle.slotroute.specs.Serves.{BeginsOutput, Answers, Explains, IsBadMapLine, TellsOf, Reports, Serves, Answered, Troubled}
+use Rattle.slotroute.specs.Serves.{Answers, Explains, IsBadMapLine, TellsOf, Reports, Serves}
 use Rattle.slotroute.specs.declared.fault.Fault.{Fault}
 use Rattle.slotroute.specs.declared.fault.Fault.TheVariants as fault
 

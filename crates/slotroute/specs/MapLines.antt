@@ -1,15 +1,13 @@
 -- What the leading lines say of a slot map.
-use Rattle.std.specs.Prelude.{◌≡◌, ℕ, ◌+◌, List, [], ◌∷◌, ◌++◌, length}
+use Rattle.std.specs.Prelude.{◌≡◌, ℕ, ◌+◌, List, [], Some, ◌∷◌, ◌++◌, length}
 use Rattle.std.specs.List.{AllZip}
 use Rattle.std.specs.Str.{IsUtf8}
 use Rattle.cluster_map.specs.Address.{Address}
-use Rattle.cluster_map.specs.AddressText.{IsNumberText, IsAddressText}
+use Rattle.cluster_map.specs.AddressText.{IsAddressText}
+use Rattle.cluster_map.specs.Number.{number_in}
 use Rattle.cluster_map.specs.Nodes.{RangeNodes}
 
--- a field is a number, or an address, only where it is UTF-8
-abbrev pub IsNumberField : List ℕ → ℕ → Type 0
-IsNumberField field number = IsUtf8 field × IsNumberText field number
-
+-- the field names the node at the address, which only a text can
 abbrev pub IsNodeField : List ℕ → Address → Type 0
 IsNodeField field address = IsUtf8 field × IsAddressText field address.host address.port
 
@@ -19,7 +17,7 @@ IsMapLine [] range = ⊥
 IsMapLine (start ∷ []) range = ⊥
 IsMapLine (start ∷ end ∷ []) range = ⊥
 IsMapLine (start ∷ end ∷ primary ∷ replicas) range =
-    IsNumberField start range.start × IsNumberField end range.end × IsNodeField primary range.master × AllZip IsNodeField replicas range.replicas
+    (number_in 16 start ≡ Some range.start) × (number_in 16 end ≡ Some range.end) × IsNodeField primary range.master × AllZip IsNodeField replicas range.replicas
 
 -- the lines are map lines, and these are their ranges
 abbrev pub IsMap : List (List (List ℕ)) → List RangeNodes → Type 0

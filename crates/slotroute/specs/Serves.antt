@@ -1,5 +1,5 @@
 -- What stands in the writers after a run, and the status.
-use Rattle.std.specs.Prelude.{◌≡◌, ◌<◌, ◌⊎◌, ℕ, List, [], ◌++◌, Option, IfSome, take, ⊤}
+use Rattle.std.specs.Prelude.{◌≡◌, ◌⊎◌, ℕ, List, [], Option, IfSome, take, ⊤}
 use Rattle.std.specs.Io.KnownBytes.{Appends}
 use Rattle.slotroute.specs.Faults.{fault_line}
 use Rattle.slotroute.specs.Output.{Output, node_words, usage_line, bad_map_line}

@@ -3,8 +3,9 @@ ghost use Rattle.std.specs.List.{AllZip};
 ghost use Rattle.std.specs.Io.BufRead.{DropsThrough, strip_last};
 ghost use Rattle.cluster_map.specs.Address.{Address};
 ghost use Rattle.cluster_map.specs.Nodes.{RangeNodes};
+ghost use Rattle.cluster_map.specs.Number.{number_in};
 ghost use Rattle.slotroute.specs.Lines.{line_of, fields_of, leading};
-ghost use Rattle.slotroute.specs.MapLines.{IsNumberField, IsNodeField, IsMapLine, IsMap};
+ghost use Rattle.slotroute.specs.MapLines.{IsNodeField, IsMapLine, IsMap};
 ghost use Rattle.slotroute.specs.Faults.{IsNoMap};
 
 use crate::fault::Fault;
@@ -80,25 +81,31 @@ fn map_line(alloc: Global, fields: &[&[u8]]) -> Result<Option<SlotRange>, AllocE
     let [start, end, primary, replicas @ ..] = fields else {
         return Ok(None);
     };
-    let (Some(start), Some(end)) = (number_in(start), number_in(end)) else {
+    let (Some(start), Some(end)) = (number_of(start), number_of(end)) else {
         return Ok(None);
     };
-    let Some(primary) = node_in(alloc, primary)? else {
+    let Some(primary) = node_of(alloc, primary)? else {
         return Ok(None);
     };
-    let Some(replicas) = nodes_in(alloc, replicas)? else {
+    let Some(replicas) = nodes_of(alloc, replicas)? else {
         return Ok(None);
     };
     Ok(Some(SlotRange::new(start, end, primary, replicas)))
 }
 
-fn number_in(field: &[u8]) -> Option<u16>
-    ensures { MatchOption result ((number : ℕ) → ¬ (IsNumberField field.now number)) (IsNumberField field.now) }
+fn number_of(field: &[u8]) -> Option<u16>
+    ensures { result ≡ number_in 16 field.now }
 {
-    str::from_utf8(field).ok()?.parse().ok()
+    let Ok(text) = str::from_utf8(field) else {
+        return None;
+    };
+    match text.parse() {
+        Ok(number) => Some(number),
+        Err(_) => None,
+    }
 }
 
-fn node_in(alloc: Global, field: &[u8]) -> Result<Option<NodeAddress>, AllocError>
+fn node_of(alloc: Global, field: &[u8]) -> Result<Option<NodeAddress>, AllocError>
     ensures { IfOk result (λ node. MatchOption node
         ((address : Address) → ¬ (IsNodeField field.now address))
         (IsNodeField field.now)) }
@@ -112,14 +119,14 @@ fn node_in(alloc: Global, field: &[u8]) -> Result<Option<NodeAddress>, AllocErro
     Ok(Some(NodeAddress::new(alloc, host, port)?))
 }
 
-fn nodes_in(alloc: Global, fields: &[&[u8]]) -> Result<Option<Vec<NodeAddress>>, AllocError>
+fn nodes_of(alloc: Global, fields: &[&[u8]]) -> Result<Option<Vec<NodeAddress>>, AllocError>
     ensures { IfOk result (λ nodes. MatchOption nodes
         ((addresses : List Address) → ¬ (AllZip IsNodeField (map (λ field. field.now) fields.now) addresses))
         (λ nodes. AllZip IsNodeField (map (λ field. field.now) fields.now) nodes.items)) }
 {
     let mut nodes = Vec::with_capacity(alloc, fields.len())?;
     for field in fields {
-        let Some(node) = node_in(alloc, field)? else {
+        let Some(node) = node_of(alloc, field)? else {
             return Ok(None);
         };
         nodes.push(node)?;

@@ -139,3 +139,14 @@ fn addresses_are_ordered_by_host_bytes_then_port(rt: HostRuntime) -> Result<(), 
     }
     Ok(())
 }
+
+#[test]
+fn the_slots_command_has_two_words(rt: HostRuntime) -> Result<(), Fail> {
+    let cmd = slot_cmd(rt.alloc())?;
+    let words: [&[u8]; 2] = [b"CLUSTER", b"SLOTS"];
+    assert_eq!(rt; cmd.len(), 2);
+    for (i, word) in cmd.args().enumerate() {
+        assert_eq!(rt; Some(word), words.get(i).copied(), "word {i}");
+    }
+    Ok(())
+}

@@ -1,7 +1,7 @@
 use Rattle.std.proofs.Common.{sym, ◌∙◌, ap, inl, inr}
 use Rattle.std.proofs.lemmas.Bool.{cases_lt, le-leb, lt-leb}
 use Rattle.cluster_map.specs.RangeTree.{entry_of, entries_of}
-use Rattle.cluster_map.proofs.Ranges.{IsUncovered-none, EndsFirstFrom-head, Answers-first, IsUncovered-first}
+use Rattle.cluster_map.proofs.Ranges.{IsUncovered-none, EndsFirstFrom-head, Answers-first, IsUncovered-first, disjoint_law}
 use Rattle.cluster_map.proofs.Trees.{entries_of-from}
 use Rattle.cluster_map.proofs.slot_range_map.SlotRangeMap.get.Goals as goal
 
@@ -27,3 +27,11 @@ returns-clause-least g c =
           rw (c.then_some.ensures, le-leb entry.0 c.args.slot before, ← c.self.view_is)
           (Answers-first (entries_of c.self.inside.ranges.entries) c.args.slot entry first before)
     ]
+
+-- the law on disjoint entries follows from either answer
+pub returns-in_err-start-clause-disjoint : goal.returns-in_err-start-clause-disjoint
+returns-in_err-start-clause-disjoint g c =
+    disjoint_law c.args.self.now c.args.slot c.from_residual.result (rw (← c.self.view_is) c.self.invariant) (returns-in_err-start-clause-least g c)
+
+pub returns-clause-disjoint : goal.returns-clause-disjoint
+returns-clause-disjoint g c = disjoint_law c.args.self.now c.args.slot c.then_some.result (rw (← c.self.view_is) c.self.invariant) (returns-clause-least g c)

@@ -1,6 +1,6 @@
 use Rattle.slotroute.specs.MapLines.{IsNodeField}
 use Rattle.slotroute.proofs.Reading.{unpaired, paired_more}
-use Rattle.slotroute.proofs.input.nodes_in.Goals as goal
+use Rattle.slotroute.proofs.input.nodes_of.Goals as goal
 
 pub returns-in_default : goal.returns-in_default
 returns-in_default c = λ addresses.

@@ -1,6 +1,6 @@
 use Rattle.std.proofs.Common.{subst}
 use Rattle.cluster_map.specs.AddressText.{IsNoAddress}
-use Rattle.slotroute.proofs.input.node_in.Goals as goal
+use Rattle.slotroute.proofs.input.node_of.Goals as goal
 
 pub returns-in_default-split_node_address : goal.returns-in_default-split_node_address
 returns-in_default-split_node_address c = λ address field.

@@ -1,7 +1,7 @@
 use Rattle.std.proofs.Common.{map, take}
 use Rattle.std.specs.List.{AllZip}
 use Rattle.slotroute.specs.MapLines.{IsNodeField}
-use Rattle.slotroute.proofs.input.nodes_in.Given as goal
+use Rattle.slotroute.proofs.input.nodes_of.Given as goal
 
 -- the nodes so far are those of the fields so far
 abbrev pub invariant-loop-field : goal.invariant-loop-field

@@ -1,0 +1,9 @@
+use Rattle.std.proofs.Common.{rules, ◌%◌}
+use Rattle.cluster_map.specs.KeySlot.{IsKeySlot}
+use Rattle.cluster_map.proofs.HashTags.{tag_law}
+use Rattle.cluster_map.proofs.slot.Slot.for_key.Goals as goal
+
+pub returns-clause-tag : goal.returns-clause-tag
+returns-clause-tag c = λ other tag slot here there is.
+    let own : IsKeySlot c.args.key.now (c.crc16.result % 16384) = search rules in
+    tag_law c.args.key.now other tag (c.crc16.result % 16384) slot own here there is
