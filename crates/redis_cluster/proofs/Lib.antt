@@ -1,0 +1,5 @@
+pub mod Agree
+pub mod Arguments
+pub mod Names
+pub mod Search
+pub mod Tables

@@ -1,0 +1,4 @@
+//! Where a Redis command goes in a cluster, and how the replies to its parts make one.
+#![tactic(auto)]
+
+pub mod routing;
