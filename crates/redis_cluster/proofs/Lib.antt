@@ -1,5 +1,7 @@
 pub mod Agree
 pub mod Arguments
+pub mod NameSets
 pub mod Names
+pub mod Routes
 pub mod Search
 pub mod Tables

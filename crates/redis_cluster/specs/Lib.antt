@@ -1,6 +1,10 @@
 pub mod Command
+pub mod Plan
 pub mod Policies
+pub mod ReadOnly
+pub mod Routing
 pub mod Table
+pub mod Target
 pub mod TwoWords
 pub mod Upper
 pub mod Ways

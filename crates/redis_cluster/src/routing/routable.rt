@@ -1,4 +1,4 @@
-ghost use Rattle.std.specs.Prelude.{◌≡◌, ◌<◌, ◌^◌, ℕ, List, Option, Some, IfOk, map, length, position, option_copied, option_map};
+ghost use Rattle.std.specs.Prelude.{◌≡◌, ◌<◌, ◌^◌, ℕ, List, Option, Some, IfOk, IfSome, map, length, position, option_copied, option_map};
 ghost use Rattle.resp_core.specs.Reply.{bulk_of, items_of};
 ghost use Rattle.resp_core.specs.View.{view};
 ghost use Rattle.redis_cluster.specs.Command.{Arguments, argument, command_of, is_word, arguments_in};
@@ -41,7 +41,8 @@ pub trait Routable {
 
     /// The place of the first argument that is this word, in any ASCII case.
     fn position(&self, candidate: &[u8]) -> Option<usize>
-        ensures { result ≡ position (is_word candidate.now) (args self.now) };
+        ensures place { result ≡ position (is_word candidate.now) (args self.now) }
+        ensures few { IfSome result (λ place. place < 2 ^ 63) };
 }
 
 /// A command has no gaps.
