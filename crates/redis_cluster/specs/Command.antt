@@ -1,5 +1,5 @@
 -- A command as a list of arguments of which some are gaps, and its name.
-use Rattle.std.specs.Prelude.{ℕ, List, [], ◌∷◌, ◌++◌, Bool, false, Option, None, Some, map, if◌then◌else◌, slice_index_or}
+use Rattle.std.specs.Prelude.{◌≡◌, ℕ, List, [], ◌∷◌, ◌++◌, Bool, false, Option, None, Some, map, if◌then◌else◌, slice_index_or}
 use Rattle.std.specs.Char.{to_ascii_lowercase}
 use Rattle.std.specs.Str.{bytes_eq}
 use Rattle.redis_cluster.specs.Upper.{upper}
@@ -33,6 +33,11 @@ name_from args (Some first) = Some (name_by (upper first) (in_upper_case (argume
 
 abbrev pub command_of : Arguments → Option (List ℕ)
 command_of args = name_from args (argument args 0)
+
+-- the same command, but for the ASCII case of its first word
+abbrev pub IsRespelt : Arguments → Arguments → Type 0
+IsRespelt (Some first ∷ rest) other = (spelt : List ℕ) × (upper spelt ≡ upper first) × (other ≡ Some spelt ∷ rest)
+IsRespelt args other = other ≡ args
 
 -- whether the argument is this word, in any ASCII case
 abbrev pub is_word : List ℕ → Option (List ℕ) → Bool

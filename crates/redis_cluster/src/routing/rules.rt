@@ -1,5 +1,5 @@
 ghost use Rattle.std.specs.Prelude.{◌≡◌, ◌<◌, ◌^◌, ◌+◌, IfOk, Some, option_map, option_copied, codes, position};
-ghost use Rattle.redis_cluster.specs.Command.{argument, is_word};
+ghost use Rattle.redis_cluster.specs.Command.{Arguments, IsRespelt, argument, is_word};
 ghost use Rattle.redis_cluster.specs.Plan.{plan, multiple_of};
 ghost use Rattle.redis_cluster.specs.Policies.{policy_of};
 ghost use Rattle.redis_cluster.specs.ReadOnly.{is_among};
@@ -20,6 +20,8 @@ impl RoutingInfo {
     /// Where a command goes, if that is known: `None` where it has no name, its key or count is
     /// missing or no number, or its name has no way.
     ///
+    /// The ASCII case of the first word changes nothing.
+    ///
     /// # Errors
     ///
     /// Where there is no memory.
@@ -29,6 +31,7 @@ impl RoutingInfo {
         read_only: &ReadOnlyNames,
     ) -> Result<Option<RoutingInfo>, AllocError>
         ensures routed { IfOk result (λ info. IsRouting (is_among read_only.now) (R.args command.now) (option_map plan info)) }
+        ensures case { IfOk result (λ info. (other : Arguments) → IsRespelt (R.args command.now) other → IsRouting (is_among read_only.now) other (option_map plan info)) }
     {
         let Some(name) = command.command(alloc)? else {
             return Ok(None);
