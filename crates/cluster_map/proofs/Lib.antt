@@ -5,4 +5,5 @@ pub mod Lists
 pub mod Numerals
 pub mod Orders
 pub mod Ranges
+pub mod Tags
 pub mod Trees

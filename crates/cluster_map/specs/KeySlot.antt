@@ -1,7 +1,7 @@
 -- The slot of a key: CRC-16/XMODEM of its hash tag, modulo 16384.
 use Rattle.std.specs.Prelude.{◌≡◌, ℕ, zero, suc, ◌+◌, ◌*◌, ◌-◌, ◌%◌, nat_le, cond, List, [], ◌∷◌, ◌++◌, fold, replicate, bit_xor}
 use Rattle.std.specs.Int.{bit_at}
-use Rattle.cluster_map.specs.HashTag.{IsHashTag}
+use Rattle.cluster_map.specs.HashTag.{IsHashTag, hash_tag}
 
 -- Long division of bits by x^16 + x^12 + x^5 + 1: the remainder with one more bit brought down. The divisor is 65536 + 0x1021.
 abbrev pub bring_down : ℕ → ℕ → ℕ
@@ -33,3 +33,7 @@ crc_of bytes = rem (bits_of bytes ++ replicate 16 0)
 -- the slot of a key
 abbrev pub IsKeySlot : List ℕ → ℕ → Type 0
 IsKeySlot key slot = (tag : List ℕ) × IsHashTag key tag × (slot ≡ crc_of tag % 16384)
+
+-- the same as a value
+unfoldable pub key_slot : List ℕ → ℕ
+key_slot key = crc_of (hash_tag key) % 16384

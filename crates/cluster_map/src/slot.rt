@@ -1,7 +1,7 @@
 ghost use Rattle.std.specs.Prelude.{◌≡◌, ◌<◌, ◌*◌, ◌↔◌, ◌∷◌, ◌++◌, ℕ, List, IsSome, IfSome, MatchOption, Contains, position, ◌==◌, bit_xor};
 ghost use Rattle.cluster_map.specs.HashTag.{HasTag, HasNoTag, IsHashTag};
 ghost use Rattle.cluster_map.specs.declared.slot.TheConstants.{SLOT_SIZE};
-ghost use Rattle.cluster_map.specs.KeySlot.{bring_down, zeros_down, crc_of, IsKeySlot};
+ghost use Rattle.cluster_map.specs.KeySlot.{bring_down, zeros_down, crc_of, IsKeySlot, key_slot};
 
 use std::marker::Model;
 
@@ -49,6 +49,7 @@ impl Slot {
     /// key where there is nothing between them or no such pair (Redis cluster specification).
     pub fn for_key(key: &[u8]) -> Slot
         ensures slot { IsKeySlot key.now result }
+        ensures value { result ≡ key_slot key.now }
         // Keys with one hash tag have one slot.
         ensures tag { (other tag : List ℕ) (slot : ℕ) → IsHashTag key.now tag → IsHashTag other tag → IsKeySlot other slot → result ≡ slot }
         ensures below { result < 16384 }
@@ -113,6 +114,7 @@ impl Route {
     /// A route to the slot of a key.
     pub fn with_key(key: &[u8], slot_addr: SlotAddr) -> Self
         ensures slot { IsKeySlot key.now result.slot }
+        ensures value { result.slot ≡ key_slot key.now }
         ensures addr { result.addr ≡ slot_addr }
     {
         Route::with_slot(Slot::for_key(key), slot_addr)

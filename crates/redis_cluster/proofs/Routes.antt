@@ -1,19 +1,11 @@
--- The routes of keys, and copies of routes.
-use Rattle.std.proofs.Common.{◌≡◌, ℕ, ◌+◌, ◌<◌, List, [], ◌∷◌, ◌++◌, take, length, get_or, Bool, Some, ap, sym, ◌∙◌}
+-- Copies of routes.
+use Rattle.std.proofs.Common.{◌≡◌, ℕ, ◌+◌, ◌<◌, List, [], ◌∷◌, ◌++◌, take, length, get_or, ap, sym, ◌∙◌}
 use Rattle.std.proofs.lemmas.List.{map-append}
 use Rattle.std.proofs.lemmas.Grind.{take_at_read}
 use Rattle.std.specs.declared.vec.Vec.{Vec}
 use Rattle.std.specs.declared.alloc.Global.{Global}
-use Rattle.cluster_map.specs.KeySlot.{IsKeySlot}
 use Rattle.cluster_map.specs.RouteTo.{RouteTo}
-use Rattle.cluster_map.specs.declared.slot.SlotAddr.{SlotAddr}
-use Rattle.redis_cluster.specs.Target.{Target, single, specific, parts_of}
-use Rattle.redis_cluster.specs.Routing.{IsToKey, nodes_for}
-
--- a route to the key's slot, by its parts
-pub routed : (reads : Bool) (key : List ℕ) (route : RouteTo) (nodes : SlotAddr) (target : Target) → IsKeySlot key route.slot → route.addr ≡ nodes → nodes ≡ nodes_for reads → target ≡ single (specific route) → IsToKey reads (Some key) (Some target)
-routed reads key route nodes target own addr nodes-are is =
-    (route.slot, own, ap Some (is ∙ ap (λ a. single (specific (record { slot = route.slot; addr = a }))) (addr ∙ nodes-are)))
+use Rattle.redis_cluster.specs.Target.{parts_of}
 
 -- a copy of one route more
 pub one_more : (items copies : List (RouteTo × Vec ℕ Global)) (i : ℕ) (item copy : RouteTo × Vec ℕ Global) → parts_of copies ≡ parts_of (take i items) → i < length items → item ≡ get_or items i item → copy.0 ≡ item.0 → copy.1.items ≡ item.1.items → parts_of (copies ++ copy ∷ []) ≡ parts_of (take (i + 1) items)

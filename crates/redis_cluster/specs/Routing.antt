@@ -1,6 +1,6 @@
 -- Routing: where a command goes, by the way of its name.
-use Rattle.std.specs.Prelude.{◌≡◌, ◌<◌, ◌≤◌, ◌+◌, ◌⊎◌, ℕ, zero, suc, Bool, cond, List, Option, None, Some, codes, position}
-use Rattle.cluster_map.specs.KeySlot.{IsKeySlot}
+use Rattle.std.specs.Prelude.{◌+◌, ℕ, zero, suc, Bool, true, false, cond, List, Option, None, Some, codes, position, nat_lt, option_map}
+use Rattle.cluster_map.specs.KeySlot.{key_slot}
 use Rattle.cluster_map.specs.Number.{number_in}
 use Rattle.cluster_map.specs.declared.slot.SlotAddr.{SlotAddr}
 use Rattle.cluster_map.specs.declared.slot.SlotAddr.TheVariants.{Master, ReplicaOptional}
@@ -16,32 +16,29 @@ abbrev pub nodes_for : Bool → SlotAddr
 nodes_for reads = cond reads ReplicaOptional Master
 
 -- to the slot of the key, if the key is there
-abbrev pub IsToKey : Bool → Option (List ℕ) → Option Target → Type 0
-IsToKey reads None target = target ≡ None
-IsToKey reads (Some key) target = (slot : ℕ) × IsKeySlot key slot × (target ≡ Some (single (specific (record { slot = slot; addr = nodes_for reads }))))
+abbrev pub to_key : Bool → Option (List ℕ) → Option Target
+to_key reads key = option_map (λ k. single (specific (record { slot = key_slot k; addr = nodes_for reads }))) key
 
 -- by the count of keys and the key behind it: no key, any node
-abbrev pub IsByCount : Bool → Option ℕ → Option (List ℕ) → Option Target → Type 0
-IsByCount reads None key target = target ≡ None
-IsByCount reads (Some zero) key target = target ≡ Some (single random)
-IsByCount reads (Some (suc n)) key target = IsToKey reads key target
+abbrev pub by_count : Bool → Option ℕ → Option (List ℕ) → Option Target
+by_count reads None key = None
+by_count reads (Some zero) key = Some (single random)
+by_count reads (Some (suc n)) key = to_key reads key
 
 -- to the slot of the key, or to any node where there is none
-abbrev pub IsToKeyOrAny : Bool → Option (List ℕ) → Option Target → Type 0
-IsToKeyOrAny reads None target = target ≡ Some (single random)
-IsToKeyOrAny reads (Some key) target = IsToKey reads (Some key) target
+abbrev pub to_key_or_any : Bool → Option (List ℕ) → Option Target
+to_key_or_any reads None = Some (single random)
+to_key_or_any reads (Some key) = to_key reads (Some key)
 
 -- to the key at the place after this one
-abbrev pub IsToKeyAfter : Bool → Arguments → Option ℕ → Option Target → Type 0
-IsToKeyAfter reads args None target = target ≡ None
-IsToKeyAfter reads args (Some place) target = IsToKey reads (argument args (place + 1)) target
+abbrev pub to_key_after : Bool → Arguments → Option ℕ → Option Target
+to_key_after reads args None = None
+to_key_after reads args (Some place) = to_key reads (argument args (place + 1))
 
 -- to the primary of the slot of this number, if it is a slot's
-abbrev pub IsToSlot : Option ℕ → Option Target → Type 0
-IsToSlot None target = target ≡ None
-IsToSlot (Some n) target =
-    ((n < 16384) × (target ≡ Some (single (specific (record { slot = n; addr = Master })))))
-    ⊎ ((16384 ≤ n) × (target ≡ None))
+abbrev pub to_slot : Option ℕ → Option Target
+to_slot None = None
+to_slot (Some n) = cond (nat_lt n 16384) (Some (single (specific (record { slot = n; addr = Master })))) None
 
 -- what an argument writes as a number of so many bits
 abbrev pub number_at : ℕ → Option (List ℕ) → Option ℕ
@@ -49,22 +46,31 @@ number_at bits None = None
 number_at bits (Some text) = number_in bits text
 
 -- where a command goes by the way of its name; of one that is split by slot nothing is said yet
-abbrev pub IsByWay : Bool → List ℕ → Arguments → Option Way → Option Target → Type 0
-IsByWay reads name args None target = IsToKeyOrAny reads (argument args 1) target
-IsByWay reads name args (Some way.AllNodes) target = target ≡ Some (multiple all_nodes (policy_of name))
-IsByWay reads name args (Some way.AllMasters) target = target ≡ Some (multiple all_masters (policy_of name))
-IsByWay reads name args (Some (way.MultiSlot pattern)) target = Unit {0}
-IsByWay reads name args (Some way.Undefined) target = target ≡ None
-IsByWay reads name args (Some (way.CountAt n)) target = IsByCount reads (number_at 64 (argument args n)) (argument args (n + 1)) target
-IsByWay reads name args (Some (way.KeyAt n)) target = IsToKey reads (argument args n) target
-IsByWay reads name args (Some way.KeyAfterStreams) target = IsToKeyAfter reads args (position (is_word (codes "STREAMS")) args) target
-IsByWay reads name args (Some way.Random) target = target ≡ Some (single random)
-IsByWay reads name args (Some way.SlotAtTwo) target = IsToSlot (number_at 16 (argument args 2)) target
+abbrev pub by_way : Bool → List ℕ → Arguments → Option Way → Option Target
+by_way reads name args None = to_key_or_any reads (argument args 1)
+by_way reads name args (Some way.AllNodes) = Some (multiple all_nodes (policy_of name))
+by_way reads name args (Some way.AllMasters) = Some (multiple all_masters (policy_of name))
+by_way reads name args (Some (way.MultiSlot pattern)) = None
+by_way reads name args (Some way.Undefined) = None
+by_way reads name args (Some (way.CountAt n)) = by_count reads (number_at 64 (argument args n)) (argument args (n + 1))
+by_way reads name args (Some (way.KeyAt n)) = to_key reads (argument args n)
+by_way reads name args (Some way.KeyAfterStreams) = to_key_after reads args (position (is_word (codes "STREAMS")) args)
+by_way reads name args (Some way.Random) = Some (single random)
+by_way reads name args (Some way.SlotAtTwo) = to_slot (number_at 16 (argument args 2))
 
 -- where a command of this name goes, under a set of names that only read
-abbrev pub IsNamedRouting : (List ℕ → Bool) → Arguments → Option (List ℕ) → Option Target → Type 0
-IsNamedRouting only_reads args None target = target ≡ None
-IsNamedRouting only_reads args (Some name) target = IsByWay (only_reads name) name args (way_in name) target
+abbrev pub routing_of : (List ℕ → Bool) → Arguments → Option (List ℕ) → Option Target
+routing_of only_reads args None = None
+routing_of only_reads args (Some name) = by_way (only_reads name) name args (way_in name)
 
-abbrev pub IsRouting : (List ℕ → Bool) → Arguments → Option Target → Type 0
-IsRouting only_reads args target = IsNamedRouting only_reads args (command_of args) target
+abbrev pub routing : (List ℕ → Bool) → Arguments → Option Target
+routing only_reads args = routing_of only_reads args (command_of args)
+
+-- whether commands of the name are split by slot
+abbrev pub is_multi_slot : Option Way → Bool
+is_multi_slot (Some (way.MultiSlot pattern)) = true
+is_multi_slot _ = false
+
+abbrev pub is_split_name : Option (List ℕ) → Bool
+is_split_name None = false
+is_split_name (Some name) = is_multi_slot (way_in name)

@@ -1,11 +1,11 @@
-ghost use Rattle.std.specs.Prelude.{◌≡◌, ◌<◌, ◌^◌, ◌+◌, IfOk, Some, option_map, option_copied, codes, position};
-ghost use Rattle.redis_cluster.specs.Command.{Arguments, IsRespelt, argument, is_word};
+ghost use Rattle.std.specs.Prelude.{◌≡◌, ◌<◌, ◌^◌, ◌+◌, false, IfOk, Some, option_map, option_copied, codes, position};
+ghost use Rattle.redis_cluster.specs.Command.{Arguments, IsRespelt, argument, command_of, is_word};
 ghost use Rattle.redis_cluster.specs.Plan.{plan, multiple_of};
 ghost use Rattle.redis_cluster.specs.Policies.{policy_of};
 ghost use Rattle.redis_cluster.specs.ReadOnly.{is_among};
 ghost use Rattle.redis_cluster.specs.Target.{random, single, multiple, specific};
 ghost use Rattle.redis_cluster.specs.Ways.{way_in};
-ghost use Rattle.redis_cluster.specs.Routing.{number_at, IsToKey, IsByCount, IsToKeyOrAny, IsToKeyAfter, IsToSlot, IsByWay, IsRouting};
+ghost use Rattle.redis_cluster.specs.Routing as go;
 
 use super::info::{MultipleNodeRoutingInfo, RoutingInfo, SingleNodeRoutingInfo};
 use super::numbers::{count_of, slot_number_of};
@@ -30,8 +30,8 @@ impl RoutingInfo {
         command: &R,
         read_only: &ReadOnlyNames,
     ) -> Result<Option<RoutingInfo>, AllocError>
-        ensures routed { IfOk result (λ info. IsRouting (is_among read_only.now) (R.args command.now) (option_map plan info)) }
-        ensures case { IfOk result (λ info. (other : Arguments) → IsRespelt (R.args command.now) other → IsRouting (is_among read_only.now) other (option_map plan info)) }
+        ensures routed { IfOk result (λ info. go.is_split_name (command_of (R.args command.now)) ≡ false → option_map plan info ≡ go.routing (is_among read_only.now) (R.args command.now)) }
+        ensures case { (other : Arguments) → IsRespelt (R.args command.now) other → go.routing (is_among read_only.now) other ≡ go.routing (is_among read_only.now) (R.args command.now) }
     {
         let Some(name) = command.command(alloc)? else {
             return Ok(None);
@@ -43,7 +43,7 @@ impl RoutingInfo {
 
 /// Where a command of the name goes.
 fn by_way<R: Routable>(command: &R, name: &[u8], reads: bool) -> Option<RoutingInfo>
-    ensures { IsByWay reads name.now (R.args command.now) (way_in name.now) (option_map plan result) }
+    ensures { option_map plan result ≡ go.by_way reads name.now (R.args command.now) (way_in name.now) }
 {
     match way_of(name) {
         Some(Way::AllNodes) => Some(to_several(MultipleNodeRoutingInfo::AllNodes, name)),
@@ -78,7 +78,7 @@ fn to_route(route: Route) -> RoutingInfo
 
 /// To the slot of the key, if there is one.
 fn to_key(key: Option<&[u8]>, reads: bool) -> Option<RoutingInfo>
-    ensures { IsToKey reads (option_copied key.entry) (option_map plan result) }
+    ensures { option_map plan result ≡ go.to_key reads (option_copied key.entry) }
 {
     let nodes = if reads {
         SlotAddr::ReplicaOptional
@@ -89,7 +89,7 @@ fn to_key(key: Option<&[u8]>, reads: bool) -> Option<RoutingInfo>
 }
 
 fn to_key_or_any(key: Option<&[u8]>, reads: bool) -> Option<RoutingInfo>
-    ensures { IsToKeyOrAny reads (option_copied key.entry) (option_map plan result) }
+    ensures { option_map plan result ≡ go.to_key_or_any reads (option_copied key.entry) }
 {
     match key {
         Some(_) => to_key(key, reads),
@@ -100,7 +100,7 @@ fn to_key_or_any(key: Option<&[u8]>, reads: bool) -> Option<RoutingInfo>
 /// By the count of keys at a place and the first key behind it.
 fn by_count<R: Routable>(command: &R, place: usize, reads: bool) -> Option<RoutingInfo>
     requires { place < 2 ^ 16 }
-    ensures { IsByCount reads (number_at 64 (argument (R.args command.now) place)) (argument (R.args command.now) (place + 1)) (option_map plan result) }
+    ensures { option_map plan result ≡ go.by_count reads (go.number_at 64 (argument (R.args command.now) place)) (argument (R.args command.now) (place + 1)) }
 {
     let count = count_of(command.arg_idx(place)?)?;
     if count == 0 {
@@ -110,7 +110,7 @@ fn by_count<R: Routable>(command: &R, place: usize, reads: bool) -> Option<Routi
 }
 
 fn after_streams<R: Routable>(command: &R, reads: bool) -> Option<RoutingInfo>
-    ensures { IsToKeyAfter reads (R.args command.now) (position (is_word (codes "STREAMS")) (R.args command.now)) (option_map plan result) }
+    ensures { option_map plan result ≡ go.to_key_after reads (R.args command.now) (position (is_word (codes "STREAMS")) (R.args command.now)) }
 {
     let place = command.position(b"STREAMS")?;
     to_key(command.arg_idx(place + 1), reads)
@@ -118,7 +118,7 @@ fn after_streams<R: Routable>(command: &R, reads: bool) -> Option<RoutingInfo>
 
 /// To the primary of the slot that the argument writes.
 fn to_slot(number: Option<&[u8]>) -> Option<RoutingInfo>
-    ensures { IsToSlot (number_at 16 (option_copied number.entry)) (option_map plan result) }
+    ensures { option_map plan result ≡ go.to_slot (go.number_at 16 (option_copied number.entry)) }
 {
     let slot = Slot::new(slot_number_of(number?)?)?;
     Some(to_route(Route::with_slot(slot, SlotAddr::Master)))

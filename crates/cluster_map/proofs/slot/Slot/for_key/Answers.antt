@@ -1,7 +1,13 @@
 use Rattle.std.proofs.Common.{rules, ◌%◌}
 use Rattle.cluster_map.specs.KeySlot.{IsKeySlot}
 use Rattle.cluster_map.proofs.HashTags.{tag_law}
+use Rattle.cluster_map.proofs.Tags.{key_slot_is}
 use Rattle.cluster_map.proofs.slot.Slot.for_key.Goals as goal
+
+pub returns-clause-value : goal.returns-clause-value
+returns-clause-value c =
+    let own : IsKeySlot c.args.key.now (c.crc16.result % 16384) = search rules in
+    key_slot_is c.args.key.now (c.crc16.result % 16384) own
 
 pub returns-clause-tag : goal.returns-clause-tag
 returns-clause-tag c = λ other tag slot here there is.
