@@ -2,6 +2,8 @@ pub mod Agree
 pub mod Arguments
 pub mod NameSets
 pub mod Names
+pub mod Pairs
+pub mod Refusals
 pub mod Respelt
 pub mod Routes
 pub mod Search

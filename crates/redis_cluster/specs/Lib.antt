@@ -1,7 +1,9 @@
 pub mod Command
+pub mod Pipeline
 pub mod Plan
 pub mod Policies
 pub mod ReadOnly
+pub mod Refusals
 pub mod Routing
 pub mod Table
 pub mod Target

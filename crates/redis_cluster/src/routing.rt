@@ -5,7 +5,7 @@ mod policy;
 mod read_only;
 mod routable;
 mod rules;
-mod tables;
+pub(crate) mod tables;
 mod ways;
 mod words;
 

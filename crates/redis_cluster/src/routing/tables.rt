@@ -13,7 +13,7 @@ pub(super) fn find<V: Copy>(rows: &[(&[u8], V)], name: &[u8]) -> Option<V>
 }
 
 /// Whether the name is one of these ascending names.
-pub(super) fn contains(names: &[&[u8]], name: &[u8]) -> bool
+pub(crate) fn contains(names: &[&[u8]], name: &[u8]) -> bool
     requires { ascends (map (λ n. n.now) names.now) ≡ true }
     ensures { result ≡ has_name (map (λ n. n.now) names.now) name.now }
 {
