@@ -1,10 +1,17 @@
 pub mod Agree
 pub mod Arguments
+pub mod Cover
 pub mod NameSets
 pub mod Names
 pub mod Pairs
+pub mod Picks
 pub mod Refusals
 pub mod Respelt
 pub mod Routes
 pub mod Search
+pub mod SelfRouting
+pub mod Slots
+pub mod SplitLaws
+pub mod SubCommands
 pub mod Tables
+pub mod TupleSteps

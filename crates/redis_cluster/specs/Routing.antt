@@ -1,13 +1,19 @@
 -- Routing: where a command goes, by the way of its name.
-use Rattle.std.specs.Prelude.{◌+◌, ℕ, zero, suc, Bool, true, false, cond, List, Option, None, Some, codes, position, nat_lt, option_map}
+use Rattle.std.specs.Prelude.{◌+◌, ℕ, zero, suc, Bool, cond, List, [], ◌∷◌, map, length, Option, None, Some, codes, position, nat_lt, option_map}
 use Rattle.cluster_map.specs.KeySlot.{key_slot}
 use Rattle.cluster_map.specs.Number.{number_in}
+use Rattle.cluster_map.specs.RouteTo.{RouteTo}
 use Rattle.cluster_map.specs.declared.slot.SlotAddr.{SlotAddr}
 use Rattle.cluster_map.specs.declared.slot.SlotAddr.TheVariants.{Master, ReplicaOptional}
 use Rattle.redis_cluster.specs.Command.{Arguments, argument, command_of, is_word}
-use Rattle.redis_cluster.specs.Target.{Target, random, specific, all_nodes, all_masters, single, multiple}
+use Rattle.redis_cluster.specs.Run.{run_of}
+use Rattle.redis_cluster.specs.Tuples.{tuples_in, fits}
+use Rattle.redis_cluster.specs.Parts.{slot_of, firsts, part_places}
+use Rattle.redis_cluster.specs.Target.{Target, random, specific, all_nodes, all_masters, split, single, multiple}
 use Rattle.redis_cluster.specs.Ways.{way_in}
 use Rattle.redis_cluster.specs.Policies.{policy_of}
+use Rattle.redis_cluster.specs.declared.routing.policy.ResponsePolicy.{ResponsePolicy}
+use Rattle.redis_cluster.specs.declared.routing.ways.MultiSlotArgPattern.{MultiSlotArgPattern}
 use Rattle.redis_cluster.specs.declared.routing.ways.Way.{Way}
 use Rattle.redis_cluster.specs.declared.routing.ways.Way.TheVariants as way
 
@@ -45,12 +51,30 @@ abbrev pub number_at : ℕ → Option (List ℕ) → Option ℕ
 number_at bits None = None
 number_at bits (Some text) = number_in bits text
 
--- where a command goes by the way of its name; of one that is split by slot nothing is said yet
+-- the route of a slot, and the places of its part
+abbrev pub route_to : Bool → MultiSlotArgPattern → List (List ℕ) → ℕ → RouteTo × List ℕ
+route_to reads pattern run slot = (record { slot = slot; addr = nodes_for reads }, part_places pattern run slot)
+
+-- one route for each slot of a key, by the first key of each
+abbrev pub routes_of : Bool → MultiSlotArgPattern → List (List ℕ) → List (RouteTo × List ℕ)
+routes_of reads pattern run = map (route_to reads pattern run) (firsts (map slot_of (tuples_in pattern run)))
+
+-- to one node, where all keys have one slot, or else to a node of each slot
+abbrev pub to_parts : MultiSlotArgPattern → Option ResponsePolicy → List (RouteTo × List ℕ) → Target
+to_parts pattern policy [] = multiple (split [] pattern) policy
+to_parts pattern policy (only ∷ []) = single (specific only.0)
+to_parts pattern policy (route ∷ other ∷ routes) = multiple (split (route ∷ other ∷ routes) pattern) policy
+
+-- to the slots of the keys, if the run makes whole tuples
+abbrev pub to_slots : Bool → Option ResponsePolicy → MultiSlotArgPattern → List (List ℕ) → Option Target
+to_slots reads policy pattern run = cond (fits pattern (length run)) (Some (to_parts pattern policy (routes_of reads pattern run))) None
+
+-- where a command goes by the way of its name
 abbrev pub by_way : Bool → List ℕ → Arguments → Option Way → Option Target
 by_way reads name args None = to_key_or_any reads (argument args 1)
 by_way reads name args (Some way.AllNodes) = Some (multiple all_nodes (policy_of name))
 by_way reads name args (Some way.AllMasters) = Some (multiple all_masters (policy_of name))
-by_way reads name args (Some (way.MultiSlot pattern)) = None
+by_way reads name args (Some (way.MultiSlot pattern)) = to_slots reads (policy_of name) pattern (run_of args)
 by_way reads name args (Some way.Undefined) = None
 by_way reads name args (Some (way.CountAt n)) = by_count reads (number_at 64 (argument args n)) (argument args (n + 1))
 by_way reads name args (Some (way.KeyAt n)) = to_key reads (argument args n)
@@ -65,12 +89,3 @@ routing_of only_reads args (Some name) = by_way (only_reads name) name args (way
 
 abbrev pub routing : (List ℕ → Bool) → Arguments → Option Target
 routing only_reads args = routing_of only_reads args (command_of args)
-
--- whether commands of the name are split by slot
-abbrev pub is_multi_slot : Option Way → Bool
-is_multi_slot (Some (way.MultiSlot pattern)) = true
-is_multi_slot _ = false
-
-abbrev pub is_split_name : Option (List ℕ) → Bool
-is_split_name None = false
-is_split_name (Some name) = is_multi_slot (way_in name)

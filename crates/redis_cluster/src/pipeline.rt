@@ -1,4 +1,6 @@
-ghost use Rattle.std.specs.Prelude.{◌≡◌, ◌<◌, ◌++◌, ◌∷◌, [], None, IfOk, IfErr, OnOk, OnErr, length};
+ghost use Rattle.std.specs.Prelude.{◌≡◌, ◌<◌, ◌++◌, ◌∷◌, [], None, IfOk, IfErr, OnOk, OnErr, codes, length};
+ghost use Rattle.resp_core.specs.declared.error.ErrorKind.TheVariants.{Client};
+ghost use Rattle.redis_cluster.specs.declared.pipeline.TheConstants.{UNROUTABLE_ERROR};
 ghost use Rattle.redis_cluster.specs.Pipeline.{commands_of, is_ignored, named, with_argument, with_last_ignored, no_command, IsArgumentRefusal, first_refused, IsRefusal};
 
 mod names;
@@ -53,6 +55,10 @@ impl ClusterPipeline {
     }
 
     /// A pipeline with room for so many commands.
+    ///
+    /// # Errors
+    ///
+    /// Where there is no memory.
     pub fn with_capacity(alloc: Global, capacity: usize) -> Result<Self, AllocError>
         ensures { IfOk result (λ pipeline. pipeline ≡ []) }
     {
@@ -192,6 +198,8 @@ impl ClusterPipeline {
     pub fn check(&self, alloc: Global) -> RedisResult<()>
         ensures passed { OnOk result ((first_refused (commands_of self.now) ≡ None) × (0 < length self.now)) }
         ensures refused { IfErr result (λ fault. IsRefusal self.now fault) }
+        ensures kind { UNROUTABLE_ERROR.0 ≡ Client }
+        ensures text { UNROUTABLE_ERROR.1.now ≡ codes "This command cannot be safely routed in cluster mode" }
     {
         if let Some(name) = first_refused(&self.commands) {
             let (kind, desc) = UNROUTABLE_ERROR;

@@ -5,6 +5,8 @@ mod policy;
 mod read_only;
 mod routable;
 mod rules;
+mod splitting;
+mod sub_commands;
 pub(crate) mod tables;
 mod ways;
 mod words;
@@ -13,4 +15,6 @@ pub use info::{MultipleNodeRoutingInfo, Redirect, RoutingInfo, SingleNodeRouting
 pub use policy::{AggregateOp, LogicalAggregateOp, ResponsePolicy};
 pub use read_only::ReadOnlyNames;
 pub use routable::Routable;
+pub use splitting::multi_slot_routes;
+pub use sub_commands::command_for_multi_slot_indices;
 pub use ways::MultiSlotArgPattern;

@@ -31,6 +31,19 @@ impl Cmd {
         }
     }
 
+    /// A command with room for so many items.
+    ///
+    /// # Errors
+    ///
+    /// Where there is no memory.
+    pub fn with_capacity(alloc: Global, items: usize) -> Result<Cmd, AllocError>
+        ensures { IfOk result (λ cmd. cmd ≡ []) }
+    {
+        Ok(Cmd {
+            args: Vec::with_capacity(alloc, items)?,
+        })
+    }
+
     /// Adds an item at the end, and gives the command back for the next.
     ///
     /// # Errors

@@ -1,26 +1,32 @@
-ghost use Rattle.std.specs.Prelude.{◌≡◌, ◌<◌, ◌^◌, ◌+◌, false, IfOk, Some, option_map, option_copied, codes, position};
-ghost use Rattle.redis_cluster.specs.Command.{Arguments, IsRespelt, argument, command_of, is_word};
+ghost use Rattle.std.specs.Prelude.{◌≡◌, ◌<◌, ◌^◌, ◌+◌, IfOk, Some, option_map, option_copied, codes, position};
+ghost use Rattle.redis_cluster.specs.Command.{Arguments, IsRespelt, argument, is_word};
+ghost use Rattle.redis_cluster.specs.Laws.{Covers, ArePartsPicked, ArePartsRouted, IfSplit};
 ghost use Rattle.redis_cluster.specs.Plan.{plan, multiple_of};
 ghost use Rattle.redis_cluster.specs.Policies.{policy_of};
 ghost use Rattle.redis_cluster.specs.ReadOnly.{is_among};
 ghost use Rattle.redis_cluster.specs.Target.{random, single, multiple, specific};
 ghost use Rattle.redis_cluster.specs.Ways.{way_in};
 ghost use Rattle.redis_cluster.specs.Routing as go;
+ghost use Rattle.redis_cluster.specs.Run.{run_of};
 
 use super::info::{MultipleNodeRoutingInfo, RoutingInfo, SingleNodeRoutingInfo};
 use super::numbers::{count_of, slot_number_of};
 use super::policy::ResponsePolicy;
 use super::read_only::ReadOnlyNames;
 use super::routable::Routable;
+use super::splitting::by_slots;
 use super::ways::{Way, way_of};
 use cluster_map::{Route, Slot, SlotAddr};
 use std::alloc::{AllocError, Global};
 
 impl RoutingInfo {
-    /// Where a command goes, if that is known: `None` where it has no name, its key or count is
-    /// missing or no number, or its name has no way.
+    /// Where a command goes. `None` where it has no name, where what the way of its name asks for is
+    /// missing or no number, where its tuples are not whole, or where commands of its name go nowhere.
+    /// A name that no table has goes to the slot of argument 1, or without one to any node.
     ///
-    /// The ASCII case of the first word changes nothing.
+    /// A command over many keys goes to one node where all keys have one slot, and else has a route
+    /// for each slot of a key, by the first key of each, with the places of its part as
+    /// `command_for_multi_slot_indices` takes them. The ASCII case of the first word changes nothing.
     ///
     /// # Errors
     ///
@@ -30,32 +36,43 @@ impl RoutingInfo {
         command: &R,
         read_only: &ReadOnlyNames,
     ) -> Result<Option<RoutingInfo>, AllocError>
-        ensures routed { IfOk result (λ info. go.is_split_name (command_of (R.args command.now)) ≡ false → option_map plan info ≡ go.routing (is_among read_only.now) (R.args command.now)) }
+        ensures routed { IfOk result (λ info. option_map plan info ≡ go.routing (is_among read_only.now) (R.args command.now)) }
         ensures case { (other : Arguments) → IsRespelt (R.args command.now) other → go.routing (is_among read_only.now) other ≡ go.routing (is_among read_only.now) (R.args command.now) }
+        ensures cover { IfOk result (λ info. IfSplit (λ pattern routes. Covers pattern (run_of (R.args command.now)) routes) (option_map plan info)) }
+        ensures picked { IfOk result (λ info. IfSplit (λ pattern routes. ArePartsPicked (R.args command.now) pattern routes) (option_map plan info)) }
+        ensures parts { IfOk result (λ info. IfSplit (λ pattern routes. ArePartsRouted (is_among read_only.now) (R.args command.now) pattern routes) (option_map plan info)) }
     {
         let Some(name) = command.command(alloc)? else {
             return Ok(None);
         };
         let reads = read_only.contains(&name);
-        Ok(by_way(command, &name, reads))
+        by_way(alloc, command, &name, reads)
     }
 }
 
 /// Where a command of the name goes.
-fn by_way<R: Routable>(command: &R, name: &[u8], reads: bool) -> Option<RoutingInfo>
-    ensures { option_map plan result ≡ go.by_way reads name.now (R.args command.now) (way_in name.now) }
+fn by_way<R: Routable>(
+    alloc: Global,
+    command: &R,
+    name: &[u8],
+    reads: bool,
+) -> Result<Option<RoutingInfo>, AllocError>
+    ensures { IfOk result (λ info. option_map plan info ≡ go.by_way reads name.now (R.args command.now) (way_in name.now)) }
 {
-    match way_of(name) {
-        Some(Way::AllNodes) => Some(to_several(MultipleNodeRoutingInfo::AllNodes, name)),
-        Some(Way::AllMasters) => Some(to_several(MultipleNodeRoutingInfo::AllMasters, name)),
-        Some(Way::MultiSlot(_)) | Some(Way::Undefined) => None,
-        Some(Way::CountAt(place)) => by_count(command, usize::from(place), reads),
-        Some(Way::KeyAt(place)) => to_key(command.arg_idx(usize::from(place)), reads),
-        Some(Way::KeyAfterStreams) => after_streams(command, reads),
-        Some(Way::Random) => Some(to_any()),
-        Some(Way::SlotAtTwo) => to_slot(command.arg_idx(2)),
-        None => to_key_or_any(command.arg_idx(1), reads),
-    }
+    let Some(way) = way_of(name) else {
+        return Ok(to_key_or_any(command.arg_idx(1), reads));
+    };
+    Ok(match way {
+        Way::AllNodes => Some(to_several(MultipleNodeRoutingInfo::AllNodes, name)),
+        Way::AllMasters => Some(to_several(MultipleNodeRoutingInfo::AllMasters, name)),
+        Way::MultiSlot(pattern) => by_slots(alloc, command, name, pattern, reads)?,
+        Way::Undefined => None,
+        Way::CountAt(place) => by_count(command, usize::from(place), reads),
+        Way::KeyAt(place) => to_key(command.arg_idx(usize::from(place)), reads),
+        Way::KeyAfterStreams => after_streams(command, reads),
+        Way::Random => Some(to_any()),
+        Way::SlotAtTwo => to_slot(command.arg_idx(2)),
+    })
 }
 
 fn to_any() -> RoutingInfo
@@ -80,12 +97,18 @@ fn to_route(route: Route) -> RoutingInfo
 fn to_key(key: Option<&[u8]>, reads: bool) -> Option<RoutingInfo>
     ensures { option_map plan result ≡ go.to_key reads (option_copied key.entry) }
 {
-    let nodes = if reads {
+    Some(to_route(Route::with_key(key?, nodes_for(reads))))
+}
+
+/// A replica too may answer a command that only reads.
+pub(super) fn nodes_for(reads: bool) -> SlotAddr
+    ensures { result ≡ go.nodes_for reads }
+{
+    if reads {
         SlotAddr::ReplicaOptional
     } else {
         SlotAddr::Master
-    };
-    Some(to_route(Route::with_key(key?, nodes)))
+    }
 }
 
 fn to_key_or_any(key: Option<&[u8]>, reads: bool) -> Option<RoutingInfo>

@@ -1,4 +1,6 @@
 ghost use Rattle.std.specs.Prelude.{◌≡◌};
+ghost use Rattle.redis_cluster.specs.Complete.{is_complete};
+ghost use Rattle.redis_cluster.specs.Tuples.{width_of, fits, own_count};
 ghost use Rattle.redis_cluster.specs.Ways.{way_in};
 
 use super::names::WAYS;
@@ -15,6 +17,52 @@ pub enum MultiSlotArgPattern {
     KeysAndLastArg,
     /// A key and two arguments in turn.
     KeyWithTwoArgTriples,
+}
+
+impl MultiSlotArgPattern {
+    /// How many arguments a tuple has.
+    pub(super) fn width(self) -> usize
+        ensures { result ≡ width_of self }
+    {
+        match self {
+            MultiSlotArgPattern::KeysOnly | MultiSlotArgPattern::KeysAndLastArg => 1,
+            MultiSlotArgPattern::KeyValuePairs => 2,
+            MultiSlotArgPattern::KeyWithTwoArgTriples => 3,
+        }
+    }
+
+    /// Whether so many arguments make whole tuples, and at least one.
+    pub(super) fn fits(self, run: usize) -> bool
+        ensures { result ≡ fits self run }
+    {
+        run > 0
+            && match self {
+                MultiSlotArgPattern::KeysOnly | MultiSlotArgPattern::KeysAndLastArg => true,
+                MultiSlotArgPattern::KeyValuePairs => run % 2 == 0,
+                MultiSlotArgPattern::KeyWithTwoArgTriples => run % 3 == 0,
+            }
+    }
+
+    /// Whether so many arguments are complete: they make whole tuples, and where keys share a last
+    /// argument, it is there.
+    pub(super) fn is_complete(self, run: usize) -> bool
+        ensures { result ≡ is_complete self run }
+    {
+        match self {
+            MultiSlotArgPattern::KeysAndLastArg => run > 1,
+            _ => self.fits(run),
+        }
+    }
+
+    /// How many of so many arguments make tuples: those behind them are shared by all.
+    pub(super) fn own_len(self, run: usize) -> usize
+        ensures { result ≡ own_count self run }
+    {
+        match self {
+            MultiSlotArgPattern::KeysAndLastArg if run > 1 => run - 1,
+            _ => run,
+        }
+    }
 }
 
 /// Where the commands of a name go. Arguments are counted from 0, the first word of the command.

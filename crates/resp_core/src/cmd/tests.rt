@@ -25,6 +25,16 @@ fn chained_items_come_in_order(rt: HostRuntime) -> Result<(), Fail> {
 }
 
 #[test]
+fn room_for_items_is_no_item(rt: HostRuntime) -> Result<(), Fail> {
+    let mut cmd = Cmd::with_capacity(rt.alloc(), 3)?;
+    assert!(rt; cmd.is_empty());
+    assert_eq!(rt; cmd.arg_idx(0), None);
+    cmd.arg(b"SET")?.arg(b"key")?.arg(b"value")?.arg(b"NX")?;
+    assert!(rt; cmd == cmd_of(rt.alloc(), &[b"SET", b"key", b"value", b"NX"])?);
+    Ok(())
+}
+
+#[test]
 fn items_by_place(rt: HostRuntime) -> Result<(), Fail> {
     let cmd = cmd_of(rt.alloc(), &[b"", b"a", b"", b"bc"])?;
     let want: [(usize, Option<&[u8]>); 6] = [
