@@ -2,9 +2,9 @@
 use Rattle.std.specs.Prelude.{◌≡◌, ◌⊎◌, ℕ, List, [], Option, IfSome, take, ⊤}
 use Rattle.std.specs.Io.KnownBytes.{Appends}
 use Rattle.slotroute.specs.Faults.{fault_line}
-use Rattle.slotroute.specs.Output.{Output, node_words, usage_line, bad_map_line}
+use Rattle.slotroute.specs.Output.{Output, IsRequest, usage_line, bad_map_line, not_multi_key_line}
 use Rattle.slotroute.specs.declared.fault.Fault.{Fault}
-use Rattle.slotroute.specs.declared.fault.Fault.TheVariants.{Usage, BadMapLine, Memory, Input, Output as OutputFailed}
+use Rattle.slotroute.specs.declared.fault.Fault.TheVariants.{Usage, BadMapLine, NotMultiKey, Memory, Input, Output as OutputFailed}
 
 -- text is the first bytes of an output that is called for, perhaps all of it
 pub record BeginsOutput (words : List (List ℕ)) (input text : List ℕ) : Type 0 where
@@ -26,6 +26,7 @@ pub record Answered (words : List (List ℕ)) (input out_old out_new err_old err
 abbrev pub IsBadMapLine : Fault → Type 0
 IsBadMapLine Usage = ⊥
 IsBadMapLine (BadMapLine number) = ⊤
+IsBadMapLine NotMultiKey = ⊥
 IsBadMapLine Memory = ⊥
 IsBadMapLine Input = ⊥
 IsBadMapLine OutputFailed = ⊥
@@ -38,8 +39,9 @@ TellsOf text fault = (k : ℕ) × ((text ≡ take k (fault_line fault)) ⊎ (IsB
 abbrev pub Explains : List (List ℕ) → Option (List ℕ) → Option (List ℕ) → Option (List ℕ) → Fault → Type 0
 Explains words input out_old out_new Usage = Appends out_old out_new [] × IfSome input (λ bytes. Output words bytes [] usage_line 2)
 Explains words input out_old out_new (BadMapLine number) = Appends out_old out_new [] × IfSome input (λ bytes. Output words bytes [] (bad_map_line number) 2)
-Explains words input out_old out_new Memory = Appends out_old out_new [] × ((key : List ℕ) × (words ≡ node_words key))
-Explains words input out_old out_new Input = Appends out_old out_new [] × ((key : List ℕ) × (words ≡ node_words key))
+Explains words input out_old out_new NotMultiKey = Appends out_old out_new [] × IfSome input (λ bytes. Output words bytes [] not_multi_key_line 2)
+Explains words input out_old out_new Memory = Appends out_old out_new [] × IsRequest words
+Explains words input out_old out_new Input = Appends out_old out_new [] × IsRequest words
 Explains words input out_old out_new OutputFailed = (outs : List ℕ) × Appends out_old out_new outs × IfSome input (λ bytes. BeginsOutput words bytes outs)
 
 -- memory was refused or a stream failed: what was written till then, and what was told of it

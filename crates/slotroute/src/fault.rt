@@ -11,6 +11,8 @@ pub enum Fault {
     Usage,
     /// This line, counted from 1, is no map line.
     BadMapLine(u64),
+    /// The command of `split` is not one over many keys, or not a complete one.
+    NotMultiKey,
     /// Memory ran out.
     Memory,
     /// The input could not be read.

@@ -1,14 +1,17 @@
-//! Tells which node of a Redis cluster serves a key.
+//! Tells which nodes of a Redis cluster serve a key, or the keys of a command.
 //!
 //! `slotroute node KEY` reads a slot map from standard input, one range a line as
 //! `START END HOST:PORT [HOST:PORT ..]`, and prints the slot of the key and the primary that
-//! serves it.
+//! serves it. `slotroute split WORD ..` reads such a map too, and prints the parts of a command
+//! over many keys, one for each slot: its slot, its node, and its words.
 #![tactic(auto)]
 
 mod fault;
 mod input;
 mod output;
+mod request;
 mod serve;
+mod split;
 #[cfg(test)]
 mod tests;
 

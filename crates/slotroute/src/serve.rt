@@ -1,12 +1,15 @@
-ghost use Rattle.std.specs.Prelude.{◌≡◌, ◌≢◌, ℕ, List, map, string_bytes, IfOk, OnErr, MatchOption, MatchResult};
+ghost use Rattle.std.specs.Prelude.{◌≡◌, ℕ, List, map, string_bytes, IfOk, OnErr, MatchResult};
 ghost use Rattle.std.specs.Cow.{cow_str_bytes};
-ghost use Rattle.slotroute.specs.Output.{node_words, IsNodeAnswer};
+ghost use Rattle.slotroute.specs.Output.{IsAnswer, IsNodeAnswer};
 ghost use Rattle.slotroute.specs.Faults.{fault_line};
+ghost use Rattle.slotroute.specs.Requests.{Asks, IsNoAnswer};
 ghost use Rattle.slotroute.specs.Serves.{Serves, Answers, Explains, Reports, IsBadMapLine};
 
 use crate::fault::Fault;
 use crate::input::read_map;
 use crate::output::emit;
+use crate::request::{Request, request_of};
+use crate::split::split_answer;
 use cluster_map::{Route, SlotAddr, SlotMap};
 use std::alloc::{AllocError, Global};
 use std::borrow::CowStr;
@@ -48,25 +51,28 @@ fn run<R: BufRead, O: Write>(
         (Answers (map string_bytes words.now) (R.remaining reader.old) (O.contents out.old) (O.contents out.new))
         (Explains (map string_bytes words.now) (R.remaining reader.old) (O.contents out.old) (O.contents out.new)) }
 {
-    let Some(key) = node_key(words) else {
+    let Some(request) = request_of(words) else {
         return Err(Fault::Usage);
     };
     let ranges = read_map(alloc, reader)?;
     let map = SlotMap::from_slots(alloc, ranges)?;
-    let (line, status) = node_answer(alloc, &map, key)?;
-    emit(out, line.as_bytes())?;
+    let (text, status) = answer(alloc, &map, &request)?;
+    emit(out, &text)?;
     Ok(status)
 }
 
-/// The key of the words `node KEY`.
-fn node_key(words: &[String]) -> Option<&[u8]>
-    ensures { MatchOption result
-        ((key : List ℕ) → map string_bytes words.now ≢ node_words key)
-        (λ key. map string_bytes words.now ≡ node_words key.now) }
+/// The text and the status that answer for a request.
+fn answer(alloc: Global, map: &SlotMap, request: &Request) -> Result<(Vec<u8>, u8), Fault>
+    ensures { MatchResult result
+        (λ answer. (words : List (List ℕ)) → Asks words request.now → IsAnswer map.now words answer.0.items answer.1)
+        (IsNoAnswer request.now) }
 {
-    match words {
-        [word, key] if word.as_str() == "node" => Some(key.as_bytes()),
-        _ => None,
+    match request {
+        Request::Node(key) => {
+            let (line, status) = node_answer(alloc, map, key)?;
+            Ok((line.into_bytes(), status))
+        }
+        Request::Split(command) => split_answer(alloc, map, command),
     }
 }
 
@@ -102,6 +108,7 @@ fn fault_text(alloc: Global, fault: &Fault) -> Result<CowStr<'static>, AllocErro
             let line = format!(in alloc; "slotroute: bad map line {number}\n")?;
             return Ok(CowStr::Owned(line));
         }
+        Fault::NotMultiKey => "slotroute: not a multi-key command\n",
         Fault::Memory => "slotroute: no memory\n",
         Fault::Input => "slotroute: input failed\n",
         Fault::Output => "slotroute: output failed\n",

@@ -61,12 +61,13 @@ fn node_of_a_key(rt: HostRuntime) -> Result<(), Fail> {
 
 #[test]
 fn other_words(rt: HostRuntime) -> Result<(), Fail> {
-    let runs: [Run; 7] = [
+    let runs: [Run; 8] = [
         (&[], TWO_NODES, b"", USAGE, 2),
         (&["node"], TWO_NODES, b"", USAGE, 2),
         (&["node", "a", "b"], TWO_NODES, b"", USAGE, 2),
         (&["Node", "a"], TWO_NODES, b"", USAGE, 2),
-        (&["split", "MGET", "a"], TWO_NODES, b"", USAGE, 2),
+        (&["split"], TWO_NODES, b"", USAGE, 2),
+        (&["Split", "DEL", "a"], TWO_NODES, b"", USAGE, 2),
         (&["run", "forward"], TWO_NODES, b"", USAGE, 2),
         (&["node"], b"not a map", b"", USAGE, 2),
     ];
@@ -74,9 +75,9 @@ fn other_words(rt: HostRuntime) -> Result<(), Fail> {
 }
 
 #[test]
-fn good_map_lines(rt: HostRuntime) -> Result<(), Fail> {
-    let runs: [Run; 10] = [
-        // Nothing behind a line with no field is read as a map line.
+fn a_blank_line_ends_the_map(rt: HostRuntime) -> Result<(), Fail> {
+    let runs: [Run; 3] = [
+        // Nothing behind it is read as a map line.
         (
             &["node", "foo"],
             b"0 8191 n1:1\n\nx\n",
@@ -98,6 +99,13 @@ fn good_map_lines(rt: HostRuntime) -> Result<(), Fail> {
             b"",
             1,
         ),
+    ];
+    check(&rt, rt.alloc(), &runs)
+}
+
+#[test]
+fn good_map_lines(rt: HostRuntime) -> Result<(), Fail> {
+    let runs: [Run; 4] = [
         (
             &["node", "foo"],
             b"8192 16383 n2:2\r",
@@ -119,6 +127,20 @@ fn good_map_lines(rt: HostRuntime) -> Result<(), Fail> {
             b"",
             0,
         ),
+        (
+            &["node", "foo"],
+            b"+0 +16383 [[h]]]:0\n",
+            b"slot 12182 h:0\n",
+            b"",
+            0,
+        ),
+    ];
+    check(&rt, rt.alloc(), &runs)
+}
+
+#[test]
+fn ranges_that_meet(rt: HostRuntime) -> Result<(), Fail> {
+    let runs: [Run; 3] = [
         // A reversed range hides another at its end, which is slot 0 here.
         (
             &["node", "foo"],
@@ -138,13 +160,6 @@ fn good_map_lines(rt: HostRuntime) -> Result<(), Fail> {
             &["node", "foo"],
             b"0 65535 n2:2\n",
             b"slot 12182 n2:2\n",
-            b"",
-            0,
-        ),
-        (
-            &["node", "foo"],
-            b"+0 +16383 [[h]]]:0\n",
-            b"slot 12182 h:0\n",
             b"",
             0,
         ),
@@ -187,6 +202,79 @@ fn bad_map_lines(rt: HostRuntime) -> Result<(), Fail> {
         (&["node", "foo"], b"0\t16383 n1:1\n", b"", first, 2),
         (&["node", "foo"], b"0 16383 n1:1\r\r\n", b"", first, 2),
         (&["node", "foo"], b"x\n0 8191\n", b"", first, 2),
+    ];
+    check(&rt, rt.alloc(), &runs)
+}
+
+#[test]
+fn parts_of_a_command(rt: HostRuntime) -> Result<(), Fail> {
+    let runs: [Run; 4] = [
+        (
+            &["split", "DEL", "foo", "bar", "baz", "{bar}vaz"],
+            TWO_NODES,
+            b"12182 n2:2 DEL foo\n5061 n1:1 DEL bar {bar}vaz\n4813 n1:1 DEL baz\n",
+            b"",
+            0,
+        ),
+        (
+            &["split", "mget", "b", "a", "b"],
+            TWO_NODES,
+            b"3300 n1:1 mget b b\n15495 n2:2 mget a\n",
+            b"",
+            0,
+        ),
+        (
+            &["split", "MSET", "a", "1"],
+            TWO_NODES,
+            b"15495 n2:2 MSET a 1\n",
+            b"",
+            0,
+        ),
+        (
+            &["split", "JSON.MGET", "foo", "bar", "$.a"],
+            TWO_NODES,
+            b"12182 n2:2 JSON.MGET foo $.a\n5061 n1:1 JSON.MGET bar $.a\n",
+            b"",
+            0,
+        ),
+    ];
+    check(&rt, rt.alloc(), &runs)
+}
+
+#[test]
+fn parts_with_no_node(rt: HostRuntime) -> Result<(), Fail> {
+    let second: &[u8] = b"8192 16383 n2:2\n";
+    let runs: [Run; 2] = [
+        (
+            &["split", "DEL", "a", "b"],
+            second,
+            b"15495 n2:2 DEL a\n3300 none DEL b\n",
+            b"",
+            1,
+        ),
+        (
+            &["split", "DEL", "b", "a"],
+            second,
+            b"3300 none DEL b\n15495 n2:2 DEL a\n",
+            b"",
+            1,
+        ),
+    ];
+    check(&rt, rt.alloc(), &runs)
+}
+
+#[test]
+fn commands_that_are_not_split(rt: HostRuntime) -> Result<(), Fail> {
+    let line: &[u8] = b"slotroute: not a multi-key command\n";
+    let bad_line: &[u8] = b"slotroute: bad map line 1\n";
+    let runs: [Run; 6] = [
+        (&["split", "GET", "a"], TWO_NODES, b"", line, 2),
+        (&["split", "DEL"], TWO_NODES, b"", line, 2),
+        (&["split", "JSON.MGET", "a"], TWO_NODES, b"", line, 2),
+        (&["split", "MSET", "a", "1", "b"], TWO_NODES, b"", line, 2),
+        // The map comes first.
+        (&["split", "GET", "a"], b"0 8191\n", b"", bad_line, 2),
+        (&["split", "DEL", "a"], b"0 8191\n", b"", bad_line, 2),
     ];
     check(&rt, rt.alloc(), &runs)
 }

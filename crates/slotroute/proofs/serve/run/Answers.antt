@@ -1,4 +1,4 @@
-use Rattle.slotroute.proofs.Serving.{usage_fault, no_map, answered, not_written}
+use Rattle.slotroute.proofs.Serving.{usage_fault, is_request, no_map, no_memory, no_answer, answered, not_written}
 use Rattle.slotroute.proofs.serve.run.Goals as goal
 
 pub returns-in_default : goal.returns-in_default
@@ -6,15 +6,24 @@ returns-in_default g c = usage_fault _ (g.R.Read.remaining c.args.reader.now) (g
 
 pub returns-in_err-ranges : goal.returns-in_err-ranges
 returns-in_err-ranges g c =
-    no_map _ c.in-Some.key.now (g.R.Read.remaining c.args.reader.now) (g.O.Write.contents c.args.out.now) c.in_err-ranges.field-0.0 c.from_residual.result c.in-Some.ensures c.in_err-ranges.ensures c.from_residual.ensures.1
+    no_map _ (g.R.Read.remaining c.args.reader.now) (g.O.Write.contents c.args.out.now) c.in_err-ranges.field-0.0 c.from_residual.result (is_request _ c.in-Some.request c.in-Some.ensures) c.in_err-ranges.ensures c.from_residual.ensures.1
+
+pub returns-in_err-map : goal.returns-in_err-map
+returns-in_err-map g c =
+    no_memory _ (g.R.Read.remaining c.args.reader.now) (g.O.Write.contents c.args.out.now) c.from_residual-in_err-map.result (is_request _ c.in-Some.request c.in-Some.ensures) c.from_residual-in_err-map.ensures.1
+
+pub returns-in_err-text : goal.returns-in_err-text
+returns-in_err-text g c =
+    no_answer _ c.in-Some.request (g.R.Read.remaining c.args.reader.now) (g.O.Write.contents c.args.out.now) c.in_ok-ranges.ranges.items c.in_err-text.field-0.0 c.from_residual-in_err-text.result
+    c.in-Some.ensures c.in_ok-ranges.ensures c.in_err-text.ensures c.from_residual-in_err-text.ensures.1
 
 pub returns-in_err-emit : goal.returns-in_err-emit
 returns-in_err-emit g c =
     let (k, part) = c.in_err-emit.ensures.begun in
-    not_written _ c.in-Some.key.now (g.R.Read.remaining c.args.reader.now) (g.O.Write.contents c.args.out.now) (g.O.Write.contents c.emit.new.writer) c.in_ok-ranges.ranges.items c.as_bytes.result.now c.in_ok-line.status k c.in_err-emit.field-0.0 c.from_residual-in_err-emit.result
-    c.in-Some.ensures c.in_ok-ranges.ensures (rw (c.in_ok-map.ensures, ← c.as_bytes.ensures.value) at c.in_ok-line.ensures) part c.in_err-emit.ensures.fault c.from_residual-in_err-emit.ensures.1
+    not_written _ (g.R.Read.remaining c.args.reader.now) (g.O.Write.contents c.args.out.now) (g.O.Write.contents c.emit.new.writer) c.in_ok-ranges.ranges.items c.deref.result.now c.in_ok-text.status k c.in_err-emit.field-0.0 c.from_residual-in_err-emit.result
+    c.in_ok-ranges.ensures (rw (c.in_ok-map.ensures, ← c.deref.ensures.value) at (c.in_ok-text.ensures _ c.in-Some.ensures)) part c.in_err-emit.ensures.fault c.from_residual-in_err-emit.ensures.1
 
 pub returns : goal.returns
 returns g c =
-    answered _ c.in-Some.key.now (g.R.Read.remaining c.args.reader.now) (g.O.Write.contents c.args.out.now) (g.O.Write.contents c.emit.new.writer) c.in_ok-ranges.ranges.items c.as_bytes.result.now c.in_ok-line.status
-    c.in-Some.ensures c.in_ok-ranges.ensures (rw (c.in_ok-map.ensures, ← c.as_bytes.ensures.value) at c.in_ok-line.ensures) c.in_ok-emit.ensures.ok
+    answered _ (g.R.Read.remaining c.args.reader.now) (g.O.Write.contents c.args.out.now) (g.O.Write.contents c.emit.new.writer) c.in_ok-ranges.ranges.items c.deref.result.now c.in_ok-text.status
+    c.in_ok-ranges.ensures (rw (c.in_ok-map.ensures, ← c.deref.ensures.value) at (c.in_ok-text.ensures _ c.in-Some.ensures)) c.in_ok-emit.ensures.ok
