@@ -1,16 +1,21 @@
+mod combiners;
 mod info;
 mod names;
 mod numbers;
-mod policy;
+pub(crate) mod policy;
 mod read_only;
 mod routable;
 mod rules;
 mod splitting;
 mod sub_commands;
 pub(crate) mod tables;
-mod ways;
+pub(crate) mod ways;
 mod words;
 
+pub use combiners::{
+    aggregate, combine_and_sort_array_results, combine_array_results, combine_map_results,
+    logical_aggregate,
+};
 pub use info::{MultipleNodeRoutingInfo, Redirect, RoutingInfo, SingleNodeRoutingInfo};
 pub use policy::{AggregateOp, LogicalAggregateOp, ResponsePolicy};
 pub use read_only::ReadOnlyNames;
