@@ -12,7 +12,8 @@ use std::alloc::{AllocError, Global};
 ///
 /// # Errors
 ///
-/// Of kind `UnexpectedReturnType` where a reply is no array, and else where there is no memory.
+/// Of kind `UnexpectedReturnType` where a reply is no array. Want of memory may come in the place of
+/// this.
 pub fn combine_array_results(alloc: Global, values: Vec<Value>) -> RedisResult<Value>
     ensures { MatchResult result
         (λ value. option_map (λ items. array (replies_of items)) (joined (map view values.items)) ≡ Some (view value))

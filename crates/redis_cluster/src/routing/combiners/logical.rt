@@ -17,7 +17,7 @@ use std::alloc::{AllocError, Global};
 /// # Errors
 ///
 /// Of kind `UnexpectedReturnType` where a reply is no array of 0 and 1, or of another length than the
-/// first, and else where there is no memory.
+/// first. Want of memory may come in the place of this.
 pub fn logical_aggregate(
     alloc: Global,
     values: Vec<Value>,

@@ -24,8 +24,8 @@ use std::collections::BTreeMap;
 /// # Errors
 ///
 /// Of kind `UnexpectedReturnType` where a reply is no array of bulk strings and numbers in turn, or
-/// where the whole sum of a key, which is taken in 128 bits, is none of 64, and else where there is no
-/// memory, as for 2^63 pairs.
+/// where the whole sum of a key, which is taken in 128 bits, is none of 64. Want of memory may come in
+/// the place of this, as it does for 2^63 pairs.
 #[tactic(auto, using(crate::proofs::TotalOrders::any_order))]
 pub fn combine_map_results(alloc: Global, values: Vec<Value>) -> RedisResult<Value>
     ensures answer { MatchResult result
