@@ -1,9 +1,3 @@
-pub mod AddressTexts
-pub mod Crc
-pub mod HashTags
-pub mod Lists
-pub mod Numerals
-pub mod Orders
 pub mod Ranges
-pub mod Tags
+pub mod SameRanges
 pub mod Trees

@@ -2,7 +2,7 @@
 use Rattle.std.specs.Prelude.{ℕ, Bool, ◌==◌, List, fold}
 use Rattle.std.specs.Ordering.{on, eq_of_both}
 use Rattle.std.specs.Cmp.Lexicographic.{pointwise}
-use Rattle.cluster_map.specs.Address.{Address, same_address}
+use Rattle.cluster_slots.specs.Address.{Address, same_address}
 use Rattle.cluster_map.specs.RangeMap.{Entry, insert_entry}
 
 -- a primary and its replicas

@@ -5,9 +5,8 @@ ghost use Rattle.cluster_map.specs.Nodes.{Nodes, RangeNodes, nodes_of, same_rang
 ghost use Rattle.cluster_map.specs.RangeMap.{Ascends, IsUncovered};
 ghost use Rattle.cluster_map.specs.RouteNode.{IsAsked, IsNodeOfRoute};
 
-use crate::node_address::NodeAddress;
-use crate::slot::{Route, SlotAddr};
 use crate::slot_range_map::SlotRangeMap;
+use cluster_slots::{NodeAddress, Route, SlotAddr};
 use std::alloc::{AllocError, Global};
 use std::marker::Model;
 
@@ -165,6 +164,3 @@ impl SlotMap {
         Some(addrs.slot_addr(route.slot_addr(), pick))
     }
 }
-
-#[cfg(test)]
-mod tests;

@@ -120,6 +120,3 @@ impl<'a, V> IntoIterator for &'a SlotRangeMap<V> {
         self.iter()
     }
 }
-
-#[cfg(test)]
-mod tests;

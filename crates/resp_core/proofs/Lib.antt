@@ -1,3 +1,4 @@
-mod CmdLists
-mod SameItems
+pub mod CmdLists
+pub mod SameItems
+pub mod SoFar
 pub mod Views

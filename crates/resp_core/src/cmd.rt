@@ -168,6 +168,3 @@ impl<'a> IntoIterator for &'a Cmd {
         self.args()
     }
 }
-
-#[cfg(test)]
-mod tests;

@@ -116,6 +116,3 @@ impl From<(ErrorKind, &'static str, String)> for RedisError {
         }
     }
 }
-
-#[cfg(test)]
-mod tests;

@@ -184,6 +184,3 @@ fn same_pairs(xs: &[(Value, Value)], ys: &[(Value, Value)]) -> bool
     }
     true
 }
-
-#[cfg(test)]
-mod tests;

@@ -6,16 +6,7 @@
 //! over many keys, one for each slot: its slot, its node, and its words.
 #![tactic(auto)]
 
-mod fault;
-mod input;
-mod output;
-mod request;
-mod serve;
-mod split;
-#[cfg(test)]
-mod tests;
-
-use serve::{USAGE, serve};
+use slotroute_serve::{USAGE, serve};
 use std::alloc::Global;
 use std::env;
 use std::io::{self, BufReader, BufWriter};

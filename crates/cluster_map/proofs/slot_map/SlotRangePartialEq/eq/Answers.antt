@@ -1,6 +1,6 @@
 use Rattle.std.proofs.Common.{◌≡◌, rules}
 use Rattle.cluster_map.specs.Nodes.{same_range}
-use Rattle.cluster_map.proofs.Orders.{range_decides}
+use Rattle.cluster_map.proofs.SameRanges.{range_decides}
 use Rattle.cluster_map.proofs.slot_map.SlotRangePartialEq.eq.Goals as goal
 
 pub returns-then-eq-clause-same : goal.returns-then-eq-clause-same

@@ -1,9 +1,0 @@
-use Rattle.std.proofs.Common.{◌≡◌, rules}
-use Rattle.cluster_map.specs.Address.{address_cmp}
-use Rattle.cluster_map.proofs.Orders.{equal_law}
-use Rattle.cluster_map.proofs.node_address.NodeAddressOrd.cmp.Goals as goal
-
-pub returns-clause-equal : goal.returns-clause-equal
-returns-clause-equal c =
-    let is : c.then.result ≡ address_cmp c.args.self.now c.args.other.now = search rules in
-    rw is (equal_law c.args.self.now c.args.other.now)

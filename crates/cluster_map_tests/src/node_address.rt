@@ -1,0 +1,154 @@
+use cluster_map::{NodeAddress, slot_cmd, split_node_address};
+use resp_core::ErrorKind;
+use std::rc::RcStr;
+use std::test::Fail;
+
+#[test]
+fn a_text_is_cut_into_host_and_port(rt: HostRuntime) -> Result<(), Fail> {
+    let alloc = rt.alloc();
+    let table = [
+        ("127.0.0.1:6379", "127.0.0.1", 6379),
+        ("localhost.localdomain:6379", "localhost.localdomain", 6379),
+        ("dead::cafe:beef:30001", "dead::cafe:beef", 30001),
+        ("[fe80::cafe:beef%en1]:30001", "fe80::cafe:beef%en1", 30001),
+        ("[[h]]]:+0080", "h", 80),
+        ("[h:1", "h", 1),
+        ("h:65535", "h", 65535),
+        ("h:0", "h", 0),
+    ];
+    for (text, host, port) in table {
+        let cut = split_node_address(text);
+        assert!(rt; cut.is_ok(), "{text} is taken");
+        let (cut_host, cut_port) = cut?;
+        assert_eq!(rt; cut_host, host, "host of {text}");
+        assert_eq!(rt; cut_port, port, "port of {text}");
+        let address = NodeAddress::try_from(alloc, text)?;
+        assert_eq!(rt; address.host(), host, "host of the address of {text}");
+        assert_eq!(rt; address.port(), port, "port of the address of {text}");
+        assert!(rt; address.matches_text(text), "{text} matches its address");
+    }
+    Ok(())
+}
+
+#[test]
+fn a_text_that_names_no_address_is_refused(rt: HostRuntime) -> Result<(), Fail> {
+    let alloc = rt.alloc();
+    let address = NodeAddress::new(alloc, "h", 1)?;
+    for text in [":0", "[]:6379", "h:65536", "h:-1", "h:", "h", ""] {
+        let refused = split_node_address(text).map(|_| ()).err();
+        assert!(rt; refused.is_some(), "split of {text}");
+        let error = refused.ok_or("no error")?;
+        assert_eq!(rt;
+            error.kind(),
+            ErrorKind::InvalidClientConfig,
+            "split of {text}"
+        );
+        assert_eq!(rt; error.desc(), "Invalid node string", "split of {text}");
+        assert_eq!(rt; error.detail(), None, "split of {text}");
+        let refused = NodeAddress::try_from(alloc, text).map(|_| ()).err();
+        assert!(rt; refused.is_some(), "try_from of {text}");
+        let error = refused.ok_or("no error")?;
+        assert_eq!(rt;
+            error.kind(),
+            ErrorKind::InvalidClientConfig,
+            "try_from of {text}"
+        );
+        assert_eq!(rt; error.desc(), "Invalid node string", "try_from of {text}");
+        assert_eq!(rt; error.detail(), None, "try_from of {text}");
+        assert!(rt; !address.matches_text(text), "{text} matches no address");
+    }
+    Ok(())
+}
+
+#[test]
+fn an_address_matches_the_texts_that_name_it(rt: HostRuntime) -> Result<(), Fail> {
+    let address = NodeAddress::new(rt.alloc(), "h", 80)?;
+    let table = [
+        ("h:80", true),
+        ("[[h]]]:+0080", true),
+        ("h:81", false),
+        ("g:80", false),
+        ("H:80", false),
+    ];
+    for (text, matches) in table {
+        assert_eq!(rt; address.matches_text(text), matches, "{text}");
+    }
+    Ok(())
+}
+
+#[test]
+fn addresses_print_as_host_colon_port(rt: HostRuntime) -> Result<(), Fail> {
+    let alloc = rt.alloc();
+    let table = [
+        ("127.0.0.1", 6379, "127.0.0.1:6379"),
+        ("::1", 65535, "::1:65535"),
+        ("[h", 1, "[h:1"),
+        ("", 0, ":0"),
+    ];
+    for (host, port, text) in table {
+        let address = NodeAddress::new(alloc, host, port)?;
+        assert_eq!(rt;
+            format!(in alloc; "{address}")?.as_str(),
+            text,
+            "Display of {text}"
+        );
+        assert_eq!(rt;
+            format!(in alloc; "{address:?}")?.as_str(),
+            text,
+            "Debug of {text}"
+        );
+    }
+    Ok(())
+}
+
+#[test]
+fn addresses_of_the_same_parts_are_equal(rt: HostRuntime) -> Result<(), Fail> {
+    let alloc = rt.alloc();
+    let address = NodeAddress::new(alloc, "h", 1)?;
+    assert!(rt;
+        NodeAddress::from_parts(RcStr::from_str(alloc, "h")?, 1) == address,
+        "from parts"
+    );
+    assert!(rt; address.clone()? == address, "a clone");
+    assert!(rt; NodeAddress::new(alloc, "h", 2)? != address, "another port");
+    assert!(rt; NodeAddress::new(alloc, "g", 1)? != address, "another host");
+    let empty = NodeAddress::default(alloc)?;
+    assert_eq!(rt; empty.host(), "", "the default's host");
+    assert_eq!(rt; empty.port(), 0, "the default's port");
+    Ok(())
+}
+
+#[test]
+fn addresses_are_ordered_by_host_bytes_then_port(rt: HostRuntime) -> Result<(), Fail> {
+    let alloc = rt.alloc();
+    let ascending = [
+        ("", 9),
+        ("10", 1),
+        ("9", 1),
+        ("B", 7),
+        ("a", 2),
+        ("a", 10),
+        ("aa", 1),
+        ("é", 1),
+    ];
+    for (i, (host, port)) in ascending.iter().enumerate() {
+        for (j, (other, number)) in ascending.iter().enumerate() {
+            let first = NodeAddress::new(alloc, *host, *port)?;
+            let second = NodeAddress::new(alloc, *other, *number)?;
+            assert_eq!(rt; first.cmp(&second), i.cmp(&j), "{first} against {second}");
+            assert_eq!(rt; first < second, i < j, "whether {first} is below {second}");
+        }
+    }
+    Ok(())
+}
+
+#[test]
+fn the_slots_command_has_two_words(rt: HostRuntime) -> Result<(), Fail> {
+    let cmd = slot_cmd(rt.alloc())?;
+    let words: [&[u8]; 2] = [b"CLUSTER", b"SLOTS"];
+    assert_eq!(rt; cmd.len(), 2);
+    for (i, word) in cmd.args().enumerate() {
+        assert_eq!(rt; Some(word), words.get(i).copied(), "word {i}");
+    }
+    Ok(())
+}

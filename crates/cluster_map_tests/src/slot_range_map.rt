@@ -1,0 +1,76 @@
+use cluster_map::SlotRangeMap;
+use std::alloc::{AllocError, Global};
+use std::test::Fail;
+
+fn map_of(
+    alloc: Global,
+    ranges: &[(u16, u16, &'static str)],
+) -> Result<SlotRangeMap<&'static str>, AllocError> {
+    let mut map = SlotRangeMap::new(alloc);
+    for (start, end, value) in ranges {
+        map.insert(*start, *end, *value)?;
+    }
+    Ok(map)
+}
+
+#[test]
+fn a_slot_is_answered_by_the_range_that_ends_first_from_it_on(rt: HostRuntime) -> Result<(), Fail> {
+    let apart = [(100, 200, "a"), (300, 400, "b")];
+    let nested = [(0, 100, "a"), (50, 60, "b")];
+    let reversed = [(0, 100, "a"), (50, 60, "b"), (80, 20, "x")];
+    let same_end = [(0, 100, "a"), (90, 100, "b")];
+    let table = [
+        (apart.as_slice(), 99, None),
+        (apart.as_slice(), 100, Some("a")),
+        (apart.as_slice(), 150, Some("a")),
+        (apart.as_slice(), 200, Some("a")),
+        (apart.as_slice(), 250, None),
+        (apart.as_slice(), 300, Some("b")),
+        (apart.as_slice(), 350, Some("b")),
+        (apart.as_slice(), 400, Some("b")),
+        (apart.as_slice(), 401, None),
+        (nested.as_slice(), 40, None),
+        (nested.as_slice(), 55, Some("b")),
+        (nested.as_slice(), 70, Some("a")),
+        (reversed.as_slice(), 10, None),
+        (same_end.as_slice(), 50, None),
+        (same_end.as_slice(), 95, Some("b")),
+        ([].as_slice(), 0, None),
+    ];
+    for (ranges, slot, value) in table {
+        let map = map_of(rt.alloc(), ranges)?;
+        assert_eq!(rt; map.get(slot).copied(), value, "slot {slot} of {ranges:?}");
+    }
+    Ok(())
+}
+
+#[test]
+fn ranges_come_by_ascending_end(rt: HostRuntime) -> Result<(), Fail> {
+    let alloc = rt.alloc();
+    let table = [
+        (
+            [(300, 400, "b"), (100, 200, "a")],
+            [(100, 200, "a"), (300, 400, "b")].as_slice(),
+        ),
+        ([(0, 100, "a"), (90, 100, "b")], [(90, 100, "b")].as_slice()),
+    ];
+    for (put, wanted) in table {
+        let map = map_of(alloc, put.as_slice())?;
+        let mut seen = Vec::new(alloc);
+        for (start, end, value) in &map {
+            seen.push((start, end, *value))?;
+        }
+        assert_eq!(rt; seen.as_slice(), wanted, "a loop over the map of {put:?}");
+        for (entry, (start, end, value)) in map.iter().zip(wanted) {
+            assert_eq!(rt; entry, (*start, *end, value), "iter of the map of {put:?}");
+        }
+        assert_eq!(rt;
+            map.iter().count(),
+            wanted.len(),
+            "iter of the map of {put:?}"
+        );
+    }
+    let empty: SlotRangeMap<&'static str> = SlotRangeMap::default(alloc);
+    assert!(rt; empty.iter().next().is_none(), "the default is empty");
+    Ok(())
+}

@@ -1,0 +1,215 @@
+-- Division is linear, so the bits may come in at the top.
+use Rattle.std.proofs.Common.{◌≡◌, ◌<◌, ◌≤◌, inl, inr, ℕ, zero, suc, ◌+◌, ◌*◌, ◌-◌, ◌%◌, ◌/◌, ◌^◌, List, [], ◌∷◌, ◌++◌, fold, replicate, bit_xor, refl, ap, sym, ◌∙◌, subst, arith, lit<, lit≤, zero-add}
+use Rattle.std.proofs.lemmas.Bool.{cases_lt}
+use Rattle.std.proofs.lemmas.Bool.Decides.{nat_tests}
+use Rattle.std.proofs.lemmas.Nat.{xor_block, xor_comm, xor_lt, mod_low}
+use Rattle.std.proofs.lemmas.Nat.Bits.{bit_at-lt}
+use Rattle.std.proofs.Math.Pow.{split}
+use Rattle.std.proofs.Math.Nat.{pow-succ', le-mul_of_pos_right, mod-one}
+use Rattle.std.specs.Int.Bits.{xor_shifted, xor_assoc, xor_self, xor_zero_r, xor_zero_l}
+use Rattle.std.specs.Int.{bit_at}
+use Rattle.cluster_slots.specs.KeySlot.{bring_down, low_bits, bits_of, crc_of, zeros_down}
+
+-- a bring_down below the top, and one at the top
+pub bring_down_low : (r b : ℕ) → 2 * r + b < 65536 → bring_down r b ≡ 2 * r + b
+bring_down_low r b h = grind (arith, nat_tests)
+
+pub bring_down_high : (r b : ℕ) → 65536 ≤ 2 * r + b → bring_down r b ≡ bit_xor (2 * r + b - 65536) 4129
+bring_down_high r b h = grind (arith, nat_tests)
+
+pub bring_down_bottom : (q : ℕ) → q < 32768 → bring_down q 0 ≡ 2 * q
+bring_down_bottom q h = bring_down_low q 0 (omega arith) ∙ omega arith
+
+pub bring_down_top : (q : ℕ) → q < 32768 → bring_down (32768 + q) 0 ≡ bit_xor (2 * q) 4129
+bring_down_top q h = let e : 2 * (32768 + q) + 0 - 65536 ≡ 2 * q = omega arith in bring_down_high (32768 + q) 0 (omega arith) ∙ ap (λ n. bit_xor n 4129) e
+
+pub bring_down_lt : (r b : ℕ) → r < 2 ^ 16 → b < 2 → bring_down r b < 2 ^ 16
+bring_down_lt r b h k =
+    elim (cases_lt (2 * r + b) 65536) [
+      | inl l ↦ subst (λ n. n < 2 ^ 16) (sym (bring_down_low r b l)) l
+      | inr l ↦ subst (λ n. n < 2 ^ 16) (sym (bring_down_high r b l)) (xor_lt 16 (2 * r + b - 65536) 4129 (omega arith) (lit< tt))
+    ]
+
+pub double_xor : (a b : ℕ) → bit_xor (2 * a) (2 * b) ≡ 2 * bit_xor a b
+double_xor a b =
+    let e : 2 * a ≡ a * 2 ^ 1 + 0 = omega arith in
+    let f : 2 * b ≡ b * 2 ^ 1 + 0 = omega arith in
+    let g : bit_xor a b * 2 ^ 1 + bit_xor 0 0 ≡ 2 * bit_xor a b = omega (arith, xor_self 0) in
+    ap (λ x. bit_xor x (2 * b)) e ∙ ap (λ x. bit_xor (a * 2 ^ 1 + 0) x) f ∙ xor_block 1 a b 0 0 (lit< tt) (lit< tt) ∙ g
+
+doubled_bit : (q b : ℕ) → b < 2 → bit_xor (2 * q) b ≡ 2 * q + b
+doubled_bit q b k = let e : 2 * q ≡ q * 2 ^ 1 = omega arith in ap (λ x. bit_xor x b) e ∙ xor_shifted q 1 b k ∙ omega arith
+
+swap_right : (a b c : ℕ) → bit_xor (bit_xor a b) c ≡ bit_xor (bit_xor a c) b
+swap_right a b c = xor_assoc a b c ∙ ap (bit_xor a) (xor_comm b c) ∙ sym (xor_assoc a c b)
+
+pub bring_down-bit : (r b : ℕ) → r < 2 ^ 16 → b < 2 → bring_down r b ≡ bit_xor (bring_down r 0) b
+bring_down-bit r b h k =
+    elim (cases_lt r 32768) [
+      | inl l ↦ bring_down_low r b (omega arith) ∙ sym (doubled_bit r b k) ∙ ap (λ x. bit_xor x b) (sym (bring_down_bottom r l))
+      | inr l ↦
+          let q = r - 32768 in
+          let e : 2 * r + b - 65536 ≡ 2 * (r - 32768) + b = omega arith in
+          let f : 2 * r + 0 - 65536 ≡ 2 * (r - 32768) = omega arith in
+          bring_down_high r b (omega arith) ∙ ap (λ x. bit_xor x 4129) (e ∙ sym (doubled_bit (r - 32768) b k)) ∙ swap_right (2 * (r - 32768)) b 4129
+          ∙ ap (λ x. bit_xor (bit_xor x 4129) b) (sym f) ∙ ap (λ x. bit_xor x b) (sym (bring_down_high r 0 (omega arith)))
+    ]
+
+top_bottom : (q s : ℕ) → q < 32768 → s < 32768 → bit_xor (32768 + q) s ≡ 32768 + bit_xor q s
+top_bottom q s h k = ap (bit_xor (32768 + q)) (sym (zero-add s)) ∙ xor_block 15 1 0 q s h k
+
+top_top : (q t : ℕ) → q < 32768 → t < 32768 → bit_xor (32768 + q) (32768 + t) ≡ bit_xor q t
+top_top q t h k = xor_block 15 1 1 q t h k ∙ zero-add (bit_xor q t)
+
+xor_top_bottom : (q s : ℕ) → q < 32768 → s < 32768 → bring_down (bit_xor (32768 + q) s) 0 ≡ bit_xor (bring_down (32768 + q) 0) (bring_down s 0)
+xor_top_bottom q s h k =
+    ap (λ x. bring_down x 0) (top_bottom q s h k) ∙ bring_down_top (bit_xor q s) (xor_lt 15 q s h k) ∙ ap (λ x. bit_xor x 4129) (sym (double_xor q s))
+    ∙ swap_right (2 * q) (2 * s) 4129 ∙ ap (λ x. bit_xor x (2 * s)) (sym (bring_down_top q h)) ∙ ap (bit_xor (bring_down (32768 + q) 0)) (sym (bring_down_bottom s k))
+
+cancel : (a b g : ℕ) → bit_xor (bit_xor a g) (bit_xor b g) ≡ bit_xor a b
+cancel a b g =
+    xor_assoc a g (bit_xor b g) ∙ ap (bit_xor a) (ap (bit_xor g) (xor_comm b g) ∙ sym (xor_assoc g g b) ∙ ap (λ x. bit_xor x b) (xor_self g) ∙ xor_zero_l b)
+
+xor_top_top : (q t : ℕ) → q < 32768 → t < 32768 → bring_down (bit_xor (32768 + q) (32768 + t)) 0 ≡ bit_xor (bring_down (32768 + q) 0) (bring_down (32768 + t) 0)
+xor_top_top q t h k =
+    ap (λ x. bring_down x 0) (top_top q t h k) ∙ bring_down_bottom (bit_xor q t) (xor_lt 15 q t h k) ∙ sym (double_xor q t) ∙ sym (cancel (2 * q) (2 * t) 4129)
+    ∙ ap (λ x. bit_xor x (bit_xor (2 * t) 4129)) (sym (bring_down_top q h)) ∙ ap (bit_xor (bring_down (32768 + q) 0)) (sym (bring_down_top t k))
+
+xor_bottom_bottom : (r s : ℕ) → r < 32768 → s < 32768 → bring_down (bit_xor r s) 0 ≡ bit_xor (bring_down r 0) (bring_down s 0)
+xor_bottom_bottom r s h k =
+    bring_down_bottom (bit_xor r s) (xor_lt 15 r s h k) ∙ sym (double_xor r s) ∙ ap (λ x. bit_xor x (2 * s)) (sym (bring_down_bottom r h)) ∙ ap (bit_xor (bring_down r 0)) (sym (bring_down_bottom s k))
+
+-- a number of 16 bits is one of 15, with or without the top bit
+pub data Halved : ℕ → Type 0 where
+  bottom : (q : ℕ) → q < 32768 → Halved q
+  top : (q : ℕ) → q < 32768 → Halved (32768 + q)
+
+halved : (r : ℕ) → r < 2 ^ 16 → Halved r
+halved r h =
+    elim (cases_lt r 32768) [
+      | inl l ↦ bottom r l
+      | inr l ↦ let e : 32768 + (r - 32768) ≡ r = omega arith in subst Halved e (top (r - 32768) (omega arith))
+    ]
+
+bring_down-xor_of : (r s : ℕ) → Halved r → Halved s → bring_down (bit_xor r s) 0 ≡ bit_xor (bring_down r 0) (bring_down s 0)
+bring_down-xor_of r s (bottom q h) (bottom t k) = xor_bottom_bottom q t h k
+bring_down-xor_of r s (top q h) (bottom t k) = xor_top_bottom q t h k
+bring_down-xor_of r s (bottom q h) (top t k) = ap (λ x. bring_down x 0) (xor_comm q (32768 + t)) ∙ xor_top_bottom t q k h ∙ xor_comm (bring_down (32768 + t) 0) (bring_down q 0)
+bring_down-xor_of r s (top q h) (top t k) = xor_top_top q t h k
+
+pub bring_down-xor : (r s : ℕ) → r < 2 ^ 16 → s < 2 ^ 16 → bring_down (bit_xor r s) 0 ≡ bit_xor (bring_down r 0) (bring_down s 0)
+bring_down-xor r s h k = bring_down-xor_of r s (halved r h) (halved s k)
+
+pub zeros_down_lt : (n r : ℕ) → r < 2 ^ 16 → zeros_down n r < 2 ^ 16
+zeros_down_lt zero r h = h
+zeros_down_lt (suc n) r h = zeros_down_lt n (bring_down r 0) (bring_down_lt r 0 h (lit< tt))
+
+pub zeros_down-xor : (n r s : ℕ) → r < 2 ^ 16 → s < 2 ^ 16 → zeros_down n (bit_xor r s) ≡ bit_xor (zeros_down n r) (zeros_down n s)
+zeros_down-xor zero r s h k = refl
+zeros_down-xor (suc n) r s h k = ap (zeros_down n) (bring_down-xor r s h k) ∙ zeros_down-xor n (bring_down r 0) (bring_down s 0) (bring_down_lt r 0 h (lit< tt)) (bring_down_lt s 0 k (lit< tt))
+
+pub zeros_down-last : (n r : ℕ) → zeros_down n (bring_down r 0) ≡ bring_down (zeros_down n r) 0
+zeros_down-last zero r = refl
+zeros_down-last (suc n) r = zeros_down-last n (bring_down r 0)
+
+pub zeros_down-swap : (m n r : ℕ) → zeros_down m (zeros_down n r) ≡ zeros_down n (zeros_down m r)
+zeros_down-swap zero n r = refl
+zeros_down-swap (suc m) n r = ap (zeros_down m) (sym (zeros_down-last n r)) ∙ zeros_down-swap m n (bring_down r 0)
+
+pow_pos : (n : ℕ) → 0 < 2 ^ n
+pow_pos zero = lit< tt
+pow_pos (suc n) = rw (pow-succ' 2 n) (omega (arith, pow_pos n))
+
+-- p is a power of two
+grown : (x p : ℕ) → 0 < p → x * (2 * p) < 65536 → 2 * x < 65536
+grown x p h k = let e : 2 * x * p ≡ x * (2 * p) = omega arith in omega (arith, le-mul_of_pos_right (2 * x) h)
+
+pub zeros_down_small : (n x : ℕ) → x * 2 ^ n < 2 ^ 16 → zeros_down n x ≡ x * 2 ^ n
+zeros_down_small zero x h = omega arith
+zeros_down_small (suc n) x h =
+    let k : x * (2 * 2 ^ n) < 65536 = subst (λ y. x * y < 65536) (pow-succ' 2 n) h in
+    let small = grown x (2 ^ n) (pow_pos n) k in
+    let e : 2 * x * 2 ^ n ≡ x * (2 * 2 ^ n) = omega arith in
+    ap (zeros_down n) (bring_down_low x 0 (omega arith) ∙ omega arith) ∙ zeros_down_small n (2 * x) (omega arith) ∙ e ∙ ap (λ y. x * y) (sym (pow-succ' 2 n))
+
+pub zeros_down-replicate : (n r : ℕ) → fold bring_down r (replicate n 0) ≡ zeros_down n r
+zeros_down-replicate zero r = refl
+zeros_down-replicate (suc n) r = zeros_down-replicate n (bring_down r 0)
+
+bit_times : (b p : ℕ) → b < 2 → p ≤ 256 → b * p < 65536
+bit_times zero p h k = omega arith
+bit_times (suc zero) p h k = omega arith
+bit_times (suc (suc n)) p h k = absurd (omega arith)
+
+bit_plus : (b p m : ℕ) → b < 2 → m < p → b * p + m < 2 * p
+bit_plus zero p m h k = omega arith
+bit_plus (suc zero) p m h k = omega arith
+bit_plus (suc (suc n)) p m h k = absurd (omega arith)
+
+parts : (h b p m : ℕ) → (2 * h + b) * p + m ≡ h * (2 * p) + (b * p + m)
+parts h b p m = omega arith
+
+-- one bit more of a number
+mod_more : (b n : ℕ) → b % 2 ^ suc n ≡ bit_at b n * 2 ^ n + b % 2 ^ n
+mod_more b n =
+    let q = b / 2 ^ n in
+    let e : b / 2 ^ n ≡ 2 * (b / 2 ^ n / 2) + bit_at b n = omega arith in
+    let m : b % 2 ^ n < 2 ^ n = omega (arith, pow_pos n) in
+    let low : bit_at b n * 2 ^ n + b % 2 ^ n < 2 ^ suc n = subst (λ y. bit_at b n * 2 ^ n + b % 2 ^ n < y) (sym (pow-succ' 2 n)) (bit_plus (bit_at b n) (2 ^ n) (b % 2 ^ n) (bit_at-lt b n) m) in
+    let whole : b ≡ b / 2 ^ n / 2 * 2 ^ suc n + (bit_at b n * 2 ^ n + b % 2 ^ n) =
+    sym (split b n) ∙ ap (λ y. y * 2 ^ n + b % 2 ^ n) e ∙ parts (b / 2 ^ n / 2) (bit_at b n) (2 ^ n) (b % 2 ^ n) ∙ ap (λ y. b / 2 ^ n / 2 * y + (bit_at b n * 2 ^ n + b % 2 ^ n)) (sym (pow-succ' 2 n)) in
+    ap (λ y. y % 2 ^ suc n) whole ∙ mod_low (b / 2 ^ n / 2) (suc n) (bit_at b n * 2 ^ n + b % 2 ^ n) low
+
+-- the n low bits of b come in at the bottom
+pub bits_in : (n r b : ℕ) → 2 ^ n ≤ 256 → r < 2 ^ 16 → fold bring_down r (low_bits b n) ≡ bit_xor (zeros_down n r) (b % 2 ^ n)
+bits_in zero r b l h = sym (ap (bit_xor r) (mod-one b) ∙ xor_zero_r r)
+bits_in (suc n) r b l h =
+    let two : 2 * 2 ^ n ≤ 256 = subst (λ y. y ≤ 256) (pow-succ' 2 n) l in
+    let d = bit_at b n in
+    let small : bit_at b n < 2 = bit_at-lt b n in
+    let m : b % 2 ^ n < 2 ^ n = omega (arith, pow_pos n) in
+    bits_in n (bring_down r (bit_at b n)) b (omega arith) (bring_down_lt r (bit_at b n) h small)
+    ∙ ap (λ x. bit_xor (zeros_down n x) (b % 2 ^ n)) (bring_down-bit r (bit_at b n) h small)
+    ∙ ap (λ x. bit_xor x (b % 2 ^ n)) (zeros_down-xor n (bring_down r 0) (bit_at b n) (bring_down_lt r 0 h (lit< tt)) (omega arith) ∙ ap (bit_xor (zeros_down n (bring_down r 0))) (zeros_down_small n (bit_at b n) (bit_times (bit_at b n) (2 ^ n) small (omega arith))))
+    ∙ xor_assoc (zeros_down n (bring_down r 0)) (bit_at b n * 2 ^ n) (b % 2 ^ n)
+    ∙ ap (bit_xor (zeros_down n (bring_down r 0))) (xor_shifted (bit_at b n) n (b % 2 ^ n) m ∙ sym (mod_more b n))
+
+fold-append : (r : ℕ) (xs ys : List ℕ) → fold bring_down r (xs ++ ys) ≡ fold bring_down (fold bring_down r xs) ys
+fold-append r [] ys = refl
+fold-append r (x ∷ xs) ys = fold-append (bring_down r x) xs ys
+
+bits_lt : (r n b : ℕ) → r < 2 ^ 16 → fold bring_down r (low_bits b n) < 2 ^ 16
+bits_lt r zero b h = h
+bits_lt r (suc n) b h = bits_lt (bring_down r (bit_at b n)) n b (bring_down_lt r (bit_at b n) h (bit_at-lt b n))
+
+-- n bits at the bottom and m zeros, or m zeros and the n bits at the top
+pub byte_in : (m n r b c : ℕ) → 2 ^ n ≤ 256 → r < 2 ^ 16 → b < 2 ^ n → zeros_down m b ≡ zeros_down n c → c < 2 ^ 16 → zeros_down m (fold bring_down r (low_bits b n)) ≡ zeros_down n (bit_xor (zeros_down m r) c)
+byte_in m n r b c l h k e d =
+    let e0 : b ≡ 0 * 2 ^ n + b = omega arith in
+    let same : b % 2 ^ n ≡ b = ap (λ y. y % 2 ^ n) e0 ∙ mod_low 0 n b k in
+    ap (zeros_down m) (bits_in n r b l h ∙ ap (bit_xor (zeros_down n r)) same) ∙ zeros_down-xor m (zeros_down n r) b (zeros_down_lt n r h) (omega arith)
+    ∙ ap (λ x. bit_xor x (zeros_down m b)) (zeros_down-swap m n r) ∙ ap (bit_xor (zeros_down n (zeros_down m r))) e ∙ sym (zeros_down-xor n (zeros_down m r) c (zeros_down_lt m r h) d)
+
+all_lt : (r : ℕ) (bs : List ℕ) → r < 2 ^ 16 → fold bring_down r (bits_of bs) < 2 ^ 16
+all_lt r [] h = h
+all_lt r (b ∷ bs) h = subst (λ x. x < 2 ^ 16) (sym (fold-append r (low_bits b 8) (bits_of bs))) (all_lt (fold bring_down r (low_bits b 8)) bs (bits_lt r 8 b h))
+
+rem_more : (r : ℕ) (xs : List ℕ) (x : ℕ) → fold bring_down r (bits_of (xs ++ x ∷ [])) ≡ fold bring_down (fold bring_down r (bits_of xs)) (low_bits x 8)
+rem_more r [] x = fold-append r (low_bits x 8) []
+rem_more r (y ∷ ys) x =
+    fold-append r (low_bits y 8) (bits_of (ys ++ x ∷ [])) ∙ rem_more (fold bring_down r (low_bits y 8)) ys x ∙ ap (λ z. fold bring_down z (low_bits x 8)) (sym (fold-append r (low_bits y 8) (bits_of ys)))
+
+-- the register after one byte more
+pub crc_more : (c x : ℕ) (xs : List ℕ) → x < 2 ^ 8 → c ≡ zeros_down 16 (fold bring_down 0 (bits_of xs)) → zeros_down 8 (bit_xor c (x * 256)) ≡ zeros_down 16 (fold bring_down 0 (bits_of (xs ++ x ∷ [])))
+crc_more c x xs h e =
+    let shift : zeros_down 16 x ≡ zeros_down 8 (x * 256) = ap (zeros_down 8) (zeros_down_small 8 x (omega arith)) in
+    ap (λ y. zeros_down 8 (bit_xor y (x * 256))) e
+    ∙ sym (byte_in 16 8 (fold bring_down 0 (bits_of xs)) x (x * 256) (lit≤ tt) (all_lt 0 xs (lit< tt)) h shift (omega arith))
+    ∙ ap (zeros_down 16) (sym (rem_more 0 xs x))
+
+pub crc_whole : (bs : List ℕ) → crc_of bs ≡ zeros_down 16 (fold bring_down 0 (bits_of bs))
+unfolding crc_of
+crc_whole bs = fold-append 0 (bits_of bs) (replicate 16 0) ∙ zeros_down-replicate 16 (fold bring_down 0 (bits_of bs))
+
+pub zeros_down_less : (n i r : ℕ) → i < n → zeros_down (n - i) r ≡ zeros_down (n - (i + 1)) (bring_down r 0)
+zeros_down_less n i r h = let e : n - i ≡ suc (n - (i + 1)) = omega arith in ap (λ m. zeros_down m r) e

@@ -1,0 +1,8 @@
+pub use Rattle.resp_core.specs.Fault
+pub mod Address
+pub mod AddressText
+pub mod Bytes
+pub mod HashTag
+pub mod KeySlot
+pub mod Number
+pub mod RouteTo

@@ -1,0 +1,184 @@
+ghost use Rattle.std.specs.Prelude.{◌≡◌, ◌<◌, ◌*◌, ◌↔◌, ◌∷◌, ◌++◌, ℕ, List, IsSome, IfSome, MatchOption, Contains, position, ◌==◌, bit_xor};
+ghost use Rattle.cluster_slots.specs.HashTag.{HasTag, HasNoTag, IsHashTag};
+ghost use Rattle.cluster_slots.specs.declared.slot.TheConstants.{SLOT_SIZE};
+ghost use Rattle.cluster_slots.specs.KeySlot.{bring_down, zeros_down, crc_of, IsKeySlot, key_slot};
+
+use std::marker::Model;
+
+/// How many slots a cluster has.
+pub const SLOT_SIZE: u16 = 16384;
+
+/// x^12 + x^5 + 1, which with x^16 is the divisor of CRC-16/XMODEM.
+const POLYNOMIAL: u16 = 0x1021;
+
+/// A slot number below `SLOT_SIZE`.
+#[derive(Clone, Copy, Debug, PartialEq, Eq, Hash)]
+pub struct Slot {
+    number: u16,
+}
+
+impl Model for Slot {
+    ghost use Rattle.std.specs.Prelude.{ℕ, ◌<◌};
+
+    ghost Value = { ℕ };
+
+    ghost view = { λ s. s.number };
+
+    ghost invariant = { λ s. s.number < 16384 };
+
+    ghost inverse = { λ n. record { number = n } };
+}
+
+impl Slot {
+    /// The slot of this number, if there is one.
+    pub fn new(number: u16) -> Option<Slot>
+        ensures there { IsSome result ↔ (number < 16384) }
+        ensures size { SLOT_SIZE ≡ 16384 }
+        ensures number { IfSome result (λ slot. slot ≡ number) }
+    {
+        if number < SLOT_SIZE {
+            Some(Slot { number })
+        } else {
+            None
+        }
+    }
+
+    /// The slot of a key: CRC-16/XMODEM of its hash tag, modulo `SLOT_SIZE`.
+    ///
+    /// The hash tag is what stands between the first `{` and the first `}` after it, or the whole
+    /// key where there is nothing between them or no such pair (Redis cluster specification).
+    pub fn for_key(key: &[u8]) -> Slot
+        ensures slot { IsKeySlot key.now result }
+        ensures value { result ≡ key_slot key.now }
+        // Keys with one hash tag have one slot.
+        ensures tag { (other tag : List ℕ) (slot : ℕ) → IsHashTag key.now tag → IsHashTag other tag → IsKeySlot other slot → result ≡ slot }
+        ensures below { result < 16384 }
+    {
+        let tag = get_hashtag(key).unwrap_or(key);
+        Slot {
+            number: crc16(tag) % SLOT_SIZE,
+        }
+    }
+
+    /// This slot as a number.
+    pub fn number(&self) -> u16
+        ensures number { result ≡ self.now }
+        ensures below { result < 16384 }
+    {
+        self.number
+    }
+}
+
+/// Which of a slot's nodes a command may go to.
+#[derive(Clone, Copy, Debug, PartialEq, Eq, Hash)]
+pub enum SlotAddr {
+    /// The primary alone.
+    Master,
+    /// The primary, or a replica where the client reads from replicas.
+    ReplicaOptional,
+    /// A replica, where the slot has one.
+    ReplicaRequired,
+}
+
+/// Where a command goes: a slot, and which of its nodes.
+#[derive(Clone, Copy, Debug, PartialEq, Eq, Hash)]
+pub struct Route {
+    slot: u16,
+    slot_addr: SlotAddr,
+}
+
+impl Model for Route {
+    ghost use Rattle.cluster_slots.specs.RouteTo.{RouteTo};
+
+    ghost Value = { RouteTo };
+
+    ghost view = { λ r. record { slot = r.slot; addr = r.slot_addr } };
+
+    ghost inverse = { λ r. record { slot = r.slot; slot_addr = r.addr } };
+}
+
+impl Route {
+    /// A route to any number, which need not be that of a slot.
+    pub fn new(slot: u16, slot_addr: SlotAddr) -> Self
+        ensures { result ≡ record { slot = slot; addr = slot_addr } }
+    {
+        Route { slot, slot_addr }
+    }
+
+    pub fn with_slot(slot: Slot, slot_addr: SlotAddr) -> Self
+        ensures { result ≡ record { slot = slot; addr = slot_addr } }
+    {
+        Route::new(slot.number(), slot_addr)
+    }
+
+    /// A route to the slot of a key.
+    pub fn with_key(key: &[u8], slot_addr: SlotAddr) -> Self
+        ensures slot { IsKeySlot key.now result.slot }
+        ensures value { result.slot ≡ key_slot key.now }
+        ensures addr { result.addr ≡ slot_addr }
+    {
+        Route::with_slot(Slot::for_key(key), slot_addr)
+    }
+
+    pub fn slot(&self) -> u16
+        ensures { result ≡ self.now.slot }
+    {
+        self.slot
+    }
+
+    pub fn slot_addr(&self) -> SlotAddr
+        ensures { result ≡ self.now.addr }
+    {
+        self.slot_addr
+    }
+}
+
+/// The parts before and after the first such byte.
+fn cut_at(bytes: &[u8], byte: u8) -> Option<(&[u8], &[u8])>
+    ensures { MatchOption result (¬ (Contains bytes.now byte)) (λ parts. (bytes.now ≡ parts.0.now ++ byte ∷ parts.1.now) × ¬ (Contains parts.0.now byte)) }
+{
+    let at = bytes.iter().position(|b| *b == byte)?;
+    Some((&bytes[..at], &bytes[at + 1..]))
+}
+
+/// What stands between the first braces of a key, if it is not empty.
+fn get_hashtag(key: &[u8]) -> Option<&[u8]>
+    ensures { MatchOption result (HasNoTag key.now) (λ tag. HasTag key.now tag.now) }
+{
+    let (_, rest) = cut_at(key, b'{')?;
+    let (tag, _) = cut_at(rest, b'}')?;
+    if tag.is_empty() { None } else { Some(tag) }
+}
+
+/// The register after a zero bit.
+fn shift(crc: u16) -> u16
+    ensures { result ≡ bring_down crc 0 }
+{
+    if crc >= 0x8000 {
+        ((crc - 0x8000) * 2) ^ POLYNOMIAL
+    } else {
+        crc * 2
+    }
+}
+
+/// The register after a byte.
+fn update(crc: u16, byte: u8) -> u16
+    ensures { result ≡ zeros_down 8 (bit_xor crc (byte * 256)) }
+{
+    let mut crc = crc ^ (u16::from(byte) * 256);
+    for _bit in 0..8u32 {
+        crc = shift(crc);
+    }
+    crc
+}
+
+/// CRC-16/XMODEM.
+fn crc16(bytes: &[u8]) -> u16
+    ensures { result ≡ crc_of bytes.now }
+{
+    let mut crc = 0;
+    for byte in bytes {
+        crc = update(crc, *byte);
+    }
+    crc
+}

@@ -1,0 +1,63 @@
+//! Commands, read-only names and routings, as the tests write them.
+use cluster_map::Route;
+use redis_cluster::routing::{ReadOnlyNames, RoutingInfo, SingleNodeRoutingInfo};
+use resp_core::{Cmd, Value};
+use std::alloc::{AllocError, Global};
+use std::test::Fail;
+
+pub fn words_of(alloc: Global, text: &str) -> Result<Vec<&[u8]>, AllocError> {
+    let mut words = Vec::new(alloc);
+    for word in text.split(' ') {
+        words.push(word.as_bytes())?;
+    }
+    Ok(words)
+}
+
+pub fn cmd_of(alloc: Global, words: &[&[u8]]) -> Result<Cmd, AllocError> {
+    let mut cmd = Cmd::new(alloc);
+    for word in words {
+        cmd.write_arg(word)?;
+    }
+    Ok(cmd)
+}
+
+/// An array of the words as bulk strings, but `#` as a number.
+pub fn value_of(alloc: Global, words: &[&[u8]]) -> Result<Value, AllocError> {
+    let mut items = Vec::new(alloc);
+    for word in words {
+        items.push(if *word == b"#".as_slice() {
+            Value::Int(1)
+        } else {
+            Value::BulkString(word.to_vec(alloc)?)
+        })?;
+    }
+    Ok(Value::Array(items))
+}
+
+pub fn read_only_names(alloc: Global, names: &[&[u8]]) -> Result<ReadOnlyNames, AllocError> {
+    let mut set = ReadOnlyNames::new(alloc);
+    for name in names {
+        set.insert(alloc, name)?;
+    }
+    Ok(set)
+}
+
+pub fn to_route(route: Route) -> RoutingInfo {
+    RoutingInfo::SingleNode(SingleNodeRoutingInfo::SpecificNode(route))
+}
+
+pub fn to_any() -> RoutingInfo {
+    RoutingInfo::SingleNode(SingleNodeRoutingInfo::Random)
+}
+
+/// Whether the words have this routing, as a command and as a reply.
+pub fn goes(
+    alloc: Global,
+    words: &[&[u8]],
+    read_only: &ReadOnlyNames,
+    want: Option<RoutingInfo>,
+) -> Result<bool, Fail> {
+    let cmd = RoutingInfo::for_routable(alloc, &cmd_of(alloc, words)?, read_only)?;
+    let value = RoutingInfo::for_routable(alloc, &value_of(alloc, words)?, read_only)?;
+    Ok(cmd == want && value == want)
+}

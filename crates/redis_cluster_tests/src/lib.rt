@@ -1,0 +1,29 @@
+//! Tests of the public calls of `redis_cluster`, but for the combiners.
+#![tactic(auto)]
+
+#[cfg(test)]
+mod for_routable;
+
+#[cfg(test)]
+mod given;
+
+#[cfg(test)]
+mod pipeline;
+
+#[cfg(test)]
+mod policy;
+
+#[cfg(test)]
+mod read_only;
+
+#[cfg(test)]
+mod routable;
+
+#[cfg(test)]
+mod splitting;
+
+#[cfg(test)]
+mod sub_commands;
+
+#[cfg(test)]
+mod ways;

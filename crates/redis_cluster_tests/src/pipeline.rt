@@ -1,0 +1,165 @@
+use redis_cluster::pipeline::{ClusterPipeline, UNROUTABLE_ERROR, cluster_pipe};
+use resp_core::{Cmd, ErrorKind, RedisResult};
+use std::alloc::Global;
+use std::test::Fail;
+
+/// The names that a pipeline refuses, as the documentation lists them.
+const REFUSED: &str = "BGREWRITEAOF, BGSAVE, BITOP, BRPOPLPUSH, CLIENT, CLIENT GETNAME, \
+    CLIENT KILL, CLIENT LIST, CLIENT SETNAME, CONFIG, CONFIG GET, CONFIG RESETSTAT, \
+    CONFIG REWRITE, CONFIG SET, DBSIZE, ECHO, FLUSHALL, FLUSHDB, INFO, KEYS, LASTSAVE, MGET, \
+    MOVE, MSET, MSETNX, MSETEX, PING, PUBLISH, RANDOMKEY, RENAME, RENAMENX, RPOPLPUSH, SAVE, \
+    SCAN, SCRIPT, SCRIPT EXISTS, SCRIPT FLUSH, SCRIPT KILL, SCRIPT LOAD, SDIFF, SDIFFSTORE, \
+    SENTINEL, SENTINEL GET MASTER ADDR BY NAME, SENTINEL MASTER, SENTINEL MASTERS, \
+    SENTINEL MONITOR, SENTINEL REMOVE, SENTINEL SENTINELS, SENTINEL SET, SENTINEL SLAVES, \
+    SHUTDOWN, SINTER, SINTERSTORE, SLAVEOF, SLOWLOG, SLOWLOG GET, SLOWLOG LEN, SLOWLOG RESET, \
+    SMOVE, SORT, SUNION, SUNIONSTORE, TIME";
+
+fn pipeline_of(alloc: Global, commands: &[&[&[u8]]]) -> RedisResult<ClusterPipeline> {
+    let mut pipeline = cluster_pipe(alloc);
+    for command in commands {
+        for (place, arg) in command.iter().enumerate() {
+            if place == 0 {
+                pipeline.push_cmd(alloc, arg)?;
+            } else {
+                pipeline.write_arg(arg)?;
+            }
+        }
+    }
+    Ok(pipeline)
+}
+
+#[test]
+fn the_first_refused_name_is_told(rt: HostRuntime) -> Result<(), Fail> {
+    let alloc = rt.alloc();
+    let table: [(&[&[&[u8]]], &str); 6] = [
+        (&[&[b"SET"], &[b"flushall"], &[b"MGET"]], "FLUSHALL"),
+        (&[&[b"\xe3\x80\x80mget"]], "MGET"),
+        (&[&[b"SET"], &[b" mget "]], "MGET"),
+        (&[&[b"CLIENT", b"ID"]], "CLIENT"),
+        (&[&[b"GET", b"k"], &[b"\tclient kill\r\n"]], "CLIENT KILL"),
+        (&[&[b"\xff"], &[b"Time"]], "TIME"),
+    ];
+    for (commands, name) in table {
+        let refused = pipeline_of(alloc, commands)?.check(alloc).err();
+        assert!(rt; refused.is_some(), "{name} is refused");
+        let error = refused.ok_or("no error")?;
+        let want = format!(in alloc; "Command '{name}' can't be executed in a cluster pipeline.")?;
+        assert_eq!(rt; error.kind(), ErrorKind::Client, "kind at {name}");
+        assert_eq!(rt;
+            error.desc(),
+            "This command cannot be safely routed in cluster mode",
+            "text at {name}"
+        );
+        assert_eq!(rt; error.detail(), Some(want.as_str()), "detail at {name}");
+    }
+    Ok(())
+}
+
+#[test]
+fn each_name_of_the_table_is_refused(rt: HostRuntime) -> Result<(), Fail> {
+    let alloc = rt.alloc();
+    for name in REFUSED.split(", ") {
+        let mut pipeline = cluster_pipe(alloc);
+        pipeline.push_cmd(alloc, name.as_bytes())?;
+        let refused = pipeline.check(alloc).err();
+        assert!(rt; refused.is_some(), "{name} is refused");
+        let error = refused.ok_or("no error")?;
+        let want = format!(in alloc; "Command '{name}' can't be executed in a cluster pipeline.")?;
+        assert_eq!(rt; error.kind(), UNROUTABLE_ERROR.0, "kind at {name}");
+        assert_eq!(rt; error.desc(), UNROUTABLE_ERROR.1, "text at {name}");
+        assert_eq!(rt; error.detail(), Some(want.as_str()), "detail at {name}");
+    }
+    Ok(())
+}
+
+#[test]
+fn other_commands_pass(rt: HostRuntime) -> Result<(), Fail> {
+    let alloc = rt.alloc();
+    let table: [&[&[&[u8]]]; 10] = [
+        &[&[b"\xff"]],
+        &[&[b"\xffMGET"]],
+        &[&[b""]],
+        &[&[b"EVALSHA", b"sha", b"1", b"k"]],
+        &[&[b"MULTI"], &[b"GET", b"k"]],
+        &[&[b"SET", b"MGET", b"FLUSHALL"]],
+        &[&[b"MGE"], &[b"MGETS"]],
+        &[&[b"CLIENT  KILL"]],
+        &[&[b"MODULE", b"LIST"], &[b"JSON.MGET"]],
+        &[&[b"SENTINEL GET MASTER ADDR BY NAMES"]],
+    ];
+    for (place, commands) in table.iter().enumerate() {
+        let pipeline = pipeline_of(alloc, commands)?;
+        assert!(rt; pipeline.check(alloc).is_ok(), "pipeline {place}");
+    }
+    Ok(())
+}
+
+#[test]
+fn an_empty_pipeline_is_refused(rt: HostRuntime) -> Result<(), Fail> {
+    let alloc = rt.alloc();
+    for pipeline in [
+        cluster_pipe(alloc),
+        ClusterPipeline::with_capacity(alloc, 4)?,
+    ] {
+        let refused = pipeline.check(alloc).err();
+        assert!(rt; refused.is_some());
+        let error = refused.ok_or("no error")?;
+        assert_eq!(rt; error.kind(), ErrorKind::Client);
+        assert_eq!(rt; error.desc(), "empty command");
+        assert_eq!(rt; error.detail(), None);
+    }
+    Ok(())
+}
+
+#[test]
+fn without_a_command_there_is_nothing_to_change(rt: HostRuntime) {
+    let mut pipeline = ClusterPipeline::new(rt.alloc());
+    let refused = match pipeline.arg(b"k") {
+        Ok(_) => None,
+        Err(error) => Some(error.kind()),
+    };
+    assert_eq!(rt; refused, Some(ErrorKind::Client));
+    assert!(rt; pipeline.commands().is_empty());
+    let refused = match pipeline.ignore() {
+        Ok(_) => None,
+        Err(error) => Some(error.kind()),
+    };
+    assert_eq!(rt; refused, Some(ErrorKind::Client));
+    assert!(rt; pipeline.commands().is_empty());
+    assert!(rt; !pipeline.ignored(0));
+}
+
+#[test]
+fn chained_calls_change_the_last_command(rt: HostRuntime) -> Result<(), Fail> {
+    let alloc = rt.alloc();
+    let mut pipeline = ClusterPipeline::with_capacity(alloc, 1)?;
+    pipeline.cmd(alloc, b"SET")?.arg(b"k")?.arg(b"")?;
+    pipeline.cmd(alloc, b"INCR")?.arg(b"n")?.ignore()?;
+    let mut set = Cmd::new(alloc);
+    set.arg(b"SET")?.arg(b"k")?.arg(b"")?;
+    let mut incr = Cmd::new(alloc);
+    incr.arg(b"INCR")?.arg(b"n")?;
+    assert_eq!(rt; pipeline.commands().len(), 2);
+    assert!(rt; pipeline.commands()[0] == set);
+    assert!(rt; pipeline.commands()[1] == incr);
+    for (place, want) in [(0, false), (1, true), (2, false), (usize::MAX, false)] {
+        assert_eq!(rt; pipeline.ignored(place), want, "mark of {place}");
+    }
+    Ok(())
+}
+
+#[test]
+fn a_clone_has_the_commands_and_the_marks(rt: HostRuntime) -> Result<(), Fail> {
+    let alloc = rt.alloc();
+    let mut pipeline = pipeline_of(alloc, &[&[b"GET", b"k"], &[b"MGET"]])?;
+    pipeline.ignore()?;
+    let mut copy = pipeline.clone()?;
+    assert!(rt; copy.commands() == pipeline.commands());
+    assert!(rt; !copy.ignored(0));
+    assert!(rt; copy.ignored(1));
+    copy.cmd(alloc, b"PING")?.ignore()?;
+    assert_eq!(rt; copy.commands().len(), 3);
+    assert_eq!(rt; pipeline.commands().len(), 2);
+    assert!(rt; !pipeline.ignored(2));
+    Ok(())
+}

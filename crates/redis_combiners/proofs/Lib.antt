@@ -1,0 +1,11 @@
+pub mod Ahead
+pub mod AtPlaces
+pub mod Combining
+pub mod Filled
+pub mod Gathering
+pub mod Keyed
+pub mod Orders
+pub mod OwnPlaces
+pub mod Running
+pub mod TotalOrders
+pub mod Totals

@@ -1,0 +1,91 @@
+-- The order of the replies does not count.
+use Rattle.std.proofs.Common.{◌≡◌, ℕ, ◌+◌, List, [], ◌∷◌, sym, ap, ◌∙◌, refl, arith, map, ◌-◌, ◌^◌, fold, ℤ, pos, ◌+ℤ◌, ◌≤ℤ◌, Option, Some, None, Bool, true, false, cond, ⊎_elim, subst}
+use lib.IntN.{negsuc}
+use Rattle.std.specs.Prelude.{option_map, option_and_then, is_none, ◌||◌, sum_by}
+use Rattle.std.specs.Int.{int_min}
+use Rattle.std.specs.List.{list_any}
+use Rattle.std.specs.List.Sorted.{IsPermutation}
+use Rattle.std.proofs.lemmas.Int.{ints, fold-int_min_bounds, fold-int_min_reached}
+use Rattle.std.proofs.lemmas.List.Sorted.{IsPermutation-map, IsPermutation-sym, sum_by-IsPermutation, list_any-IsPermutation, Contains-permutation}
+use Rattle.std.proofs.lemmas.List.Sums.{sum_by-cons}
+use Rattle.std.proofs.lemmas.List.Elements.{All-contains}
+use borrow.Author.Differences.{up, down}
+use Rattle.resp_core.specs.Reply.{Reply, int_of, int}
+use Rattle.redis_combiners.specs.Aggregate.{numbers, cons_to, in_i64, total}
+use Rattle.redis_combiners.specs.Aggregate.{aggregated}
+use Rattle.redis_commands.specs.declared.policy.AggregateOp.{AggregateOp}
+use Rattle.redis_commands.specs.declared.policy.AggregateOp.TheVariants.{Min, Sum}
+
+abbrev missing : Reply → Bool
+missing r = is_none (int_of r)
+
+abbrev or_zero : Option ℤ → ℤ
+or_zero None = pos 0
+or_zero (Some n) = n
+
+abbrev number : Reply → ℤ
+number r = or_zero (int_of r)
+
+numbers_cons : (o : Option ℤ) (b : Bool) (ns : List ℤ) → cons_to (cond b None (Some ns)) o ≡ cond (is_none o || b) None (Some (or_zero o ∷ ns))
+numbers_cons None true ns = refl
+numbers_cons None false ns = refl
+numbers_cons (Some n) true ns = refl
+numbers_cons (Some n) false ns = refl
+
+numbers_are : (rs : List Reply) → numbers rs ≡ cond (list_any missing rs) None (Some (map number rs))
+numbers_are [] = refl
+numbers_are (r ∷ rs) = ap (λ o. cons_to o (int_of r)) (numbers_are rs) ∙ numbers_cons (int_of r) (list_any missing rs) (map number rs)
+
+-- what is made of the numbers, where their order does not count
+same_of : (f : List ℤ → Option ℤ) → ((xs ys : List ℤ) → IsPermutation xs ys → f ys ≡ f xs) → (rs others : List Reply) → IsPermutation rs others → option_and_then f (numbers others) ≡ option_and_then f (numbers rs)
+same_of f same rs others h =
+    ap (option_and_then f) (numbers_are others)
+    ∙ ap (λ b. option_and_then f (cond b None (Some (map number others)))) (sym (list_any-IsPermutation missing rs others h))
+    ∙ by_cases (list_any missing rs)
+    ∙ sym (ap (option_and_then f) (numbers_are rs))
+  where
+    by_cases : (b : Bool) → option_and_then f (cond b None (Some (map number others))) ≡ option_and_then f (cond b None (Some (map number rs)))
+    by_cases true = refl
+    by_cases false = same (map number rs) (map number others) (IsPermutation-map number rs others h)
+
+total_step : (t a x : ℤ) (d u : ℕ) → t +ℤ pos d ≡ (a +ℤ x) +ℤ pos u → t +ℤ pos (down x + d) ≡ a +ℤ pos (up x + u)
+total_step t a (pos n) d u e = omega (arith, ints)
+total_step t a (negsuc n) d u e = omega (arith, ints)
+
+total_parts : (a : ℤ) (xs : List ℤ) → fold ◌+ℤ◌ a xs +ℤ pos (sum_by down xs) ≡ a +ℤ pos (sum_by up xs)
+total_parts a [] = refl
+total_parts a (x ∷ xs) =
+    ap (λ n. fold ◌+ℤ◌ (a +ℤ x) xs +ℤ pos n) (sum_by-cons down x xs)
+    ∙ total_step (fold ◌+ℤ◌ (a +ℤ x) xs) a x (sum_by down xs) (sum_by up xs) (total_parts (a +ℤ x) xs)
+    ∙ ap (λ n. a +ℤ pos n) (sym (sum_by-cons up x xs))
+
+total_same : (xs ys : List ℤ) → IsPermutation xs ys → total ys ≡ total xs
+total_same xs ys h =
+    let e = total_parts (pos 0) xs in
+    let f = total_parts (pos 0) ys in
+    let u = sum_by-IsPermutation up xs ys h in
+    let d = sum_by-IsPermutation down xs ys h in
+    omega (arith, ints)
+
+least_below : (a : ℤ) (xs ys : List ℤ) → IsPermutation xs ys → fold int_min a xs ≤ℤ fold int_min a ys
+least_below a xs ys h =
+    let low = fold-int_min_bounds a xs (fold int_min a xs) refl in
+    ⊎_elim (λ e. subst (λ z. fold int_min a xs ≤ℤ z) (sym e) low.0)
+    (λ there. All-contains (λ x. fold int_min a xs ≤ℤ x) xs (fold int_min a ys) low.1 (Contains-permutation ys xs (fold int_min a ys) (IsPermutation-sym xs ys h) there))
+    (fold-int_min_reached a ys (fold int_min a ys) refl)
+
+least_same : (a : ℤ) (xs ys : List ℤ) → IsPermutation xs ys → fold int_min a ys ≡ fold int_min a xs
+least_same a xs ys h =
+    let low = least_below a xs ys h in
+    let high = least_below a ys xs (IsPermutation-sym xs ys h) in
+    omega (arith, ints)
+
+mapped : (f : List ℤ → ℤ) (o : Option (List ℤ)) → option_map f o ≡ option_and_then (λ ns. Some (f ns)) o
+mapped f None = refl
+mapped f (Some ns) = refl
+
+pub any_order : (op : AggregateOp) (rs others : List Reply) → IsPermutation rs others → aggregated op others ≡ aggregated op rs
+any_order Sum rs others h = ap (option_map int) (same_of (λ ns. in_i64 (total ns)) (λ xs ys p. ap in_i64 (total_same xs ys p)) rs others h)
+any_order Min rs others h =
+    let f : List ℤ → ℤ = fold int_min (pos (2 ^ 63 - 1)) in
+    ap (option_map int) (mapped f (numbers others) ∙ same_of (λ ns. Some (f ns)) (λ xs ys p. ap Some (least_same (pos (2 ^ 63 - 1)) xs ys p)) rs others h ∙ sym (mapped f (numbers rs)))

@@ -1,0 +1,17 @@
+-- Where the items of each reply stand in the one array.
+use Rattle.std.specs.Prelude.{◌≡◌, ℕ, List, Option, Some, slice_get, option_and_then}
+use Rattle.resp_core.specs.Reply.{Reply, items_of}
+use Rattle.redis_combiners.specs.KeyPlaces.{places}
+use Rattle.redis_commands.specs.declared.ways.MultiSlotArgPattern.{MultiSlotArgPattern}
+
+-- item j of a reply, if it is an array that has one
+abbrev pub item_at : Reply → ℕ → Option Reply
+item_at reply j = option_and_then (λ items. slice_get items j) (items_of reply)
+
+-- place j of a list, if it has one
+abbrev pub place_at : MultiSlotArgPattern → List ℕ → ℕ → Option ℕ
+place_at pattern list j = option_and_then (λ found. slice_get found j) (places pattern list)
+
+-- item j of reply i stands in the whole at place j of list i
+abbrev pub AreAtPlaces : MultiSlotArgPattern → List Reply → List (List ℕ) → Reply → Type 0
+AreAtPlaces pattern replies lists whole = (i j : ℕ) (reply : Reply) (list : List ℕ) (place : ℕ) → slice_get replies i ≡ Some reply → slice_get lists i ≡ Some list → place_at pattern list j ≡ Some place → item_at whole place ≡ item_at reply j

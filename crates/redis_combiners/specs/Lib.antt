@@ -1,0 +1,15 @@
+pub use Rattle.resp_core.specs.Fault
+pub use Rattle.resp_core.specs.Reply
+pub use Rattle.resp_core.specs.View
+pub mod Aggregate
+pub mod Arranged
+pub mod AtPlaces
+pub mod Bits
+pub mod Entries
+pub mod Gathered
+pub mod Joined
+pub mod KeyPlaces
+pub mod Keyed
+pub mod Logical
+pub mod SortedArrays
+pub mod Totals

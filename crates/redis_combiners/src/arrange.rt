@@ -1,0 +1,54 @@
+ghost use Rattle.std.specs.Prelude.{◌≡◌, length, map, IfOk, option_map, option_to_list, replicate, None};
+ghost use Rattle.resp_core.specs.View.{view};
+ghost use Rattle.redis_combiners.specs.Arranged.{arranged, singles};
+
+use resp_core::Value;
+use std::alloc::{AllocError, Global};
+
+/// So many empty slots.
+fn empty_slots(alloc: Global, n: usize) -> Result<Vec<Option<Value>>, AllocError>
+    ensures { IfOk result (λ v. v.items ≡ replicate n None) }
+{
+    let mut slots = Vec::with_capacity(alloc, n)?;
+    for i in 0..n {
+        slots.push(None)?;
+    }
+    Ok(slots)
+}
+
+/// What the slots hold, if each holds something.
+fn unwrapped(alloc: Global, slots: Vec<Option<Value>>) -> Result<Option<Vec<Value>>, AllocError>
+    ensures { IfOk result (λ o. option_map (λ v. map view v.items) o ≡ singles (map (λ s. option_to_list (option_map view s)) slots.items)) }
+{
+    let mut held = Vec::with_capacity(alloc, slots.len())?;
+    for slot in slots {
+        let Some(value) = slot else {
+            return Ok(None);
+        };
+        held.push(value)?;
+    }
+    Ok(Some(held))
+}
+
+/// The items in the order of their places, if these are each number from 0 on once.
+pub(super) fn arrange(
+    alloc: Global,
+    mut items: Vec<Value>,
+    places: &[usize],
+) -> Result<Option<Vec<Value>>, AllocError>
+    requires { length items.items ≡ length places.now }
+    ensures { IfOk result (λ o. option_map (λ v. map view v.items) o ≡ arranged places.now (map view items.items)) }
+{
+    let mut slots = empty_slots(alloc, places.len())?;
+    while let Some(item) = items.pop() {
+        let place = places[items.len()];
+        if place >= slots.len() {
+            return Ok(None);
+        }
+        if slots[place].is_some() {
+            return Ok(None);
+        }
+        slots[place] = Some(item);
+    }
+    unwrapped(alloc, slots)
+}

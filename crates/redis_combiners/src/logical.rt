@@ -1,0 +1,169 @@
+ghost use Rattle.std.specs.Prelude.{◌≡◌, ◌==◌, ◌⊎◌, IfOk, map, length, MatchResult, option_map, Some, None};
+ghost use Rattle.std.specs.List.{list_all, range_with_len};
+ghost use Rattle.resp_core.specs.Fault.{out_of_memory};
+ghost use Rattle.resp_core.specs.Reply.{array, replies_of};
+ghost use Rattle.resp_core.specs.View.{view};
+ghost use Rattle.resp_core.specs.declared.error.ErrorKind.TheVariants.{UnexpectedReturnType};
+ghost use Rattle.redis_combiners.specs.Bits.{width, bit_of, bits_in, rows_in, bit_at};
+ghost use Rattle.redis_combiners.specs.Logical.{answer, answer_row, as_int, logical_aggregated};
+
+use redis_commands::LogicalAggregateOp;
+use resp_core::{ErrorKind, RedisError, RedisResult, Value};
+use std::alloc::{AllocError, Global};
+
+/// One array of 0 and 1 for replies that are such arrays, all of one length: a place has 1 exactly
+/// where all replies have 1 there. No replies make an empty array.
+///
+/// # Errors
+///
+/// Of kind `UnexpectedReturnType` where a reply is no array of 0 and 1, or of another length than the
+/// first. Want of memory may come in the place of this.
+pub fn logical_aggregate(
+    alloc: Global,
+    values: Vec<Value>,
+    op: LogicalAggregateOp,
+) -> RedisResult<Value>
+    ensures { MatchResult result
+        (λ value. option_map (λ items. array (replies_of items)) (logical_aggregated op (map view values.items)) ≡ Some (view value))
+        (λ fault. (fault ≡ out_of_memory) ⊎ ((logical_aggregated op (map view values.items) ≡ None) × (fault.kind ≡ UnexpectedReturnType))) }
+{
+    match items(alloc, &values, op)? {
+        Some(items) => Ok(Value::Array(items)),
+        None => Err(RedisError::from((
+            ErrorKind::UnexpectedReturnType,
+            "the replies are no arrays of 0 and 1 of one length",
+        ))),
+    }
+}
+
+/// The items of the answer, if the replies are of 0 and 1 and of one length.
+fn items(
+    alloc: Global,
+    values: &[Value],
+    op: LogicalAggregateOp,
+) -> Result<Option<Vec<Value>>, AllocError>
+    ensures { IfOk result (λ items. option_map (λ v. map view v.items) items ≡ logical_aggregated op (map view values.now)) }
+{
+    match rows(alloc, values)? {
+        Some(rows) => answer_row(alloc, &rows, op),
+        None => Ok(None),
+    }
+}
+
+/// The bits of each reply, if each is an array of 0 and 1.
+fn rows(alloc: Global, values: &[Value]) -> Result<Option<Vec<Vec<bool>>>, AllocError>
+    ensures { IfOk result (λ rows. option_map (λ v. map (λ row. row.items) v.items) rows ≡ rows_in (map view values.now)) }
+{
+    let mut all = Vec::with_capacity(alloc, values.len())?;
+    for value in values {
+        let Some(items) = value.as_items() else {
+            return Ok(None);
+        };
+        let Some(row) = bits(alloc, items)? else {
+            return Ok(None);
+        };
+        all.push(row)?;
+    }
+    Ok(Some(all))
+}
+
+/// The bits of the items of one reply, if each item is 0 or 1.
+fn bits(alloc: Global, items: &[Value]) -> Result<Option<Vec<bool>>, AllocError>
+    ensures { IfOk result (λ bits. option_map (λ v. v.items) bits ≡ bits_in (map view items.now)) }
+{
+    let mut row = Vec::with_capacity(alloc, items.len())?;
+    for item in items {
+        let Some(n) = item.as_int() else {
+            return Ok(None);
+        };
+        let Some(b) = bit(n) else {
+            return Ok(None);
+        };
+        row.push(b)?;
+    }
+    Ok(Some(row))
+}
+
+/// Whether the number is 1, if it is 0 or 1.
+fn bit(n: i64) -> Option<bool>
+    ensures { result ≡ bit_of n }
+{
+    match n {
+        0 => Some(false),
+        1 => Some(true),
+        _ => None,
+    }
+}
+
+/// The answer at each place, if all rows are of one length.
+fn answer_row(
+    alloc: Global,
+    rows: &[Vec<bool>],
+    op: LogicalAggregateOp,
+) -> Result<Option<Vec<Value>>, AllocError>
+    ensures { IfOk result (λ items. option_map (λ v. map view v.items) items ≡ answer_row op (map (λ row. row.items) rows.now)) }
+{
+    let width = width(rows);
+    if !all_of_width(rows, width) {
+        return Ok(None);
+    }
+    Ok(Some(answers(alloc, rows, width, op)?))
+}
+
+/// How many places the first row has.
+fn width(rows: &[Vec<bool>]) -> usize
+    ensures { result ≡ width (map (λ row. row.items) rows.now) }
+{
+    match rows {
+        [] => 0,
+        [row, ..] => row.len(),
+    }
+}
+
+/// Whether all rows have so many places.
+fn all_of_width(rows: &[Vec<bool>], width: usize) -> bool
+    ensures { result ≡ list_all (λ row. length row == width) (map (λ row. row.items) rows.now) }
+{
+    for row in rows {
+        if row.len() != width {
+            return false;
+        }
+    }
+    true
+}
+
+/// The answer at each place.
+fn answers(
+    alloc: Global,
+    rows: &[Vec<bool>],
+    width: usize,
+    op: LogicalAggregateOp,
+) -> Result<Vec<Value>, AllocError>
+    ensures { IfOk result (λ items. map view items.items ≡ map (λ j. as_int (answer op (map (bit_at j) (map (λ row. row.items) rows.now)))) (range_with_len 0 width)) }
+{
+    let mut items = Vec::with_capacity(alloc, width)?;
+    for place in 0..width {
+        items.push(as_reply(at_place(rows, place, op)))?;
+    }
+    Ok(items)
+}
+
+/// What the bits at a place make.
+fn at_place(rows: &[Vec<bool>], place: usize, op: LogicalAggregateOp) -> bool
+    ensures { result ≡ answer op (map (bit_at place) (map (λ row. row.items) rows.now)) }
+{
+    let mut all = true;
+    for row in rows {
+        all = all && row.get(place).copied().unwrap_or(false);
+    }
+    match op {
+        LogicalAggregateOp::And => all,
+    }
+}
+
+/// 1 for a bit that is set, 0 for one that is not.
+fn as_reply(bit: bool) -> Value
+    ensures { view result ≡ as_int bit }
+{
+    Value::Int(i64::from(bit))
+}

@@ -1,0 +1,58 @@
+ghost use Rattle.std.specs.Prelude.{◌≡◌, ◌⊎◌, map, MatchResult, IfOk, Ok, Err};
+ghost use Rattle.resp_core.specs.Fault.{out_of_memory};
+ghost use Rattle.resp_core.specs.Reply.{array, replies_of};
+ghost use Rattle.resp_core.specs.View.{view};
+ghost use Rattle.redis_combiners.specs.AtPlaces.{AreAtPlaces};
+ghost use Rattle.redis_combiners.specs.SortedArrays.{sorted_arrays};
+
+use super::arrange::arrange;
+use super::gather::gather;
+use super::places::{all_places, joined};
+use cluster_slots::Route;
+use redis_commands::MultiSlotArgPattern;
+use resp_core::{ErrorKind, RedisError, RedisResult, Value};
+use std::alloc::Global;
+
+/// One array of the items of all replies, each at the place that its key had in the command: element
+/// j of reply i stands where place j of list i says. The lists are those of the routes of a split.
+///
+/// # Errors
+///
+/// In this order: of kind `Client` where a list does not come out even by the pattern, or is empty
+/// though it should end in a shared place; of kind `Client` where there are not as many replies as
+/// lists; for the first reply that does not fit, of kind `UnexpectedReturnType` where it is no array,
+/// and `Client` where it has not as many items as its list has places; of kind `Client` where the
+/// places are not each number from 0 on once. Want of memory may come in the place of any of these.
+pub fn combine_and_sort_array_results(
+    alloc: Global,
+    values: Vec<Value>,
+    sorting_order: &[(Route, Vec<usize>)],
+    pattern: &MultiSlotArgPattern,
+) -> RedisResult<Value>
+    ensures answer { MatchResult result
+        (λ value. sorted_arrays pattern.now (map view values.items) (map (λ route. route.1.items) sorting_order.now) ≡ Ok (view value))
+        (λ fault. (fault ≡ out_of_memory) ⊎ (sorted_arrays pattern.now (map view values.items) (map (λ route. route.1.items) sorting_order.now) ≡ Err fault.kind)) }
+    ensures at_place { IfOk result (λ value. AreAtPlaces pattern.now (map view values.items) (map (λ route. route.1.items) sorting_order.now) (view value)) }
+{
+    let Some(found) = all_places(alloc, sorting_order, *pattern)? else {
+        return Err(RedisError::from((ErrorKind::Client, "a list of places is not whole")));
+    };
+    if values.len() != found.len() {
+        return Err(RedisError::from((
+            ErrorKind::Client,
+            "there are not as many replies as lists of places",
+        )));
+    }
+    let items = gather(alloc, values, &found)?;
+    let places = joined(alloc, &found)?;
+    let Some(sorted) = arrange(alloc, items, &places)? else {
+        return Err(RedisError::from((ErrorKind::Client, "the places are not each number once")));
+    };
+    Ok(as_array(sorted))
+}
+
+fn as_array(items: Vec<Value>) -> Value
+    ensures { view result ≡ array (replies_of (map view items.items)) }
+{
+    Value::Array(items)
+}

@@ -1,0 +1,69 @@
+ghost use Rattle.std.specs.Prelude.{◌≡◌, List, map, MatchResult, Some, None, IsPermutation};
+ghost use Rattle.resp_core.specs.Reply.{Reply, int};
+ghost use Rattle.resp_core.specs.View.{view};
+ghost use Rattle.resp_core.specs.declared.error.ErrorKind.TheVariants.{UnexpectedReturnType};
+ghost use Rattle.redis_combiners.specs.Aggregate.{sum_of, least_of, aggregated};
+
+use redis_commands::AggregateOp;
+use resp_core::{ErrorKind, RedisError, RedisResult, Value};
+
+/// One number for replies that are numbers: their sum, which is 0 of none, or the least of them,
+/// which is `i64::MAX` of none. The order of the replies does not count. Takes no memory.
+///
+/// # Errors
+///
+/// Of kind `UnexpectedReturnType` where a reply is no number, or where the whole sum, which is taken
+/// in 128 bits, is none of 64.
+#[tactic(auto, using(crate::proofs::Orders::any_order))]
+pub fn aggregate(values: Vec<Value>, op: AggregateOp) -> RedisResult<Value>
+    ensures answer { MatchResult result
+        (λ value. aggregated op (map view values.items) ≡ Some (view value))
+        (λ fault. (aggregated op (map view values.items) ≡ None) × (fault.kind ≡ UnexpectedReturnType)) }
+    ensures any_order { (others : List Reply) → IsPermutation (map view values.items) others → aggregated op others ≡ aggregated op (map view values.items) }
+{
+    let number = match op {
+        AggregateOp::Sum => sum(&values),
+        AggregateOp::Min => least(&values),
+    };
+    match number {
+        Some(number) => Ok(as_reply(number)),
+        None => Err(RedisError::from((
+            ErrorKind::UnexpectedReturnType,
+            "the replies make no number",
+        ))),
+    }
+}
+
+/// The whole sum, if each reply is a number and the sum is one of 64 bits.
+fn sum(values: &[Value]) -> Option<i64>
+    ensures { result ≡ sum_of (map view values.now) }
+{
+    let mut total: i128 = 0;
+    for value in values {
+        let Some(n) = value.as_int() else {
+            return None;
+        };
+        total += i128::from(n);
+    }
+    i64::try_from(total).ok()
+}
+
+/// The least number, if each reply is one.
+fn least(values: &[Value]) -> Option<i64>
+    ensures { result ≡ least_of (map view values.now) }
+{
+    let mut least = i64::MAX;
+    for value in values {
+        let Some(n) = value.as_int() else {
+            return None;
+        };
+        least = least.min(n);
+    }
+    Some(least)
+}
+
+fn as_reply(number: i64) -> Value
+    ensures { view result ≡ int number }
+{
+    Value::Int(number)
+}

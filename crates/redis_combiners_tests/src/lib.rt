@@ -1,0 +1,17 @@
+//! Tests of the combiners.
+#![tactic(auto)]
+
+#[cfg(test)]
+mod arrays;
+
+#[cfg(test)]
+mod logical;
+
+#[cfg(test)]
+mod maps;
+
+#[cfg(test)]
+mod sorted;
+
+#[cfg(test)]
+mod sums;

@@ -1,0 +1,70 @@
+use redis_cluster::routing::{LogicalAggregateOp, logical_aggregate};
+use resp_core::{ErrorKind, Value};
+use std::alloc::{AllocError, Global};
+use std::test::Fail;
+
+fn numbers(alloc: Global, numbers: &[i64]) -> Result<Value, AllocError> {
+    let mut items = Vec::with_capacity(alloc, numbers.len())?;
+    for number in numbers {
+        items.push(Value::Int(*number))?;
+    }
+    Ok(Value::Array(items))
+}
+
+fn arrays(alloc: Global, replies: &[&[i64]]) -> Result<Vec<Value>, AllocError> {
+    let mut values = Vec::with_capacity(alloc, replies.len())?;
+    for reply in replies {
+        values.push(numbers(alloc, reply)?)?;
+    }
+    Ok(values)
+}
+
+#[test]
+fn a_place_is_set_where_all_are(rt: HostRuntime) -> Result<(), Fail> {
+    let alloc = rt.alloc();
+    let table: [(&[&[i64]], &[i64]); 4] = [
+        (&[&[1, 0], &[1, 1]], &[1, 0]),
+        (&[&[1, 1, 0, 0], &[1, 0, 1, 0]], &[1, 0, 0, 0]),
+        (&[&[], &[]], &[]),
+        (&[], &[]),
+    ];
+    for (replies, want) in table {
+        let answer = logical_aggregate(alloc, arrays(alloc, replies)?, LogicalAggregateOp::And)?;
+        assert!(rt; answer == numbers(alloc, want)?, "{replies:?}");
+    }
+    Ok(())
+}
+
+#[test]
+fn other_numbers_and_other_lengths_are_refused(rt: HostRuntime) -> Result<(), Fail> {
+    let alloc = rt.alloc();
+    let table: [&[&[i64]]; 5] = [
+        &[&[2]],
+        &[&[1], &[-1]],
+        &[&[], &[1]],
+        &[&[1], &[1, 0]],
+        &[&[1, 0], &[]],
+    ];
+    for replies in table {
+        let refused = logical_aggregate(alloc, arrays(alloc, replies)?, LogicalAggregateOp::And);
+        let error = refused.err().ok_or("no error")?;
+        assert_eq!(rt;
+            error.kind(),
+            ErrorKind::UnexpectedReturnType,
+            "{replies:?}"
+        );
+    }
+    Ok(())
+}
+
+#[test]
+fn a_reply_that_is_no_array_of_numbers_is_refused(rt: HostRuntime) -> Result<(), Fail> {
+    let alloc = rt.alloc();
+    for reply in [Value::Int(1), Value::Array(vec![in alloc; Value::Nil]?)] {
+        let replies = vec![in alloc; numbers(alloc, &[1])?, reply]?;
+        let refused = logical_aggregate(alloc, replies, LogicalAggregateOp::And);
+        let error = refused.err().ok_or("no error")?;
+        assert_eq!(rt; error.kind(), ErrorKind::UnexpectedReturnType);
+    }
+    Ok(())
+}

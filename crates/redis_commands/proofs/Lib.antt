@@ -1,0 +1,6 @@
+pub mod Agree
+pub mod Arguments
+pub mod CommandNames
+pub mod NameSets
+pub mod Search
+pub mod TableRows

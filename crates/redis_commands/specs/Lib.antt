@@ -1,0 +1,11 @@
+pub use Rattle.resp_core.specs.Reply
+pub use Rattle.resp_core.specs.View
+pub mod Command
+pub mod Policies
+pub mod ReadOnly
+pub mod Run
+pub mod Table
+pub mod Tuples
+pub mod TwoWords
+pub mod Upper
+pub mod Ways

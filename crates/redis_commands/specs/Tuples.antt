@@ -1,0 +1,80 @@
+-- The tuples that the run of a command over many keys makes: a key each, and the arguments that go with it. Places count the arguments of the run from 0.
+use Rattle.std.specs.Prelude.{ℕ, ◌+◌, ◌-◌, ◌%◌, Bool, ◌&&◌, cond, nat_eq, nat_lt, List, [], ◌∷◌, length, take, drop}
+use Rattle.std.specs.List.{range_with_len}
+use Rattle.redis_commands.specs.declared.ways.MultiSlotArgPattern.{MultiSlotArgPattern}
+use Rattle.redis_commands.specs.declared.ways.MultiSlotArgPattern.TheVariants.{KeysOnly, KeyValuePairs, KeysAndLastArg, KeyWithTwoArgTriples}
+
+-- a key, its place, and the arguments behind it that go with it
+pub record Tuple : Type 0 where
+  pub place : ℕ
+  pub key : List ℕ
+  pub extras : List (List ℕ)
+
+-- from a place on, each argument is a key
+abbrev pub keys_alone : ℕ → List (List ℕ) → List Tuple
+keys_alone place [] = []
+keys_alone place (key ∷ run) = record { place = place; key = key; extras = [] } ∷ keys_alone (place + 1) run
+
+-- from a place on, keys and values stand in turn
+abbrev pub keys_and_values : ℕ → List (List ℕ) → List Tuple
+keys_and_values place [] = []
+keys_and_values place (key ∷ []) = []
+keys_and_values place (key ∷ value ∷ run) = record { place = place; key = key; extras = value ∷ [] } ∷ keys_and_values (place + 2) run
+
+-- from a place on, a key and two more arguments stand in turn
+abbrev pub keys_and_two : ℕ → List (List ℕ) → List Tuple
+keys_and_two place [] = []
+keys_and_two place (key ∷ []) = []
+keys_and_two place (key ∷ a ∷ []) = []
+keys_and_two place (key ∷ a ∷ b ∷ run) = record { place = place; key = key; extras = a ∷ b ∷ [] } ∷ keys_and_two (place + 3) run
+
+-- whether so many arguments make whole tuples, and at least one
+abbrev pub fits : MultiSlotArgPattern → ℕ → Bool
+fits KeysOnly m = nat_lt 0 m
+fits KeyValuePairs m = nat_lt 0 m && nat_eq (m % 2) 0
+fits KeysAndLastArg m = nat_lt 0 m
+fits KeyWithTwoArgTriples m = nat_lt 0 m && nat_eq (m % 3) 0
+
+-- whether so many arguments are complete: they make whole tuples, and where keys share a last argument, it is there
+abbrev pub is_complete : MultiSlotArgPattern → ℕ → Bool
+is_complete KeysOnly m = fits KeysOnly m
+is_complete KeyValuePairs m = fits KeyValuePairs m
+is_complete KeysAndLastArg m = nat_lt 1 m
+is_complete KeyWithTwoArgTriples m = fits KeyWithTwoArgTriples m
+
+-- how many arguments a tuple has
+abbrev pub width_of : MultiSlotArgPattern → ℕ
+width_of KeysOnly = 1
+width_of KeyValuePairs = 2
+width_of KeysAndLastArg = 1
+width_of KeyWithTwoArgTriples = 3
+
+-- how many of so many arguments make tuples: those behind them are shared by all
+abbrev pub own_count : MultiSlotArgPattern → ℕ → ℕ
+own_count KeysOnly m = m
+own_count KeyValuePairs m = m
+own_count KeysAndLastArg m = cond (nat_lt 1 m) (m - 1) m
+own_count KeyWithTwoArgTriples m = m
+
+-- the tuples of arguments of which none is shared
+abbrev pub tuples_from : MultiSlotArgPattern → ℕ → List (List ℕ) → List Tuple
+tuples_from KeysOnly place run = keys_alone place run
+tuples_from KeyValuePairs place run = keys_and_values place run
+tuples_from KeysAndLastArg place run = keys_alone place run
+tuples_from KeyWithTwoArgTriples place run = keys_and_two place run
+
+-- the tuples of a run
+abbrev pub tuples_in : MultiSlotArgPattern → List (List ℕ) → List Tuple
+tuples_in pattern run = tuples_from pattern 0 (take (own_count pattern (length run)) run)
+
+-- the arguments of a run that all its tuples share: the last one or none
+abbrev pub shared_in : MultiSlotArgPattern → List (List ℕ) → List (List ℕ)
+shared_in pattern run = drop (own_count pattern (length run)) run
+
+-- the places of a tuple's arguments
+abbrev pub places_of : Tuple → List ℕ
+places_of t = range_with_len t.place (1 + length t.extras)
+
+-- the arguments of a tuple
+abbrev pub words_of : Tuple → List (List ℕ)
+words_of t = t.key ∷ t.extras

@@ -1,0 +1,98 @@
+ghost use Rattle.std.specs.Prelude.{◌≡◌, ◌<◌, ◌^◌, ℕ, List, Option, Some, IfOk, IfSome, map, length, position, option_copied, option_map};
+ghost use Rattle.resp_core.specs.Reply.{bulk_of, items_of};
+ghost use Rattle.resp_core.specs.View.{view};
+ghost use Rattle.redis_commands.specs.Command.{Arguments, argument, command_of, is_word, arguments_in};
+ghost use Rattle.redis_commands.specs.TwoWords.{takes_second};
+
+use super::names::TWO_WORD_NAMES;
+use super::tables::contains;
+use super::words::to_upper_case;
+use resp_core::{Cmd, Value};
+use std::alloc::{AllocError, Global};
+
+/// What can be routed: a command as a list of arguments, of which each is bytes or a gap.
+pub trait Routable {
+    /// The arguments, of which 0 is the command's first word.
+    ghost args: { Self → Arguments };
+
+    /// The name in upper case, with its second word where names with this first word have one.
+    /// There is none where the first argument is missing or a gap.
+    fn command(&self, alloc: Global) -> Result<Option<Vec<u8>>, AllocError>
+        ensures { IfOk result (λ name. option_map (λ v. v.items) name ≡ command_of (args self.now)) }
+    {
+        let Some(first) = self.arg_idx(0) else {
+            return Ok(None);
+        };
+        let mut name = to_upper_case(alloc, first)?;
+        if contains(&TWO_WORD_NAMES, &name) {
+            if let Some(second) = self.arg_idx(1) {
+                let second = to_upper_case(alloc, second)?;
+                name.push(b' ')?;
+                name.extend_from_slice(&second)?;
+            }
+        }
+        Ok(Some(name))
+    }
+
+    /// The argument at a place, unless it is a gap or not there.
+    fn arg_idx(&self, index: usize) -> Option<&[u8]>
+        ensures argument { option_copied result ≡ argument (args self.now) index }
+        ensures few { length (args self.now) < 2 ^ 63 };
+
+    /// The place of the first argument that is this word, in any ASCII case.
+    fn position(&self, candidate: &[u8]) -> Option<usize>
+        ensures place { result ≡ position (is_word candidate.now) (args self.now) }
+        ensures few { IfSome result (λ place. place < 2 ^ 63) };
+}
+
+/// A command has no gaps.
+impl Routable for Cmd {
+    ghost args = { λ cmd. map Some cmd };
+
+    fn arg_idx(&self, index: usize) -> Option<&[u8]> {
+        self.arg_idx(index)
+    }
+
+    fn position(&self, candidate: &[u8]) -> Option<usize> {
+        for place in 0..self.len() {
+            if is_candidate(self.arg_idx(place), candidate) {
+                return Some(place);
+            }
+        }
+        None
+    }
+}
+
+/// The items of an array, of which those that are no bulk string are gaps. Any other value is a
+/// command with no argument.
+impl Routable for Value {
+    ghost args = { λ value. arguments_in (option_map (λ items. map bulk_of items) (items_of (view value))) };
+
+    fn arg_idx(&self, index: usize) -> Option<&[u8]> {
+        let items = self.as_items()?;
+        if index < items.len() {
+            items[index].as_bulk()
+        } else {
+            None
+        }
+    }
+
+    fn position(&self, candidate: &[u8]) -> Option<usize> {
+        let items = self.as_items()?;
+        for place in 0..items.len() {
+            if is_candidate(items[place].as_bulk(), candidate) {
+                return Some(place);
+            }
+        }
+        None
+    }
+}
+
+fn is_candidate(arg: Option<&[u8]>, candidate: &[u8]) -> bool
+    ensures { result ≡ is_word candidate.now (option_copied arg.entry) }
+{
+    match arg {
+        Some(arg) => arg.eq_ignore_ascii_case(candidate),
+        None => false,
+    }
+}

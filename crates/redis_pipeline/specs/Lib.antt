@@ -1,0 +1,3 @@
+pub use Rattle.redis_commands.specs.Upper
+pub mod Pipeline
+pub mod Refusals

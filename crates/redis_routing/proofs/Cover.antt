@@ -1,0 +1,405 @@
+-- The lists of the routes of a split ascend and share out the places of the run, and each gives the arguments of its part.
+use Rattle.std.proofs.Common.{◌≡◌, ℕ, zero, suc, ◌+◌, ◌-◌, ◌%◌, ◌<◌, ◌≤◌, List, [], ◌∷◌, ◌++◌, Bool, true, false, not, cond, ◌&&◌, ◌||◌, refl, sym, ap, ◌∙◌, arith, length, map, take, drop, get_or, filter, Less, inl, inr, length-take-le, drop-cons, drop_of_length-le, add-one, zero-add}
+use Rattle.std.specs.Prelude.{nat_eq, nat_lt, count_by, All}
+use Rattle.std.specs.List.{AllByRecursion, list_any, flat_map, range_with_len}
+use Rattle.std.specs.List.Sorted.{IsStrictlySortedBy}
+use Rattle.std.specs.Ordering.{nat_cmp}
+use Rattle.std.proofs.Math.Bool.{or-false, or-true}
+use Rattle.std.proofs.Math.Path.{fun_ext}
+use Rattle.std.proofs.lemmas.Bool.{cases_lt, eqb-true}
+use Rattle.std.proofs.lemmas.Bool.Decides.{nat_tests}
+use Rattle.std.proofs.lemmas.List.{map-append, get_or-take, length-map}
+use Rattle.std.proofs.lemmas.List.Elements.{All-map}
+use Rattle.std.proofs.lemmas.List.Folds.{list_any-append}
+use Rattle.std.proofs.lemmas.List.Sums.{sum_by-cons}
+use Rattle.redis_routing.specs.Laws.{Covers, lists_with}
+use Rattle.redis_routing.specs.Parts.{slot_of, firsts, part, part_places, part_words}
+use Rattle.redis_routing.specs.Routing.{route_to, routes_of}
+use Rattle.redis_commands.specs.Tuples.{Tuple, keys_alone, keys_and_values, keys_and_two, fits, own_count, width_of, tuples_from, tuples_in, shared_in, places_of, words_of}
+use Rattle.redis_commands.specs.declared.ways.MultiSlotArgPattern.{MultiSlotArgPattern}
+use Rattle.redis_commands.specs.declared.ways.MultiSlotArgPattern.TheVariants.{KeysOnly, KeyValuePairs, KeysAndLastArg, KeyWithTwoArgTriples}
+
+by_test : {P : Type 0} (b : Bool) → (b ≡ true → P) → (b ≡ false → P) → P
+by_test true f g = f refl
+by_test false f g = g refl
+
+self : (n : ℕ) → nat_eq n n ≡ true
+self n = grind (arith, nat_tests)
+
+and_second : (a b : Bool) → (a && b) ≡ true → b ≡ true
+and_second true b h = h
+and_second false b h = cc
+
+module _ {X : Type 0} (p : X → Bool) where
+  count-cons : (x : X) (xs : List X) → count_by p (x ∷ xs) ≡ cond (p x) 1 0 + count_by p xs
+  count-cons x xs = sum_by-cons (λ x. cond (p x) 1 0) x xs
+
+  count_yes : (x : X) (xs : List X) → p x ≡ true → count_by p (x ∷ xs) ≡ 1 + count_by p xs
+  count_yes x xs h = count-cons x xs ∙ ap (λ b. cond b 1 0 + count_by p xs) h
+
+  count_no : (x : X) (xs : List X) → p x ≡ false → count_by p (x ∷ xs) ≡ count_by p xs
+  count_no x xs h = omega (arith, count-cons x xs, ap (λ b. cond b 1 0 + count_by p xs) h)
+
+  count_none : (xs : List X) → ((x : X) → p x ≡ false) → count_by p xs ≡ 0
+  count_none [] none = refl
+  count_none (x ∷ xs) none = count_no x xs (none x) ∙ count_none xs none
+
+  count_all : (xs : List X) → ((x : X) → p x ≡ true) → count_by p xs ≡ length xs
+  count_all [] each = refl
+  count_all (x ∷ xs) each = omega (arith, count_yes x xs (each x), count_all xs each)
+
+  count-map : {Y : Type 0} (f : Y → X) (ys : List Y) → count_by p (map f ys) ≡ count_by (λ y. p (f y)) ys
+  count-map f [] = refl
+  count-map f (y ∷ ys) = omega (arith, count-cons (f y) (map f ys), sum_by-cons (λ y. cond (p (f y)) 1 0) y ys, count-map f ys)
+
+-- nothing is left of a number that is taken out
+count_gone : (s : ℕ) (ns : List ℕ) → count_by (nat_eq s) (filter (λ k. not (nat_eq s k)) ns) ≡ 0
+count_gone s [] = refl
+count_gone s (n ∷ ns) =
+    by_test (nat_eq s n)
+    (λ same. rw same (count_gone s ns))
+    (λ other. rw other (count_no (nat_eq s) n (filter (λ k. not (nat_eq s k)) ns) other ∙ count_gone s ns))
+
+-- taking out one number leaves the others
+count_kept : (s n : ℕ) (ns : List ℕ) → nat_eq s n ≡ false → count_by (nat_eq s) (filter (λ k. not (nat_eq n k)) ns) ≡ count_by (nat_eq s) ns
+count_kept s n [] apart = refl
+count_kept s n (m ∷ ns) apart =
+    let rest = count_kept s n ns apart in
+    by_test (nat_eq n m)
+    (λ same. let unlike : nat_eq s m ≡ false = grind (arith, nat_tests) in rw same (rest ∙ sym (count_no (nat_eq s) m ns unlike)))
+    (λ other. rw other (count-cons (nat_eq s) m (filter (λ k. not (nat_eq n k)) ns) ∙ ap (λ c. cond (nat_eq s m) 1 0 + c) rest ∙ sym (count-cons (nat_eq s) m ns)))
+
+-- how often a number stands in a list that another one heads, and that has it no second time
+count_first : (s n : ℕ) (ns : List ℕ) → count_by (nat_eq s) (n ∷ filter (λ k. not (nat_eq n k)) ns) ≡ cond (nat_eq s n) 1 (count_by (nat_eq s) ns)
+count_first s n ns =
+    let others = filter (λ k. not (nat_eq n k)) ns in
+    by_test (nat_eq s n)
+    (λ same.
+    let e : n ≡ s = sym (eqb-true s n same) in
+    let gone : count_by (nat_eq s) others ≡ 0 = ap (λ m. count_by (nat_eq s) (filter (λ k. not (nat_eq m k)) ns)) e ∙ count_gone s ns in
+    count_yes (nat_eq s) n others same ∙ ap (λ c. 1 + c) gone ∙ sym (ap (λ b. cond b 1 (count_by (nat_eq s) ns)) same))
+    (λ other. count_no (nat_eq s) n others other ∙ count_kept s n ns other ∙ sym (ap (λ b. cond b 1 (count_by (nat_eq s) ns)) other))
+
+-- each number stands once among the firsts
+count_firsts : (s : ℕ) (ns : List ℕ) → count_by (nat_eq s) (firsts ns) ≡ cond (list_any (nat_eq s) ns) 1 0
+count_firsts s [] = refl
+count_firsts s (n ∷ ns) =
+    count_first s n (firsts ns) ∙ ap (λ c. cond (nat_eq s n) 1 c) (count_firsts s ns)
+    ∙ by_test (nat_eq s n) (λ same. rw same refl) (λ other. rw other refl)
+
+-- the numbers ascend, from the one bound to below the other
+abbrev pub Between : ℕ → ℕ → List ℕ → Type 0
+Between low high [] = low ≤ high
+Between low high (x ∷ xs) = (low ≤ x) × Between (x + 1) high xs
+
+pub bounds : (low high : ℕ) (xs : List ℕ) → Between low high xs → low ≤ high
+bounds low high [] h = h
+bounds low high (x ∷ xs) h = omega (arith, h.0, bounds (x + 1) high xs h.1)
+
+lower : (low below high : ℕ) (xs : List ℕ) → below ≤ low → Between low high xs → Between below high xs
+lower low below high [] small h = omega arith
+lower low below high (x ∷ xs) small h = (omega (arith, h.0), h.1)
+
+joined : (low mid high : ℕ) (xs ys : List ℕ) → Between low mid xs → Between mid high ys → Between low high (xs ++ ys)
+joined low mid high [] ys first second = lower mid low high ys first second
+joined low mid high (x ∷ xs) ys first second = (first.0, joined (x + 1) mid high xs ys first.1 second)
+
+-- what lies below the bound lies below each of them
+above : (x low high : ℕ) (xs : List ℕ) → x < low → Between low high xs → AllByRecursion (λ y. nat_cmp x y ≡ Less) xs
+above x low high [] under h = tt
+above x low high (y ∷ ys) under h =
+    let less : nat_lt x y ≡ true = grind (arith, nat_tests, h.0) in
+    (rw less refl, above x (y + 1) high ys (omega (arith, h.0)) h.1)
+
+ascending : (low high : ℕ) (xs : List ℕ) → Between low high xs → IsStrictlySortedBy nat_cmp xs
+unfolding IsStrictlySortedBy
+ascending low high [] h = tt
+ascending low high (x ∷ xs) h = (above x (x + 1) high xs (omega arith) h.1, ascending (x + 1) high xs h.1)
+
+not_below : (p low high : ℕ) (xs : List ℕ) → p < low → Between low high xs → list_any (nat_eq p) xs ≡ false
+not_below p low high [] under h = refl
+not_below p low high (x ∷ xs) under h =
+    let unlike : nat_eq p x ≡ false = grind (arith, nat_tests, h.0) in
+    rw unlike (not_below p (x + 1) high xs (omega (arith, h.0)) h.1)
+
+not_past : (p low high : ℕ) (xs : List ℕ) → high ≤ p → Between low high xs → list_any (nat_eq p) xs ≡ false
+not_past p low high [] past h = refl
+not_past p low high (x ∷ xs) past h =
+    let under : x + 1 ≤ high = bounds (x + 1) high xs h.1 in
+    let unlike : nat_eq p x ≡ false = grind (arith, nat_tests) in
+    rw unlike (not_past p (x + 1) high xs past h.1)
+
+range_between : (low n : ℕ) → Between low (low + n) (range_with_len low n)
+range_between low zero = omega arith
+range_between low (suc n) =
+    let e : (low + 1) + n ≡ low + suc n = omega arith in
+    (omega arith, rw e at (range_between (low + 1) n))
+
+range_has : (low n p : ℕ) → low ≤ p → p < low + n → list_any (nat_eq p) (range_with_len low n) ≡ true
+range_has low zero p from to = absurd (omega arith)
+range_has low (suc n) p from to =
+    by_test (nat_eq p low)
+    (λ same. rw same refl)
+    (λ other. let apart : low + 1 ≤ p = grind (arith, nat_tests) in rw other (range_has (low + 1) n p apart (omega arith)))
+
+-- the place behind a tuple that stands at a place
+abbrev next : ℕ → Tuple → ℕ
+next low t = low + (1 + length t.extras)
+
+-- the tuples stand side by side from the one place to the other
+abbrev Tiles : ℕ → ℕ → List Tuple → Type 0
+Tiles low high [] = low ≡ high
+Tiles low high (t ∷ ts) = (t.place ≡ low) × Tiles (next low t) high ts
+
+tiles_alone : (low : ℕ) (run : List (List ℕ)) → Tiles low (low + length run) (keys_alone low run)
+tiles_alone low [] = omega arith
+tiles_alone low (key ∷ run) =
+    let e : (low + 1) + length run ≡ low + suc (length run) = omega arith in
+    (refl, rw e at (tiles_alone (low + 1) run))
+
+tiles_pairs : (low : ℕ) (run : List (List ℕ)) → length run % 2 ≡ 0 → Tiles low (low + length run) (keys_and_values low run)
+tiles_pairs low [] even = omega arith
+tiles_pairs low (key ∷ []) even = absurd (omega arith)
+tiles_pairs low (key ∷ value ∷ run) even =
+    let e : (low + 2) + length run ≡ low + suc (suc (length run)) = omega arith in
+    let less : length run % 2 ≡ 0 = omega arith in
+    (refl, rw e at (tiles_pairs (low + 2) run less))
+
+tiles_triples : (low : ℕ) (run : List (List ℕ)) → length run % 3 ≡ 0 → Tiles low (low + length run) (keys_and_two low run)
+tiles_triples low [] even = omega arith
+tiles_triples low (key ∷ []) even = absurd (omega arith)
+tiles_triples low (key ∷ a ∷ []) even = absurd (omega arith)
+tiles_triples low (key ∷ a ∷ b ∷ run) even =
+    let e : (low + 3) + length run ≡ low + suc (suc (suc (length run))) = omega arith in
+    let less : length run % 3 ≡ 0 = omega arith in
+    (refl, rw e at (tiles_triples (low + 3) run less))
+
+tiles_from : (pattern : MultiSlotArgPattern) (low : ℕ) (run : List (List ℕ)) → length run % width_of pattern ≡ 0 → Tiles low (low + length run) (tuples_from pattern low run)
+tiles_from KeysOnly low run even = tiles_alone low run
+tiles_from KeyValuePairs low run even = tiles_pairs low run even
+tiles_from KeysAndLastArg low run even = tiles_alone low run
+tiles_from KeyWithTwoArgTriples low run even = tiles_triples low run even
+
+-- no more arguments make tuples than there are
+own_small : (pattern : MultiSlotArgPattern) (m : ℕ) → own_count pattern m ≤ m
+own_small KeysOnly m = omega arith
+own_small KeyValuePairs m = omega arith
+own_small KeysAndLastArg m = by_test (nat_lt 1 m) (λ many. rw many (omega arith)) (λ one. rw one (omega arith))
+own_small KeyWithTwoArgTriples m = omega arith
+
+length_own : (pattern : MultiSlotArgPattern) (run : List (List ℕ)) → length (take (own_count pattern (length run)) run) ≡ own_count pattern (length run)
+length_own pattern run = length-take-le (own_count pattern (length run)) run (own_small pattern (length run))
+
+-- the arguments that make tuples come out even
+own_whole : (pattern : MultiSlotArgPattern) (m : ℕ) → fits pattern m ≡ true → own_count pattern m % width_of pattern ≡ 0
+own_whole KeysOnly m h = omega arith
+own_whole KeyValuePairs m h = eqb-true (m % 2) 0 (and_second (nat_lt 0 m) (nat_eq (m % 2) 0) h)
+own_whole KeysAndLastArg m h = omega arith
+own_whole KeyWithTwoArgTriples m h = eqb-true (m % 3) 0 (and_second (nat_lt 0 m) (nat_eq (m % 3) 0) h)
+
+-- the tuples of a run stand side by side from the first place on
+tiles_run : (pattern : MultiSlotArgPattern) (run : List (List ℕ)) → fits pattern (length run) ≡ true → Tiles 0 (own_count pattern (length run)) (tuples_in pattern run)
+tiles_run pattern run whole =
+    let own = own_count pattern (length run) in
+    let e : 0 + length (take own run) ≡ own = omega (arith, length_own pattern run) in
+    rw e at (tiles_from pattern 0 (take own run) (ap (λ m. m % width_of pattern) (length_own pattern run) ∙ own_whole pattern (length run) whole))
+
+-- the places of a slot's tuples
+abbrev tuple_places : ℕ → List Tuple → List ℕ
+tuple_places s ts = flat_map places_of (part s ts)
+
+-- the places of the tuples of a slot ascend
+part_between : (low high s : ℕ) (ts : List Tuple) → Tiles low high ts → Between low high (tuple_places s ts)
+part_between low high s [] h = omega arith
+part_between low high s (t ∷ ts) h =
+    let rest : Between (next low t) high (tuple_places s ts) = part_between (next low t) high s ts h.1 in
+    by_test (nat_eq (slot_of t) s)
+    (λ here. rw here (rw h.0 (joined low (next low t) high (range_with_len low (1 + length t.extras)) (tuple_places s ts) (range_between low (1 + length t.extras)) rest)))
+    (λ there. rw there (lower (next low t) low high (tuple_places s ts) (omega arith) rest))
+
+-- a place that the tuples cover stands in the part of one slot alone, and that is the slot of a key
+owner : (p low high : ℕ) (ts : List Tuple) → Tiles low high ts → low ≤ p → p < high → (own : ℕ) × (list_any (nat_eq own) (map slot_of ts) ≡ true) × ((s : ℕ) → list_any (nat_eq p) (tuple_places s ts) ≡ nat_eq own s)
+owner p low high [] h from to = absurd (omega arith)
+owner p low high (t ∷ ts) h from to = elim (cases_lt p (next low t)) [
+  | inl here ↦
+      let held : list_any (nat_eq p) (places_of t) ≡ true = rw h.0 (range_has low (1 + length t.extras) p from here) in (
+        slot_of t,
+        ap (λ b. b || list_any (nat_eq (slot_of t)) (map slot_of ts)) (self (slot_of t)),
+        λ s.
+            by_test (nat_eq (slot_of t) s)
+            (λ same. rw same (list_any-append (nat_eq p) (places_of t) (tuple_places s ts) ∙ ap (λ b. b || list_any (nat_eq p) (tuple_places s ts)) held))
+            (λ other. rw other (not_below p (next low t) high (tuple_places s ts) here (part_between (next low t) high s ts h.1))),
+      )
+  | inr later ↦
+      let behind : list_any (nat_eq p) (places_of t) ≡ false = rw h.0 (not_past p low (next low t) (range_with_len low (1 + length t.extras)) later (range_between low (1 + length t.extras))) in
+      let rest = owner p (next low t) high ts h.1 later to in (
+        rest.0,
+        ap (λ b. nat_eq rest.0 (slot_of t) || b) rest.1 ∙ or-true (nat_eq rest.0 (slot_of t)),
+        λ s.
+            by_test (nat_eq (slot_of t) s)
+            (λ same. rw same (list_any-append (nat_eq p) (places_of t) (tuple_places s ts) ∙ ap (λ b. b || list_any (nat_eq p) (tuple_places s ts)) behind ∙ rest.2 s))
+            (λ other. rw other (rest.2 s)),
+      )
+]
+
+module _ (pattern : MultiSlotArgPattern) (run : List (List ℕ)) where
+  abbrev own : ℕ
+  own = own_count pattern (length run)
+
+  abbrev tuples : List Tuple
+  tuples = tuples_in pattern run
+
+  abbrev last : List ℕ
+  last = range_with_len own (length run - own)
+
+  last_between : Between own (length run) last
+  last_between =
+      let e : own + (length run - own) ≡ length run = omega (arith, own_small pattern (length run)) in
+      rw e at (range_between own (length run - own))
+
+  -- the places of a part ascend within the run
+  pub part_in_run : (slot : ℕ) → fits pattern (length run) ≡ true → Between 0 (length run) (part_places pattern run slot)
+  part_in_run slot whole = joined 0 own (length run) (tuple_places slot tuples) last (part_between 0 own slot tuples (tiles_run pattern run whole)) last_between
+
+  -- the slots of the keys
+  abbrev slots : List ℕ
+  slots = map slot_of tuples
+
+  -- whether the place is in the list of the slot's route
+  abbrev has : ℕ → ℕ → Bool
+  has p s = list_any (nat_eq p) (part_places pattern run s)
+
+  either : (p s : ℕ) → has p s ≡ (list_any (nat_eq p) (tuple_places s tuples) || list_any (nat_eq p) last)
+  either p s = list_any-append (nat_eq p) (tuple_places s tuples) last
+
+  has_own : (p s : ℕ) → p < own → has p s ≡ list_any (nat_eq p) (tuple_places s tuples)
+  has_own p s to =
+      let none : list_any (nat_eq p) last ≡ false = not_below p own (length run) last to last_between in
+      either p s ∙ ap (λ b. list_any (nat_eq p) (tuple_places s tuples) || b) none ∙ or-false (list_any (nat_eq p) (tuple_places s tuples))
+
+  has_shared : (p s : ℕ) → own ≤ p → p < length run → has p s ≡ true
+  has_shared p s from to =
+      let held : list_any (nat_eq p) last ≡ true = range_has own (length run - own) p from (omega arith) in
+      either p s ∙ ap (λ b. list_any (nat_eq p) (tuple_places s tuples) || b) held ∙ or-true (list_any (nat_eq p) (tuple_places s tuples))
+
+  module _ (reads : Bool) where
+    -- the lists with a place, counted by slots
+    by_slots : (p : ℕ) → lists_with p (routes_of reads pattern run) ≡ count_by (has p) (firsts slots)
+    by_slots p = count-map (λ r. list_any (nat_eq p) r.1) (route_to reads pattern run) (firsts slots)
+
+    in_each : (p : ℕ) → own ≤ p → p < length run → lists_with p (routes_of reads pattern run) ≡ length (routes_of reads pattern run)
+    in_each p from to = by_slots p ∙ count_all (has p) (firsts slots) (λ s. has_shared p s from to) ∙ sym (simp length-map)
+
+    one_route : (slot : ℕ) → count_by (λ r. nat_eq slot r.0.slot) (routes_of reads pattern run) ≤ 1
+    one_route slot =
+        let e = count-map (λ r. nat_eq slot r.0.slot) (route_to reads pattern run) (firsts slots) ∙ count_firsts slot slots in
+        rw e (by_test (list_any (nat_eq slot) slots) (λ yes. rw yes (omega arith)) (λ none. rw none (omega arith)))
+
+    module _ (whole : fits pattern (length run) ≡ true) where
+      places_between : (s : ℕ) → Between 0 (length run) (part_places pattern run s)
+      places_between s = part_in_run s whole
+
+      lists_ascend : All (λ r. IsStrictlySortedBy nat_cmp r.1) (routes_of reads pattern run)
+      lists_ascend =
+          let ascends : (s : ℕ) → IsStrictlySortedBy nat_cmp (part_places pattern run s) = λ s. ascending 0 (length run) (part_places pattern run s) (places_between s) in
+          All-map (λ r. IsStrictlySortedBy nat_cmp r.1) (route_to reads pattern run) (firsts slots) (λ k d h. ascends (get_or (firsts slots) k d))
+
+      in_one : (p : ℕ) → p < own → lists_with p (routes_of reads pattern run) ≡ 1
+      in_one p to =
+          let o = owner p 0 own tuples (tiles_run pattern run whole) (omega arith) to in
+          let same : has p ≡ nat_eq o.0 = fun_ext (λ s. has_own p s to ∙ o.2 s) in
+          by_slots p ∙ ap (λ f. count_by f (firsts slots)) same ∙ count_firsts o.0 slots ∙ ap (λ b. cond b 1 0) o.1
+
+      in_none : (p : ℕ) → length run ≤ p → lists_with p (routes_of reads pattern run) ≡ 0
+      in_none p past = by_slots p ∙ count_none (has p) (firsts slots) (λ s. not_past p 0 (length run) (part_places pattern run s) past (places_between s))
+
+-- the cover law of the routes of a split
+pub covers : (reads : Bool) (pattern : MultiSlotArgPattern) (run : List (List ℕ)) → fits pattern (length run) ≡ true → Covers pattern run (routes_of reads pattern run)
+covers reads pattern run whole = record {
+  slots = one_route pattern run reads;
+  ascending = lists_ascend pattern run reads whole;
+  once = in_one pattern run reads whole;
+  shared = in_each pattern run reads;
+  within = in_none pattern run reads whole;
+}
+
+-- what is read at the places of each tuple is its arguments
+abbrev AreRead : (ℕ → List ℕ) → List Tuple → Type 0
+AreRead at [] = Unit {0}
+AreRead at (t ∷ ts) = (map at (places_of t) ≡ words_of t) × AreRead at ts
+
+module _ (at : ℕ → List ℕ) where
+  -- from a place on, the arguments are read
+  abbrev IsReadFrom : ℕ → List (List ℕ) → Type 0
+  IsReadFrom low run = (k : ℕ) → k < length run → at (low + k) ≡ get_or run k []
+
+  first_read : (low : ℕ) (key : List ℕ) (run : List (List ℕ)) → IsReadFrom low (key ∷ run) → at low ≡ key
+  first_read low key run h = ap at (omega arith) ∙ h 0 (omega arith)
+
+  rest_read : (low : ℕ) (key : List ℕ) (run : List (List ℕ)) → IsReadFrom low (key ∷ run) → IsReadFrom (low + 1) run
+  rest_read low key run h k inside = ap at (omega arith) ∙ h (suc k) (omega arith)
+
+  read_alone : (low : ℕ) (run : List (List ℕ)) → IsReadFrom low run → AreRead at (keys_alone low run)
+  read_alone low [] h = tt
+  read_alone low (key ∷ run) h = (ap (λ a. a ∷ []) (first_read low key run h), read_alone (low + 1) run (rest_read low key run h))
+
+  read_pairs : (low : ℕ) (run : List (List ℕ)) → IsReadFrom low run → AreRead at (keys_and_values low run)
+  read_pairs low [] h = tt
+  read_pairs low (key ∷ []) h = tt
+  read_pairs low (key ∷ value ∷ run) h =
+      let second = rest_read low key (value ∷ run) h in
+      let e : (low + 1) + 1 ≡ low + 2 = omega arith in
+      let third : IsReadFrom (low + 2) run = rw e at (rest_read (low + 1) value run second) in
+      (cc (first_read low key (value ∷ run) h, first_read (low + 1) value run second), read_pairs (low + 2) run third)
+
+  read_triples : (low : ℕ) (run : List (List ℕ)) → IsReadFrom low run → AreRead at (keys_and_two low run)
+  read_triples low [] h = tt
+  read_triples low (key ∷ []) h = tt
+  read_triples low (key ∷ a ∷ []) h = tt
+  read_triples low (key ∷ a ∷ b ∷ run) h =
+      let second = rest_read low key (a ∷ b ∷ run) h in
+      let third = rest_read (low + 1) a (b ∷ run) second in
+      let e : ((low + 1) + 1) + 1 ≡ low + 3 = omega arith in
+      let fourth : IsReadFrom (low + 3) run = rw e at (rest_read ((low + 1) + 1) b run third) in
+      (cc (first_read low key (a ∷ b ∷ run) h, first_read (low + 1) a (b ∷ run) second, first_read ((low + 1) + 1) b run third), read_triples (low + 3) run fourth)
+
+  read_tuples : (pattern : MultiSlotArgPattern) (low : ℕ) (run : List (List ℕ)) → IsReadFrom low run → AreRead at (tuples_from pattern low run)
+  read_tuples KeysOnly low run h = read_alone low run h
+  read_tuples KeyValuePairs low run h = read_pairs low run h
+  read_tuples KeysAndLastArg low run h = read_alone low run h
+  read_tuples KeyWithTwoArgTriples low run h = read_triples low run h
+
+  -- what is read at the places of a part's tuples is their arguments
+  read_part : (s : ℕ) (ts : List Tuple) → AreRead at ts → map at (tuple_places s ts) ≡ flat_map words_of (part s ts)
+  read_part s [] h = refl
+  read_part s (t ∷ ts) h =
+      by_test (nat_eq (slot_of t) s)
+      (λ here. rw here (map-append at (places_of t) (tuple_places s ts) ∙ ap (λ ws. ws ++ map at (tuple_places s ts)) h.0 ∙ ap (λ ws. words_of t ++ ws) (read_part s ts h.1)))
+      (λ there. rw there (read_part s ts h.1))
+
+-- the arguments from a place to the end
+read_range : (run : List (List ℕ)) (low n : ℕ) → low + n ≡ length run → map (λ p. get_or run p []) (range_with_len low n) ≡ drop low run
+read_range run low zero e = sym (drop_of_length-le run (omega arith))
+read_range run low (suc n) e = ap (λ ws. get_or run low [] ∷ ws) (read_range run (low + 1) n (omega arith) ∙ ap (λ k. drop k run) (add-one low)) ∙ sym (drop-cons run low [] (omega arith))
+
+module _ (pattern : MultiSlotArgPattern) (run : List (List ℕ)) where
+  abbrev argument_at : ℕ → List ℕ
+  argument_at p = get_or run p []
+
+  own_read : IsReadFrom argument_at 0 (take (own pattern run) run)
+  own_read k inside =
+      let under : k < own pattern run = omega (arith, length_own pattern run) in
+      ap argument_at (zero-add k) ∙ sym (get_or-take (own pattern run) run k [] under)
+
+  tuples_read : (slot : ℕ) → map argument_at (tuple_places slot (tuples pattern run)) ≡ flat_map words_of (part slot (tuples pattern run))
+  tuples_read slot = read_part argument_at slot (tuples pattern run) (read_tuples argument_at pattern 0 (take (own pattern run) run) own_read)
+
+  last_read : map argument_at (last pattern run) ≡ shared_in pattern run
+  last_read = read_range run (own pattern run) (length run - own pattern run) (omega (arith, own_small pattern (length run)))
+
+-- the arguments at the places of a part are the part's
+pub picked : (pattern : MultiSlotArgPattern) (run : List (List ℕ)) (slot : ℕ) → map (λ p. get_or run p []) (part_places pattern run slot) ≡ part_words pattern run slot
+picked pattern run slot =
+    map-append (argument_at pattern run) (tuple_places slot (tuples pattern run)) (last pattern run)
+    ∙ ap (λ ws. ws ++ map (argument_at pattern run) (last pattern run)) (tuples_read pattern run slot)
+    ∙ ap (λ ws. flat_map words_of (part slot (tuples pattern run)) ++ ws) (last_read pattern run)

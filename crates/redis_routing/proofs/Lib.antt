@@ -1,0 +1,9 @@
+pub mod Cover
+pub mod Picks
+pub mod Respelt
+pub mod Routes
+pub mod SelfRouting
+pub mod Slots
+pub mod SplitLaws
+pub mod SubCommands
+pub mod TupleSteps

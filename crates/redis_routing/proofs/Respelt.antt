@@ -1,0 +1,88 @@
+-- A command whose first word is spelt in another case goes where it went.
+use Rattle.std.proofs.Common.{◌≡◌, ℕ, zero, suc, ◌+◌, List, [], ◌∷◌, Bool, true, false, Option, None, Some, map, refl, sym, ap, ◌∙◌, add-one}
+use Rattle.std.specs.Prelude.{codes, position, nat_lt}
+use Rattle.std.specs.Char.{to_ascii_lowercase}
+use Rattle.std.specs.Str.{bytes_eq}
+use Rattle.std.proofs.lemmas.Str.Ascii.{lowercase-uppercase}
+use Rattle.redis_commands.specs.Upper.{upper}
+use Rattle.redis_commands.specs.Command.{Arguments, IsRespelt, argument, command_of, is_word, name_by, in_upper_case}
+use Rattle.redis_routing.specs.Routing.{by_way, by_count, to_key, to_key_after, routing_of, routing, number_at}
+use Rattle.redis_commands.specs.Table.{lookup}
+use Rattle.redis_commands.specs.Ways.{ways, way_in}
+use Rattle.redis_commands.specs.declared.ways.Way.{Way}
+use Rattle.redis_commands.specs.declared.ways.Way.TheVariants as way
+
+-- whether the key and its count stand behind the first word
+abbrev behind_first : Option Way → Bool
+behind_first (Some (way.CountAt n)) = nat_lt 0 n
+behind_first (Some (way.KeyAt n)) = nat_lt 0 n
+behind_first _ = true
+
+all_behind : (rows : List (List ℕ × Way)) → map (λ row. behind_first (Some row.1)) rows ≡ map (λ row. true) rows → (name : List ℕ) → behind_first (lookup rows name) ≡ true
+all_behind [] each name = refl
+all_behind (row ∷ rows) each name =
+    by_test (bytes_eq row.0 name)
+    (λ equal. let first : behind_first (Some row.1) ≡ true = cc each in rw equal first)
+    (λ unlike. let rest : map (λ row. behind_first (Some row.1)) rows ≡ map (λ row. true) rows = cc each in rw unlike (all_behind rows rest name))
+  where
+    by_test : {P : Type 0} (b : Bool) → (b ≡ true → P) → (b ≡ false → P) → P
+    by_test true f g = f refl
+    by_test false f g = g refl
+
+ways_behind : (name : List ℕ) → behind_first (way_in name) ≡ true
+unfolding way_in
+ways_behind name = all_behind ways refl name
+
+abbrev lower : List ℕ → List ℕ
+lower text = map to_ascii_lowercase text
+
+lower-upper : (text : List ℕ) → lower (upper text) ≡ lower text
+lower-upper [] = refl
+lower-upper (c ∷ text) = cc (lowercase-uppercase c, lower-upper text)
+
+module _ (spelt first : List ℕ) (same : upper spelt ≡ upper first) (rest : Arguments) where
+  abbrev given : Arguments
+  given = Some first ∷ rest
+
+  abbrev respelt : Arguments
+  respelt = Some spelt ∷ rest
+
+  next : (n : ℕ) → argument given (n + 1) ≡ argument respelt (n + 1)
+  next n = rw add-one refl
+
+  behind : (n : ℕ) → nat_lt 0 n ≡ true → argument given n ≡ argument respelt n
+  behind zero h = cc h
+  behind (suc n) h = refl
+
+  same_word : (word : List ℕ) → is_word word (Some first) ≡ is_word word (Some spelt)
+  same_word word = ap (λ t. bytes_eq t (lower word)) (sym (lower-upper first) ∙ sym (ap lower same) ∙ lower-upper spelt)
+
+  same_position : (word : List ℕ) → position (is_word word) given ≡ position (is_word word) respelt
+  same_position word = rw (same_word word) refl
+
+  after_streams : (reads : Bool) (place : Option ℕ) → to_key_after reads given place ≡ to_key_after reads respelt place
+  after_streams reads None = refl
+  after_streams reads (Some place) = ap (to_key reads) (next place)
+
+  same_way : (reads : Bool) (name : List ℕ) (w : Option Way) → behind_first w ≡ true → by_way reads name given w ≡ by_way reads name respelt w
+  same_way reads name None later = refl
+  same_way reads name (Some way.AllNodes) later = refl
+  same_way reads name (Some way.AllMasters) later = refl
+  same_way reads name (Some (way.MultiSlot pattern)) later = refl
+  same_way reads name (Some way.Undefined) later = refl
+  same_way reads name (Some (way.CountAt n)) later = ap (λ a. by_count reads (number_at 64 a) (argument given (n + 1))) (behind n later) ∙ ap (by_count reads (number_at 64 (argument respelt n))) (next n)
+  same_way reads name (Some (way.KeyAt n)) later = ap (to_key reads) (behind n later)
+  same_way reads name (Some way.KeyAfterStreams) later = after_streams reads (position (is_word (codes "STREAMS")) given) ∙ ap (to_key_after reads respelt) (same_position (codes "STREAMS"))
+  same_way reads name (Some way.Random) later = refl
+  same_way reads name (Some way.SlotAtTwo) later = refl
+
+  same_routing : (only_reads : List ℕ → Bool) → routing only_reads given ≡ routing only_reads respelt
+  same_routing only_reads =
+      let name = name_by (upper first) (in_upper_case (argument rest 0)) in
+      let named : command_of given ≡ command_of respelt = ap (λ u. Some (name_by u (in_upper_case (argument rest 0)))) (sym same) in
+      same_way (only_reads name) name (way_in name) (ways_behind name) ∙ ap (routing_of only_reads respelt) named
+
+pub respelt_routing : (only_reads : List ℕ → Bool) (args other : Arguments) → IsRespelt args other → routing only_reads other ≡ routing only_reads args
+respelt_routing only_reads [] other same = ap (routing only_reads) same
+respelt_routing only_reads (None ∷ rest) other same = ap (routing only_reads) same
+respelt_routing only_reads (Some first ∷ rest) other (spelt, same, is) = ap (routing only_reads) is ∙ sym (same_routing spelt first same rest only_reads)

@@ -1,0 +1,236 @@
+-- The part of each route of a split, as a command of its own, goes to that very route.
+use Rattle.std.proofs.Common.{◌≡◌, ℕ, zero, suc, ◌+◌, ◌-◌, ◌*◌, ◌%◌, ◌<◌, ◌≤◌, List, [], ◌∷◌, ◌++◌, Bool, true, false, cond, not, ◌&&◌, ◌||◌, Option, Some, None, map, length, take, get_or, refl, sym, ap, ◌∙◌, arith}
+use Rattle.std.specs.Prelude.{nat_eq, nat_lt, All}
+use Rattle.std.specs.List.{filter, flat_map, list_any}
+use Rattle.std.specs.Str.{bytes_eq}
+use Rattle.std.proofs.Math.Nat.{mul-mod_left}
+use Rattle.std.proofs.lemmas.Bool.{lt-ltb, eq-eqb, eqb-true}
+use Rattle.std.proofs.lemmas.Bool.Decides.{nat_tests}
+use Rattle.std.proofs.lemmas.List.{take_at, length-append, length-drop, length-take}
+use Rattle.std.proofs.lemmas.List.Elements.{All-cons, All-filter, All-head, All-map, All-tail, All-weaker}
+use Rattle.std.proofs.lemmas.Slice.Eq.{bytes_eq-Decides}
+use Rattle.cluster_slots.specs.KeySlot.{key_slot}
+use Rattle.cluster_slots.specs.RouteTo.{RouteTo}
+use Rattle.redis_commands.specs.Upper.{upper}
+use Rattle.redis_commands.specs.TwoWords.{takes_second}
+use Rattle.redis_commands.specs.Command.{Arguments, argument, command_of, in_upper_case, name_by, with_second}
+use Rattle.redis_commands.specs.Table.{lookup}
+use Rattle.redis_commands.specs.Ways.{ways, way_in}
+use Rattle.redis_commands.specs.Run.{front, run_of}
+use Rattle.redis_commands.specs.Tuples.{Tuple, fits, keys_alone, keys_and_two, keys_and_values, own_count, shared_in, tuples_from, tuples_in, width_of, words_of}
+use Rattle.redis_routing.specs.Parts.{firsts, part, part_of, part_words, slot_of}
+use Rattle.redis_commands.specs.Policies.{policy_of}
+use Rattle.redis_routing.specs.Routing.{by_way, nodes_for, route_to, routes_of, routing, routing_of, to_parts, to_slots}
+use Rattle.redis_routing.specs.Target.{single, specific}
+use Rattle.redis_routing.specs.Laws.{ArePartsRouted}
+use Rattle.redis_commands.specs.declared.policy.ResponsePolicy.{ResponsePolicy}
+use Rattle.redis_commands.specs.declared.ways.MultiSlotArgPattern.{MultiSlotArgPattern}
+use Rattle.redis_commands.specs.declared.ways.MultiSlotArgPattern.TheVariants.{KeysOnly, KeyValuePairs, KeysAndLastArg, KeyWithTwoArgTriples}
+use Rattle.redis_commands.specs.declared.ways.Way.{Way}
+use Rattle.redis_commands.specs.declared.ways.Way.TheVariants as way
+use Rattle.redis_commands.proofs.CommandNames.{one_word}
+
+by_test : {P : Type 0} (b : Bool) → (b ≡ true → P) → (b ≡ false → P) → P
+by_test true f g = f refl
+by_test false f g = g refl
+
+or_true : (a b : Bool) → b ≡ true → (a || b) ≡ true
+or_true true b h = refl
+or_true false b h = h
+
+-- a name of one word, to which no second one belongs
+abbrev is_plain : List ℕ → Bool
+is_plain name = not (takes_second name || list_any (nat_eq 32) name)
+
+abbrev plain_if_split : List ℕ → Option Way → Bool
+plain_if_split name (Some (way.MultiSlot pattern)) = is_plain name
+plain_if_split name _ = true
+
+all_plain : (rows : List (List ℕ × Way)) → map (λ row. plain_if_split row.0 (Some row.1)) rows ≡ map (λ row. true) rows → (name : List ℕ) → plain_if_split name (lookup rows name) ≡ true
+all_plain [] each name = refl
+all_plain (row ∷ rows) each name =
+    by_test (bytes_eq row.0 name)
+    (λ equal. let first : plain_if_split row.0 (Some row.1) ≡ true = cc each in
+    rw equal (ap (λ n. plain_if_split n (Some row.1)) (sym ((bytes_eq-Decides row.0 name).0 equal)) ∙ first))
+    (λ unlike. let rest : map (λ row. plain_if_split row.0 (Some row.1)) rows ≡ map (λ row. true) rows = cc each in rw unlike (all_plain rows rest name))
+
+ways_plain : (name : List ℕ) → plain_if_split name (way_in name) ≡ true
+unfolding way_in takes_second
+ways_plain name = all_plain ways refl name
+
+space_between : (first second : List ℕ) → list_any (nat_eq 32) (first ++ 32 ∷ second) ≡ true
+space_between [] second = refl
+space_between (c ∷ first) second = or_true (nat_eq 32 c) _ (space_between first second)
+
+not_plain : (first : List ℕ) (second : Option (List ℕ)) → takes_second first ≡ true → is_plain (with_second first second) ≡ false
+not_plain first None takes = rw takes refl
+not_plain first (Some second) takes = ap not (or_true (takes_second (first ++ 32 ∷ second)) _ (space_between first second))
+
+-- no second word belongs to the first one of a plain name
+takes_none : (first : List ℕ) (second : Option (List ℕ)) → is_plain (name_by first second) ≡ true → takes_second first ≡ false
+takes_none first second plain =
+    by_test (takes_second first)
+    (λ takes. let short : is_plain (with_second first second) ≡ true = rw takes at plain in absurd (cc (short, not_plain first second takes)))
+    (λ takes. takes)
+
+-- the name of a split command is that of its first word, whatever follows
+same_name : (first name : List ℕ) (rest other : Arguments) (pattern : MultiSlotArgPattern) → Some name ≡ command_of (Some first ∷ rest) → way_in name ≡ Some (way.MultiSlot pattern) → command_of (Some first ∷ other) ≡ Some name
+same_name first name rest other pattern named way_is =
+    let second : Option (List ℕ) = in_upper_case (argument (Some first ∷ rest) 1) in
+    let name_is : name ≡ name_by (upper first) second = cc named in
+    let plain : is_plain name ≡ true = sym (ap (plain_if_split name) way_is) ∙ ways_plain name in
+    let takes : takes_second (upper first) ≡ false = takes_none (upper first) second (sym (ap is_plain name_is) ∙ plain) in
+    sym (named ∙ sym (one_word (Some first ∷ rest) first refl (sym takes)) ∙ one_word (Some first ∷ other) first refl (sym takes))
+
+front-map : (words : List (List ℕ)) → front (map Some words) ≡ words
+front-map [] = refl
+front-map (word ∷ words) = ap (λ ws. word ∷ ws) (front-map words)
+
+first_again : (slot : ℕ) (more : Bool) → slot ∷ filter (λ n. not (nat_eq slot n)) (cond more (slot ∷ []) []) ≡ slot ∷ []
+first_again slot true = rw (eq-eqb slot slot refl) refl
+first_again slot false = refl
+
+-- a part has one slot, unless it is empty
+firsts-part : (slot : ℕ) (ts : List Tuple) → firsts (map slot_of (part slot ts)) ≡ cond (list_any (λ t. nat_eq (slot_of t) slot) ts) (slot ∷ []) []
+firsts-part slot [] = refl
+firsts-part slot (t ∷ ts) =
+    by_test (nat_eq (slot_of t) slot)
+    (λ here. let same : slot_of t ≡ slot = eqb-true (slot_of t) slot here in
+    rw here (ap (λ ns. slot_of t ∷ filter (λ n. not (nat_eq (slot_of t) n)) ns) (firsts-part slot ts)
+    ∙ ap (λ k. k ∷ filter (λ n. not (nat_eq k n)) (cond (list_any (λ u. nat_eq (slot_of u) slot) ts) (slot ∷ []) [])) same
+    ∙ first_again slot (list_any (λ u. nat_eq (slot_of u) slot) ts)))
+    (λ other. rw other (firsts-part slot ts))
+
+some_tuple : (slot : ℕ) (ts : List Tuple) → firsts (map slot_of ts) ≡ slot ∷ [] → 0 < length ts
+some_tuple slot [] h = cc h
+some_tuple slot (t ∷ ts) h = omega arith
+
+-- tuples of one width: their arguments, one after another, make tuples of the same slots again; and there are no more of them than the bound
+record IsWhole (make : ℕ → List (List ℕ) → List Tuple) (width bound : ℕ) (ts : List Tuple) : Type 0 where
+  slots : (place : ℕ) → map slot_of (make place (flat_map words_of ts)) ≡ map slot_of ts
+  size : length (flat_map words_of ts) ≡ length ts * width
+  few : length ts ≤ bound
+
+wider : (make : ℕ → List (List ℕ) → List Tuple) (width bound other : ℕ) (ts : List Tuple) → bound ≤ other → IsWhole make width bound ts → IsWhole make width other ts
+wider make width bound other ts within whole = record { slots = whole.slots; size = whole.size; few = omega (arith, whole.few) }
+
+-- a part keeps a tuple or drops it
+kept_or_not : (P : List Tuple → Type 0) (slot : ℕ) (t : Tuple) (ts : List Tuple) → P (part slot ts) → P (t ∷ part slot ts) → P (part slot (t ∷ ts))
+kept_or_not P slot t ts dropped kept = by_test (nat_eq (slot_of t) slot) (λ here. rw here kept) (λ other. rw other dropped)
+
+whole_alone : (slot place : ℕ) (run : List (List ℕ)) → IsWhole keys_alone 1 (length run) (part slot (keys_alone place run))
+whole_alone slot place [] = record { slots = λ p. refl; size = refl; few = omega arith }
+whole_alone slot place (key ∷ run) =
+    let rest = whole_alone slot (place + 1) run in
+    kept_or_not (IsWhole keys_alone 1 (suc (length run))) slot (record { place = place; key = key; extras = [] }) (keys_alone (place + 1) run)
+    (wider keys_alone 1 (length run) (suc (length run)) _ (omega arith) rest)
+    (record { slots = λ p. ap (λ ns. key_slot key ∷ ns) (rest.slots (p + 1)); size = omega (arith, rest.size); few = omega (arith, rest.few) })
+
+whole_values : (slot place : ℕ) (run : List (List ℕ)) → IsWhole keys_and_values 2 (length run) (part slot (keys_and_values place run))
+whole_values slot place [] = record { slots = λ p. refl; size = refl; few = omega arith }
+whole_values slot place (key ∷ []) = record { slots = λ p. refl; size = refl; few = omega arith }
+whole_values slot place (key ∷ value ∷ run) =
+    let rest = whole_values slot (place + 2) run in
+    kept_or_not (IsWhole keys_and_values 2 (suc (suc (length run)))) slot (record { place = place; key = key; extras = value ∷ [] }) (keys_and_values (place + 2) run)
+    (wider keys_and_values 2 (length run) (suc (suc (length run))) _ (omega arith) rest)
+    (record { slots = λ p. ap (λ ns. key_slot key ∷ ns) (rest.slots (p + 2)); size = omega (arith, rest.size); few = omega (arith, rest.few) })
+
+whole_two : (slot place : ℕ) (run : List (List ℕ)) → IsWhole keys_and_two 3 (length run) (part slot (keys_and_two place run))
+whole_two slot place [] = record { slots = λ p. refl; size = refl; few = omega arith }
+whole_two slot place (key ∷ []) = record { slots = λ p. refl; size = refl; few = omega arith }
+whole_two slot place (key ∷ a ∷ []) = record { slots = λ p. refl; size = refl; few = omega arith }
+whole_two slot place (key ∷ a ∷ b ∷ run) =
+    let rest = whole_two slot (place + 3) run in
+    kept_or_not (IsWhole keys_and_two 3 (suc (suc (suc (length run))))) slot (record { place = place; key = key; extras = a ∷ b ∷ [] }) (keys_and_two (place + 3) run)
+    (wider keys_and_two 3 (length run) (suc (suc (suc (length run)))) _ (omega arith) rest)
+    (record { slots = λ p. ap (λ ns. key_slot key ∷ ns) (rest.slots (p + 3)); size = omega (arith, rest.size); few = omega (arith, rest.few) })
+
+whole : (pattern : MultiSlotArgPattern) (slot place : ℕ) (run : List (List ℕ)) → IsWhole (tuples_from pattern) (width_of pattern) (length run) (part slot (tuples_from pattern place run))
+whole KeysOnly slot place run = whole_alone slot place run
+whole KeyValuePairs slot place run = whole_values slot place run
+whole KeysAndLastArg slot place run = whole_alone slot place run
+whole KeyWithTwoArgTriples slot place run = whole_two slot place run
+
+-- where n of the tuples of m arguments stand before what all share, what makes tuples is again what those n have
+own_again : (pattern : MultiSlotArgPattern) (m n : ℕ) → 0 < n → n ≤ own_count pattern m → own_count pattern (n * width_of pattern + (m - own_count pattern m)) ≡ n * width_of pattern
+own_again KeysOnly m n some few = omega arith
+own_again KeyValuePairs m n some few = omega arith
+own_again KeysAndLastArg m n some few = grind (arith, nat_tests)
+own_again KeyWithTwoArgTriples m n some few = omega arith
+
+-- so many arguments are those of whole tuples
+whole_fits : (k n width : ℕ) → 0 < k → k ≡ n * width → (nat_lt 0 k && nat_eq (k % width) 0) ≡ true
+whole_fits k n width some is = rw (lt-ltb 0 k some, eq-eqb (k % width) 0 (ap (λ j. j % width) is ∙ mul-mod_left n width)) refl
+
+fits_again : (pattern : MultiSlotArgPattern) (m n : ℕ) → 0 < n → fits pattern (n * width_of pattern + (m - own_count pattern m)) ≡ true
+fits_again KeysOnly m n some = lt-ltb 0 (n * 1 + (m - m)) (omega arith)
+fits_again KeyValuePairs m n some = whole_fits (n * 2 + (m - m)) n 2 (omega arith) (omega arith)
+fits_again KeysAndLastArg m n some = lt-ltb 0 (n * 1 + (m - own_count KeysAndLastArg m)) (omega arith)
+fits_again KeyWithTwoArgTriples m n some = whole_fits (n * 3 + (m - m)) n 3 (omega arith) (omega arith)
+
+module _ (pattern : MultiSlotArgPattern) (run : List (List ℕ)) (slot : ℕ) (there : list_any (λ t. nat_eq (slot_of t) slot) (tuples_in pattern run) ≡ true) where
+  abbrev kept : List Tuple
+  kept = part slot (tuples_in pattern run)
+
+  abbrev words : List (List ℕ)
+  words = part_words pattern run slot
+
+  one_slot : firsts (map slot_of kept) ≡ slot ∷ []
+  one_slot = firsts-part slot (tuples_in pattern run) ∙ ap (λ b. cond b (slot ∷ []) []) there
+
+  made : IsWhole (tuples_from pattern) (width_of pattern) (length (take (own_count pattern (length run)) run)) kept
+  made = whole pattern slot 0 (take (own_count pattern (length run)) run)
+
+  length-words : length words ≡ length kept * width_of pattern + (length run - own_count pattern (length run))
+  length-words = length-append (flat_map words_of kept) (shared_in pattern run) ∙ ap (λ n. n + length (shared_in pattern run)) made.size ∙ ap (λ n. length kept * width_of pattern + n) (length-drop (own_count pattern (length run)) run)
+
+  own-words : own_count pattern (length words) ≡ length (flat_map words_of kept)
+  own-words =
+      ap (own_count pattern) length-words
+      ∙ own_again pattern (length run) (length kept) (some_tuple slot kept one_slot) (omega (arith, made.few, length-take (own_count pattern (length run)) run))
+      ∙ sym made.size
+
+  -- all tuples of the part by itself have the slot
+  one_slot_again : firsts (map slot_of (tuples_in pattern words)) ≡ slot ∷ []
+  one_slot_again =
+      ap (λ own. firsts (map slot_of (tuples_from pattern 0 own))) (take_at (flat_map words_of kept) (shared_in pattern run) (own_count pattern (length words)) (sym own-words))
+      ∙ ap firsts (made.slots 0) ∙ one_slot
+
+  part_to_slot : (reads : Bool) (policy : Option ResponsePolicy) → to_slots reads policy pattern words ≡ Some (single (specific (record { slot = slot; addr = nodes_for reads })))
+  part_to_slot reads policy =
+      ap (λ b. cond b (Some (to_parts pattern policy (routes_of reads pattern words))) None) (ap (fits pattern) length-words ∙ fits_again pattern (length run) (length kept) (some_tuple slot kept one_slot))
+      ∙ ap (λ slots. Some (to_parts pattern policy (map (route_to reads pattern words) slots))) one_slot_again
+
+-- each tuple is one of those with its slot
+all_there : (ts : List Tuple) → All (λ t. list_any (λ u. nat_eq (slot_of u) (slot_of t)) ts ≡ true) ts
+all_there [] k d inside = absurd (omega arith)
+all_there (t ∷ ts) zero d inside = rw (eq-eqb (slot_of t) (slot_of t) refl) refl
+all_there (t ∷ ts) (suc k) d inside = or_true (nat_eq (slot_of t) (slot_of (get_or ts k d))) _ (all_there ts k d (omega arith))
+
+All-firsts : (P : ℕ → Type 0) (ns : List ℕ) → All P ns → All P (firsts ns)
+All-firsts P [] all = all
+All-firsts P (n ∷ ns) all = All-cons P n _ (All-head P n ns all) (All-filter (λ k. not (nat_eq n k)) P (firsts ns) (All-firsts P ns (All-tail P n ns all)))
+
+-- a part of a command whose first word is there
+part_routed : (only_reads : List ℕ → Bool) (first name : List ℕ) (rest : Arguments) (pattern : MultiSlotArgPattern) → Some name ≡ command_of (Some first ∷ rest) → way_in name ≡ Some (way.MultiSlot pattern)
+    → (slot : ℕ) → list_any (λ t. nat_eq (slot_of t) slot) (tuples_in pattern (run_of (Some first ∷ rest))) ≡ true
+    → routing only_reads (part_of pattern (Some first ∷ rest) slot) ≡ Some (single (specific (record { slot = slot; addr = nodes_for (only_reads name) })))
+part_routed only_reads first name rest pattern named way_is slot there =
+    let words : List (List ℕ) = part_words pattern (run_of (Some first ∷ rest)) slot in
+    let as_command : Arguments = Some first ∷ map Some words in
+    ap (routing_of only_reads as_command) (same_name first name rest (map Some words) pattern named way_is)
+    ∙ ap (by_way (only_reads name) name as_command) way_is
+    ∙ ap (to_slots (only_reads name) (policy_of name) pattern) (front-map words)
+    ∙ part_to_slot pattern (run_of (Some first ∷ rest)) slot there (only_reads name) (policy_of name)
+
+pub parts_routed : (only_reads : List ℕ → Bool) (args : Arguments) (name : List ℕ) (pattern : MultiSlotArgPattern) → Some name ≡ command_of args → way_in name ≡ Some (way.MultiSlot pattern) → fits pattern (length (run_of args)) ≡ true → ArePartsRouted only_reads args pattern (routes_of (only_reads name) pattern (run_of args))
+parts_routed only_reads [] name pattern named way_is fit = cc named
+parts_routed only_reads (None ∷ rest) name pattern named way_is fit = cc named
+parts_routed only_reads (Some first ∷ rest) name pattern named way_is fit =
+    let run : List (List ℕ) = run_of (Some first ∷ rest) in
+    let ts : List Tuple = tuples_in pattern run in
+    let Routed : RouteTo × List ℕ → Type 0 = λ r. routing only_reads (part_of pattern (Some first ∷ rest) r.0.slot) ≡ Some (single (specific r.0)) in
+    let There : ℕ → Type 0 = λ slot. list_any (λ t. nat_eq (slot_of t) slot) ts ≡ true in
+    All-map Routed (route_to (only_reads name) pattern run) (firsts (map slot_of ts))
+    (All-weaker There (λ slot. Routed (route_to (only_reads name) pattern run slot)) (part_routed only_reads first name rest pattern named way_is) (firsts (map slot_of ts))
+    (All-firsts There (map slot_of ts) (All-map There slot_of ts (all_there ts))))

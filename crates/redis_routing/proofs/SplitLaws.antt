@@ -1,0 +1,84 @@
+-- The laws of split commands, for whatever a command is routed to.
+use Rattle.std.proofs.Common.{◌≡◌, ℕ, zero, suc, List, [], ◌∷◌, Bool, true, false, Option, None, Some, length, refl, ap, ◌∙◌}
+use Rattle.std.specs.Prelude.{nat_lt}
+use Rattle.cluster_slots.specs.RouteTo.{RouteTo}
+use Rattle.redis_commands.specs.Command.{Arguments, argument, command_of}
+use Rattle.redis_routing.specs.Laws.{Covers, ArePartsRouted, ArePartsPicked, IfSplit}
+use Rattle.redis_commands.specs.Policies.{policy_of}
+use Rattle.redis_routing.specs.Routing.{to_key, by_count, to_key_or_any, to_key_after, to_slot, routes_of, to_parts, to_slots, by_way, number_at}
+use Rattle.redis_commands.specs.Run.{run_of}
+use Rattle.redis_commands.specs.Tuples.{fits}
+use Rattle.redis_commands.specs.Ways.{way_in}
+use Rattle.redis_commands.specs.declared.policy.ResponsePolicy.{ResponsePolicy}
+use Rattle.redis_commands.specs.declared.ways.MultiSlotArgPattern.{MultiSlotArgPattern}
+use Rattle.redis_commands.specs.declared.ways.Way.{Way}
+use Rattle.redis_commands.specs.declared.ways.Way.TheVariants as way
+use Rattle.redis_routing.proofs.Cover.{covers}
+use Rattle.redis_routing.proofs.Picks.{parts_picked}
+use Rattle.redis_routing.proofs.SelfRouting.{parts_routed}
+
+by_test : {P : Type 0} (b : Bool) → (b ≡ true → P) → (b ≡ false → P) → P
+by_test true f g = f refl
+by_test false f g = g refl
+
+-- a fact of the routes of every split, from that of the splits by pattern
+module _ (P : MultiSlotArgPattern → List (RouteTo × List ℕ) → Type 0) (args : Arguments) (reads : Bool) (name : List ℕ) where
+  of_key : (key : Option (List ℕ)) → IfSplit P (to_key reads key)
+  of_key None = tt
+  of_key (Some key) = tt
+
+  of_count : (count : Option ℕ) (key : Option (List ℕ)) → IfSplit P (by_count reads count key)
+  of_count None key = tt
+  of_count (Some zero) key = tt
+  of_count (Some (suc n)) key = of_key key
+
+  of_key_or_any : (key : Option (List ℕ)) → IfSplit P (to_key_or_any reads key)
+  of_key_or_any None = tt
+  of_key_or_any (Some key) = tt
+
+  of_key_after : (place : Option ℕ) → IfSplit P (to_key_after reads args place)
+  of_key_after None = tt
+  of_key_after (Some place) = of_key _
+
+  of_slot : (number : Option ℕ) → IfSplit P (to_slot number)
+  of_slot None = tt
+  of_slot (Some n) = by_test (nat_lt n 16384) (λ h. rw h tt) (λ h. rw h tt)
+
+  of_parts : (pattern : MultiSlotArgPattern) (policy : Option ResponsePolicy) (routes : List (RouteTo × List ℕ)) → P pattern routes → IfSplit P (Some (to_parts pattern policy routes))
+  of_parts pattern policy [] h = h
+  of_parts pattern policy (only ∷ []) h = tt
+  of_parts pattern policy (route ∷ other ∷ routes) h = h
+
+  of_slots : (pattern : MultiSlotArgPattern) → (fits pattern (length (run_of args)) ≡ true → P pattern (routes_of reads pattern (run_of args))) → IfSplit P (to_slots reads (policy_of name) pattern (run_of args))
+  of_slots pattern h = by_test (fits pattern (length (run_of args)))
+      (λ whole. rw whole (of_parts pattern (policy_of name) (routes_of reads pattern (run_of args)) (h whole)))
+      (λ broken. rw broken tt)
+
+  of_way : (w : Option Way) → ((pattern : MultiSlotArgPattern) → w ≡ Some (way.MultiSlot pattern) → fits pattern (length (run_of args)) ≡ true → P pattern (routes_of reads pattern (run_of args))) → IfSplit P (by_way reads name args w)
+  of_way None h = of_key_or_any _
+  of_way (Some way.AllNodes) h = tt
+  of_way (Some way.AllMasters) h = tt
+  of_way (Some (way.MultiSlot pattern)) h = of_slots pattern (h pattern refl)
+  of_way (Some way.Undefined) h = tt
+  of_way (Some (way.CountAt n)) h = of_count _ _
+  of_way (Some (way.KeyAt n)) h = of_key _
+  of_way (Some way.KeyAfterStreams) h = of_key_after _
+  of_way (Some way.Random) h = tt
+  of_way (Some way.SlotAtTwo) h = of_slot (number_at 16 (argument args 2))
+
+-- the cover law
+pub split_covers : (only_reads : List ℕ → Bool) (args : Arguments) (name : List ℕ) → IfSplit (λ pattern routes. Covers pattern (run_of args) routes) (by_way (only_reads name) name args (way_in name))
+split_covers only_reads args name = of_way _ args (only_reads name) name (way_in name) (λ pattern is whole. covers (only_reads name) pattern (run_of args) whole)
+
+-- the self-routing law
+pub split_parts : (only_reads : List ℕ → Bool) (args : Arguments) (name : List ℕ) → Some name ≡ command_of args → IfSplit (λ pattern routes. ArePartsRouted only_reads args pattern routes) (by_way (only_reads name) name args (way_in name))
+split_parts only_reads args name named = of_way _ args (only_reads name) name (way_in name) (λ pattern is whole. parts_routed only_reads args name pattern named is whole)
+
+-- the parts by their places
+pub split_picked : (only_reads : List ℕ → Bool) (args : Arguments) (name : List ℕ) → Some name ≡ command_of args → IfSplit (λ pattern routes. ArePartsPicked args pattern routes) (by_way (only_reads name) name args (way_in name))
+split_picked only_reads args name named = of_way _ args (only_reads name) name (way_in name) (λ pattern is whole. parts_picked args name (only_reads name) pattern named whole)
+
+-- the way of a command by its name as it is held in several places
+pub same_by_way : (only_reads : List ℕ → Bool) (args : Arguments) (name read looked : List ℕ) (reads : Bool) → read ≡ name → looked ≡ name → reads ≡ only_reads read → by_way reads looked args (way_in looked) ≡ by_way (only_reads name) name args (way_in name)
+same_by_way only_reads args name read looked reads read-is looked-is reads-is =
+    ap (λ r. by_way r looked args (way_in looked)) (reads-is ∙ ap only_reads read-is) ∙ ap (λ n. by_way (only_reads name) n args (way_in n)) looked-is

@@ -1,0 +1,44 @@
+-- Laws of split commands.
+use Rattle.std.specs.Prelude.{◌≡◌, ◌<◌, ◌≤◌, ℕ, Bool, List, Option, Some, None, All, map, option_map, nat_eq, count_by, length}
+use Rattle.std.specs.List.{list_any}
+use Rattle.std.specs.List.Sorted.{IsStrictlySortedBy}
+use Rattle.std.specs.Ordering.{nat_cmp}
+use Rattle.cluster_slots.specs.RouteTo.{RouteTo}
+use Rattle.redis_commands.specs.Command.{Arguments}
+use Rattle.redis_commands.specs.Tuples.{own_count}
+use Rattle.redis_routing.specs.Parts.{part_of}
+use Rattle.redis_routing.specs.Routing.{routing}
+use Rattle.redis_routing.specs.SubCommand.{sub_command}
+use Rattle.redis_routing.specs.Target.{Target, Multiple, specific, all_nodes, all_masters, split, single, multiple}
+use Rattle.redis_commands.specs.declared.ways.MultiSlotArgPattern.{MultiSlotArgPattern}
+
+-- how many of the lists have the place
+abbrev pub lists_with : ℕ → List (RouteTo × List ℕ) → ℕ
+lists_with place routes = count_by (λ r. list_any (nat_eq place) r.1) routes
+
+-- The cover law: each slot has one route, and the lists of the routes ascend and share out the places of the run, of which a shared one stands in each.
+pub record Covers (pattern : MultiSlotArgPattern) (run : List (List ℕ)) (routes : List (RouteTo × List ℕ)) : Type 0 where
+  pub slots : (slot : ℕ) → count_by (λ r. nat_eq slot r.0.slot) routes ≤ 1
+  pub ascending : All (λ r. IsStrictlySortedBy nat_cmp r.1) routes
+  pub once : (place : ℕ) → place < own_count pattern (length run) → lists_with place routes ≡ 1
+  pub shared : (place : ℕ) → own_count pattern (length run) ≤ place → place < length run → lists_with place routes ≡ length routes
+  pub within : (place : ℕ) → length run ≤ place → lists_with place routes ≡ 0
+
+-- The self-routing law: the part of each route, as a command of its own, goes to that very route.
+abbrev pub ArePartsRouted : (List ℕ → Bool) → Arguments → MultiSlotArgPattern → List (RouteTo × List ℕ) → Type 0
+ArePartsRouted only_reads args pattern routes = All (λ r. routing only_reads (part_of pattern args r.0.slot) ≡ Some (single (specific r.0))) routes
+
+-- The sub-command of the places of each route is the part of its slot.
+abbrev pub ArePartsPicked : Arguments → MultiSlotArgPattern → List (RouteTo × List ℕ) → Type 0
+ArePartsPicked args pattern routes = All (λ r. option_map (map Some) (sub_command args r.1) ≡ Some (part_of pattern args r.0.slot)) routes
+
+-- what holds of the routes of a split, if it is one
+abbrev pub IfSplitTo : (MultiSlotArgPattern → List (RouteTo × List ℕ) → Type 0) → Multiple → Type 0
+IfSplitTo P all_nodes = Unit {0}
+IfSplitTo P all_masters = Unit {0}
+IfSplitTo P (split routes pattern) = P pattern routes
+
+abbrev pub IfSplit : (MultiSlotArgPattern → List (RouteTo × List ℕ) → Type 0) → Option Target → Type 0
+IfSplit P None = Unit {0}
+IfSplit P (Some (single to)) = Unit {0}
+IfSplit P (Some (multiple to policy)) = IfSplitTo P to

@@ -1,0 +1,15 @@
+pub use Rattle.redis_commands.specs.Command
+pub use Rattle.redis_commands.specs.Policies
+pub use Rattle.redis_commands.specs.ReadOnly
+pub use Rattle.redis_commands.specs.Run
+pub use Rattle.redis_commands.specs.Tuples
+pub use Rattle.redis_commands.specs.Ways
+pub use Rattle.resp_core.specs.Fault
+pub mod Complete
+pub mod Groups
+pub mod Laws
+pub mod Parts
+pub mod Plan
+pub mod Routing
+pub mod SubCommand
+pub mod Target

@@ -1,0 +1,91 @@
+-- Routing: where a command goes, by the way of its name.
+use Rattle.std.specs.Prelude.{◌+◌, ℕ, zero, suc, Bool, cond, List, [], ◌∷◌, map, length, Option, None, Some, codes, position, nat_lt, option_map}
+use Rattle.cluster_slots.specs.KeySlot.{key_slot}
+use Rattle.cluster_slots.specs.Number.{number_in}
+use Rattle.cluster_slots.specs.RouteTo.{RouteTo}
+use Rattle.cluster_slots.specs.declared.slot.SlotAddr.{SlotAddr}
+use Rattle.cluster_slots.specs.declared.slot.SlotAddr.TheVariants.{Master, ReplicaOptional}
+use Rattle.redis_commands.specs.Command.{Arguments, argument, command_of, is_word}
+use Rattle.redis_commands.specs.Run.{run_of}
+use Rattle.redis_commands.specs.Tuples.{tuples_in, fits}
+use Rattle.redis_routing.specs.Parts.{slot_of, firsts, part_places}
+use Rattle.redis_routing.specs.Target.{Target, random, specific, all_nodes, all_masters, split, single, multiple}
+use Rattle.redis_commands.specs.Ways.{way_in}
+use Rattle.redis_commands.specs.Policies.{policy_of}
+use Rattle.redis_commands.specs.declared.policy.ResponsePolicy.{ResponsePolicy}
+use Rattle.redis_commands.specs.declared.ways.MultiSlotArgPattern.{MultiSlotArgPattern}
+use Rattle.redis_commands.specs.declared.ways.Way.{Way}
+use Rattle.redis_commands.specs.declared.ways.Way.TheVariants as way
+
+-- which nodes of a key's slot: a replica too, where the command only reads
+abbrev pub nodes_for : Bool → SlotAddr
+nodes_for reads = cond reads ReplicaOptional Master
+
+-- to the slot of the key, if the key is there
+abbrev pub to_key : Bool → Option (List ℕ) → Option Target
+to_key reads key = option_map (λ k. single (specific (record { slot = key_slot k; addr = nodes_for reads }))) key
+
+-- by the count of keys and the key behind it: no key, any node
+abbrev pub by_count : Bool → Option ℕ → Option (List ℕ) → Option Target
+by_count reads None key = None
+by_count reads (Some zero) key = Some (single random)
+by_count reads (Some (suc n)) key = to_key reads key
+
+-- to the slot of the key, or to any node where there is none
+abbrev pub to_key_or_any : Bool → Option (List ℕ) → Option Target
+to_key_or_any reads None = Some (single random)
+to_key_or_any reads (Some key) = to_key reads (Some key)
+
+-- to the key at the place after this one
+abbrev pub to_key_after : Bool → Arguments → Option ℕ → Option Target
+to_key_after reads args None = None
+to_key_after reads args (Some place) = to_key reads (argument args (place + 1))
+
+-- to the primary of the slot of this number, if it is a slot's
+abbrev pub to_slot : Option ℕ → Option Target
+to_slot None = None
+to_slot (Some n) = cond (nat_lt n 16384) (Some (single (specific (record { slot = n; addr = Master })))) None
+
+-- what an argument writes as a number of so many bits
+abbrev pub number_at : ℕ → Option (List ℕ) → Option ℕ
+number_at bits None = None
+number_at bits (Some text) = number_in bits text
+
+-- the route of a slot, and the places of its part
+abbrev pub route_to : Bool → MultiSlotArgPattern → List (List ℕ) → ℕ → RouteTo × List ℕ
+route_to reads pattern run slot = (record { slot = slot; addr = nodes_for reads }, part_places pattern run slot)
+
+-- one route for each slot of a key, by the first key of each
+abbrev pub routes_of : Bool → MultiSlotArgPattern → List (List ℕ) → List (RouteTo × List ℕ)
+routes_of reads pattern run = map (route_to reads pattern run) (firsts (map slot_of (tuples_in pattern run)))
+
+-- to one node, where all keys have one slot, or else to a node of each slot
+abbrev pub to_parts : MultiSlotArgPattern → Option ResponsePolicy → List (RouteTo × List ℕ) → Target
+to_parts pattern policy [] = multiple (split [] pattern) policy
+to_parts pattern policy (only ∷ []) = single (specific only.0)
+to_parts pattern policy (route ∷ other ∷ routes) = multiple (split (route ∷ other ∷ routes) pattern) policy
+
+-- to the slots of the keys, if the run makes whole tuples
+abbrev pub to_slots : Bool → Option ResponsePolicy → MultiSlotArgPattern → List (List ℕ) → Option Target
+to_slots reads policy pattern run = cond (fits pattern (length run)) (Some (to_parts pattern policy (routes_of reads pattern run))) None
+
+-- where a command goes by the way of its name
+abbrev pub by_way : Bool → List ℕ → Arguments → Option Way → Option Target
+by_way reads name args None = to_key_or_any reads (argument args 1)
+by_way reads name args (Some way.AllNodes) = Some (multiple all_nodes (policy_of name))
+by_way reads name args (Some way.AllMasters) = Some (multiple all_masters (policy_of name))
+by_way reads name args (Some (way.MultiSlot pattern)) = to_slots reads (policy_of name) pattern (run_of args)
+by_way reads name args (Some way.Undefined) = None
+by_way reads name args (Some (way.CountAt n)) = by_count reads (number_at 64 (argument args n)) (argument args (n + 1))
+by_way reads name args (Some (way.KeyAt n)) = to_key reads (argument args n)
+by_way reads name args (Some way.KeyAfterStreams) = to_key_after reads args (position (is_word (codes "STREAMS")) args)
+by_way reads name args (Some way.Random) = Some (single random)
+by_way reads name args (Some way.SlotAtTwo) = to_slot (number_at 16 (argument args 2))
+
+-- where a command of this name goes, under a set of names that only read
+abbrev pub routing_of : (List ℕ → Bool) → Arguments → Option (List ℕ) → Option Target
+routing_of only_reads args None = None
+routing_of only_reads args (Some name) = by_way (only_reads name) name args (way_in name)
+
+abbrev pub routing : (List ℕ → Bool) → Arguments → Option Target
+routing only_reads args = routing_of only_reads args (command_of args)

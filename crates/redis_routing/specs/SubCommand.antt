@@ -1,0 +1,13 @@
+-- A part of a command as a command of its own, by the places of its arguments.
+use Rattle.std.specs.Prelude.{ℕ, ◌+◌, List, [], ◌∷◌, Option, None, Some, map, option_map}
+use Rattle.redis_commands.specs.Command.{Arguments, argument}
+
+-- the texts, if none of them is a gap
+abbrev pub all_texts : Arguments → Option (List (List ℕ))
+all_texts [] = Some []
+all_texts (None ∷ args) = None
+all_texts (Some arg ∷ args) = option_map (λ texts. arg ∷ texts) (all_texts args)
+
+-- the first argument and those at these places behind it, if they are all there
+abbrev pub sub_command : Arguments → List ℕ → Option (List (List ℕ))
+sub_command args places = all_texts (argument args 0 ∷ map (λ place. argument args (place + 1)) places)

@@ -1,0 +1,126 @@
+ghost use Rattle.std.specs.Prelude.{◌≡◌, IfOk};
+ghost use Rattle.redis_routing.specs.Target.{parts_of};
+
+use cluster_slots::{NodeAddress, Route};
+use redis_commands::{MultiSlotArgPattern, ResponsePolicy};
+use std::alloc::AllocError;
+
+/// Where a node sent the client on to.
+#[derive(Clone, Debug, PartialEq, Eq, Drop)]
+pub enum Redirect {
+    /// The slot is served there from now on.
+    Moved(NodeAddress),
+    /// This command alone is to be sent there, after `ASKING`.
+    Ask(NodeAddress),
+}
+
+/// Where a command goes.
+#[derive(Debug, PartialEq, Eq, Drop)]
+pub enum RoutingInfo {
+    /// To one node.
+    SingleNode(SingleNodeRoutingInfo),
+    /// To several nodes; the policy says how their replies make one, where the layer knows.
+    MultiNode((MultipleNodeRoutingInfo, Option<ResponsePolicy>)),
+}
+
+/// The one node that a command goes to.
+#[derive(Debug, PartialEq, Eq, Drop)]
+pub enum SingleNodeRoutingInfo {
+    /// Any node will do.
+    Random,
+    /// Any primary will do.
+    RandomPrimary,
+    /// A node of the route's slot.
+    SpecificNode(Route),
+    /// The node at this address.
+    ByAddress { host: String, port: u16 },
+}
+
+/// The nodes that a command goes to.
+#[derive(Debug, PartialEq, Eq, Drop)]
+pub enum MultipleNodeRoutingInfo {
+    /// Each node.
+    AllNodes,
+    /// Each primary.
+    AllMasters,
+    /// Each route gets the part of the command that these places are, counted from 0 after the
+    /// name, under the pattern.
+    MultiSlot((Vec<(Route, Vec<usize>)>, MultiSlotArgPattern)),
+}
+
+/// A command with no route goes to any node.
+impl From<Option<Route>> for SingleNodeRoutingInfo {
+    ghost use Rattle.redis_routing.specs.Plan.{single_of};
+    ghost use Rattle.redis_routing.specs.Target.{to_route};
+
+    ghost from_gives = { λ route info. single_of info ≡ to_route route };
+
+    fn from(route: Option<Route>) -> Self {
+        match route {
+            Some(route) => SingleNodeRoutingInfo::SpecificNode(route),
+            None => SingleNodeRoutingInfo::Random,
+        }
+    }
+}
+
+impl Clone for SingleNodeRoutingInfo {
+    ghost use Rattle.redis_routing.specs.Plan.{single_of};
+
+    ghost is_clone = { λ info copy. single_of copy ≡ single_of info };
+
+    fn clone(&self) -> Result<Self, AllocError> {
+        match self {
+            SingleNodeRoutingInfo::Random => Ok(SingleNodeRoutingInfo::Random),
+            SingleNodeRoutingInfo::RandomPrimary => Ok(SingleNodeRoutingInfo::RandomPrimary),
+            SingleNodeRoutingInfo::SpecificNode(route) => {
+                Ok(SingleNodeRoutingInfo::SpecificNode(*route))
+            }
+            SingleNodeRoutingInfo::ByAddress { host, port } => {
+                let host = host.clone()?;
+                Ok(SingleNodeRoutingInfo::ByAddress { host, port: *port })
+            }
+        }
+    }
+}
+
+impl Clone for MultipleNodeRoutingInfo {
+    ghost use Rattle.redis_routing.specs.Plan.{multiple_of};
+
+    ghost is_clone = { λ info copy. multiple_of copy ≡ multiple_of info };
+
+    fn clone(&self) -> Result<Self, AllocError> {
+        match self {
+            MultipleNodeRoutingInfo::AllNodes => Ok(MultipleNodeRoutingInfo::AllNodes),
+            MultipleNodeRoutingInfo::AllMasters => Ok(MultipleNodeRoutingInfo::AllMasters),
+            MultipleNodeRoutingInfo::MultiSlot((routes, pattern)) => {
+                let routes = copy_routes(routes)?;
+                Ok(MultipleNodeRoutingInfo::MultiSlot((routes, *pattern)))
+            }
+        }
+    }
+}
+
+fn copy_routes(routes: &Vec<(Route, Vec<usize>)>) -> Result<Vec<(Route, Vec<usize>)>, AllocError>
+    ensures { IfOk result (λ copies. parts_of copies.items ≡ parts_of routes.now.items) }
+{
+    let mut copies = Vec::with_capacity(*routes.allocator(), routes.len())?;
+    for (route, places) in routes {
+        copies.push((*route, places.clone()?))?;
+    }
+    Ok(copies)
+}
+
+impl Clone for RoutingInfo {
+    ghost use Rattle.redis_routing.specs.Plan.{plan};
+
+    ghost is_clone = { λ info copy. plan copy ≡ plan info };
+
+    fn clone(&self) -> Result<Self, AllocError> {
+        match self {
+            RoutingInfo::SingleNode(single) => Ok(RoutingInfo::SingleNode(single.clone()?)),
+            RoutingInfo::MultiNode((multiple, policy)) => {
+                Ok(RoutingInfo::MultiNode((multiple.clone()?, *policy)))
+            }
+        }
+    }
+}

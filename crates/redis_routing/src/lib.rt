@@ -1,0 +1,11 @@
+//! Where a Redis command goes in a cluster, and how a command over many keys is split by slot.
+#![tactic(auto)]
+
+mod info;
+mod rules;
+mod splitting;
+mod sub_commands;
+
+pub use info::{MultipleNodeRoutingInfo, Redirect, RoutingInfo, SingleNodeRoutingInfo};
+pub use splitting::multi_slot_routes;
+pub use sub_commands::command_for_multi_slot_indices;

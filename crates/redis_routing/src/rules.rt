@@ -1,0 +1,144 @@
+ghost use Rattle.std.specs.Prelude.{◌≡◌, ◌<◌, ◌^◌, ◌+◌, IfOk, Some, option_map, option_copied, codes, position};
+ghost use Rattle.redis_commands.specs.Command.{Arguments, IsRespelt, argument, is_word};
+ghost use Rattle.redis_routing.specs.Laws.{Covers, ArePartsPicked, ArePartsRouted, IfSplit};
+ghost use Rattle.redis_routing.specs.Plan.{plan, multiple_of};
+ghost use Rattle.redis_commands.specs.Policies.{policy_of};
+ghost use Rattle.redis_commands.specs.ReadOnly.{is_among};
+ghost use Rattle.redis_routing.specs.Target.{random, single, multiple, specific};
+ghost use Rattle.redis_commands.specs.Ways.{way_in};
+ghost use Rattle.redis_routing.specs.Routing as go;
+ghost use Rattle.redis_commands.specs.Run.{run_of};
+
+use super::info::{MultipleNodeRoutingInfo, RoutingInfo, SingleNodeRoutingInfo};
+use super::splitting::by_slots;
+use cluster_slots::{Route, Slot, SlotAddr, parse_u16, parse_u64};
+use redis_commands::{ReadOnlyNames, ResponsePolicy, Routable, Way, way_of};
+use std::alloc::{AllocError, Global};
+
+impl RoutingInfo {
+    /// Where a command goes. `None` where it has no name, where what the way of its name asks for is
+    /// missing or no number, where its tuples are not whole, or where commands of its name go nowhere.
+    /// A name that no table has goes to the slot of argument 1, or without one to any node.
+    ///
+    /// A command over many keys goes to one node where all keys have one slot, and else has a route
+    /// for each slot of a key, by the first key of each, with the places of its part as
+    /// `command_for_multi_slot_indices` takes them. The ASCII case of the first word changes nothing.
+    ///
+    /// # Errors
+    ///
+    /// Where there is no memory.
+    pub fn for_routable<R: Routable>(
+        alloc: Global,
+        command: &R,
+        read_only: &ReadOnlyNames,
+    ) -> Result<Option<RoutingInfo>, AllocError>
+        ensures routed { IfOk result (λ info. option_map plan info ≡ go.routing (is_among read_only.now) (R.args command.now)) }
+        ensures case { (other : Arguments) → IsRespelt (R.args command.now) other → go.routing (is_among read_only.now) other ≡ go.routing (is_among read_only.now) (R.args command.now) }
+        ensures cover { IfOk result (λ info. IfSplit (λ pattern routes. Covers pattern (run_of (R.args command.now)) routes) (option_map plan info)) }
+        ensures picked { IfOk result (λ info. IfSplit (λ pattern routes. ArePartsPicked (R.args command.now) pattern routes) (option_map plan info)) }
+        ensures parts { IfOk result (λ info. IfSplit (λ pattern routes. ArePartsRouted (is_among read_only.now) (R.args command.now) pattern routes) (option_map plan info)) }
+    {
+        let Some(name) = command.command(alloc)? else {
+            return Ok(None);
+        };
+        let reads = read_only.contains(&name);
+        by_way(alloc, command, &name, reads)
+    }
+}
+
+/// Where a command of the name goes.
+fn by_way<R: Routable>(
+    alloc: Global,
+    command: &R,
+    name: &[u8],
+    reads: bool,
+) -> Result<Option<RoutingInfo>, AllocError>
+    ensures { IfOk result (λ info. option_map plan info ≡ go.by_way reads name.now (R.args command.now) (way_in name.now)) }
+{
+    let Some(way) = way_of(name) else {
+        return Ok(to_key_or_any(command.arg_idx(1), reads));
+    };
+    Ok(match way {
+        Way::AllNodes => Some(to_several(MultipleNodeRoutingInfo::AllNodes, name)),
+        Way::AllMasters => Some(to_several(MultipleNodeRoutingInfo::AllMasters, name)),
+        Way::MultiSlot(pattern) => by_slots(alloc, command, name, pattern, reads)?,
+        Way::Undefined => None,
+        Way::CountAt(place) => by_count(command, usize::from(place), reads),
+        Way::KeyAt(place) => to_key(command.arg_idx(usize::from(place)), reads),
+        Way::KeyAfterStreams => after_streams(command, reads),
+        Way::Random => Some(to_any()),
+        Way::SlotAtTwo => to_slot(command.arg_idx(2)),
+    })
+}
+
+fn to_any() -> RoutingInfo
+    ensures { plan result ≡ single random }
+{
+    RoutingInfo::SingleNode(SingleNodeRoutingInfo::Random)
+}
+
+fn to_several(nodes: MultipleNodeRoutingInfo, name: &[u8]) -> RoutingInfo
+    ensures { plan result ≡ multiple (multiple_of nodes) (policy_of name.now) }
+{
+    RoutingInfo::MultiNode((nodes, ResponsePolicy::for_command(name)))
+}
+
+fn to_route(route: Route) -> RoutingInfo
+    ensures { plan result ≡ single (specific route) }
+{
+    RoutingInfo::SingleNode(SingleNodeRoutingInfo::SpecificNode(route))
+}
+
+/// To the slot of the key, if there is one.
+fn to_key(key: Option<&[u8]>, reads: bool) -> Option<RoutingInfo>
+    ensures { option_map plan result ≡ go.to_key reads (option_copied key.entry) }
+{
+    Some(to_route(Route::with_key(key?, nodes_for(reads))))
+}
+
+/// A replica too may answer a command that only reads.
+pub(super) fn nodes_for(reads: bool) -> SlotAddr
+    ensures { result ≡ go.nodes_for reads }
+{
+    if reads {
+        SlotAddr::ReplicaOptional
+    } else {
+        SlotAddr::Master
+    }
+}
+
+fn to_key_or_any(key: Option<&[u8]>, reads: bool) -> Option<RoutingInfo>
+    ensures { option_map plan result ≡ go.to_key_or_any reads (option_copied key.entry) }
+{
+    match key {
+        Some(_) => to_key(key, reads),
+        None => Some(to_any()),
+    }
+}
+
+/// By the count of keys at a place and the first key behind it.
+fn by_count<R: Routable>(command: &R, place: usize, reads: bool) -> Option<RoutingInfo>
+    requires { place < 2 ^ 16 }
+    ensures { option_map plan result ≡ go.by_count reads (go.number_at 64 (argument (R.args command.now) place)) (argument (R.args command.now) (place + 1)) }
+{
+    let count = parse_u64(command.arg_idx(place)?)?;
+    if count == 0 {
+        return Some(to_any());
+    }
+    to_key(command.arg_idx(place + 1), reads)
+}
+
+fn after_streams<R: Routable>(command: &R, reads: bool) -> Option<RoutingInfo>
+    ensures { option_map plan result ≡ go.to_key_after reads (R.args command.now) (position (is_word (codes "STREAMS")) (R.args command.now)) }
+{
+    let place = command.position(b"STREAMS")?;
+    to_key(command.arg_idx(place + 1), reads)
+}
+
+/// To the primary of the slot that the argument writes.
+fn to_slot(number: Option<&[u8]>) -> Option<RoutingInfo>
+    ensures { option_map plan result ≡ go.to_slot (go.number_at 16 (option_copied number.entry)) }
+{
+    let slot = Slot::new(parse_u16(number?)?)?;
+    Some(to_route(Route::with_slot(slot, SlotAddr::Master)))
+}

@@ -1,0 +1,193 @@
+ghost use Rattle.std.specs.Prelude.{◌≡◌, ◌<◌, ◌^◌, ◌+◌, ◌-◌, ◌++◌, ◌||◌, ◌∷◌, [], ℕ, true, length, map, IfOk, IfSome, OnOk, is_some, if◌then◌else◌, nat_eq, option_map};
+ghost use Rattle.std.specs.List.{flat_map, range_with_len};
+ghost use Rattle.indexmap.specs.IndexMap.{get, keys, IsUnique};
+ghost use Rattle.redis_routing.specs.Groups.{listed, shown, group_route};
+ghost use Rattle.redis_routing.specs.Parts.{firsts, slot_of, part};
+ghost use Rattle.redis_routing.specs.Complete.{multi_slot_routes, AreSubCommands};
+ghost use Rattle.redis_routing.specs.Plan.{plan};
+ghost use Rattle.redis_commands.specs.Policies.{policy_of};
+ghost use Rattle.redis_commands.specs.ReadOnly.{is_among};
+ghost use Rattle.redis_routing.specs.Routing as go;
+ghost use Rattle.redis_commands.specs.Run.{run_of};
+ghost use Rattle.redis_routing.specs.Target.{parts_of};
+ghost use Rattle.redis_commands.specs.Tuples.{own_count, tuples_in, places_of};
+
+use super::info::{MultipleNodeRoutingInfo, RoutingInfo, SingleNodeRoutingInfo};
+use super::rules::nodes_for;
+use cluster_slots::{Route, Slot, SlotAddr};
+use indexmap::IndexMap;
+use redis_commands::{MultiSlotArgPattern, ReadOnlyNames, ResponsePolicy, Routable, Way, way_of};
+use std::alloc::{AllocError, Global};
+
+/// The routes of a command over many keys: one for each slot of a key, by the first key of each,
+/// with the places of its part as `command_for_multi_slot_indices` takes them.
+///
+/// There are none where the name is not one of those that split by slot, where the arguments behind
+/// it, up to the first gap, make no whole tuples, or where the last argument that all keys share is
+/// missing.
+///
+/// # Errors
+///
+/// Where there is no memory.
+pub fn multi_slot_routes<R: Routable>(
+    alloc: Global,
+    command: &R,
+    read_only: &ReadOnlyNames,
+) -> Result<Option<Vec<(Route, Vec<usize>)>>, AllocError>
+    ensures routes { IfOk result (λ routes. option_map (λ r. parts_of r.items) routes ≡ multi_slot_routes (is_among read_only.now) (R.args command.now)) }
+    ensures picked { IfOk result (λ routes. IfSome routes (λ routes. AreSubCommands (R.args command.now) (parts_of routes.items))) }
+{
+    let Some(name) = command.command(alloc)? else {
+        return Ok(None);
+    };
+    let Some(Way::MultiSlot(pattern)) = way_of(&name) else {
+        return Ok(None);
+    };
+    let run = run_len(command);
+    if !pattern.is_complete(run) {
+        return Ok(None);
+    }
+    let reads = read_only.contains(&name);
+    Ok(Some(routes_by_slot(alloc, command, pattern, run, reads)?))
+}
+
+/// To the slots of a command's keys, if its arguments make whole tuples.
+pub(super) fn by_slots<R: Routable>(
+    alloc: Global,
+    command: &R,
+    name: &[u8],
+    pattern: MultiSlotArgPattern,
+    reads: bool,
+) -> Result<Option<RoutingInfo>, AllocError>
+    ensures { IfOk result (λ info. option_map plan info ≡ go.to_slots reads (policy_of name.now) pattern (run_of (R.args command.now))) }
+{
+    let run = run_len(command);
+    if !pattern.fits(run) {
+        return Ok(None);
+    }
+    let routes = routes_by_slot(alloc, command, pattern, run, reads)?;
+    Ok(Some(to_parts(routes, pattern, ResponsePolicy::for_command(name))))
+}
+
+/// The routes of a run of whole tuples.
+fn routes_by_slot<R: Routable>(
+    alloc: Global,
+    command: &R,
+    pattern: MultiSlotArgPattern,
+    run: usize,
+    reads: bool,
+) -> Result<Vec<(Route, Vec<usize>)>, AllocError>
+    requires { run ≡ length (run_of (R.args command.now)) }
+    ensures { IfOk result (λ routes. parts_of routes.items ≡ go.routes_of reads pattern (run_of (R.args command.now))) }
+{
+    let own = pattern.own_len(run);
+    let groups = group_by_slot(alloc, command, pattern, own)?;
+    to_routes(alloc, groups, nodes_for(reads), own, run)
+}
+
+/// How many arguments follow the name up to the first gap.
+fn run_len<R: Routable>(command: &R) -> usize
+    ensures { result ≡ length (run_of (R.args command.now)) }
+{
+    let mut run = 0;
+    while command.arg_idx(run + 1).is_some() {
+        run += 1;
+    }
+    run
+}
+
+/// The places of the tuples of each slot, the slots in order of first appearance.
+fn group_by_slot<R: Routable>(
+    alloc: Global,
+    command: &R,
+    pattern: MultiSlotArgPattern,
+    own: usize,
+) -> Result<IndexMap<u16, Vec<usize>>, AllocError>
+    requires { own ≡ own_count pattern (length (run_of (R.args command.now))) }
+    ensures order { IfOk result (λ groups. keys groups ≡ firsts (map slot_of (tuples_in pattern (run_of (R.args command.now))))) }
+    ensures places { IfOk result (λ groups. (s : ℕ) → listed (get nat_eq groups s) ≡ flat_map places_of (part s (tuples_in pattern (run_of (R.args command.now))))) }
+{
+    let width = pattern.width();
+    let mut groups: IndexMap<u16, Vec<usize>> = IndexMap::new(alloc);
+    for number in 0..own / width {
+        let place = number * width;
+        let Some(key) = command.arg_idx(place + 1) else {
+            unreachable!()
+        };
+        add(
+            alloc,
+            &mut groups,
+            Slot::for_key(key).number(),
+            place,
+            width,
+        )?;
+    }
+    Ok(groups)
+}
+
+/// Puts the places of a tuple at the end of its slot's list.
+fn add(
+    alloc: Global,
+    groups: &mut IndexMap<u16, Vec<usize>>,
+    slot: u16,
+    place: usize,
+    width: usize,
+) -> Result<(), AllocError>
+    requires { place + width < 2 ^ 64 }
+    ensures places { OnOk result ((s : ℕ) → listed (get nat_eq groups.new s) ≡ (if nat_eq slot s then listed (get nat_eq groups.old s) ++ range_with_len place width else listed (get nat_eq groups.old s))) }
+    ensures found { OnOk result ((s : ℕ) → is_some (get nat_eq groups.new s) ≡ (nat_eq slot s || is_some (get nat_eq groups.old s))) }
+    ensures order { OnOk result (keys groups.new ≡ (if is_some (get nat_eq groups.old slot) then keys groups.old else keys groups.old ++ slot ∷ [])) }
+{
+    match groups.get_mut(&slot) {
+        Some(places) => push_places(places, place, place + width),
+        None => {
+            let mut places = Vec::new(alloc);
+            push_places(&mut places, place, place + width)?;
+            groups.insert(slot, places)?;
+            Ok(())
+        }
+    }
+}
+
+/// Puts the places from one up to another at the end.
+fn push_places(places: &mut Vec<usize>, start: usize, end: usize) -> Result<(), AllocError>
+    ensures { OnOk result (places.new.items ≡ places.old.items ++ range_with_len start (end - start)) }
+{
+    places.extend(start..end)
+}
+
+/// A route for each slot, with its places and then the shared ones.
+fn to_routes(
+    alloc: Global,
+    groups: IndexMap<u16, Vec<usize>>,
+    nodes: SlotAddr,
+    own: usize,
+    run: usize,
+) -> Result<Vec<(Route, Vec<usize>)>, AllocError>
+    ensures routes { IfOk result (λ routes. parts_of routes.items ≡ map (group_route nodes (range_with_len own (run - own))) (shown groups.entries)) }
+    ensures unique { OnOk result (IsUnique nat_eq groups) }
+{
+    let mut routes = Vec::with_capacity(alloc, groups.len())?;
+    for (slot, mut places) in groups {
+        push_places(&mut places, own, run)?;
+        routes.push((Route::new(slot, nodes), places))?;
+    }
+    Ok(routes)
+}
+
+/// One node, where there is one route.
+fn to_parts(
+    routes: Vec<(Route, Vec<usize>)>,
+    pattern: MultiSlotArgPattern,
+    policy: Option<ResponsePolicy>,
+) -> RoutingInfo
+    ensures { plan result ≡ go.to_parts pattern policy (parts_of routes.items) }
+{
+    match routes.as_slice() {
+        [only] => RoutingInfo::SingleNode(SingleNodeRoutingInfo::SpecificNode(only.0)),
+        _ => RoutingInfo::MultiNode((
+            MultipleNodeRoutingInfo::MultiSlot((routes, pattern)),
+            policy,
+        )),
+    }
+}

@@ -1,0 +1,11 @@
+//! Tests of the public calls of `resp_core`.
+#![tactic(auto)]
+
+#[cfg(test)]
+mod cmd;
+
+#[cfg(test)]
+mod error;
+
+#[cfg(test)]
+mod value;

@@ -1,7 +1,0 @@
-use Rattle.std.proofs.Common.{refl}
-use Rattle.slotroute.proofs.Serving.{reported_memory}
-use Rattle.slotroute.proofs.serve.report.Goals as goal
-
-pub returns-in-Err : goal.returns-in-Err
-returns-in-Err g c =
-    reported_memory (g.E.Write.contents c.args.err.now) (g.E.Write.contents c.emit-in-Err.new.writer) c.args.fault.now _ c.emit-in-Err.result c.in-Err.ensures.memory refl c.emit-in-Err.ensures.ok c.emit-in-Err.ensures.begun

@@ -1,0 +1,175 @@
+-- Taking one line off the input, and what the lines so far say of its map.
+use Rattle.std.proofs.Common.{◌≡◌, ◌≢◌, ℕ, ◌+◌, ◌-◌, ◌<◌, List, [], ◌∷◌, ◌++◌, map, length, refl, sym, ◌∙◌, ap, true, false, Bool, arith, rules, cond, take, drop, nat_lt, ◌==◌, get_or, suc, zero, Bor, append_assoc, subst}
+use Rattle.std.specs.Prelude.{Option, Some, None, ⊤, IfSome}
+use Rattle.std.specs.List.{AllZip}
+use Rattle.std.specs.Io.BufRead.{take_through, drop_through, strip_last, first_piece, ends_with_byte, DropsThrough}
+use native.Mathlib.Numerals.{unary_clauses}
+use Rattle.std.proofs.lemmas.List.{append-nil, length_push, take_more, take_rest, map-append}
+use Rattle.cluster_map.specs.Address.{Address}
+use Rattle.cluster_map.specs.Nodes.{RangeNodes}
+use Rattle.slotroute_serve.specs.Lines.{onto_first_line, raw_lines, lines_of, line_of, fields_of, until_blank, leading}
+use Rattle.slotroute_serve.specs.MapLines.{IsNodeField, IsMapLine, IsMap, IsFirstBad}
+
+-- the bytes before the first line feed
+abbrev before : List ℕ → List ℕ
+before [] = []
+before (x ∷ xs) = cond (x == 10) [] (x ∷ before xs)
+
+positive : (n : ℕ) → nat_lt 0 (suc n) ≡ true
+positive n = search (rules)
+
+-- a longer list ends as its tail does
+ends-cons : (x y : ℕ) (ys : List ℕ) → ends_with_byte 10 (x ∷ y ∷ ys) ≡ ends_with_byte 10 (y ∷ ys)
+ends-cons x y ys = rw (positive (suc (length ys)), positive (length ys)) (simp unary_clauses refl)
+
+strip-cons : (x y : ℕ) (ys : List ℕ) → strip_last 10 (x ∷ y ∷ ys) ≡ x ∷ strip_last 10 (y ∷ ys)
+strip-cons x y ys =
+    ap (λ v. cond v (take (length (x ∷ y ∷ ys) - 1) (x ∷ y ∷ ys)) (x ∷ y ∷ ys)) (ends-cons x y ys)
+    ∙ elim (ends_with_byte 10 (y ∷ ys)) as (λ v. cond v (take (length (x ∷ y ∷ ys) - 1) (x ∷ y ∷ ys)) (x ∷ y ∷ ys) ≡ x ∷ cond v (take (length (y ∷ ys) - 1) (y ∷ ys)) (y ∷ ys)) [ true ↦ simp unary_clauses refl | false ↦ refl ]
+
+-- what is left of a text that begins with another byte
+first_piece-cons : (x : ℕ) (xs : List ℕ) → x == 10 ≡ false → first_piece 10 (x ∷ xs) ≡ x ∷ first_piece 10 xs
+first_piece-cons x [] h = rw h (rw h refl)
+first_piece-cons x (y ∷ ys) h = rw h (elim (y == 10) as (λ v. strip_last 10 (x ∷ cond v (y ∷ []) (y ∷ take_through 10 ys)) ≡ x ∷ strip_last 10 (cond v (y ∷ []) (y ∷ take_through 10 ys))) [ true ↦ strip-cons x y [] | false ↦ strip-cons x y (take_through 10 ys) ])
+
+first_piece-feed : (x : ℕ) (xs : List ℕ) → x == 10 ≡ true → first_piece 10 (x ∷ xs) ≡ []
+first_piece-feed x xs h = rw h (rw h refl)
+
+first_piece-before : (xs : List ℕ) → first_piece 10 xs ≡ before xs
+first_piece-before [] = refl
+first_piece-before (x ∷ xs) =
+    let P : Bool → Type 0 = λ v. x == 10 ≡ v → first_piece 10 (x ∷ xs) ≡ cond v [] (x ∷ before xs) in
+    (elim (x == 10) as P [ true ↦ λ h. first_piece-feed x xs h | false ↦ λ h. first_piece-cons x xs h ∙ ap (λ p. x ∷ p) (first_piece-before xs) ]) refl
+
+raw_lines-first : (x : ℕ) (xs : List ℕ) → raw_lines (x ∷ xs) ≡ before (x ∷ xs) ∷ raw_lines (drop_through 10 (x ∷ xs))
+raw_lines-first x [] = elim (x == 10) as (λ v. cond v ([] ∷ []) (onto_first_line x []) ≡ cond v [] (x ∷ []) ∷ raw_lines (cond v [] [])) [ true ↦ refl | false ↦ refl ]
+raw_lines-first x (y ∷ ys) =
+    elim (x == 10) as (λ v. cond v ([] ∷ raw_lines (y ∷ ys)) (onto_first_line x (raw_lines (y ∷ ys))) ≡ cond v [] (x ∷ before (y ∷ ys)) ∷ raw_lines (cond v (y ∷ ys) (drop_through 10 (y ∷ ys)))) [ true ↦ refl | false ↦ ap (onto_first_line x) (raw_lines-first y ys) ]
+
+-- an input that is there has its first line, and then the lines of what follows it
+lines_of-first : (x : ℕ) (xs : List ℕ) → lines_of (x ∷ xs) ≡ line_of (x ∷ xs) ∷ lines_of (drop_through 10 (x ∷ xs))
+lines_of-first x xs = ap (map (strip_last 13)) (raw_lines-first x xs) ∙ ap (λ p. strip_last 13 p ∷ lines_of (drop_through 10 (x ∷ xs))) (sym (first_piece-before (x ∷ xs)))
+
+-- the leading lines go on behind a first line with fields, and end at one with none
+leading-more : (x : ℕ) (xs : List ℕ) (f : List ℕ) (fs : List (List ℕ)) → f ∷ fs ≡ fields_of (line_of (x ∷ xs)) → leading (x ∷ xs) ≡ (f ∷ fs) ∷ leading (drop_through 10 (x ∷ xs))
+leading-more x xs f fs e =
+    ap (λ ls. until_blank (map fields_of ls)) (lines_of-first x xs) ∙ ap (λ g. until_blank (g ∷ map fields_of (lines_of (drop_through 10 (x ∷ xs))))) (sym e)
+
+leading-none : (x : ℕ) (xs : List ℕ) → [] ≡ fields_of (line_of (x ∷ xs)) → leading (x ∷ xs) ≡ []
+leading-none x xs e =
+    ap (λ ls. until_blank (map fields_of ls)) (lines_of-first x xs) ∙ ap (λ g. until_blank (g ∷ map fields_of (lines_of (drop_through 10 (x ∷ xs))))) (sym e)
+
+-- what is left of a known input, after lines that are the map lines of these ranges
+abbrev pub StillReads : Option (List ℕ) → Option (List ℕ) → ℕ → List RangeNodes → Type 0
+StillReads None left number ranges = ⊤
+StillReads (Some input) None number ranges = ⊥
+StillReads (Some input) (Some rest) number ranges =
+    (front : List (List (List ℕ))) × (leading input ≡ front ++ leading rest) × IsMap front ranges × (number ≡ length front)
+
+-- what `next_line` says of what was left before it
+pub record HasLine (left : Option (List ℕ)) (line : List ℕ) : Type 0 where
+  pub there : IfSome left (λ xs. true ≡ nat_lt 0 (length xs))
+  pub text : IfSome left (λ xs. line ≡ line_of xs)
+
+-- the lines so far are all where nothing more leads
+ended : (input : List ℕ) (front rest : List (List (List ℕ))) (ranges : List RangeNodes) → leading input ≡ front ++ rest → rest ≡ [] → IsMap front ranges → IsMap (leading input) ranges
+ended input front rest ranges e n m =
+    let whole : leading input ≡ front = e ∙ ap (λ r. front ++ r) n ∙ append-nil front in
+    let P : List (List (List ℕ)) → Type 0 = λ ls. IsMap ls ranges in
+    subst P (sym whole) m
+
+true≢false : true ≢ false
+true≢false = search rules
+
+-- at the end of the input
+pub at_end : (old left : Option (List ℕ)) (number : ℕ) (ranges : List RangeNodes) → StillReads old left number ranges → IfSome left (λ xs. false ≡ nat_lt 0 (length xs)) → IfSome old (λ input. IsMap (leading input) ranges)
+at_end None left number ranges s e = tt
+at_end (Some input) None number ranges s e = absurd s
+at_end (Some input) (Some []) number ranges (front, split, m, n) e = ended input front [] ranges split refl m
+at_end (Some input) (Some (x ∷ xs)) number ranges s e = absurd (true≢false (sym (e ∙ positive (length xs))))
+
+-- at a line with no field
+pub at_blank : (old left : Option (List ℕ)) (number : ℕ) (ranges : List RangeNodes) (line : List ℕ) (fields : List (List ℕ)) → StillReads old left number ranges → HasLine left line → fields ≡ fields_of line → fields ≡ []
+    → IfSome old (λ input. IsMap (leading input) ranges)
+at_blank None left number ranges line fields s h e b = tt
+at_blank (Some input) None number ranges line fields s h e b = absurd s
+at_blank (Some input) (Some []) number ranges line fields s h e b = absurd (true≢false h.there)
+at_blank (Some input) (Some (x ∷ xs)) number ranges line fields (front, split, m, n) h e b =
+    ended input front (leading (x ∷ xs)) ranges split (leading-none x xs (sym b ∙ e ∙ ap fields_of h.text)) m
+
+-- at a line with fields, of which the leading lines have the fields and go on
+split_at_line : (input : List ℕ) (x : ℕ) (xs : List ℕ) (front : List (List (List ℕ))) (line f : List ℕ) (fs : List (List ℕ)) → leading input ≡ front ++ leading (x ∷ xs) → line ≡ line_of (x ∷ xs) → f ∷ fs ≡ fields_of line
+    → leading input ≡ front ++ (f ∷ fs) ∷ leading (drop_through 10 (x ∷ xs))
+split_at_line input x xs front line f fs split text e = split ∙ ap (λ ls. front ++ ls) (leading-more x xs f fs (e ∙ ap fields_of text))
+
+pub at_bad : (old left : Option (List ℕ)) (number : ℕ) (ranges : List RangeNodes) (line : List ℕ) (fields : List (List ℕ)) → StillReads old left number ranges → HasLine left line → fields ≡ fields_of line → fields ≢ []
+    → ((range : RangeNodes) → ¬ (IsMapLine fields range)) → IfSome old (λ input. IsFirstBad (leading input) (number + 1))
+at_bad None left number ranges line fields s h e b lacks = tt
+at_bad (Some input) None number ranges line fields s h e b lacks = absurd s
+at_bad (Some input) (Some []) number ranges line fields s h e b lacks = absurd (true≢false h.there)
+at_bad (Some input) (Some (x ∷ xs)) number ranges line [] s h e b lacks = absurd (b refl)
+at_bad (Some input) (Some (x ∷ xs)) number ranges line (f ∷ fs) (front, split, m, n) h e b lacks = record {
+  good = front;
+  bad = f ∷ fs;
+  later = leading (drop_through 10 (x ∷ xs));
+  split = split_at_line input x xs front line f fs split h.text e;
+  before = (ranges, m);
+  there = lacks;
+  counted = ap (λ k. k + 1) n;
+}
+
+-- one more pair at the end
+pub AllZip-more : {A B : Type 0} (R : A → B → Type 0) (xs : List A) (ys : List B) (x : A) (y : B) → AllZip R xs ys → R x y → AllZip R (xs ++ x ∷ []) (ys ++ y ∷ [])
+AllZip-more R [] [] x y h r = (r, tt)
+AllZip-more R [] (b ∷ ys) x y h r = absurd h
+AllZip-more R (a ∷ xs) [] x y h r = absurd h
+AllZip-more R (a ∷ xs) (b ∷ ys) x y h r = (h.0, AllZip-more R xs ys x y h.1 r)
+
+pub at_good : (old left new : Option (List ℕ)) (number : ℕ) (ranges : List RangeNodes) (line : List ℕ) (fields : List (List ℕ)) (range : RangeNodes) → StillReads old left number ranges → HasLine left line → fields ≡ fields_of line → fields ≢ []
+    → IsMapLine fields range → DropsThrough left new 10 → StillReads old new (number + 1) (ranges ++ range ∷ [])
+at_good None left new number ranges line fields range s h e b g d = tt
+at_good (Some input) None new number ranges line fields range s h e b g d = absurd s
+at_good (Some input) (Some []) new number ranges line fields range s h e b g d = absurd (true≢false h.there)
+at_good (Some input) (Some (x ∷ xs)) new number ranges line [] range s h e b g d = absurd (b refl)
+at_good (Some input) (Some (x ∷ xs)) new number ranges line (f ∷ fs) range (front, split, m, n) h e b g d =
+    rw d (
+      front ++ (f ∷ fs) ∷ [],
+      split_at_line input x xs front line f fs split h.text e ∙ sym (append_assoc front ((f ∷ fs) ∷ []) (leading (drop_through 10 (x ∷ xs)))),
+      AllZip-more IsMapLine front ranges (f ∷ fs) range m g,
+      ap (λ k. k + 1) n ∙ sym (length_push front (f ∷ fs)),
+    )
+
+-- A pair of lists where one element has no partner.
+pub unpaired : {B : Type 0} (R : List ℕ → B → Type 0) (xs : List (Bor (List ℕ))) (ys : List B) (i : ℕ) (d : Bor (List ℕ)) → i < length xs → ((y : B) → ¬ (R (get_or xs i d).now y)) → ¬ (AllZip R (map (λ x. x.now) xs) ys)
+unpaired R [] ys i d l lacks h = absurd (omega arith)
+unpaired R (x ∷ xs) [] i d l lacks h = h
+unpaired R (x ∷ xs) (y ∷ ys) zero d l lacks h = lacks y h.0
+unpaired R (x ∷ xs) (y ∷ ys) (suc i) d l lacks h = unpaired R xs ys i d (omega arith) lacks h.1
+
+-- one more element and its partner
+pub paired_more : {B : Type 0} (R : List ℕ → B → Type 0) (xs : List (Bor (List ℕ))) (ys : List B) (i : ℕ) (d : Bor (List ℕ)) (y : B) → i < length xs → AllZip R (map (λ x. x.now) (take i xs)) ys → R (get_or xs i d).now y
+    → AllZip R (map (λ x. x.now) (take (i + 1) xs)) (ys ++ y ∷ [])
+paired_more R xs ys i d y l h r =
+    rw (take_more xs i d l, map-append) (AllZip-more R (map (λ x. x.now) (take i xs)) ys (get_or xs i d).now y h r)
+
+-- Fields that are no map line, because of the primary or of the replicas.
+pub no_primary : (fields : List (Bor (List ℕ))) (d : Bor (List ℕ)) (range : RangeNodes) → ((a : Address) → ¬ (IsNodeField (get_or fields 2 d).now a)) → ¬ (IsMapLine (map (λ x. x.now) fields) range)
+no_primary [] d range lacks h = h
+no_primary (a ∷ []) d range lacks h = h
+no_primary (a ∷ b ∷ []) d range lacks h = h
+no_primary (a ∷ b ∷ p ∷ rs) d range lacks h = lacks range.master h.2
+
+pub no_replicas : (fields : List (Bor (List ℕ))) (range : RangeNodes) → ((nodes : List Address) → ¬ (AllZip IsNodeField (map (λ x. x.now) (take (length fields - 3) (drop 3 fields))) nodes)) → ¬ (IsMapLine (map (λ x. x.now) fields) range)
+no_replicas [] range lacks h = h
+no_replicas (a ∷ []) range lacks h = h
+no_replicas (a ∷ b ∷ []) range lacks h = h
+no_replicas (a ∷ b ∷ p ∷ rs) range lacks h = lacks range.replicas (rw (take_rest (a ∷ b ∷ p ∷ rs) 3) h.3)
+
+-- what the slices are that a list of no length, or of some, borrows
+pub none_borrowed : (xs : List (Bor (List ℕ))) → length xs ≡ 0 → map (λ x. x.now) xs ≡ []
+none_borrowed [] e = refl
+none_borrowed (x ∷ xs) e = absurd (omega arith)
+
+pub some_borrowed : (xs : List (Bor (List ℕ))) → 0 < length xs → map (λ x. x.now) xs ≢ []
+some_borrowed [] l e = absurd (omega arith)
+some_borrowed (x ∷ xs) l e = cc

@@ -1,0 +1,41 @@
+-- What a fault says of the input, and its line.
+use Rattle.std.specs.Prelude.{◌≡◌, ◌≢◌, ℕ, List, None, codes, ⊤}
+use Rattle.std.specs.declared.io.ErrorKind.{ErrorKind}
+use Rattle.std.specs.declared.io.ErrorKind.TheVariants.{OutOfMemory}
+use Rattle.slotroute_serve.specs.MapLines.{IsFirstBad}
+use Rattle.slotroute_serve.specs.Output.{usage_line, bad_map_line, not_multi_key_line}
+use Rattle.slotroute_serve.specs.Split.{split_routes}
+use Rattle.slotroute_serve.specs.declared.fault.Fault.{Fault}
+use Rattle.slotroute_serve.specs.declared.fault.Fault.TheVariants.{Usage, BadMapLine, NotMultiKey, Memory, Input, Output as OutputFailed}
+
+-- the line that tells of a fault
+abbrev pub fault_line : Fault → List ℕ
+fault_line Usage = usage_line
+fault_line (BadMapLine number) = bad_map_line number
+fault_line NotMultiKey = not_multi_key_line
+fault_line Memory = codes "slotroute: no memory\n"
+fault_line Input = codes "slotroute: input failed\n"
+fault_line OutputFailed = codes "slotroute: output failed\n"
+
+-- what an error of the reader becomes, by its kind: want of memory, or a failed input
+pub record IsReaderFault (kind : ErrorKind) (fault : Fault) : Type 0 where
+  pub memory : kind ≡ OutOfMemory → fault ≡ Memory
+  pub input : kind ≢ OutOfMemory → fault ≡ Input
+
+-- why there is no map of these leading lines: one of them is bad, or there was trouble
+abbrev pub IsNoMap : List (List (List ℕ)) → Fault → Type 0
+IsNoMap lines Usage = ⊥
+IsNoMap lines (BadMapLine number) = IsFirstBad lines number
+IsNoMap lines NotMultiKey = ⊥
+IsNoMap lines Memory = ⊤
+IsNoMap lines Input = ⊤
+IsNoMap lines OutputFailed = ⊥
+
+-- why there are no lines for a command: it is no complete one over many keys, or memory was refused
+abbrev pub IsNoSplit : List (List ℕ) → Fault → Type 0
+IsNoSplit command Usage = ⊥
+IsNoSplit command (BadMapLine number) = ⊥
+IsNoSplit command NotMultiKey = split_routes command ≡ None
+IsNoSplit command Memory = ⊤
+IsNoSplit command Input = ⊥
+IsNoSplit command OutputFailed = ⊥

@@ -1,0 +1,7 @@
+pub mod Faults
+pub mod Lines
+pub mod MapLines
+pub mod Output
+pub mod Requests
+pub mod Serves
+pub mod Split

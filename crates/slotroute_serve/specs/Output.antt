@@ -1,0 +1,53 @@
+-- What the program writes, and its status, for its words and its input.
+use Rattle.std.specs.Prelude.{◌≡◌, ◌≢◌, ℕ, List, [], ◌∷◌, ◌++◌, None, codes, decimal}
+use Rattle.cluster_map.specs.Address.{Address, printed}
+use Rattle.cluster_map.specs.KeySlot.{IsKeySlot}
+use Rattle.cluster_map.specs.Nodes.{Nodes, RangeNodes, filled}
+use Rattle.cluster_map.specs.RangeMap.{Entry, IsUncovered}
+use Rattle.cluster_map.specs.RouteNode.{IsNodeOfRoute}
+use Rattle.cluster_slots.specs.declared.slot.SlotAddr.TheVariants.{Master}
+use Rattle.slotroute_serve.specs.Lines.{line_feed, space, leading}
+use Rattle.slotroute_serve.specs.MapLines.{IsMap, IsFirstBad}
+use Rattle.slotroute_serve.specs.Split.{IsSplitAnswer, split_routes}
+
+-- the words `node KEY`
+abbrev pub node_words : List ℕ → List (List ℕ)
+node_words key = codes "node" ∷ key ∷ []
+
+-- the words `split WORD ..`
+abbrev pub split_words : List (List ℕ) → List (List ℕ)
+split_words command = codes "split" ∷ command
+
+-- the words are `node KEY`, or `split WORD ..` with one word or more
+pub data IsRequest : List (List ℕ) → Type 0 where
+  node_request : (key : List ℕ) → IsRequest (node_words key)
+  split_request : (command : List (List ℕ)) → command ≢ [] → IsRequest (split_words command)
+
+abbrev pub slot_line : ℕ → List ℕ → List ℕ
+slot_line slot node = codes "slot " ++ decimal slot ++ space ∷ node ++ line_feed ∷ []
+
+abbrev pub usage_line : List ℕ
+usage_line = codes "usage: slotroute node KEY | split WORD .. | run forward|reverse [first|pick=N|shard]\n"
+
+abbrev pub bad_map_line : ℕ → List ℕ
+bad_map_line number = codes "slotroute: bad map line " ++ decimal number ++ line_feed ∷ []
+
+abbrev pub not_multi_key_line : List ℕ
+not_multi_key_line = codes "slotroute: not a multi-key command\n"
+
+-- the line and the status that answer for a key: its slot, and the primary of the range that answers for the slot
+pub data IsNodeAnswer (entries : List (Entry Nodes)) (key : List ℕ) : List ℕ → ℕ → Type 0 where
+  served : (slot pick : ℕ) (address : Address) → IsKeySlot key slot → IsNodeOfRoute entries (record { slot = slot; addr = Master }) pick address → IsNodeAnswer entries key (slot_line slot (printed address)) 0
+  unserved : (slot : ℕ) → IsKeySlot key slot → IsUncovered entries slot → IsNodeAnswer entries key (slot_line slot (codes "none")) 1
+
+-- what answers for the words on the entries of a map: for those of `node` the line of the key, for those of `split` the lines of the command
+pub data IsAnswer (entries : List (Entry Nodes)) : List (List ℕ) → List ℕ → ℕ → Type 0 where
+  node_answer : (key line : List ℕ) (status : ℕ) → IsNodeAnswer entries key line status → IsAnswer entries (node_words key) line status
+  split_answer : (command : List (List ℕ)) (lines : List ℕ) (status : ℕ) → IsSplitAnswer entries command lines status → IsAnswer entries (split_words command) lines status
+
+-- what goes to the output and to the error stream, and the status
+pub data Output : List (List ℕ) → List ℕ → List ℕ → List ℕ → ℕ → Type 0 where
+  usage : (words : List (List ℕ)) (input : List ℕ) → ¬ (IsRequest words) → Output words input [] usage_line 2
+  bad_map : (words : List (List ℕ)) (input : List ℕ) (number : ℕ) → IsRequest words → IsFirstBad (leading input) number → Output words input [] (bad_map_line number) 2
+  not_multi_key : (command : List (List ℕ)) (input : List ℕ) (ranges : List RangeNodes) → command ≢ [] → IsMap (leading input) ranges → split_routes command ≡ None → Output (split_words command) input [] not_multi_key_line 2
+  answer : (words : List (List ℕ)) (input text : List ℕ) (status : ℕ) (ranges : List RangeNodes) → IsMap (leading input) ranges → IsAnswer (filled [] ranges) words text status → Output words input text [] status

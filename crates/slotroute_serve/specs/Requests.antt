@@ -1,0 +1,18 @@
+-- What the words ask for, as the code holds it.
+use Rattle.std.specs.Prelude.{◌≡◌, ◌≢◌, ℕ, List, [], map, string_bytes}
+use Rattle.slotroute_serve.specs.Faults.{IsNoSplit}
+use Rattle.slotroute_serve.specs.Output.{node_words, split_words}
+use Rattle.slotroute_serve.specs.declared.fault.Fault.{Fault}
+use Rattle.slotroute_serve.specs.declared.fault.Fault.TheVariants.{Memory}
+use Rattle.slotroute_serve.specs.declared.request.Request.{Request}
+use Rattle.slotroute_serve.specs.declared.request.Request.TheVariants.{Node, Split}
+
+-- the words are those of the request
+abbrev pub Asks : List (List ℕ) → Request → Type 0
+Asks words (Node key) = words ≡ node_words key.now
+Asks words (Split command) = (words ≡ split_words (map string_bytes command.now)) × (map string_bytes command.now ≢ [])
+
+-- why a request has no answer on a map
+abbrev pub IsNoAnswer : Request → Fault → Type 0
+IsNoAnswer (Node key) fault = fault ≡ Memory
+IsNoAnswer (Split command) fault = IsNoSplit (map string_bytes command.now) fault

@@ -1,0 +1,58 @@
+-- What the program answers for a command over many keys.
+use Rattle.std.specs.Prelude.{◌≡◌, ℕ, List, ◌∷◌, [], ◌++◌, Bool, if◌then◌else◌, Option, None, Some, MatchOption, codes, decimal, map, is_none}
+use Rattle.std.specs.List.{AllZip, flat_map, list_any}
+use Rattle.cluster_map.specs.Address.{Address, printed}
+use Rattle.cluster_map.specs.Nodes.{Nodes}
+use Rattle.cluster_map.specs.RangeMap.{Entry, IsUncovered}
+use Rattle.cluster_map.specs.RouteNode.{IsNodeOfRoute}
+use Rattle.cluster_map.specs.RouteTo.{RouteTo}
+use Rattle.redis_cluster.specs.Complete.{multi_slot_routes, part_in}
+use Rattle.redis_cluster.specs.ReadOnly.{is_among}
+use Rattle.slotroute_serve.specs.Lines.{line_feed, space}
+
+-- the names of the commands that only read
+abbrev pub only_reads : List ℕ → Bool
+only_reads = is_among (codes "MGET" ∷ codes "JSON.MGET" ∷ codes "EXISTS" ∷ [])
+
+-- the routes of the parts of a command with these words, if it is a complete one over many keys
+abbrev pub split_routes : List (List ℕ) → Option (List (RouteTo × List ℕ))
+split_routes words = multi_slot_routes only_reads (map Some words)
+
+-- what a line tells of a part: its slot, its node, if there is one, and its words
+pub record Part : Type 0 where
+  pub slot : ℕ
+  pub node : Option Address
+  pub words : List (List ℕ)
+
+-- a node as a line has it
+abbrev pub node_text : Option Address → List ℕ
+node_text None = codes "none"
+node_text (Some address) = printed address
+
+-- the line: the slot, the node, and the words, each behind one space
+abbrev pub part_line : Part → List ℕ
+part_line part =
+    decimal part.slot ++ space ∷ node_text part.node ++ flat_map (λ word. space ∷ word) part.words ++ line_feed ∷ []
+
+-- the part of a command that a route is for, and the node of the route, which is none where no range answers for its slot
+pub record IsPart (entries : List (Entry Nodes)) (command : List (List ℕ)) (route : RouteTo) (part : Part) : Type 0 where
+  pub slot : part.slot ≡ route.slot
+  pub node : MatchOption part.node (IsUncovered entries route.slot) (IsNodeOfRoute entries route 0)
+  pub words : map Some part.words ≡ part_in (map Some command) route.slot
+
+-- 1 where a part has no node
+abbrev pub split_status : List Part → ℕ
+split_status parts = if list_any (λ part. is_none part.node) parts then 1 else 0
+
+-- the text has a line for the part of each route, in order
+pub record AreLines (entries : List (Entry Nodes)) (command : List (List ℕ)) (routes : List (RouteTo × List ℕ)) (text : List ℕ) (status : ℕ) : Type 0 where
+  pub parts : List Part
+  pub each : AllZip (λ route. IsPart entries command route.0) routes parts
+  pub lines : text ≡ flat_map part_line parts
+  pub ended : status ≡ split_status parts
+
+-- the lines and the status that answer for a command: one line for the part of each of its routes
+pub record IsSplitAnswer (entries : List (Entry Nodes)) (command : List (List ℕ)) (text : List ℕ) (status : ℕ) : Type 0 where
+  pub routes : List (RouteTo × List ℕ)
+  pub split : split_routes command ≡ Some routes
+  pub answered : AreLines entries command routes text status

@@ -1,0 +1,135 @@
+ghost use Rattle.std.specs.Prelude.{◌≡◌, ℕ, List, length, nat_lt, map, OnOk, IfOk, IfSome, MatchOption, MatchResult};
+ghost use Rattle.std.specs.List.{AllZip};
+ghost use Rattle.std.specs.Io.BufRead.{DropsThrough, strip_last};
+ghost use Rattle.cluster_map.specs.Address.{Address};
+ghost use Rattle.cluster_map.specs.Nodes.{RangeNodes};
+ghost use Rattle.cluster_map.specs.Number.{number_in};
+ghost use Rattle.slotroute_serve.specs.Lines.{line_of, fields_of, leading};
+ghost use Rattle.slotroute_serve.specs.MapLines.{IsNodeField, IsMapLine, IsMap};
+ghost use Rattle.slotroute_serve.specs.Faults.{IsNoMap};
+
+use crate::fault::Fault;
+use cluster_map::node_address::split_node_address;
+use cluster_map::{NodeAddress, SlotRange};
+use std::alloc::{AllocError, Global};
+use std::io::{self, BufRead};
+
+/// Reads the ranges of the leading lines, up to the first line with no field or the end.
+///
+/// An input of 2^64 lines counts as one that failed.
+pub fn read_map<R: BufRead>(alloc: Global, reader: &mut R) -> Result<Vec<SlotRange>, Fault>
+    ensures { IfSome (R.remaining reader.old) (λ input. MatchResult result
+        (λ ranges. IsMap (leading input) ranges.items)
+        (IsNoMap (leading input))) }
+{
+    let mut ranges = Vec::new(alloc);
+    let mut line = Vec::new(alloc);
+    for number in 0..u64::MAX {
+        if !next_line(reader, &mut line)? {
+            return Ok(ranges);
+        }
+        let fields = fields_in(alloc, &line)?;
+        if fields.is_empty() {
+            return Ok(ranges);
+        }
+        match map_line(alloc, &fields)? {
+            Some(range) => ranges.push(range)?,
+            None => return Err(Fault::BadMapLine(number + 1)),
+        }
+    }
+    Err(Fault::Input)
+}
+
+/// Reads one line in place of what `line` held, or answers that the input is at its end.
+fn next_line<R: BufRead>(reader: &mut R, line: &mut Vec<u8>) -> io::Result<bool>
+    ensures text { OnOk result (IfSome (R.remaining reader.old) (λ input. line.new.items ≡ line_of input)) }
+    ensures there { IfOk result (λ there. IfSome (R.remaining reader.old) (λ input. there ≡ nat_lt 0 (length input))) }
+    ensures rest { OnOk result (DropsThrough (R.remaining reader.old) (R.remaining reader.new) 10) }
+{
+    line.clear();
+    if reader.read_until(b'\n', line)? == 0 {
+        return Ok(false);
+    }
+    strip(line, b'\n');
+    strip(line, b'\r');
+    Ok(true)
+}
+
+/// Takes the byte off the end of a line, if it stands there.
+fn strip(line: &mut Vec<u8>, byte: u8)
+    ensures { line.new.items ≡ strip_last byte line.old.items }
+{
+    if line.last() == Some(&byte) {
+        line.truncate(line.len() - 1);
+    }
+}
+
+fn fields_in(alloc: Global, line: &[u8]) -> Result<Vec<&[u8]>, AllocError>
+    ensures { IfOk result (λ fields. map (λ field. field.now) fields.items ≡ fields_of line.now) }
+{
+    line.split(|byte| *byte == b' ')
+        .filter(|field| !field.is_empty())
+        .collect(alloc)
+}
+
+/// The range of a line with these fields, if it is a map line.
+fn map_line(alloc: Global, fields: &[&[u8]]) -> Result<Option<SlotRange>, AllocError>
+    ensures { IfOk result (λ range. MatchOption range
+        ((range : RangeNodes) → ¬ (IsMapLine (map (λ field. field.now) fields.now) range))
+        (IsMapLine (map (λ field. field.now) fields.now))) }
+{
+    let [start, end, primary, replicas @ ..] = fields else {
+        return Ok(None);
+    };
+    let (Some(start), Some(end)) = (number_of(start), number_of(end)) else {
+        return Ok(None);
+    };
+    let Some(primary) = node_of(alloc, primary)? else {
+        return Ok(None);
+    };
+    let Some(replicas) = nodes_of(alloc, replicas)? else {
+        return Ok(None);
+    };
+    Ok(Some(SlotRange::new(start, end, primary, replicas)))
+}
+
+fn number_of(field: &[u8]) -> Option<u16>
+    ensures { result ≡ number_in 16 field.now }
+{
+    let Ok(text) = str::from_utf8(field) else {
+        return None;
+    };
+    match text.parse() {
+        Ok(number) => Some(number),
+        Err(_) => None,
+    }
+}
+
+fn node_of(alloc: Global, field: &[u8]) -> Result<Option<NodeAddress>, AllocError>
+    ensures { IfOk result (λ node. MatchOption node
+        ((address : Address) → ¬ (IsNodeField field.now address))
+        (IsNodeField field.now)) }
+{
+    let Ok(text) = str::from_utf8(field) else {
+        return Ok(None);
+    };
+    let Ok((host, port)) = split_node_address(text) else {
+        return Ok(None);
+    };
+    Ok(Some(NodeAddress::new(alloc, host, port)?))
+}
+
+fn nodes_of(alloc: Global, fields: &[&[u8]]) -> Result<Option<Vec<NodeAddress>>, AllocError>
+    ensures { IfOk result (λ nodes. MatchOption nodes
+        ((addresses : List Address) → ¬ (AllZip IsNodeField (map (λ field. field.now) fields.now) addresses))
+        (λ nodes. AllZip IsNodeField (map (λ field. field.now) fields.now) nodes.items)) }
+{
+    let mut nodes = Vec::with_capacity(alloc, fields.len())?;
+    for field in fields {
+        let Some(node) = node_of(alloc, field)? else {
+            return Ok(None);
+        };
+        nodes.push(node)?;
+    }
+    Ok(Some(nodes))
+}

@@ -1,0 +1,110 @@
+ghost use Rattle.std.specs.Prelude.{◌≡◌, ℕ, List, Some, ◌∷◌, ◌++◌, map, string_bytes, option_copied, IfOk, IfErr, OnOk, MatchResult};
+ghost use Rattle.std.specs.List.{flat_map};
+ghost use Rattle.redis_cluster.specs.Complete.{AreSubCommands};
+ghost use Rattle.redis_cluster.specs.ReadOnly.{is_among};
+ghost use Rattle.redis_cluster.specs.Target.{parts_of};
+ghost use Rattle.slotroute_serve.specs.Faults.{IsNoSplit};
+ghost use Rattle.slotroute_serve.specs.Lines.{space};
+ghost use Rattle.slotroute_serve.specs.Split.{only_reads, part_line, AreLines, IsSplitAnswer};
+
+use crate::fault::Fault;
+use cluster_map::{NodeAddress, Route, SlotMap};
+use redis_cluster::routing::{ReadOnlyNames, command_for_multi_slot_indices, multi_slot_routes};
+use resp_core::Cmd;
+use std::alloc::{AllocError, Global};
+
+/// The lines and the status that answer for a command with these words.
+pub fn split_answer(
+    alloc: Global,
+    slot_map: &SlotMap,
+    words: &[String],
+) -> Result<(Vec<u8>, u8), Fault>
+    ensures { MatchResult result
+        (λ answer. IsSplitAnswer slot_map.now (map string_bytes words.now) answer.0.items answer.1)
+        (IsNoSplit (map string_bytes words.now)) }
+{
+    let command = command_of(alloc, words)?;
+    let read_only = read_only_names(alloc)?;
+    let Some(routes) = multi_slot_routes(alloc, &command, &read_only)? else {
+        return Err(Fault::NotMultiKey);
+    };
+    lines_of(alloc, slot_map, &command, &routes)
+}
+
+fn command_of(alloc: Global, words: &[String]) -> Result<Cmd, AllocError>
+    ensures { IfOk result (λ command. command ≡ map string_bytes words.now) }
+{
+    let mut command = Cmd::with_capacity(alloc, words.len())?;
+    for word in words {
+        command.write_arg(word.as_bytes())?;
+    }
+    Ok(command)
+}
+
+/// The names of the commands that only read.
+fn read_only_names(alloc: Global) -> Result<ReadOnlyNames, AllocError>
+    ensures { IfOk result (λ names. (name : List ℕ) → is_among names name ≡ only_reads name) }
+{
+    let mut names = ReadOnlyNames::new(alloc);
+    names.insert(alloc, b"EXISTS")?;
+    names.insert(alloc, b"JSON.MGET")?;
+    names.insert(alloc, b"MGET")?;
+    Ok(names)
+}
+
+/// A line for the part of each route, and whether each has a node, as a status.
+fn lines_of(
+    alloc: Global,
+    slot_map: &SlotMap,
+    command: &Cmd,
+    routes: &[(Route, Vec<usize>)],
+) -> Result<(Vec<u8>, u8), Fault>
+    requires { AreSubCommands (map Some command.now) (parts_of routes.now) }
+    ensures lines { IfOk result (λ answer. AreLines slot_map.now command.now (parts_of routes.now) answer.0.items answer.1) }
+    ensures memory { IfErr result (λ fault. fault ≡ Fault.Memory) }
+{
+    let mut lines = Vec::new(alloc);
+    let mut status = 0;
+    for (route, places) in routes {
+        let Ok(part) = command_for_multi_slot_indices(alloc, command, places) else {
+            // No argument of a part is missing, so it was memory.
+            return Err(Fault::Memory);
+        };
+        let node = slot_map.slot_addr_for_route(*route, 0);
+        if node.is_none() {
+            status = 1;
+        }
+        lines.extend_from_slice(&line_of(alloc, route.slot(), node, &part)?)?;
+    }
+    Ok((lines, status))
+}
+
+/// The line of a part: its slot, its node, and its words.
+fn line_of(
+    alloc: Global,
+    slot: u16,
+    node: Option<&NodeAddress>,
+    part: &Cmd,
+) -> Result<Vec<u8>, AllocError>
+    ensures { IfOk result (λ line. line.items ≡ part_line record { slot = slot; node = option_copied node.entry; words = part.now }) }
+{
+    let place = match node {
+        Some(node) => format!(in alloc; "{slot} {node}")?,
+        None => format!(in alloc; "{slot} none")?,
+    };
+    let mut line = place.into_bytes();
+    push_words(&mut line, part)?;
+    line.push(b'\n')?;
+    Ok(line)
+}
+
+/// Adds the words at the end, each behind a space.
+fn push_words(line: &mut Vec<u8>, words: &Cmd) -> Result<(), AllocError>
+    ensures { OnOk result (line.new.items ≡ line.old.items ++ flat_map (λ word. space ∷ word) words.now) }
+{
+    for word in words.args() {
+        line.push(b' ')?;
+        line.extend_from_slice(word)?;
+    }
+    Ok(())
+}

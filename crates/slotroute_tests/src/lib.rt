@@ -1,0 +1,5 @@
+//! Tests of the public calls of `slotroute`.
+#![tactic(auto)]
+
+#[cfg(test)]
+mod serve;
