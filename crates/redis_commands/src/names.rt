@@ -2,7 +2,7 @@ use super::policy::{AggregateOp, LogicalAggregateOp, ResponsePolicy};
 use super::ways::{MultiSlotArgPattern, Way};
 
 /// The names whose way is not that of most names, by ascending bytes.
-pub const WAYS: [(&[u8], Way); 155] = [
+pub(super) const WAYS: [(&[u8], Way); 155] = [
     (b"ACL DELUSER", Way::AllNodes),
     (b"ACL DRYRUN", Way::Random),
     (b"ACL GENPASS", Way::Random),
@@ -167,7 +167,7 @@ pub const WAYS: [(&[u8], Way); 155] = [
 ];
 
 /// The names that have a policy, by ascending bytes.
-pub const POLICIES: [(&[u8], ResponsePolicy); 56] = [
+pub(super) const POLICIES: [(&[u8], ResponsePolicy); 56] = [
     (b"ACL DELUSER", ResponsePolicy::AllSucceeded),
     (b"ACL SAVE", ResponsePolicy::AllSucceeded),
     (b"ACL SETUSER", ResponsePolicy::AllSucceeded),
@@ -239,7 +239,7 @@ pub const POLICIES: [(&[u8], ResponsePolicy); 56] = [
 ];
 
 /// The words that a second one belongs to, by ascending bytes.
-pub const TWO_WORD_NAMES: [&[u8]; 15] = [
+pub(super) const TWO_WORD_NAMES: [&[u8]; 15] = [
     b"ACL",
     b"CLIENT",
     b"CLUSTER",

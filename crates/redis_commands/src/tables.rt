@@ -2,7 +2,7 @@ ghost use Rattle.std.specs.Prelude.{◌≡◌, map, true};
 ghost use Rattle.redis_commands.specs.Table.{lookup, has_name, ascends};
 
 /// What stands beside the name in a table by ascending names.
-pub fn find<V: Copy>(rows: &[(&[u8], V)], name: &[u8]) -> Option<V>
+pub(super) fn find<V: Copy>(rows: &[(&[u8], V)], name: &[u8]) -> Option<V>
     requires { ascends (map (λ row. row.0.now) rows.now) ≡ true }
     ensures { result ≡ lookup (map (λ row. (row.0.now, row.1)) rows.now) name.now }
 {
