@@ -1,3 +1,4 @@
+pub mod Disjoint
 pub mod Ranges
 pub mod SameRanges
 pub mod Trees

@@ -20,6 +20,10 @@ pub record RangeNodes : Type 0 where
 abbrev pub nodes_of : RangeNodes → Nodes
 nodes_of r = record { primary = r.master; replicas = r.replicas }
 
+-- the entry of a range
+abbrev pub range_entry : RangeNodes → Entry Nodes
+range_entry r = (r.start, r.end, nodes_of r)
+
 -- whether two ranges have the same ends and the same nodes in the same order
 abbrev pub same_range : RangeNodes → RangeNodes → Bool
 same_range =

@@ -1,8 +1,8 @@
-ghost use Rattle.std.specs.Prelude.{◌≡◌, [], IfOk, IsTrue, ◌↔◌, MatchOption};
+ghost use Rattle.std.specs.Prelude.{◌≡◌, List, [], map, IfOk, IsTrue, ◌↔◌, MatchOption, Contains, IsPermutation};
 ghost use Rattle.std.specs.Cmp.Rules.{comparing};
 ghost use Rattle.std.proofs.Common.{rules};
-ghost use Rattle.cluster_map.specs.Nodes.{Nodes, RangeNodes, nodes_of, same_range, filled};
-ghost use Rattle.cluster_map.specs.RangeMap.{Ascends, IsUncovered};
+ghost use Rattle.cluster_map.specs.Nodes.{Nodes, RangeNodes, nodes_of, range_entry, same_range, filled};
+ghost use Rattle.cluster_map.specs.RangeMap.{Entry, Ascends, AreDisjoint, IsUncovered};
 ghost use Rattle.cluster_map.specs.RouteNode.{IsAsked, IsNodeOfRoute};
 
 use crate::slot_range_map::SlotRangeMap;
@@ -108,7 +108,7 @@ impl SlotAddrs {
 }
 
 /// Which nodes serve which slots of a cluster.
-#[derive(Drop)]
+#[derive(Debug, Drop)]
 pub struct SlotMap {
     slots: SlotRangeMap<SlotAddrs>,
 }
@@ -140,8 +140,13 @@ impl SlotMap {
 
     /// The map of these ranges, put in one after the other: a later range takes the place of an
     /// earlier one that has the same end.
+    #[tactic(auto, using(crate::proofs::Disjoint::any_order))]
     pub fn from_slots(alloc: Global, slots: Vec<SlotRange>) -> Result<Self, AllocError>
-        ensures { IfOk result (λ map. map ≡ filled [] slots.items) }
+        ensures put { IfOk result (λ map. map ≡ filled [] slots.items) }
+        // Where no two of the ranges meet and none is reversed, each has its entry,
+        ensures kept { AreDisjoint (map range_entry slots.items) → IfOk result (λ m. (e : Entry Nodes) → Contains m e ↔ Contains (map range_entry slots.items) e) }
+        // and their order does not count.
+        ensures any_order { (others : List RangeNodes) → IsPermutation slots.items others → AreDisjoint (map range_entry slots.items) → IfOk result (λ m. m ≡ filled [] others) }
     {
         let mut map = SlotMap::new(alloc);
         for slot in slots {

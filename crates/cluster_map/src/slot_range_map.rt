@@ -10,7 +10,7 @@ use std::marker::Model;
 ///
 /// The range that ends first at a slot or after it is the one that answers for the slot, if it
 /// starts there or before. So a range that overlaps another, or is reversed, can hide the other.
-#[derive(Drop)]
+#[derive(Debug, Drop)]
 pub struct SlotRangeMap<V> {
     // by end: the start and the value
     ranges: BTreeMap<u16, (u16, V)>,
@@ -61,7 +61,8 @@ impl<V> SlotRangeMap<V> {
     /// The value that answers for the slot. O(log n).
     pub fn get(&self, slot: u16) -> Option<&V>
         ensures least { MatchOption result (IsUncovered self.now slot) (λ value. Answers self.now slot value.now) }
-        // Where no two ranges meet, it is the value of the one that contains the slot.
+        // Where no two ranges meet and none is reversed, it is the value of the one that contains the
+        // slot.
         ensures disjoint { AreDisjoint self.now → MatchOption result (IsHeldByNone self.now slot) (λ value. IsHeldWith self.now slot value.now) }
         ensures order { Ascends self.now }
     {

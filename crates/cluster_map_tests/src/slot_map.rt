@@ -106,6 +106,18 @@ fn a_new_map_is_empty(rt: HostRuntime) {
 }
 
 #[test]
+fn the_debug_text_of_a_map_has_its_ranges(rt: HostRuntime) -> Result<(), Fail> {
+    let alloc = rt.alloc();
+    let range = range_of(alloc, 1, 1000, "p:1", &["r:2"])?;
+    let map = SlotMap::from_slots(alloc, vec![in alloc; range]?)?;
+    let text = format!(in alloc; "{map:?}")?;
+    for part in ["SlotMap", "SlotRangeMap", "SlotAddrs", "1000", "p:1", "r:2"] {
+        assert!(rt; text.as_str().contains(part), "{part} in {text}");
+    }
+    Ok(())
+}
+
+#[test]
 fn ranges_are_equal_where_their_ends_and_nodes_are(rt: HostRuntime) -> Result<(), Fail> {
     let alloc = rt.alloc();
     let range = range_of(alloc, 1, 1000, "p:1", &["r:1", "r:2"])?;

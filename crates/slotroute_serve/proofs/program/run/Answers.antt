@@ -21,9 +21,9 @@ pub returns-in_err-emit : goal.returns-in_err-emit
 returns-in_err-emit g c =
     let (k, part) = c.in_err-emit.ensures.begun in
     not_written _ (g.R.Read.remaining c.args.reader.now) (g.O.Write.contents c.args.out.now) (g.O.Write.contents c.emit.new.writer) c.in_ok-ranges.ranges.items c.deref.result.now c.in_ok-text.status k c.in_err-emit.field-0.0 c.from_residual-in_err-emit.result
-    c.in_ok-ranges.ensures (rw (c.in_ok-map.ensures, ← c.deref.ensures.value) at (c.in_ok-text.ensures _ c.in-Some.ensures)) part c.in_err-emit.ensures.fault c.from_residual-in_err-emit.ensures.1
+    c.in_ok-ranges.ensures (rw (c.in_ok-map.ensures.put, ← c.deref.ensures.value) at (c.in_ok-text.ensures _ c.in-Some.ensures)) part c.in_err-emit.ensures.fault c.from_residual-in_err-emit.ensures.1
 
 pub returns : goal.returns
 returns g c =
     answered _ (g.R.Read.remaining c.args.reader.now) (g.O.Write.contents c.args.out.now) (g.O.Write.contents c.emit.new.writer) c.in_ok-ranges.ranges.items c.deref.result.now c.in_ok-text.status
-    c.in_ok-ranges.ensures (rw (c.in_ok-map.ensures, ← c.deref.ensures.value) at (c.in_ok-text.ensures _ c.in-Some.ensures)) c.in_ok-emit.ensures.ok
+    c.in_ok-ranges.ensures (rw (c.in_ok-map.ensures.put, ← c.deref.ensures.value) at (c.in_ok-text.ensures _ c.in-Some.ensures)) c.in_ok-emit.ensures.ok
