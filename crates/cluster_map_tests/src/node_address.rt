@@ -102,6 +102,21 @@ fn addresses_print_as_host_colon_port(rt: HostRuntime) -> Result<(), Fail> {
 }
 
 #[test]
+fn long_hosts_print_whole(rt: HostRuntime) -> Result<(), Fail> {
+    let alloc = rt.alloc();
+    for length in [1, 16, 300, 70_000] {
+        let host = "h".repeat(alloc, length)?;
+        let text = format!(in alloc; "{}:6379", host.as_str())?;
+        let address = NodeAddress::new(alloc, host.as_str(), 6379)?;
+        let shown = format!(in alloc; "{address}")?;
+        assert!(rt; shown == text, "Display of a host of {length} bytes");
+        let debug = format!(in alloc; "{address:?}")?;
+        assert!(rt; debug == text, "Debug of a host of {length} bytes");
+    }
+    Ok(())
+}
+
+#[test]
 fn addresses_of_the_same_parts_are_equal(rt: HostRuntime) -> Result<(), Fail> {
     let alloc = rt.alloc();
     let address = NodeAddress::new(alloc, "h", 1)?;

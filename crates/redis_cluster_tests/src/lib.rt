@@ -3,27 +3,21 @@
 
 #[cfg(test)]
 mod for_routable;
-
 #[cfg(test)]
 mod given;
-
+#[cfg(test)]
+mod info;
 #[cfg(test)]
 mod pipeline;
-
 #[cfg(test)]
 mod policy;
-
 #[cfg(test)]
 mod read_only;
-
 #[cfg(test)]
 mod routable;
-
 #[cfg(test)]
 mod splitting;
-
 #[cfg(test)]
 mod sub_commands;
-
 #[cfg(test)]
 mod ways;

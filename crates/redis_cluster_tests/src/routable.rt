@@ -49,6 +49,29 @@ fn names_of_commands(rt: HostRuntime) -> Result<(), Fail> {
 }
 
 #[test]
+fn fifteen_words_take_a_second_one(rt: HostRuntime) -> Result<(), Fail> {
+    let alloc = rt.alloc();
+    let first_words = "XGROUP, OBJECT, SLOWLOG, FUNCTION, MODULE, COMMAND, PUBSUB, CONFIG, \
+        MEMORY, XINFO, CLIENT, ACL, SCRIPT, CLUSTER, LATENCY";
+    assert_eq!(rt; first_words.split(", ").count(), 15);
+    for word in first_words.split(", ") {
+        let name = format!(in alloc; "{word} HELP")?;
+        for cmd in [
+            cmd_of(alloc, &[word, "help"])?,
+            cmd_of(alloc, &[word, "help", "x"])?,
+        ] {
+            assert_eq!(rt; name_of(alloc, &cmd)?.as_str(), name.as_str());
+        }
+        assert_eq!(rt; name_of(alloc, &cmd_of(alloc, &[word])?)?.as_str(), word);
+    }
+    for word in ["GET", "XREAD", "TFUNCTION", "DEBUG", "LATENC", "LATENCYS"] {
+        let cmd = cmd_of(alloc, &[word, "help"])?;
+        assert_eq!(rt; name_of(alloc, &cmd)?.as_str(), word);
+    }
+    Ok(())
+}
+
+#[test]
 fn names_of_values_with_gaps(rt: HostRuntime) -> Result<(), Fail> {
     let alloc = rt.alloc();
     assert_eq!(rt; name_of(alloc, &Value::Nil)?.as_str(), "none");
