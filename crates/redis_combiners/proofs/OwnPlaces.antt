@@ -6,7 +6,7 @@ use Rattle.std.proofs.lemmas.Bool.Decides.{nat_tests}
 use Rattle.std.proofs.lemmas.List.FromFn.{length-map-range_with_len, get_or-map-range_with_len}
 use Rattle.resp_core.specs.Reply.{Reply}
 use Rattle.redis_combiners.specs.Arranged.{items_at, singles, arranged}
-use Rattle.redis_combiners.proofs.Filled.{by_test}
+use Rattle.redis_commands.proofs.Cases.{by_test}
 
 some_cons : (o : Option (List Reply)) (x : Reply) (out : List Reply) → option_map (λ ys. x ∷ ys) o ≡ Some out → (ys : List Reply) × (o ≡ Some ys) × (out ≡ x ∷ ys)
 some_cons None x out e = absurd (cc)

@@ -1,5 +1,6 @@
 pub mod Agree
 pub mod Arguments
+pub mod Cases
 pub mod CommandNames
 pub mod NameSets
 pub mod Search

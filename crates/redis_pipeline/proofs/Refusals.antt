@@ -1,5 +1,5 @@
 -- The names that a pipeline refuses are short, and bytes that are UTF-8 are a text.
-use Rattle.std.proofs.Common.{◌≡◌, ℕ, ◌<◌, ◌≤◌, List, [], ◌∷◌, Bool, true, false, refl, sym, ap, map, length, arith}
+use Rattle.std.proofs.Common.{◌≡◌, ℕ, ◌<◌, ◌≤◌, List, [], ◌∷◌, true, false, refl, sym, ap, map, length, arith}
 use Rattle.std.specs.Prelude.{nat_eq, nat_le}
 use Rattle.std.specs.Str.{bytes_eq, IsUtf8}
 use Rattle.std.specs.Str.Lossy.{utf8_valid_len}
@@ -11,10 +11,7 @@ use Rattle.redis_commands.specs.Table.{has_name}
 use Rattle.redis_pipeline.specs.Refusals.{is_refused, refused_names}
 use Rattle.redis_commands.specs.Upper.{upper}
 use Rattle.redis_pipeline.specs.Pipeline.{text_of}
-
-by_test : {P : Type 0} (b : Bool) → (b ≡ true → P) → (b ≡ false → P) → P
-by_test true f g = f refl
-by_test false f g = g refl
+use Rattle.redis_commands.proofs.Cases.{by_test}
 
 short : (names : List (List ℕ)) (n : List ℕ) → map (λ x. nat_le (length x) 32) names ≡ map (λ x. true) names → has_name names n ≡ true → length n ≤ 32
 short [] n each h = cc

@@ -1,5 +1,5 @@
 -- A command whose first word is spelt in another case goes where it went.
-use Rattle.std.proofs.Common.{◌≡◌, ℕ, zero, suc, ◌+◌, List, [], ◌∷◌, Bool, true, false, Option, None, Some, map, refl, sym, ap, ◌∙◌, add-one}
+use Rattle.std.proofs.Common.{◌≡◌, ℕ, zero, suc, ◌+◌, List, [], ◌∷◌, Bool, true, Option, None, Some, map, refl, sym, ap, ◌∙◌, add-one}
 use Rattle.std.specs.Prelude.{codes, position, nat_lt}
 use Rattle.std.specs.Char.{to_ascii_lowercase}
 use Rattle.std.specs.Str.{bytes_eq}
@@ -11,6 +11,7 @@ use Rattle.redis_commands.specs.Table.{lookup}
 use Rattle.redis_commands.specs.Ways.{ways, way_in}
 use Rattle.redis_commands.specs.declared.ways.Way.{Way}
 use Rattle.redis_commands.specs.declared.ways.Way.TheVariants as way
+use Rattle.redis_commands.proofs.Cases.{by_test}
 
 -- whether the key and its count stand behind the first word
 abbrev behind_first : Option Way → Bool
@@ -24,10 +25,6 @@ all_behind (row ∷ rows) each name =
     by_test (bytes_eq row.0 name)
     (λ equal. let first : behind_first (Some row.1) ≡ true = cc each in rw equal first)
     (λ unlike. let rest : map (λ row. behind_first (Some row.1)) rows ≡ map (λ row. true) rows = cc each in rw unlike (all_behind rows rest name))
-  where
-    by_test : {P : Type 0} (b : Bool) → (b ≡ true → P) → (b ≡ false → P) → P
-    by_test true f g = f refl
-    by_test false f g = g refl
 
 ways_behind : (name : List ℕ) → behind_first (way_in name) ≡ true
 unfolding way_in
