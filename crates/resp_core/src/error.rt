@@ -3,7 +3,7 @@ ghost use Rattle.resp_core.specs.Fault.{Fault, out_of_memory, same_fault};
 ghost use Rattle.std.specs.Cmp.Rules.{comparing};
 ghost use Rattle.std.proofs.Common.{rules};
 
-use std::alloc::AllocError;
+use std::alloc::{AllocError, AllocFailed};
 use std::marker::Model;
 
 /// What kind of thing went wrong.
@@ -90,6 +90,15 @@ impl From<AllocError> for RedisError {
             desc: "out of memory",
             detail: None,
         }
+    }
+}
+
+/// What could not be kept is let go.
+impl<T: Drop> From<AllocFailed<T>> for RedisError {
+    ghost from_gives = { λ _ e. e ≡ out_of_memory };
+
+    fn from(_refused: AllocFailed<T>) -> Self {
+        RedisError::from(AllocError)
     }
 }
 

@@ -1,0 +1,63 @@
+//! What a user of the layer writes: a map, the node of a key, where a command goes, and one reply of
+//! several.
+#![tactic(auto)]
+
+ghost use Rattle.std.specs.Prelude.{◌≡◌, Some, None, map, MatchOption, MatchResult, IfOk, option_map};
+ghost use Rattle.resp_core.specs.View.{view};
+ghost use Rattle.resp_core.specs.declared.error.ErrorKind.TheVariants.{UnexpectedReturnType};
+ghost use Rattle.cluster_map.specs.KeySlot.{key_slot};
+ghost use Rattle.cluster_map.specs.RangeMap.{IsUncovered};
+ghost use Rattle.cluster_map.specs.RouteNode.{IsNodeOfRoute};
+ghost use Rattle.cluster_slots.specs.declared.slot.SlotAddr.TheVariants.{Master};
+ghost use Rattle.redis_cluster.specs.Aggregate.{aggregated};
+ghost use Rattle.redis_commands.specs.declared.policy.AggregateOp.TheVariants.{Sum};
+
+use cluster_map::{NodeAddress, Route, SlotAddr, SlotMap, SlotRange};
+use redis_cluster::routing::{AggregateOp, ReadOnlyNames, RoutingInfo, aggregate};
+use resp_core::{Cmd, RedisResult, Value};
+use std::alloc::{AllocError, Global};
+
+/// A map of two nodes, each with half of the slots.
+pub fn two_nodes(alloc: Global) -> RedisResult<SlotMap> {
+    let low = NodeAddress::try_from(alloc, "10.0.0.1:6379")?;
+    let high = NodeAddress::try_from(alloc, "10.0.0.2:6379")?;
+    let slots = vec![in alloc;
+        SlotRange::new(0, 8191, low, Vec::new(alloc)),
+        SlotRange::new(8192, 16383, high, Vec::new(alloc)),
+    ]?;
+    Ok(SlotMap::from_slots(alloc, slots)?)
+}
+
+/// The primary that a `SET` of the key goes to, if the map has the key's slot.
+pub fn primary_of<'a>(map: &'a SlotMap, key: &[u8]) -> Option<&'a NodeAddress>
+    ensures { MatchOption result
+        (IsUncovered map.now (key_slot key.now))
+        (λ node. IsNodeOfRoute map.now (record { slot = key_slot key.now; addr = Master }) 0 node.now) }
+{
+    map.slot_addr_for_route(Route::with_key(key, SlotAddr::Master), 0)
+}
+
+/// Where `MGET key1 key2` goes, if replicas may serve it.
+pub fn where_to_read(
+    alloc: Global,
+    key1: &[u8],
+    key2: &[u8],
+) -> Result<Option<RoutingInfo>, AllocError> {
+    let mut read_only = ReadOnlyNames::new(alloc);
+    read_only.insert(alloc, b"MGET")?;
+    let mut command = Cmd::new(alloc);
+    command.arg(b"MGET")?.arg(key1)?.arg(key2)?;
+    RoutingInfo::for_routable(alloc, &command, &read_only)
+}
+
+/// How many keys a `DEL` deleted, by the replies to its parts.
+pub fn deleted(replies: Vec<Value>) -> RedisResult<Value>
+    ensures { MatchResult result
+        (λ count. aggregated Sum (map view replies.items) ≡ Some (view count))
+        (λ error. (aggregated Sum (map view replies.items) ≡ None) × (error.kind ≡ UnexpectedReturnType)) }
+{
+    aggregate(replies, AggregateOp::Sum)
+}
+
+#[cfg(test)]
+mod tests;
