@@ -1,40 +1,47 @@
 -- The reply, step by step.
-use Rattle.std.proofs.Common.{◌≡◌, ℕ, List, length, Some, Ok, Err, ap, sym, ◌∙◌, arith, true, cond, eqb, Vec, Global}
-use Rattle.std.specs.Prelude.{flat_map}
-use Rattle.std.proofs.lemmas.Bool.Decides.{nat_tests}
+use Rattle.std.proofs.Common.{◌≡◌, ℕ, List, length, map, Option, Some, None, Err, refl, ap, sym, ◌∙◌, cond}
+use Rattle.std.specs.Prelude.{option_map, option_and_then}
+use Rattle.std.proofs.lemmas.Bool.{eq-eqb}
+use Rattle.std.proofs.lemmas.List.{length-map}
 use Rattle.resp_core.specs.Reply.{Reply}
 use Rattle.resp_core.specs.declared.error.ErrorKind.TheVariants.{Client}
-use Rattle.std.proofs.lemmas.List.{length-map}
-use Rattle.redis_combiners.proofs.Gathering.{plain, flat_is, gathered_length}
+use Rattle.redis_combiners.specs.AllItems.{all_items}
+use Rattle.redis_combiners.specs.ByPlaces.{by_places}
 use Rattle.redis_combiners.specs.KeyPlaces.{all_places}
-use Rattle.redis_combiners.specs.Gathered.{gathered}
-use Rattle.redis_combiners.specs.Arranged.{arranged}
-use Rattle.redis_combiners.specs.SortedArrays.{sorted_arrays, sorted_by_places, sorted_from, as_reply}
+use Rattle.redis_combiners.specs.Lists.{flatten}
+use Rattle.redis_combiners.specs.Misfits.{first_misfit}
+use Rattle.redis_combiners.specs.SortedArrays.{array_of, array_by_places, sorted_arrays}
 use Rattle.redis_commands.specs.declared.ways.MultiSlotArgPattern.{MultiSlotArgPattern}
+use Rattle.redis_combiners.proofs.Misfits.{items_length}
 
-equal : (a b : ℕ) → a ≡ b → eqb a b ≡ true
-equal a b h = grind (arith, nat_tests)
+-- the lists of places that were found: all in one list, and how long each is
+pub record Found (o : Option (List (List ℕ))) (all counts : List ℕ) : Type 0 where
+  pub lists : List (List ℕ)
+  pub is : o ≡ Some lists
+  pub all_are : all ≡ flatten lists
+  pub counts_are : counts ≡ map length lists
 
-pub sorted_arrays_is : (pattern : MultiSlotArgPattern) (rs : List Reply) (lists pss : List (List ℕ)) (xs : List Reply)
-    → Some pss ≡ all_places pattern lists → length rs ≡ length pss → gathered rs pss ≡ Ok xs
-    → sorted_arrays pattern rs lists ≡ as_reply (arranged (flat_map (λ ps. ps) pss) xs)
-sorted_arrays_is pattern rs lists pss xs e n g =
-    ap (λ o. sorted_by_places o rs) (sym e)
-    ∙ ap (λ b. cond b (sorted_from (flat_map (λ ps. ps) pss) (gathered rs pss)) (Err Client)) (equal (length rs) (length pss) n)
-    ∙ ap (sorted_from (flat_map (λ ps. ps) pss)) g
+pub found : (o : Option (List (List ℕ))) (all counts : List ℕ) → Some all ≡ option_map flatten o → Some counts ≡ option_map (map length) o → Found o all counts
+found None all counts e f = absurd (cc)
+found (Some pss) all counts e f = record { lists = pss; is = refl; all_are = cc; counts_are = cc }
 
 -- the last step, where the parts of the reply are known
-pub record Known (pattern : MultiSlotArgPattern) (rs : List Reply) (lists : List (List ℕ)) (found : List (Vec ℕ Global)) (ps : List ℕ) (xs : List Reply) : Type 0 where
-  pub long : length xs ≡ length ps
-  pub is : sorted_arrays pattern rs lists ≡ as_reply (arranged ps xs)
+pub record Known (pattern : MultiSlotArgPattern) (rs : List Reply) (lists : List (List ℕ)) (all : List ℕ) (xs : List Reply) : Type 0 where
+  pub long : length xs ≡ length all
+  pub is : sorted_arrays pattern rs lists ≡ array_of None (by_places all xs)
 
-pub known : (pattern : MultiSlotArgPattern) (rs : List Reply) (lists : List (List ℕ)) (found : List (Vec ℕ Global)) (ps : List ℕ) (xs : List Reply)
-    → Some (plain found) ≡ all_places pattern lists → length rs ≡ length found → gathered rs (plain found) ≡ Ok xs → ps ≡ flat_map (λ w. w.items) found
-    → Known pattern rs lists found ps xs
-known pattern rs lists found ps xs e n g p =
-    let m : length rs ≡ length (plain found) = n ∙ sym (length-map found (λ w. w.items)) in
-    let q : ps ≡ flat_map (λ ps. ps) (plain found) = p ∙ flat_is found in
+pub known : (pattern : MultiSlotArgPattern) (rs : List Reply) (lists : List (List ℕ)) (all counts : List ℕ) (xs : List Reply)
+    → Found (all_places pattern lists) all counts → length rs ≡ length counts → first_misfit rs counts ≡ None → all_items rs ≡ Some xs
+    → Known pattern rs lists all xs
+known pattern rs lists all counts xs p n f g =
+    let m : length rs ≡ length p.lists = n ∙ ap length p.counts_are ∙ length-map p.lists length in
+    let h : first_misfit rs (map length p.lists) ≡ None = ap (first_misfit rs) (sym p.counts_are) ∙ f in
+    let sorted : Option (List Reply) = option_and_then (by_places (flatten p.lists)) (all_items rs) in
     record {
-      long = gathered_length rs (plain found) xs m g ∙ ap length (sym q);
-      is = sorted_arrays_is pattern rs lists (plain found) xs e m g ∙ ap (λ qs. as_reply (arranged qs xs)) (sym q);
+      long = items_length rs p.lists xs m h g ∙ ap length (sym p.all_are);
+      is = ap (λ o. array_by_places o rs) p.is
+          ∙ ap (λ b. cond b (array_of (first_misfit rs (map length p.lists)) sorted) (Err Client)) (eq-eqb (length rs) (length p.lists) m)
+          ∙ ap (λ k. array_of k sorted) h
+          ∙ ap (λ o. array_of None (option_and_then (by_places (flatten p.lists)) o)) g
+          ∙ ap (λ qs. array_of None (by_places qs xs)) (sym p.all_are);
     }

@@ -1,15 +1,16 @@
 -- Slots that are filled from the last item on.
-use Rattle.std.proofs.Common.{◌≡◌, ◌≢◌, ℕ, zero, suc, ◌+◌, ◌<◌, ◌≤◌, Bool, true, false, cond, List, [], ◌∷◌, ◌++◌, length, map, take, drop, get_or, Option, Some, None, refl, ap, sym, ◌∙◌, subst, arith, is_some, lit<, Vec, Global}
+use Rattle.std.proofs.Common.{◌≡◌, ℕ, zero, suc, ◌+◌, ◌<◌, ◌≤◌, Bool, true, false, cond, List, [], ◌∷◌, ◌++◌, length, map, take, drop, get_or, Option, Some, None, refl, ap, sym, ◌∙◌, subst, arith, is_some, lit<, Vec, Global}
 use Rattle.std.proofs.Math.ListN.{set}
-use Rattle.std.specs.Prelude.{option_map, option_to_list, nat_eq, nat_lt, ◌&&◌}
-use Rattle.std.specs.List.{range_with_len, list_all}
-use Rattle.std.proofs.lemmas.Bool.Decides.{nat_tests}
+use Rattle.std.specs.Prelude.{option_map, option_to_list, filter, nat_eq, nat_lt, ◌&&◌}
+use Rattle.std.specs.List.{range_with_len, list_all, zip}
+use Rattle.std.proofs.lemmas.Bool.{eqb-true, eqb-false, eq-eqb, le-ltb, lt-ltb}
 use Rattle.std.proofs.lemmas.List.{get_or-set_same, get_or-set_other, length-map, get_or-map, length_push, get_or-take, get_or_at, drop_more, take_at, take-take}
 use Rattle.std.proofs.lemmas.List.FromFn.{fill_by_all, length-map-range_with_len, get_or-map-range_with_len}
 use Rattle.resp_core.specs.Reply.{Reply}
 use Rattle.resp_core.specs.View.{view}
 use Rattle.resp_core.specs.declared.value.Value.{Value}
-use Rattle.redis_combiners.specs.Arranged.{items_at, single_to, singles, arranged}
+use Rattle.redis_combiners.specs.ByPlaces.{items_at, single, by_places}
+use Rattle.redis_combiners.specs.Lists.{all_some}
 
 abbrev pub shown : Option Value → List Reply
 shown s = option_to_list (option_map view s)
@@ -18,28 +19,28 @@ pub by_test : {A : Type 0} (b : Bool) → (b ≡ true → A) → (b ≡ false �
 by_test true f g = f refl
 by_test false f g = g refl
 
-same_from_eq : (a b : ℕ) → nat_eq a b ≡ true → a ≡ b
-same_from_eq a b e = grind (arith, nat_tests)
-
-eq_same : (a : ℕ) → nat_eq a a ≡ true
-eq_same a = grind (arith, nat_tests)
-
-apart_from_eq : (a b : ℕ) → nat_eq a b ≡ false → b ≢ a
-apart_from_eq a b e = grind (arith, nat_tests)
+pub items_at-cons : (k p : ℕ) (ps : List ℕ) (x : Reply) (xs : List Reply) → items_at k (p ∷ ps) (x ∷ xs) ≡ cond (nat_eq p k) (x ∷ items_at k ps xs) (items_at k ps xs)
+items_at-cons k p ps x xs = either (nat_eq p k)
+  where
+    either : (b : Bool) → map (λ e. e.1) (cond b ((p, x) ∷ filter (λ e. nat_eq e.0 k) (zip ps xs)) (filter (λ e. nat_eq e.0 k) (zip ps xs))) ≡ cond b (x ∷ items_at k ps xs) (items_at k ps xs)
+    either true = refl
+    either false = refl
 
 pub held_more : (slots : List (Option Value)) (place : ℕ) (item : Value) (ps : List ℕ) (xs : List Reply) → place < length slots
     → ((k : ℕ) (d : Option Value) → k < length slots → shown (get_or slots k d) ≡ items_at k ps xs)
     → shown (get_or slots place None) ≡ []
     → (k : ℕ) (d : Option Value) → k < length slots → shown (get_or (set slots place (Some item)) k d) ≡ items_at k (place ∷ ps) (view item ∷ xs)
 held_more slots place item ps xs l held empty k d lk = by_test (nat_eq place k)
-    (λ e. let same : place ≡ k = same_from_eq place k e in
+    (λ e. let same : place ≡ k = eqb-true place k e in
     ap (λ b. shown (get_or (set slots place (Some item)) b d)) (sym same)
     ∙ ap shown (get_or-set_same slots place (Some item) d l)
     ∙ ap (λ ys. view item ∷ ys) (sym empty ∙ held place None l ∙ ap (λ b. items_at b ps xs) same)
-    ∙ ap (λ b. cond b (view item ∷ items_at k ps xs) (items_at k ps xs)) (sym e))
-    (λ e. ap shown (get_or-set_other slots place k (Some item) d (apart_from_eq place k e))
+    ∙ ap (λ b. cond b (view item ∷ items_at k ps xs) (items_at k ps xs)) (sym e)
+    ∙ sym (items_at-cons k place ps (view item) xs))
+    (λ e. ap shown (get_or-set_other slots place k (Some item) d (λ h. eqb-false place k e (sym h)))
     ∙ held k d lk
-    ∙ ap (λ b. cond b (view item ∷ items_at k ps xs) (items_at k ps xs)) (sym e))
+    ∙ ap (λ b. cond b (view item ∷ items_at k ps xs) (items_at k ps xs)) (sym e)
+    ∙ sym (items_at-cons k place ps (view item) xs))
 
 -- a place past the end
 list_all_fails : (p : ℕ → Bool) (xs : List ℕ) (i : ℕ) → i < length xs → p (get_or xs i 0) ≡ false → list_all p xs ≡ false
@@ -51,11 +52,8 @@ list_all_fails p (x ∷ xs) (suc i) l e = ap (λ b. p x && b) (list_all_fails p 
     and_false true = refl
     and_false false = refl
 
-not_below : (p n : ℕ) → n ≤ p → nat_lt p n ≡ false
-not_below p n l = grind (arith, nat_tests)
-
-pub past_end : (ps : List ℕ) (xs : List Reply) (i : ℕ) → i < length ps → length ps ≤ get_or ps i 0 → arranged ps xs ≡ None
-past_end ps xs i l h = ap (λ b. cond b (singles (map (λ k. items_at k ps xs) (range_with_len 0 (length ps)))) None) (list_all_fails (λ p. nat_lt p (length ps)) ps i l (not_below (get_or ps i 0) (length ps) h))
+pub past_end : (ps : List ℕ) (xs : List Reply) (i : ℕ) → i < length ps → length ps ≤ get_or ps i 0 → by_places ps xs ≡ None
+past_end ps xs i l h = ap (λ b. cond b (all_some (map (λ k. single (items_at k ps xs)) (range_with_len 0 (length ps)))) None) (list_all_fails (λ p. nat_lt p (length ps)) ps i l (le-ltb (get_or ps i 0) (length ps) h))
 
 -- two items at one place
 items_at-parts : (k i : ℕ) (ps : List ℕ) (xs : List Reply) → length (items_at k (drop i ps) (drop i xs)) ≤ length (items_at k ps xs)
@@ -69,48 +67,49 @@ items_at-parts k (suc i) (p ∷ ps) [] = none_there ps
 
     none_there : (qs : List ℕ) → length (items_at k (drop i qs) []) ≤ 0
     none_there qs = omega (arith, ap length (none_at (drop i qs)))
-items_at-parts k (suc i) (p ∷ ps) (x ∷ xs) = one_more (nat_eq p k) (items_at-parts k i ps xs)
+items_at-parts k (suc i) (p ∷ ps) (x ∷ xs) = subst (λ ys. length (items_at k (drop i ps) (drop i xs)) ≤ length ys) (sym (items_at-cons k p ps x xs)) (one_more (nat_eq p k) (items_at-parts k i ps xs))
   where
     one_more : (b : Bool) → length (items_at k (drop i ps) (drop i xs)) ≤ length (items_at k ps xs) → length (items_at k (drop i ps) (drop i xs)) ≤ length (cond b (x ∷ items_at k ps xs) (items_at k ps xs))
     one_more true h = omega arith
     one_more false h = h
 
-two_at_once : (xs : List Reply) (o : Option (List Reply)) → 1 < length xs → single_to xs o ≡ None
-two_at_once [] o l = absurd (omega arith)
-two_at_once (x ∷ []) o l = absurd (omega arith)
-two_at_once (x ∷ (y ∷ xs)) o l = refl
+one_missing : {X : Type 0} (os : List (Option X)) (i : ℕ) → i < length os → get_or os i None ≡ None → all_some os ≡ None
+one_missing [] i l e = absurd (omega arith)
+one_missing (None ∷ os) i l e = refl
+one_missing (Some x ∷ os) zero l e = absurd (cc)
+one_missing (Some x ∷ os) (suc i) l e = ap (option_map (λ xs. x ∷ xs)) (one_missing os i (omega arith) e)
 
-none_kept : (xs : List Reply) → single_to xs None ≡ None
-none_kept [] = refl
-none_kept (x ∷ []) = refl
-none_kept (x ∷ (y ∷ xs)) = refl
+not_single : (xs : List Reply) → 1 < length xs → single xs ≡ None
+not_single [] l = absurd (omega arith)
+not_single (x ∷ []) l = absurd (omega arith)
+not_single (x ∷ (y ∷ xs)) l = refl
 
-singles-two : (xss : List (List Reply)) (i : ℕ) → i < length xss → 1 < length (get_or xss i []) → singles xss ≡ None
-singles-two [] i l h = absurd (omega arith)
-singles-two (xs ∷ xss) zero l h = two_at_once xs (singles xss) h
-singles-two (xs ∷ xss) (suc i) l h = ap (single_to xs) (singles-two xss i (omega arith) h) ∙ none_kept xs
+single_shown : (slot : Option Value) → single (shown slot) ≡ option_map view slot
+single_shown None = refl
+single_shown (Some v) = refl
 
 either_none : (b : Bool) (o : Option (List Reply)) → o ≡ None → cond b o None ≡ None
 either_none true o e = e
 either_none false o e = refl
 
-pub taken_twice : (ps : List ℕ) (xs : List Reply) (i k : ℕ) → k < length ps → 1 < length (items_at k (drop i ps) (drop i xs)) → arranged ps xs ≡ None
-taken_twice ps xs i k l h =
-    let f : ℕ → List Reply = λ j. items_at j ps xs in
+pub place_twice : (ps : List ℕ) (xs : List Reply) (i k : ℕ) → k < length ps → 1 < length (items_at k (drop i ps) (drop i xs)) → by_places ps xs ≡ None
+place_twice ps xs i k l h =
+    let f : ℕ → Option Reply = λ j. single (items_at j ps xs) in
     let n : length (map f (range_with_len 0 (length ps))) ≡ length ps = length-map-range_with_len f 0 (length ps) in
-    let there : get_or (map f (range_with_len 0 (length ps))) k [] ≡ items_at k ps xs = get_or-map-range_with_len f 0 (length ps) k k [] l (omega arith) in
+    let there : get_or (map f (range_with_len 0 (length ps))) k None ≡ f k = get_or-map-range_with_len f 0 (length ps) k k None l (omega arith) in
     let long : 1 < length (items_at k ps xs) = omega (arith, items_at-parts k i ps xs) in
-    either_none (list_all (λ p. nat_lt p (length ps)) ps) (singles (map f (range_with_len 0 (length ps)))) (singles-two (map f (range_with_len 0 (length ps))) k (omega arith) (subst (λ ys. 1 < length ys) (sym there) long))
+    either_none (list_all (λ p. nat_lt p (length ps)) ps) (all_some (map f (range_with_len 0 (length ps)))) (one_missing (map f (range_with_len 0 (length ps))) k (omega arith) (there ∙ not_single (items_at k ps xs) long))
 
 -- all slots, once each item is in one
 pub all_held : (slots : List (Option Value)) (ps : List ℕ) (xs : List Reply) → length slots ≡ length ps
     → ((k : ℕ) (d : Option Value) → k < length ps → shown (get_or slots k d) ≡ items_at k ps xs)
     → list_all (λ p. nat_lt p (length ps)) ps ≡ true
-    → singles (map shown slots) ≡ arranged ps xs
+    → all_some (map (λ slot. option_map view slot) slots) ≡ by_places ps xs
 all_held slots ps xs n held within =
-    let f : ℕ → List Reply = λ j. items_at j ps xs in
-    ap singles (fill_by_all f (map shown slots) (length ps) [] (length-map slots shown ∙ n) (λ k l. get_or-map shown slots k None [] (omega arith) ∙ held k None l))
-    ∙ ap (λ b. cond b (singles (map f (range_with_len 0 (length ps)))) None) (sym within)
+    let f : ℕ → Option Reply = λ j. single (items_at j ps xs) in
+    let seen : Option Value → Option Reply = λ slot. option_map view slot in
+    ap all_some (fill_by_all f (map seen slots) (length ps) None (length-map slots seen ∙ n) (λ k l. get_or-map seen slots k None None (omega arith) ∙ sym (single_shown (get_or slots k None)) ∙ ap single (held k None l)))
+    ∙ ap (λ b. cond b (all_some (map f (range_with_len 0 (length ps)))) None) (sym within)
 
 pub collided : (slots : List (Option Value)) (place : ℕ) (item : Value) (ps : List ℕ) (xs : List Reply) → place < length slots
     → ((k : ℕ) (d : Option Value) → k < length slots → shown (get_or slots k d) ≡ items_at k ps xs)
@@ -119,7 +118,8 @@ pub collided : (slots : List (Option Value)) (place : ℕ) (item : Value) (ps : 
 collided slots place item ps xs l held full =
     let there : 0 < length (shown (get_or slots place None)) = some_shown (get_or slots place None) full in
     let more : 0 < length (items_at place ps xs) = subst (λ ys. 0 < length ys) (held place None l) there in
-    subst (λ b. 1 < length (cond b (view item ∷ items_at place ps xs) (items_at place ps xs))) (sym (eq_same place)) (suc_more (items_at place ps xs) more)
+    let two : 1 < length (cond (nat_eq place place) (view item ∷ items_at place ps xs) (items_at place ps xs)) = subst (λ b. 1 < length (cond b (view item ∷ items_at place ps xs) (items_at place ps xs))) (sym (eq-eqb place place refl)) (suc_more (items_at place ps xs) more) in
+    subst (λ ys. 1 < length ys) (sym (items_at-cons place place ps (view item) xs)) two
   where
     some_shown : (o : Option Value) → is_some o ≡ true → 0 < length (shown o)
     some_shown None e = absurd (cc)
@@ -151,11 +151,8 @@ pub none_shown : (o : Option Value) → is_some o ≡ false → shown o ≡ []
 none_shown None e = refl
 none_shown (Some v) e = absurd (cc)
 
-below : (p n : ℕ) → p < n → nat_lt p n ≡ true
-below p n l = grind (arith, nat_tests)
-
 pub within_more : (n p : ℕ) (ps qs : List ℕ) → qs ≡ p ∷ ps → p < n → list_all (λ q. nat_lt q n) ps ≡ true → list_all (λ q. nat_lt q n) qs ≡ true
-within_more n p ps qs e l h = ap (list_all (λ q. nat_lt q n)) e ∙ ap (λ b. b && list_all (λ q. nat_lt q n) ps) (below p n l) ∙ h
+within_more n p ps qs e l h = ap (list_all (λ q. nat_lt q n)) e ∙ ap (λ b. b && list_all (λ q. nat_lt q n) ps) (lt-ltb p n l) ∙ h
 
 pub slots_len : (v : Vec (Option Value) Global) → v.len ≡ length v.items
 slots_len v = v.ok.0

@@ -2,8 +2,10 @@ pub mod Ahead
 pub mod AtPlaces
 pub mod Combining
 pub mod Filled
-pub mod Gathering
-pub mod Keyed
+pub mod KeyNumbers
+pub mod KeyPlaces
+pub mod Lists
+pub mod Misfits
 pub mod Orders
 pub mod OwnPlaces
 pub mod Running

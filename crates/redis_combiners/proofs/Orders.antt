@@ -1,7 +1,7 @@
 -- The order of the replies does not count.
 use Rattle.std.proofs.Common.{◌≡◌, ℕ, ◌+◌, List, [], ◌∷◌, sym, ap, ◌∙◌, refl, arith, map, ◌-◌, ◌^◌, fold, ℤ, pos, ◌+ℤ◌, ◌≤ℤ◌, Option, Some, None, Bool, true, false, cond, ⊎_elim, subst}
 use lib.IntN.{negsuc}
-use Rattle.std.specs.Prelude.{option_map, option_and_then, is_none, ◌||◌, sum_by}
+use Rattle.std.specs.Prelude.{option_map, option_and_then, is_none, unwrap_or, sum_by}
 use Rattle.std.specs.Int.{int_min}
 use Rattle.std.specs.List.{list_any}
 use Rattle.std.specs.List.Sorted.{IsPermutation}
@@ -11,30 +11,19 @@ use Rattle.std.proofs.lemmas.List.Sums.{sum_by-cons}
 use Rattle.std.proofs.lemmas.List.Elements.{All-contains}
 use borrow.Author.Differences.{up, down}
 use Rattle.resp_core.specs.Reply.{Reply, int_of, int}
-use Rattle.redis_combiners.specs.Aggregate.{numbers, cons_to, in_i64, total}
-use Rattle.redis_combiners.specs.Aggregate.{aggregated}
+use Rattle.redis_combiners.specs.Aggregate.{numbers, in_i64, total, aggregate_of}
 use Rattle.redis_commands.specs.declared.policy.AggregateOp.{AggregateOp}
 use Rattle.redis_commands.specs.declared.policy.AggregateOp.TheVariants.{Min, Sum}
+use Rattle.redis_combiners.proofs.Lists.{all_some_is}
 
 abbrev missing : Reply → Bool
-missing r = is_none (int_of r)
-
-abbrev or_zero : Option ℤ → ℤ
-or_zero None = pos 0
-or_zero (Some n) = n
+missing reply = is_none (int_of reply)
 
 abbrev number : Reply → ℤ
-number r = or_zero (int_of r)
-
-numbers_cons : (o : Option ℤ) (b : Bool) (ns : List ℤ) → cons_to (cond b None (Some ns)) o ≡ cond (is_none o || b) None (Some (or_zero o ∷ ns))
-numbers_cons None true ns = refl
-numbers_cons None false ns = refl
-numbers_cons (Some n) true ns = refl
-numbers_cons (Some n) false ns = refl
+number reply = unwrap_or (int_of reply) (pos 0)
 
 numbers_are : (rs : List Reply) → numbers rs ≡ cond (list_any missing rs) None (Some (map number rs))
-numbers_are [] = refl
-numbers_are (r ∷ rs) = ap (λ o. cons_to o (int_of r)) (numbers_are rs) ∙ numbers_cons (int_of r) (list_any missing rs) (map number rs)
+numbers_are rs = all_some_is int_of (pos 0) rs
 
 -- what is made of the numbers, where their order does not count
 same_of : (f : List ℤ → Option ℤ) → ((xs ys : List ℤ) → IsPermutation xs ys → f ys ≡ f xs) → (rs others : List Reply) → IsPermutation rs others → option_and_then f (numbers others) ≡ option_and_then f (numbers rs)
@@ -84,7 +73,7 @@ mapped : (f : List ℤ → ℤ) (o : Option (List ℤ)) → option_map f o ≡ o
 mapped f None = refl
 mapped f (Some ns) = refl
 
-pub any_order : (op : AggregateOp) (rs others : List Reply) → IsPermutation rs others → aggregated op others ≡ aggregated op rs
+pub any_order : (op : AggregateOp) (rs others : List Reply) → IsPermutation rs others → aggregate_of op others ≡ aggregate_of op rs
 any_order Sum rs others h = ap (option_map int) (same_of (λ ns. in_i64 (total ns)) (λ xs ys p. ap in_i64 (total_same xs ys p)) rs others h)
 any_order Min rs others h =
     let f : List ℤ → ℤ = fold int_min (pos (2 ^ 63 - 1)) in

@@ -1,47 +1,30 @@
 -- Of items with a place each: every item stands at its place.
-use Rattle.std.proofs.Common.{◌≡◌, ℕ, zero, suc, ◌<◌, Bool, true, false, cond, List, [], ◌∷◌, length, map, get_or, Option, Some, None, refl, ap, sym, ◌∙◌, arith}
-use Rattle.std.specs.Prelude.{option_map, nat_eq, nat_lt, ◌&&◌}
+use Rattle.std.proofs.Common.{◌≡◌, ℕ, zero, suc, ◌<◌, Bool, true, false, cond, List, [], ◌∷◌, length, map, get_or, Option, Some, None, refl, ap, sym, subst, ◌∙◌, arith}
+use Rattle.std.specs.Prelude.{nat_eq, nat_lt, ◌&&◌}
 use Rattle.std.specs.List.{range_with_len, list_all}
-use Rattle.std.proofs.lemmas.Bool.Decides.{nat_tests}
+use Rattle.std.proofs.lemmas.Bool.{eq-eqb, ltb-true}
 use Rattle.std.proofs.lemmas.List.FromFn.{length-map-range_with_len, get_or-map-range_with_len}
 use Rattle.resp_core.specs.Reply.{Reply}
-use Rattle.redis_combiners.specs.Arranged.{items_at, singles, arranged}
-use Rattle.redis_commands.proofs.Cases.{by_test}
+use Rattle.redis_combiners.specs.ByPlaces.{items_at, single, by_places}
+use Rattle.redis_combiners.specs.Lists.{all_some}
+use Rattle.redis_combiners.proofs.Filled.{by_test, items_at-cons}
+use Rattle.redis_combiners.proofs.Lists.{all_some_at, all_some_length}
 
-some_cons : (o : Option (List Reply)) (x : Reply) (out : List Reply) → option_map (λ ys. x ∷ ys) o ≡ Some out → (ys : List Reply) × (o ≡ Some ys) × (out ≡ x ∷ ys)
-some_cons None x out e = absurd (cc)
-some_cons (Some ys) x out e = (ys, refl, cc)
-
--- the list at a place is the one element that stands there
-singles_at : (xss : List (List Reply)) (out : List Reply) (k : ℕ) (d : Reply) → singles xss ≡ Some out → k < length xss → get_or xss k [] ≡ get_or out k d ∷ []
-singles_at [] out k d e l = absurd (omega arith)
-singles_at ([] ∷ xss) out k d e l = absurd (cc)
-singles_at ((x ∷ (y ∷ xs)) ∷ xss) out k d e l = absurd (cc)
-singles_at ((x ∷ []) ∷ xss) out zero d e l = let s = some_cons (singles xss) x out e in ap (λ ys. get_or ys 0 d ∷ []) (sym s.2)
-singles_at ((x ∷ []) ∷ xss) out (suc k) d e l = let s = some_cons (singles xss) x out e in singles_at xss s.0 k d s.1 (omega arith) ∙ ap (λ ys. get_or ys (suc k) d ∷ []) (sym s.2)
-
-singles_length : (xss : List (List Reply)) (out : List Reply) → singles xss ≡ Some out → length out ≡ length xss
-singles_length [] out e = nil_is out (cc)
-  where
-    nil_is : (ys : List Reply) → [] ≡ ys → length ys ≡ 0
-    nil_is ys h = sym (ap length h)
-singles_length ([] ∷ xss) out e = absurd (cc)
-singles_length ((x ∷ (y ∷ xs)) ∷ xss) out e = absurd (cc)
-singles_length ((x ∷ []) ∷ xss) out e = let s = some_cons (singles xss) x out e in let h = singles_length xss s.0 s.1 in ap length s.2 ∙ omega (arith, h)
-
-equal : (a b : ℕ) → a ≡ b → nat_eq a b ≡ true
-equal a b e = grind (arith, nat_tests)
+single_is : (xs : List Reply) (x : Reply) → single xs ≡ Some x → xs ≡ x ∷ []
+single_is [] x e = absurd (cc)
+single_is (y ∷ []) x e = let same : y ≡ x = cc in ap (λ z. z ∷ []) same
+single_is (y ∷ (z ∷ xs)) x e = absurd (cc)
 
 -- an item is among those of its place
 stands : (ps : List ℕ) (xs : List Reply) (j : ℕ) (d : Reply) → j < length ps → length xs ≡ length ps → 0 < length (items_at (get_or ps j 0) ps xs)
 stands [] xs j d l n = absurd (omega arith)
 stands (p ∷ ps) [] j d l n = absurd (omega arith)
-stands (p ∷ ps) (x ∷ xs) zero d l n = sized (nat_eq p p) (equal p p refl)
+stands (p ∷ ps) (x ∷ xs) zero d l n = subst (λ ys. 0 < length ys) (sym (items_at-cons p p ps x xs)) (sized (nat_eq p p) (eq-eqb p p refl))
   where
     sized : (b : Bool) → b ≡ true → 0 < length (cond b (x ∷ items_at p ps xs) (items_at p ps xs))
     sized true e = omega arith
     sized false e = absurd (cc)
-stands (p ∷ ps) (x ∷ xs) (suc j) d l n = sized (nat_eq p (get_or ps j 0)) (stands ps xs j d (omega arith) (omega arith))
+stands (p ∷ ps) (x ∷ xs) (suc j) d l n = subst (λ ys. 0 < length ys) (sym (items_at-cons (get_or ps j 0) p ps x xs)) (sized (nat_eq p (get_or ps j 0)) (stands ps xs j d (omega arith) (omega arith)))
   where
     sized : (b : Bool) → 0 < length (items_at (get_or ps j 0) ps xs) → 0 < length (cond b (x ∷ items_at (get_or ps j 0) ps xs) (items_at (get_or ps j 0) ps xs))
     sized true h = omega arith
@@ -50,12 +33,12 @@ stands (p ∷ ps) (x ∷ xs) (suc j) d l n = sized (nat_eq p (get_or ps j 0)) (s
 only_one : (ps : List ℕ) (xs : List Reply) (j : ℕ) (y d : Reply) → items_at (get_or ps j 0) ps xs ≡ y ∷ [] → j < length ps → length xs ≡ length ps → get_or xs j d ≡ y
 only_one [] xs j y d e l n = absurd (omega arith)
 only_one (p ∷ ps) [] j y d e l n = absurd (omega arith)
-only_one (p ∷ ps) (x ∷ xs) zero y d e l n = first (nat_eq p p) (equal p p refl) e
+only_one (p ∷ ps) (x ∷ xs) zero y d e l n = first (nat_eq p p) (eq-eqb p p refl) (sym (items_at-cons p p ps x xs) ∙ e)
   where
     first : (b : Bool) → b ≡ true → cond b (x ∷ items_at p ps xs) (items_at p ps xs) ≡ y ∷ [] → x ≡ y
     first true t h = cc
     first false t h = absurd (cc)
-only_one (p ∷ ps) (x ∷ xs) (suc j) y d e l n = later (nat_eq p (get_or ps j 0)) (stands ps xs j d (omega arith) (omega arith)) (λ h. only_one ps xs j y d h (omega arith) (omega arith)) e
+only_one (p ∷ ps) (x ∷ xs) (suc j) y d e l n = later (nat_eq p (get_or ps j 0)) (stands ps xs j d (omega arith) (omega arith)) (λ h. only_one ps xs j y d h (omega arith) (omega arith)) (sym (items_at-cons (get_or ps j 0) p ps x xs) ∙ e)
   where
     later : (b : Bool) → 0 < length (items_at (get_or ps j 0) ps xs) → (items_at (get_or ps j 0) ps xs ≡ y ∷ [] → get_or xs j d ≡ y) → cond b (x ∷ items_at (get_or ps j 0) ps xs) (items_at (get_or ps j 0) ps xs) ≡ y ∷ [] → get_or xs j d ≡ y
     later true some here h = let none : items_at (get_or ps j 0) ps xs ≡ [] = cc in absurd (omega (arith, ap length none))
@@ -63,7 +46,7 @@ only_one (p ∷ ps) (x ∷ xs) (suc j) y d e l n = later (nat_eq p (get_or ps j 
 
 within_at : (n : ℕ) (ps : List ℕ) (j : ℕ) → list_all (λ p. nat_lt p n) ps ≡ true → j < length ps → get_or ps j 0 < n
 within_at n [] j e l = absurd (omega arith)
-within_at n (p ∷ ps) zero e l = by_test (nat_lt p n) (λ t. grind (arith, nat_tests)) (λ f. absurd (none f))
+within_at n (p ∷ ps) zero e l = by_test (nat_lt p n) (λ t. ltb-true p n t) (λ f. absurd (none f))
   where
     none : nat_lt p n ≡ false → ⊥
     none f = cc
@@ -74,28 +57,28 @@ within_at n (p ∷ ps) (suc j) e l = within_at n ps j (rest (nat_lt p n) e) (ome
     rest false h = absurd (cc)
 
 -- element j stands at place j
-pub at_own_place : (ps : List ℕ) (xs out : List Reply) (d : Reply) → length xs ≡ length ps → arranged ps xs ≡ Some out → (j : ℕ) → j < length ps → get_or out (get_or ps j 0) d ≡ get_or xs j d
+pub at_own_place : (ps : List ℕ) (xs out : List Reply) (d : Reply) → length xs ≡ length ps → by_places ps xs ≡ Some out → (j : ℕ) → j < length ps → get_or out (get_or ps j 0) d ≡ get_or xs j d
 at_own_place ps xs out d n e j l = by_test (list_all (λ p. nat_lt p (length ps)) ps)
-    (λ t. let f : ℕ → List Reply = λ k. items_at k ps xs in
+    (λ t. let f : ℕ → Option Reply = λ k. single (items_at k ps xs) in
     let place = get_or ps j 0 in
     let below : place < length ps = within_at (length ps) ps j t l in
-    let all : singles (map f (range_with_len 0 (length ps))) ≡ Some out = sym (ap (λ b. cond b (singles (map f (range_with_len 0 (length ps)))) None) t) ∙ e in
+    let all : all_some (map f (range_with_len 0 (length ps))) ≡ Some out = sym (ap (λ b. cond b (all_some (map f (range_with_len 0 (length ps)))) None) t) ∙ e in
     let long : length (map f (range_with_len 0 (length ps))) ≡ length ps = length-map-range_with_len f 0 (length ps) in
-    let one : items_at place ps xs ≡ get_or out place d ∷ [] = sym (get_or-map-range_with_len f 0 (length ps) place place [] below (omega arith)) ∙ singles_at (map f (range_with_len 0 (length ps))) out place d all (omega arith) in
-    sym (only_one ps xs j (get_or out place d) d one l n))
-    (λ f. absurd (refused (sym (ap (λ b. cond b (singles (map (λ k. items_at k ps xs) (range_with_len 0 (length ps)))) None) f) ∙ e)))
+    let one : f place ≡ Some (get_or out place d) = sym (get_or-map-range_with_len f 0 (length ps) place place None below (omega arith)) ∙ all_some_at (map f (range_with_len 0 (length ps))) out place d all (omega arith) in
+    sym (only_one ps xs j (get_or out place d) d (single_is (items_at place ps xs) (get_or out place d) one) l n))
+    (λ f. absurd (refused (sym (ap (λ b. cond b (all_some (map (λ k. single (items_at k ps xs)) (range_with_len 0 (length ps)))) None) f) ∙ e)))
   where
     refused : None ≡ Some out → ⊥
     refused h = cc
 
 -- a place is one of the whole
-pub own_place_within : (ps : List ℕ) (xs out : List Reply) → arranged ps xs ≡ Some out → (j : ℕ) → j < length ps → get_or ps j 0 < length out
+pub own_place_within : (ps : List ℕ) (xs out : List Reply) → by_places ps xs ≡ Some out → (j : ℕ) → j < length ps → get_or ps j 0 < length out
 own_place_within ps xs out e j l = by_test (list_all (λ p. nat_lt p (length ps)) ps)
-    (λ t. let f : ℕ → List Reply = λ k. items_at k ps xs in
+    (λ t. let f : ℕ → Option Reply = λ k. single (items_at k ps xs) in
     let below : get_or ps j 0 < length ps = within_at (length ps) ps j t l in
-    let all : singles (map f (range_with_len 0 (length ps))) ≡ Some out = sym (ap (λ b. cond b (singles (map f (range_with_len 0 (length ps)))) None) t) ∙ e in
-    omega (arith, singles_length (map f (range_with_len 0 (length ps))) out all, length-map-range_with_len f 0 (length ps)))
-    (λ f. absurd (refused (sym (ap (λ b. cond b (singles (map (λ k. items_at k ps xs) (range_with_len 0 (length ps)))) None) f) ∙ e)))
+    let all : all_some (map f (range_with_len 0 (length ps))) ≡ Some out = sym (ap (λ b. cond b (all_some (map f (range_with_len 0 (length ps)))) None) t) ∙ e in
+    omega (arith, all_some_length (map f (range_with_len 0 (length ps))) out all, length-map-range_with_len f 0 (length ps)))
+    (λ f. absurd (refused (sym (ap (λ b. cond b (all_some (map (λ k. single (items_at k ps xs)) (range_with_len 0 (length ps)))) None) f) ∙ e)))
   where
     refused : None ≡ Some out → ⊥
     refused h = cc

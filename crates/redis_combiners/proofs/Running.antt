@@ -5,13 +5,14 @@ use Rattle.std.proofs.lemmas.List.{at_drop_more}
 use Rattle.resp_core.specs.Reply.{Reply, int_of}
 use Rattle.resp_core.specs.View.{view}
 use Rattle.resp_core.specs.declared.value.Value.{Value}
-use Rattle.redis_combiners.specs.Aggregate.{numbers, cons_to, sum_of, in_i64}
+use Rattle.redis_combiners.specs.Aggregate.{numbers, sum_of, in_i64}
+use Rattle.redis_combiners.specs.Lists.{all_some}
 
 -- what f makes of the numbers, from a on
 abbrev pub fold_on : (ℤ → ℤ → ℤ) → ℤ → List Reply → Option ℤ
 fold_on f a rs = option_map (fold f a) (numbers rs)
 
-fold_cons : (f : ℤ → ℤ → ℤ) (a n : ℤ) (o : Option (List ℤ)) → option_map (fold f a) (cons_to o (Some n)) ≡ option_map (fold f (f a n)) o
+fold_cons : (f : ℤ → ℤ → ℤ) (a n : ℤ) (o : Option (List ℤ)) → option_map (fold f a) (option_map (λ ns. n ∷ ns) o) ≡ option_map (fold f (f a n)) o
 fold_cons f a n None = refl
 fold_cons f a n (Some ns) = refl
 
@@ -20,7 +21,7 @@ fold_step f a n vs i v l is e =
     let rest = map view (drop (i + 1) vs) in
     at_drop_more (λ ws. fold_on f a (map view ws)) vs i v l
     ∙ ap (λ w. fold_on f a (view w ∷ rest)) (sym is)
-    ∙ ap (λ o. option_map (fold f a) (cons_to (numbers rest) o)) (sym e)
+    ∙ ap (λ o. option_map (fold f a) (all_some (o ∷ map int_of rest))) (sym e)
     ∙ fold_cons f a n (numbers rest)
 
 pub fold_stop : (f : ℤ → ℤ → ℤ) (a : ℤ) (vs : List Value) (i : ℕ) (v : Value) → i < length vs → v ≡ get_or vs i v → None ≡ int_of (view v) → fold_on f a (map view (drop i vs)) ≡ None
@@ -28,12 +29,7 @@ fold_stop f a vs i v l is e =
     let rest = map view (drop (i + 1) vs) in
     at_drop_more (λ ws. fold_on f a (map view ws)) vs i v l
     ∙ ap (λ w. fold_on f a (view w ∷ rest)) (sym is)
-    ∙ ap (λ o. option_map (fold f a) (cons_to (numbers rest) o)) (sym e)
-    ∙ ap (option_map (fold f a)) (none_stops (numbers rest))
-  where
-    none_stops : (o : Option (List ℤ)) → cons_to o None ≡ None
-    none_stops None = refl
-    none_stops (Some ns) = refl
+    ∙ ap (λ o. option_map (fold f a) (all_some (o ∷ map int_of rest))) (sym e)
 
 sum_is : (o : Option (List ℤ)) → option_and_then (λ ns. in_i64 (fold ◌+ℤ◌ (pos 0) ns)) o ≡ option_and_then in_i64 (option_map (fold ◌+ℤ◌ (pos 0)) o)
 sum_is None = refl

@@ -1,57 +1,162 @@
 -- The total of each key, as the sum of its numbers.
-use Rattle.std.proofs.Common.{◌≡◌, Ordering, length, ℕ, ◌+◌, ◌*◌, ◌^◌, ◌<◌, ℤ, pos, neg_ℤ, ◌+ℤ◌, ◌≤ℤ◌, List, [], ◌∷◌, ◌++◌, Bool, true, false, cond, Option, Some, None, refl, ap, sym, subst, ◌∙◌, arith, map, Vec, Global, FitsSigned, w64}
-use Rattle.std.specs.Prelude.{option_map, option_and_then, ◌&&◌, T}
+use Rattle.std.proofs.Common.{◌≡◌, Ordering, length, ℕ, ◌+◌, ◌*◌, ◌^◌, ◌<◌, ℤ, pos, neg_ℤ, ◌+ℤ◌, ◌≤ℤ◌, List, [], ◌∷◌, ◌++◌, Bool, true, false, cond, Option, Some, None, refl, ap, sym, subst, ◌∙◌, arith, map, get_or, fold, Vec, Global, FitsSigned, w64}
+use Rattle.std.specs.Prelude.{option_map, option_and_then, unwrap_or, is_some, filter, ◌&&◌, ◌||◌, T}
 use Rattle.std.specs.Ordering.{is_eq, is_lt, nat_cmp}
-use Rattle.std.specs.declared.cmp.Ordering.TheVariants.{Less}
+use Rattle.std.specs.declared.cmp.Ordering.TheVariants.{Less, Equal, Greater}
 use Rattle.std.specs.Cmp.{eq_by_cmp_equiv}
 use Rattle.std.specs.Cmp.Lexicographic.{slice_cmp, nat_list_cmp_total, nat_list_eq_equiv}
-use Rattle.std.specs.List.{AllByRecursion}
+use Rattle.std.specs.List.{AllByRecursion, list_any}
 use Rattle.std.specs.List.Sorted.{IsStrictlySortedBy}
 use Rattle.std.specs.Str.{bytes_eq}
 use Rattle.std.specs.Map.{lookup, IsKeyTest, AreApart, KeepsOthers}
 use Rattle.std.specs.BTreeMap.{BTreeMap, UpdatesBy}
-use Rattle.std.specs.FinMap.{get, entries, find, is_sorted, entries_sorted, get-empty, get-insert, get-entries, same_map, slice_cmp-IsAntisymmetric, nat_cmp-IsAntisymmetric}
+use Rattle.std.specs.FinMap.{get, entries, from_entries, find, is_sorted, entries_sorted, get-empty, get-insert, contains_key-keys, slice_cmp-IsAntisymmetric, nat_cmp-IsAntisymmetric}
 use Rattle.std.specs.FinMap.Entries.{below_all, same_entries}
 use Rattle.std.proofs.lemmas.Bool.{lt-ltb}
 use Rattle.std.proofs.lemmas.Map.Text.{is_eq-slice_cmp}
 use Rattle.std.proofs.lemmas.Slice.Eq.{bytes_eq-Decides}
 use Rattle.std.proofs.lemmas.Int.{ints}
+use Rattle.std.proofs.lemmas.List.{length-map, get_or-map}
 use Rattle.resp_core.specs.Reply.{Reply, bulk, int, pairs, pairs_of}
-use Rattle.redis_combiners.specs.Aggregate.{fits_i64}
-use Rattle.redis_combiners.specs.Keyed.{Keyed, all_keyed}
-use Rattle.redis_combiners.specs.Entries.{shown, found}
-use Rattle.redis_combiners.specs.Totals.{or_zero, totals, listing, map_of, combined}
+use Rattle.redis_combiners.specs.Aggregate.{total, fits_i64}
+use Rattle.redis_combiners.specs.KeyNumbers.{KeyNumber, all_pairs}
+use Rattle.redis_combiners.specs.Lists.{all_some}
+use Rattle.redis_combiners.specs.Entries.{plain_pairs, number_at}
+use Rattle.redis_combiners.specs.Totals.{has, total_of, total_at, ascending_keys, totals, IsListing, entry_of, map_of, map_of_totals, combined_map}
 use Rattle.redis_combiners.proofs.Ahead.{before, before-more}
+use Rattle.redis_combiners.proofs.Filled.{by_test}
 
 abbrev order : List ℕ → List ℕ → Ordering
 order = slice_cmp nat_cmp
 
-by_test : {A : Type 0} (b : Bool) → (b ≡ true → A) → (b ≡ false → A) → A
-by_test true f g = f refl
-by_test false f g = g refl
+abbrev pub or_zero : Option ℤ → ℤ
+or_zero o = unwrap_or o (pos 0)
 
--- the sum over all pairs with the key, if there is one
-abbrev pub total_at : List ℕ → Keyed → Option ℤ
-total_at q [] = None
-total_at q (p ∷ ps) = cond (bytes_eq p.0 q) (Some (p.1 +ℤ or_zero (total_at q ps))) (total_at q ps)
+-- the total of a key, pair by pair
+abbrev pub sum_at : List ℕ → List KeyNumber → Option ℤ
+sum_at q [] = None
+sum_at q (p ∷ ps) = cond (bytes_eq p.0 q) (Some (p.1 +ℤ or_zero (sum_at q ps))) (sum_at q ps)
 
-same_cond : (b : Bool) (z x y : ℤ) (o u : Option ℤ) → (b ≡ true → x ≡ y) → o ≡ u → cond b (Some (z +ℤ x)) o ≡ cond b (Some (z +ℤ y)) u
-same_cond true z x y o u h e = ap (λ w. Some (z +ℤ w)) (h refl)
-same_cond false z x y o u h e = e
+sum_from : (a b : ℤ) (ns : List ℤ) → fold ◌+ℤ◌ (a +ℤ b) ns ≡ a +ℤ fold ◌+ℤ◌ b ns
+sum_from a b [] = refl
+sum_from a b (n ∷ ns) = ap (λ z. fold ◌+ℤ◌ z ns) (omega (arith, ints)) ∙ sum_from a (b +ℤ n) ns
 
-pub get-totals : (q : List ℕ) (ps : Keyed) → get (totals ps) q ≡ total_at q ps
-get-totals q [] = get-empty order q
-get-totals q (p ∷ ps) =
-    let sum = p.1 +ℤ or_zero (get (totals ps) p.0) in
-    get-insert nat_list_cmp_total (totals ps) p.0 sum q
-    ∙ ap (λ b. cond b (Some sum) (get (totals ps) q)) (is_eq-slice_cmp q p.0 ∙ nat_list_eq_equiv.symm q p.0)
-    ∙ same_cond (bytes_eq p.0 q) p.1 (or_zero (get (totals ps) p.0)) (or_zero (total_at q ps)) (get (totals ps) q) (total_at q ps)
-    (λ t. ap (λ k. or_zero (get (totals ps) k)) ((bytes_eq-Decides p.0 q).0 t) ∙ ap or_zero (get-totals q ps))
-    (get-totals q ps)
+total_more : (n : ℤ) (ns : List ℤ) → total (n ∷ ns) ≡ n +ℤ total ns
+total_more n ns = ap (λ z. fold ◌+ℤ◌ z ns) (omega (arith, ints)) ∙ sum_from n (pos 0) ns
+
+sum_is : (q : List ℕ) (ps : List KeyNumber) → or_zero (sum_at q ps) ≡ total_of q ps
+sum_is q [] = refl
+sum_is q (p ∷ ps) = more (bytes_eq p.0 q) (sum_is q ps)
+  where
+    more : (b : Bool) → or_zero (sum_at q ps) ≡ total_of q ps → or_zero (cond b (Some (p.1 +ℤ or_zero (sum_at q ps))) (sum_at q ps)) ≡ total (map (λ r. r.1) (cond b (p ∷ filter (has q) ps) (filter (has q) ps)))
+    more true e = ap (λ z. p.1 +ℤ z) e ∙ sym (total_more p.1 (map (λ r. r.1) (filter (has q) ps)))
+    more false e = e
+
+pub sum_has : (q : List ℕ) (ps : List KeyNumber) → is_some (sum_at q ps) ≡ list_any (has q) ps
+sum_has q [] = refl
+sum_has q (p ∷ ps) = more (bytes_eq p.0 q) (sum_has q ps)
+  where
+    more : (b : Bool) → is_some (sum_at q ps) ≡ list_any (has q) ps → is_some (cond b (Some (p.1 +ℤ or_zero (sum_at q ps))) (sum_at q ps)) ≡ (b || list_any (has q) ps)
+    more true e = refl
+    more false e = e
+
+as_cond : (o : Option ℤ) → o ≡ cond (is_some o) (Some (or_zero o)) None
+as_cond None = refl
+as_cond (Some n) = refl
+
+pub sum_at_is : (q : List ℕ) (ps : List KeyNumber) → sum_at q ps ≡ total_at q ps
+sum_at_is q ps =
+    as_cond (sum_at q ps)
+    ∙ ap (λ b. cond b (Some (or_zero (sum_at q ps))) None) (sum_has q ps)
+    ∙ ap (λ z. cond (list_any (has q) ps) (Some z) None) (sum_is q ps)
+
+-- the keys are those of the pairs
+same_bytes : (q k : List ℕ) → is_eq (order q k) ≡ bytes_eq k q
+same_bytes q k = is_eq-slice_cmp q k ∙ nat_list_eq_equiv.symm q k
+
+keys_have : (q : List ℕ) (ps : List KeyNumber) → is_some (get (from_entries {R = order} ps) q) ≡ list_any (has q) ps
+keys_have q [] = ap is_some (get-empty order q)
+keys_have q (p ∷ ps) =
+    ap is_some (get-insert nat_list_cmp_total (from_entries ps) p.0 p.1 q ∙ ap (λ b. cond b (Some p.1) (get (from_entries {R = order} ps) q)) (same_bytes q p.0))
+    ∙ more (bytes_eq p.0 q) (get (from_entries {R = order} ps) q) (keys_have q ps)
+  where
+    more : (b : Bool) (o : Option ℤ) → is_some o ≡ list_any (has q) ps → is_some (cond b (Some p.1) o) ≡ (b || list_any (has q) ps)
+    more true o e = refl
+    more false o e = e
+
+-- what is found in a list of keys, each beside what f makes of it
+find_made : (f : List ℕ → ℤ) (q : List ℕ) (ks : List (List ℕ)) → find order q (map (λ k. (k, f k)) ks) ≡ cond (list_any (λ k. is_eq (order q k)) ks) (Some (f q)) None
+find_made f q [] = refl
+find_made f q (k ∷ ks) = by_test (bytes_eq k q)
+    (λ t. ap (λ b. cond b (Some (f k)) (find order q (map (λ j. (j, f j)) ks))) (same_bytes q k ∙ t)
+    ∙ ap (λ j. Some (f j)) ((bytes_eq-Decides k q).0 t)
+    ∙ ap (λ b. cond (b || list_any (λ j. is_eq (order q j)) ks) (Some (f q)) None) (sym (same_bytes q k ∙ t)))
+    (λ n. ap (λ b. cond b (Some (f k)) (find order q (map (λ j. (j, f j)) ks))) (same_bytes q k ∙ n)
+    ∙ find_made f q ks
+    ∙ ap (λ b. cond (b || list_any (λ j. is_eq (order q j)) ks) (Some (f q)) None) (sym (same_bytes q k ∙ n)))
+
+find_totals : (q : List ℕ) (ps : List KeyNumber) → find order q (totals ps) ≡ total_at q ps
+find_totals q ps =
+    find_made (λ k. total_of k ps) q (ascending_keys ps)
+    ∙ ap (λ b. cond b (Some (total_of q ps)) None) (sym (contains_key-keys (from_entries {R = order} ps) q) ∙ keys_have q ps)
+
+-- the keys ascend
+below_made : (f : List ℕ → ℤ) (k : List ℕ) (es : List KeyNumber) → below_all order k (map (λ j. (j, f j)) (map (λ e. e.0) es)) ≡ below_all order k es
+below_made f k [] = refl
+below_made f k (e ∷ es) = ap (λ b. is_lt (order k e.0) && b) (below_made f k es)
+
+sorted_made : (f : List ℕ → ℤ) (es : List KeyNumber) → is_sorted order (map (λ j. (j, f j)) (map (λ e. e.0) es)) ≡ is_sorted order es
+sorted_made f [] = refl
+sorted_made f (e ∷ es) = ap (λ b. b && is_sorted order (map (λ j. (j, f j)) (map (λ d. d.0) es))) (below_made f e.0 es) ∙ ap (λ b. below_all order e.0 es && b) (sorted_made f es)
+
+totals_ascend : (ps : List KeyNumber) → T (is_sorted order (totals ps))
+totals_ascend ps = subst T (sym (sorted_made (λ k. total_of k ps) (entries (from_entries {R = order} ps)))) (entries_sorted (from_entries {R = order} ps))
+
+-- the totals are listed as they should be
+first : (a b : Bool) → T (a && b) → T a
+first true b h = tt
+first false b h = h
+
+second : (a b : Bool) → T (a && b) → T b
+second true b h = h
+second false b h = absurd h
+
+less : (o : Ordering) → T (is_lt o) → o ≡ Less
+less Less h = refl
+less Equal h = absurd h
+less Greater h = absurd h
+
+less_all : (k : List ℕ) (es : List KeyNumber) → T (below_all order k es) → AllByRecursion (λ y. order k y ≡ Less) (map (λ e. e.0) es)
+less_all k [] h = tt
+less_all k (e ∷ es) h = (less _ (first _ _ h), less_all k es (second _ _ h))
+
+strictly : (es : List KeyNumber) → T (is_sorted order es) → IsStrictlySortedBy order (map (λ e. e.0) es)
+unfolding IsStrictlySortedBy
+strictly [] h = tt
+strictly (e ∷ es) h = (less_all e.0 es (first _ _ h), strictly es (second _ _ h))
+
+any_made : (f : List ℕ → ℤ) (q : List ℕ) (ks : List (List ℕ)) → list_any (has q) (map (λ k. (k, f k)) ks) ≡ list_any (λ k. is_eq (order q k)) ks
+any_made f q [] = refl
+any_made f q (k ∷ ks) = ap (λ b. b || list_any (has q) (map (λ j. (j, f j)) ks)) (sym (same_bytes q k)) ∙ ap (λ b. is_eq (order q k) || b) (any_made f q ks)
+
+pub listing : (all : List KeyNumber) → IsListing all (totals all)
+listing all =
+    let f : List ℕ → KeyNumber = λ k. (k, total_of k all) in
+    record {
+      ascending = strictly (totals all) (totals_ascend all);
+      occurs = λ q. any_made (λ k. total_of k all) q (ascending_keys all) ∙ sym (contains_key-keys (from_entries {R = order} all) q) ∙ keys_have q all;
+      beside = λ k d l.
+          let e : get_or (totals all) k d ≡ f (get_or (ascending_keys all) k []) = get_or-map f (ascending_keys all) k [] d (omega (arith, length-map (ascending_keys all) f, l)) in
+          ap (λ s. s.1) e ∙ ap (λ s. total_of s.0 all) (sym e);
+    }
+
+-- entries by ascending key with the totals are the totals
+are_totals : (es ps : List KeyNumber) → T (is_sorted order es) → ((q : List ℕ) → find order q es ≡ total_at q ps) → es ≡ totals ps
+are_totals es ps s h = same_entries order nat_list_cmp_total (slice_cmp-IsAntisymmetric nat_cmp-IsAntisymmetric) es (totals ps) s (totals_ascend ps) (λ q. h q ∙ sym (find_totals q ps))
 
 -- pairs that make the same total of each key make the same totals
-pub same_totals : (ps qs : Keyed) → ((q : List ℕ) → total_at q ps ≡ total_at q qs) → totals ps ≡ totals qs
-same_totals ps qs h = same_map nat_list_cmp_total (slice_cmp-IsAntisymmetric nat_cmp-IsAntisymmetric) (totals ps) (totals qs) (λ q. get-totals q ps ∙ h q ∙ sym (get-totals q qs))
+pub same_totals : (ps qs : List KeyNumber) → ((q : List ℕ) → sum_at q ps ≡ sum_at q qs) → totals ps ≡ totals qs
+same_totals ps qs h = are_totals (totals ps) qs (totals_ascend ps) (λ q. find_totals q ps ∙ sym (sum_at_is q ps) ∙ h q ∙ sum_at_is q qs)
 
 -- what an update says of the bytes of keys
 apart : (bs cs ks : List ℕ) → bytes_eq bs cs ≡ false → is_eq (order bs ks) ≡ true → is_eq (order cs ks) ≡ false
@@ -63,10 +168,10 @@ others : {K X : Type 0} (eq : K → K → Bool) (test : K → Bool) (old new : L
 unfolding KeepsOthers
 others eq test old new h = h
 
-pub found-updates : (bs : List ℕ) (m n : BTreeMap (Vec ℕ Global) ℤ) (w : Option ℤ) → UpdatesBy (λ x y. slice_cmp nat_cmp x.items y.items) (λ k. slice_cmp nat_cmp bs k.items) m n w → (cs : List ℕ) → found n.entries cs ≡ cond (bytes_eq bs cs) w (found m.entries cs)
-found-updates bs m n w h cs =
+pub number_at-updates : (bs : List ℕ) (m n : BTreeMap (Vec ℕ Global) ℤ) (w : Option ℤ) → UpdatesBy (λ x y. slice_cmp nat_cmp x.items y.items) (λ k. slice_cmp nat_cmp bs k.items) m n w → (cs : List ℕ) → number_at n.entries cs ≡ cond (bytes_eq bs cs) w (number_at m.entries cs)
+number_at-updates bs m n w h cs =
     by_test (bytes_eq bs cs)
-    (λ e. rw e (ap (found n.entries) (sym ((bytes_eq-Decides bs cs).0 e)) ∙ h.1))
+    (λ e. rw e (ap (number_at n.entries) (sym ((bytes_eq-Decides bs cs).0 e)) ∙ h.1))
     (λ e. rw e (others _ _ m.entries n.entries h.3 (λ k. is_eq (slice_cmp nat_cmp cs k.items)) (λ x y. (eq_by_cmp_equiv nat_list_cmp_total).congr cs x.items y.items) (λ k. apart bs cs k.items e)))
 
 -- a total, so far and of the rest
@@ -85,17 +190,17 @@ plus-more None (Some b) n = ap Some (omega (arith, ints))
 plus-more (Some a) None n = ap Some (omega (arith, ints))
 plus-more (Some a) (Some b) n = ap Some (omega (arith, ints))
 
-pub total_more : (k q : List ℕ) (n : ℤ) (new old at_k : Option ℤ) (ps : Keyed) (whole : Option ℤ) → new ≡ cond (bytes_eq k q) (Some (or_zero at_k +ℤ n)) old → (bytes_eq k q ≡ true → at_k ≡ old)
-    → plus old (total_at q ((k, n) ∷ ps)) ≡ whole → plus new (total_at q ps) ≡ whole
-total_more k q n new old at_k ps whole e same h = by_test (bytes_eq k q)
-    (λ t. ap (λ o. plus o (total_at q ps)) (e ∙ ap (λ b. cond b (Some (or_zero at_k +ℤ n)) old) t ∙ ap (λ o. Some (or_zero o +ℤ n)) (same t))
-    ∙ plus-more old (total_at q ps) n
-    ∙ ap (λ b. plus old (cond b (Some (n +ℤ or_zero (total_at q ps))) (total_at q ps))) (sym t) ∙ h)
-    (λ f. ap (λ o. plus o (total_at q ps)) (e ∙ ap (λ b. cond b (Some (or_zero at_k +ℤ n)) old) f)
-    ∙ ap (λ b. plus old (cond b (Some (n +ℤ or_zero (total_at q ps))) (total_at q ps))) (sym f) ∙ h)
+pub sum_at_more : (k q : List ℕ) (n : ℤ) (new old at_k : Option ℤ) (ps : List KeyNumber) (whole : Option ℤ) → new ≡ cond (bytes_eq k q) (Some (or_zero at_k +ℤ n)) old → (bytes_eq k q ≡ true → at_k ≡ old)
+    → plus old (sum_at q ((k, n) ∷ ps)) ≡ whole → plus new (sum_at q ps) ≡ whole
+sum_at_more k q n new old at_k ps whole e same h = by_test (bytes_eq k q)
+    (λ t. ap (λ o. plus o (sum_at q ps)) (e ∙ ap (λ b. cond b (Some (or_zero at_k +ℤ n)) old) t ∙ ap (λ o. Some (or_zero o +ℤ n)) (same t))
+    ∙ plus-more old (sum_at q ps) n
+    ∙ ap (λ b. plus old (cond b (Some (n +ℤ or_zero (sum_at q ps))) (sum_at q ps))) (sym t) ∙ h)
+    (λ f. ap (λ o. plus o (sum_at q ps)) (e ∙ ap (λ b. cond b (Some (or_zero at_k +ℤ n)) old) f)
+    ∙ ap (λ b. plus old (cond b (Some (n +ℤ or_zero (sum_at q ps))) (sum_at q ps))) (sym f) ∙ h)
 
-pub same_key : (k q : List ℕ) (es : List (Vec ℕ Global × ℤ)) → bytes_eq k q ≡ true → found es k ≡ found es q
-same_key k q es e = ap (found es) ((bytes_eq-Decides k q).0 e)
+pub same_key : (k q : List ℕ) (es : List (Vec ℕ Global × ℤ)) → bytes_eq k q ≡ true → number_at es k ≡ number_at es q
+same_key k q es e = ap (number_at es) ((bytes_eq-Decides k q).0 e)
 
 -- no total leaves its bounds
 abbrev Within : ℕ → ℤ → Type 0
@@ -106,11 +211,11 @@ within_more m n true old at_k new z e f h k is = subst (λ o. Within n (or_zero 
 within_more m n false old at_k new z e f h k is = subst (λ o. Within n (or_zero o)) (sym is) (omega (arith, ints), omega (arith, ints))
 
 -- the keys of the entries ascend
-all_less : (k : Vec ℕ Global) (es : List (Vec ℕ Global × ℤ)) → AllByRecursion (λ y. slice_cmp nat_cmp k.items y.items ≡ Less) (map (λ e. e.0) es) → AllByRecursion (λ y. slice_cmp nat_cmp k.items y ≡ Less) (map (λ e. e.0) (shown es))
+all_less : (k : Vec ℕ Global) (es : List (Vec ℕ Global × ℤ)) → AllByRecursion (λ y. slice_cmp nat_cmp k.items y.items ≡ Less) (map (λ e. e.0) es) → AllByRecursion (λ y. slice_cmp nat_cmp k.items y ≡ Less) (map (λ e. e.0) (plain_pairs es))
 all_less k [] h = h
 all_less k (e ∷ es) h = (h.0, all_less k es h.1)
 
-pub ascending : (es : List (Vec ℕ Global × ℤ)) → IsStrictlySortedBy (λ x y. slice_cmp nat_cmp x.items y.items) (map (λ e. e.0) es) → IsStrictlySortedBy (slice_cmp nat_cmp) (map (λ e. e.0) (shown es))
+pub ascending : (es : List (Vec ℕ Global × ℤ)) → IsStrictlySortedBy (λ x y. slice_cmp nat_cmp x.items y.items) (map (λ e. e.0) es) → IsStrictlySortedBy (slice_cmp nat_cmp) (map (λ e. e.0) (plain_pairs es))
 unfolding IsStrictlySortedBy
 ascending [] h = h
 ascending (e ∷ es) h = (all_less e.0 es h.0, ascending es h.1)
@@ -119,41 +224,35 @@ ascending (e ∷ es) h = (all_less e.0 es h.0, ascending es h.1)
 fits-true : (z : ℤ) → FitsSigned w64 z → fits_i64 z ≡ true
 fits-true z f = grind (arith, ints)
 
-pub listing_more : (so_far : List (Reply × Reply)) (key : Vec ℕ Global) (z : ℤ) (rest0 rest : List (Vec ℕ Global × ℤ)) (whole : Option (List (Reply × Reply)))
-    → rest0 ≡ (key, z) ∷ rest → FitsSigned w64 z → before so_far (listing (shown rest0)) ≡ whole → before (so_far ++ (bulk key.items, int z) ∷ []) (listing (shown rest)) ≡ whole
-listing_more so_far key z rest0 rest whole e f h =
-    sym (before-more so_far (bulk key.items, int z) (listing (shown rest)))
-    ∙ ap (λ b. before so_far (cond b (option_map (λ rs. (bulk key.items, int z) ∷ rs) (listing (shown rest))) None)) (sym (fits-true z f))
-    ∙ ap (λ es. before so_far (listing (shown es))) (sym e)
+pub entries_more : (so_far : List (Reply × Reply)) (key : Vec ℕ Global) (z : ℤ) (rest0 rest : List (Vec ℕ Global × ℤ)) (whole : Option (List (Reply × Reply)))
+    → rest0 ≡ (key, z) ∷ rest → FitsSigned w64 z → before so_far (all_some (map entry_of (plain_pairs rest0))) ≡ whole → before (so_far ++ (bulk key.items, int z) ∷ []) (all_some (map entry_of (plain_pairs rest))) ≡ whole
+entries_more so_far key z rest0 rest whole e f h =
+    sym (before-more so_far (bulk key.items, int z) (all_some (map entry_of (plain_pairs rest))))
+    ∙ ap (λ b. before so_far (all_some (option_map (λ n. (bulk key.items, int n)) (cond b (Some z) None) ∷ map entry_of (plain_pairs rest)))) (sym (fits-true z f))
+    ∙ ap (λ es. before so_far (all_some (map entry_of (plain_pairs es)))) (sym e)
     ∙ h
 
--- entries by ascending key with the totals are the totals
 both : (a b : Bool) → T a → T b → T (a && b)
 both true b p q = q
 both false b p q = p
 
-below : (k : List ℕ) (es : Keyed) → AllByRecursion (λ y. slice_cmp nat_cmp k y ≡ Less) (map (λ e. e.0) es) → T (below_all order k es)
+below : (k : List ℕ) (es : List KeyNumber) → AllByRecursion (λ y. slice_cmp nat_cmp k y ≡ Less) (map (λ e. e.0) es) → T (below_all order k es)
 below k [] h = tt
 below k (e ∷ es) h = both _ _ (subst (λ o. T (is_lt o)) (sym h.0) tt) (below k es h.1)
 
-rising : (es : Keyed) → IsStrictlySortedBy (slice_cmp nat_cmp) (map (λ e. e.0) es) → T (is_sorted order es)
+rising : (es : List KeyNumber) → IsStrictlySortedBy (slice_cmp nat_cmp) (map (λ e. e.0) es) → T (is_sorted order es)
 unfolding IsStrictlySortedBy
 rising [] h = tt
 rising (e ∷ es) h = both _ _ (below e.0 es h.0) (rising es h.1)
 
-find-found : (q : List ℕ) (es : List (Vec ℕ Global × ℤ)) → find order q (shown es) ≡ found es q
-find-found q [] = refl
-find-found q (e ∷ es) = ap (cond (is_eq (slice_cmp nat_cmp q e.0.items)) (Some e.1)) (find-found q es)
-
-entries_are : (es : List (Vec ℕ Global × ℤ)) (ps : Keyed) → IsStrictlySortedBy (slice_cmp nat_cmp) (map (λ e. e.0) (shown es)) → ((q : List ℕ) → found es q ≡ get (totals ps) q) → shown es ≡ entries (totals ps)
-entries_are es ps s h =
-    same_entries order nat_list_cmp_total (slice_cmp-IsAntisymmetric nat_cmp-IsAntisymmetric) (shown es) (entries (totals ps)) (rising (shown es) s) (entries_sorted (totals ps))
-    (λ q. find-found q es ∙ h q ∙ get-entries (totals ps) q)
+find-number_at : (q : List ℕ) (es : List (Vec ℕ Global × ℤ)) → find order q (plain_pairs es) ≡ number_at es q
+find-number_at q [] = refl
+find-number_at q (e ∷ es) = ap (cond (is_eq (slice_cmp nat_cmp q e.0.items)) (Some e.1)) (find-number_at q es)
 
 -- what the entries make is what the replies make
-pub combined_is : (rs : List Reply) (ps : Keyed) (es : List (Vec ℕ Global × ℤ)) → all_keyed rs ≡ Some ps → length ps < 2 ^ 63 → IsStrictlySortedBy (slice_cmp nat_cmp) (map (λ e. e.0) (shown es)) → ((q : List ℕ) → found es q ≡ get (totals ps) q)
-    → combined rs ≡ option_map (λ l. pairs (pairs_of l)) (listing (shown es))
-combined_is rs ps es k few s h =
-    ap (option_and_then map_of) k
-    ∙ ap (λ b. cond b (option_map (λ l. pairs (pairs_of l)) (listing (entries (totals ps)))) None) (lt-ltb (length ps) (2 ^ 63) few)
-    ∙ ap (λ l. option_map (λ l. pairs (pairs_of l)) (listing l)) (sym (entries_are es ps s h))
+pub combined_map_is : (rs : List Reply) (ps : List KeyNumber) (es : List (Vec ℕ Global × ℤ)) → all_pairs rs ≡ Some ps → length ps < 2 ^ 63 → IsStrictlySortedBy (slice_cmp nat_cmp) (map (λ e. e.0) (plain_pairs es)) → ((q : List ℕ) → number_at es q ≡ total_at q ps)
+    → combined_map rs ≡ option_map (λ l. pairs (pairs_of l)) (all_some (map entry_of (plain_pairs es)))
+combined_map_is rs ps es k few s h =
+    ap (option_and_then map_of_totals) k
+    ∙ ap (λ b. cond b (map_of (totals ps)) None) (lt-ltb (length ps) (2 ^ 63) few)
+    ∙ ap map_of (sym (are_totals (plain_pairs es) ps (rising (plain_pairs es) s) (λ q. find-number_at q es ∙ h q)))

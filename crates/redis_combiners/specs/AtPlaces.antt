@@ -10,7 +10,7 @@ item_at reply j = option_and_then (λ items. slice_get items j) (items_of reply)
 
 -- place j of a list, if it has one
 abbrev pub place_at : MultiSlotArgPattern → List ℕ → ℕ → Option ℕ
-place_at pattern list j = option_and_then (λ found. slice_get found j) (places pattern list)
+place_at pattern list j = option_and_then (λ all. slice_get all j) (places pattern list)
 
 -- item j of reply i stands in the whole at place j of list i
 abbrev pub AreAtPlaces : MultiSlotArgPattern → List Reply → List (List ℕ) → Reply → Type 0

@@ -1,26 +1,30 @@
--- The places of keys that the list of arguments of a part stands for.
-use Rattle.std.specs.Prelude.{ℕ, ◌-◌, ◌*◌, ◌/◌, ◌%◌, ◌==◌, List, [], ◌∷◌, length, map, take, Option, Some, None, option_map, slice_index, if◌then◌else◌}
-use Rattle.std.specs.List.{range_with_len}
+-- The places of the keys of a part of a split command, by the list of its arguments.
+use Rattle.std.specs.Prelude.{ℕ, ◌-◌, ◌/◌, ◌%◌, ◌==◌, List, length, map, filter, take, Option, Some, None, option_and_then, if◌then◌else◌}
+use Rattle.std.specs.List.{enumerate_from}
+use Rattle.redis_combiners.specs.Lists.{all_some}
+use Rattle.redis_commands.specs.Tuples.{width_of}
 use Rattle.redis_commands.specs.declared.ways.MultiSlotArgPattern.{MultiSlotArgPattern}
 use Rattle.redis_commands.specs.declared.ways.MultiSlotArgPattern.TheVariants.{KeysOnly, KeyValuePairs, KeysAndLastArg, KeyWithTwoArgTriples}
 
--- the first number of each tuple, divided by how many arguments a tuple has, if the list is of whole tuples
-abbrev pub firsts : ℕ → List ℕ → Option (List ℕ)
-firsts width list = if length list % width == 0 then Some (map (λ tuple. slice_index list (width * tuple) / width) (range_with_len 0 (length list / width))) else None
+-- every width-th number of a list, from the first on
+abbrev pub every : ℕ → List ℕ → List ℕ
+every width list = map (λ entry. entry.1) (filter (λ entry. entry.0 % width == 0) (enumerate_from 0 list))
 
--- the places of keys that a list stands for, if it is whole: itself, without the argument that all keys share where there is one, or one for each tuple
+-- the places of tuples of this width: the first number of each tuple, divided by the width, if the list is of whole tuples
+abbrev pub tuple_places : ℕ → List ℕ → Option (List ℕ)
+tuple_places width list = if length list % width == 0 then Some (map (λ n. n / width) (every width list)) else None
+
+-- the numbers of a list that make tuples: all, or all but the last one, which must be there, where the keys share the last argument
+abbrev pub own_arguments : MultiSlotArgPattern → List ℕ → Option (List ℕ)
+own_arguments KeysOnly list = Some list
+own_arguments KeyValuePairs list = Some list
+own_arguments KeysAndLastArg list = if length list == 0 then None else Some (take (length list - 1) list)
+own_arguments KeyWithTwoArgTriples list = Some list
+
+-- the places of the keys of a list, if it is of whole tuples
 abbrev pub places : MultiSlotArgPattern → List ℕ → Option (List ℕ)
-places KeysOnly list = Some list
-places KeyValuePairs list = firsts 2 list
-places KeysAndLastArg list = if length list == 0 then None else Some (take (length list - 1) list)
-places KeyWithTwoArgTriples list = firsts 3 list
+places pattern list = option_and_then (tuple_places (width_of pattern)) (own_arguments pattern list)
 
--- the places of one list before those of the others, if all are there
-abbrev pub cons_places : Option (List ℕ) → Option (List (List ℕ)) → Option (List (List ℕ))
-cons_places None o = None
-cons_places (Some ps) o = option_map (λ pss. ps ∷ pss) o
-
--- the places that each list stands for, if each is whole
+-- the places of the keys of each list, if all are of whole tuples
 abbrev pub all_places : MultiSlotArgPattern → List (List ℕ) → Option (List (List ℕ))
-all_places pattern [] = Some []
-all_places pattern (list ∷ lists) = cons_places (places pattern list) (all_places pattern lists)
+all_places pattern lists = all_some (map (places pattern) lists)

@@ -1,11 +1,12 @@
-ghost use Rattle.std.specs.Prelude.{◌≡◌, length, map, IfOk, option_map, option_to_list, replicate, None};
+ghost use Rattle.std.specs.Prelude.{◌≡◌, length, map, IfOk, option_map, replicate, None};
 ghost use Rattle.resp_core.specs.View.{view};
-ghost use Rattle.redis_combiners.specs.Arranged.{arranged, singles};
+ghost use Rattle.redis_combiners.specs.ByPlaces.{by_places};
+ghost use Rattle.redis_combiners.specs.Lists.{all_some};
 
 use resp_core::Value;
 use std::alloc::{AllocError, Global};
 
-/// So many empty slots.
+/// A list of `n` empty slots.
 fn empty_slots(alloc: Global, n: usize) -> Result<Vec<Option<Value>>, AllocError>
     ensures { IfOk result (λ v. v.items ≡ replicate n None) }
 {
@@ -16,9 +17,9 @@ fn empty_slots(alloc: Global, n: usize) -> Result<Vec<Option<Value>>, AllocError
     Ok(slots)
 }
 
-/// What the slots hold, if each holds something.
-fn unwrapped(alloc: Global, slots: Vec<Option<Value>>) -> Result<Option<Vec<Value>>, AllocError>
-    ensures { IfOk result (λ o. option_map (λ v. map view v.items) o ≡ singles (map (λ s. option_to_list (option_map view s)) slots.items)) }
+/// The values in the slots, if no slot is empty.
+fn all_values(alloc: Global, slots: Vec<Option<Value>>) -> Result<Option<Vec<Value>>, AllocError>
+    ensures { IfOk result (λ o. option_map (λ v. map view v.items) o ≡ all_some (map (λ slot. option_map view slot) slots.items)) }
 {
     let mut held = Vec::with_capacity(alloc, slots.len())?;
     for slot in slots {
@@ -30,14 +31,14 @@ fn unwrapped(alloc: Global, slots: Vec<Option<Value>>) -> Result<Option<Vec<Valu
     Ok(Some(held))
 }
 
-/// The items in the order of their places, if these are each number from 0 on once.
+/// The items in the order of their places, if these are the numbers from 0 on, each once.
 pub(super) fn arrange(
     alloc: Global,
     mut items: Vec<Value>,
     places: &[usize],
 ) -> Result<Option<Vec<Value>>, AllocError>
     requires { length items.items ≡ length places.now }
-    ensures { IfOk result (λ o. option_map (λ v. map view v.items) o ≡ arranged places.now (map view items.items)) }
+    ensures { IfOk result (λ o. option_map (λ v. map view v.items) o ≡ by_places places.now (map view items.items)) }
 {
     let mut slots = empty_slots(alloc, places.len())?;
     while let Some(item) = items.pop() {
@@ -50,5 +51,5 @@ pub(super) fn arrange(
         }
         slots[place] = Some(item);
     }
-    unwrapped(alloc, slots)
+    all_values(alloc, slots)
 }

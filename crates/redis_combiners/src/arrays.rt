@@ -3,7 +3,7 @@ ghost use Rattle.resp_core.specs.Fault.{out_of_memory};
 ghost use Rattle.resp_core.specs.Reply.{array, replies_of};
 ghost use Rattle.resp_core.specs.View.{view};
 ghost use Rattle.resp_core.specs.declared.error.ErrorKind.TheVariants.{UnexpectedReturnType};
-ghost use Rattle.redis_combiners.specs.Joined.{joined};
+ghost use Rattle.redis_combiners.specs.AllItems.{all_items};
 
 use resp_core::{ErrorKind, RedisError, RedisResult, Value};
 use std::alloc::{AllocError, Global};
@@ -12,22 +12,21 @@ use std::alloc::{AllocError, Global};
 ///
 /// # Errors
 ///
-/// Of kind `UnexpectedReturnType` where a reply is no array. Want of memory may come in the place of
-/// this.
+/// `UnexpectedReturnType` where a reply is not an array, or out of memory.
 pub fn combine_array_results(alloc: Global, values: Vec<Value>) -> RedisResult<Value>
     ensures { MatchResult result
-        (λ value. option_map (λ items. array (replies_of items)) (joined (map view values.items)) ≡ Some (view value))
-        (λ fault. (fault ≡ out_of_memory) ⊎ ((joined (map view values.items) ≡ None) × (fault.kind ≡ UnexpectedReturnType))) }
+        (λ value. option_map (λ items. array (replies_of items)) (all_items (map view values.items)) ≡ Some (view value))
+        (λ fault. (fault ≡ out_of_memory) ⊎ ((all_items (map view values.items) ≡ None) × (fault.kind ≡ UnexpectedReturnType))) }
 {
-    match joined(alloc, values)? {
+    match collect_items(alloc, values)? {
         Some(items) => Ok(Value::Array(items)),
-        None => Err(RedisError::from((ErrorKind::UnexpectedReturnType, "a reply is no array"))),
+        None => Err(RedisError::from((ErrorKind::UnexpectedReturnType, "a reply is not an array"))),
     }
 }
 
 /// The items of all replies, if each is an array.
-fn joined(alloc: Global, values: Vec<Value>) -> Result<Option<Vec<Value>>, AllocError>
-    ensures { IfOk result (λ items. option_map (λ v. map view v.items) items ≡ joined (map view values.items)) }
+fn collect_items(alloc: Global, values: Vec<Value>) -> Result<Option<Vec<Value>>, AllocError>
+    ensures { IfOk result (λ items. option_map (λ v. map view v.items) items ≡ all_items (map view values.items)) }
 {
     let mut all = Vec::new(alloc);
     for value in values {

@@ -1,30 +1,34 @@
-ghost use Rattle.std.specs.Prelude.{◌≡◌, ◌⊎◌, length, map, MatchResult, Ok, Err};
+ghost use Rattle.std.specs.Prelude.{◌≡◌, ◌⊎◌, length, map, MatchResult, Some, None};
 ghost use Rattle.resp_core.specs.View.{view};
 ghost use Rattle.resp_core.specs.Fault.{out_of_memory};
-ghost use Rattle.redis_combiners.specs.Gathered.{gathered};
+ghost use Rattle.redis_combiners.specs.AllItems.{all_items};
+ghost use Rattle.redis_combiners.specs.Misfits.{first_misfit};
 
 use resp_core::{ErrorKind, RedisError, RedisResult, Value};
 use std::alloc::Global;
 
-/// The items of array replies, taken out of them, one reply behind the other.
-pub(super) fn gather(
-    alloc: Global,
-    values: Vec<Value>,
-    lists: &[Vec<usize>],
-) -> RedisResult<Vec<Value>>
-    requires { length values.items ≡ length lists.now }
+/// Moves the items out of array replies, one reply after the other. Each reply must have as many
+/// items as its count says.
+pub(super) fn gather(alloc: Global, values: Vec<Value>, counts: &[usize]) -> RedisResult<Vec<Value>>
+    requires { length values.items ≡ length counts.now }
     ensures { MatchResult result
-        (λ v. gathered (map view values.items) (map (λ w. w.items) lists.now) ≡ Ok (map view v.items))
-        (λ e. (e ≡ out_of_memory) ⊎ (gathered (map view values.items) (map (λ w. w.items) lists.now) ≡ Err e.kind)) }
+        (λ items. (first_misfit (map view values.items) counts.now ≡ None) × (all_items (map view values.items) ≡ Some (map view items.items)))
+        (λ fault. (fault ≡ out_of_memory) ⊎ (first_misfit (map view values.items) counts.now ≡ Some fault.kind)) }
 {
     let mut all = Vec::new(alloc);
     let mut k = 0;
     for value in values {
         let Some(mut items) = value.into_items() else {
-            return Err(RedisError::from((ErrorKind::UnexpectedReturnType, "no array")));
+            return Err(RedisError::from((
+                ErrorKind::UnexpectedReturnType,
+                "a reply is not an array",
+            )));
         };
-        if items.len() != lists[k].len() {
-            return Err(RedisError::from((ErrorKind::Client, "not as many items as places")));
+        if items.len() != counts[k] {
+            return Err(RedisError::from((
+                ErrorKind::Client,
+                "a reply does not have as many items as its list has places",
+            )));
         }
         all.append(&mut items)?;
         k += 1;

@@ -1,11 +1,11 @@
 ghost use Rattle.std.specs.Prelude.{◌≡◌, ◌==◌, ◌⊎◌, IfOk, map, length, MatchResult, option_map, Some, None};
-ghost use Rattle.std.specs.List.{list_all, range_with_len};
+ghost use Rattle.std.specs.List.{list_all};
 ghost use Rattle.resp_core.specs.Fault.{out_of_memory};
 ghost use Rattle.resp_core.specs.Reply.{array, replies_of};
 ghost use Rattle.resp_core.specs.View.{view};
 ghost use Rattle.resp_core.specs.declared.error.ErrorKind.TheVariants.{UnexpectedReturnType};
-ghost use Rattle.redis_combiners.specs.Bits.{width, bit_of, bits_in, rows_in, bit_at};
-ghost use Rattle.redis_combiners.specs.Logical.{answer, answer_row, as_int, logical_aggregated};
+ghost use Rattle.redis_combiners.specs.Bits.{bit_of, bits_among, all_rows};
+ghost use Rattle.redis_combiners.specs.Logical.{common_length, column, answer, answers, as_int, logical_items};
 
 use redis_commands::LogicalAggregateOp;
 use resp_core::{ErrorKind, RedisError, RedisResult, Value};
@@ -16,22 +16,22 @@ use std::alloc::{AllocError, Global};
 ///
 /// # Errors
 ///
-/// Of kind `UnexpectedReturnType` where a reply is no array of 0 and 1, or of another length than the
-/// first. Want of memory may come in the place of this.
+/// `UnexpectedReturnType` where a reply is not an array of 0 and 1, or its length is not that of the
+/// first, or out of memory.
 pub fn logical_aggregate(
     alloc: Global,
     values: Vec<Value>,
     op: LogicalAggregateOp,
 ) -> RedisResult<Value>
     ensures { MatchResult result
-        (λ value. option_map (λ items. array (replies_of items)) (logical_aggregated op (map view values.items)) ≡ Some (view value))
-        (λ fault. (fault ≡ out_of_memory) ⊎ ((logical_aggregated op (map view values.items) ≡ None) × (fault.kind ≡ UnexpectedReturnType))) }
+        (λ value. option_map (λ items. array (replies_of items)) (logical_items op (map view values.items)) ≡ Some (view value))
+        (λ fault. (fault ≡ out_of_memory) ⊎ ((logical_items op (map view values.items) ≡ None) × (fault.kind ≡ UnexpectedReturnType))) }
 {
     match items(alloc, &values, op)? {
         Some(items) => Ok(Value::Array(items)),
         None => Err(RedisError::from((
             ErrorKind::UnexpectedReturnType,
-            "the replies are no arrays of 0 and 1 of one length",
+            "the replies are not arrays of 0 and 1 of one length",
         ))),
     }
 }
@@ -42,17 +42,20 @@ fn items(
     values: &[Value],
     op: LogicalAggregateOp,
 ) -> Result<Option<Vec<Value>>, AllocError>
-    ensures { IfOk result (λ items. option_map (λ v. map view v.items) items ≡ logical_aggregated op (map view values.now)) }
+    ensures { IfOk result (λ items. option_map (λ v. map view v.items) items ≡ logical_items op (map view values.now)) }
 {
-    match rows(alloc, values)? {
-        Some(rows) => answer_row(alloc, &rows, op),
-        None => Ok(None),
-    }
+    let Some(rows) = rows(alloc, values)? else {
+        return Ok(None);
+    };
+    let Some(width) = row_length(&rows) else {
+        return Ok(None);
+    };
+    Ok(Some(fold_columns(alloc, &rows, width, op)?))
 }
 
 /// The bits of each reply, if each is an array of 0 and 1.
 fn rows(alloc: Global, values: &[Value]) -> Result<Option<Vec<Vec<bool>>>, AllocError>
-    ensures { IfOk result (λ rows. option_map (λ v. map (λ row. row.items) v.items) rows ≡ rows_in (map view values.now)) }
+    ensures { IfOk result (λ rows. option_map (λ v. map (λ row. row.items) v.items) rows ≡ all_rows (map view values.now)) }
 {
     let mut all = Vec::with_capacity(alloc, values.len())?;
     for value in values {
@@ -69,7 +72,7 @@ fn rows(alloc: Global, values: &[Value]) -> Result<Option<Vec<Vec<bool>>>, Alloc
 
 /// The bits of the items of one reply, if each item is 0 or 1.
 fn bits(alloc: Global, items: &[Value]) -> Result<Option<Vec<bool>>, AllocError>
-    ensures { IfOk result (λ bits. option_map (λ v. v.items) bits ≡ bits_in (map view items.now)) }
+    ensures { IfOk result (λ bits. option_map (λ v. v.items) bits ≡ bits_among (map view items.now)) }
 {
     let mut row = Vec::with_capacity(alloc, items.len())?;
     for item in items {
@@ -95,33 +98,19 @@ fn bit(n: i64) -> Option<bool>
     }
 }
 
-/// The answer at each place, if all rows are of one length.
-fn answer_row(
-    alloc: Global,
-    rows: &[Vec<bool>],
-    op: LogicalAggregateOp,
-) -> Result<Option<Vec<Value>>, AllocError>
-    ensures { IfOk result (λ items. option_map (λ v. map view v.items) items ≡ answer_row op (map (λ row. row.items) rows.now)) }
+/// The length of the rows, if all have the same. Without rows it is 0.
+fn row_length(rows: &[Vec<bool>]) -> Option<usize>
+    ensures { result ≡ common_length (map (λ row. row.items) rows.now) }
 {
-    let width = width(rows);
-    if !all_of_width(rows, width) {
-        return Ok(None);
-    }
-    Ok(Some(answers(alloc, rows, width, op)?))
+    let [first, ..] = rows else {
+        return Some(0);
+    };
+    let width = first.len();
+    all_have_width(rows, width).then_some(width)
 }
 
-/// How many places the first row has.
-fn width(rows: &[Vec<bool>]) -> usize
-    ensures { result ≡ width (map (λ row. row.items) rows.now) }
-{
-    match rows {
-        [] => 0,
-        [row, ..] => row.len(),
-    }
-}
-
-/// Whether all rows have so many places.
-fn all_of_width(rows: &[Vec<bool>], width: usize) -> bool
+/// Whether all rows have this length.
+fn all_have_width(rows: &[Vec<bool>], width: usize) -> bool
     ensures { result ≡ list_all (λ row. length row == width) (map (λ row. row.items) rows.now) }
 {
     for row in rows {
@@ -132,25 +121,25 @@ fn all_of_width(rows: &[Vec<bool>], width: usize) -> bool
     true
 }
 
-/// The answer at each place.
-fn answers(
+/// The answer for each place.
+fn fold_columns(
     alloc: Global,
     rows: &[Vec<bool>],
     width: usize,
     op: LogicalAggregateOp,
 ) -> Result<Vec<Value>, AllocError>
-    ensures { IfOk result (λ items. map view items.items ≡ map (λ j. as_int (answer op (map (bit_at j) (map (λ row. row.items) rows.now)))) (range_with_len 0 width)) }
+    ensures { IfOk result (λ items. map view items.items ≡ answers op (map (λ row. row.items) rows.now) width) }
 {
     let mut items = Vec::with_capacity(alloc, width)?;
     for place in 0..width {
-        items.push(as_reply(at_place(rows, place, op)))?;
+        items.push(as_reply(fold_column(rows, place, op)))?;
     }
     Ok(items)
 }
 
-/// What the bits at a place make.
-fn at_place(rows: &[Vec<bool>], place: usize, op: LogicalAggregateOp) -> bool
-    ensures { result ≡ answer op (map (bit_at place) (map (λ row. row.items) rows.now)) }
+/// The answer for one place.
+fn fold_column(rows: &[Vec<bool>], place: usize, op: LogicalAggregateOp) -> bool
+    ensures { result ≡ answer op (column (map (λ row. row.items) rows.now) place) }
 {
     let mut all = true;
     for row in rows {

@@ -1,80 +1,69 @@
-ghost use Rattle.std.specs.Prelude.{◌≡◌, ℕ, ◌<◌, IfOk, option_map, map, flat_map};
-ghost use Rattle.redis_combiners.specs.KeyPlaces.{places, firsts, all_places};
+ghost use Rattle.std.specs.Prelude.{◌≡◌, ◌++◌, IfOk, length, option_map, map};
+ghost use Rattle.redis_combiners.specs.KeyPlaces.{own_arguments, places, all_places};
+ghost use Rattle.redis_combiners.specs.Lists.{flatten};
 
 use cluster_slots::Route;
 use redis_commands::MultiSlotArgPattern;
 use std::alloc::{AllocError, Global};
 
-fn copied(alloc: Global, list: &[usize]) -> Result<Vec<usize>, AllocError>
-    ensures { IfOk result (λ v. v.items ≡ list.now) }
-{
-    let mut copy = Vec::with_capacity(alloc, list.len())?;
-    copy.extend_from_slice(list)?;
-    Ok(copy)
+/// The places of the keys of some lists of arguments, one list after the other, and how many there are
+/// of each list.
+#[derive(Drop)]
+pub(super) struct KeyPlaces {
+    pub(super) all: Vec<usize>,
+    pub(super) counts: Vec<usize>,
 }
 
-/// The first number of each group of `width`, divided by it.
-fn firsts(alloc: Global, list: &[usize], width: usize) -> Result<Option<Vec<usize>>, AllocError>
-    requires { 0 < width }
-    ensures { IfOk result (λ o. option_map (λ v. v.items) o ≡ firsts width list.now) }
-{
-    if list.len() % width != 0 {
-        return Ok(None);
-    }
-    let count = list.len() / width;
-    let mut found = Vec::with_capacity(alloc, count)?;
-    for i in 0..count {
-        found.push(list[width * i] / width)?;
-    }
-    Ok(Some(found))
-}
-
-/// The places of keys that a list of arguments stands for, if it is whole.
-pub(super) fn places(
-    alloc: Global,
-    list: &[usize],
-    pattern: MultiSlotArgPattern,
-) -> Result<Option<Vec<usize>>, AllocError>
-    ensures { IfOk result (λ o. option_map (λ v. v.items) o ≡ places pattern list.now) }
-{
-    match pattern {
-        MultiSlotArgPattern::KeysOnly => Ok(Some(copied(alloc, list)?)),
-        MultiSlotArgPattern::KeyValuePairs => firsts(alloc, list, 2),
-        MultiSlotArgPattern::KeyWithTwoArgTriples => firsts(alloc, list, 3),
-        MultiSlotArgPattern::KeysAndLastArg => {
-            if list.is_empty() {
-                return Ok(None);
-            }
-            Ok(Some(copied(alloc, &list[..list.len() - 1])?))
-        }
-    }
-}
-
-/// The same of each list.
-pub(super) fn all_places(
+/// The places of the keys in the lists, if every list is of whole tuples.
+pub(super) fn key_places(
     alloc: Global,
     lists: &[(Route, Vec<usize>)],
     pattern: MultiSlotArgPattern,
-) -> Result<Option<Vec<Vec<usize>>>, AllocError>
-    ensures { IfOk result (λ o. option_map (λ v. map (λ w. w.items) v.items) o ≡ all_places pattern (map (λ l. l.1.items) lists.now)) }
-{
-    let mut all = Vec::with_capacity(alloc, lists.len())?;
-    for list in lists {
-        let Some(found) = places(alloc, &list.1, pattern)? else {
-            return Ok(None);
-        };
-        all.push(found)?;
-    }
-    Ok(Some(all))
-}
-
-/// The lists, one behind the other.
-pub(super) fn joined(alloc: Global, lists: &[Vec<usize>]) -> Result<Vec<usize>, AllocError>
-    ensures { IfOk result (λ v. v.items ≡ flat_map (λ w. w.items) lists.now) }
+) -> Result<Option<KeyPlaces>, AllocError>
+    ensures all { IfOk result (λ o. option_map (λ p. p.all.items) o ≡ option_map flatten (all_places pattern (map (λ l. l.1.items) lists.now))) }
+    ensures counts { IfOk result (λ o. option_map (λ p. p.counts.items) o ≡ option_map (map length) (all_places pattern (map (λ l. l.1.items) lists.now))) }
 {
     let mut all = Vec::new(alloc);
+    let mut counts = Vec::with_capacity(alloc, lists.len())?;
     for list in lists {
-        all.extend_from_slice(list)?;
+        let Some(count) = add_places(&mut all, &list.1, pattern)? else {
+            return Ok(None);
+        };
+        counts.push(count)?;
     }
-    Ok(all)
+    Ok(Some(KeyPlaces { all, counts }))
+}
+
+/// Adds the places of the keys in a list and returns how many these are, if it is of whole tuples.
+fn add_places(
+    all: &mut Vec<usize>,
+    list: &[usize],
+    pattern: MultiSlotArgPattern,
+) -> Result<Option<usize>, AllocError>
+    ensures count { IfOk result (λ count. count ≡ option_map length (places pattern list.now)) }
+    ensures added { IfOk result (λ count. option_map (λ _. all.new.items) count ≡ option_map (λ found. all.old.items ++ found) (places pattern list.now)) }
+{
+    let Some(own) = own_part(list, pattern) else {
+        return Ok(None);
+    };
+    let width = pattern.width();
+    if own.len() % width != 0 {
+        return Ok(None);
+    }
+    let count = own.len() / width;
+    for i in 0..count {
+        all.push(own[width * i] / width)?;
+    }
+    Ok(Some(count))
+}
+
+/// The list without the place of the argument that all keys share, if the pattern has one.
+fn own_part(list: &[usize], pattern: MultiSlotArgPattern) -> Option<&[usize]>
+    ensures { option_map (λ own. own.now) result ≡ own_arguments pattern list.now }
+{
+    match (pattern, list) {
+        (MultiSlotArgPattern::KeysAndLastArg, []) => None,
+        (MultiSlotArgPattern::KeysAndLastArg, [own @ .., _]) => Some(own),
+        _ => Some(list),
+    }
 }

@@ -7,7 +7,7 @@ ghost use Rattle.redis_combiners.specs.SortedArrays.{sorted_arrays};
 
 use super::arrange::arrange;
 use super::gather::gather;
-use super::places::{all_places, joined};
+use super::places::key_places;
 use cluster_slots::Route;
 use redis_commands::MultiSlotArgPattern;
 use resp_core::{ErrorKind, RedisError, RedisResult, Value};
@@ -18,11 +18,11 @@ use std::alloc::Global;
 ///
 /// # Errors
 ///
-/// In this order: of kind `Client` where a list does not come out even by the pattern, or is empty
-/// though it should end in a shared place; of kind `Client` where there are not as many replies as
-/// lists; for the first reply that does not fit, of kind `UnexpectedReturnType` where it is no array,
-/// and `Client` where it has not as many items as its list has places; of kind `Client` where the
-/// places are not each number from 0 on once. Want of memory may come in the place of any of these.
+/// In this order: `Client` where a list is not of whole tuples, or is empty though it should end in a
+/// shared place; `Client` where there are not as many replies as lists; for the first reply that does
+/// not fit, `UnexpectedReturnType` where it is not an array, and `Client` where it does not have as
+/// many items as its list has places; `Client` where the places are not the numbers from 0 on, each
+/// once. Out of memory may come in place of any of these.
 pub fn combine_and_sort_array_results(
     alloc: Global,
     values: Vec<Value>,
@@ -34,19 +34,24 @@ pub fn combine_and_sort_array_results(
         (λ fault. (fault ≡ out_of_memory) ⊎ (sorted_arrays pattern.now (map view values.items) (map (λ route. route.1.items) sorting_order.now) ≡ Err fault.kind)) }
     ensures at_place { IfOk result (λ value. AreAtPlaces pattern.now (map view values.items) (map (λ route. route.1.items) sorting_order.now) (view value)) }
 {
-    let Some(found) = all_places(alloc, sorting_order, *pattern)? else {
-        return Err(RedisError::from((ErrorKind::Client, "a list of places is not whole")));
+    let Some(places) = key_places(alloc, sorting_order, *pattern)? else {
+        return Err(RedisError::from((
+            ErrorKind::Client,
+            "a list of places is not of whole tuples",
+        )));
     };
-    if values.len() != found.len() {
+    if values.len() != places.counts.len() {
         return Err(RedisError::from((
             ErrorKind::Client,
             "there are not as many replies as lists of places",
         )));
     }
-    let items = gather(alloc, values, &found)?;
-    let places = joined(alloc, &found)?;
-    let Some(sorted) = arrange(alloc, items, &places)? else {
-        return Err(RedisError::from((ErrorKind::Client, "the places are not each number once")));
+    let items = gather(alloc, values, &places.counts)?;
+    let Some(sorted) = arrange(alloc, items, &places.all)? else {
+        return Err(RedisError::from((
+            ErrorKind::Client,
+            "the places are not the numbers from 0 on, each once",
+        )));
     };
     Ok(as_array(sorted))
 }

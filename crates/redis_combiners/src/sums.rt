@@ -2,24 +2,24 @@ ghost use Rattle.std.specs.Prelude.{◌≡◌, List, map, MatchResult, Some, Non
 ghost use Rattle.resp_core.specs.Reply.{Reply, int};
 ghost use Rattle.resp_core.specs.View.{view};
 ghost use Rattle.resp_core.specs.declared.error.ErrorKind.TheVariants.{UnexpectedReturnType};
-ghost use Rattle.redis_combiners.specs.Aggregate.{sum_of, least_of, aggregated};
+ghost use Rattle.redis_combiners.specs.Aggregate.{sum_of, least_of, aggregate_of};
 
 use redis_commands::AggregateOp;
 use resp_core::{ErrorKind, RedisError, RedisResult, Value};
 
 /// One number for replies that are numbers: their sum, which is 0 of none, or the least of them,
-/// which is `i64::MAX` of none. The order of the replies does not count. Takes no memory.
+/// which is `i64::MAX` of none. The order of the replies does not matter. Takes no memory.
 ///
 /// # Errors
 ///
-/// Of kind `UnexpectedReturnType` where a reply is no number, or where the whole sum, which is taken
-/// in 128 bits, is none of 64.
+/// `UnexpectedReturnType` where a reply is not a number, or where the sum does not fit in an i64; a
+/// running sum may leave the i64, since it is taken in 128 bits.
 #[tactic(auto, using(crate::proofs::Orders::any_order))]
 pub fn aggregate(values: Vec<Value>, op: AggregateOp) -> RedisResult<Value>
     ensures answer { MatchResult result
-        (λ value. aggregated op (map view values.items) ≡ Some (view value))
-        (λ fault. (aggregated op (map view values.items) ≡ None) × (fault.kind ≡ UnexpectedReturnType)) }
-    ensures any_order { (others : List Reply) → IsPermutation (map view values.items) others → aggregated op others ≡ aggregated op (map view values.items) }
+        (λ value. aggregate_of op (map view values.items) ≡ Some (view value))
+        (λ fault. (aggregate_of op (map view values.items) ≡ None) × (fault.kind ≡ UnexpectedReturnType)) }
+    ensures any_order { (others : List Reply) → IsPermutation (map view values.items) others → aggregate_of op others ≡ aggregate_of op (map view values.items) }
 {
     let number = match op {
         AggregateOp::Sum => sum(&values),
@@ -29,12 +29,12 @@ pub fn aggregate(values: Vec<Value>, op: AggregateOp) -> RedisResult<Value>
         Some(number) => Ok(as_reply(number)),
         None => Err(RedisError::from((
             ErrorKind::UnexpectedReturnType,
-            "the replies make no number",
+            "a reply is not a number, or the sum does not fit in an i64",
         ))),
     }
 }
 
-/// The whole sum, if each reply is a number and the sum is one of 64 bits.
+/// The sum, if each reply is a number and the sum fits in an i64.
 fn sum(values: &[Value]) -> Option<i64>
     ensures { result ≡ sum_of (map view values.now) }
 {

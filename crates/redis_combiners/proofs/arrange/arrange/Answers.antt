@@ -4,8 +4,9 @@ use Rattle.std.specs.Prelude.{nat_lt, IfOk, option_map, Option, vec_len}
 use Rattle.resp_core.specs.declared.value.Value.{Value}
 use Rattle.std.proofs.lemmas.List.{length-set, drop-map, get_or_read}
 use Rattle.resp_core.specs.View.{view}
-use Rattle.redis_combiners.specs.Arranged.{items_at, arranged, singles}
-use Rattle.redis_combiners.proofs.Filled.{Popped, popped, collided, taken_twice, held_more, all_held, shown, none_shown, within_more, slots_len}
+use Rattle.redis_combiners.specs.ByPlaces.{items_at, by_places}
+use Rattle.redis_combiners.specs.Lists.{all_some}
+use Rattle.redis_combiners.proofs.Filled.{Popped, popped, collided, place_twice, held_more, all_held, shown, none_shown, within_more, slots_len}
 use Rattle.redis_combiners.proofs.arrange.arrange.Goals as goal
 
 pub returns-then-is_some : goal.returns-then-is_some
@@ -26,7 +27,7 @@ returns-then-is_some c =
     let next_place : drop (length ws) ps ≡ place ∷ drop (length vs) ps = p.next_place ∙ ap (λ q. q ∷ drop (length vs) ps) (sym at) in
     let two : 1 < length (items_at place (place ∷ drop (length vs) ps) (view c.in-Some.item ∷ map view (drop (length vs) all))) = collided slots place c.in-Some.item (drop (length vs) ps) (map view (drop (length vs) all)) inside (λ k d l. inv.held k d (omega (arith, inv.slots))) full in
     let here : 1 < length (items_at place (drop (length ws) ps) (drop (length ws) (map view all))) = subst (λ qs. 1 < length (items_at place qs (drop (length ws) (map view all)))) (sym next_place) (subst (λ xs. 1 < length (items_at place (place ∷ drop (length vs) ps) xs)) (sym (drop-map view (length ws) all ∙ p.next_item)) two) in
-    sym (taken_twice ps (map view all) (length ws) place (omega (arith, inv.slots)) here)
+    sym (place_twice ps (map view all) (length ws) place (omega (arith, inv.slots)) here)
 
 pub loop-item-preserved : goal.loop-item-preserved
 loop-item-preserved c =
@@ -65,5 +66,5 @@ returns c =
     let empty : length vs ≡ 0 = sym c.loop-item.items.ok.0 ∙ none in
     let held : (k : ℕ) (d : Option Value) → k < length ps → shown (get_or slots k d) ≡ items_at k ps (map view all) = λ k d l. subst (λ n. shown (get_or slots k d) ≡ items_at k (drop n ps) (map view (drop n all))) empty (inv.held k d l) in
     let within : list_all (λ p. nat_lt p (length ps)) ps ≡ true = subst (λ n. list_all (λ p. nat_lt p (length ps)) (drop n ps) ≡ true) empty inv.within in
-    let same : singles (map shown slots) ≡ arranged ps (map view all) = all_held slots ps (map view all) inv.slots held within in
-    subst (λ y. IfOk c.unwrapped.result (λ o. option_map (λ v. map view v.items) o ≡ y)) same c.unwrapped.ensures
+    let same : all_some (map (λ slot. option_map view slot) slots) ≡ by_places ps (map view all) = all_held slots ps (map view all) inv.slots held within in
+    subst (λ y. IfOk c.all_values.result (λ o. option_map (λ v. map view v.items) o ≡ y)) same c.all_values.ensures

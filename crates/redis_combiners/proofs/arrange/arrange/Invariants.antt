@@ -3,7 +3,7 @@ use Rattle.std.specs.Prelude.{nat_lt}
 use Rattle.std.specs.List.{list_all}
 use Rattle.resp_core.specs.View.{view}
 use Rattle.resp_core.specs.declared.value.Value.{Value}
-use Rattle.redis_combiners.specs.Arranged.{items_at}
+use Rattle.redis_combiners.specs.ByPlaces.{items_at}
 use Rattle.redis_combiners.proofs.Filled.{shown}
 use Rattle.redis_combiners.proofs.arrange.arrange.Given as goal
 

@@ -1,0 +1,10 @@
+use Rattle.std.proofs.Common.{◌≡◌, map}
+use Rattle.resp_core.specs.View.{view}
+use Rattle.redis_combiners.specs.AllItems.{all_items}
+use Rattle.redis_combiners.proofs.Ahead.{before}
+use Rattle.redis_combiners.proofs.arrays.collect_items.Given as goal
+
+abbrev pub invariant-loop-value : goal.invariant-loop-value
+invariant-loop-value l = (goal.iterator-loop-value).can_next l.value-iterator
+    × (goal.iterator-loop-value).is_finite l.value-iterator
+    × (before (map view l.all.items) (all_items (map view l.value-iterator.rest.items)) ≡ all_items (map view l.fn.values.items))
