@@ -1,5 +1,5 @@
 -- What a value shows, variant by variant.
-use Rattle.std.proofs.Common.{◌≡◌, ℕ, ℤ, List, [], ◌∷◌, map, Vec, String, Global, string_bytes, Bool, Decides, Some, unwrap_or, refl, sym, ap, ◌∙◌, rules}
+use Rattle.std.proofs.Common.{◌≡◌, ℕ, ℤ, List, [], ◌∷◌, map, Vec, String, Global, string_bytes, Bool, Decides, Some, unwrap_or, ◌↔◌, refl, sym, ap, ◌∙◌, rules}
 use Rattle.std.proofs.lemmas.Bool.Decides.{Decides-like}
 use Rattle.resp_core.specs.Reply.{Reply, nil, int, bulk, array, simple, okay, pairs, replies_of, pairs_of, items_in, items_of, pairs_in}
 use Rattle.resp_core.specs.View.{view, view_pair}
@@ -38,13 +38,18 @@ pairs_in-pairs_of [] = refl
 pairs_in-pairs_of (p ∷ ps) = ap (λ qs. p ∷ qs) (pairs_in-pairs_of ps)
 
 -- a and b, arrays of the items vs and ws, show the same reply exactly where these do
+pub Array-shows : (a b : Value) (xs ys : Vec Value Global) (vs ws : List Value) → a ≡ Array xs → b ≡ Array ys → vs ≡ xs.items → ws ≡ ys.items → (map view vs ≡ map view ws) ↔ (view a ≡ view b)
+Array-shows a b xs ys vs ws is-a is-b is-vs is-ws =
+    let at_a = ap view is-a ∙ view-Array xs ∙ sym (ap (λ us. array (replies_of (map view us))) is-vs) in
+    let at_b = ap view is-b ∙ view-Array ys ∙ sym (ap (λ us. array (replies_of (map view us))) is-ws) in (
+      λ e. at_a ∙ ap (λ rs. array (replies_of rs)) e ∙ sym at_b,
+      λ e. sym (items_in-replies_of (map view vs)) ∙ ap (λ t. unwrap_or (items_of t) []) (sym at_a ∙ e ∙ at_b) ∙ items_in-replies_of (map view ws),
+    )
+
 pub Array-same : (r : Bool) (a b : Value) (xs ys : Vec Value Global) (vs ws : List Value) → a ≡ Array xs → b ≡ Array ys → vs ≡ xs.items → ws ≡ ys.items → Decides r (map view vs ≡ map view ws) → Decides r (view a ≡ view b)
 Array-same r a b xs ys vs ws is-a is-b is-vs is-ws =
-    let at_a = ap view is-a ∙ view-Array xs ∙ sym (ap (λ us. array (replies_of (map view us))) is-vs) in
-    let at_b = ap view is-b ∙ view-Array ys ∙ sym (ap (λ us. array (replies_of (map view us))) is-ws) in
-    Decides-like r
-    (λ e. at_a ∙ ap (λ rs. array (replies_of rs)) e ∙ sym at_b)
-    (λ e. sym (items_in-replies_of (map view vs)) ∙ ap (λ t. unwrap_or (items_of t) []) (sym at_a ∙ e ∙ at_b) ∙ items_in-replies_of (map view ws))
+    let shows = Array-shows a b xs ys vs ws is-a is-b is-vs is-ws in
+    Decides-like r shows.0 shows.1
 
 -- the pairs, if it is a map
 abbrev pairs_at : Reply → List (Reply × Reply)
@@ -52,10 +57,15 @@ pairs_at (pairs items) = pairs_in items
 pairs_at r = []
 
 -- a and b, maps of the pairs ps and qs, show the same reply exactly where these do
+pub Map-shows : (a b : Value) (xs ys : Vec (Value × Value) Global) (ps qs : List (Value × Value)) → a ≡ Map xs → b ≡ Map ys → ps ≡ xs.items → qs ≡ ys.items → (map view_pair ps ≡ map view_pair qs) ↔ (view a ≡ view b)
+Map-shows a b xs ys ps qs is-a is-b is-ps is-qs =
+    let at_a = ap view is-a ∙ view-Map xs ∙ sym (ap (λ us. pairs (pairs_of (map view_pair us))) is-ps) in
+    let at_b = ap view is-b ∙ view-Map ys ∙ sym (ap (λ us. pairs (pairs_of (map view_pair us))) is-qs) in (
+      λ e. at_a ∙ ap (λ rs. pairs (pairs_of rs)) e ∙ sym at_b,
+      λ e. sym (pairs_in-pairs_of (map view_pair ps)) ∙ ap pairs_at (sym at_a ∙ e ∙ at_b) ∙ pairs_in-pairs_of (map view_pair qs),
+    )
+
 pub Map-same : (r : Bool) (a b : Value) (xs ys : Vec (Value × Value) Global) (ps qs : List (Value × Value)) → a ≡ Map xs → b ≡ Map ys → ps ≡ xs.items → qs ≡ ys.items → Decides r (map view_pair ps ≡ map view_pair qs) → Decides r (view a ≡ view b)
 Map-same r a b xs ys ps qs is-a is-b is-ps is-qs =
-    let at_a = ap view is-a ∙ view-Map xs ∙ sym (ap (λ us. pairs (pairs_of (map view_pair us))) is-ps) in
-    let at_b = ap view is-b ∙ view-Map ys ∙ sym (ap (λ us. pairs (pairs_of (map view_pair us))) is-qs) in
-    Decides-like r
-    (λ e. at_a ∙ ap (λ rs. pairs (pairs_of rs)) e ∙ sym at_b)
-    (λ e. sym (pairs_in-pairs_of (map view_pair ps)) ∙ ap pairs_at (sym at_a ∙ e ∙ at_b) ∙ pairs_in-pairs_of (map view_pair qs))
+    let shows = Map-shows a b xs ys ps qs is-a is-b is-ps is-qs in
+    Decides-like r shows.0 shows.1

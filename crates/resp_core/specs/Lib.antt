@@ -1,6 +1,9 @@
 pub mod CmdArgs
+pub mod Copying
 pub mod Fault
+pub mod Freeing
 pub mod Reply
 pub mod SameReply
 pub mod SameReplyLaws
 pub mod View
+pub mod Waiting

@@ -5,10 +5,21 @@ ghost use Rattle.resp_core.specs.SameReply.{same_reply};
 ghost use Rattle.resp_core.specs.SameReplyLaws.{same_reply-equivalence};
 ghost use Rattle.resp_core.specs.Reply.{int_of, bulk_of, items_of};
 
+mod comparing;
+mod copying;
+mod freeing;
+
+use self::comparing::same;
+use self::copying::{copy_flat, copy_in_order};
 use std::alloc::AllocError;
 
 /// A reply of a Redis server, as a tree.
-#[derive(Debug, Drop)]
+///
+/// However deep the tree is, to drop, clone or compare it takes no more stack. To drop it takes no
+/// memory either, and to clone it memory for the copy and for lists of what is under way, to compare
+/// it a list of the arrays and maps inside arrays and maps; where there is none for that list, `==`
+/// recurses. `Debug` recurses.
+#[derive(Debug)]
 pub enum Value {
     /// No value.
     Nil,
@@ -84,41 +95,64 @@ impl Value {
     }
 }
 
-impl Clone for Value {
-    ghost is_clone = { λ value copy. view copy ≡ view value };
-
-    #[cycle(copy)]
-    fn clone(&self) -> Result<Self, AllocError> {
+impl Drop for Value {
+    #[inline]
+    fn drop(self) {
         match self {
-            Value::Nil => Ok(Value::Nil),
-            Value::Int(n) => Ok(Value::Int(*n)),
-            Value::BulkString(bytes) => Ok(Value::BulkString(bytes.clone()?)),
-            Value::Array(items) => Ok(Value::Array(copy_items(items)?)),
-            Value::SimpleString(text) => Ok(Value::SimpleString(text.clone()?)),
-            Value::Okay => Ok(Value::Okay),
-            Value::Map(items) => Ok(Value::Map(copy_pairs(items)?)),
+            Value::Nil
+            | Value::Int(_)
+            | Value::BulkString(_)
+            | Value::SimpleString(_)
+            | Value::Okay => {}
+            nested => nested.free(),
         }
     }
 }
 
+impl Clone for Value {
+    ghost is_clone = { λ value copy. view copy ≡ view value };
+
+    fn clone(&self) -> Result<Self, AllocError> {
+        copy_value(self, RECURSED_LEVELS)
+    }
+}
+
+/// Down to how many levels arrays and maps are copied by recursion. What lies deeper is copied
+/// without, so that the stack does not grow with a value's depth.
+const RECURSED_LEVELS: u8 = 32;
+
 #[cycle(copy)]
-fn copy_items(items: &Vec<Value>) -> Result<Vec<Value>, AllocError>
+fn copy_value(value: &Value, levels: u8) -> Result<Value, AllocError>
+    ensures { IfOk result (λ copy. view copy ≡ view value.now) }
+{
+    match value {
+        Value::Array(items) if levels == 0 => copy_in_order(*items.allocator(), value),
+        Value::Map(items) if levels == 0 => copy_in_order(*items.allocator(), value),
+        Value::Array(items) => Ok(Value::Array(copy_items(items, levels - 1)?)),
+        Value::Map(items) => Ok(Value::Map(copy_pairs(items, levels - 1)?)),
+        Value::Nil | Value::Int(_) | Value::BulkString(_) | Value::SimpleString(_) | Value::Okay =>
+            copy_flat(value),
+    }
+}
+
+#[cycle(copy)]
+fn copy_items(items: &Vec<Value>, levels: u8) -> Result<Vec<Value>, AllocError>
     ensures { IfOk result (λ copies. map view copies.items ≡ map view items.now.items) }
 {
     let mut copies = Vec::with_capacity(*items.allocator(), items.len())?;
     for item in items {
-        copies.push(item.clone()?)?;
+        copies.push(copy_value(item, levels)?)?;
     }
     Ok(copies)
 }
 
 #[cycle(copy)]
-fn copy_pairs(items: &Vec<(Value, Value)>) -> Result<Vec<(Value, Value)>, AllocError>
+fn copy_pairs(items: &Vec<(Value, Value)>, levels: u8) -> Result<Vec<(Value, Value)>, AllocError>
     ensures { IfOk result (λ copies. map view_pair copies.items ≡ map view_pair items.now.items) }
 {
     let mut copies = Vec::with_capacity(*items.allocator(), items.len())?;
     for (key, value) in items {
-        copies.push((key.clone()?, value.clone()?))?;
+        copies.push((copy_value(key, levels)?, copy_value(value, levels)?))?;
     }
     Ok(copies)
 }
@@ -132,7 +166,7 @@ impl PartialEq for Value {
         ensures value { result ≡ same_reply (view self.now) (view other.now) }
         ensures same { IsTrue result ↔ (view self.now ≡ view other.now) }
     {
-        same_value(self, other)
+        same(self, other)
     }
 }
 

@@ -1,0 +1,100 @@
+-- The walk over a value, and the copies made in its turn.
+use Rattle.std.proofs.Common.{◌≡◌, ℕ, zero, suc, ◌+◌, ◌-◌, ◌<◌, ◌≤◌, List, [], ◌∷◌, ◌++◌, length, get_or, map, take, drop, Vec, Global, Bor, refl, sym, ap, ◌∙◌, arith}
+use Rattle.std.proofs.lemmas.List.{map-append, take_at, drop_at, drop_more, length-append, length-map, same_from_push}
+use Rattle.resp_core.specs.Reply.{Reply, Replies, Pairs, nil, int, bulk, array, simple, okay, pairs, no_replies, reply, no_pairs, pair, pairs_of, items_in}
+use Rattle.resp_core.specs.View.{view, view_pair}
+use Rattle.resp_core.specs.Copying.{inside, inside_pairs, size, size_of_items, size_of_pairs, size_of_all}
+use Rattle.resp_core.specs.declared.value.Value.{Value, Array, Map}
+use Rattle.resp_core.proofs.Views.{view-Array, view-Map, items_in-replies_of}
+
+size_of_all-append : (rs ss : List Reply) → size_of_all (rs ++ ss) ≡ size_of_all rs + size_of_all ss
+size_of_all-append [] ss = omega arith
+size_of_all-append (r ∷ rs) ss = omega (arith, size_of_all-append rs ss)
+
+size_of_all-items : (rs : Replies) → size_of_all (items_in rs) ≡ size_of_items rs
+size_of_all-items no_replies = refl
+size_of_all-items (reply r rs) = omega (arith, size_of_all-items rs)
+
+size_of_all-pairs : (ps : Pairs) → size_of_all (inside_pairs ps) ≡ size_of_pairs ps
+size_of_all-pairs no_pairs = refl
+size_of_all-pairs (pair k v ps) = omega (arith, size_of_all-append (inside_pairs ps) (v ∷ k ∷ []), size_of_all-pairs ps)
+
+size_of_all-inside : (r : Reply) → size_of_all (inside r) < size r
+size_of_all-inside nil = omega arith
+size_of_all-inside (int n) = omega arith
+size_of_all-inside (bulk bytes) = omega arith
+size_of_all-inside (array items) = omega (arith, size_of_all-items items)
+size_of_all-inside (simple text) = omega arith
+size_of_all-inside okay = omega arith
+size_of_all-inside (pairs items) = omega (arith, size_of_all-pairs items)
+
+-- a step of the walk leaves less
+pub walk-smaller : (us vs ws : List (Bor Value)) (v : Bor Value) → us ≡ vs ++ v ∷ [] → map (λ w. view w.now) ws ≡ map (λ w. view w.now) vs ++ inside (view v.now) → size_of_all (map (λ w. view w.now) ws) < size_of_all (map (λ w. view w.now) us)
+walk-smaller us vs ws v before after =
+    let shown = map (λ (w : Bor Value). view w.now) in
+    let is = ap size_of_all (ap shown before ∙ map-append (λ w. view w.now) vs (v ∷ [])) in
+    omega (
+      arith,
+      ap size_of_all after,
+      is,
+      size_of_all-append (shown vs) (inside (view v.now)),
+      size_of_all-append (shown vs) (view v.now ∷ []),
+      size_of_all-inside (view v.now),
+    )
+
+pub inside-Array : (v : Value) (items : Vec Value Global) → v ≡ Array items → inside (view v) ≡ map view items.items
+inside-Array v items is = ap (λ w. inside (view w)) is ∙ ap inside (view-Array items) ∙ items_in-replies_of (map view items.items)
+
+pub inside-Map : (v : Value) (items : Vec (Value × Value) Global) → v ≡ Map items → inside (view v) ≡ inside_pairs (pairs_of (map view_pair items.items))
+inside-Map v items is = ap (λ w. inside (view w)) is ∙ ap inside (view-Map items)
+
+map-take : {A B : Type 0} (f : A → B) (n : ℕ) (xs : List A) → map f (take n xs) ≡ take n (map f xs)
+map-take f zero xs = refl
+map-take f (suc n) [] = refl
+map-take f (suc n) (x ∷ xs) = ap (λ ys. f x ∷ ys) (map-take f n xs)
+
+map-drop : {A B : Type 0} (f : A → B) (n : ℕ) (xs : List A) → map f (drop n xs) ≡ drop n (map f xs)
+map-drop f zero xs = refl
+map-drop f (suc n) [] = refl
+map-drop f (suc n) (x ∷ xs) = map-drop f n xs
+
+-- how many copies there are before those of the items
+pub length-rest : (copies : List Value) (rest : List Reply) (items : List Value) → map view copies ≡ rest ++ map view items → length copies ≡ length rest + length items
+length-rest copies rest items e = omega (arith, ap length e, length-map copies view, length-map items view, length-append rest (map view items))
+
+pub take-rest : (copies : List Value) (rest : List Reply) (items : List Value) (n : ℕ) → map view copies ≡ rest ++ map view items → n ≡ length copies - length items → map view (take n copies) ≡ rest
+take-rest copies rest items n e at =
+    let here : length rest ≡ n = omega (arith, length-rest copies rest items e) in
+    map-take view n copies ∙ ap (take n) e ∙ take_at rest (map view items) n here
+
+pub drop-rest : (copies : List Value) (rest : List Reply) (items : List Value) (n : ℕ) → map view copies ≡ rest ++ map view items → n ≡ length copies - length items → map view (drop n copies) ≡ map view items
+drop-rest copies rest items n e at =
+    let here : length rest ≡ n = omega (arith, length-rest copies rest items e) in
+    map-drop view n copies ∙ ap (drop n) e ∙ drop_at rest (map view items) n here
+
+append-two : {A : Type 0} (xs ys : List A) (a b : A) → xs ++ (ys ++ a ∷ b ∷ []) ≡ (xs ++ ys ++ a ∷ []) ++ b ∷ []
+append-two [] [] a b = refl
+append-two [] (y ∷ ys) a b = ap (λ zs. y ∷ zs) (append-two [] ys a b)
+append-two (x ∷ xs) ys a b = ap (λ zs. x ∷ zs) (append-two xs ys a b)
+
+-- the copies of a pair's value and key are the last two
+take-pair : (copies cs ds : List Value) (key value : Value) (rest : List Reply) (p : Value × Value) (ps : List (Value × Value)) → copies ≡ cs ++ key ∷ [] → cs ≡ ds ++ value ∷ [] → map view copies ≡ rest ++ inside_pairs (pairs_of (map view_pair (p ∷ ps))) → (map view ds ≡ rest ++ inside_pairs (pairs_of (map view_pair ps))) × (view_pair (key, value) ≡ view_pair p)
+take-pair copies cs ds key value rest p ps is-copies is-cs e =
+    let before = inside_pairs (pairs_of (map view_pair ps)) in
+    let split = ap (map view) is-copies ∙ map-append view cs (key ∷ []) ∙ ap (λ rs. rs ++ view key ∷ []) (ap (map view) is-cs ∙ map-append view ds (value ∷ [])) in
+    let outer = same_from_push _ _ _ _ (sym split ∙ e ∙ append-two rest before (view p.1) (view p.0)) in
+    let inner = same_from_push _ _ _ _ outer.0 in
+    (inner.0, λ i. (outer.1 i, inner.1 i))
+
+pub two-left : (copies : List Value) (rest : List Reply) (p : Value × Value) (ps : List (Value × Value)) → map view copies ≡ rest ++ inside_pairs (pairs_of (map view_pair (p ∷ ps))) → 2 ≤ length copies
+two-left copies rest p ps e =
+    let before = inside_pairs (pairs_of (map view_pair ps)) in
+    omega (arith, ap length e, length-map copies view, length-append rest (before ++ view p.1 ∷ view p.0 ∷ []), length-append before (view p.1 ∷ view p.0 ∷ []))
+
+pub pairs-left : (copies : List Value) (rest : List Reply) (items : List (Value × Value)) (n : ℕ) (p : Value × Value) → n < length items → p ≡ get_or items n p → map view copies ≡ rest ++ inside_pairs (pairs_of (map view_pair (drop n items))) → map view copies ≡ rest ++ inside_pairs (pairs_of (map view_pair (p ∷ drop (n + 1) items)))
+pairs-left copies rest items n p h is e =
+    let next = drop_more items n p h ∙ ap (λ q. q ∷ drop (n + 1) items) (sym is) in
+    e ∙ ap (λ ps. rest ++ inside_pairs (pairs_of (map view_pair ps))) next
+
+pub take-next : (copies cs ds : List Value) (key value : Value) (items : List (Value × Value)) (n : ℕ) (p : Value × Value) → n < length items → p ≡ get_or items n p → copies ≡ cs ++ key ∷ [] → cs ≡ ds ++ value ∷ [] → (rest : List Reply) → map view copies ≡ rest ++ inside_pairs (pairs_of (map view_pair (drop n items))) → (map view ds ≡ rest ++ inside_pairs (pairs_of (map view_pair (drop (n + 1) items)))) × (view_pair (key, value) ≡ view_pair p)
+take-next copies cs ds key value items n p h is is-copies is-cs rest e = take-pair copies cs ds key value rest p (drop (n + 1) items) is-copies is-cs (pairs-left copies rest items n p h is e)

@@ -1,0 +1,60 @@
+-- The order in which the replies in a reply are gone over, and copies made of them, without recursion.
+use Rattle.std.specs.Prelude.{◌≡◌, ℕ, ◌+◌, List, [], ◌∷◌, ◌++◌, ⊤}
+use Rattle.resp_core.specs.Reply.{Reply, Replies, Pairs, nil, int, bulk, array, simple, okay, pairs, no_replies, reply, no_pairs, pair, items_in}
+
+-- what is inside pairs, the last first
+abbrev pub inside_pairs : Pairs → List Reply
+inside_pairs no_pairs = []
+inside_pairs (pair k v ps) = inside_pairs ps ++ v ∷ k ∷ []
+
+-- what is inside a reply
+abbrev pub inside : Reply → List Reply
+inside nil = []
+inside (int n) = []
+inside (bulk bytes) = []
+inside (array items) = items_in items
+inside (simple text) = []
+inside okay = []
+inside (pairs items) = inside_pairs items
+
+-- whether a reply has nothing inside
+abbrev pub IsFlat : Reply → Type 0
+IsFlat nil = ⊤
+IsFlat (int n) = ⊤
+IsFlat (bulk bytes) = ⊤
+IsFlat (array items) = ⊥
+IsFlat (simple text) = ⊤
+IsFlat okay = ⊤
+IsFlat (pairs items) = ⊥
+
+-- `waiting` is left of the root, once each of `gone`, the latest first, was taken from the end of what waited, and what
+-- is inside it put there
+abbrev pub IsWalk : Reply → List Reply → List Reply → Type 0
+IsWalk root [] waiting = waiting ≡ root ∷ []
+IsWalk root (r ∷ gone) waiting = (rest : List Reply) × IsWalk root gone (rest ++ r ∷ []) × (waiting ≡ rest ++ inside r)
+
+abbrev pub EndsWith : List Reply → List Reply → Type 0
+EndsWith end rs = (rest : List Reply) × (rs ≡ rest ++ end)
+
+abbrev mutual
+  -- how many replies a reply is
+  pub size : Reply → ℕ
+  size nil = 1
+  size (int n) = 1
+  size (bulk bytes) = 1
+  size (array items) = 1 + size_of_items items
+  size (simple text) = 1
+  size okay = 1
+  size (pairs items) = 1 + size_of_pairs items
+
+  pub size_of_items : Replies → ℕ
+  size_of_items no_replies = 0
+  size_of_items (reply r rs) = size r + size_of_items rs
+
+  pub size_of_pairs : Pairs → ℕ
+  size_of_pairs no_pairs = 0
+  size_of_pairs (pair k v ps) = size k + size v + size_of_pairs ps
+
+abbrev pub size_of_all : List Reply → ℕ
+size_of_all [] = 0
+size_of_all (r ∷ rs) = size r + size_of_all rs

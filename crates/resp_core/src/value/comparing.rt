@@ -1,0 +1,116 @@
+//! Comparing values without recursion. The pairs of values that are still to be compared stand in a
+//! list; only arrays and maps are put there.
+ghost use Rattle.std.specs.Prelude.{◌≡◌, ◌+◌, ◌<◌, ◌≤◌, ◌↔◌, IsTrue, IsFalse, IfOk, map};
+ghost use Rattle.resp_core.specs.View.{view, view_pair};
+ghost use Rattle.resp_core.specs.Reply.{replies_of, pairs_of};
+ghost use Rattle.resp_core.specs.Freeing.{steps_in, steps_in_items, steps_in_pairs, steps_in_value};
+ghost use Rattle.resp_core.specs.Waiting.{AreSame, steps_waiting};
+
+use super::{Value, same_value};
+use std::alloc::{AllocError, Global};
+
+/// Whether two values are equal. Where there is no memory for the list, it recurses.
+pub(super) fn same(a: &Value, b: &Value) -> bool
+    ensures { IsTrue result ↔ (view a.now ≡ view b.now) }
+{
+    let alloc = match a {
+        Value::Array(items) => *items.allocator(),
+        Value::Map(items) => *items.allocator(),
+        _ => return same_value(a, b),
+    };
+    match same_by_list(alloc, a, b) {
+        Ok(same) => same,
+        Err(_) => same_value(a, b),
+    }
+}
+
+fn same_by_list<'a>(alloc: Global, a: &'a Value, b: &'a Value) -> Result<bool, AllocError>
+    ensures { IfOk result (λ same. IsTrue same ↔ (view a.now ≡ view b.now)) }
+{
+    let mut waiting = Vec::new(alloc);
+    if !add_inside(&mut waiting, a, b)? {
+        return Ok(false);
+    }
+    while let Some((left, right)) = waiting.pop() {
+        if !add_inside(&mut waiting, left, right)? {
+            return Ok(false);
+        }
+    }
+    Ok(true)
+}
+
+/// Adds the pairs inside two values, if these are alike outside and all that is not added is equal.
+fn add_inside<'a>(
+    waiting: &mut Vec<(&'a Value, &'a Value)>,
+    a: &'a Value,
+    b: &'a Value,
+) -> Result<bool, AllocError>
+    ensures same { IfOk result (λ alike. IsTrue alike → AreSame waiting.new.items ↔ (AreSame waiting.old.items × (view a.now ≡ view b.now))) }
+    ensures different { IfOk result (λ alike. IsFalse alike → ¬ (view a.now ≡ view b.now)) }
+    ensures fewer { IfOk result (λ alike. IsTrue alike → steps_waiting waiting.new.items < steps_waiting waiting.old.items + steps_in (view a.now)) }
+{
+    match (a, b) {
+        (Value::Array(xs), Value::Array(ys)) => add_items(waiting, xs, ys),
+        (Value::Map(xs), Value::Map(ys)) => add_pairs(waiting, xs, ys),
+        _ => Ok(same_value(a, b)),
+    }
+}
+
+fn add_items<'a>(
+    waiting: &mut Vec<(&'a Value, &'a Value)>,
+    xs: &'a [Value],
+    ys: &'a [Value],
+) -> Result<bool, AllocError>
+    ensures same { IfOk result (λ alike. IsTrue alike → AreSame waiting.new.items ↔ (AreSame waiting.old.items × (map view xs.now ≡ map view ys.now))) }
+    ensures different { IfOk result (λ alike. IsFalse alike → ¬ (map view xs.now ≡ map view ys.now)) }
+    ensures fewer { IfOk result (λ alike. IsTrue alike → steps_waiting waiting.new.items ≤ steps_waiting waiting.old.items + steps_in_items (replies_of (map view xs.now))) }
+{
+    if xs.len() != ys.len() {
+        return Ok(false);
+    }
+    for (x, y) in xs.iter().zip(ys) {
+        if !add(waiting, x, y)? {
+            return Ok(false);
+        }
+    }
+    Ok(true)
+}
+
+fn add_pairs<'a>(
+    waiting: &mut Vec<(&'a Value, &'a Value)>,
+    xs: &'a [(Value, Value)],
+    ys: &'a [(Value, Value)],
+) -> Result<bool, AllocError>
+    ensures same { IfOk result (λ alike. IsTrue alike → AreSame waiting.new.items ↔ (AreSame waiting.old.items × (map view_pair xs.now ≡ map view_pair ys.now))) }
+    ensures different { IfOk result (λ alike. IsFalse alike → ¬ (map view_pair xs.now ≡ map view_pair ys.now)) }
+    ensures fewer { IfOk result (λ alike. IsTrue alike → steps_waiting waiting.new.items ≤ steps_waiting waiting.old.items + steps_in_pairs (pairs_of (map view_pair xs.now))) }
+{
+    if xs.len() != ys.len() {
+        return Ok(false);
+    }
+    for (x, y) in xs.iter().zip(ys) {
+        if !add(waiting, &x.0, &y.0)? || !add(waiting, &x.1, &y.1)? {
+            return Ok(false);
+        }
+    }
+    Ok(true)
+}
+
+/// Adds a pair, or compares it where it is no two arrays and no two maps.
+fn add<'a>(
+    waiting: &mut Vec<(&'a Value, &'a Value)>,
+    a: &'a Value,
+    b: &'a Value,
+) -> Result<bool, AllocError>
+    ensures same { IfOk result (λ alike. IsTrue alike → AreSame waiting.new.items ↔ (AreSame waiting.old.items × (view a.now ≡ view b.now))) }
+    ensures different { IfOk result (λ alike. IsFalse alike → ¬ (view a.now ≡ view b.now)) }
+    ensures fewer { IfOk result (λ alike. IsTrue alike → steps_waiting waiting.new.items ≤ steps_waiting waiting.old.items + steps_in_value (view a.now)) }
+{
+    match (a, b) {
+        (Value::Array(_), Value::Array(_)) | (Value::Map(_), Value::Map(_)) => {
+            waiting.push((a, b))?;
+            Ok(true)
+        }
+        _ => Ok(same_value(a, b)),
+    }
+}

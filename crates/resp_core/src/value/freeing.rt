@@ -1,0 +1,138 @@
+//! The steps in which a value is freed, without recursion and without memory: on the way down, what
+//! is above stands in the place of what was taken out.
+ghost use Rattle.std.specs.Prelude.{◌≡◌, ◌+◌, ◌<◌, ◌≤◌, ◌++◌, ◌∷◌, [], map, IfSome, IfNone, vec_len};
+ghost use Rattle.std.specs.Vec.{vec_capacity};
+ghost use Rattle.resp_core.specs.Reply.{array, pairs, replies_of, pairs_of};
+ghost use Rattle.resp_core.specs.View.{view, view_pair};
+ghost use Rattle.resp_core.specs.Freeing.{steps_in, steps_above};
+
+use super::Value;
+use std::mem;
+
+impl Value {
+    /// Frees a value, the innermost first.
+    pub(super) fn free(mut self) {
+        let mut above = Value::Nil;
+        loop {
+            let (first, rest) = self.into_first(above);
+            match first {
+                Some(inside) => {
+                    self = inside;
+                    above = rest;
+                }
+                None => match rest.into_next() {
+                    Some((next, rest)) => {
+                        self = next;
+                        above = rest;
+                    }
+                    None => return,
+                },
+            }
+        }
+    }
+
+    /// The first value inside, and the rest with `above` in its place. Where there is none, `above`.
+    fn into_first(self, above: Value) -> (Option<Value>, Value)
+        ensures smaller { IfSome result.0 (λ first. steps_in (view first) + steps_above (view result.1) < steps_in (view self) + steps_above (view above)) }
+        ensures flat { IfNone result.0 (result.1 ≡ above) }
+    {
+        match self {
+            Value::Array(mut items) => {
+                if items.is_empty() {
+                    items.destroy_empty();
+                    return (None, above);
+                }
+                let first = mem::replace(&mut items[0], above);
+                (Some(first), Value::Array(items))
+            }
+            Value::Map(mut items) => {
+                if items.is_empty() {
+                    items.destroy_empty();
+                    return (None, above);
+                }
+                let first = mem::replace(&mut items[0].0, above);
+                (Some(first), Value::Map(items))
+            }
+            Value::Nil
+            | Value::Int(_)
+            | Value::BulkString(_)
+            | Value::SimpleString(_)
+            | Value::Okay => (None, above),
+        }
+    }
+
+    /// Of what is above: the next value, and what is then above. `None` at the top.
+    fn into_next(self) -> Option<(Value, Value)>
+        ensures { IfSome result (λ next. steps_in (view next.0) + steps_above (view next.1) ≤ steps_above (view self)) }
+    {
+        match self {
+            Value::Array(items) => next_item(items),
+            Value::Map(items) => next_in_pairs(items),
+            Value::Nil
+            | Value::Int(_)
+            | Value::BulkString(_)
+            | Value::SimpleString(_)
+            | Value::Okay => None,
+        }
+    }
+
+    /// The value, if it is an array or a map.
+    fn into_nested(self) -> Option<Value>
+        ensures { IfSome result (λ nested. nested ≡ self) }
+    {
+        match self {
+            Value::Nil
+            | Value::Int(_)
+            | Value::BulkString(_)
+            | Value::SimpleString(_)
+            | Value::Okay => None,
+            nested => Some(nested),
+        }
+    }
+
+    /// The value of a pair that was taken out of the end of `items`, with the key back in its
+    /// place; the key, where that value was taken before.
+    fn or_key(self, key: Value, mut items: Vec<(Value, Value)>) -> (Value, Value)
+        requires room { vec_len items < vec_capacity items }
+        requires not_empty { 0 < vec_len items }
+        ensures { steps_in (view result.0) + steps_above (view result.1) ≤ steps_above (pairs (pairs_of (map view_pair (items.items ++ (key, self) ∷ [])))) }
+    {
+        match self {
+            Value::Nil => (key, Value::Map(items)),
+            value => {
+                items.push_reserved((key, Value::Nil));
+                (value, Value::Map(items))
+            }
+        }
+    }
+}
+
+fn next_item(mut items: Vec<Value>) -> Option<(Value, Value)>
+    ensures { IfSome result (λ next. steps_in (view next.0) + steps_above (view next.1) ≤ steps_above (array (replies_of (map view items.items)))) }
+{
+    while let Some(last) = items.pop() {
+        if items.is_empty() {
+            items.destroy_empty();
+            return Some((Value::Nil, last));
+        }
+        if let Some(nested) = last.into_nested() {
+            return Some((nested, Value::Array(items)));
+        }
+    }
+    items.destroy_empty();
+    None
+}
+
+fn next_in_pairs(mut items: Vec<(Value, Value)>) -> Option<(Value, Value)>
+    ensures { IfSome result (λ next. steps_in (view next.0) + steps_above (view next.1) ≤ steps_above (pairs (pairs_of (map view_pair items.items)))) }
+{
+    let Some((key, value)) = items.pop() else {
+        items.destroy_empty();
+        return None;
+    };
+    if items.is_empty() {
+        items.destroy_empty();
+        return Some((value, key));
+    }
+    Some(value.or_key(key, items))
+}
