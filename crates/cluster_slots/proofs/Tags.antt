@@ -7,10 +7,7 @@ use Rattle.cluster_slots.specs.HashTag.{IsHashTag, tag_in, hash_tag}
 use Rattle.cluster_slots.specs.KeySlot.{IsKeySlot, crc_of, key_slot}
 use Rattle.cluster_slots.proofs.Lists.{Lacks, free_from}
 use Rattle.cluster_slots.proofs.HashTags.{no_open, no_close, nothing_between, tagged, one_hash_tag}
-
-by_test : {P : Type 0} (b : Bool) → (b ≡ true → P) → (b ≡ false → P) → P
-by_test true f g = f refl
-by_test false f g = g refl
+use Rattle.resp_core.proofs.Cases.{by_test}
 
 module _ (b : ℕ) where
   -- behind the first b of a list that starts with another

@@ -12,6 +12,7 @@ pub use Rattle.redis_combiners.specs.Misfits
 pub use Rattle.redis_combiners.specs.SortedArrays
 pub use Rattle.redis_combiners.specs.Totals
 pub use Rattle.redis_commands.specs.Command
+pub use Rattle.redis_commands.specs.NameTables
 pub use Rattle.redis_commands.specs.Policies
 pub use Rattle.redis_commands.specs.ReadOnly
 pub use Rattle.redis_commands.specs.Run
@@ -28,5 +29,6 @@ pub use Rattle.redis_routing.specs.Laws
 pub use Rattle.redis_routing.specs.Parts
 pub use Rattle.redis_routing.specs.Plan
 pub use Rattle.redis_routing.specs.Routing
+pub use Rattle.redis_routing.specs.Split
 pub use Rattle.redis_routing.specs.SubCommand
 pub use Rattle.redis_routing.specs.Target

@@ -8,6 +8,6 @@ pub use redis_commands::{
     AggregateOp, LogicalAggregateOp, MultiSlotArgPattern, ReadOnlyNames, ResponsePolicy, Routable,
 };
 pub use redis_routing::{
-    MultipleNodeRoutingInfo, Redirect, RoutingInfo, SingleNodeRoutingInfo,
+    MultipleNodeRoutingInfo, Redirect, RoutingInfo, SingleNodeRoutingInfo, SplitCommand,
     command_for_multi_slot_indices, multi_slot_routes,
 };

@@ -173,5 +173,7 @@ fn routes_of_complete_commands(rt: HostRuntime) -> Result<(), Fail> {
         };
         assert!(rt; routes == want, "{text}");
     }
+    let nameless = multi_slot_routes(alloc, &Cmd::new(alloc), &read_only(alloc)?)?;
+    assert!(rt; nameless.is_none(), "no words");
     Ok(())
 }

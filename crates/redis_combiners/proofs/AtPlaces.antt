@@ -14,7 +14,7 @@ use Rattle.redis_combiners.specs.Lists.{flatten}
 use Rattle.redis_combiners.specs.Misfits.{first_misfit}
 use Rattle.redis_combiners.specs.SortedArrays.{array_of, array_by_places, sorted_arrays}
 use Rattle.redis_commands.specs.declared.ways.MultiSlotArgPattern.{MultiSlotArgPattern}
-use Rattle.redis_combiners.proofs.Filled.{by_test}
+use Rattle.resp_core.proofs.Cases.{by_test}
 use Rattle.redis_combiners.proofs.Lists.{Front, front}
 use Rattle.redis_combiners.proofs.Misfits.{Fits, fits, items_length}
 use Rattle.redis_combiners.proofs.OwnPlaces.{at_own_place, own_place_within}

@@ -11,13 +11,10 @@ use Rattle.resp_core.specs.View.{view}
 use Rattle.resp_core.specs.declared.value.Value.{Value}
 use Rattle.redis_combiners.specs.ByPlaces.{items_at, single, by_places}
 use Rattle.redis_combiners.specs.Lists.{all_some}
+use Rattle.resp_core.proofs.Cases.{by_test}
 
 abbrev pub shown : Option Value → List Reply
 shown s = option_to_list (option_map view s)
-
-pub by_test : {A : Type 0} (b : Bool) → (b ≡ true → A) → (b ≡ false → A) → A
-by_test true f g = f refl
-by_test false f g = g refl
 
 pub items_at-cons : (k p : ℕ) (ps : List ℕ) (x : Reply) (xs : List Reply) → items_at k (p ∷ ps) (x ∷ xs) ≡ cond (nat_eq p k) (x ∷ items_at k ps xs) (items_at k ps xs)
 items_at-cons k p ps x xs = either (nat_eq p k)

@@ -12,7 +12,7 @@ use Rattle.resp_core.specs.declared.error.ErrorKind.TheVariants.{UnexpectedRetur
 use Rattle.redis_combiners.specs.AllItems.{all_items}
 use Rattle.redis_combiners.specs.Lists.{all_some, flatten}
 use Rattle.redis_combiners.specs.Misfits.{misfit, misfit_of, first_misfit}
-use Rattle.redis_combiners.proofs.Filled.{by_test}
+use Rattle.resp_core.proofs.Cases.{by_test}
 
 -- the first misfit of a reply and the later ones
 abbrev after : Option ErrorKind → List Reply → List ℕ → Option ErrorKind

@@ -24,7 +24,7 @@ use Rattle.redis_combiners.specs.Lists.{all_some}
 use Rattle.redis_combiners.specs.Entries.{plain_pairs, number_at}
 use Rattle.redis_combiners.specs.Totals.{has, total_of, total_at, ascending_keys, totals, IsListing, entry_of, map_of, map_of_totals, combined_map}
 use Rattle.redis_combiners.proofs.Ahead.{before, before-more}
-use Rattle.redis_combiners.proofs.Filled.{by_test}
+use Rattle.resp_core.proofs.Cases.{by_test}
 
 abbrev order : List ℕ → List ℕ → Ordering
 order = slice_cmp nat_cmp

@@ -3,7 +3,7 @@ use Rattle.std.proofs.Common.{◌≡◌, ℕ, List, [], ◌∷◌, Bool, true, f
 use Rattle.std.specs.Str.{bytes_eq}
 use Rattle.std.proofs.lemmas.Slice.Eq.{bytes_eq-Decides}
 use Rattle.redis_commands.specs.Table.{lookup, has_name}
-use Rattle.redis_commands.proofs.Cases.{by_test}
+use Rattle.resp_core.proofs.Cases.{by_test}
 
 module _ {A : Type 0} where
   -- each row of the one stands in the other

@@ -1,7 +1,7 @@
 pub mod Agree
 pub mod Arguments
-pub mod Cases
 pub mod CommandNames
 pub mod NameSets
+pub mod Rows
 pub mod Search
 pub mod TableRows

@@ -1,5 +1,5 @@
 -- A command as a list of arguments of which some are gaps, and its name.
-use Rattle.std.specs.Prelude.{◌≡◌, ℕ, List, [], ◌∷◌, ◌++◌, Bool, false, Option, None, Some, map, if◌then◌else◌, slice_index_or}
+use Rattle.std.specs.Prelude.{◌≡◌, ℕ, List, [], ◌∷◌, ◌++◌, Bool, false, Option, None, Some, length, map, take, if◌then◌else◌, slice_index_or}
 use Rattle.std.specs.Char.{to_ascii_lowercase}
 use Rattle.std.specs.Str.{bytes_eq}
 use Rattle.redis_commands.specs.Upper.{upper}
@@ -33,6 +33,12 @@ name_from args (Some first) = Some (name_by (upper first) (in_upper_case (argume
 
 abbrev pub command_of : Arguments → Option (List ℕ)
 command_of args = name_from args (argument args 0)
+
+-- The first arguments, so many, are there: none of them is a gap.
+pub record HasWords (words : ℕ) (args : Arguments) : Type 0 where
+  pub texts : List (List ℕ)
+  pub all : length texts ≡ words
+  pub taken : map Some texts ≡ take words args
 
 -- the same command, but for the ASCII case of its first word
 abbrev pub IsRespelt : Arguments → Arguments → Type 0

@@ -8,6 +8,10 @@ front [] = []
 front (None ∷ args) = []
 front (Some arg ∷ args) = arg ∷ front args
 
--- the run: the longest front without a gap of the arguments after the name
+-- the run behind a name of so many words: the longest front without a gap of the arguments after it
+abbrev pub run_after : ℕ → Arguments → List (List ℕ)
+run_after words args = front (drop words args)
+
+-- the run behind a name of one word
 abbrev pub run_of : Arguments → List (List ℕ)
-run_of args = front (drop 1 args)
+run_of args = run_after 1 args

@@ -1,4 +1,4 @@
-ghost use Rattle.std.specs.Prelude.{◌≡◌};
+ghost use Rattle.std.specs.Prelude.{◌≡◌, ◌≤◌};
 ghost use Rattle.redis_commands.specs.Tuples.{is_complete};
 ghost use Rattle.redis_commands.specs.Tuples.{width_of, fits, own_count};
 ghost use Rattle.redis_commands.specs.Ways.{way_in};
@@ -56,7 +56,8 @@ impl MultiSlotArgPattern {
 
     /// How many of so many arguments make tuples: those behind them are shared by all.
     pub fn own_len(self, run: usize) -> usize
-        ensures { result ≡ own_count self run }
+        ensures own { result ≡ own_count self run }
+        ensures within { result ≤ run }
     {
         match self {
             MultiSlotArgPattern::KeysAndLastArg if run > 1 => run - 1,

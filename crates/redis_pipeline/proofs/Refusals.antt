@@ -11,7 +11,7 @@ use Rattle.redis_commands.specs.Table.{has_name}
 use Rattle.redis_pipeline.specs.Refusals.{is_refused, refused_names}
 use Rattle.redis_commands.specs.Upper.{upper}
 use Rattle.redis_pipeline.specs.Pipeline.{text_of}
-use Rattle.redis_commands.proofs.Cases.{by_test}
+use Rattle.resp_core.proofs.Cases.{by_test}
 
 short : (names : List (List ℕ)) (n : List ℕ) → map (λ x. nat_le (length x) 32) names ≡ map (λ x. true) names → has_name names n ≡ true → length n ≤ 32
 short [] n each h = cc

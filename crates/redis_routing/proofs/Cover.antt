@@ -18,10 +18,7 @@ use Rattle.redis_routing.specs.Routing.{route_to, routes_of}
 use Rattle.redis_commands.specs.Tuples.{Tuple, keys_alone, keys_and_values, keys_and_two, fits, own_count, width_of, tuples_from, tuples_in, shared_in, places_of, words_of}
 use Rattle.redis_commands.specs.declared.ways.MultiSlotArgPattern.{MultiSlotArgPattern}
 use Rattle.redis_commands.specs.declared.ways.MultiSlotArgPattern.TheVariants.{KeysOnly, KeyValuePairs, KeysAndLastArg, KeyWithTwoArgTriples}
-
-by_test : {P : Type 0} (b : Bool) → (b ≡ true → P) → (b ≡ false → P) → P
-by_test true f g = f refl
-by_test false f g = g refl
+use Rattle.resp_core.proofs.Cases.{by_test}
 
 self : (n : ℕ) → nat_eq n n ≡ true
 self n = grind (arith, nat_tests)
@@ -143,11 +140,11 @@ range_has low (suc n) p from to =
     (λ other. let apart : low + 1 ≤ p = grind (arith, nat_tests) in rw other (range_has (low + 1) n p apart (omega arith)))
 
 -- the place behind a tuple that stands at a place
-abbrev next : ℕ → Tuple → ℕ
+abbrev pub next : ℕ → Tuple → ℕ
 next low t = low + (1 + length t.extras)
 
 -- the tuples stand side by side from the one place to the other
-abbrev Tiles : ℕ → ℕ → List Tuple → Type 0
+abbrev pub Tiles : ℕ → ℕ → List Tuple → Type 0
 Tiles low high [] = low ≡ high
 Tiles low high (t ∷ ts) = (t.place ≡ low) × Tiles (next low t) high ts
 
@@ -198,7 +195,7 @@ own_whole KeysAndLastArg m h = omega arith
 own_whole KeyWithTwoArgTriples m h = eqb-true (m % 3) 0 (and_second (nat_lt 0 m) (nat_eq (m % 3) 0) h)
 
 -- the tuples of a run stand side by side from the first place on
-tiles_run : (pattern : MultiSlotArgPattern) (run : List (List ℕ)) → fits pattern (length run) ≡ true → Tiles 0 (own_count pattern (length run)) (tuples_in pattern run)
+pub tiles_run : (pattern : MultiSlotArgPattern) (run : List (List ℕ)) → fits pattern (length run) ≡ true → Tiles 0 (own_count pattern (length run)) (tuples_in pattern run)
 tiles_run pattern run whole =
     let own = own_count pattern (length run) in
     let e : 0 + length (take own run) ≡ own = omega (arith, length_own pattern run) in

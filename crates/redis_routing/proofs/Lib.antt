@@ -4,6 +4,8 @@ pub mod Respelt
 pub mod Routes
 pub mod SelfRouting
 pub mod Slots
+pub mod SomeRoutes
 pub mod SplitLaws
+pub mod SplitPolicies
 pub mod SubCommands
 pub mod TupleSteps

@@ -1,58 +1,135 @@
 -- The sub-command by the places of a part is that part.
-use Rattle.std.proofs.Common.{◌≡◌, ℕ, ◌+◌, ◌<◌, List, [], ◌∷◌, Bool, true, None, Some, map, option_map, length, get_or, refl, sym, ap, ◌∙◌, arith}
-use Rattle.std.proofs.lemmas.List.{get_or-map, length-map}
+use Rattle.std.proofs.Common.{◌≡◌, ℕ, ◌+◌, ◌<◌, List, [], ◌∷◌, ◌++◌, Bool, true, false, cond, Option, None, Some, Vec, Global, map, option_map, length, take, drop, get_or, refl, sym, ap, ◌∙◌, subst, arith}
+use Rattle.std.specs.List.{range_with_len}
+use Rattle.std.specs.Prelude.{slice_get}
+use Rattle.std.proofs.lemmas.List.{drop-drop, get_or-drop, get_or-map, length-map, map-append}
+use Rattle.std.proofs.lemmas.Option.{slice_get-map, slice_get-get_or, get_or_from_slice_get}
 use Rattle.cluster_slots.specs.RouteTo.{RouteTo}
-use Rattle.redis_commands.specs.Command.{Arguments, argument, command_of}
-use Rattle.redis_routing.specs.Laws.{ArePartsPicked}
-use Rattle.redis_routing.specs.Parts.{firsts, slot_of, part_places, part_of}
+use Rattle.redis_commands.specs.Command.{Arguments, HasWords, argument, command_of}
+use Rattle.redis_routing.specs.Laws.{ArePartsPickedAfter}
+use Rattle.redis_commands.specs.NameTables.{NameTables}
+use Rattle.redis_routing.specs.Parts.{firsts, slot_of, part_places, part_words, part_after}
 use Rattle.redis_routing.specs.Routing.{routes_of, route_to}
-use Rattle.redis_commands.specs.Run.{run_of}
-use Rattle.redis_routing.specs.SubCommand.{all_texts, sub_command}
+use Rattle.redis_commands.specs.Run.{run_after}
+use Rattle.redis_routing.specs.SubCommand.{all_texts, sub_command_after}
 use Rattle.redis_commands.specs.Tuples.{fits, tuples_in}
-use Rattle.redis_commands.specs.Ways.{way_in}
-use Rattle.redis_routing.specs.Complete.{pattern_of, pattern_by_name, AreSubCommands}
+use Rattle.redis_routing.specs.Complete.{pattern_of, pattern_by_name_with, routes_by_way, routes_by_name, multi_slot_routes_with, AreSubCommandsWith}
 use Rattle.redis_commands.specs.Tuples.{is_complete}
+use Rattle.redis_routing.specs.Split.{Split, IsSplit, part_at, part_for}
+use Rattle.redis_routing.specs.Target.{parts_of}
 use Rattle.redis_commands.specs.declared.ways.MultiSlotArgPattern.{MultiSlotArgPattern}
 use Rattle.redis_commands.specs.declared.ways.MultiSlotArgPattern.TheVariants.{KeysOnly, KeyValuePairs, KeysAndLastArg, KeyWithTwoArgTriples}
+use Rattle.redis_commands.specs.declared.ways.Way.{Way}
 use Rattle.redis_commands.specs.declared.ways.Way.TheVariants as way
 use Rattle.std.proofs.lemmas.Bool.Decides.{nat_tests}
 use Rattle.redis_routing.proofs.Cover.{Between, bounds, part_in_run, picked}
+use Rattle.redis_routing.proofs.SubCommands.{before, name_before}
 use Rattle.redis_routing.proofs.TupleSteps.{run_item}
 
--- the arguments at places of the run
-texts_at : (args : Arguments) (low : ℕ) (places : List ℕ) → Between low (length (run_of args)) places → all_texts (map (λ place. argument args (place + 1)) places) ≡ Some (map (λ place. get_or (run_of args) place []) places)
-texts_at args low [] h = refl
-texts_at args low (p ∷ places) h =
-    let inside : p < length (run_of args) = omega (arith, bounds (p + 1) (length (run_of args)) places h.1) in
-    ap (λ a. all_texts (a ∷ map (λ place. argument args (place + 1)) places)) (run_item args p inside)
-    ∙ ap (option_map (λ texts. get_or (run_of args) p [] ∷ texts)) (texts_at args (p + 1) places h.1)
+-- a command with a name has its first word
+pub has_first : (args : Arguments) (name : List ℕ) → Some name ≡ command_of args → HasWords 1 args
+has_first [] name named = cc named
+has_first (None ∷ rest) name named = cc named
+has_first (Some first ∷ rest) name named = record { texts = first ∷ []; all = refl; taken = refl }
 
-part_picked : (pattern : MultiSlotArgPattern) (first : List ℕ) (rest : Arguments) (slot : ℕ) → fits pattern (length (run_of (Some first ∷ rest))) ≡ true
-    → option_map (map Some) (sub_command (Some first ∷ rest) (part_places pattern (run_of (Some first ∷ rest)) slot)) ≡ Some (part_of pattern (Some first ∷ rest) slot)
-part_picked pattern first rest slot whole =
-    let args : Arguments = Some first ∷ rest in
-    let run = run_of args in
-    ap (λ o. option_map (map Some) (option_map (λ texts. first ∷ texts) o)) (texts_at args 0 (part_places pattern run slot) (part_in_run pattern run slot whole) ∙ ap Some (picked pattern run slot))
+-- arguments that are texts, read by their places
+read_from : (args : Arguments) (low : ℕ) (behind : Arguments) → drop low args ≡ behind → (texts : List (List ℕ)) → map Some texts ≡ take (length texts) behind → Some texts ≡ all_texts (map (λ place. argument args place) (range_with_len low (length texts)))
+read_from args low behind is [] taken = refl
+read_from args low [] is (text ∷ texts) taken = absurd (cc taken)
+read_from args low (arg ∷ behind) is (text ∷ texts) taken =
+    let first : Some text ≡ arg = cc taken in
+    let here : argument args low ≡ arg = ap (argument args) (omega arith) ∙ sym (get_or-drop low args 0 None) ∙ ap (λ xs. argument xs 0) is in
+    let rest : drop (low + 1) args ≡ behind = sym (drop-drop 1 low args) ∙ ap (drop 1) is in
+    let others : map Some texts ≡ take (length texts) behind = cc taken in
+    ap (option_map (λ ts. text ∷ ts)) (read_from args (low + 1) behind rest texts others)
+    ∙ ap (λ a. all_texts (a ∷ map (λ place. argument args place) (range_with_len (low + 1) (length texts)))) (first ∙ sym here)
+
+name_read : (words : ℕ) (args : Arguments) (name : HasWords words args) → Some name.texts ≡ all_texts (map (λ place. argument args place) (range_with_len 0 words))
+name_read words args name =
+    read_from args 0 args refl name.texts (name.taken ∙ ap (λ n. take n args) (sym name.all)) ∙ ap (λ n. all_texts (map (λ place. argument args place) (range_with_len 0 n))) name.all
+
+-- the arguments at places of the run
+texts_at : (words : ℕ) (args : Arguments) (low : ℕ) (places : List ℕ) → Between low (length (run_after words args)) places
+    → all_texts (map (λ place. argument args (place + words)) places) ≡ Some (map (λ place. get_or (run_after words args) place []) places)
+texts_at words args low [] h = refl
+texts_at words args low (p ∷ places) h =
+    let run = run_after words args in
+    let inside : p < length run = omega (arith, bounds (p + 1) (length run) places h.1) in
+    ap (λ a. all_texts (a ∷ map (λ place. argument args (place + words)) places)) (run_item words args p inside)
+    ∙ ap (option_map (λ texts. get_or run p [] ∷ texts)) (texts_at words args (p + 1) places h.1)
+
+part_picked : (words : ℕ) (args : Arguments) (pattern : MultiSlotArgPattern) (slot : ℕ) → HasWords words args → fits pattern (length (run_after words args)) ≡ true
+    → option_map (map Some) (sub_command_after words args (part_places pattern (run_after words args) slot)) ≡ Some (part_after words pattern args slot)
+part_picked words args pattern slot name whole =
+    let run = run_after words args in
+    let behind = map (λ place. argument args (place + words)) (part_places pattern run slot) in
+    let texts : all_texts behind ≡ Some (part_words pattern run slot) = texts_at words args 0 (part_places pattern run slot) (part_in_run pattern run slot whole) ∙ ap Some (picked pattern run slot) in
+    let made : sub_command_after words args (part_places pattern run slot) ≡ Some (name.texts ++ part_words pattern run slot) =
+    sym (name_before (map (λ place. argument args place) (range_with_len 0 words)) behind name.texts (name_read words args name)) ∙ ap (before name.texts) texts in
+    ap (option_map (map Some)) made ∙ ap Some (map-append Some name.texts (part_words pattern run slot) ∙ ap (λ front. front ++ map Some (part_words pattern run slot)) name.taken)
 
 -- the parts of all routes
-pub parts_picked : (args : Arguments) (name : List ℕ) (reads : Bool) (pattern : MultiSlotArgPattern) → Some name ≡ command_of args → fits pattern (length (run_of args)) ≡ true → ArePartsPicked args pattern (routes_of reads pattern (run_of args))
-parts_picked [] name reads pattern named whole = cc named
-parts_picked (None ∷ rest) name reads pattern named whole = cc named
-parts_picked (Some first ∷ rest) name reads pattern named whole = λ k d inside.
-    let run = run_of (Some first ∷ rest) in
+pub parts_picked : (words : ℕ) (args : Arguments) (reads : Bool) (pattern : MultiSlotArgPattern) → HasWords words args → fits pattern (length (run_after words args)) ≡ true → ArePartsPickedAfter words args pattern (routes_of reads pattern (run_after words args))
+parts_picked words args reads pattern name whole = λ k d inside.
+    let run = run_after words args in
     let slots = firsts (map slot_of (tuples_in pattern run)) in
     let few : k < length slots = rw length-map at inside in
     let is : get_or (routes_of reads pattern run) k d ≡ route_to reads pattern run (get_or slots k 0) = get_or-map (route_to reads pattern run) slots k 0 d few in
-    rw is (part_picked pattern first rest (get_or slots k 0) whole)
+    rw is (part_picked words args pattern (get_or slots k 0) name whole)
 
-complete_fits : (pattern : MultiSlotArgPattern) (m : ℕ) → is_complete pattern m ≡ true → fits pattern m ≡ true
+pub complete_fits : (pattern : MultiSlotArgPattern) (m : ℕ) → is_complete pattern m ≡ true → fits pattern m ≡ true
 complete_fits KeysOnly m h = h
 complete_fits KeyValuePairs m h = h
 complete_fits KeysAndLastArg m h = grind (arith, nat_tests)
 complete_fits KeyWithTwoArgTriples m h = h
 
 -- the sub-commands of a complete command
-pub sub_commands : (args : Arguments) (name : List ℕ) (reads : Bool) (pattern : MultiSlotArgPattern) (routes : List (RouteTo × List ℕ)) → Some name ≡ command_of args → way_in name ≡ Some (way.MultiSlot pattern) → is_complete pattern (length (run_of args)) ≡ true → routes ≡ routes_of reads pattern (run_of args) → AreSubCommands args routes
-sub_commands args name reads pattern routes named is whole routes-are =
-    let same : pattern_by_name (command_of args) ≡ Some pattern = ap pattern_by_name (sym named) ∙ ap pattern_of is in
-    rw (same, routes-are) (parts_picked args name reads pattern named (complete_fits pattern (length (run_of args)) whole))
+pub complete_sub_commands : (words : ℕ) (tables : NameTables) (only_reads : List ℕ → Bool) (args : Arguments) (routes : List (RouteTo × List ℕ)) → ((name : List ℕ) → Some name ≡ command_of args → HasWords words args)
+    → multi_slot_routes_with words tables only_reads args ≡ Some routes → AreSubCommandsWith words tables args routes
+complete_sub_commands words tables only_reads args routes has = by_name (command_of args) refl
+  where
+    by_length : (name : List ℕ) (pattern : MultiSlotArgPattern) → command_of args ≡ Some name → tables.way name ≡ Some (way.MultiSlot pattern) → (whole : Bool) → is_complete pattern (length (run_after words args)) ≡ whole
+        → cond whole (Some (routes_of (only_reads name) pattern (run_after words args))) None ≡ Some routes → AreSubCommandsWith words tables args routes
+    by_length name pattern named is true whole split =
+        let same : pattern_by_name_with tables (command_of args) ≡ Some pattern = ap (pattern_by_name_with tables) named ∙ ap pattern_of is in
+        let routes-are : routes ≡ routes_of (only_reads name) pattern (run_after words args) = cc split in
+        rw (same, routes-are) (parts_picked words args (only_reads name) pattern (has name (sym named)) (complete_fits pattern (length (run_after words args)) whole))
+    by_length name pattern named is false whole split = absurd (cc split)
+
+    by_way : (name : List ℕ) → command_of args ≡ Some name → (w : Option Way) → tables.way name ≡ w → routes_by_way words (only_reads name) args w ≡ Some routes → AreSubCommandsWith words tables args routes
+    by_way name named None is split = absurd (cc split)
+    by_way name named (Some way.AllNodes) is split = absurd (cc split)
+    by_way name named (Some way.AllMasters) is split = absurd (cc split)
+    by_way name named (Some (way.MultiSlot pattern)) is split = by_length name pattern named is (is_complete pattern (length (run_after words args))) refl split
+    by_way name named (Some way.Undefined) is split = absurd (cc split)
+    by_way name named (Some (way.CountAt n)) is split = absurd (cc split)
+    by_way name named (Some (way.KeyAt n)) is split = absurd (cc split)
+    by_way name named (Some way.KeyAfterStreams) is split = absurd (cc split)
+    by_way name named (Some way.Random) is split = absurd (cc split)
+    by_way name named (Some way.SlotAtTwo) is split = absurd (cc split)
+
+    by_name : (name : Option (List ℕ)) → command_of args ≡ name → routes_by_name words tables only_reads args name ≡ Some routes → AreSubCommandsWith words tables args routes
+    by_name None named split = absurd (cc split)
+    by_name (Some name) named split = by_way name named (tables.way name) refl split
+
+-- a route with the places of its part
+abbrev pub shown : RouteTo × Vec ℕ Global → RouteTo × List ℕ
+shown route = (route.0, route.1.items)
+
+-- a sub-command that is a part, as texts
+is_made : (made : Option (List (List ℕ))) (part : Arguments) → option_map (map Some) made ≡ Some part → (words : List (List ℕ)) × (made ≡ Some words) × (map Some words ≡ part)
+is_made None part is = absurd (cc is)
+is_made (Some words) part is = (words, refl, cc is)
+
+-- the sub-command by the places of a route of a split is the part of its number
+pub part_made : (split : Split) → IsSplit split → (routes : List (RouteTo × Vec ℕ Global)) (number : ℕ) (route : RouteTo × Vec ℕ Global) → parts_of routes ≡ split.routes → number < length split.routes → route ≡ get_or routes number route
+    → (words : List (List ℕ)) × (sub_command_after split.words split.arguments route.1.items ≡ Some words) × (Some (map Some words) ≡ part_at split number)
+part_made split whole routes number route routes-are long is =
+    let inside : number < length routes = omega (arith, long, ap length routes-are, length-map routes shown) in
+    let each : ArePartsPickedAfter split.words split.arguments split.pattern split.routes =
+    subst (ArePartsPickedAfter split.words split.arguments split.pattern) (sym whole.routes) (parts_picked split.words split.arguments whole.only_reads split.pattern whole.name (complete_fits split.pattern (length (run_after split.words split.arguments)) whole.complete)) in
+    let there : slice_get split.routes number ≡ Some (shown route) =
+    ap (λ rs. slice_get rs number) (sym routes-are) ∙ slice_get-map shown routes number ∙ ap (option_map shown) (slice_get-get_or routes number route inside ∙ ap Some (sym is)) in
+    let here : get_or split.routes number (shown route) ≡ shown route = get_or_from_slice_get split.routes number (shown route) (shown route) there in
+    let part = is_made (sub_command_after split.words split.arguments route.1.items) (part_for split route.0.slot) (subst (λ r. option_map (map Some) (sub_command_after split.words split.arguments r.1) ≡ Some (part_for split r.0.slot)) here (each number (shown route) long)) in
+    (part.0, part.1, ap Some part.2 ∙ sym (ap (option_map (λ r. part_for split r.0.slot)) there))

@@ -7,11 +7,10 @@ use Rattle.std.proofs.lemmas.Str.Ascii.{lowercase-uppercase}
 use Rattle.redis_commands.specs.Upper.{upper}
 use Rattle.redis_commands.specs.Command.{Arguments, IsRespelt, argument, command_of, is_word, name_by, in_upper_case}
 use Rattle.redis_routing.specs.Routing.{by_way, by_count, to_key, to_key_after, routing_of, routing, number_at}
-use Rattle.redis_commands.specs.Table.{lookup}
 use Rattle.redis_commands.specs.Ways.{ways, way_in}
 use Rattle.redis_commands.specs.declared.ways.Way.{Way}
 use Rattle.redis_commands.specs.declared.ways.Way.TheVariants as way
-use Rattle.redis_commands.proofs.Cases.{by_test}
+use Rattle.redis_commands.proofs.Rows.{each_row}
 
 -- whether the key and its count stand behind the first word
 abbrev behind_first : Option Way → Bool
@@ -19,16 +18,9 @@ behind_first (Some (way.CountAt n)) = nat_lt 0 n
 behind_first (Some (way.KeyAt n)) = nat_lt 0 n
 behind_first _ = true
 
-all_behind : (rows : List (List ℕ × Way)) → map (λ row. behind_first (Some row.1)) rows ≡ map (λ row. true) rows → (name : List ℕ) → behind_first (lookup rows name) ≡ true
-all_behind [] each name = refl
-all_behind (row ∷ rows) each name =
-    by_test (bytes_eq row.0 name)
-    (λ equal. let first : behind_first (Some row.1) ≡ true = cc each in rw equal first)
-    (λ unlike. let rest : map (λ row. behind_first (Some row.1)) rows ≡ map (λ row. true) rows = cc each in rw unlike (all_behind rows rest name))
-
 ways_behind : (name : List ℕ) → behind_first (way_in name) ≡ true
 unfolding way_in
-ways_behind name = all_behind ways refl name
+ways_behind name = each_row (λ n w. behind_first w) (λ n. refl) ways refl name
 
 abbrev lower : List ℕ → List ℕ
 lower text = map to_ascii_lowercase text

@@ -1,38 +1,33 @@
 -- The part of each route of a split, as a command of its own, goes to that very route.
-use Rattle.std.proofs.Common.{◌≡◌, ℕ, zero, suc, ◌+◌, ◌-◌, ◌*◌, ◌%◌, ◌<◌, ◌≤◌, List, [], ◌∷◌, ◌++◌, Bool, true, false, cond, not, ◌&&◌, ◌||◌, Option, Some, None, map, length, take, get_or, refl, sym, ap, ◌∙◌, arith}
+use Rattle.std.proofs.Common.{◌≡◌, ℕ, zero, suc, ◌+◌, ◌-◌, ◌*◌, ◌%◌, ◌<◌, ◌≤◌, List, [], ◌∷◌, ◌++◌, Bool, true, false, cond, not, ◌&&◌, ◌||◌, Option, Some, None, map, length, take, drop, get_or, refl, sym, ap, ◌∙◌, arith}
 use Rattle.std.specs.Prelude.{nat_eq, nat_lt, All}
 use Rattle.std.specs.List.{filter, flat_map, list_any}
-use Rattle.std.specs.Str.{bytes_eq}
 use Rattle.std.proofs.Math.Nat.{mul-mod_left}
 use Rattle.std.proofs.lemmas.Bool.{lt-ltb, eq-eqb, eqb-true}
 use Rattle.std.proofs.lemmas.Bool.Decides.{nat_tests}
-use Rattle.std.proofs.lemmas.List.{take_at, length-append, length-drop, length-take}
+use Rattle.std.proofs.lemmas.List.{take_at, drop_at, length-append, length-drop, length-take, length-take-le}
 use Rattle.std.proofs.lemmas.List.Elements.{All-cons, All-filter, All-head, All-map, All-tail, All-weaker}
-use Rattle.std.proofs.lemmas.Slice.Eq.{bytes_eq-Decides}
 use Rattle.cluster_slots.specs.KeySlot.{key_slot}
 use Rattle.cluster_slots.specs.RouteTo.{RouteTo}
 use Rattle.redis_commands.specs.Upper.{upper}
 use Rattle.redis_commands.specs.TwoWords.{takes_second}
 use Rattle.redis_commands.specs.Command.{Arguments, argument, command_of, in_upper_case, name_by, with_second}
-use Rattle.redis_commands.specs.Table.{lookup}
 use Rattle.redis_commands.specs.Ways.{ways, way_in}
-use Rattle.redis_commands.specs.Run.{front, run_of}
+use Rattle.redis_commands.specs.Run.{front, run_after}
 use Rattle.redis_commands.specs.Tuples.{Tuple, fits, keys_alone, keys_and_two, keys_and_values, own_count, shared_in, tuples_from, tuples_in, width_of, words_of}
-use Rattle.redis_routing.specs.Parts.{firsts, part, part_of, part_words, slot_of}
-use Rattle.redis_commands.specs.Policies.{policy_of}
-use Rattle.redis_routing.specs.Routing.{by_way, nodes_for, route_to, routes_of, routing, routing_of, to_parts, to_slots}
+use Rattle.redis_routing.specs.Parts.{firsts, part, part_after, part_words, slot_of}
+use Rattle.redis_routing.specs.Routing.{by_way_with, nodes_for, route_to, routes_of, routing_with, routing_of_with, to_parts, to_slots}
 use Rattle.redis_routing.specs.Target.{single, specific}
-use Rattle.redis_routing.specs.Laws.{ArePartsRouted}
+use Rattle.redis_routing.specs.Laws.{ArePartsRoutedWith}
+use Rattle.redis_commands.specs.NameTables.{NameTables}
 use Rattle.redis_commands.specs.declared.policy.ResponsePolicy.{ResponsePolicy}
 use Rattle.redis_commands.specs.declared.ways.MultiSlotArgPattern.{MultiSlotArgPattern}
 use Rattle.redis_commands.specs.declared.ways.MultiSlotArgPattern.TheVariants.{KeysOnly, KeyValuePairs, KeysAndLastArg, KeyWithTwoArgTriples}
 use Rattle.redis_commands.specs.declared.ways.Way.{Way}
 use Rattle.redis_commands.specs.declared.ways.Way.TheVariants as way
 use Rattle.redis_commands.proofs.CommandNames.{one_word}
-
-by_test : {P : Type 0} (b : Bool) → (b ≡ true → P) → (b ≡ false → P) → P
-by_test true f g = f refl
-by_test false f g = g refl
+use Rattle.redis_commands.proofs.Rows.{each_row}
+use Rattle.resp_core.proofs.Cases.{by_test}
 
 or_true : (a b : Bool) → b ≡ true → (a || b) ≡ true
 or_true true b h = refl
@@ -46,17 +41,9 @@ abbrev plain_if_split : List ℕ → Option Way → Bool
 plain_if_split name (Some (way.MultiSlot pattern)) = is_plain name
 plain_if_split name _ = true
 
-all_plain : (rows : List (List ℕ × Way)) → map (λ row. plain_if_split row.0 (Some row.1)) rows ≡ map (λ row. true) rows → (name : List ℕ) → plain_if_split name (lookup rows name) ≡ true
-all_plain [] each name = refl
-all_plain (row ∷ rows) each name =
-    by_test (bytes_eq row.0 name)
-    (λ equal. let first : plain_if_split row.0 (Some row.1) ≡ true = cc each in
-    rw equal (ap (λ n. plain_if_split n (Some row.1)) (sym ((bytes_eq-Decides row.0 name).0 equal)) ∙ first))
-    (λ unlike. let rest : map (λ row. plain_if_split row.0 (Some row.1)) rows ≡ map (λ row. true) rows = cc each in rw unlike (all_plain rows rest name))
-
 ways_plain : (name : List ℕ) → plain_if_split name (way_in name) ≡ true
 unfolding way_in takes_second
-ways_plain name = all_plain ways refl name
+ways_plain name = each_row plain_if_split (λ n. refl) ways refl name
 
 space_between : (first second : List ℕ) → list_any (nat_eq 32) (first ++ 32 ∷ second) ≡ true
 space_between [] second = refl
@@ -73,9 +60,11 @@ takes_none first second plain =
     (λ takes. let short : is_plain (with_second first second) ≡ true = rw takes at plain in absurd (cc (short, not_plain first second takes)))
     (λ takes. takes)
 
--- the name of a split command is that of its first word, whatever follows
-same_name : (first name : List ℕ) (rest other : Arguments) (pattern : MultiSlotArgPattern) → Some name ≡ command_of (Some first ∷ rest) → way_in name ≡ Some (way.MultiSlot pattern) → command_of (Some first ∷ other) ≡ Some name
-same_name first name rest other pattern named way_is =
+-- the name of a command that splits under the project's own tables is that of its first word, whatever follows
+pub first_names : (args : Arguments) (name : List ℕ) (pattern : MultiSlotArgPattern) → Some name ≡ command_of args → way_in name ≡ Some (way.MultiSlot pattern) → (other : Arguments) → command_of (take 1 args ++ other) ≡ Some name
+first_names [] name pattern named way_is other = cc named
+first_names (None ∷ rest) name pattern named way_is other = cc named
+first_names (Some first ∷ rest) name pattern named way_is other =
     let second : Option (List ℕ) = in_upper_case (argument (Some first ∷ rest) 1) in
     let name_is : name ≡ name_by (upper first) second = cc named in
     let plain : is_plain name ≡ true = sym (ap (plain_if_split name) way_is) ∙ ways_plain name in
@@ -211,26 +200,45 @@ All-firsts : (P : ℕ → Type 0) (ns : List ℕ) → All P ns → All P (firsts
 All-firsts P [] all = all
 All-firsts P (n ∷ ns) all = All-cons P n _ (All-head P n ns all) (All-filter (λ k. not (nat_eq n k)) P (firsts ns) (All-firsts P ns (All-tail P n ns all)))
 
--- a part of a command whose first word is there
-part_routed : (only_reads : List ℕ → Bool) (first name : List ℕ) (rest : Arguments) (pattern : MultiSlotArgPattern) → Some name ≡ command_of (Some first ∷ rest) → way_in name ≡ Some (way.MultiSlot pattern)
-    → (slot : ℕ) → list_any (λ t. nat_eq (slot_of t) slot) (tuples_in pattern (run_of (Some first ∷ rest))) ≡ true
-    → routing only_reads (part_of pattern (Some first ∷ rest) slot) ≡ Some (single (specific (record { slot = slot; addr = nodes_for (only_reads name) })))
-part_routed only_reads first name rest pattern named way_is slot there =
-    let words : List (List ℕ) = part_words pattern (run_of (Some first ∷ rest)) slot in
-    let as_command : Arguments = Some first ∷ map Some words in
-    ap (routing_of only_reads as_command) (same_name first name rest (map Some words) pattern named way_is)
-    ∙ ap (by_way (only_reads name) name as_command) way_is
-    ∙ ap (to_slots (only_reads name) (policy_of name) pattern) (front-map words)
-    ∙ part_to_slot pattern (run_of (Some first ∷ rest)) slot there (only_reads name) (policy_of name)
+-- where tuples are whole, there is an argument
+fits_some : (pattern : MultiSlotArgPattern) (m : ℕ) → fits pattern m ≡ true → 0 < m
+fits_some KeysOnly m h = grind (arith, nat_tests)
+fits_some KeyValuePairs zero h = absurd (cc h)
+fits_some KeyValuePairs (suc m) h = omega arith
+fits_some KeysAndLastArg m h = grind (arith, nat_tests)
+fits_some KeyWithTwoArgTriples zero h = absurd (cc h)
+fits_some KeyWithTwoArgTriples (suc m) h = omega arith
 
-pub parts_routed : (only_reads : List ℕ → Bool) (args : Arguments) (name : List ℕ) (pattern : MultiSlotArgPattern) → Some name ≡ command_of args → way_in name ≡ Some (way.MultiSlot pattern) → fits pattern (length (run_of args)) ≡ true → ArePartsRouted only_reads args pattern (routes_of (only_reads name) pattern (run_of args))
-parts_routed only_reads [] name pattern named way_is fit = cc named
-parts_routed only_reads (None ∷ rest) name pattern named way_is fit = cc named
-parts_routed only_reads (Some first ∷ rest) name pattern named way_is fit =
-    let run : List (List ℕ) = run_of (Some first ∷ rest) in
-    let ts : List Tuple = tuples_in pattern run in
-    let Routed : RouteTo × List ℕ → Type 0 = λ r. routing only_reads (part_of pattern (Some first ∷ rest) r.0.slot) ≡ Some (single (specific r.0)) in
-    let There : ℕ → Type 0 = λ slot. list_any (λ t. nat_eq (slot_of t) slot) ts ≡ true in
-    All-map Routed (route_to (only_reads name) pattern run) (firsts (map slot_of ts))
-    (All-weaker There (λ slot. Routed (route_to (only_reads name) pattern run slot)) (part_routed only_reads first name rest pattern named way_is) (firsts (map slot_of ts))
-    (All-firsts There (map slot_of ts) (All-map There slot_of ts (all_there ts))))
+front_short : (args : Arguments) → length (front args) ≤ length args
+front_short [] = omega arith
+front_short (None ∷ args) = omega arith
+front_short (Some arg ∷ args) = omega (arith, front_short args)
+
+-- behind the words of the name stand only texts of the part
+run-part : (words : ℕ) (args : Arguments) (texts : List (List ℕ)) → 0 < length (run_after words args) → run_after words (take words args ++ map Some texts) ≡ texts
+run-part words args texts some =
+    let long : length (take words args) ≡ words = length-take-le words args (omega (arith, some, front_short (drop words args), length-drop words args)) in
+    ap front (drop_at (take words args) (map Some texts) words long) ∙ front-map texts
+
+module _ (words : ℕ) (tables : NameTables) (only_reads : List ℕ → Bool) (args : Arguments) (name : List ℕ) (pattern : MultiSlotArgPattern) (named : (other : Arguments) → command_of (take words args ++ other) ≡ Some name) (way_is : tables.way name ≡ Some (way.MultiSlot pattern)) (fit : fits pattern (length (run_after words args)) ≡ true) where
+  abbrev run : List (List ℕ)
+  run = run_after words args
+
+  part_routed : (slot : ℕ) → list_any (λ t. nat_eq (slot_of t) slot) (tuples_in pattern run) ≡ true
+      → routing_with words tables only_reads (part_after words pattern args slot) ≡ Some (single (specific (record { slot = slot; addr = nodes_for (only_reads name) })))
+  part_routed slot there =
+      let texts : List (List ℕ) = part_words pattern run slot in
+      let as_command : Arguments = part_after words pattern args slot in
+      ap (routing_of_with words tables only_reads as_command) (named (map Some texts))
+      ∙ ap (by_way_with words tables (only_reads name) name as_command) way_is
+      ∙ ap (to_slots (only_reads name) (tables.policy name) pattern) (run-part words args texts (fits_some pattern (length run) fit))
+      ∙ part_to_slot pattern run slot there (only_reads name) (tables.policy name)
+
+  pub parts_routed : ArePartsRoutedWith words tables only_reads args pattern (routes_of (only_reads name) pattern run)
+  parts_routed =
+      let ts : List Tuple = tuples_in pattern run in
+      let Routed : RouteTo × List ℕ → Type 0 = λ r. routing_with words tables only_reads (part_after words pattern args r.0.slot) ≡ Some (single (specific r.0)) in
+      let There : ℕ → Type 0 = λ slot. list_any (λ t. nat_eq (slot_of t) slot) ts ≡ true in
+      All-map Routed (route_to (only_reads name) pattern run) (firsts (map slot_of ts))
+      (All-weaker There (λ slot. Routed (route_to (only_reads name) pattern run slot)) part_routed (firsts (map slot_of ts))
+      (All-firsts There (map slot_of ts) (All-map There slot_of ts (all_there ts))))

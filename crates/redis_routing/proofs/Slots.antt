@@ -16,10 +16,7 @@ use Rattle.redis_routing.specs.Parts.{firsts, slot_of, part}
 use Rattle.redis_routing.specs.Routing.{nodes_for, routes_of}
 use Rattle.redis_commands.specs.Tuples.{Tuple, tuples_in, own_count, places_of}
 use Rattle.redis_commands.specs.declared.ways.MultiSlotArgPattern.{MultiSlotArgPattern}
-
-by_test : {A : Type 0} (b : Bool) → (b ≡ true → A) → (b ≡ false → A) → A
-by_test true f g = f refl
-by_test false f g = g refl
+use Rattle.resp_core.proofs.Cases.{by_test}
 
 swap : (a b : ℕ) → nat_eq a b ≡ nat_eq b a
 swap a b = grind (arith, nat_tests)

@@ -1,12 +1,12 @@
 -- The laws of split commands, for whatever a command is routed to.
-use Rattle.std.proofs.Common.{◌≡◌, ℕ, zero, suc, List, [], ◌∷◌, Bool, true, false, Option, None, Some, length, refl, ap, ◌∙◌}
+use Rattle.std.proofs.Common.{◌≡◌, ℕ, zero, suc, List, [], ◌∷◌, Bool, true, false, Option, None, Some, ◌++◌, length, take, refl, ap, ◌∙◌}
 use Rattle.std.specs.Prelude.{nat_lt}
 use Rattle.cluster_slots.specs.RouteTo.{RouteTo}
-use Rattle.redis_commands.specs.Command.{Arguments, argument, command_of}
-use Rattle.redis_routing.specs.Laws.{Covers, ArePartsRouted, ArePartsPicked, IfSplit}
-use Rattle.redis_commands.specs.Policies.{policy_of}
-use Rattle.redis_routing.specs.Routing.{to_key, by_count, to_key_or_any, to_key_after, to_slot, routes_of, to_parts, to_slots, by_way, number_at}
-use Rattle.redis_commands.specs.Run.{run_of}
+use Rattle.redis_commands.specs.Command.{Arguments, HasWords, argument, command_of}
+use Rattle.redis_routing.specs.Laws.{Covers, ArePartsRoutedWith, ArePartsPickedAfter, IfSplit}
+use Rattle.redis_commands.specs.NameTables.{NameTables}
+use Rattle.redis_routing.specs.Routing.{to_key, by_count, to_key_or_any, to_key_after, to_slot, routes_of, to_parts, to_slots, by_way, by_way_with, number_at}
+use Rattle.redis_commands.specs.Run.{run_after}
 use Rattle.redis_commands.specs.Tuples.{fits}
 use Rattle.redis_commands.specs.Ways.{way_in}
 use Rattle.redis_commands.specs.declared.policy.ResponsePolicy.{ResponsePolicy}
@@ -16,13 +16,10 @@ use Rattle.redis_commands.specs.declared.ways.Way.TheVariants as way
 use Rattle.redis_routing.proofs.Cover.{covers}
 use Rattle.redis_routing.proofs.Picks.{parts_picked}
 use Rattle.redis_routing.proofs.SelfRouting.{parts_routed}
-
-by_test : {P : Type 0} (b : Bool) → (b ≡ true → P) → (b ≡ false → P) → P
-by_test true f g = f refl
-by_test false f g = g refl
+use Rattle.resp_core.proofs.Cases.{by_test}
 
 -- a fact of the routes of every split, from that of the splits by pattern
-module _ (P : MultiSlotArgPattern → List (RouteTo × List ℕ) → Type 0) (args : Arguments) (reads : Bool) (name : List ℕ) where
+module _ (words : ℕ) (tables : NameTables) (P : MultiSlotArgPattern → List (RouteTo × List ℕ) → Type 0) (args : Arguments) (reads : Bool) (name : List ℕ) where
   of_key : (key : Option (List ℕ)) → IfSplit P (to_key reads key)
   of_key None = tt
   of_key (Some key) = tt
@@ -49,12 +46,12 @@ module _ (P : MultiSlotArgPattern → List (RouteTo × List ℕ) → Type 0) (ar
   of_parts pattern policy (only ∷ []) h = tt
   of_parts pattern policy (route ∷ other ∷ routes) h = h
 
-  of_slots : (pattern : MultiSlotArgPattern) → (fits pattern (length (run_of args)) ≡ true → P pattern (routes_of reads pattern (run_of args))) → IfSplit P (to_slots reads (policy_of name) pattern (run_of args))
-  of_slots pattern h = by_test (fits pattern (length (run_of args)))
-      (λ whole. rw whole (of_parts pattern (policy_of name) (routes_of reads pattern (run_of args)) (h whole)))
+  of_slots : (pattern : MultiSlotArgPattern) → (fits pattern (length (run_after words args)) ≡ true → P pattern (routes_of reads pattern (run_after words args))) → IfSplit P (to_slots reads (tables.policy name) pattern (run_after words args))
+  of_slots pattern h = by_test (fits pattern (length (run_after words args)))
+      (λ whole. rw whole (of_parts pattern (tables.policy name) (routes_of reads pattern (run_after words args)) (h whole)))
       (λ broken. rw broken tt)
 
-  of_way : (w : Option Way) → ((pattern : MultiSlotArgPattern) → w ≡ Some (way.MultiSlot pattern) → fits pattern (length (run_of args)) ≡ true → P pattern (routes_of reads pattern (run_of args))) → IfSplit P (by_way reads name args w)
+  of_way : (w : Option Way) → ((pattern : MultiSlotArgPattern) → w ≡ Some (way.MultiSlot pattern) → fits pattern (length (run_after words args)) ≡ true → P pattern (routes_of reads pattern (run_after words args))) → IfSplit P (by_way_with words tables reads name args w)
   of_way None h = of_key_or_any _
   of_way (Some way.AllNodes) h = tt
   of_way (Some way.AllMasters) h = tt
@@ -66,17 +63,20 @@ module _ (P : MultiSlotArgPattern → List (RouteTo × List ℕ) → Type 0) (ar
   of_way (Some way.Random) h = tt
   of_way (Some way.SlotAtTwo) h = of_slot (number_at 16 (argument args 2))
 
--- the cover law
-pub split_covers : (only_reads : List ℕ → Bool) (args : Arguments) (name : List ℕ) → IfSplit (λ pattern routes. Covers pattern (run_of args) routes) (by_way (only_reads name) name args (way_in name))
-split_covers only_reads args name = of_way _ args (only_reads name) name (way_in name) (λ pattern is whole. covers (only_reads name) pattern (run_of args) whole)
+-- the laws of the routes of a command whose name has so many words, under some tables of names
+module _ (words : ℕ) (tables : NameTables) (only_reads : List ℕ → Bool) (args : Arguments) (name : List ℕ) where
+  -- the cover law
+  pub split_covers : IfSplit (λ pattern routes. Covers pattern (run_after words args) routes) (by_way_with words tables (only_reads name) name args (tables.way name))
+  split_covers = of_way words tables _ args (only_reads name) name (tables.way name) (λ pattern is whole. covers (only_reads name) pattern (run_after words args) whole)
 
--- the self-routing law
-pub split_parts : (only_reads : List ℕ → Bool) (args : Arguments) (name : List ℕ) → Some name ≡ command_of args → IfSplit (λ pattern routes. ArePartsRouted only_reads args pattern routes) (by_way (only_reads name) name args (way_in name))
-split_parts only_reads args name named = of_way _ args (only_reads name) name (way_in name) (λ pattern is whole. parts_routed only_reads args name pattern named is whole)
+  -- the self-routing law, where the words of the name make it, whatever follows
+  pub split_parts : ((pattern : MultiSlotArgPattern) → tables.way name ≡ Some (way.MultiSlot pattern) → (other : Arguments) → command_of (take words args ++ other) ≡ Some name)
+      → IfSplit (λ pattern routes. ArePartsRoutedWith words tables only_reads args pattern routes) (by_way_with words tables (only_reads name) name args (tables.way name))
+  split_parts named = of_way words tables _ args (only_reads name) name (tables.way name) (λ pattern is whole. parts_routed words tables only_reads args name pattern (named pattern is) is whole)
 
--- the parts by their places
-pub split_picked : (only_reads : List ℕ → Bool) (args : Arguments) (name : List ℕ) → Some name ≡ command_of args → IfSplit (λ pattern routes. ArePartsPicked args pattern routes) (by_way (only_reads name) name args (way_in name))
-split_picked only_reads args name named = of_way _ args (only_reads name) name (way_in name) (λ pattern is whole. parts_picked args name (only_reads name) pattern named whole)
+  -- the parts by their places
+  pub split_picked : HasWords words args → IfSplit (λ pattern routes. ArePartsPickedAfter words args pattern routes) (by_way_with words tables (only_reads name) name args (tables.way name))
+  split_picked has = of_way words tables _ args (only_reads name) name (tables.way name) (λ pattern is whole. parts_picked words args (only_reads name) pattern has whole)
 
 -- the way of a command by its name as it is held in several places
 pub same_by_way : (only_reads : List ℕ → Bool) (args : Arguments) (name read looked : List ℕ) (reads : Bool) → read ≡ name → looked ≡ name → reads ≡ only_reads read → by_way reads looked args (way_in looked) ≡ by_way (only_reads name) name args (way_in name)

@@ -1,9 +1,9 @@
 -- The tuples of a run, one after the other.
-use Rattle.std.proofs.Common.{◌≡◌, ℕ, zero, suc, ◌+◌, ◌*◌, ◌-◌, ◌/◌, ◌<◌, ◌≤◌, List, [], ◌∷◌, ◌++◌, Bool, true, false, cond, nat_lt, Some, None, refl, sym, ap, ◌∙◌, arith, length, take, get_or, add-one}
+use Rattle.std.proofs.Common.{◌≡◌, ℕ, zero, suc, ◌+◌, ◌*◌, ◌-◌, ◌/◌, ◌<◌, ◌≤◌, List, [], ◌∷◌, ◌++◌, Bool, true, false, cond, nat_lt, Some, None, refl, sym, ap, ◌∙◌, arith, length, take, drop, get_or, add-one}
 use Rattle.std.specs.List.{range_with_len}
-use Rattle.std.proofs.lemmas.List.{get_or-take, length-take-le, take_all}
+use Rattle.std.proofs.lemmas.List.{get_or-drop, get_or-take, length-take-le, take_all}
 use Rattle.redis_commands.specs.Command.{Arguments, argument}
-use Rattle.redis_commands.specs.Run.{front, run_of}
+use Rattle.redis_commands.specs.Run.{front, run_after}
 use Rattle.redis_commands.specs.Tuples.{Tuple, keys_alone, keys_and_values, keys_and_two, tuples_from, tuples_in, width_of, own_count, places_of}
 use Rattle.redis_commands.specs.declared.ways.MultiSlotArgPattern.{MultiSlotArgPattern}
 use Rattle.redis_commands.specs.declared.ways.MultiSlotArgPattern.TheVariants.{KeysOnly, KeyValuePairs, KeysAndLastArg, KeyWithTwoArgTriples}
@@ -61,9 +61,8 @@ front_item (Some arg ∷ args) zero h = refl
 front_item (Some arg ∷ args) (suc i) h = front_item args i (omega (arith, h))
 
 -- the arguments of the run stand behind the name
-pub run_item : (args : Arguments) (i : ℕ) → i < length (run_of args) → argument args (i + 1) ≡ Some (get_or (run_of args) i [])
-run_item [] i h = absurd (omega arith)
-run_item (first ∷ args) i h = rw add-one (front_item args i h)
+pub run_item : (words : ℕ) (args : Arguments) (i : ℕ) → i < length (run_after words args) → argument args (i + words) ≡ Some (get_or (run_after words args) i [])
+run_item words args i h = ap (argument args) (omega arith) ∙ sym (get_or-drop words args i None) ∙ front_item (drop words args) i h
 
 -- fewer arguments make tuples than there are, and more than one tuple's for each
 own_few : (pattern : MultiSlotArgPattern) (m : ℕ) → own_count pattern m ≤ m
@@ -114,14 +113,14 @@ all_taken pattern run n h =
     take_all n (tuples_in pattern run) (omega (arith, few, same, h))
 
 -- the tuple of a number in a command: its key is an argument behind the name
-pub record IsNextTuple (pattern : MultiSlotArgPattern) (args : Arguments) (i : ℕ) (t : Tuple) : Type 0 where
-  pub key : argument args (i * width_of pattern + 1) ≡ Some t.key
+pub record IsNextTuple (words : ℕ) (pattern : MultiSlotArgPattern) (args : Arguments) (i : ℕ) (t : Tuple) : Type 0 where
+  pub key : argument args (i * width_of pattern + words) ≡ Some t.key
   pub places : places_of t ≡ range_with_len (i * width_of pattern) (width_of pattern)
-  pub taken : take (i + 1) (tuples_in pattern (run_of args)) ≡ take i (tuples_in pattern (run_of args)) ++ t ∷ []
+  pub taken : take (i + 1) (tuples_in pattern (run_after words args)) ≡ take i (tuples_in pattern (run_after words args)) ++ t ∷ []
 
-pub next_tuple : (pattern : MultiSlotArgPattern) (args : Arguments) (i : ℕ) → i < own_count pattern (length (run_of args)) / width_of pattern → (t : Tuple) × IsNextTuple pattern args i t
-next_tuple pattern args i h =
-    let run = run_of args in
+pub next_tuple : (words : ℕ) (pattern : MultiSlotArgPattern) (args : Arguments) (i : ℕ) → i < own_count pattern (length (run_after words args)) / width_of pattern → (t : Tuple) × IsNextTuple words pattern args i t
+next_tuple words pattern args i h =
+    let run = run_after words args in
     let own = own_count pattern (length run) in
     let inside : i * width_of pattern + width_of pattern ≤ own = tuple_within pattern own i h in
     let some : 0 < width_of pattern = wide pattern in
@@ -129,7 +128,7 @@ next_tuple pattern args i h =
     let next = next_in pattern (take own run) i (rw (own_length pattern run) inside) in (
       next.0,
       record {
-        key = run_item args (i * width_of pattern) (omega (arith, inside, some, few)) ∙ ap Some (sym (next.1.key ∙ get_or-take own run (i * width_of pattern) [] (omega (arith, inside, some))));
+        key = run_item words args (i * width_of pattern) (omega (arith, inside, some, few)) ∙ ap Some (sym (next.1.key ∙ get_or-take own run (i * width_of pattern) [] (omega (arith, inside, some))));
         places = next.1.places;
         taken = next.1.taken;
       },

@@ -6,9 +6,10 @@ use Rattle.std.specs.Ordering.{nat_cmp}
 use Rattle.cluster_slots.specs.RouteTo.{RouteTo}
 use Rattle.redis_commands.specs.Command.{Arguments}
 use Rattle.redis_commands.specs.Tuples.{own_count}
-use Rattle.redis_routing.specs.Parts.{part_of}
-use Rattle.redis_routing.specs.Routing.{routing}
-use Rattle.redis_routing.specs.SubCommand.{sub_command}
+use Rattle.redis_commands.specs.NameTables.{NameTables, own_tables}
+use Rattle.redis_routing.specs.Parts.{part_after}
+use Rattle.redis_routing.specs.Routing.{routing_with}
+use Rattle.redis_routing.specs.SubCommand.{sub_command_after}
 use Rattle.redis_routing.specs.Target.{Target, Multiple, specific, all_nodes, all_masters, split, single, multiple}
 use Rattle.redis_commands.specs.declared.ways.MultiSlotArgPattern.{MultiSlotArgPattern}
 
@@ -25,12 +26,18 @@ pub record Covers (pattern : MultiSlotArgPattern) (run : List (List ℕ)) (route
   pub within : (place : ℕ) → length run ≤ place → lists_with place routes ≡ 0
 
 -- The self-routing law: the part of each route, as a command of its own, goes to that very route.
+abbrev pub ArePartsRoutedWith : ℕ → NameTables → (List ℕ → Bool) → Arguments → MultiSlotArgPattern → List (RouteTo × List ℕ) → Type 0
+ArePartsRoutedWith words tables only_reads args pattern routes = All (λ r. routing_with words tables only_reads (part_after words pattern args r.0.slot) ≡ Some (single (specific r.0))) routes
+
 abbrev pub ArePartsRouted : (List ℕ → Bool) → Arguments → MultiSlotArgPattern → List (RouteTo × List ℕ) → Type 0
-ArePartsRouted only_reads args pattern routes = All (λ r. routing only_reads (part_of pattern args r.0.slot) ≡ Some (single (specific r.0))) routes
+ArePartsRouted only_reads args pattern routes = ArePartsRoutedWith 1 own_tables only_reads args pattern routes
 
 -- The sub-command of the places of each route is the part of its slot.
+abbrev pub ArePartsPickedAfter : ℕ → Arguments → MultiSlotArgPattern → List (RouteTo × List ℕ) → Type 0
+ArePartsPickedAfter words args pattern routes = All (λ r. option_map (map Some) (sub_command_after words args r.1) ≡ Some (part_after words pattern args r.0.slot)) routes
+
 abbrev pub ArePartsPicked : Arguments → MultiSlotArgPattern → List (RouteTo × List ℕ) → Type 0
-ArePartsPicked args pattern routes = All (λ r. option_map (map Some) (sub_command args r.1) ≡ Some (part_of pattern args r.0.slot)) routes
+ArePartsPicked args pattern routes = ArePartsPickedAfter 1 args pattern routes
 
 -- what holds of the routes of a split, if it is one
 abbrev pub IfSplitTo : (MultiSlotArgPattern → List (RouteTo × List ℕ) → Type 0) → Multiple → Type 0

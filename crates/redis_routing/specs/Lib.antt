@@ -11,5 +11,6 @@ pub mod Laws
 pub mod Parts
 pub mod Plan
 pub mod Routing
+pub mod Split
 pub mod SubCommand
 pub mod Target

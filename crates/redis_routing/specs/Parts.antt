@@ -1,9 +1,9 @@
 -- The parts of a split command: the tuples whose keys have one slot.
-use Rattle.std.specs.Prelude.{ℕ, ◌-◌, not, List, [], ◌∷◌, ◌++◌, Some, map, filter, nat_eq, length}
+use Rattle.std.specs.Prelude.{ℕ, ◌-◌, not, List, [], ◌∷◌, ◌++◌, Some, map, filter, nat_eq, length, take}
 use Rattle.std.specs.List.{flat_map, range_with_len}
 use Rattle.cluster_slots.specs.KeySlot.{key_slot}
 use Rattle.redis_commands.specs.Command.{Arguments}
-use Rattle.redis_commands.specs.Run.{run_of}
+use Rattle.redis_commands.specs.Run.{run_after}
 use Rattle.redis_commands.specs.Tuples.{Tuple, tuples_in, shared_in, own_count, places_of, words_of}
 use Rattle.redis_commands.specs.declared.ways.MultiSlotArgPattern.{MultiSlotArgPattern}
 
@@ -30,7 +30,10 @@ part_places pattern run slot =
 abbrev pub part_words : MultiSlotArgPattern → List (List ℕ) → ℕ → List (List ℕ)
 part_words pattern run slot = flat_map words_of (part slot (tuples_in pattern run)) ++ shared_in pattern run
 
--- the part of a slot as a command of its own: the first word as it is spelt, and the slot's arguments
+-- the part of a slot as a command of its own: the words of the name as they are spelt, and the slot's arguments
+abbrev pub part_after : ℕ → MultiSlotArgPattern → Arguments → ℕ → Arguments
+part_after words pattern args slot = take words args ++ map Some (part_words pattern (run_after words args) slot)
+
+-- where the name has one word
 abbrev pub part_of : MultiSlotArgPattern → Arguments → ℕ → Arguments
-part_of pattern [] slot = []
-part_of pattern (first ∷ args) slot = first ∷ map Some (part_words pattern (run_of (first ∷ args)) slot)
+part_of pattern args slot = part_after 1 pattern args slot

@@ -6,12 +6,11 @@ use Rattle.cluster_slots.specs.RouteTo.{RouteTo}
 use Rattle.cluster_slots.specs.declared.slot.SlotAddr.{SlotAddr}
 use Rattle.cluster_slots.specs.declared.slot.SlotAddr.TheVariants.{Master, ReplicaOptional}
 use Rattle.redis_commands.specs.Command.{Arguments, argument, command_of, is_word}
-use Rattle.redis_commands.specs.Run.{run_of}
+use Rattle.redis_commands.specs.Run.{run_after}
 use Rattle.redis_commands.specs.Tuples.{tuples_in, fits}
 use Rattle.redis_routing.specs.Parts.{slot_of, firsts, part_places}
 use Rattle.redis_routing.specs.Target.{Target, random, specific, all_nodes, all_masters, split, single, multiple}
-use Rattle.redis_commands.specs.Ways.{way_in}
-use Rattle.redis_commands.specs.Policies.{policy_of}
+use Rattle.redis_commands.specs.NameTables.{NameTables, own_tables}
 use Rattle.redis_commands.specs.declared.policy.ResponsePolicy.{ResponsePolicy}
 use Rattle.redis_commands.specs.declared.ways.MultiSlotArgPattern.{MultiSlotArgPattern}
 use Rattle.redis_commands.specs.declared.ways.Way.{Way}
@@ -69,23 +68,33 @@ to_parts pattern policy (route ∷ other ∷ routes) = multiple (split (route �
 abbrev pub to_slots : Bool → Option ResponsePolicy → MultiSlotArgPattern → List (List ℕ) → Option Target
 to_slots reads policy pattern run = cond (fits pattern (length run)) (Some (to_parts pattern policy (routes_of reads pattern run))) None
 
--- where a command goes by the way of its name
-abbrev pub by_way : Bool → List ℕ → Arguments → Option Way → Option Target
-by_way reads name args None = to_key_or_any reads (argument args 1)
-by_way reads name args (Some way.AllNodes) = Some (multiple all_nodes (policy_of name))
-by_way reads name args (Some way.AllMasters) = Some (multiple all_masters (policy_of name))
-by_way reads name args (Some (way.MultiSlot pattern)) = to_slots reads (policy_of name) pattern (run_of args)
-by_way reads name args (Some way.Undefined) = None
-by_way reads name args (Some (way.CountAt n)) = by_count reads (number_at 64 (argument args n)) (argument args (n + 1))
-by_way reads name args (Some (way.KeyAt n)) = to_key reads (argument args n)
-by_way reads name args (Some way.KeyAfterStreams) = to_key_after reads args (position (is_word (codes "STREAMS")) args)
-by_way reads name args (Some way.Random) = Some (single random)
-by_way reads name args (Some way.SlotAtTwo) = to_slot (number_at 16 (argument args 2))
+-- where a command goes by the way of its name, which has so many words, under some tables of names
+abbrev pub by_way_with : ℕ → NameTables → Bool → List ℕ → Arguments → Option Way → Option Target
+by_way_with words tables reads name args None = to_key_or_any reads (argument args 1)
+by_way_with words tables reads name args (Some way.AllNodes) = Some (multiple all_nodes (tables.policy name))
+by_way_with words tables reads name args (Some way.AllMasters) = Some (multiple all_masters (tables.policy name))
+by_way_with words tables reads name args (Some (way.MultiSlot pattern)) = to_slots reads (tables.policy name) pattern (run_after words args)
+by_way_with words tables reads name args (Some way.Undefined) = None
+by_way_with words tables reads name args (Some (way.CountAt n)) = by_count reads (number_at 64 (argument args n)) (argument args (n + 1))
+by_way_with words tables reads name args (Some (way.KeyAt n)) = to_key reads (argument args n)
+by_way_with words tables reads name args (Some way.KeyAfterStreams) = to_key_after reads args (position (is_word (codes "STREAMS")) args)
+by_way_with words tables reads name args (Some way.Random) = Some (single random)
+by_way_with words tables reads name args (Some way.SlotAtTwo) = to_slot (number_at 16 (argument args 2))
 
 -- where a command of this name goes, under a set of names that only read
+abbrev pub routing_of_with : ℕ → NameTables → (List ℕ → Bool) → Arguments → Option (List ℕ) → Option Target
+routing_of_with words tables only_reads args None = None
+routing_of_with words tables only_reads args (Some name) = by_way_with words tables (only_reads name) name args (tables.way name)
+
+abbrev pub routing_with : ℕ → NameTables → (List ℕ → Bool) → Arguments → Option Target
+routing_with words tables only_reads args = routing_of_with words tables only_reads args (command_of args)
+
+-- under the project's own tables, in which each name that is split has one word
+abbrev pub by_way : Bool → List ℕ → Arguments → Option Way → Option Target
+by_way reads name args way = by_way_with 1 own_tables reads name args way
+
 abbrev pub routing_of : (List ℕ → Bool) → Arguments → Option (List ℕ) → Option Target
-routing_of only_reads args None = None
-routing_of only_reads args (Some name) = by_way (only_reads name) name args (way_in name)
+routing_of only_reads args name = routing_of_with 1 own_tables only_reads args name
 
 abbrev pub routing : (List ℕ → Bool) → Arguments → Option Target
-routing only_reads args = routing_of only_reads args (command_of args)
+routing only_reads args = routing_with 1 own_tables only_reads args

@@ -1,7 +1,8 @@
 ghost use Rattle.std.specs.Prelude.{◌≡◌, IfOk};
+ghost use Rattle.redis_routing.specs.Routing.{nodes_for};
 ghost use Rattle.redis_routing.specs.Target.{parts_of};
 
-use cluster_slots::{NodeAddress, Route};
+use cluster_slots::{NodeAddress, Route, SlotAddr};
 use redis_commands::{MultiSlotArgPattern, ResponsePolicy};
 use std::alloc::AllocError;
 
@@ -122,5 +123,16 @@ impl Clone for RoutingInfo {
                 Ok(RoutingInfo::MultiNode((multiple.clone()?, *policy)))
             }
         }
+    }
+}
+
+/// A replica too may answer a command that only reads.
+pub(super) fn nodes_for(reads: bool) -> SlotAddr
+    ensures { result ≡ nodes_for reads }
+{
+    if reads {
+        SlotAddr::ReplicaOptional
+    } else {
+        SlotAddr::Master
     }
 }

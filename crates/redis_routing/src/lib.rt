@@ -3,9 +3,10 @@
 
 mod info;
 mod rules;
+mod split_command;
 mod splitting;
 mod sub_commands;
 
 pub use info::{MultipleNodeRoutingInfo, Redirect, RoutingInfo, SingleNodeRoutingInfo};
-pub use splitting::multi_slot_routes;
+pub use split_command::{SplitCommand, multi_slot_routes};
 pub use sub_commands::command_for_multi_slot_indices;

@@ -9,7 +9,7 @@ ghost use Rattle.redis_commands.specs.Ways.{way_in};
 ghost use Rattle.redis_routing.specs.Routing as go;
 ghost use Rattle.redis_commands.specs.Run.{run_of};
 
-use super::info::{MultipleNodeRoutingInfo, RoutingInfo, SingleNodeRoutingInfo};
+use super::info::{MultipleNodeRoutingInfo, RoutingInfo, SingleNodeRoutingInfo, nodes_for};
 use super::splitting::by_slots;
 use cluster_slots::{Route, Slot, SlotAddr, parse_u16, parse_u64};
 use redis_commands::{ReadOnlyNames, ResponsePolicy, Routable, Way, way_of};
@@ -94,17 +94,6 @@ fn to_key(key: Option<&[u8]>, reads: bool) -> Option<RoutingInfo>
     ensures { option_map plan result ≡ go.to_key reads (option_copied key.entry) }
 {
     Some(to_route(Route::with_key(key?, nodes_for(reads))))
-}
-
-/// A replica too may answer a command that only reads.
-pub(super) fn nodes_for(reads: bool) -> SlotAddr
-    ensures { result ≡ go.nodes_for reads }
-{
-    if reads {
-        SlotAddr::ReplicaOptional
-    } else {
-        SlotAddr::Master
-    }
 }
 
 fn to_key_or_any(key: Option<&[u8]>, reads: bool) -> Option<RoutingInfo>

@@ -1,55 +1,23 @@
-ghost use Rattle.std.specs.Prelude.{◌≡◌, ◌<◌, ◌^◌, ◌+◌, ◌-◌, ◌++◌, ◌||◌, ◌∷◌, [], ℕ, true, length, map, IfOk, IfSome, OnOk, is_some, if◌then◌else◌, nat_eq, option_map};
+ghost use Rattle.std.specs.Prelude.{◌≡◌, ◌<◌, ◌^◌, ◌+◌, ◌-◌, ◌++◌, ◌||◌, ◌∷◌, [], ℕ, true, length, map, IfOk, OnOk, is_some, if◌then◌else◌, nat_eq, option_map};
 ghost use Rattle.std.specs.List.{flat_map, range_with_len};
 ghost use Rattle.indexmap.specs.IndexMap.{get, keys, IsUnique};
 ghost use Rattle.redis_routing.specs.Groups.{listed, shown, group_route};
 ghost use Rattle.redis_routing.specs.Parts.{firsts, slot_of, part};
-ghost use Rattle.redis_routing.specs.Complete.{multi_slot_routes, AreSubCommands};
 ghost use Rattle.redis_routing.specs.Plan.{plan};
 ghost use Rattle.redis_commands.specs.Policies.{policy_of};
-ghost use Rattle.redis_commands.specs.ReadOnly.{is_among};
 ghost use Rattle.redis_routing.specs.Routing as go;
-ghost use Rattle.redis_commands.specs.Run.{run_of};
+ghost use Rattle.redis_commands.specs.Run.{run_of, run_after};
 ghost use Rattle.redis_routing.specs.Target.{parts_of};
 ghost use Rattle.redis_commands.specs.Tuples.{own_count, tuples_in, places_of};
 
-use super::info::{MultipleNodeRoutingInfo, RoutingInfo, SingleNodeRoutingInfo};
-use super::rules::nodes_for;
+use super::info::{MultipleNodeRoutingInfo, RoutingInfo, SingleNodeRoutingInfo, nodes_for};
 use cluster_slots::{Route, Slot, SlotAddr};
 use indexmap::IndexMap;
-use redis_commands::{MultiSlotArgPattern, ReadOnlyNames, ResponsePolicy, Routable, Way, way_of};
+use redis_commands::{MultiSlotArgPattern, ResponsePolicy, Routable};
 use std::alloc::{AllocError, Global};
 
-/// The routes of a command over many keys: one for each slot of a key, by the first key of each,
-/// with the places of its part as `command_for_multi_slot_indices` takes them.
-///
-/// There are none where the name is not one of those that split by slot, where the arguments behind
-/// it, up to the first gap, make no whole tuples, or where the last argument that all keys share is
-/// missing.
-///
-/// # Errors
-///
-/// Where there is no memory.
-pub fn multi_slot_routes<R: Routable>(
-    alloc: Global,
-    command: &R,
-    read_only: &ReadOnlyNames,
-) -> Result<Option<Vec<(Route, Vec<usize>)>>, AllocError>
-    ensures routes { IfOk result (λ routes. option_map (λ r. parts_of r.items) routes ≡ multi_slot_routes (is_among read_only.now) (R.args command.now)) }
-    ensures picked { IfOk result (λ routes. IfSome routes (λ routes. AreSubCommands (R.args command.now) (parts_of routes.items))) }
-{
-    let Some(name) = command.command(alloc)? else {
-        return Ok(None);
-    };
-    let Some(Way::MultiSlot(pattern)) = way_of(&name) else {
-        return Ok(None);
-    };
-    let run = run_len(command);
-    if !pattern.is_complete(run) {
-        return Ok(None);
-    }
-    let reads = read_only.contains(&name);
-    Ok(Some(routes_by_slot(alloc, command, pattern, run, reads)?))
-}
+/// How many arguments are the name of a command over many keys.
+pub(super) const NAME_WORDS: usize = 1;
 
 /// To the slots of a command's keys, if its arguments make whole tuples.
 pub(super) fn by_slots<R: Routable>(
@@ -61,36 +29,40 @@ pub(super) fn by_slots<R: Routable>(
 ) -> Result<Option<RoutingInfo>, AllocError>
     ensures { IfOk result (λ info. option_map plan info ≡ go.to_slots reads (policy_of name.now) pattern (run_of (R.args command.now))) }
 {
-    let run = run_len(command);
+    let run = run_len(command, NAME_WORDS);
     if !pattern.fits(run) {
         return Ok(None);
     }
-    let routes = routes_by_slot(alloc, command, pattern, run, reads)?;
+    let routes = routes_by_slot(alloc, command, NAME_WORDS, pattern, run, reads)?;
     Ok(Some(to_parts(routes, pattern, ResponsePolicy::for_command(name))))
 }
 
-/// The routes of a run of whole tuples.
-fn routes_by_slot<R: Routable>(
+/// The routes of a run of whole tuples, which stands behind a name of so many words.
+pub(super) fn routes_by_slot<R: Routable>(
     alloc: Global,
     command: &R,
+    words: usize,
     pattern: MultiSlotArgPattern,
     run: usize,
     reads: bool,
 ) -> Result<Vec<(Route, Vec<usize>)>, AllocError>
-    requires { run ≡ length (run_of (R.args command.now)) }
-    ensures { IfOk result (λ routes. parts_of routes.items ≡ go.routes_of reads pattern (run_of (R.args command.now))) }
+    requires few { run + words < 2 ^ 64 }
+    requires run { run ≡ length (run_after words (R.args command.now)) }
+    ensures { IfOk result (λ routes. parts_of routes.items ≡ go.routes_of reads pattern (run_after words (R.args command.now))) }
 {
     let own = pattern.own_len(run);
-    let groups = group_by_slot(alloc, command, pattern, own)?;
+    let groups = group_by_slot(alloc, command, words, pattern, own)?;
     to_routes(alloc, groups, nodes_for(reads), own, run)
 }
 
-/// How many arguments follow the name up to the first gap.
-fn run_len<R: Routable>(command: &R) -> usize
-    ensures { result ≡ length (run_of (R.args command.now)) }
+/// How many arguments follow a name of so many words up to the first gap.
+pub(super) fn run_len<R: Routable>(command: &R, words: usize) -> usize
+    requires { words < 2 ^ 63 }
+    ensures run { result ≡ length (run_after words (R.args command.now)) }
+    ensures few { result < 2 ^ 63 }
 {
     let mut run = 0;
-    while command.arg_idx(run + 1).is_some() {
+    while command.arg_idx(run + words).is_some() {
         run += 1;
     }
     run
@@ -100,18 +72,20 @@ fn run_len<R: Routable>(command: &R) -> usize
 fn group_by_slot<R: Routable>(
     alloc: Global,
     command: &R,
+    words: usize,
     pattern: MultiSlotArgPattern,
     own: usize,
 ) -> Result<IndexMap<u16, Vec<usize>>, AllocError>
-    requires { own ≡ own_count pattern (length (run_of (R.args command.now))) }
-    ensures order { IfOk result (λ groups. keys groups ≡ firsts (map slot_of (tuples_in pattern (run_of (R.args command.now))))) }
-    ensures places { IfOk result (λ groups. (s : ℕ) → listed (get nat_eq groups s) ≡ flat_map places_of (part s (tuples_in pattern (run_of (R.args command.now))))) }
+    requires few { own + words < 2 ^ 64 }
+    requires own { own ≡ own_count pattern (length (run_after words (R.args command.now))) }
+    ensures order { IfOk result (λ groups. keys groups ≡ firsts (map slot_of (tuples_in pattern (run_after words (R.args command.now))))) }
+    ensures places { IfOk result (λ groups. (s : ℕ) → listed (get nat_eq groups s) ≡ flat_map places_of (part s (tuples_in pattern (run_after words (R.args command.now))))) }
 {
     let width = pattern.width();
     let mut groups: IndexMap<u16, Vec<usize>> = IndexMap::new(alloc);
     for number in 0..own / width {
         let place = number * width;
-        let Some(key) = command.arg_idx(place + 1) else {
+        let Some(key) = command.arg_idx(place + words) else {
             unreachable!()
         };
         add(

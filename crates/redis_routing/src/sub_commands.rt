@@ -1,12 +1,14 @@
-ghost use Rattle.std.specs.Prelude.{◌≡◌, ◌⊎◌, ◌<◌, ◌+◌, ◌^◌, length, Some, None, IfOk, IfErr, option_copied};
+ghost use Rattle.std.specs.Prelude.{◌≡◌, ◌⊎◌, ◌<◌, ◌+◌, ◌^◌, length, Some, None, IfOk, IfErr, map, option_copied};
+ghost use Rattle.std.specs.List.{range_with_len};
 ghost use Rattle.resp_core.specs.Fault.{out_of_memory};
 ghost use Rattle.resp_core.specs.declared.error.ErrorKind.TheVariants.{Client};
 ghost use Rattle.redis_commands.specs.Command.{argument};
-ghost use Rattle.redis_routing.specs.SubCommand.{sub_command};
+ghost use Rattle.redis_routing.specs.SubCommand as made;
 
+use super::splitting::NAME_WORDS;
 use redis_commands::Routable;
 use resp_core::{Cmd, ErrorKind, RedisError, RedisResult};
-use std::alloc::Global;
+use std::alloc::{AllocError, Global};
 
 /// The part of a command that has these arguments: its first word as it is spelt, and then the
 /// arguments at these places, which are counted from 0 behind that word.
@@ -20,29 +22,63 @@ pub fn command_for_multi_slot_indices<R: Routable>(
     original: &R,
     indices: &[usize],
 ) -> RedisResult<Cmd>
-    ensures made { IfOk result (λ cmd. sub_command (R.args original.now) indices.now ≡ Some cmd) }
-    ensures refused { IfErr result (λ fault. ((sub_command (R.args original.now) indices.now ≡ None) × (fault.kind ≡ Client)) ⊎ (fault ≡ out_of_memory)) }
+    ensures made { IfOk result (λ cmd. made.sub_command (R.args original.now) indices.now ≡ Some cmd) }
+    ensures refused { IfErr result (λ fault. ((made.sub_command (R.args original.now) indices.now ≡ None) × (fault.kind ≡ Client)) ⊎ (fault ≡ out_of_memory)) }
 {
-    let Some(name) = original.arg_idx(0) else {
-        return Err(missing_argument());
+    match sub_command(alloc, original, NAME_WORDS, indices)? {
+        Some(command) => Ok(command),
+        None => Err(missing_argument()),
+    }
+}
+
+/// The part of a command that has these arguments behind a name of so many words, if none of them
+/// is a gap or not there.
+pub(super) fn sub_command<R: Routable>(
+    alloc: Global,
+    original: &R,
+    words: usize,
+    indices: &[usize],
+) -> Result<Option<Cmd>, AllocError>
+    ensures { IfOk result (λ cmd. cmd ≡ made.sub_command_after words (R.args original.now) indices.now) }
+{
+    let room = indices.len().saturating_add(words);
+    let Some(mut command) = name_of(alloc, original, words, room)? else {
+        return Ok(None);
     };
-    let mut command = Cmd::with_capacity(alloc, indices.len() + 1)?;
-    command.write_arg(name)?;
     for index in indices {
-        let Some(arg) = behind_name(original, *index) else {
-            return Err(missing_argument());
+        let Some(arg) = behind_name(original, words, *index) else {
+            return Ok(None);
         };
         command.write_arg(arg)?;
     }
-    Ok(command)
+    Ok(Some(command))
 }
 
-/// The argument at a place behind the first word.
-fn behind_name<R: Routable>(original: &R, index: usize) -> Option<&[u8]>
-    requires { length (R.args original.now) < 2 ^ 63 }
-    ensures { option_copied result ≡ argument (R.args original.now) (index + 1) }
+/// The words of the name as a command with room, if none of them is a gap or not there.
+fn name_of<R: Routable>(
+    alloc: Global,
+    original: &R,
+    words: usize,
+    room: usize,
+) -> Result<Option<Cmd>, AllocError>
+    ensures { IfOk result (λ cmd. cmd ≡ made.all_texts (map (λ place. argument (R.args original.now) place) (range_with_len 0 words))) }
 {
-    original.arg_idx(index.checked_add(1)?)
+    let mut command = Cmd::with_capacity(alloc, room)?;
+    for place in 0..words {
+        let Some(word) = original.arg_idx(place) else {
+            return Ok(None);
+        };
+        command.write_arg(word)?;
+    }
+    Ok(Some(command))
+}
+
+/// The argument at a place behind a name of so many words. Where the sum does not fit, it is past
+/// the last argument of any command.
+fn behind_name<R: Routable>(original: &R, words: usize, index: usize) -> Option<&[u8]>
+    ensures { option_copied result ≡ argument (R.args original.now) (index + words) }
+{
+    original.arg_idx(index.saturating_add(words))
 }
 
 fn missing_argument() -> RedisError

@@ -1,9 +1,12 @@
 use Rattle.std.proofs.Common.{sym, ◌∙◌, subst}
 use Rattle.std.proofs.lemmas.Result.{IfOk-weaker}
 use Rattle.redis_routing.specs.Laws.{Covers, ArePartsPicked, ArePartsRouted, IfSplit}
+use Rattle.redis_commands.specs.NameTables.{own_tables}
 use Rattle.redis_commands.specs.ReadOnly.{is_among}
 use Rattle.redis_commands.specs.Run.{run_of}
+use Rattle.redis_routing.proofs.Picks.{has_first}
 use Rattle.redis_routing.proofs.Respelt.{respelt_routing}
+use Rattle.redis_routing.proofs.SelfRouting.{first_names}
 use Rattle.redis_routing.proofs.SplitLaws.{split_covers, split_picked, split_parts, same_by_way}
 use Rattle.redis_routing.proofs.info.RoutingInfo.for_routable.Goals as goal
 
@@ -19,7 +22,7 @@ returns-clause-cover g c =
     let only_reads = is_among c.args.read_only.now in
     let name = c.in-Some.name.items in
     let same = same_by_way only_reads args name c.deref.result.now c.deref-2.result.now c.contains-reads.result c.deref.ensures.value c.deref-2.ensures.value c.contains-reads.ensures in
-    IfOk-weaker c.by_way.result _ _ (λ info e. subst (IfSplit (λ pattern routes. Covers pattern (run_of args) routes)) (sym (e ∙ same)) (split_covers only_reads args name)) c.by_way.ensures
+    IfOk-weaker c.by_way.result _ _ (λ info e. subst (IfSplit (λ pattern routes. Covers pattern (run_of args) routes)) (sym (e ∙ same)) (split_covers 1 own_tables only_reads args name)) c.by_way.ensures
 
 pub returns-clause-picked : goal.returns-clause-picked
 returns-clause-picked g c =
@@ -27,7 +30,7 @@ returns-clause-picked g c =
     let only_reads = is_among c.args.read_only.now in
     let name = c.in-Some.name.items in
     let same = same_by_way only_reads args name c.deref.result.now c.deref-2.result.now c.contains-reads.result c.deref.ensures.value c.deref-2.ensures.value c.contains-reads.ensures in
-    IfOk-weaker c.by_way.result _ _ (λ info e. subst (IfSplit (λ pattern routes. ArePartsPicked args pattern routes)) (sym (e ∙ same)) (split_picked only_reads args name (rw c.in-Some.is at c.in_ok-name.ensures))) c.by_way.ensures
+    IfOk-weaker c.by_way.result _ _ (λ info e. subst (IfSplit (λ pattern routes. ArePartsPicked args pattern routes)) (sym (e ∙ same)) (split_picked 1 own_tables only_reads args name (has_first args name (rw c.in-Some.is at c.in_ok-name.ensures)))) c.by_way.ensures
 
 pub returns-clause-parts : goal.returns-clause-parts
 returns-clause-parts g c =
@@ -35,4 +38,4 @@ returns-clause-parts g c =
     let only_reads = is_among c.args.read_only.now in
     let name = c.in-Some.name.items in
     let same = same_by_way only_reads args name c.deref.result.now c.deref-2.result.now c.contains-reads.result c.deref.ensures.value c.deref-2.ensures.value c.contains-reads.ensures in
-    IfOk-weaker c.by_way.result _ _ (λ info e. subst (IfSplit (λ pattern routes. ArePartsRouted only_reads args pattern routes)) (sym (e ∙ same)) (split_parts only_reads args name (rw c.in-Some.is at c.in_ok-name.ensures))) c.by_way.ensures
+    IfOk-weaker c.by_way.result _ _ (λ info e. subst (IfSplit (λ pattern routes. ArePartsRouted only_reads args pattern routes)) (sym (e ∙ same)) (split_parts 1 own_tables only_reads args name (λ pattern. first_names args name pattern (rw c.in-Some.is at c.in_ok-name.ensures)))) c.by_way.ensures

@@ -1,0 +1,34 @@
+-- A complete command has a route.
+use Rattle.std.proofs.Common.{◌≡◌, ℕ, zero, suc, ◌<◌, List, [], ◌∷◌, Bool, true, length, map, arith}
+use Rattle.std.proofs.lemmas.Bool.Decides.{nat_tests}
+use Rattle.std.proofs.lemmas.List.{length-map}
+use Rattle.redis_routing.specs.Parts.{firsts, slot_of}
+use Rattle.redis_routing.specs.Routing.{route_to, routes_of}
+use Rattle.redis_commands.specs.Tuples.{Tuple, fits, own_count, tuples_in}
+use Rattle.redis_commands.specs.declared.ways.MultiSlotArgPattern.{MultiSlotArgPattern}
+use Rattle.redis_commands.specs.declared.ways.MultiSlotArgPattern.TheVariants.{KeysOnly, KeyValuePairs, KeysAndLastArg, KeyWithTwoArgTriples}
+use Rattle.redis_routing.proofs.Cover.{Tiles, tiles_run}
+
+-- where tuples are whole, some arguments make them
+some_own : (pattern : MultiSlotArgPattern) (m : ℕ) → fits pattern m ≡ true → 0 < own_count pattern m
+some_own KeysOnly m h = grind (arith, nat_tests)
+some_own KeyValuePairs zero h = absurd (cc h)
+some_own KeyValuePairs (suc m) h = omega arith
+some_own KeysAndLastArg m h = grind (arith, nat_tests)
+some_own KeyWithTwoArgTriples zero h = absurd (cc h)
+some_own KeyWithTwoArgTriples (suc m) h = omega arith
+
+some_tuple : (high : ℕ) (ts : List Tuple) → Tiles 0 high ts → 0 < high → 0 < length ts
+some_tuple high [] tiles some = absurd (omega (arith, tiles, some))
+some_tuple high (t ∷ ts) tiles some = omega arith
+
+some_first : (ns : List ℕ) → 0 < length ns → 0 < length (firsts ns)
+some_first [] some = some
+some_first (n ∷ ns) some = omega arith
+
+pub some_route : (reads : Bool) (pattern : MultiSlotArgPattern) (run : List (List ℕ)) → fits pattern (length run) ≡ true → 0 < length (routes_of reads pattern run)
+some_route reads pattern run fit =
+    let ts = tuples_in pattern run in
+    let tuples : 0 < length ts = some_tuple (own_count pattern (length run)) ts (tiles_run pattern run fit) (some_own pattern (length run) fit) in
+    let slots : 0 < length (firsts (map slot_of ts)) = some_first (map slot_of ts) (omega (arith, tuples, length-map ts slot_of)) in
+    omega (arith, slots, length-map (firsts (map slot_of ts)) (route_to reads pattern run))

@@ -1,0 +1,53 @@
+-- A complete command over many keys, split by slot.
+use Rattle.std.specs.Prelude.{◌≡◌, ℕ, Bool, true, false, List, Option, None, Some, length, option_map, slice_get}
+use Rattle.cluster_slots.specs.RouteTo.{RouteTo}
+use Rattle.redis_commands.specs.Command.{Arguments, HasWords}
+use Rattle.redis_commands.specs.Tuples.{is_complete}
+use Rattle.redis_commands.specs.NameTables.{NameTables, own_tables}
+use Rattle.redis_routing.specs.Parts.{part_after}
+use Rattle.redis_routing.specs.Routing.{routes_of}
+use Rattle.redis_commands.specs.Run.{run_after}
+use Rattle.redis_commands.specs.declared.policy.AggregateOp.TheVariants.{Sum}
+use Rattle.redis_commands.specs.declared.policy.ResponsePolicy.{ResponsePolicy}
+use Rattle.redis_commands.specs.declared.policy.ResponsePolicy.TheVariants.{AllSucceeded, Aggregate, CombineArrays}
+use Rattle.redis_commands.specs.declared.ways.MultiSlotArgPattern.{MultiSlotArgPattern}
+
+-- the arguments of the command, how many of them are its name, its routes with the places of their parts, how its arguments make tuples, and how the replies to its parts make one
+pub record Split : Type 0 where
+  pub arguments : Arguments
+  pub words : ℕ
+  pub routes : List (RouteTo × List ℕ)
+  pub pattern : MultiSlotArgPattern
+  pub policy : ResponsePolicy
+
+-- the part of a slot, as a command of its own
+abbrev pub part_for : Split → ℕ → Arguments
+part_for split slot = part_after split.words split.pattern split.arguments slot
+
+-- the part of the route of this number
+abbrev pub part_at : Split → ℕ → Option Arguments
+part_at split number = option_map (λ r. part_for split r.0.slot) (slice_get split.routes number)
+
+-- the policy of a command's name under some tables of names
+abbrev pub policy_by_name_with : NameTables → Option (List ℕ) → Option ResponsePolicy
+policy_by_name_with tables None = None
+policy_by_name_with tables (Some name) = tables.policy name
+
+-- and under the project's own
+abbrev pub policy_by_name : Option (List ℕ) → Option ResponsePolicy
+policy_by_name name = policy_by_name_with own_tables name
+
+-- whether the replies to the parts of a command can make one by this policy: any of them, their sum, or one array
+abbrev pub joins_parts : ResponsePolicy → Bool
+joins_parts AllSucceeded = true
+joins_parts (Aggregate Sum) = true
+joins_parts CombineArrays = true
+joins_parts _ = false
+
+-- The routes are those of the command, which has a name and is complete, and the policy joins the replies to its parts.
+pub record IsSplit (split : Split) : Type 0 where
+  pub name : HasWords split.words split.arguments
+  pub complete : is_complete split.pattern (length (run_after split.words split.arguments)) ≡ true
+  pub only_reads : Bool
+  pub routes : split.routes ≡ routes_of only_reads split.pattern (run_after split.words split.arguments)
+  pub policy : joins_parts split.policy ≡ true

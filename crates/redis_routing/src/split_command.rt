@@ -1,0 +1,172 @@
+ghost use Rattle.std.specs.Prelude.{◌≡◌, ◌<◌, Some, true, length, map, option_map, IfOk, IfSome};
+ghost use Rattle.redis_commands.specs.Command.{command_of};
+ghost use Rattle.redis_routing.specs.Complete.{multi_slot_routes, pattern_of, pattern_by_name, AreSubCommands};
+ghost use Rattle.redis_commands.specs.Policies.{policy_of};
+ghost use Rattle.redis_commands.specs.ReadOnly.{is_among};
+ghost use Rattle.redis_routing.specs.Split.{Split, IsSplit, part_at, policy_by_name, joins_parts};
+ghost use Rattle.redis_routing.specs.Target.{parts_of};
+ghost use Rattle.redis_commands.specs.Ways.{way_in};
+
+use super::splitting::{NAME_WORDS, routes_by_slot, run_len};
+use super::sub_commands::sub_command;
+use cluster_slots::Route;
+use redis_commands::{MultiSlotArgPattern, ReadOnlyNames, ResponsePolicy, Routable, Way, way_of};
+use resp_core::Cmd;
+use std::alloc::{AllocError, Global};
+use std::marker::Model;
+
+/// A complete command over many keys, split by slot: its routes, how its arguments make tuples, and
+/// how the replies to its parts make one.
+///
+/// `DEL foo bar baz {bar}vaz` has three routes, to the slots of `foo`, of `bar` and `{bar}vaz`, and
+/// of `baz`. The part of route 1 is `DEL bar {bar}vaz`, and the replies are added up.
+#[derive(Drop)]
+pub struct SplitCommand<'a, R: Routable> {
+    command: &'a R,
+    words: usize,
+    routes: Vec<(Route, Vec<usize>)>,
+    pattern: MultiSlotArgPattern,
+    policy: ResponsePolicy,
+}
+
+impl<'a, R: Routable> Model for SplitCommand<'a, R> {
+    ghost use Rattle.redis_routing.specs.Split.{Split, IsSplit};
+    ghost use Rattle.redis_routing.specs.Target.{parts_of};
+
+    ghost Value = { Split };
+
+    ghost view = { λ s. record { arguments = R.args s.command.now; words = s.words; routes = parts_of s.routes.items; pattern = s.pattern; policy = s.policy } };
+
+    ghost invariant = { λ s. IsSplit (record { arguments = R.args s.command.now; words = s.words; routes = parts_of s.routes.items; pattern = s.pattern; policy = s.policy }) };
+}
+
+impl<'a, R: Routable> SplitCommand<'a, R> {
+    /// Splits a command. There is nothing to split where its name is not one of those that split by
+    /// slot, where the arguments behind it, up to the first gap, make no whole tuples, or where the
+    /// last argument that all keys share is missing.
+    ///
+    /// # Errors
+    ///
+    /// Where there is no memory.
+    pub fn new(
+        alloc: Global,
+        command: &'a R,
+        read_only: &ReadOnlyNames,
+    ) -> Result<Option<Self>, AllocError>
+        ensures routes { IfOk result (λ split. option_map (λ s. s.routes) split ≡ multi_slot_routes (is_among read_only.now) (R.args command.now)) }
+        ensures arguments { IfOk result (λ split. IfSome split (λ s. s.arguments ≡ R.args command.now)) }
+        ensures words { IfOk result (λ split. IfSome split (λ s. s.words ≡ 1)) }
+        ensures pattern { IfOk result (λ split. IfSome split (λ s. Some s.pattern ≡ pattern_by_name (command_of (R.args command.now)))) }
+        ensures policy { IfOk result (λ split. IfSome split (λ s. Some s.policy ≡ policy_by_name (command_of (R.args command.now)))) }
+    {
+        let Some(name) = command.command(alloc)? else {
+            return Ok(None);
+        };
+        let Some((pattern, policy)) = pattern_and_policy(&name) else {
+            return Ok(None);
+        };
+        let run = run_len(command, NAME_WORDS);
+        if !pattern.is_complete(run) {
+            return Ok(None);
+        }
+        let reads = read_only.contains(&name);
+        let routes = routes_by_slot(alloc, command, NAME_WORDS, pattern, run, reads)?;
+        Ok(Some(SplitCommand {
+            command,
+            words: NAME_WORDS,
+            routes,
+            pattern,
+            policy,
+        }))
+    }
+
+    /// The routes: one for each slot of a key, by the first key of each, with the places of its part
+    /// as `command_for_multi_slot_indices` takes them.
+    pub fn routes(&self) -> &[(Route, Vec<usize>)]
+        ensures routes { parts_of result.now ≡ self.now.routes }
+        ensures split { IsSplit self.now }
+    {
+        self.routes.as_slice()
+    }
+
+    /// How many routes there are, which is at least one.
+    pub fn len(&self) -> usize
+        ensures len { result ≡ length self.now.routes }
+        ensures some { 0 < result }
+    {
+        self.routes.len()
+    }
+
+    /// How the arguments of the command make tuples of a key and what goes with it.
+    pub fn pattern(&self) -> MultiSlotArgPattern
+        ensures { result ≡ self.now.pattern }
+    {
+        self.pattern
+    }
+
+    /// How the replies to the parts make one.
+    pub fn policy(&self) -> ResponsePolicy
+        ensures policy { result ≡ self.now.policy }
+        ensures joins { joins_parts result ≡ true }
+    {
+        self.policy
+    }
+
+    /// The part of a route, by its number, as a command of its own: the first word as it is spelt,
+    /// the keys of the route's slot with what goes with them, in their order, and the argument that
+    /// all keys share. Of `JSON.MGET foo bar $.a` part 1 is `JSON.MGET bar $.a`.
+    ///
+    /// # Errors
+    ///
+    /// Where there is no memory.
+    pub fn part(&self, alloc: Global, number: usize) -> Result<Cmd, AllocError>
+        requires { number < length self.now.routes }
+        ensures { IfOk result (λ part. Some (map Some part) ≡ part_at self.now number) }
+    {
+        let Some(part) = sub_command(alloc, self.command, self.words, &self.routes[number].1)?
+        else {
+            unreachable!()
+        };
+        Ok(part)
+    }
+}
+
+/// How commands of this name make tuples and how the replies to their parts make one, where they
+/// split by slot.
+fn pattern_and_policy(name: &[u8]) -> Option<(MultiSlotArgPattern, ResponsePolicy)>
+    ensures pattern { option_map (λ found. found.0) result ≡ pattern_of (way_in name.now) }
+    ensures policy { IfSome result (λ found. Some found.1 ≡ policy_of name.now) }
+    ensures joins { IfSome result (λ found. joins_parts found.1 ≡ true) }
+{
+    let Some(Way::MultiSlot(pattern)) = way_of(name) else {
+        return None;
+    };
+    let Some(policy) = ResponsePolicy::for_command(name) else {
+        unreachable!()
+    };
+    Some((pattern, policy))
+}
+
+/// The routes of a command over many keys: one for each slot of a key, by the first key of each,
+/// with the places of its part as `command_for_multi_slot_indices` takes them.
+///
+/// There are none where the name is not one of those that split by slot, where the arguments behind
+/// it, up to the first gap, make no whole tuples, or where the last argument that all keys share is
+/// missing.
+///
+/// # Errors
+///
+/// Where there is no memory.
+pub fn multi_slot_routes<R: Routable>(
+    alloc: Global,
+    command: &R,
+    read_only: &ReadOnlyNames,
+) -> Result<Option<Vec<(Route, Vec<usize>)>>, AllocError>
+    ensures routes { IfOk result (λ routes. option_map (λ r. parts_of r.items) routes ≡ multi_slot_routes (is_among read_only.now) (R.args command.now)) }
+    ensures picked { IfOk result (λ routes. IfSome routes (λ routes. AreSubCommands (R.args command.now) (parts_of routes.items))) }
+{
+    match SplitCommand::new(alloc, command, read_only)? {
+        Some(split) => Ok(Some(split.routes)),
+        None => Ok(None),
+    }
+}
