@@ -2,9 +2,9 @@
 use Rattle.std.proofs.Common.{◌≡◌, ◌<◌, ◌≤◌, ℕ, inl, inr, ◌⊎◌, ◌↔◌, List, [], ◌∷◌, map, Contains, IsPermutation, refl, sym, ap, ◌∙◌, arith}
 use Rattle.std.proofs.lemmas.Bool.{cases_order}
 use Rattle.std.proofs.lemmas.List.Sorted.{IsPermutation-map, IsPermutation-sym, Contains-permutation}
-use Rattle.cluster_map.specs.RangeMap.{Entry, end_of, Ascends, insert_entry, AreDisjoint}
-use Rattle.cluster_map.specs.Nodes.{Nodes, RangeNodes, nodes_of, range_entry, filled}
-use Rattle.cluster_map.proofs.Ranges.{Contains-cons_cases, Contains-cons_head, Contains-cons_tail, Contains-nil, EndsAfter-contains, insert_entry-front, insert_entry-place, insert_entry-later, Ascends-insert_entry}
+use Rattle.slot_ranges.specs.RangeMap.{Entry, end_of, Ascends, insert_entry, AreDisjoint}
+use Rattle.slot_ranges.specs.Nodes.{Nodes, RangeNodes, nodes_of, range_entry, filled}
+use Rattle.slot_ranges.proofs.Ranges.{Contains-cons_cases, Contains-cons_head, Contains-cons_tail, Contains-nil, EndsAfter-contains, insert_entry-front, insert_entry-place, insert_entry-later, Ascends-insert_entry}
 
 -- after an insert there is the new entry
 Contains-inserted : {V : Type 0} (es : List (Entry V)) (start end : ℕ) (value : V) → Ascends es → Contains (insert_entry es start end value) (start, end, value)

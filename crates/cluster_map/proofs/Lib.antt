@@ -1,4 +1,8 @@
+pub mod Agreement
 pub mod Disjoint
-pub mod Ranges
-pub mod SameRanges
-pub mod Trees
+pub mod Elements
+pub mod Filling
+pub mod Groups
+pub mod Inserts
+pub mod Members
+pub mod ReplyNodes

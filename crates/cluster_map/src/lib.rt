@@ -1,11 +1,11 @@
-//! Addresses of nodes, slots of keys, and the map from slots to nodes.
+//! Addresses of nodes, slots of keys, the map from slots to nodes, and the reply that tells it.
 #![tactic(auto)]
 
+pub mod read_routing;
 pub mod slot_map;
-pub mod slot_range_map;
 
 pub use cluster_slots::{
-    NodeAddress, Route, SLOT_SIZE, Slot, SlotAddr, node_address, slot, slot_cmd, split_node_address,
+    NodeAddress, Route, SLOT_SIZE, Slot, SlotAddr, node_address, slot, split_node_address,
 };
 pub use slot_map::{SlotAddrs, SlotMap, SlotRange};
-pub use slot_range_map::SlotRangeMap;
+pub use slot_ranges::{SlotRangeMap, parse_slots, slot_cmd, slot_range_map, topology};

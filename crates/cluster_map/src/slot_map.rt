@@ -1,64 +1,36 @@
-ghost use Rattle.std.specs.Prelude.{◌≡◌, List, [], map, IfOk, IsTrue, ◌↔◌, MatchOption, Contains, IsPermutation};
+ghost use Rattle.std.specs.Prelude.{◌≡◌, ℕ, List, [], map, Option, IfOk, IfErr, IsTrue, ◌↔◌, MatchOption, Contains, IsPermutation, ◌<◌, ◌++◌, length, take, flat_map, fold, OnOk, OnErr};
+ghost use Rattle.std.specs.List.{AllZip};
 ghost use Rattle.std.specs.Cmp.Rules.{comparing};
 ghost use Rattle.std.proofs.Common.{rules};
-ghost use Rattle.cluster_map.specs.Nodes.{Nodes, RangeNodes, nodes_of, range_entry, same_range, filled};
-ghost use Rattle.cluster_map.specs.RangeMap.{Entry, Ascends, AreDisjoint, IsUncovered};
-ghost use Rattle.cluster_map.specs.RouteNode.{IsAsked, IsNodeOfRoute};
+ghost use Rattle.resp_core.specs.Fault.{out_of_memory};
+ghost use Rattle.resp_core.specs.View.{view};
+ghost use Rattle.cluster_slots.specs.Address.{Address};
+ghost use Rattle.cluster_slots.specs.RouteTo.{RouteTo};
+ghost use Rattle.slot_ranges.specs.Nodes.{Nodes, RangeNodes, nodes_of, range_entry, same_range, filled, nodes_in};
+ghost use Rattle.slot_ranges.specs.RangeMap.{Entry, Ascends, AreDisjoint, IsUncovered, value_of};
+ghost use Rattle.cluster_map.specs.EachOnce.{each_once};
+ghost use Rattle.cluster_map.specs.Fallback.{fallback, IsFallback};
+ghost use Rattle.cluster_map.specs.Targets.{targets};
+ghost use Rattle.cluster_map.specs.RouteNode.{IsAsked, IsNodeOfRoute, IsPicked, IsPickedNode};
+ghost use Rattle.cluster_map.specs.ReplyNode.{IsFound, IsFoundByReply, entries_in};
+ghost use Rattle.cluster_map.specs.Topology.{shards_of, topology_of, Agrees};
 
-use crate::slot_range_map::SlotRangeMap;
+use crate::read_routing::{ClusterTopology, ReadCandidates, ReadRoutingStrategy, Replicas};
+use addresses::{insert_all, members};
 use cluster_slots::{NodeAddress, Route, SlotAddr};
+use grouping::shards_of;
+use indexmap::IndexSet;
+use resp_core::{RedisResult, Value};
+use slot_ranges::slot_range_map::Values;
+use slot_ranges::{SlotRangeMap, parse_slots};
 use std::alloc::{AllocError, Global};
 use std::marker::Model;
 
-/// A range of slots, both ends included, and the nodes that serve it.
-#[derive(Clone, Debug, Drop)]
-pub struct SlotRange {
-    pub start: u16,
-    pub end: u16,
-    pub master: NodeAddress,
-    pub replicas: Vec<NodeAddress>,
-}
+mod addresses;
+mod grouping;
 
-impl Model for SlotRange {
-    ghost use Rattle.cluster_map.specs.Nodes.{RangeNodes};
-
-    ghost Value = { RangeNodes };
-
-    ghost view = { λ r. record { start = r.start; end = r.end; master = r.master; replicas = r.replicas.items } };
-}
-
-impl SlotRange {
-    pub fn new(start: u16, end: u16, master: NodeAddress, replicas: Vec<NodeAddress>) -> Self
-        ensures { result ≡ record { start = start; end = end; master = master; replicas = replicas.items } }
-    {
-        SlotRange {
-            start,
-            end,
-            master,
-            replicas,
-        }
-    }
-}
-
-impl PartialEq for SlotRange {
-    ghost eq = { same_range };
-
-    ghost laws = { Prim.search (comparing, rules) depth 9 };
-
-    fn eq(&self, other: &Self) -> bool
-        ensures value { result ≡ same_range self.now other.now }
-        ensures same { IsTrue result ↔ (self.now ≡ other.now) }
-    {
-        self.start == other.start
-            && self.end == other.end
-            && self.master == other.master
-            && self.replicas == other.replicas
-    }
-}
-
-impl Eq for SlotRange {
-    ghost laws = { Prim.search (comparing, rules) depth 9 };
-}
+pub use addresses::NodeAddresses;
+pub use slot_ranges::SlotRange;
 
 /// The nodes that serve a range of slots: a primary and its replicas.
 #[derive(Debug, Drop)]
@@ -68,7 +40,7 @@ pub struct SlotAddrs {
 }
 
 impl Model for SlotAddrs {
-    ghost use Rattle.cluster_map.specs.Nodes.{Nodes};
+    ghost use Rattle.slot_ranges.specs.Nodes.{Nodes};
 
     ghost Value = { Nodes };
 
@@ -95,14 +67,60 @@ impl SlotAddrs {
         SlotAddrs::new(master, replicas)
     }
 
-    fn slot_addr(&self, slot_addr: SlotAddr, pick: usize) -> &NodeAddress
-        ensures { IsAsked self.now slot_addr pick result.now }
+    fn primary(&self) -> &NodeAddress
+        ensures { result.now ≡ self.now.primary }
+    {
+        &self.primary
+    }
+
+    fn replicas(&self) -> &Vec<NodeAddress>
+        ensures { result.now.items ≡ self.now.replicas }
+    {
+        &self.replicas
+    }
+
+    fn fallback(&self, alloc: Global, slot_addr: SlotAddr) -> Result<Vec<NodeAddress>, AllocError>
+        ensures { IfOk result (λ addresses. addresses.items ≡ fallback self.now slot_addr) }
     {
         match slot_addr {
-            SlotAddr::ReplicaRequired if !self.replicas.is_empty() => {
-                &self.replicas[pick % self.replicas.len()]
+            SlotAddr::Master => Ok(Vec::new(alloc)),
+            SlotAddr::ReplicaOptional => {
+                let mut addresses = self.replicas.clone()?;
+                addresses.push(self.primary.clone()?)?;
+                Ok(addresses)
             }
-            _ => &self.primary,
+            SlotAddr::ReplicaRequired => self.replicas.clone(),
+        }
+    }
+
+    /// The node for a route to the slot.
+    ///
+    /// A route to the primary has the primary, and so has each route where there is no replica.
+    /// Otherwise the strategy picks, if one is lent; without a strategy a read goes to the primary,
+    /// or where a replica is required, to the one at `pick` modulo their number.
+    pub fn slot_addr(
+        &self,
+        slot: u16,
+        slot_addr: SlotAddr,
+        strategy: Option<&dyn ReadRoutingStrategy>,
+        pick: usize,
+    ) -> &NodeAddress
+        ensures node { MatchOption strategy.entry
+            (IsAsked self.now slot_addr pick result.now)
+            (λ s. IsPicked (picks s.now) self.now slot slot_addr result.now) }
+    {
+        let Some(replicas) = Replicas::new(self.replicas.as_slice()) else {
+            return &self.primary;
+        };
+        match (slot_addr, strategy) {
+            (SlotAddr::Master, _) | (SlotAddr::ReplicaOptional, None) => &self.primary,
+            (SlotAddr::ReplicaRequired, None) => replicas.choose_random(pick),
+            (SlotAddr::ReplicaOptional, Some(strategy)) => {
+                strategy.route_read(&ReadCandidates::any_node(slot, &self.primary, replicas))
+            }
+            (SlotAddr::ReplicaRequired, Some(strategy)) => {
+                strategy.route_read(&ReadCandidates::replicas_only(slot, replicas))
+            }
         }
     }
 }
@@ -115,8 +133,8 @@ pub struct SlotMap {
 
 impl Model for SlotMap {
     ghost use Rattle.std.specs.Prelude.{List};
-    ghost use Rattle.cluster_map.specs.RangeMap.{Entry};
-    ghost use Rattle.cluster_map.specs.Nodes.{Nodes};
+    ghost use Rattle.slot_ranges.specs.RangeMap.{Entry};
+    ghost use Rattle.slot_ranges.specs.Nodes.{Nodes};
 
     ghost Value = { List (Entry Nodes) };
 
@@ -138,6 +156,23 @@ impl SlotMap {
         SlotMap::new(alloc)
     }
 
+    /// Puts the ranges in, one after the other: each takes the place of an earlier one that has the
+    /// same end.
+    ///
+    /// # Errors
+    ///
+    /// Where there is no memory for a range, those before it stay in the map.
+    pub fn fill_slots(&mut self, slots: Vec<SlotRange>) -> Result<(), AllocError>
+        ensures put { OnOk result (self.new ≡ filled self.old slots.items) }
+        ensures before { OnErr result ((count : ℕ) × (count < length slots.items) × (self.new ≡ filled self.old (take count slots.items))) }
+    {
+        for slot in slots {
+            let (start, end) = (slot.start, slot.end);
+            self.slots.insert(start, end, SlotAddrs::from_slot(slot))?;
+        }
+        Ok(())
+    }
+
     /// The map of these ranges, put in one after the other: a later range takes the place of an
     /// earlier one that has the same end.
     #[tactic(auto, using(crate::proofs::Disjoint::any_order))]
@@ -149,23 +184,128 @@ impl SlotMap {
         ensures any_order { (others : List RangeNodes) → IsPermutation slots.items others → AreDisjoint (map range_entry slots.items) → IfOk result (λ m. m ≡ filled [] others) }
     {
         let mut map = SlotMap::new(alloc);
-        for slot in slots {
-            let (start, end) = (slot.start, slot.end);
-            map.slots.insert(start, end, SlotAddrs::from_slot(slot))?;
-        }
+        map.fill_slots(slots)?;
         Ok(map)
     }
 
-    /// The node for a route, where a range answers for its slot.
+    /// The map that a reply to `CLUSTER SLOTS` tells of: that of the ranges of `parse_slots`.
     ///
-    /// It is the primary, or where a replica is required and there is one, the replica at `pick`
-    /// modulo their number.
-    pub fn slot_addr_for_route(&self, route: Route, pick: usize) -> Option<&NodeAddress>
-        ensures node { MatchOption result (IsUncovered self.now route.slot) (λ address. IsNodeOfRoute self.now route pick address.now) }
+    /// # Errors
+    ///
+    /// Kind `OutOfMemory` where there is no memory.
+    pub fn from_reply(alloc: Global, reply: &Value, answering: &str) -> RedisResult<Self>
+        ensures entries { IfOk result (λ map. map ≡ entries_in answering.now (view reply.now)) }
+        // So what a route then finds is what the reply says.
+        ensures node { IfOk result (λ map. (route : RouteTo) (pick : ℕ) (found : Option Address) → IsFound map route pick found → IsFoundByReply answering.now (view reply.now) route pick found) }
+        ensures memory { IfErr result (λ e. e ≡ out_of_memory) }
+    {
+        let slots = parse_slots(alloc, reply, answering)?;
+        Ok(SlotMap::from_slots(alloc, slots)?)
+    }
+
+    /// The node for a route, where a range answers for its slot: that of `SlotAddrs::slot_addr`.
+    pub fn slot_addr_for_route(
+        &self,
+        route: Route,
+        strategy: Option<&dyn ReadRoutingStrategy>,
+        pick: usize,
+    ) -> Option<&NodeAddress>
+        ensures node { MatchOption result (IsUncovered self.now route.slot) (λ address. MatchOption strategy.entry
+            (IsNodeOfRoute self.now route pick address.now)
+            (λ s. IsPickedNode (picks s.now) self.now route address.now)) }
         // So one range at most answers for a slot.
         ensures order { Ascends self.now }
     {
         let addrs = self.slots.get(route.slot())?;
-        Some(addrs.slot_addr(route.slot_addr(), pick))
+        Some(addrs.slot_addr(route.slot(), route.slot_addr(), strategy, pick))
+    }
+
+    /// The node of each route, in order. The strategy is asked in this order, and `pick` is the same
+    /// for all.
+    pub fn addresses_for_multi_slot(
+        &self,
+        alloc: Global,
+        routes: &[(Route, Vec<usize>)],
+        strategy: Option<&dyn ReadRoutingStrategy>,
+        pick: usize,
+    ) -> Result<Vec<Option<&NodeAddress>>, AllocError>
+        ensures each { IfOk result (λ found. AllZip (λ route node. MatchOption node (IsUncovered self.now route.0.slot) (λ address. MatchOption strategy.entry
+            (IsNodeOfRoute self.now route.0 pick address.now)
+            (λ s. IsPickedNode (picks s.now) self.now route.0 address.now))) routes.now found.items) }
+    {
+        let mut found = Vec::new(alloc);
+        for (route, _) in routes {
+            found.push(self.slot_addr_for_route(*route, strategy, pick))?;
+        }
+        Ok(found)
+    }
+
+    /// The nodes that a read may go to where the one of its route fails: the replicas, and behind
+    /// them the primary where no replica is required. There is none for a primary's route, nor where
+    /// no range answers for the slot.
+    pub fn shard_fallback_addrs(
+        &self,
+        alloc: Global,
+        route: Route,
+    ) -> Result<Vec<NodeAddress>, AllocError>
+        ensures fallback { IfOk result (λ addresses. IsFallback self.now route addresses.items) }
+        ensures order { Ascends self.now }
+    {
+        match self.slots.get(route.slot()) {
+            Some(addrs) => addrs.fallback(alloc, route.slot_addr()),
+            None => Ok(Vec::new(alloc)),
+        }
+    }
+
+    /// Takes all ranges out.
+    pub fn clear(&mut self)
+        ensures empty { self.new ≡ [] }
+    {
+        self.slots.clear();
+    }
+
+    /// The nodes of each range, by ascending end.
+    pub fn values(&self) -> Values<'_, SlotAddrs>
+        ensures all { result ≡ map value_of self.now }
+    {
+        self.slots.values()
+    }
+
+    /// Each primary once, by its first range.
+    pub fn addresses_for_all_primaries(
+        &self,
+        alloc: Global,
+    ) -> Result<Vec<&NodeAddress>, AllocError>
+        ensures all { IfOk result (λ found. targets found.items ≡ each_once (map (λ (e : Entry Nodes). (value_of e).primary) self.now)) }
+    {
+        let mut seen = IndexSet::new(alloc);
+        for addrs in self.values() {
+            seen.insert(&addrs.primary)?;
+        }
+        members(alloc, &seen)
+    }
+
+    /// Each node once, by its first range and, within a range, the primary first.
+    pub fn addresses_for_all_nodes(&self, alloc: Global) -> Result<Vec<&NodeAddress>, AllocError>
+        ensures all { IfOk result (λ found. targets found.items ≡ each_once (flat_map (λ (e : Entry Nodes). nodes_in (value_of e)) self.now)) }
+    {
+        let mut seen = IndexSet::new(alloc);
+        for addrs in self.values() {
+            insert_all(&mut seen, addrs)?;
+        }
+        members(alloc, &seen)
+    }
+
+    /// The shards of this map, one for each primary.
+    pub fn topology(&self, alloc: Global) -> Result<ClusterTopology, AllocError>
+        ensures shards { IfOk result (λ topology. topology ≡ topology_of (shards_of self.now)) }
+        // It agrees with the map on every slot.
+        ensures agrees { IfOk result (λ topology. Agrees self.now topology) }
+        ensures order { Ascends self.now }
+    {
+        let _entries = self.slots.iter();
+        let shards = shards_of(alloc, &self.slots)?;
+        let topology = ClusterTopology::from_shards(alloc, shards)?;
+        Ok(topology)
     }
 }

@@ -3,12 +3,11 @@
 
 #[cfg(test)]
 mod node_address;
-
 #[cfg(test)]
 mod slot;
-
 #[cfg(test)]
 mod slot_map;
-
 #[cfg(test)]
 mod slot_range_map;
+#[cfg(test)]
+mod topology;

@@ -1,4 +1,4 @@
-use cluster_map::{NodeAddress, slot_cmd, split_node_address};
+use cluster_map::{NodeAddress, split_node_address};
 use resp_core::ErrorKind;
 use std::rc::RcStr;
 use std::test::Fail;
@@ -153,17 +153,6 @@ fn addresses_are_ordered_by_host_bytes_then_port(rt: HostRuntime) -> Result<(), 
             assert_eq!(rt; first.cmp(&second), i.cmp(&j), "{first} against {second}");
             assert_eq!(rt; first < second, i < j, "whether {first} is below {second}");
         }
-    }
-    Ok(())
-}
-
-#[test]
-fn the_slots_command_has_two_words(rt: HostRuntime) -> Result<(), Fail> {
-    let cmd = slot_cmd(rt.alloc())?;
-    let words: [&[u8]; 2] = [b"CLUSTER", b"SLOTS"];
-    assert_eq!(rt; cmd.len(), 2);
-    for (i, word) in cmd.args().enumerate() {
-        assert_eq!(rt; Some(word), words.get(i).copied(), "word {i}");
     }
     Ok(())
 }

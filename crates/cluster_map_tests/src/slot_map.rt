@@ -55,7 +55,7 @@ fn a_route_has_the_node_that_it_asks_for(rt: HostRuntime) -> Result<(), Fail> {
     for (replicas, slot, addr, pick, wanted) in table {
         let ranges = vec![in alloc; range_of(alloc, 1, 1000, "p:1", replicas)?]?;
         let map = SlotMap::from_slots(alloc, ranges)?;
-        let node = map.slot_addr_for_route(Route::new(slot, addr), pick);
+        let node = map.slot_addr_for_route(Route::new(slot, addr), None, pick);
         assert_eq!(rt;
             node.map(|n| (n.host(), n.port())),
             wanted,
@@ -84,7 +84,7 @@ fn later_ranges_take_the_place_of_those_with_their_end_and_can_hide_others(
         let first = range_of(alloc, 0, 100, "a:1", &[])?;
         let second = range_of(alloc, start, end, "b:1", &[])?;
         let map = SlotMap::from_slots(alloc, vec![in alloc; first, second]?)?;
-        let node = map.slot_addr_for_route(Route::new(slot, SlotAddr::Master), 0);
+        let node = map.slot_addr_for_route(Route::new(slot, SlotAddr::Master), None, 0);
         assert_eq!(rt;
             node.map(|n| n.host()),
             wanted,
@@ -101,7 +101,7 @@ fn a_new_map_is_empty(rt: HostRuntime) {
         ("new", SlotMap::new(rt.alloc())),
         ("default", SlotMap::default(rt.alloc())),
     ] {
-        assert!(rt; map.slot_addr_for_route(route, 0).is_none(), "{what}");
+        assert!(rt; map.slot_addr_for_route(route, None, 0).is_none(), "{what}");
     }
 }
 

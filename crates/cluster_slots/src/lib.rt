@@ -5,6 +5,6 @@ pub mod node_address;
 mod numbers;
 pub mod slot;
 
-pub use node_address::{NodeAddress, slot_cmd, split_node_address};
+pub use node_address::{NodeAddress, split_node_address};
 pub use numbers::{parse_u16, parse_u64};
 pub use slot::{Route, SLOT_SIZE, Slot, SlotAddr};

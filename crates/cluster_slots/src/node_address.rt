@@ -1,4 +1,4 @@
-ghost use Rattle.std.specs.Prelude.{◌≡◌, ◌<◌, ◌^◌, ◌++◌, ◌∷◌, ◌⊎◌, ◌↔◌, [], ℕ, Some, IsTrue, IfOk, IfErr, MatchOption, codes};
+ghost use Rattle.std.specs.Prelude.{◌≡◌, ◌<◌, ◌^◌, ◌++◌, ◌⊎◌, ◌↔◌, [], ℕ, Some, IsTrue, IfOk, IfErr, MatchOption};
 ghost use Rattle.std.specs.Ordering.{as_partial_cmp};
 ghost use Rattle.std.specs.Hash as hashed;
 ghost use Rattle.std.specs.Rc.{rc_str_bytes};
@@ -10,7 +10,7 @@ ghost use Rattle.cluster_slots.specs.Address.{Address, printed, same_address, ad
 ghost use Rattle.cluster_slots.specs.Number.{number_in};
 ghost use Rattle.cluster_slots.specs.AddressText.{IsAddressText, IsNoAddress, IsPlainHost, invalid_node_string};
 
-use resp_core::{Cmd, ErrorKind, RedisError, RedisResult};
+use resp_core::{ErrorKind, RedisError, RedisResult};
 use std::alloc::{AllocError, Global};
 use std::cmp::Ordering;
 use std::fmt;
@@ -223,18 +223,4 @@ fn port_number(text: &str) -> Option<u16>
         Ok(number) => Some(number),
         Err(_) => None,
     }
-}
-
-/// The command that asks a node for the slot map: `CLUSTER SLOTS`.
-///
-/// # Errors
-///
-/// Kind `OutOfMemory` where there is no memory.
-pub fn slot_cmd(alloc: Global) -> RedisResult<Cmd>
-    ensures words { IfOk result (λ cmd. cmd ≡ codes "CLUSTER" ∷ codes "SLOTS" ∷ []) }
-    ensures memory { IfErr result (λ e. e ≡ out_of_memory) }
-{
-    let mut cmd = Cmd::new(alloc);
-    cmd.arg(b"CLUSTER")?.arg(b"SLOTS")?;
-    Ok(cmd)
 }

@@ -1,3 +1,4 @@
+pub mod Leaving
 pub mod Reading
 pub mod Serving
 pub mod Splitting

@@ -1,14 +1,21 @@
 -- Taking one line off the input, and what the lines so far say of its map.
-use Rattle.std.proofs.Common.{◌≡◌, ◌≢◌, ℕ, ◌+◌, ◌-◌, ◌<◌, List, [], ◌∷◌, ◌++◌, map, length, refl, sym, ◌∙◌, ap, true, false, Bool, arith, rules, cond, take, drop, nat_lt, ◌==◌, get_or, suc, zero, Bor, append_assoc, subst}
-use Rattle.std.specs.Prelude.{Option, Some, None, ⊤, IfSome}
+use Rattle.std.proofs.Common.{◌≡◌, ◌≢◌, ℕ, ◌+◌, ◌-◌, ◌<◌, List, [], ◌∷◌, ◌++◌, map, length, refl, sym, ◌∙◌, ap, true, false, Bool, arith, rules, cond, take, drop, nat_lt, ◌==◌, get_or, suc, zero, Bor, append_assoc, subst, length-append, ◌≤◌}
+use Rattle.std.specs.Prelude.{Option, Some, None, Result, Ok, Err, ⊤, IfSome, MatchResult}
+use Rattle.std.specs.Result.{IsErrAnd}
 use Rattle.std.specs.List.{AllZip}
 use Rattle.std.specs.Io.BufRead.{take_through, drop_through, strip_last, first_piece, ends_with_byte, DropsThrough}
 use native.Mathlib.Numerals.{unary_clauses}
 use Rattle.std.proofs.lemmas.List.{append-nil, length_push, take_more, take_rest, map-append}
+use Rattle.std.proofs.lemmas.Slice.Zip.{AllZip-long}
 use Rattle.cluster_map.specs.Address.{Address}
 use Rattle.cluster_map.specs.Nodes.{RangeNodes}
-use Rattle.slotroute_serve.specs.Lines.{onto_first_line, raw_lines, lines_of, line_of, fields_of, until_blank, leading}
+use Rattle.slotroute_serve.specs.Lines.{onto_first_line, raw_lines, lines_of, line_of, fields_of, until_blank, leading, after_lines, after_map, StopsInLine, StopsInMap}
 use Rattle.slotroute_serve.specs.MapLines.{IsNodeField, IsMapLine, IsMap, IsFirstBad}
+use Rattle.slotroute_serve.specs.Faults.{IsLeftAt}
+use Rattle.slotroute_serve.specs.Streams.{Leaves}
+use Rattle.slotroute_serve.specs.declared.fault.Fault.{Fault}
+use Rattle.slotroute_serve.specs.declared.fault.Fault.TheVariants.{Memory}
+use Rattle.slotroute_serve.proofs.Leaving.{after_lines-more, line_read}
 
 -- the bytes before the first line feed
 abbrev before : List ℕ → List ℕ
@@ -17,6 +24,12 @@ before (x ∷ xs) = cond (x == 10) [] (x ∷ before xs)
 
 positive : (n : ℕ) → nat_lt 0 (suc n) ≡ true
 positive n = search (rules)
+
+-- where something was read, something was left to read
+pub something_there : (left : Option (List ℕ)) (line : List ℕ) → IfSome left (λ xs. line ≡ take_through 10 xs) → 0 < length line → IfSome left (λ xs. true ≡ nat_lt 0 (length xs))
+something_there None line e l = tt
+something_there (Some []) line e l = absurd (omega (arith, ap length e))
+something_there (Some (x ∷ xs)) line e l = sym (positive (length xs))
 
 -- a longer list ends as its tail does
 ends-cons : (x y : ℕ) (ys : List ℕ) → ends_with_byte 10 (x ∷ y ∷ ys) ≡ ends_with_byte 10 (y ∷ ys)
@@ -50,7 +63,7 @@ raw_lines-first x (y ∷ ys) =
 lines_of-first : (x : ℕ) (xs : List ℕ) → lines_of (x ∷ xs) ≡ line_of (x ∷ xs) ∷ lines_of (drop_through 10 (x ∷ xs))
 lines_of-first x xs = ap (map (strip_last 13)) (raw_lines-first x xs) ∙ ap (λ p. strip_last 13 p ∷ lines_of (drop_through 10 (x ∷ xs))) (sym (first_piece-before (x ∷ xs)))
 
--- the leading lines go on behind a first line with fields, and end at one with none
+-- the leading lines go on after a first line with fields, and end at one with none
 leading-more : (x : ℕ) (xs : List ℕ) (f : List ℕ) (fs : List (List ℕ)) → f ∷ fs ≡ fields_of (line_of (x ∷ xs)) → leading (x ∷ xs) ≡ (f ∷ fs) ∷ leading (drop_through 10 (x ∷ xs))
 leading-more x xs f fs e =
     ap (λ ls. until_blank (map fields_of ls)) (lines_of-first x xs) ∙ ap (λ g. until_blank (g ∷ map fields_of (lines_of (drop_through 10 (x ∷ xs))))) (sym e)
@@ -60,11 +73,11 @@ leading-none x xs e =
     ap (λ ls. until_blank (map fields_of ls)) (lines_of-first x xs) ∙ ap (λ g. until_blank (g ∷ map fields_of (lines_of (drop_through 10 (x ∷ xs))))) (sym e)
 
 -- what is left of a known input, after lines that are the map lines of these ranges
-abbrev pub StillReads : Option (List ℕ) → Option (List ℕ) → ℕ → List RangeNodes → Type 0
-StillReads None left number ranges = ⊤
-StillReads (Some input) None number ranges = ⊥
-StillReads (Some input) (Some rest) number ranges =
-    (front : List (List (List ℕ))) × (leading input ≡ front ++ leading rest) × IsMap front ranges × (number ≡ length front)
+abbrev pub StillReads : Option (List ℕ) → Option (List ℕ) → List RangeNodes → Type 0
+StillReads None left ranges = ⊤
+StillReads (Some input) None ranges = ⊥
+StillReads (Some input) (Some rest) ranges =
+    (front : List (List (List ℕ))) × (leading input ≡ front ++ leading rest) × IsMap front ranges × (rest ≡ after_lines (length front) input)
 
 -- what `next_line` says of what was left before it
 pub record HasLine (left : Option (List ℕ)) (line : List ℕ) : Type 0 where
@@ -81,42 +94,94 @@ ended input front rest ranges e n m =
 true≢false : true ≢ false
 true≢false = search rules
 
+-- what follows the map, where the lines so far are all that lead
+map_read : (input rest : List ℕ) (front more : List (List (List ℕ))) → leading input ≡ front ++ more → more ≡ [] → rest ≡ after_lines (length front) input → drop_through 10 rest ≡ after_map input
+map_read input rest front more e n r =
+    let whole : leading input ≡ front = e ∙ ap (λ m. front ++ m) n ∙ append-nil front in
+    ap (drop_through 10) r ∙ sym (after_lines-more (length front) input) ∙ ap (λ lines. after_lines (length lines + 1) input) (sym whole)
+
 -- at the end of the input
-pub at_end : (old left : Option (List ℕ)) (number : ℕ) (ranges : List RangeNodes) → StillReads old left number ranges → IfSome left (λ xs. false ≡ nat_lt 0 (length xs)) → IfSome old (λ input. IsMap (leading input) ranges)
-at_end None left number ranges s e = tt
-at_end (Some input) None number ranges s e = absurd s
-at_end (Some input) (Some []) number ranges (front, split, m, n) e = ended input front [] ranges split refl m
-at_end (Some input) (Some (x ∷ xs)) number ranges s e = absurd (true≢false (sym (e ∙ positive (length xs))))
+pub at_end : (old left : Option (List ℕ)) (ranges : List RangeNodes) → StillReads old left ranges → IfSome left (λ xs. false ≡ nat_lt 0 (length xs)) → IfSome old (λ input. IsMap (leading input) ranges)
+at_end None left ranges s e = tt
+at_end (Some input) None ranges s e = absurd s
+at_end (Some input) (Some []) ranges (front, split, m, r) e = ended input front [] ranges split refl m
+at_end (Some input) (Some (x ∷ xs)) ranges s e = absurd (true≢false (sym (e ∙ positive (length xs))))
+
+pub left_at_end : (old left new : Option (List ℕ)) (ranges : List RangeNodes) → StillReads old left ranges → IfSome left (λ xs. false ≡ nat_lt 0 (length xs)) → DropsThrough left new 10 → Leaves old new (λ input rest. rest ≡ after_map input)
+left_at_end None left new ranges s e d = tt
+left_at_end (Some input) None new ranges s e d = absurd s
+left_at_end (Some input) (Some []) new ranges (front, split, m, r) e d = rw d (map_read input [] front [] split refl r)
+left_at_end (Some input) (Some (x ∷ xs)) new ranges s e d = absurd (true≢false (sym (e ∙ positive (length xs))))
 
 -- at a line with no field
-pub at_blank : (old left : Option (List ℕ)) (number : ℕ) (ranges : List RangeNodes) (line : List ℕ) (fields : List (List ℕ)) → StillReads old left number ranges → HasLine left line → fields ≡ fields_of line → fields ≡ []
+pub at_blank : (old left : Option (List ℕ)) (ranges : List RangeNodes) (line : List ℕ) (fields : List (List ℕ)) → StillReads old left ranges → HasLine left line → fields ≡ fields_of line → fields ≡ []
     → IfSome old (λ input. IsMap (leading input) ranges)
-at_blank None left number ranges line fields s h e b = tt
-at_blank (Some input) None number ranges line fields s h e b = absurd s
-at_blank (Some input) (Some []) number ranges line fields s h e b = absurd (true≢false h.there)
-at_blank (Some input) (Some (x ∷ xs)) number ranges line fields (front, split, m, n) h e b =
+at_blank None left ranges line fields s h e b = tt
+at_blank (Some input) None ranges line fields s h e b = absurd s
+at_blank (Some input) (Some []) ranges line fields s h e b = absurd (true≢false h.there)
+at_blank (Some input) (Some (x ∷ xs)) ranges line fields (front, split, m, r) h e b =
     ended input front (leading (x ∷ xs)) ranges split (leading-none x xs (sym b ∙ e ∙ ap fields_of h.text)) m
+
+pub left_at_blank : (old left new : Option (List ℕ)) (ranges : List RangeNodes) (line : List ℕ) (fields : List (List ℕ)) → StillReads old left ranges → HasLine left line → fields ≡ fields_of line → fields ≡ []
+    → DropsThrough left new 10 → Leaves old new (λ input rest. rest ≡ after_map input)
+left_at_blank None left new ranges line fields s h e b d = tt
+left_at_blank (Some input) None new ranges line fields s h e b d = absurd s
+left_at_blank (Some input) (Some []) new ranges line fields s h e b d = absurd (true≢false h.there)
+left_at_blank (Some input) (Some (x ∷ xs)) new ranges line fields (front, split, m, r) h e b d =
+    rw d (map_read input (x ∷ xs) front (leading (x ∷ xs)) split (leading-none x xs (sym b ∙ e ∙ ap fields_of h.text)) r)
 
 -- at a line with fields, of which the leading lines have the fields and go on
 split_at_line : (input : List ℕ) (x : ℕ) (xs : List ℕ) (front : List (List (List ℕ))) (line f : List ℕ) (fs : List (List ℕ)) → leading input ≡ front ++ leading (x ∷ xs) → line ≡ line_of (x ∷ xs) → f ∷ fs ≡ fields_of line
     → leading input ≡ front ++ (f ∷ fs) ∷ leading (drop_through 10 (x ∷ xs))
 split_at_line input x xs front line f fs split text e = split ∙ ap (λ ls. front ++ ls) (leading-more x xs f fs (e ∙ ap fields_of text))
 
-pub at_bad : (old left : Option (List ℕ)) (number : ℕ) (ranges : List RangeNodes) (line : List ℕ) (fields : List (List ℕ)) → StillReads old left number ranges → HasLine left line → fields ≡ fields_of line → fields ≢ []
-    → ((range : RangeNodes) → ¬ (IsMapLine fields range)) → IfSome old (λ input. IsFirstBad (leading input) (number + 1))
-at_bad None left number ranges line fields s h e b lacks = tt
-at_bad (Some input) None number ranges line fields s h e b lacks = absurd s
-at_bad (Some input) (Some []) number ranges line fields s h e b lacks = absurd (true≢false h.there)
-at_bad (Some input) (Some (x ∷ xs)) number ranges line [] s h e b lacks = absurd (b refl)
-at_bad (Some input) (Some (x ∷ xs)) number ranges line (f ∷ fs) (front, split, m, n) h e b lacks = record {
+-- a map has a range for each line
+counts : (front : List (List (List ℕ))) (ranges : List RangeNodes) → IsMap front ranges → length ranges + 1 ≡ length front + 1
+counts front ranges m = ap (λ n. n + 1) (AllZip-long IsMapLine front ranges m)
+
+pub at_bad : (old left : Option (List ℕ)) (ranges : List RangeNodes) (line : List ℕ) (fields : List (List ℕ)) → StillReads old left ranges → HasLine left line → fields ≡ fields_of line → fields ≢ []
+    → ((range : RangeNodes) → ¬ (IsMapLine fields range)) → IfSome old (λ input. IsFirstBad (leading input) (length ranges + 1))
+at_bad None left ranges line fields s h e b lacks = tt
+at_bad (Some input) None ranges line fields s h e b lacks = absurd s
+at_bad (Some input) (Some []) ranges line fields s h e b lacks = absurd (true≢false h.there)
+at_bad (Some input) (Some (x ∷ xs)) ranges line [] s h e b lacks = absurd (b refl)
+at_bad (Some input) (Some (x ∷ xs)) ranges line (f ∷ fs) (front, split, m, r) h e b lacks = record {
   good = front;
   bad = f ∷ fs;
   later = leading (drop_through 10 (x ∷ xs));
   split = split_at_line input x xs front line f fs split h.text e;
   before = (ranges, m);
   there = lacks;
-  counted = ap (λ k. k + 1) n;
+  counted = counts front ranges m;
 }
+
+pub left_at_bad : (old left new : Option (List ℕ)) (ranges : List RangeNodes) → StillReads old left ranges → DropsThrough left new 10 → Leaves old new (λ input rest. rest ≡ after_lines (length ranges + 1) input)
+left_at_bad None left new ranges s d = tt
+left_at_bad (Some input) None new ranges s d = absurd s
+left_at_bad (Some input) (Some xs) new ranges (front, split, m, r) d =
+    rw (d, counts front ranges m) (ap (drop_through 10) r ∙ sym (after_lines-more (length front) input))
+
+-- where the reading stopped in a line, or after it
+within : (input : List ℕ) (front more : List (List (List ℕ))) → leading input ≡ front ++ more → length front ≤ length (leading input)
+within input front more e = rw (e, length-append) (omega arith)
+
+pub left_in_line : (old left new : Option (List ℕ)) (ranges : List RangeNodes) → StillReads old left ranges → Leaves left new StopsInLine → Leaves old new StopsInMap
+left_in_line None left new ranges s h = tt
+left_in_line (Some input) None new ranges s h = absurd s
+left_in_line (Some input) (Some xs) None ranges s h = absurd h
+left_in_line (Some input) (Some xs) (Some ys) ranges (front, split, m, r) h =
+    record { count = length front; within = within input front (leading xs) split; stops = subst (λ zs. StopsInLine zs ys) r h }
+
+pub left_after_line : (old left new : Option (List ℕ)) (ranges : List RangeNodes) → StillReads old left ranges → DropsThrough left new 10 → Leaves old new StopsInMap
+left_after_line None left new ranges s d = tt
+left_after_line (Some input) None new ranges s d = absurd s
+left_after_line (Some input) (Some xs) new ranges s d = rw d (left_in_line (Some input) (Some xs) (Some (drop_through 10 xs)) ranges s (line_read xs))
+
+-- want of memory after a line was read
+pub no_memory_after_line : {T : Type 0} (r : Result T Fault) (old left new : Option (List ℕ)) (ranges : List RangeNodes) → IsErrAnd r (λ e. e ≡ Memory) → StillReads old left ranges → DropsThrough left new 10
+    → Leaves old new (λ input rest. MatchResult r (λ _. rest ≡ after_map input) (IsLeftAt input rest))
+no_memory_after_line (Ok x) old left new ranges is s d = absurd is
+no_memory_after_line (Err e) old left new ranges is s d = rw is (left_after_line old left new ranges s d)
 
 -- one more pair at the end
 pub AllZip-more : {A B : Type 0} (R : A → B → Type 0) (xs : List A) (ys : List B) (x : A) (y : B) → AllZip R xs ys → R x y → AllZip R (xs ++ x ∷ []) (ys ++ y ∷ [])
@@ -125,18 +190,18 @@ AllZip-more R [] (b ∷ ys) x y h r = absurd h
 AllZip-more R (a ∷ xs) [] x y h r = absurd h
 AllZip-more R (a ∷ xs) (b ∷ ys) x y h r = (h.0, AllZip-more R xs ys x y h.1 r)
 
-pub at_good : (old left new : Option (List ℕ)) (number : ℕ) (ranges : List RangeNodes) (line : List ℕ) (fields : List (List ℕ)) (range : RangeNodes) → StillReads old left number ranges → HasLine left line → fields ≡ fields_of line → fields ≢ []
-    → IsMapLine fields range → DropsThrough left new 10 → StillReads old new (number + 1) (ranges ++ range ∷ [])
-at_good None left new number ranges line fields range s h e b g d = tt
-at_good (Some input) None new number ranges line fields range s h e b g d = absurd s
-at_good (Some input) (Some []) new number ranges line fields range s h e b g d = absurd (true≢false h.there)
-at_good (Some input) (Some (x ∷ xs)) new number ranges line [] range s h e b g d = absurd (b refl)
-at_good (Some input) (Some (x ∷ xs)) new number ranges line (f ∷ fs) range (front, split, m, n) h e b g d =
+pub at_good : (old left new : Option (List ℕ)) (ranges : List RangeNodes) (line : List ℕ) (fields : List (List ℕ)) (range : RangeNodes) → StillReads old left ranges → HasLine left line → fields ≡ fields_of line → fields ≢ []
+    → IsMapLine fields range → DropsThrough left new 10 → StillReads old new (ranges ++ range ∷ [])
+at_good None left new ranges line fields range s h e b g d = tt
+at_good (Some input) None new ranges line fields range s h e b g d = absurd s
+at_good (Some input) (Some []) new ranges line fields range s h e b g d = absurd (true≢false h.there)
+at_good (Some input) (Some (x ∷ xs)) new ranges line [] range s h e b g d = absurd (b refl)
+at_good (Some input) (Some (x ∷ xs)) new ranges line (f ∷ fs) range (front, split, m, r) h e b g d =
     rw d (
       front ++ (f ∷ fs) ∷ [],
       split_at_line input x xs front line f fs split h.text e ∙ sym (append_assoc front ((f ∷ fs) ∷ []) (leading (drop_through 10 (x ∷ xs)))),
       AllZip-more IsMapLine front ranges (f ∷ fs) range m g,
-      ap (λ k. k + 1) n ∙ sym (length_push front (f ∷ fs)),
+      rw (length_push front (f ∷ fs)) (ap (drop_through 10) r ∙ sym (after_lines-more (length front) input)),
     )
 
 -- A pair of lists where one element has no partner.

@@ -1,7 +1,6 @@
 -- What the words and the input call for.
-use Rattle.std.proofs.Common.{◌≡◌, ◌≢◌, ℕ, map, string_bytes, Bor, String, Global, Vec, append_assoc, decimal, List, [], ◌∷◌, ◌++◌, refl, sym, ◌∙◌, subst, rules, arith, length, take, inl, inr}
-use Rattle.std.proofs.lemmas.List.{take_all}
-use Rattle.std.specs.Prelude.{Option, Some, None, Result, Ok, Err, OnOk, OnErr, IfSome, MatchResult, codes}
+use Rattle.std.proofs.Common.{◌≡◌, ◌≢◌, ℕ, map, string_bytes, Bor, String, Global, Vec, append_assoc, decimal, List, [], ◌∷◌, ◌++◌, refl, subst, rules, take, inl, inr, ◌⊎◌}
+use Rattle.std.specs.Prelude.{Option, Some, None, Result, Ok, Err, OnOk, OnErr, IfErr, IfSome, MatchResult, codes, ⊤}
 use Rattle.std.specs.Result.{IsErrAnd}
 use Rattle.std.specs.Io.KnownBytes.{Appends}
 use Rattle.cluster_map.specs.Address.{Address, printed}
@@ -12,13 +11,15 @@ use Rattle.cluster_map.specs.RouteNode.{IsAsked, IsNodeOfRoute}
 use Rattle.cluster_map.specs.RouteTo.{RouteTo}
 use Rattle.cluster_slots.specs.declared.slot.SlotAddr.{SlotAddr}
 use Rattle.cluster_slots.specs.declared.slot.SlotAddr.TheVariants.{Master}
-use Rattle.slotroute_serve.specs.Lines.{leading}
+use Rattle.slotroute_serve.specs.Lines.{leading, after_map}
 use Rattle.slotroute_serve.specs.MapLines.{IsMap}
-use Rattle.slotroute_serve.specs.Faults.{fault_line, IsNoMap, IsNoSplit}
+use Rattle.slotroute_serve.specs.Faults.{fault_line, IsNoMap, IsNoSplit, IsCaused, IsLeftAt}
 use Rattle.slotroute_serve.specs.Output.{Output, IsAnswer, IsNodeAnswer, IsRequest, split_words, slot_line, usage_line, bad_map_line, not_multi_key_line, usage, bad_map, not_multi_key, answer, served, unserved, node_request, split_request, node_answer, split_answer}
 use Rattle.slotroute_serve.specs.Requests.{Asks, IsNoAnswer}
 use Rattle.slotroute_serve.specs.Split.{IsSplitAnswer}
-use Rattle.slotroute_serve.specs.Serves.{Answers, Explains, IsBadMapLine, TellsOf, Reports, Serves}
+use Rattle.slotroute_serve.specs.Serves.{Answers, Answered, RanOutOfMemory, Explains, IsBadMapLine, IsTold, TellsOf, Reports, Serves}
+use Rattle.slotroute_serve.specs.Streams.{Leaves}
+use Rattle.slotroute_serve.proofs.Leaving.{left_after_map}
 use Rattle.slotroute_serve.specs.declared.fault.Fault.{Fault}
 use Rattle.slotroute_serve.specs.declared.fault.Fault.TheVariants as fault
 use Rattle.slotroute_serve.specs.declared.request.Request.{Request}
@@ -53,7 +54,7 @@ nothing None = tt
 nothing (Some x) = search rules
 
 -- The faults and the answer of a run.
-pub usage_fault : (words : List (List ℕ)) (input out : Option (List ℕ)) → ¬ (IsRequest words) → Explains words input out out fault.Usage
+pub usage_fault : (words : List (List ℕ)) (input out : Option (List ℕ)) → ¬ (IsRequest words) → Explains words input input out out fault.Usage
 usage_fault words None out h = (nothing out, tt)
 usage_fault words (Some bytes) out h = (nothing out, usage words bytes h)
 
@@ -61,93 +62,189 @@ pub is_request : (words : List (List ℕ)) (r : Request) → Asks words r → Is
 is_request words (Node key) a = rw a (node_request key.now)
 is_request words (Split command) (a, some) = rw a (split_request (map string_bytes command.now) some)
 
-no_map_of : (words : List (List ℕ)) (input out : Option (List ℕ)) (e : Fault) → IsRequest words → IfSome input (λ bytes. IsNoMap (leading bytes) e) → Explains words input out out e
-no_map_of words input out fault.Memory w h = (nothing out, w)
-no_map_of words input out fault.Input w h = (nothing out, w)
-no_map_of words None out (fault.BadMapLine n) w h = (nothing out, tt)
-no_map_of words (Some bytes) out (fault.BadMapLine n) w h = (nothing out, bad_map words bytes n w h)
-no_map_of words None out fault.Usage w h = (nothing out, tt)
-no_map_of words (Some bytes) out fault.Usage w h = absurd h
-no_map_of words None out fault.NotMultiKey w h = (nothing out, tt)
-no_map_of words (Some bytes) out fault.NotMultiKey w h = absurd h
-no_map_of words None out fault.Output w h = ([], nothing out, tt)
-no_map_of words (Some bytes) out fault.Output w h = absurd h
+-- a request reads, so nothing is said of a reader that is not touched
+pub touched : {S : Type 0} (words : List (List ℕ)) (old new : S) → IsRequest words → ¬ (IsRequest words) → new ≡ old
+touched words old new w other = absurd (other w)
 
-pub no_map : (words : List (List ℕ)) (input out : Option (List ℕ)) (e : Fault) (r : Result ℕ Fault) → IsRequest words → IfSome input (λ bytes. IsNoMap (leading bytes) e) → IsErrAnd r (λ x. x ≡ e) → MatchResult r (Answers words input out out) (Explains words input out out)
-no_map words input out e (Ok x) w h is = absurd is
-no_map words input out e (Err x) w h is = rw is (no_map_of words input out e w h)
+no_map_of : (words : List (List ℕ)) (input left out : Option (List ℕ)) (e : Fault) → IsRequest words → IfSome input (λ bytes. IsNoMap (leading bytes) e) → Leaves input left (λ bytes rest. IsLeftAt bytes rest e) → Explains words input left out out e
+no_map_of words input left out fault.Memory w h l = (nothing out, w, l)
+no_map_of words input left out fault.Input w h l = (nothing out, w, l)
+no_map_of words None left out (fault.BadMapLine n) w h l = (nothing out, tt)
+no_map_of words (Some bytes) None out (fault.BadMapLine n) w h l = absurd l
+no_map_of words (Some bytes) (Some rest) out (fault.BadMapLine n) w h l = (nothing out, rw l (bad_map words bytes n w h))
+no_map_of words None left out fault.Usage w h l = (nothing out, tt)
+no_map_of words (Some bytes) left out fault.Usage w h l = absurd h
+no_map_of words None left out fault.NotMultiKey w h l = (nothing out, tt)
+no_map_of words (Some bytes) left out fault.NotMultiKey w h l = absurd h
+no_map_of words None left out fault.Output w h l = ([], nothing out, tt)
+no_map_of words (Some bytes) left out fault.Output w h l = absurd h
 
-pub no_memory : (words : List (List ℕ)) (input out : Option (List ℕ)) (r : Result ℕ Fault) → IsRequest words → IsErrAnd r (λ x. x ≡ fault.Memory) → MatchResult r (Answers words input out out) (Explains words input out out)
-no_memory words input out (Ok x) w is = absurd is
-no_memory words input out (Err x) w is = rw is (nothing out, w)
+pub no_map : (words : List (List ℕ)) (input left out : Option (List ℕ)) (e : Fault) (r : Result ℕ Fault) → IsRequest words → IfSome input (λ bytes. IsNoMap (leading bytes) e) → Leaves input left (λ bytes rest. IsLeftAt bytes rest e)
+    → IsErrAnd r (λ x. x ≡ e) → MatchResult r (Answers words input left out out) (Explains words input left out out)
+no_map words input left out e (Ok x) w h l is = absurd is
+no_map words input left out e (Err x) w h l is = rw is (no_map_of words input left out e w h l)
+
+-- a fault of the map that is caused
+cause_of : (reads writes : Type 0) (e : Fault) → IsCaused reads ⊥ e → IsCaused reads writes e
+cause_of reads writes fault.Usage h = tt
+cause_of reads writes (fault.BadMapLine n) h = tt
+cause_of reads writes fault.NotMultiKey h = tt
+cause_of reads writes fault.Memory h = tt
+cause_of reads writes fault.Input h = h
+cause_of reads writes fault.Output h = absurd h
+
+pub caused_by_map : (reads writes : Type 0) (e : Fault) (r : Result ℕ Fault) → IsCaused reads ⊥ e → IsErrAnd r (λ x. x ≡ e) → IfErr r (IsCaused reads writes)
+caused_by_map reads writes e (Ok x) h is = absurd is
+caused_by_map reads writes e (Err x) h is = rw is (cause_of reads writes e h)
+
+pub no_memory : (words : List (List ℕ)) (input left out : Option (List ℕ)) (r : Result ℕ Fault) → IsRequest words → Leaves input left (λ bytes rest. rest ≡ after_map bytes) → IsErrAnd r (λ x. x ≡ fault.Memory)
+    → MatchResult r (Answers words input left out out) (Explains words input left out out)
+no_memory words input left out (Ok x) w l is = absurd is
+no_memory words input left out (Err x) w l is = rw is (nothing out, w, left_after_map input left l)
 
 -- what explains that a command has no lines
-no_split_of : (command : List (List ℕ)) (input out : Option (List ℕ)) (ranges : List RangeNodes) (e : Fault) → command ≢ [] → IfSome input (λ bytes. IsMap (leading bytes) ranges) → IsNoSplit command e → Explains (split_words command) input out out e
-no_split_of command input out ranges fault.Memory some m h = (nothing out, split_request command some)
-no_split_of command None out ranges fault.NotMultiKey some m h = (nothing out, tt)
-no_split_of command (Some bytes) out ranges fault.NotMultiKey some m h = (nothing out, not_multi_key command bytes ranges some m h)
-no_split_of command input out ranges fault.Usage some m h = absurd h
-no_split_of command input out ranges (fault.BadMapLine n) some m h = absurd h
-no_split_of command input out ranges fault.Input some m h = absurd h
-no_split_of command input out ranges fault.Output some m h = absurd h
+no_split_of : (command : List (List ℕ)) (input left out : Option (List ℕ)) (ranges : List RangeNodes) (e : Fault) → command ≢ [] → IfSome input (λ bytes. IsMap (leading bytes) ranges) → Leaves input left (λ bytes rest. rest ≡ after_map bytes) → IsNoSplit command e
+    → Explains (split_words command) input left out out e
+no_split_of command input left out ranges fault.Memory some m l h = (nothing out, split_request command some, left_after_map input left l)
+no_split_of command None left out ranges fault.NotMultiKey some m l h = (nothing out, tt)
+no_split_of command (Some bytes) None out ranges fault.NotMultiKey some m l h = absurd l
+no_split_of command (Some bytes) (Some rest) out ranges fault.NotMultiKey some m l h = (nothing out, rw l (not_multi_key command bytes ranges some m h))
+no_split_of command input left out ranges fault.Usage some m l h = absurd h
+no_split_of command input left out ranges (fault.BadMapLine n) some m l h = absurd h
+no_split_of command input left out ranges fault.Input some m l h = absurd h
+no_split_of command input left out ranges fault.Output some m l h = absurd h
 
-no_answer_of : (words : List (List ℕ)) (asked : Request) (input out : Option (List ℕ)) (ranges : List RangeNodes) (e : Fault) → Asks words asked → IfSome input (λ bytes. IsMap (leading bytes) ranges) → IsNoAnswer asked e → Explains words input out out e
-no_answer_of words (Node key) input out ranges e a m h = rw (a, h) (nothing out, node_request key.now)
-no_answer_of words (Split command) input out ranges e (a, some) m h = rw a (no_split_of (map string_bytes command.now) input out ranges e some m h)
+no_answer_of : (words : List (List ℕ)) (asked : Request) (input left out : Option (List ℕ)) (ranges : List RangeNodes) (e : Fault) → Asks words asked → IfSome input (λ bytes. IsMap (leading bytes) ranges) → Leaves input left (λ bytes rest. rest ≡ after_map bytes) → IsNoAnswer asked e
+    → Explains words input left out out e
+no_answer_of words (Node key) input left out ranges e a m l h = rw (a, h) (nothing out, node_request key.now, left_after_map input left l)
+no_answer_of words (Split command) input left out ranges e (a, some) m l h = rw a (no_split_of (map string_bytes command.now) input left out ranges e some m l h)
 
-pub no_answer : (words : List (List ℕ)) (asked : Request) (input out : Option (List ℕ)) (ranges : List RangeNodes) (e : Fault) (r : Result ℕ Fault) → Asks words asked → IfSome input (λ bytes. IsMap (leading bytes) ranges) → IsNoAnswer asked e → IsErrAnd r (λ x. x ≡ e)
-    → MatchResult r (Answers words input out out) (Explains words input out out)
-no_answer words asked input out ranges e (Ok x) a m h is = absurd is
-no_answer words asked input out ranges e (Err x) a m h is = rw is (no_answer_of words asked input out ranges e a m h)
+pub no_answer : (words : List (List ℕ)) (asked : Request) (input left out : Option (List ℕ)) (ranges : List RangeNodes) (e : Fault) (r : Result ℕ Fault) → Asks words asked → IfSome input (λ bytes. IsMap (leading bytes) ranges) → Leaves input left (λ bytes rest. rest ≡ after_map bytes) → IsNoAnswer asked e
+    → IsErrAnd r (λ x. x ≡ e) → MatchResult r (Answers words input left out out) (Explains words input left out out)
+no_answer words asked input left out ranges e (Ok x) a m l h is = absurd is
+no_answer words asked input left out ranges e (Err x) a m l h is = rw is (no_answer_of words asked input left out ranges e a m l h)
 
-pub answered : (words : List (List ℕ)) (input out new : Option (List ℕ)) (ranges : List RangeNodes) (text : List ℕ) (status : ℕ) → IfSome input (λ bytes. IsMap (leading bytes) ranges) → IsAnswer (filled [] ranges) words text status → Appends out new text
-    → Answers words input out new status
-answered words None out new ranges text status m a l = (text, l, tt)
-answered words (Some bytes) out new ranges text status m a l = (text, l, answer words bytes text status ranges m a)
+-- a want of lines is not that of a stream
+cause_of_split : (reads writes : Type 0) (command : List (List ℕ)) (e : Fault) → IsNoSplit command e → IsCaused reads writes e
+cause_of_split reads writes command fault.Usage h = tt
+cause_of_split reads writes command (fault.BadMapLine n) h = tt
+cause_of_split reads writes command fault.NotMultiKey h = tt
+cause_of_split reads writes command fault.Memory h = tt
+cause_of_split reads writes command fault.Input h = absurd h
+cause_of_split reads writes command fault.Output h = absurd h
+
+cause_of_answer : (reads writes : Type 0) (asked : Request) (e : Fault) → IsNoAnswer asked e → IsCaused reads writes e
+cause_of_answer reads writes (Node key) e h = rw h tt
+cause_of_answer reads writes (Split command) e h = cause_of_split reads writes (map string_bytes command.now) e h
+
+pub caused_by_answer : (reads writes : Type 0) (asked : Request) (e : Fault) (r : Result ℕ Fault) → IsNoAnswer asked e → IsErrAnd r (λ x. x ≡ e) → IfErr r (IsCaused reads writes)
+caused_by_answer reads writes asked e (Ok x) h is = absurd is
+caused_by_answer reads writes asked e (Err x) h is = rw is (cause_of_answer reads writes asked e h)
+
+pub answered : (words : List (List ℕ)) (input left out new : Option (List ℕ)) (ranges : List RangeNodes) (text : List ℕ) (status : ℕ) → IfSome input (λ bytes. IsMap (leading bytes) ranges) → Leaves input left (λ bytes rest. rest ≡ after_map bytes)
+    → IsAnswer (filled [] ranges) words text status → Appends out new text → Answers words input left out new status
+answered words None left out new ranges text status m l a t = (text, t, tt)
+answered words (Some bytes) None out new ranges text status m l a t = absurd l
+answered words (Some bytes) (Some rest) out new ranges text status m l a t = (text, t, rw l (answer words bytes text status ranges m a))
 
 -- a beginning of the answer was written
-begun : (words : List (List ℕ)) (input out new : Option (List ℕ)) (ranges : List RangeNodes) (text : List ℕ) (status k : ℕ) → IfSome input (λ bytes. IsMap (leading bytes) ranges) → IsAnswer (filled [] ranges) words text status
-    → Appends out new (take k text) → Explains words input out new fault.Output
-begun words None out new ranges text status k m a l = (take k text, l, tt)
-begun words (Some bytes) out new ranges text status k m a l =
-    (take k text, l, record { whole = text; status = status; called_for = answer words bytes text status ranges m a; count = k; begins = refl })
+begun : (words : List (List ℕ)) (input left out new : Option (List ℕ)) (ranges : List RangeNodes) (text : List ℕ) (status k : ℕ) → IfSome input (λ bytes. IsMap (leading bytes) ranges) → Leaves input left (λ bytes rest. rest ≡ after_map bytes)
+    → IsAnswer (filled [] ranges) words text status → Appends out new (take k text) → Explains words input left out new fault.Output
+begun words None left out new ranges text status k m l a t = (take k text, t, tt)
+begun words (Some bytes) None out new ranges text status k m l a t = absurd l
+begun words (Some bytes) (Some rest) out new ranges text status k m l a t =
+    (take k text, t, rw l record { whole = text; status = status; called_for = answer words bytes text status ranges m a; count = k; begins = refl })
 
-pub not_written : (words : List (List ℕ)) (input out new : Option (List ℕ)) (ranges : List RangeNodes) (text : List ℕ) (status k : ℕ) (e : Fault) (r : Result ℕ Fault) → IfSome input (λ bytes. IsMap (leading bytes) ranges)
-    → IsAnswer (filled [] ranges) words text status → Appends out new (take k text) → e ≡ fault.Output → IsErrAnd r (λ x. x ≡ e) → MatchResult r (Answers words input out new) (Explains words input out new)
-not_written words input out new ranges text status k e (Ok x) m a l f is = absurd is
-not_written words input out new ranges text status k e (Err x) m a l f is = rw (is, f) (begun words input out new ranges text status k m a l)
+pub not_written : (words : List (List ℕ)) (input left out new : Option (List ℕ)) (ranges : List RangeNodes) (text : List ℕ) (status k : ℕ) (e : Fault) (r : Result ℕ Fault) → IfSome input (λ bytes. IsMap (leading bytes) ranges)
+    → Leaves input left (λ bytes rest. rest ≡ after_map bytes) → IsAnswer (filled [] ranges) words text status → Appends out new (take k text) → e ≡ fault.Output → IsErrAnd r (λ x. x ≡ e) → MatchResult r (Answers words input left out new) (Explains words input left out new)
+not_written words input left out new ranges text status k e (Ok x) m l a t f is = absurd is
+not_written words input left out new ranges text status k e (Err x) m l a t f is = rw (is, f) (begun words input left out new ranges text status k m l a t)
+
+pub caused_by_output : (reads writes : Type 0) (e : Fault) (r : Result ℕ Fault) → e ≡ fault.Output → writes → IsErrAnd r (λ x. x ≡ e) → IfErr r (IsCaused reads writes)
+caused_by_output reads writes e (Ok x) f h is = absurd is
+caused_by_output reads writes e (Err x) f h is = rw (is, f) h
 
 -- The report of a fault.
--- the line of a fault was written, or a beginning of it
-pub reported_line : (old new : Option (List ℕ)) (e : Fault) (text : List ℕ) (r : Result (Unit {0}) Fault) → text ≡ fault_line e → OnOk r (Appends old new text) → OnErr r ((k : ℕ) × Appends old new (take k text)) → Reports old new e
-reported_line old new e text (Ok x) t whole part = (text, whole, inl t)
-reported_line old new e text (Err x) t whole (k, part) = (take k (fault_line e), rw t at part, inr (k, inl refl))
+-- a line was written, or a beginning of it
+told : (failed : Type 0) (old new : Option (List ℕ)) (text line : List ℕ) (r : Result (Unit {0}) Fault) → text ≡ line → OnOk r (Appends old new text) → OnErr r ((k : ℕ) × Appends old new (take k text)) → OnErr r failed
+    → (errs : List ℕ) × Appends old new errs × IsTold failed errs line
+told failed old new text line (Ok x) t whole part f = (text, whole, inl t)
+told failed old new text line (Err x) t whole (k, part) f = (take k line, rw t at part, inr (f, (k, refl)))
+
+pub reported_line : (failed : Type 0) (old new : Option (List ℕ)) (e : Fault) (text : List ℕ) (r : Result (Unit {0}) Fault) → text ≡ fault_line e → OnOk r (Appends old new text) → OnErr r ((k : ℕ) × Appends old new (take k text)) → OnErr r failed → Reports failed old new e
+reported_line failed old new e text r t whole part f = let (errs, grown, is) = told failed old new text (fault_line e) r t whole part f in (errs, grown, inl is)
 
 -- want of memory was reported in the place of a bad map line
-pub reported_memory : (old new : Option (List ℕ)) (e : Fault) (text : List ℕ) (r : Result (Unit {0}) Fault) → IsBadMapLine e → text ≡ fault_line fault.Memory → OnOk r (Appends old new text) → OnErr r ((k : ℕ) × Appends old new (take k text)) → Reports old new e
-reported_memory old new e text (Ok x) b t whole part =
-    (text, whole, inr (length text, inr (b, t ∙ sym (take_all (length text) (fault_line fault.Memory) (rw t (omega arith))))))
-reported_memory old new e text (Err x) b t whole (k, part) = (take k (fault_line fault.Memory), rw t at part, inr (k, inr (b, refl)))
+pub reported_memory : (failed : Type 0) (old new : Option (List ℕ)) (e : Fault) (text : List ℕ) (r : Result (Unit {0}) Fault) → IsBadMapLine e → text ≡ fault_line fault.Memory → OnOk r (Appends old new text) → OnErr r ((k : ℕ) × Appends old new (take k text)) → OnErr r failed
+    → Reports failed old new e
+reported_memory failed old new e text r b t whole part f = let (errs, grown, is) = told failed old new text (fault_line fault.Memory) r t whole part f in (errs, grown, inr (b, is))
 
 -- The run as a whole.
-called_as : (words : List (List ℕ)) (input : Option (List ℕ)) (errs line : List ℕ) → errs ≡ line → IfSome input (λ bytes. Output words bytes [] line 2) → IfSome input (λ bytes. Output words bytes [] errs 2)
-called_as words None errs line e h = tt
-called_as words (Some bytes) errs line e h = rw e h
+called_as : (words : List (List ℕ)) (input left : Option (List ℕ)) (errs line : List ℕ) → errs ≡ line → Leaves input left (λ bytes rest. Output words bytes rest [] line 2) → Leaves input left (λ bytes rest. Output words bytes rest [] errs 2)
+called_as words None left errs line e h = tt
+called_as words (Some bytes) None errs line e h = absurd h
+called_as words (Some bytes) (Some rest) errs line e h = rw e h
 
-troubled : (words : List (List ℕ)) (input out new err told : Option (List ℕ)) (e : Fault) (errs : List ℕ) → Explains words input out new e → Appends err told errs → TellsOf errs e → Serves words input out new err told 2
-troubled words input out new err told e errs x a t = inr record { fault = e; explained = x; errs = errs; told = a; text = t; failed = refl }
+pub served_answer : (reads writes tells : Type 0) (words : List (List ℕ)) (input left out new err : Option (List ℕ)) (status : ℕ) → Answers words input left out new status → Serves reads writes tells words input left out new err err status
+served_answer reads writes tells words input left out new err status (outs, written, called_for) = inl record { outs = outs; errs = []; written = written; told = nothing err; called_for = called_for }
 
-all_of : (errs : List ℕ) (e : Fault) → errs ≡ fault_line e → TellsOf errs e
-all_of errs e same = (length (fault_line e), inl (same ∙ sym (take_all (length (fault_line e)) (fault_line e) (omega arith))))
+pub served_fault : (reads writes tells : Type 0) (words : List (List ℕ)) (input left out new err told : Option (List ℕ)) (e : Fault) → Explains words input left out new e → IsCaused reads writes e → Reports tells err told e → Serves reads writes tells words input left out new err told 2
+served_fault reads writes tells words input left out new err told fault.Usage x c (errs, a, inl (inl same)) =
+    inl record { outs = []; errs = errs; written = x.0; told = a; called_for = called_as words input left errs usage_line same x.1 }
+served_fault reads writes tells words input left out new err told (fault.BadMapLine n) x c (errs, a, inl (inl same)) =
+    inl record { outs = []; errs = errs; written = x.0; told = a; called_for = called_as words input left errs (bad_map_line n) same x.1 }
+served_fault reads writes tells words input left out new err told fault.NotMultiKey x c (errs, a, inl (inl same)) =
+    inl record { outs = []; errs = errs; written = x.0; told = a; called_for = called_as words input left errs not_multi_key_line same x.1 }
+served_fault reads writes tells words input left out new err told e x c (errs, a, text) = inr record { fault = e; explained = x; caused = c; errs = errs; told = a; text = text; failed = refl }
 
-pub served_fault : (words : List (List ℕ)) (input out new err told : Option (List ℕ)) (e : Fault) → Explains words input out new e → Reports err told e → Serves words input out new err told 2
-served_fault words input out new err told e x (errs, a, inr trouble) = troubled words input out new err told e errs x a trouble
-served_fault words input out new err told fault.Usage x (errs, a, inl same) =
-    inl record { outs = []; errs = errs; written = x.0; told = a; called_for = called_as words input errs usage_line same x.1 }
-served_fault words input out new err told (fault.BadMapLine n) x (errs, a, inl same) =
-    inl record { outs = []; errs = errs; written = x.0; told = a; called_for = called_as words input errs (bad_map_line n) same x.1 }
-served_fault words input out new err told fault.NotMultiKey x (errs, a, inl same) =
-    inl record { outs = []; errs = errs; written = x.0; told = a; called_for = called_as words input errs not_multi_key_line same x.1 }
-served_fault words input out new err told fault.Memory x (errs, a, inl same) = troubled words input out new err told fault.Memory errs x a (all_of errs fault.Memory same)
-served_fault words input out new err told fault.Input x (errs, a, inl same) = troubled words input out new err told fault.Input errs x a (all_of errs fault.Input same)
-served_fault words input out new err told fault.Output x (errs, a, inl same) = troubled words input out new err told fault.Output errs x a (all_of errs fault.Output same)
+-- Where no stream may fail, only memory can run out.
+told_whole : (tells : Type 0) (text line : List ℕ) → ¬ tells → IsTold tells text line → text ≡ line
+told_whole tells text line whole (inl same) = same
+told_whole tells text line whole (inr (may, part)) = absurd (whole may)
+
+ran_out : (out new err told : Option (List ℕ)) (errs : List ℕ) (status : ℕ) → Appends out new [] → Appends err told errs → errs ≡ fault_line fault.Memory → status ≡ 2 → RanOutOfMemory out new err told status
+ran_out out new err told errs status w a same failed = record { written = w; told = rw same at a; failed = failed }
+
+steady_fault : (reads writes tells : Type 0) (words : List (List ℕ)) (input left out new err told : Option (List ℕ)) (status : ℕ) (e : Fault) (errs : List ℕ) → ¬ reads → ¬ writes → ¬ tells → Explains words input left out new e → IsCaused reads writes e → Appends err told errs → TellsOf tells errs e → status ≡ 2
+    → Answered words input left out new err told status ⊎ RanOutOfMemory out new err told status
+steady_fault reads writes tells words input left out new err told status fault.Usage errs r w t x c a (inl line) failed =
+    inl record { outs = []; errs = errs; written = x.0; told = a; called_for = rw failed (called_as words input left errs usage_line (told_whole tells errs usage_line t line) x.1) }
+steady_fault reads writes tells words input left out new err told status (fault.BadMapLine n) errs r w t x c a (inl line) failed =
+    inl record { outs = []; errs = errs; written = x.0; told = a; called_for = rw failed (called_as words input left errs (bad_map_line n) (told_whole tells errs (bad_map_line n) t line) x.1) }
+steady_fault reads writes tells words input left out new err told status fault.NotMultiKey errs r w t x c a (inl line) failed =
+    inl record { outs = []; errs = errs; written = x.0; told = a; called_for = rw failed (called_as words input left errs not_multi_key_line (told_whole tells errs not_multi_key_line t line) x.1) }
+steady_fault reads writes tells words input left out new err told status fault.Memory errs r w t x c a (inl line) failed = inr (ran_out out new err told errs status x.0 a (told_whole tells errs (fault_line fault.Memory) t line) failed)
+steady_fault reads writes tells words input left out new err told status fault.Input errs r w t x c a text failed = absurd (r c)
+steady_fault reads writes tells words input left out new err told status fault.Output errs r w t x c a text failed = absurd (w c)
+steady_fault reads writes tells words input left out new err told status (fault.BadMapLine n) errs r w t x c a (inr (b, line)) failed =
+    inr (ran_out out new err told errs status x.0 a (told_whole tells errs (fault_line fault.Memory) t line) failed)
+steady_fault reads writes tells words input left out new err told status fault.Usage errs r w t x c a (inr (b, line)) failed = absurd b
+steady_fault reads writes tells words input left out new err told status fault.NotMultiKey errs r w t x c a (inr (b, line)) failed = absurd b
+steady_fault reads writes tells words input left out new err told status fault.Memory errs r w t x c a (inr (b, line)) failed = absurd b
+
+pub served_steadily : (reads writes tells : Type 0) (words : List (List ℕ)) (input left out new err told : Option (List ℕ)) (status : ℕ) → Serves reads writes tells words input left out new err told status → ¬ reads → ¬ writes → ¬ tells
+    → Answered words input left out new err told status ⊎ RanOutOfMemory out new err told status
+served_steadily reads writes tells words input left out new err told status (inl a) r w t = inl a
+served_steadily reads writes tells words input left out new err told status (inr f) r w t = steady_fault reads writes tells words input left out new err told status f.fault f.errs r w t f.explained f.caused f.told f.text f.failed
+
+-- Where nothing is known of failures, each may have been.
+told_anyhow : (failed : Type 0) (text line : List ℕ) → IsTold failed text line → IsTold ⊤ text line
+told_anyhow failed text line (inl whole) = inl whole
+told_anyhow failed text line (inr (f, part)) = inr (tt, part)
+
+tells_anyhow : (failed : Type 0) (text : List ℕ) (e : Fault) → TellsOf failed text e → TellsOf ⊤ text e
+tells_anyhow failed text e (inl t) = inl (told_anyhow failed text (fault_line e) t)
+tells_anyhow failed text e (inr (b, t)) = inr (b, told_anyhow failed text (fault_line fault.Memory) t)
+
+cause_anyhow : (e : Fault) → IsCaused ⊤ ⊤ e
+cause_anyhow fault.Usage = tt
+cause_anyhow (fault.BadMapLine n) = tt
+cause_anyhow fault.NotMultiKey = tt
+cause_anyhow fault.Memory = tt
+cause_anyhow fault.Input = tt
+cause_anyhow fault.Output = tt
+
+pub serves_anyhow : (reads writes tells : Type 0) (words : List (List ℕ)) (input left out new err told : Option (List ℕ)) (status : ℕ) → Serves reads writes tells words input left out new err told status → Serves ⊤ ⊤ ⊤ words input left out new err told status
+serves_anyhow reads writes tells words input left out new err told status (inl a) = inl a
+serves_anyhow reads writes tells words input left out new err told status (inr t) =
+    inr record { fault = t.fault; explained = t.explained; caused = cause_anyhow t.fault; errs = t.errs; told = t.told; text = tells_anyhow tells t.errs t.fault t.text; failed = t.failed }

@@ -2,6 +2,7 @@
 use Rattle.std.specs.Prelude.{◌≡◌, ◌≢◌, ℕ, List, None, codes, ⊤}
 use Rattle.std.specs.declared.io.ErrorKind.{ErrorKind}
 use Rattle.std.specs.declared.io.ErrorKind.TheVariants.{OutOfMemory}
+use Rattle.slotroute_serve.specs.Lines.{after_lines, after_map, StopsInMap}
 use Rattle.slotroute_serve.specs.MapLines.{IsFirstBad}
 use Rattle.slotroute_serve.specs.Output.{usage_line, bad_map_line, not_multi_key_line}
 use Rattle.slotroute_serve.specs.Split.{split_routes}
@@ -30,6 +31,24 @@ IsNoMap lines NotMultiKey = ⊥
 IsNoMap lines Memory = ⊤
 IsNoMap lines Input = ⊤
 IsNoMap lines OutputFailed = ⊥
+
+-- what calls for a fault besides the input: a read that may fail for that of the input, a write that may for that of the output
+abbrev pub IsCaused : Type 0 → Type 0 → Fault → Type 0
+IsCaused reading writing Usage = ⊤
+IsCaused reading writing (BadMapLine number) = ⊤
+IsCaused reading writing NotMultiKey = ⊤
+IsCaused reading writing Memory = ⊤
+IsCaused reading writing Input = reading
+IsCaused reading writing OutputFailed = writing
+
+-- what is left of the input at a fault
+abbrev pub IsLeftAt : List ℕ → List ℕ → Fault → Type 0
+IsLeftAt input left Usage = left ≡ input
+IsLeftAt input left (BadMapLine number) = left ≡ after_lines number input
+IsLeftAt input left NotMultiKey = left ≡ after_map input
+IsLeftAt input left Memory = StopsInMap input left
+IsLeftAt input left Input = StopsInMap input left
+IsLeftAt input left OutputFailed = left ≡ after_map input
 
 -- why there are no lines for a command: it is no complete one over many keys, or memory was refused
 abbrev pub IsNoSplit : List (List ℕ) → Fault → Type 0

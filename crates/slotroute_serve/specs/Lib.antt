@@ -5,3 +5,4 @@ pub mod Output
 pub mod Requests
 pub mod Serves
 pub mod Split
+pub mod Streams

@@ -1,6 +1,6 @@
 -- The lines of the input, and their fields.
-use Rattle.std.specs.Prelude.{ℕ, List, [], ◌∷◌, ◌==◌, if◌then◌else◌, length, map, filter, nat_lt}
-use Rattle.std.specs.Io.BufRead.{strip_last, first_piece}
+use Rattle.std.specs.Prelude.{◌≡◌, ◌≤◌, ℕ, ◌+◌, zero, suc, List, [], ◌∷◌, ◌++◌, ◌==◌, if◌then◌else◌, length, map, filter, nat_lt}
+use Rattle.std.specs.Io.BufRead.{strip_last, first_piece, drop_through}
 use Rattle.std.specs.List.{slice_split}
 
 abbrev pub line_feed : ℕ
@@ -43,3 +43,25 @@ until_blank ((field ∷ fields) ∷ lines) = (field ∷ fields) ∷ until_blank 
 -- the leading lines of the input, as their fields
 abbrev pub leading : List ℕ → List (List (List ℕ))
 leading input = until_blank (map fields_of (lines_of input))
+
+-- what follows the first lines, this many of them
+abbrev pub after_lines : ℕ → List ℕ → List ℕ
+after_lines zero input = input
+after_lines (suc count) input = after_lines count (drop_through line_feed input)
+
+-- what follows the map: the leading lines, and the line with no field that ends them
+abbrev pub after_map : List ℕ → List ℕ
+after_map input = after_lines (length (leading input) + 1) input
+
+-- what is left begins in the first line, or right after it
+pub record StopsInLine (input left : List ℕ) : Type 0 where
+  pub read : List ℕ
+  pub more : List ℕ
+  pub begun : input ≡ read ++ left
+  pub ends : left ≡ more ++ drop_through line_feed input
+
+-- what is left begins in a leading line or in the one that ends them, or right after it
+pub record StopsInMap (input left : List ℕ) : Type 0 where
+  pub count : ℕ
+  pub within : count ≤ length (leading input)
+  pub stops : StopsInLine (after_lines count input) left

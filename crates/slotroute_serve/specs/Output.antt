@@ -1,4 +1,4 @@
--- What the program writes, and its status, for its words and its input.
+-- What the program reads and writes, and its status, for its words and its input.
 use Rattle.std.specs.Prelude.{◌≡◌, ◌≢◌, ℕ, List, [], ◌∷◌, ◌++◌, None, codes, decimal}
 use Rattle.cluster_map.specs.Address.{Address, printed}
 use Rattle.cluster_map.specs.KeySlot.{IsKeySlot}
@@ -6,7 +6,7 @@ use Rattle.cluster_map.specs.Nodes.{Nodes, RangeNodes, filled}
 use Rattle.cluster_map.specs.RangeMap.{Entry, IsUncovered}
 use Rattle.cluster_map.specs.RouteNode.{IsNodeOfRoute}
 use Rattle.cluster_slots.specs.declared.slot.SlotAddr.TheVariants.{Master}
-use Rattle.slotroute_serve.specs.Lines.{line_feed, space, leading}
+use Rattle.slotroute_serve.specs.Lines.{line_feed, space, leading, after_lines, after_map}
 use Rattle.slotroute_serve.specs.MapLines.{IsMap, IsFirstBad}
 use Rattle.slotroute_serve.specs.Split.{IsSplitAnswer, split_routes}
 
@@ -45,9 +45,9 @@ pub data IsAnswer (entries : List (Entry Nodes)) : List (List ℕ) → List ℕ 
   node_answer : (key line : List ℕ) (status : ℕ) → IsNodeAnswer entries key line status → IsAnswer entries (node_words key) line status
   split_answer : (command : List (List ℕ)) (lines : List ℕ) (status : ℕ) → IsSplitAnswer entries command lines status → IsAnswer entries (split_words command) lines status
 
--- what goes to the output and to the error stream, and the status
-pub data Output : List (List ℕ) → List ℕ → List ℕ → List ℕ → ℕ → Type 0 where
-  usage : (words : List (List ℕ)) (input : List ℕ) → ¬ (IsRequest words) → Output words input [] usage_line 2
-  bad_map : (words : List (List ℕ)) (input : List ℕ) (number : ℕ) → IsRequest words → IsFirstBad (leading input) number → Output words input [] (bad_map_line number) 2
-  not_multi_key : (command : List (List ℕ)) (input : List ℕ) (ranges : List RangeNodes) → command ≢ [] → IsMap (leading input) ranges → split_routes command ≡ None → Output (split_words command) input [] not_multi_key_line 2
-  answer : (words : List (List ℕ)) (input text : List ℕ) (status : ℕ) (ranges : List RangeNodes) → IsMap (leading input) ranges → IsAnswer (filled [] ranges) words text status → Output words input text [] status
+-- what is left of the input, what goes to the output and to the error stream, and the status
+pub data Output : List (List ℕ) → List ℕ → List ℕ → List ℕ → List ℕ → ℕ → Type 0 where
+  usage : (words : List (List ℕ)) (input : List ℕ) → ¬ (IsRequest words) → Output words input input [] usage_line 2
+  bad_map : (words : List (List ℕ)) (input : List ℕ) (number : ℕ) → IsRequest words → IsFirstBad (leading input) number → Output words input (after_lines number input) [] (bad_map_line number) 2
+  not_multi_key : (command : List (List ℕ)) (input : List ℕ) (ranges : List RangeNodes) → command ≢ [] → IsMap (leading input) ranges → split_routes command ≡ None → Output (split_words command) input (after_map input) [] not_multi_key_line 2
+  answer : (words : List (List ℕ)) (input text : List ℕ) (status : ℕ) (ranges : List RangeNodes) → IsMap (leading input) ranges → IsAnswer (filled [] ranges) words text status → Output words input (after_map input) text [] status

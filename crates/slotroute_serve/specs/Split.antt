@@ -6,6 +6,7 @@ use Rattle.cluster_map.specs.Nodes.{Nodes}
 use Rattle.cluster_map.specs.RangeMap.{Entry, IsUncovered}
 use Rattle.cluster_map.specs.RouteNode.{IsNodeOfRoute}
 use Rattle.cluster_map.specs.RouteTo.{RouteTo}
+use Rattle.redis_cluster.specs.Command.{Arguments}
 use Rattle.redis_cluster.specs.Complete.{multi_slot_routes, part_in}
 use Rattle.redis_cluster.specs.ReadOnly.{is_among}
 use Rattle.slotroute_serve.specs.Lines.{line_feed, space}
@@ -34,20 +35,20 @@ abbrev pub part_line : Part → List ℕ
 part_line part =
     decimal part.slot ++ space ∷ node_text part.node ++ flat_map (λ word. space ∷ word) part.words ++ line_feed ∷ []
 
--- the part of a command that a route is for, and the node of the route, which is none where no range answers for its slot
-pub record IsPart (entries : List (Entry Nodes)) (command : List (List ℕ)) (route : RouteTo) (part : Part) : Type 0 where
+-- the part of a command that a route is for, by the parts of slots, and the node of the route, which is none where no range answers for its slot
+pub record IsPart (entries : List (Entry Nodes)) (parts_by_slot : ℕ → Arguments) (route : RouteTo) (part : Part) : Type 0 where
   pub slot : part.slot ≡ route.slot
   pub node : MatchOption part.node (IsUncovered entries route.slot) (IsNodeOfRoute entries route 0)
-  pub words : map Some part.words ≡ part_in (map Some command) route.slot
+  pub words : map Some part.words ≡ parts_by_slot route.slot
 
 -- 1 where a part has no node
 abbrev pub split_status : List Part → ℕ
 split_status parts = if list_any (λ part. is_none part.node) parts then 1 else 0
 
 -- the text has a line for the part of each route, in order
-pub record AreLines (entries : List (Entry Nodes)) (command : List (List ℕ)) (routes : List (RouteTo × List ℕ)) (text : List ℕ) (status : ℕ) : Type 0 where
+pub record AreLines (entries : List (Entry Nodes)) (parts_by_slot : ℕ → Arguments) (routes : List (RouteTo × List ℕ)) (text : List ℕ) (status : ℕ) : Type 0 where
   pub parts : List Part
-  pub each : AllZip (λ route. IsPart entries command route.0) routes parts
+  pub each : AllZip (λ route. IsPart entries parts_by_slot route.0) routes parts
   pub lines : text ≡ flat_map part_line parts
   pub ended : status ≡ split_status parts
 
@@ -55,4 +56,4 @@ pub record AreLines (entries : List (Entry Nodes)) (command : List (List ℕ)) (
 pub record IsSplitAnswer (entries : List (Entry Nodes)) (command : List (List ℕ)) (text : List ℕ) (status : ℕ) : Type 0 where
   pub routes : List (RouteTo × List ℕ)
   pub split : split_routes command ≡ Some routes
-  pub answered : AreLines entries command routes text status
+  pub answered : AreLines entries (part_in (map Some command)) routes text status

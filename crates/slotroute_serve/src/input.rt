@@ -1,53 +1,55 @@
-ghost use Rattle.std.specs.Prelude.{◌≡◌, ℕ, List, length, nat_lt, map, OnOk, IfOk, IfSome, MatchOption, MatchResult};
+ghost use Rattle.std.specs.Prelude.{◌≡◌, ℕ, List, length, nat_lt, map, OnOk, OnErr, IfOk, IfErr, IfSome, MatchOption, MatchResult};
 ghost use Rattle.std.specs.List.{AllZip};
 ghost use Rattle.std.specs.Io.BufRead.{DropsThrough, strip_last};
 ghost use Rattle.cluster_map.specs.Address.{Address};
 ghost use Rattle.cluster_map.specs.Nodes.{RangeNodes};
 ghost use Rattle.cluster_map.specs.Number.{number_in};
-ghost use Rattle.slotroute_serve.specs.Lines.{line_of, fields_of, leading};
+ghost use Rattle.slotroute_serve.specs.Lines.{line_of, fields_of, leading, after_map, StopsInLine};
 ghost use Rattle.slotroute_serve.specs.MapLines.{IsNodeField, IsMapLine, IsMap};
-ghost use Rattle.slotroute_serve.specs.Faults.{IsNoMap};
+ghost use Rattle.slotroute_serve.specs.Faults.{IsNoMap, IsCaused, IsLeftAt};
+ghost use Rattle.slotroute_serve.specs.Streams.{MayFailToRead, Leaves};
 
 use crate::fault::Fault;
+use crate::streams::Source;
 use cluster_map::node_address::split_node_address;
 use cluster_map::{NodeAddress, SlotRange};
 use std::alloc::{AllocError, Global};
-use std::io::{self, BufRead};
+use std::io;
 
-/// Reads the ranges of the leading lines, up to the first line with no field or the end.
-///
-/// An input of 2^64 lines counts as one that failed.
-pub fn read_map<R: BufRead>(alloc: Global, reader: &mut R) -> Result<Vec<SlotRange>, Fault>
-    ensures { IfSome (R.remaining reader.old) (λ input. MatchResult result
+/// Reads the ranges of the leading lines, and the line with no field that ends them.
+pub fn read_map<S: Source>(alloc: Global, source: &mut S) -> Result<Vec<SlotRange>, Fault>
+    ensures map { IfSome (S.remaining source.old) (λ input. MatchResult result
         (λ ranges. IsMap (leading input) ranges.items)
         (IsNoMap (leading input))) }
+    ensures cause { IfErr result (IsCaused (MayFailToRead S.fails) ⊥) }
+    ensures rest { Leaves (S.remaining source.old) (S.remaining source.new) (λ input left.
+        MatchResult result (λ _. left ≡ after_map input) (IsLeftAt input left)) }
 {
     let mut ranges = Vec::new(alloc);
     let mut line = Vec::new(alloc);
-    for number in 0..u64::MAX {
-        if !next_line(reader, &mut line)? {
-            return Ok(ranges);
-        }
+    while next_line(source, &mut line)? {
         let fields = fields_in(alloc, &line)?;
         if fields.is_empty() {
             return Ok(ranges);
         }
         match map_line(alloc, &fields)? {
             Some(range) => ranges.push(range)?,
-            None => return Err(Fault::BadMapLine(number + 1)),
+            None => return Err(Fault::BadMapLine(ranges.len() as u64 + 1)),
         }
     }
-    Err(Fault::Input)
+    Ok(ranges)
 }
 
 /// Reads one line in place of what `line` held, or answers that the input is at its end.
-fn next_line<R: BufRead>(reader: &mut R, line: &mut Vec<u8>) -> io::Result<bool>
-    ensures text { OnOk result (IfSome (R.remaining reader.old) (λ input. line.new.items ≡ line_of input)) }
-    ensures there { IfOk result (λ there. IfSome (R.remaining reader.old) (λ input. there ≡ nat_lt 0 (length input))) }
-    ensures rest { OnOk result (DropsThrough (R.remaining reader.old) (R.remaining reader.new) 10) }
+fn next_line<S: Source>(source: &mut S, line: &mut Vec<u8>) -> io::Result<bool>
+    ensures text { OnOk result (IfSome (S.remaining source.old) (λ input. line.new.items ≡ line_of input)) }
+    ensures there { IfOk result (λ there. IfSome (S.remaining source.old) (λ input. there ≡ nat_lt 0 (length input))) }
+    ensures rest { OnOk result (DropsThrough (S.remaining source.old) (S.remaining source.new) 10) }
+    ensures stops { OnErr result (Leaves (S.remaining source.old) (S.remaining source.new) StopsInLine) }
+    ensures failed { IfErr result (S.fails source.old) }
 {
     line.clear();
-    if reader.read_until(b'\n', line)? == 0 {
+    if source.append_line(line)? == 0 {
         return Ok(false);
     }
     strip(line, b'\n');

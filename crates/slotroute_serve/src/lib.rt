@@ -7,5 +7,7 @@ mod output;
 mod program;
 mod request;
 mod split;
+mod streams;
 
-pub use program::{USAGE, serve};
+pub use program::{USAGE, serve, serve_streams};
+pub use streams::{Sink, Source};

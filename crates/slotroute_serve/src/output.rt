@@ -1,42 +1,47 @@
-ghost use Rattle.std.specs.Prelude.{◌≡◌, ◌≤◌, ℕ, length, take, IfErr, OnOk, OnErr};
-ghost use Rattle.std.specs.Io.KnownBytes.{Appends};
+ghost use Rattle.std.specs.Prelude.{◌≡◌, ◌≤◌, ◌<◌, ℕ, length, take, IfOk, IfErr, OnOk, OnErr};
+ghost use Rattle.std.specs.Io.{WritesAtMost};
+ghost use Rattle.std.specs.Io.KnownBytes.{Appends, WriteAppends};
+ghost use Rattle.slotroute_serve.specs.Streams.{MayFailToWrite};
 
 use crate::fault::Fault;
-use std::io::{self, Write};
+use crate::streams::Sink;
+use std::io::{self, ErrorKind};
 
 /// Writes a text and sends it off. Where the writer fails, a beginning of the text may be written.
-pub fn emit<W: Write>(writer: &mut W, text: &[u8]) -> Result<(), Fault>
+pub fn emit<W: Sink>(writer: &mut W, text: &[u8]) -> Result<(), Fault>
     ensures ok { OnOk result (Appends (W.contents writer.old) (W.contents writer.new) text.now) }
     ensures fault { IfErr result (λ fault. fault ≡ Fault.Output) }
+    ensures failed { OnErr result (MayFailToWrite W.fails) }
     ensures begun { OnErr result ((k : ℕ) × Appends (W.contents writer.old) (W.contents writer.new) (take k text.now)) }
 {
-    put(writer, text)?;
-    writer.flush().map_err(|_| Fault::Output)
+    put(writer, text).map_err(|_| Fault::Output)
 }
 
-/// Writes a text as `write_all` does, and where that fails, a beginning of the text was written.
-fn put<W: Write>(writer: &mut W, text: &[u8]) -> Result<(), Fault>
+/// Writes a text and sends it off, as `write_all` and `flush` do.
+fn put<W: Sink>(writer: &mut W, text: &[u8]) -> io::Result<()>
     ensures ok { OnOk result (Appends (W.contents writer.old) (W.contents writer.new) text.now) }
-    ensures fault { IfErr result (λ fault. fault ≡ Fault.Output) }
+    ensures failed { OnErr result (MayFailToWrite W.fails) }
     ensures begun { OnErr result ((k : ℕ) × Appends (W.contents writer.old) (W.contents writer.new) (take k text.now)) }
 {
     let mut done = 0;
+    while done < text.len() {
+        done += write_retrying(writer, &text[done..])?;
+    }
+    writer.send_off()
+}
+
+/// Writes some of the bytes. A call that was interrupted is made again, up to 2^64 times.
+fn write_retrying<W: Sink>(writer: &mut W, bytes: &[u8]) -> io::Result<usize>
+    ensures bound { WritesAtMost result bytes.now }
+    ensures some { IfOk result (λ n. 0 < length bytes.now → 0 < n) }
+    ensures bytes { WriteAppends (W.contents writer.old) (W.contents writer.new) result bytes.now }
+    ensures failed { OnErr result (MayFailToWrite W.fails) }
+{
     for _ in 0..u64::MAX {
-        if done >= text.len() {
-            break;
-        }
-        match writer.write(&text[done..]) {
-            Ok(0) => return Err(Fault::Output),
-            Ok(n) => done += n,
-            Err(error) => {
-                if error.kind() != io::ErrorKind::Interrupted {
-                    return Err(Fault::Output);
-                }
-            }
+        match writer.write_some(bytes) {
+            Err(error) if error.kind() == ErrorKind::Interrupted => {}
+            answer => return answer,
         }
     }
-    if done < text.len() {
-        return Err(Fault::Output);
-    }
-    Ok(())
+    writer.write_some(bytes)
 }

@@ -1,15 +1,17 @@
-ghost use Rattle.std.specs.Prelude.{◌≡◌, ℕ, List, map, string_bytes, IfOk, OnErr, MatchResult};
+ghost use Rattle.std.specs.Prelude.{◌≡◌, ◌⊎◌, ℕ, List, ⊤, map, string_bytes, IfOk, IfErr, OnErr, MatchResult};
 ghost use Rattle.std.specs.Cow.{cow_str_bytes};
-ghost use Rattle.slotroute_serve.specs.Output.{IsAnswer, IsNodeAnswer};
-ghost use Rattle.slotroute_serve.specs.Faults.{fault_line};
+ghost use Rattle.slotroute_serve.specs.Output.{IsRequest, IsAnswer, IsNodeAnswer};
+ghost use Rattle.slotroute_serve.specs.Faults.{fault_line, IsCaused};
 ghost use Rattle.slotroute_serve.specs.Requests.{Asks, IsNoAnswer};
-ghost use Rattle.slotroute_serve.specs.Serves.{Serves, Answers, Explains, Reports, IsBadMapLine};
+ghost use Rattle.slotroute_serve.specs.Serves.{Serves, Answered, RanOutOfMemory, Answers, Explains, Reports, IsBadMapLine};
+ghost use Rattle.slotroute_serve.specs.Streams.{MayFailToRead, MayFailToWrite};
 
 use crate::fault::Fault;
 use crate::input::read_map;
 use crate::output::emit;
 use crate::request::{Request, request_of};
 use crate::split::split_answer;
+use crate::streams::{Sink, Source};
 use cluster_map::{Route, SlotAddr, SlotMap};
 use std::alloc::{AllocError, Global};
 use std::borrow::CowStr;
@@ -29,8 +31,31 @@ pub fn serve<R: BufRead, O: Write, E: Write>(
     out: &mut O,
     err: &mut E,
 ) -> u8
-    ensures { Serves (map string_bytes words.now) (R.remaining reader.old)
+    ensures served { Serves ⊤ ⊤ ⊤ (map string_bytes words.now)
+        (R.remaining reader.old) (R.remaining reader.new)
         (O.contents out.old) (O.contents out.new) (E.contents err.old) (E.contents err.new) result }
+    ensures untouched { ¬ (IsRequest (map string_bytes words.now)) → reader.new ≡ reader.old }
+{
+    serve_streams(alloc, words, reader, out, err)
+}
+
+/// `serve` over streams that tell contracts how they may fail. Where they may not, only memory can
+/// run out.
+pub fn serve_streams<R: Source, O: Sink, E: Sink>(
+    alloc: Global,
+    words: &[String],
+    reader: &mut R,
+    out: &mut O,
+    err: &mut E,
+) -> u8
+    ensures served { Serves (MayFailToRead R.fails) (MayFailToWrite O.fails) (MayFailToWrite E.fails)
+        (map string_bytes words.now) (R.remaining reader.old) (R.remaining reader.new)
+        (O.contents out.old) (O.contents out.new) (E.contents err.old) (E.contents err.new) result }
+    ensures steady { ¬ (MayFailToRead R.fails) → ¬ (MayFailToWrite O.fails) → ¬ (MayFailToWrite E.fails)
+        → Answered (map string_bytes words.now) (R.remaining reader.old) (R.remaining reader.new)
+        (O.contents out.old) (O.contents out.new) (E.contents err.old) (E.contents err.new) result
+        ⊎ RanOutOfMemory (O.contents out.old) (O.contents out.new) (E.contents err.old) (E.contents err.new) result }
+    ensures untouched { ¬ (IsRequest (map string_bytes words.now)) → reader.new ≡ reader.old }
 {
     match run(alloc, words, reader, out) {
         Ok(status) => status,
@@ -41,15 +66,19 @@ pub fn serve<R: BufRead, O: Write, E: Write>(
     }
 }
 
-fn run<R: BufRead, O: Write>(
+fn run<R: Source, O: Sink>(
     alloc: Global,
     words: &[String],
     reader: &mut R,
     out: &mut O,
 ) -> Result<u8, Fault>
-    ensures { MatchResult result
-        (Answers (map string_bytes words.now) (R.remaining reader.old) (O.contents out.old) (O.contents out.new))
-        (Explains (map string_bytes words.now) (R.remaining reader.old) (O.contents out.old) (O.contents out.new)) }
+    ensures answer { MatchResult result
+        (Answers (map string_bytes words.now) (R.remaining reader.old) (R.remaining reader.new)
+        (O.contents out.old) (O.contents out.new))
+        (Explains (map string_bytes words.now) (R.remaining reader.old) (R.remaining reader.new)
+        (O.contents out.old) (O.contents out.new)) }
+    ensures cause { IfErr result (IsCaused (MayFailToRead R.fails) (MayFailToWrite O.fails)) }
+    ensures untouched { ¬ (IsRequest (map string_bytes words.now)) → reader.new ≡ reader.old }
 {
     let Some(request) = request_of(words) else {
         return Err(Fault::Usage);
@@ -82,15 +111,15 @@ fn node_answer(alloc: Global, map: &SlotMap, key: &[u8]) -> Result<(String, u8),
 {
     let route = Route::with_key(key, SlotAddr::Master);
     let slot = route.slot();
-    match map.slot_addr_for_route(route, 0) {
+    match map.slot_addr_for_route(route, None, 0) {
         Some(node) => Ok((format!(in alloc; "slot {slot} {node}\n")?, 0)),
         None => Ok((format!(in alloc; "slot {slot} none\n")?, 1)),
     }
 }
 
 /// Writes the line of a fault. Where there is no memory for that of a bad map line, it tells so.
-fn report<E: Write>(alloc: Global, fault: &Fault, err: &mut E)
-    ensures { Reports (E.contents err.old) (E.contents err.new) fault.now }
+fn report<E: Sink>(alloc: Global, fault: &Fault, err: &mut E)
+    ensures { Reports (MayFailToWrite E.fails) (E.contents err.old) (E.contents err.new) fault.now }
 {
     let _ = match fault_text(alloc, fault) {
         Ok(text) => emit(err, text.as_str().as_bytes()),

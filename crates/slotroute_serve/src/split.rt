@@ -1,15 +1,14 @@
-ghost use Rattle.std.specs.Prelude.{◌≡◌, ℕ, List, Some, ◌∷◌, ◌++◌, map, string_bytes, option_copied, IfOk, IfErr, OnOk, MatchResult};
+ghost use Rattle.std.specs.Prelude.{◌≡◌, ℕ, List, Some, ◌∷◌, ◌++◌, map, string_bytes, option_copied, IfOk, OnOk, MatchResult};
 ghost use Rattle.std.specs.List.{flat_map};
-ghost use Rattle.redis_cluster.specs.Complete.{AreSubCommands};
 ghost use Rattle.redis_cluster.specs.ReadOnly.{is_among};
-ghost use Rattle.redis_cluster.specs.Target.{parts_of};
+ghost use Rattle.redis_cluster.specs.Split.{part_for};
 ghost use Rattle.slotroute_serve.specs.Faults.{IsNoSplit};
 ghost use Rattle.slotroute_serve.specs.Lines.{space};
 ghost use Rattle.slotroute_serve.specs.Split.{only_reads, part_line, AreLines, IsSplitAnswer};
 
 use crate::fault::Fault;
-use cluster_map::{NodeAddress, Route, SlotMap};
-use redis_cluster::routing::{ReadOnlyNames, command_for_multi_slot_indices, multi_slot_routes};
+use cluster_map::{NodeAddress, SlotMap};
+use redis_cluster::routing::{ReadOnlyNames, SplitCommand};
 use resp_core::Cmd;
 use std::alloc::{AllocError, Global};
 
@@ -25,10 +24,10 @@ pub fn split_answer(
 {
     let command = command_of(alloc, words)?;
     let read_only = read_only_names(alloc)?;
-    let Some(routes) = multi_slot_routes(alloc, &command, &read_only)? else {
+    let Some(split) = SplitCommand::new(alloc, &command, &read_only)? else {
         return Err(Fault::NotMultiKey);
     };
-    lines_of(alloc, slot_map, &command, &routes)
+    Ok(lines_of(alloc, slot_map, &split)?)
 }
 
 fn command_of(alloc: Global, words: &[String]) -> Result<Cmd, AllocError>
@@ -56,21 +55,16 @@ fn read_only_names(alloc: Global) -> Result<ReadOnlyNames, AllocError>
 fn lines_of(
     alloc: Global,
     slot_map: &SlotMap,
-    command: &Cmd,
-    routes: &[(Route, Vec<usize>)],
-) -> Result<(Vec<u8>, u8), Fault>
-    requires { AreSubCommands (map Some command.now) (parts_of routes.now) }
-    ensures lines { IfOk result (λ answer. AreLines slot_map.now command.now (parts_of routes.now) answer.0.items answer.1) }
-    ensures memory { IfErr result (λ fault. fault ≡ Fault.Memory) }
+    split: &SplitCommand<Cmd>,
+) -> Result<(Vec<u8>, u8), AllocError>
+    ensures { IfOk result (λ answer. AreLines slot_map.now (part_for split.now) split.now.routes answer.0.items answer.1) }
 {
     let mut lines = Vec::new(alloc);
     let mut status = 0;
-    for (route, places) in routes {
-        let Ok(part) = command_for_multi_slot_indices(alloc, command, places) else {
-            // No argument of a part is missing, so it was memory.
-            return Err(Fault::Memory);
-        };
-        let node = slot_map.slot_addr_for_route(*route, 0);
+    let routes = split.routes();
+    for (number, (route, _)) in routes.iter().enumerate() {
+        let part = split.part(alloc, number)?;
+        let node = slot_map.slot_addr_for_route(*route, None, 0);
         if node.is_none() {
             status = 1;
         }

@@ -2,4 +2,18 @@
 #![tactic(auto)]
 
 #[cfg(test)]
+mod failing_streams;
+#[cfg(test)]
+mod large_input;
+#[cfg(test)]
+mod map_lines;
+#[cfg(test)]
+mod node;
+#[cfg(test)]
+mod reading;
+#[cfg(test)]
 mod serve;
+#[cfg(test)]
+mod split;
+#[cfg(test)]
+mod steady_streams;

@@ -9,7 +9,7 @@ ghost use Rattle.cluster_map.specs.KeySlot.{key_slot};
 ghost use Rattle.cluster_map.specs.RangeMap.{IsUncovered};
 ghost use Rattle.cluster_map.specs.RouteNode.{IsNodeOfRoute};
 ghost use Rattle.cluster_slots.specs.declared.slot.SlotAddr.TheVariants.{Master};
-ghost use Rattle.redis_cluster.specs.Aggregate.{aggregated};
+ghost use Rattle.redis_cluster.specs.Aggregate.{aggregate_of};
 ghost use Rattle.redis_commands.specs.declared.policy.AggregateOp.TheVariants.{Sum};
 
 use cluster_map::{NodeAddress, Route, SlotAddr, SlotMap, SlotRange};
@@ -34,7 +34,7 @@ pub fn primary_of<'a>(map: &'a SlotMap, key: &[u8]) -> Option<&'a NodeAddress>
         (IsUncovered map.now (key_slot key.now))
         (λ node. IsNodeOfRoute map.now (record { slot = key_slot key.now; addr = Master }) 0 node.now) }
 {
-    map.slot_addr_for_route(Route::with_key(key, SlotAddr::Master), 0)
+    map.slot_addr_for_route(Route::with_key(key, SlotAddr::Master), None, 0)
 }
 
 /// Where `MGET key1 key2` goes, if replicas may serve it.
@@ -53,8 +53,8 @@ pub fn where_to_read(
 /// How many keys a `DEL` deleted, by the replies to its parts.
 pub fn deleted(replies: Vec<Value>) -> RedisResult<Value>
     ensures { MatchResult result
-        (λ count. aggregated Sum (map view replies.items) ≡ Some (view count))
-        (λ error. (aggregated Sum (map view replies.items) ≡ None) × (error.kind ≡ UnexpectedReturnType)) }
+        (λ count. aggregate_of Sum (map view replies.items) ≡ Some (view count))
+        (λ error. (aggregate_of Sum (map view replies.items) ≡ None) × (error.kind ≡ UnexpectedReturnType)) }
 {
     aggregate(replies, AggregateOp::Sum)
 }

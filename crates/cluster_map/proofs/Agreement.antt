@@ -1,0 +1,261 @@
+-- A map and its topology agree.
+use Rattle.std.proofs.Common.{◌≡◌, ◌<◌, ◌+◌, ℕ, suc, inl, inr, Bool, true, false, cond, nat_eq, List, [], ◌∷◌, ◌++◌, length, map, filter, slice_get, Option, Some, None, option_map, option_and_then, Less, Equal, Greater, refl, sym, ap, subst, ◌∙◌, append_assoc, arith, nat_cmp}
+use Rattle.std.proofs.lemmas.Bool.{eqb-true, cases_lt}
+use Rattle.std.proofs.lemmas.Bool.Decides.{nat_tests}
+use Rattle.std.proofs.lemmas.List.Elements.{filter-append}
+use Rattle.std.proofs.lemmas.Option.{slice_get-map}
+use Rattle.std.specs.List.{list_any}
+use Rattle.cluster_slots.specs.Address.{Address, same_address}
+use Rattle.slot_ranges.specs.Nodes.{Nodes}
+use Rattle.slot_ranges.specs.RangeMap.{Entry, EndsAfter, Ascends}
+use Rattle.cluster_map.specs.Shards.{ShardNodes}
+use Rattle.cluster_map.specs.Topology.{primary_of, entry_primary, has_primary, ends_of, shard_of, shards_of, placed, placed_from, inserted, topology_of, Agrees}
+use Rattle.cluster_map.proofs.Groups.{primaries, primary_shards, primary_shards-are, primaries_cover, same_true, same_refl, same_sym}
+use Rattle.cluster_map.proofs.Inserts.{insert_step, step, stepped, stepped-is, Ascends-inserted, answer, answer-some, answer-is, by_option, with_value, with_value-stepped, with_value-answer}
+use Rattle.cluster_map.proofs.Members.{by_test}
+use Rattle.slot_ranges.proofs.Ranges.{EndsAfter-smaller}
+
+by_order : {A : Type 0} (a b : ℕ) → (a < b → A) → (a ≡ b → A) → (b < a → A) → A
+by_order a b f g h = elim (cases_lt a b) [ inl l ↦ f l | inr l ↦ elim (cases_lt b a) [ inl m ↦ h m | inr m ↦ g (omega arith) ] ]
+
+Ascends-stepped : {V : Type 0} (es more : List (Entry V)) → Ascends es → Ascends (stepped es more)
+Ascends-stepped es more ascends = rw (← stepped-is es more ascends) (Ascends-inserted es more ascends)
+
+-- the range with an end
+abbrev pub find : {V : Type 0} → ℕ → List (Entry V) → Option (Entry V)
+find e [] = None
+find e (r ∷ rs) = cond (nat_eq r.1 e) (Some r) (find e rs)
+
+abbrev pub last_of : {X : Type 0} → Option X → List X → Option X
+last_of o [] = o
+last_of o (x ∷ xs) = last_of (Some x) xs
+
+abbrev pub ends_with : {V : Type 0} → ℕ → Entry V → Bool
+ends_with e r = nat_eq r.1 e
+
+pub find_insert : {V : Type 0} (e : ℕ) (rs : List (Entry V)) (s k : ℕ) (v : V) → find e (insert_step rs s k v) ≡ cond (nat_eq k e) (Some (s, k, v)) (find e rs)
+find_insert e [] s k v = refl
+find_insert e (r ∷ rs) s k v = by_order k r.1
+    (λ l. let a : nat_cmp k r.1 ≡ Less = grind (arith, nat_tests) in rw a refl)
+    (λ l. let a : nat_cmp k r.1 ≡ Equal = grind (arith, nat_tests) in
+    by_test (nat_eq k e)
+    (λ h. let m : nat_eq r.1 e ≡ true = ap (λ z. nat_eq z e) (sym l) ∙ h in rw (a, h, m) (ap (λ z. Some (s, z, v)) (sym l)))
+    (λ h. let m : nat_eq r.1 e ≡ false = ap (λ z. nat_eq z e) (sym l) ∙ h in rw (a, h, m) refl))
+    (λ l. let a : nat_cmp k r.1 ≡ Greater = grind (arith, nat_tests) in
+    by_test (nat_eq k e)
+    (λ h. let m : nat_eq r.1 e ≡ false = grind (arith, nat_tests) in rw (a, h, m) (find_insert e rs s k v ∙ rw h refl))
+    (λ h. by_test (nat_eq r.1 e)
+    (λ m. rw (a, h, m) refl)
+    (λ m. rw (a, h, m) (find_insert e rs s k v ∙ rw h refl))))
+
+pub find_inserted : {V : Type 0} (e : ℕ) (m xs : List (Entry V)) → find e (stepped m xs) ≡ last_of (find e m) (filter (ends_with e) xs)
+find_inserted e m [] = refl
+find_inserted e m (x ∷ xs) =
+    find_inserted e (step m x) xs ∙ ap (λ o. last_of o (filter (ends_with e) xs)) (find_insert e m x.0 x.1 x.2)
+    ∙ by_test (nat_eq x.1 e) (λ h. rw (h) refl) (λ h. rw (h) refl)
+
+-- rising lists with equal look-ups are equal
+pub find_above : {V : Type 0} (e : ℕ) (rs : List (Entry V)) → EndsAfter e rs → Ascends rs → find e rs ≡ None
+find_above e [] s up = refl
+find_above e (r ∷ rs) s up =
+    let m : nat_eq r.1 e ≡ false = grind (arith, nat_tests) in
+    rw m (find_above e rs (EndsAfter-smaller e r.1 rs s up.0) up.1)
+
+pub same_ranges : {V : Type 0} (xs ys : List (Entry V)) → Ascends xs → Ascends ys → ((e : ℕ) → find e xs ≡ find e ys) → xs ≡ ys
+same_ranges [] [] u w h = refl
+same_ranges [] (y ∷ ys) u w h = let k : nat_eq y.1 y.1 ≡ true = grind (arith, nat_tests) in let q = h y.1 in let p : None ≡ Some y = q ∙ rw k refl in cc
+same_ranges (x ∷ xs) [] u w h = let k : nat_eq x.1 x.1 ≡ true = grind (arith, nat_tests) in let p : Some x ≡ None = sym (rw k refl) ∙ h x.1 in cc
+same_ranges (x ∷ xs) (y ∷ ys) u w h =
+    let a : nat_eq x.1 x.1 ≡ true = grind (arith, nat_tests) in
+    let b : nat_eq y.1 y.1 ≡ true = grind (arith, nat_tests) in
+    let fx : find x.1 (x ∷ xs) ≡ Some x = rw a refl in
+    let fy : find y.1 (y ∷ ys) ≡ Some y = rw b refl in
+    by_order x.1 y.1
+    (λ l. let p : Some x ≡ None = sym fx ∙ h x.1 ∙ find_above x.1 (y ∷ ys) l w in cc)
+    (λ l. let k : nat_eq y.1 x.1 ≡ true = grind (arith, nat_tests) in
+    let gx : find x.1 (y ∷ ys) ≡ Some y = rw k refl in
+    let p : Some x ≡ Some y = sym fx ∙ h x.1 ∙ gx in
+    let q : x ≡ y = cc in
+    let tails : (e : ℕ) → find e xs ≡ find e ys = λ e. by_test (nat_eq x.1 e)
+    (λ t. let t2 : nat_eq y.1 e ≡ true = ap (λ z. nat_eq z e) (sym l) ∙ t in
+    let ex : x.1 ≡ e = eqb-true x.1 e t in
+    ap (λ z. find z xs) (sym ex) ∙ find_above x.1 xs u.0 u.1 ∙ sym (ap (λ z. find z ys) (sym (sym l ∙ ex)) ∙ find_above y.1 ys w.0 w.1))
+    (λ t. let t2 : nat_eq y.1 e ≡ false = ap (λ z. nat_eq z e) (sym l) ∙ t in
+    let hx : find e (x ∷ xs) ≡ find e xs = rw t refl in
+    let hy : find e (y ∷ ys) ≡ find e ys = rw t2 refl in
+    sym hx ∙ h e ∙ hy) in
+    ap (λ z. z ∷ xs) q ∙ ap (λ z. y ∷ z) (same_ranges xs ys u.1 w.1 tails))
+    (λ l. let p : None ≡ Some y = sym (find_above y.1 (x ∷ xs) l u) ∙ h y.1 ∙ fy in cc)
+
+-- the ranges of shards, with their primaries in place of the places
+abbrev with_key : Address → ℕ × ℕ → Entry (Option Address)
+with_key p b = (b.0, b.1, Some p)
+
+abbrev parts : List ShardNodes → List (Entry (Option Address))
+parts [] = []
+parts (s ∷ ss) = map (with_key s.primary) s.ranges ++ parts ss
+
+got_there : {X : Type 0} (pre : List X) (x : X) (xs : List X) → slice_get (pre ++ x ∷ xs) (length pre) ≡ Some x
+got_there [] x xs = refl
+got_there (p ∷ ps) x xs = got_there ps x xs
+
+tags_are : (g : ℕ → Option Address) (n : ℕ) (p : Address) (bs : List (ℕ × ℕ)) → g n ≡ Some p → map (with_value g) (map (placed n) bs) ≡ map (with_key p) bs
+tags_are g n p [] h = refl
+tags_are g n p (b ∷ bs) h = rw (h, tags_are g n p bs h) refl
+
+map-both : {X Y : Type 0} (f : X → Y) (xs ys : List X) → map f (xs ++ ys) ≡ map f xs ++ map f ys
+map-both f [] ys = refl
+map-both f (x ∷ xs) ys = ap (λ z. f x ∷ z) (map-both f xs ys)
+
+length_last : {X : Type 0} (xs : List X) (x : X) → length (xs ++ x ∷ []) ≡ length xs + 1
+length_last [] x = refl
+length_last (y ∷ ys) x = let h = length_last ys x in omega arith
+
+parts_are : (pre ps : List Address) (n : ℕ) (ss : List ShardNodes) → n ≡ length pre → ps ≡ pre ++ map primary_of ss → map (with_value (slice_get ps)) (placed_from n ss) ≡ parts ss
+parts_are pre ps n [] e q = refl
+parts_are pre ps n (s ∷ ss) e q =
+    let at : slice_get ps n ≡ Some s.primary = ap (λ z. slice_get z n) q ∙ ap (slice_get (pre ++ s.primary ∷ map primary_of ss)) e ∙ got_there pre s.primary (map primary_of ss) in
+    let m : suc n ≡ length (pre ++ s.primary ∷ []) = omega (arith, length_last pre s.primary) in
+    let w : ps ≡ (pre ++ s.primary ∷ []) ++ map primary_of ss = q ∙ sym (append_assoc pre (s.primary ∷ []) (map primary_of ss)) in
+    map-both (with_value (slice_get ps)) (map (placed n) s.ranges) (placed_from (suc n) ss)
+    ∙ ap (λ z. z ++ map (with_value (slice_get ps)) (placed_from (suc n) ss)) (tags_are (slice_get ps) n s.primary s.ranges at)
+    ∙ ap (λ z. map (with_key s.primary) s.ranges ++ z) (parts_are (pre ++ s.primary ∷ []) ps (suc n) ss m w)
+
+-- at an end, the ranges of one primary
+abbrev part : Address → List (Entry Nodes) → List (Entry (Option Address))
+part k rs = map (with_key k) (map ends_of (filter (has_primary k) rs))
+
+part_ends : (e : ℕ) (k : Address) (rs : List (Entry Nodes)) → filter (ends_with e) (part k rs) ≡ part k (filter (ends_with e) rs)
+part_ends e k [] = refl
+part_ends e k (r ∷ rs) = by_test (has_primary k r)
+    (λ h. rw h (by_test (nat_eq r.1 e) (λ t. rw (t, h) (ap (λ z. (r.0, r.1, Some k) ∷ z) (part_ends e k rs))) (λ t. rw t (part_ends e k rs))))
+    (λ h. rw h (by_test (nat_eq r.1 e) (λ t. rw (t, h) (part_ends e k rs)) (λ t. rw t (part_ends e k rs))))
+
+abbrev listed_option : {X : Type 0} → Option X → List X
+listed_option None = []
+listed_option (Some x) = x ∷ []
+
+none_ends : {V : Type 0} (e : ℕ) (rs : List (Entry V)) → EndsAfter e rs → Ascends rs → filter (ends_with e) rs ≡ []
+none_ends e [] s up = refl
+none_ends e (r ∷ rs) s up = let m : nat_eq r.1 e ≡ false = grind (arith, nat_tests) in rw m (none_ends e rs (EndsAfter-smaller e r.1 rs s up.0) up.1)
+
+one_ends : {V : Type 0} (e : ℕ) (rs : List (Entry V)) → Ascends rs → filter (ends_with e) rs ≡ listed_option (find e rs)
+one_ends e [] up = refl
+one_ends e (r ∷ rs) up = by_test (nat_eq r.1 e)
+    (λ h. let k : r.1 ≡ e = grind (arith, nat_tests) in rw h (ap (λ z. r ∷ z) (none_ends e rs (subst (λ z. EndsAfter z rs) k up.0) up.1)))
+    (λ h. rw h (one_ends e rs up.1))
+
+last_of-append : {X : Type 0} (o : Option X) (xs ys : List X) → last_of o (xs ++ ys) ≡ last_of (last_of o xs) ys
+last_of-append o [] ys = refl
+last_of-append o (x ∷ xs) ys = last_of-append (Some x) xs ys
+
+-- at an end that no range has
+last_none : (e : ℕ) (rs : List (Entry Nodes)) → filter (ends_with e) rs ≡ [] → (ks : List Address) (o : Option (Entry (Option Address))) → last_of o (filter (ends_with e) (parts (map (shard_of rs) ks))) ≡ o
+last_none e rs h [] o = refl
+last_none e rs h (k ∷ ks) o =
+    ap (last_of o) (filter-append (ends_with e) (part k rs) (parts (map (shard_of rs) ks)))
+    ∙ ap (λ z. last_of o (z ++ filter (ends_with e) (parts (map (shard_of rs) ks)))) (part_ends e k rs ∙ ap (part k) h)
+    ∙ last_none e rs h ks o
+
+same_cond : {X : Type 0} (b : Bool) (x : X) → cond b x x ≡ x
+same_cond true x = refl
+same_cond false x = refl
+
+abbrev keyed : Entry Nodes → Entry (Option Address)
+keyed r = with_value (λ n. Some n.primary) r
+
+-- at an end that r has
+last_one : (e : ℕ) (rs : List (Entry Nodes)) (r : Entry Nodes) → filter (ends_with e) rs ≡ r ∷ [] → (ks : List Address) (o : Option (Entry (Option Address))) → last_of o (filter (ends_with e) (parts (map (shard_of rs) ks))) ≡ cond (list_any (same_address (entry_primary r)) ks) (Some (keyed r)) o
+last_one e rs r h [] o = refl
+last_one e rs r h (k ∷ ks) o =
+    ap (last_of o) (filter-append (ends_with e) (part k rs) (parts (map (shard_of rs) ks)))
+    ∙ ap (λ z. last_of o (z ++ filter (ends_with e) (parts (map (shard_of rs) ks)))) (part_ends e k rs ∙ ap (part k) h)
+    ∙ last_of-append o (part k (r ∷ [])) (filter (ends_with e) (parts (map (shard_of rs) ks)))
+    ∙ last_one e rs r h ks (last_of o (part k (r ∷ [])))
+    ∙ by_test (same_address (entry_primary r) k)
+    (λ t. let q : same_address k (entry_primary r) ≡ true = same_sym k (entry_primary r) ∙ t in
+    let w : Some (r.0, r.1, Some k) ≡ Some (keyed r) = ap (λ z. Some (r.0, r.1, Some z)) (sym (same_true (entry_primary r) k t)) in
+    rw (t, q) (ap (λ z. cond (list_any (same_address (entry_primary r)) ks) (Some (keyed r)) z) w ∙ same_cond (list_any (same_address (entry_primary r)) ks) (Some (keyed r))))
+    (λ t. let q : same_address k (entry_primary r) ≡ false = same_sym k (entry_primary r) ∙ t in rw (t, q) refl)
+
+find_keyed : (e : ℕ) (rs : List (Entry Nodes)) → find e (map keyed rs) ≡ option_map keyed (find e rs)
+find_keyed e [] = refl
+find_keyed e (r ∷ rs) = by_test (nat_eq r.1 e) (λ h. rw h refl) (λ h. rw h (find_keyed e rs))
+
+there : (e : ℕ) (rs : List (Entry Nodes)) (r : Entry Nodes) (q : Entry Nodes → Bool) → find e rs ≡ Some r → list_any q rs ≡ false → q r ≡ false
+there e [] r q = λ h k. cc
+there e (x ∷ xs) r q = by_test (q x)
+    (λ t. rw t (λ h k. cc))
+    (λ t. rw t (by_test (nat_eq x.1 e)
+    (λ s. rw s (λ h k. let i : x ≡ r = cc in ap q (sym i) ∙ t))
+    (λ s. rw s (λ h k. there e xs r q h k))))
+
+listed_primary : (e : ℕ) (rs : List (Entry Nodes)) (r : Entry Nodes) → find e rs ≡ Some r → list_any (same_address (entry_primary r)) (primaries rs) ≡ true
+listed_primary e rs r h = by_test (list_any (same_address (entry_primary r)) (primaries rs)) (λ t. t)
+    (λ t. let f : has_primary (entry_primary r) r ≡ false = there e rs r (has_primary (entry_primary r)) h (primaries_cover rs (entry_primary r) t) in
+    let k : true ≡ false = sym (same_refl (entry_primary r)) ∙ f in cc)
+
+look : (rs : List (Entry Nodes)) → Ascends rs → (e : ℕ) → find e (stepped [] (parts (primary_shards rs))) ≡ find e (map keyed rs)
+look rs up e =
+    find_inserted e [] (parts (primary_shards rs))
+    ∙ by_option (find e rs)
+    (λ h. last_none e rs (one_ends e rs up ∙ ap listed_option h) (primaries rs) None ∙ sym (find_keyed e rs ∙ ap (option_map keyed) h))
+    (λ r h. last_one e rs r (one_ends e rs up ∙ ap listed_option h) (primaries rs) None
+    ∙ ap (λ b. cond b (Some (keyed r)) None) (listed_primary e rs r h)
+    ∙ sym (find_keyed e rs ∙ ap (option_map keyed) h))
+
+above_keyed : (e : ℕ) (rs : List (Entry Nodes)) → EndsAfter e rs → EndsAfter e (map keyed rs)
+above_keyed e [] h = tt
+above_keyed e (r ∷ rs) h = h
+
+rises_keyed : (rs : List (Entry Nodes)) → Ascends rs → Ascends (map keyed rs)
+rises_keyed [] up = tt
+rises_keyed (r ∷ rs) up = (above_keyed r.1 rs up.0, rises_keyed rs up.1)
+
+-- the primary of an element by its place
+flat : (ss : List ShardNodes) (a : Option ℕ) (b : Option Nodes) → option_map (slice_get (map primary_of ss)) a ≡ option_map (λ n. Some n.primary) b → option_map primary_of (option_and_then (slice_get ss) a) ≡ option_map (λ n. n.primary) b
+flat ss None None h = refl
+flat ss None (Some n) h = cc
+flat ss (Some i) None h = cc
+flat ss (Some i) (Some n) h = let k : slice_get (map primary_of ss) i ≡ Some n.primary = cc in sym (slice_get-map primary_of ss i) ∙ k
+
+-- at each number the shard's primary is the map's, or there is neither
+same_answers : (rs : List (Entry Nodes)) → Ascends rs → (slot : ℕ) → option_map primary_of (option_and_then (slice_get (shards_of rs)) (answer (inserted [] (placed_from 0 (shards_of rs))) slot)) ≡ option_map (λ (n : Nodes). n.primary) (answer rs slot)
+same_answers rs up slot =
+    let ss = shards_of rs in
+    let ps = map primary_of ss in
+    let ranges = stepped [] (placed_from 0 ss) in
+    let looked : (e : ℕ) → find e (stepped [] (parts ss)) ≡ find e (map keyed rs) = λ e. ap (λ z. find e (stepped [] (parts z))) (sym (primary_shards-are rs)) ∙ look rs up e in
+    let resolved : map (with_value (slice_get ps)) ranges ≡ map keyed rs =
+    with_value-stepped (slice_get ps) [] (placed_from 0 ss) ∙ ap (stepped []) (parts_are [] ps 0 ss refl refl)
+    ∙ same_ranges _ _ (Ascends-stepped [] (parts ss) tt) (rises_keyed rs up) looked in
+    ap (λ z. option_map primary_of (option_and_then (slice_get ss) (answer z slot))) (stepped-is [] (placed_from 0 ss) tt)
+    ∙ flat ss (answer ranges slot) (answer rs slot)
+    (sym (with_value-answer (slice_get ps) ranges slot) ∙ ap (λ z. answer z slot) resolved ∙ with_value-answer (λ n. Some n.primary) rs slot)
+
+pub agrees : (rs : List (Entry Nodes)) → Ascends rs → Agrees rs (topology_of (shards_of rs))
+agrees rs up slot address =
+    let ss = shards_of rs in
+    let ranges = inserted [] (placed_from 0 ss) in
+    let rising : Ascends ranges = Ascends-inserted [] (placed_from 0 ss) tt in
+    let same = same_answers rs up slot in (
+      (λ (nodes, answers, is).
+          let found = answer-is rs slot nodes up answers in
+          by_option (answer ranges slot)
+          (λ none. let no : None ≡ Some nodes.primary = sym (ap (λ z. option_map primary_of (option_and_then (slice_get ss) z)) none) ∙ same ∙ ap (option_map (λ (n : Nodes). n.primary)) found in cc)
+          (λ place at. by_option (slice_get ss place)
+          (λ none. let no : None ≡ Some nodes.primary = sym (ap (λ z. option_map primary_of (option_and_then (slice_get ss) z)) at ∙ ap (option_map primary_of) none) ∙ same ∙ ap (option_map (λ (n : Nodes). n.primary)) found in cc)
+          (λ shard got.
+          let yes : Some shard.primary ≡ Some nodes.primary = sym (ap (λ z. option_map primary_of (option_and_then (slice_get ss) z)) at ∙ ap (option_map primary_of) got) ∙ same ∙ ap (option_map (λ (n : Nodes). n.primary)) found in
+          let one : shard.primary ≡ nodes.primary = cc in
+          (shard, (place, answer-some ranges slot place rising at, got), one ∙ sym is)))),
+      (λ (shard, (place, answers, got), is).
+          let found = answer-is ranges slot place rising answers in
+          let there : Some shard.primary ≡ option_map (λ (n : Nodes). n.primary) (answer rs slot) = sym (ap (λ z. option_map primary_of (option_and_then (slice_get ss) z)) found ∙ ap (option_map primary_of) got) ∙ same in
+          by_option (answer rs slot)
+          (λ none. let no : Some shard.primary ≡ None = there ∙ ap (option_map (λ (n : Nodes). n.primary)) none in cc)
+          (λ nodes at.
+          let yes : Some shard.primary ≡ Some nodes.primary = there ∙ ap (option_map (λ (n : Nodes). n.primary)) at in
+          let one : shard.primary ≡ nodes.primary = cc in
+          (nodes, answer-some rs slot nodes up at, sym is ∙ one))),
+    )

@@ -1,0 +1,115 @@
+-- An insert entry by entry, and the answer for a slot as a value.
+use Rattle.std.proofs.Common.{◌≡◌, ◌<◌, ◌≤◌, ℕ, inl, inr, cond, nat_le, nat_cmp, List, [], ◌∷◌, map, fold, Option, Some, None, option_map, Less, Equal, Greater, refl, sym, ap, subst, ◌∙◌, arith}
+use Rattle.std.specs.Ordering.{match_ordering}
+use Rattle.std.proofs.lemmas.Bool.{cases_order}
+use Rattle.std.proofs.lemmas.Bool.Decides.{nat_tests}
+use Rattle.slot_ranges.specs.RangeMap.{Entry, value_of, Ascends, Answers, IsUncovered, insert_entry}
+use Rattle.cluster_map.specs.Topology.{inserted}
+use Rattle.cluster_map.proofs.Members.{by_test}
+use Rattle.slot_ranges.proofs.Ranges.{ending_from, EndsFirstFrom-unique, EndsFirstFrom-answer, EndsFirstFrom-head, Answers-first, IsUncovered-first, IsUncovered-none, insert_entry-front, insert_entry-place, insert_entry-later, Ascends-insert_entry}
+
+abbrev pub insert_step : {V : Type 0} → List (Entry V) → ℕ → ℕ → V → List (Entry V)
+insert_step [] start end value = (start, end, value) ∷ []
+insert_step (r ∷ rs) start end value = match_ordering (nat_cmp end r.1) ((start, end, value) ∷ r ∷ rs) ((start, r.1, value) ∷ rs) (r ∷ insert_step rs start end value)
+
+pub insert_step-is : {V : Type 0} (es : List (Entry V)) (start end : ℕ) (value : V) → Ascends es → insert_entry es start end value ≡ insert_step es start end value
+insert_step-is [] start end value ascends = refl
+insert_step-is (r ∷ rs) start end value ascends = elim (cases_order end r.1) [
+  | inl same ↦
+      let order : nat_cmp end r.1 ≡ Equal = grind (arith, nat_tests) in
+      insert_entry-place r rs start end value ascends same ∙ rw order (ap (λ z. (start, z, value) ∷ rs) same)
+  | inr apart ↦ elim apart [
+    | inl before ↦
+        let order : nat_cmp end r.1 ≡ Less = grind (arith, nat_tests) in
+        insert_entry-front r rs start end value ascends before ∙ rw order refl
+    | inr later ↦
+        let order : nat_cmp end r.1 ≡ Greater = grind (arith, nat_tests) in
+        insert_entry-later r rs start end value later ∙ rw order (ap (λ z. r ∷ z) (insert_step-is rs start end value ascends.1))
+  ]
+]
+
+abbrev pub step : {V : Type 0} → List (Entry V) → Entry V → List (Entry V)
+step es e = insert_step es e.0 e.1 e.2
+
+abbrev pub stepped : {V : Type 0} → List (Entry V) → List (Entry V) → List (Entry V)
+stepped es more = fold step es more
+
+pub Ascends-inserted : {V : Type 0} (es more : List (Entry V)) → Ascends es → Ascends (inserted es more)
+Ascends-inserted es [] ascends = ascends
+Ascends-inserted es (x ∷ xs) ascends = Ascends-inserted (insert_entry es x.0 x.1 x.2) xs (Ascends-insert_entry es x.0 x.1 x.2 ascends)
+
+pub stepped-is : {V : Type 0} (es more : List (Entry V)) → Ascends es → inserted es more ≡ stepped es more
+stepped-is es [] ascends = refl
+stepped-is es (x ∷ xs) ascends =
+    stepped-is (insert_entry es x.0 x.1 x.2) xs (Ascends-insert_entry es x.0 x.1 x.2 ascends)
+    ∙ ap (λ z. stepped z xs) (insert_step-is es x.0 x.1 x.2 ascends)
+
+abbrev pub first_given : {V : Type 0} → ℕ → List (Entry V) → Option V
+first_given slot [] = None
+first_given slot (e ∷ es) = cond (nat_le e.0 slot) (Some e.2) None
+
+abbrev pub answer : {V : Type 0} → List (Entry V) → ℕ → Option V
+answer es slot = first_given slot (ending_from slot es)
+
+given_case : {V : Type 0} (es : List (Entry V)) (slot : ℕ) (value : V) (rest : List (Entry V)) → Ascends es → ending_from slot es ≡ rest → first_given slot rest ≡ Some value → Answers es slot value
+given_case es slot value [] ascends is given = cc
+given_case es slot value (e ∷ rest) ascends is given = by_test (nat_le e.0 slot)
+    (λ t.
+    let there : Some e.2 ≡ Some value = sym (rw t refl) ∙ given in
+    let same : e.2 ≡ value = cc in
+    let starts : e.0 ≤ slot = grind (arith, nat_tests) in
+    subst (λ v. Answers es slot v) same (Answers-first es slot e (EndsFirstFrom-head es slot e rest ascends is) starts))
+    (λ t. let there : None ≡ Some value = sym (rw t refl) ∙ given in cc)
+
+pub answer-some : {V : Type 0} (es : List (Entry V)) (slot : ℕ) (value : V) → Ascends es → answer es slot ≡ Some value → Answers es slot value
+answer-some es slot value ascends is = given_case es slot value (ending_from slot es) ascends refl is
+
+none_case : {V : Type 0} (es : List (Entry V)) (slot : ℕ) (rest : List (Entry V)) → Ascends es → ending_from slot es ≡ rest → first_given slot rest ≡ None → IsUncovered es slot
+none_case es slot [] ascends is given = IsUncovered-none es slot is
+none_case es slot (e ∷ rest) ascends is given = by_test (nat_le e.0 slot)
+    (λ t. let there : Some e.2 ≡ None = sym (rw t refl) ∙ given in cc)
+    (λ t.
+    let after : slot < e.0 = grind (arith, nat_tests) in
+    IsUncovered-first es slot e ascends (EndsFirstFrom-head es slot e rest ascends is) after)
+
+pub by_option : {X A : Type 0} (o : Option X) → (o ≡ None → A) → ((x : X) → o ≡ Some x → A) → A
+by_option None f g = f refl
+by_option (Some x) f g = g x refl
+
+pub Answers-unique : {V : Type 0} (es : List (Entry V)) (slot : ℕ) (v w : V) → Ascends es → Answers es slot v → Answers es slot w → v ≡ w
+Answers-unique es slot v w ascends a b =
+    ap value_of (EndsFirstFrom-unique es slot (a.start, a.end, v) (b.start, b.end, w) ascends (EndsFirstFrom-answer es slot v a) (EndsFirstFrom-answer es slot w b))
+
+pub answer-is : {V : Type 0} (es : List (Entry V)) (slot : ℕ) (value : V) → Ascends es → Answers es slot value → answer es slot ≡ Some value
+answer-is es slot value ascends a = by_option (answer es slot)
+    (λ none. absurd (none_case es slot (ending_from slot es) ascends refl none value a))
+    (λ w is. is ∙ ap Some (Answers-unique es slot w value ascends (answer-some es slot w ascends is) a))
+
+-- another value for each entry
+abbrev pub with_value : {A B : Type 0} → (A → B) → Entry A → Entry B
+with_value g e = (e.0, e.1, g e.2)
+
+pub with_value-step : {A B : Type 0} (g : A → B) (es : List (Entry A)) (start end : ℕ) (value : A) → map (with_value g) (insert_step es start end value) ≡ insert_step (map (with_value g) es) start end (g value)
+with_value-step g [] start end value = refl
+with_value-step g (r ∷ rs) start end value = elim (cases_order end r.1) [
+  | inl same ↦ let order : nat_cmp end r.1 ≡ Equal = grind (arith, nat_tests) in rw order refl
+  | inr apart ↦ elim apart [
+    | inl before ↦ let order : nat_cmp end r.1 ≡ Less = grind (arith, nat_tests) in rw order refl
+    | inr later ↦ let order : nat_cmp end r.1 ≡ Greater = grind (arith, nat_tests) in rw order (ap (λ z. with_value g r ∷ z) (with_value-step g rs start end value))
+  ]
+]
+
+pub with_value-stepped : {A B : Type 0} (g : A → B) (es more : List (Entry A)) → map (with_value g) (stepped es more) ≡ stepped (map (with_value g) es) (map (with_value g) more)
+with_value-stepped g es [] = refl
+with_value-stepped g es (x ∷ xs) = with_value-stepped g (step es x) xs ∙ ap (λ z. stepped z (map (with_value g) xs)) (with_value-step g es x.0 x.1 x.2)
+
+with_value-from : {A B : Type 0} (g : A → B) (slot : ℕ) (es : List (Entry A)) → ending_from slot (map (with_value g) es) ≡ map (with_value g) (ending_from slot es)
+with_value-from g slot [] = refl
+with_value-from g slot (e ∷ es) = by_test (nat_le slot e.1) (λ t. rw t (ap (λ z. with_value g e ∷ z) (with_value-from g slot es))) (λ t. rw t (with_value-from g slot es))
+
+with_value-given : {A B : Type 0} (g : A → B) (slot : ℕ) (es : List (Entry A)) → first_given slot (map (with_value g) es) ≡ option_map g (first_given slot es)
+with_value-given g slot [] = refl
+with_value-given g slot (e ∷ es) = by_test (nat_le e.0 slot) (λ t. rw t refl) (λ t. rw t refl)
+
+pub with_value-answer : {A B : Type 0} (g : A → B) (es : List (Entry A)) (slot : ℕ) → answer (map (with_value g) es) slot ≡ option_map g (answer es slot)
+with_value-answer g es slot = ap (first_given slot) (with_value-from g slot es) ∙ with_value-given g slot (ending_from slot es)

@@ -1,0 +1,14 @@
+use Rattle.std.proofs.Common.{◌≡◌, ◌++◌, List, map}
+use Rattle.cluster_map.specs.EachOnce.{each_once}
+use Rattle.slot_ranges.specs.Nodes.{Nodes}
+use Rattle.slot_ranges.specs.RangeMap.{value_of}
+use Rattle.cluster_map.specs.Targets.{targets}
+use Rattle.cluster_map.proofs.Members.{primary_of}
+use Rattle.cluster_map.proofs.slot_map.SlotMap.addresses_for_all_primaries.Given as goal
+
+-- the members are the primaries of the ranges so far
+abbrev pub invariant-loop-addrs : goal.invariant-loop-addrs
+invariant-loop-addrs l =
+    (goal.iterator-loop-addrs).can_next l.addrs-iterator ×
+    (goal.iterator-loop-addrs).is_finite l.addrs-iterator ×
+    ((done : List Nodes) × (done ++ l.addrs-iterator ≡ map value_of l.self) × (targets l.seen.keys ≡ each_once (map primary_of done)))

@@ -1,0 +1,26 @@
+use Rattle.std.proofs.Common.{◌∙◌, ◌++◌, ◌∷◌, [], ap, sym, append_assoc}
+use Rattle.std.proofs.lemmas.List.{append-nil}
+use Rattle.slot_ranges.specs.Nodes.{Nodes}
+use Rattle.slot_ranges.specs.RangeMap.{Entry}
+use Rattle.cluster_map.specs.Topology.{shards_of}
+use Rattle.cluster_map.proofs.slot_map.grouping.shards_of.Goals as goal
+
+pub loop-start-preserved : goal.loop-start-preserved
+loop-start-preserved c =
+    let done = c.loop-start.invariant.3.0 in
+    let e : Entry Nodes = (c.in-Some.start, c.in-Some.end, c.in-Some.addrs.now) in (
+      tt,
+      tt,
+      c.in_ok-add_range.ensures.keys,
+      (
+        done ++ e ∷ [],
+        append_assoc done (e ∷ []) c.next.new.self ∙ ap (λ z. done ++ z) (sym c.in-Some.ensures.steps) ∙ c.loop-start.invariant.3.1,
+        c.in_ok-add_range.ensures.shards done c.loop-start.invariant.3.2,
+      ),
+    )
+
+pub returns : goal.returns
+returns c =
+    let done = c.loop-start.invariant.3.0 in
+    c.loop-start.invariant.3.2
+    ∙ ap shards_of (sym (append-nil done) ∙ ap (λ z. done ++ z) (sym c.in-None.ensures.steps.0) ∙ c.loop-start.invariant.3.1)

@@ -1,0 +1,51 @@
+ghost use Rattle.std.specs.Prelude.{◌≡◌, ◌++◌, ◌∷◌, [], List, map, IfOk, OnOk};
+ghost use Rattle.slot_ranges.specs.Nodes.{Nodes};
+ghost use Rattle.slot_ranges.specs.RangeMap.{Entry};
+ghost use Rattle.cluster_map.specs.Targets.{targets};
+ghost use Rattle.cluster_map.specs.Topology.{primary_of, shards_of};
+
+use crate::read_routing::Shard;
+use crate::slot_map::SlotAddrs;
+use cluster_slots::NodeAddress;
+use indexmap::IndexSet;
+use slot_ranges::slot_range_map::SlotRangeMap;
+use std::alloc::{AllocError, Global};
+
+/// The shards of the ranges, by first appearance of their primaries.
+pub(crate) fn shards_of(
+    alloc: Global,
+    ranges: &SlotRangeMap<SlotAddrs>,
+) -> Result<Vec<Shard>, AllocError>
+    ensures { IfOk result (λ shards. shards.items ≡ shards_of ranges.now) }
+{
+    let mut seen: IndexSet<&NodeAddress> = IndexSet::new(alloc);
+    let mut shards = Vec::new(alloc);
+    for (start, end, addrs) in ranges.iter() {
+        add_range(alloc, &mut seen, &mut shards, start, end, addrs)?;
+    }
+    Ok(shards)
+}
+
+/// Adds a range to the shard with its primary, or makes that shard. The primaries of the shards are
+/// in the set, each at the place of its shard.
+fn add_range<'a>(
+    alloc: Global,
+    seen: &mut IndexSet<&'a NodeAddress>,
+    shards: &mut Vec<Shard>,
+    start: u16,
+    end: u16,
+    addrs: &'a SlotAddrs,
+) -> Result<(), AllocError>
+    requires { targets seen.old.keys ≡ map primary_of shards.old.items }
+    ensures keys { OnOk result (targets seen.new.keys ≡ map primary_of shards.new.items) }
+    ensures shards { OnOk result ((es : List (Entry Nodes)) → shards.old.items ≡ shards_of es → shards.new.items ≡ shards_of (es ++ (start, end, addrs.now) ∷ [])) }
+{
+    let (place, is_new) = seen.insert_full(addrs.primary())?;
+    if is_new {
+        shards.push(Shard::of_range(alloc, start, end, addrs.primary(), addrs.replicas())?)?;
+    } else {
+        let shard = &mut shards[place];
+        shard.push_range(start, end)?;
+    }
+    Ok(())
+}

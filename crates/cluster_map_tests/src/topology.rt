@@ -1,0 +1,260 @@
+use cluster_map::{Route, SlotAddr, SlotMap, SlotRange, parse_slots, slot_cmd};
+use resp_core::Value;
+use std::alloc::{AllocError, Global};
+use std::test::Fail;
+
+// Texts stand in backquotes, a status behind a plus, and any other word is a number.
+fn word(alloc: Global, text: &str) -> Result<Value, Fail> {
+    if text == "nil" {
+        return Ok(Value::Nil);
+    }
+    if let Some(bulk) = text.strip_prefix('`') {
+        let bytes = bulk.trim_end_matches('`').as_bytes();
+        return Ok(Value::BulkString(bytes.to_vec(alloc)?));
+    }
+    if let Some(status) = text.strip_prefix('+') {
+        return Ok(Value::SimpleString(String::from_str(alloc, status)?));
+    }
+    let number: i64 = text.parse()?;
+    Ok(Value::Int(number))
+}
+
+// An array of the words of the text, in which brackets make arrays.
+fn array(alloc: Global, text: &str) -> Result<Value, Fail> {
+    let mut open = Vec::new(alloc);
+    let mut items = Vec::new(alloc);
+    for part in text.split(' ') {
+        match part {
+            "" => {}
+            "[" => {
+                open.push(items)?;
+                items = Vec::new(alloc);
+            }
+            "]" => {
+                let array = Value::Array(items);
+                items = open.pop().ok_or("a bracket too many")?;
+                items.push(array)?;
+            }
+            _ => items.push(word(alloc, part)?)?,
+        }
+    }
+    Ok(Value::Array(items))
+}
+
+// The ranges with their nodes, the primary first.
+fn printed(alloc: Global, ranges: &[SlotRange]) -> Result<String, AllocError> {
+    let mut text = String::new(alloc);
+    for range in ranges {
+        let (start, end, master) = (range.start, range.end, &range.master);
+        text.push_str(format!(in alloc; "({start} {end} {master}")?.as_str())?;
+        for replica in &range.replicas {
+            text.push_str(format!(in alloc; " {replica}")?.as_str())?;
+        }
+        text.push(')')?;
+    }
+    Ok(text)
+}
+
+#[test]
+fn a_reply_is_read_item_by_item(rt: HostRuntime) -> Result<(), Fail> {
+    let alloc = rt.alloc();
+    let table = [
+        ("node", "[ 0 4000 [ `` 6379 ] ]", "(0 4000 node:6379)"),
+        (
+            "answer.host",
+            "[ 0 100 [ `0.0.0.0` 7000 ] ]",
+            "(0 100 answer.host:7000)",
+        ),
+        (
+            "answer6.host",
+            "[ 200 300 [ `::` 7001 ] ]",
+            "(200 300 answer6.host:7001)",
+        ),
+        (
+            "node",
+            "[ 0 10 [ `` 1 ] ] [ 1 2 ] [ 11 20 [ `?` 1 ] [ `h` 70000 ] [ `k` 3 ] [ nil 4 ] ] 7 [ 30 40 [ `z` 1 ] ]",
+            "(0 10 node:1)(11 20 k:3 node:4)",
+        ),
+        ("", "[ 0 10 [ nil 5 ] ]", ""),
+        ("?", "[ 0 10 [ nil 5 ] ]", "(0 10 ?:5)"),
+        ("node", "[ 0 10 3 [ `h` 1 ] ]", "(0 10 h:1)"),
+        ("node", "[ 10 0 [ `h` 1 ] ]", "(10 0 h:1)"),
+        ("node", "[ 0 65536 [ `h` 1 ] ]", ""),
+        ("node", "[ -1 5 [ `h` 1 ] ]", ""),
+        ("node", "[ 0 10 [ `h` 1 nil ] [ `h` 1 ] ]", "(0 10 h:1 h:1)"),
+        ("node", "", ""),
+        ("node", "[ ]", ""),
+        ("node", "[ 0 1 ]", ""),
+        ("node", "[ `0` 1 [ `h` 1 ] ]", ""),
+        ("node", "[ 0 1 [ ] ]", ""),
+        ("node", "[ 0 1 [ `h` ] ]", ""),
+        ("node", "[ 0 1 [ `h` `1` ] ]", ""),
+        ("node", "[ 0 1 [ 5 1 ] ]", ""),
+        ("node", "[ 0 1 [ +h 1 ] ]", ""),
+        ("node", "[ 0 65535 [ `h` 1 ] ]", "(0 65535 h:1)"),
+        ("node", "[ 0 1 [ `h` -1 ] ]", ""),
+        ("node", "[ 0 1 [ `h` 9223372036854775807 ] ]", ""),
+        (
+            "node",
+            "[ 0 1 [ `h` 0 ] ] [ 2 3 [ `h` 65535 ] ]",
+            "(0 1 h:0)(2 3 h:65535)",
+        ),
+        (
+            "",
+            "[ 0 1 [ `` 1 ] [ `a` 2 ] [ `b` 3 ] [ `0.0.0.0` 4 ] ]",
+            "(0 1 a:2 b:3)",
+        ),
+        ("node", "[ ] nil [ 0 1 [ `h` 1 ] ]", ""),
+        (
+            "node",
+            "[ 0 1 [ `h` 1 ] ] [ 0 1 [ `h` 1 ] ]",
+            "(0 1 h:1)(0 1 h:1)",
+        ),
+    ];
+    for (answering, text, want) in table {
+        let ranges = parse_slots(alloc, &array(alloc, text)?, answering)?;
+        let found = printed(alloc, &ranges)?;
+        assert_eq!(rt; found.as_str(), want, "{text} from {answering:?}");
+    }
+    Ok(())
+}
+
+// Written by Redis 7.0.15, with the names of nodes it was told, with none, and before it knew a
+// host of its own. Behind the id of a node stands what else it has to tell of it.
+#[test]
+fn replies_of_a_server_are_read(rt: HostRuntime) -> Result<(), Fail> {
+    let alloc = rt.alloc();
+    let table = [
+        (
+            "[ 0 5460 [ `127.0.0.1` 27001 `82ced503` [ ] ] [ `127.0.0.1` 27005 `90f212ae` [ ] ] ]",
+            "(0 5460 127.0.0.1:27001 127.0.0.1:27005)",
+        ),
+        (
+            "[ 0 5460 [ `::1` 27201 `de8ed1e3` [ ] ] [ `::1` 27204 `312fcde8` [ ] ] ]",
+            "(0 5460 ::1:27201 ::1:27204)",
+        ),
+        (
+            "[ 10923 16383 [ `?` 27103 `874edf41` [ `ip` `127.0.0.1` ] ] [ `localhost` 27104 `85e5efb5` [ `ip` `127.0.0.1` ] ] ]",
+            "(10923 16383 localhost:27104)",
+        ),
+        (
+            "[ 0 5460 [ nil 27001 `82ced503` [ `ip` `127.0.0.1` ] ] [ nil 27005 `90f212ae` [ `ip` `127.0.0.1` ] ] ]",
+            "(0 5460 node:27001 node:27005)",
+        ),
+        (
+            "[ 0 16383 [ `` 27301 `50bf93c0` [ ] ] ]",
+            "(0 16383 node:27301)",
+        ),
+    ];
+    for (text, want) in table {
+        let ranges = parse_slots(alloc, &array(alloc, text)?, "node")?;
+        let found = printed(alloc, &ranges)?;
+        assert_eq!(rt; found.as_str(), want, "{text}");
+    }
+    Ok(())
+}
+
+#[test]
+fn a_reply_that_is_not_an_array_has_no_ranges(rt: HostRuntime) -> Result<(), Fail> {
+    let alloc = rt.alloc();
+    let item = array(alloc, "0 1 [ `h` 1 ]")?;
+    let replies = vec![in alloc;
+        Value::Nil,
+        Value::Okay,
+        Value::Int(0),
+        word(alloc, "`h`")?,
+        word(alloc, "+h")?,
+        Value::Map(vec![in alloc; (Value::Int(0), item)]?),
+    ]?;
+    for reply in &replies {
+        let ranges = parse_slots(alloc, reply, "node")?;
+        assert!(rt; ranges.is_empty(), "{reply:?}");
+    }
+    Ok(())
+}
+
+#[test]
+fn a_host_that_is_not_utf8_has_replacement_characters(rt: HostRuntime) -> Result<(), Fail> {
+    let alloc = rt.alloc();
+    let host = Value::BulkString([255, 120].to_vec(alloc)?);
+    let node = Value::Array(vec![in alloc; host, Value::Int(1)]?);
+    let item = Value::Array(vec![in alloc; Value::Int(0), Value::Int(10), node]?);
+    let ranges = parse_slots(alloc, &Value::Array(vec![in alloc; item]?), "node")?;
+    let found = printed(alloc, &ranges)?;
+    assert_eq!(rt; found.as_str(), "(0 10 \u{fffd}x:1)");
+    Ok(())
+}
+
+#[test]
+fn a_reply_makes_a_map(rt: HostRuntime) -> Result<(), Fail> {
+    let alloc = rt.alloc();
+    let halves = "[ 0 8191 [ `n1` 1 ] ] [ 8192 16383 [ `n2` 2 ] [ `r2` 3 ] ]";
+    let replaced = "[ 0 8191 [ `n1` 1 ] ] [ 8192 16383 [ `n2` 2 ] ] [ 9000 16383 [ `n3` 3 ] ]";
+    let table = [
+        (halves, "foo", SlotAddr::Master, Some(("n2", 2))),
+        (halves, "foo", SlotAddr::ReplicaOptional, Some(("n2", 2))),
+        (halves, "foo", SlotAddr::ReplicaRequired, Some(("r2", 3))),
+        (halves, "b", SlotAddr::ReplicaRequired, Some(("n1", 1))),
+        (replaced, "foo", SlotAddr::Master, Some(("n3", 3))),
+        ("[ 0 12181 [ `n1` 1 ] ]", "foo", SlotAddr::Master, None),
+        ("7 [ 0 16383 [ `n1` 1 ] ]", "foo", SlotAddr::Master, None),
+    ];
+    for (text, key, addr, want) in table {
+        let map = SlotMap::from_reply(alloc, &array(alloc, text)?, "node")?;
+        let node = map.slot_addr_for_route(Route::with_key(key.as_bytes(), addr), 0);
+        assert_eq!(rt;
+            node.map(|n| (n.host(), n.port())),
+            want,
+            "{key} as {addr:?} in {text}"
+        );
+    }
+    Ok(())
+}
+
+#[test]
+fn a_reply_may_have_an_item_for_each_slot(rt: HostRuntime) -> Result<(), Fail> {
+    let alloc = rt.alloc();
+    let mut items = Vec::new(alloc);
+    for slot in 0..16384 {
+        let node = Value::Array(vec![in alloc; word(alloc, "`h`")?, Value::Int(slot)]?);
+        items.push(Value::Array(vec![in alloc; Value::Int(slot), Value::Int(slot), node]?))?;
+    }
+    let reply = Value::Array(items);
+    assert_eq!(rt; parse_slots(alloc, &reply, "node")?.len(), 16384);
+    let map = SlotMap::from_reply(alloc, &reply, "node")?;
+    for slot in 0..16384 {
+        let node = map.slot_addr_for_route(Route::new(slot, SlotAddr::Master), 0);
+        assert_eq!(rt; node.map(|n| n.port()), Some(slot), "slot {slot}");
+    }
+    Ok(())
+}
+
+#[test]
+fn a_reply_may_be_nested_deeply(rt: HostRuntime) -> Result<(), Fail> {
+    let alloc = rt.alloc();
+    let mut deep = Value::Nil;
+    for _ in 0..1000 {
+        deep = Value::Array(vec![in alloc; deep]?);
+    }
+    let item = Value::Array(vec![in alloc;
+        Value::Int(0),
+        Value::Int(10),
+        deep,
+        array(alloc, "`h` 1")?,
+    ]?);
+    let ranges = parse_slots(alloc, &Value::Array(vec![in alloc; item]?), "node")?;
+    let found = printed(alloc, &ranges)?;
+    assert_eq!(rt; found.as_str(), "(0 10 h:1)");
+    Ok(())
+}
+
+#[test]
+fn the_slots_command_has_two_words(rt: HostRuntime) -> Result<(), Fail> {
+    let cmd = slot_cmd(rt.alloc())?;
+    let words: [&[u8]; 2] = [b"CLUSTER", b"SLOTS"];
+    assert_eq!(rt; cmd.len(), 2);
+    for (i, word) in cmd.args().enumerate() {
+        assert_eq!(rt; Some(word), words.get(i).copied(), "word {i}");
+    }
+    Ok(())
+}

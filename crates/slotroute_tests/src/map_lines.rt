@@ -1,0 +1,134 @@
+use crate::serve::{Run, check};
+use std::test::Fail;
+
+#[test]
+fn a_blank_line_ends_the_map(rt: HostRuntime) -> Result<(), Fail> {
+    let runs: [Run; 3] = [
+        // Nothing after it is read as a map line.
+        (
+            &["node", "foo"],
+            b"0 8191 n1:1\n\nx\n",
+            b"slot 12182 none\n",
+            b"",
+            1,
+        ),
+        (
+            &["node", "foo"],
+            b"0 8191 n1:1\n   \nx\n",
+            b"slot 12182 none\n",
+            b"",
+            1,
+        ),
+        (
+            &["node", "foo"],
+            b"\n0 16383 n1:1\n",
+            b"slot 12182 none\n",
+            b"",
+            1,
+        ),
+    ];
+    check(&rt, rt.alloc(), &runs)
+}
+
+#[test]
+fn good_map_lines(rt: HostRuntime) -> Result<(), Fail> {
+    let runs: [Run; 4] = [
+        (
+            &["node", "foo"],
+            b"8192 16383 n2:2\r",
+            b"slot 12182 n2:2\n",
+            b"",
+            0,
+        ),
+        (
+            &["node", "foo"],
+            b"0 8191 n1:1\r\n8192 16383 n2:2\r\n",
+            b"slot 12182 n2:2\n",
+            b"",
+            0,
+        ),
+        (
+            &["node", "foo"],
+            b"  0   16383  n1:1   [::1]:+07  ",
+            b"slot 12182 n1:1\n",
+            b"",
+            0,
+        ),
+        (
+            &["node", "foo"],
+            b"+0 +16383 [[h]]]:0\n",
+            b"slot 12182 h:0\n",
+            b"",
+            0,
+        ),
+    ];
+    check(&rt, rt.alloc(), &runs)
+}
+
+#[test]
+fn ranges_that_meet(rt: HostRuntime) -> Result<(), Fail> {
+    let runs: [Run; 3] = [
+        // A reversed range hides another at its end, which is slot 0 here.
+        (
+            &["node", "foo"],
+            b"16383 0 n1:1\n0 65535 n2:2\n",
+            b"slot 12182 n2:2\n",
+            b"",
+            0,
+        ),
+        (
+            &["node", ""],
+            b"16383 0 n1:1\n0 65535 n2:2\n",
+            b"slot 0 none\n",
+            b"",
+            1,
+        ),
+        (
+            &["node", "foo"],
+            b"0 65535 n2:2\n",
+            b"slot 12182 n2:2\n",
+            b"",
+            0,
+        ),
+    ];
+    check(&rt, rt.alloc(), &runs)
+}
+
+#[test]
+fn bad_map_lines(rt: HostRuntime) -> Result<(), Fail> {
+    let first: &[u8] = b"slotroute: bad map line 1\n";
+    let second: &[u8] = b"slotroute: bad map line 2\n";
+    let runs: [Run; 11] = [
+        (&["node", "foo"], b"0 8191\n", b"", first, 2),
+        (
+            &["node", "foo"],
+            b"0 8191 n1:1\n8192 16383\n",
+            b"",
+            second,
+            2,
+        ),
+        (&["node", "foo"], b"0 65536 n1:1\n", b"", first, 2),
+        (
+            &["node", "foo"],
+            b"0 8191 n1:1\n-1 16383 n2:2\n",
+            b"",
+            second,
+            2,
+        ),
+        (&["node", "foo"], b"0 16383 n1\n", b"", first, 2),
+        (&["node", "foo"], b"0 16383 n1:1 n2\n", b"", first, 2),
+        (&["node", "foo"], b"0 16383 n\xff:1\n", b"", first, 2),
+        (
+            &["node", "foo"],
+            b"0 8191 n1:1\n8192 1638\xff n2:2\n",
+            b"",
+            second,
+            2,
+        ),
+        // A tab parts no fields, and of two carriage returns at the end one is dropped.
+        (&["node", "foo"], b"0\t16383 n1:1\n", b"", first, 2),
+        (&["node", "foo"], b"0 16383 n1:1\r\r\n", b"", first, 2),
+        (&["node", "foo"], b"x\n0 8191\n", b"", first, 2),
+    ];
+    check(&rt, rt.alloc(), &runs)
+}
