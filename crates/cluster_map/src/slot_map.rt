@@ -303,7 +303,6 @@ impl SlotMap {
         ensures agrees { IfOk result (λ topology. Agrees self.now topology) }
         ensures order { Ascends self.now }
     {
-        let _entries = self.slots.iter();
         let shards = shards_of(alloc, &self.slots)?;
         let topology = ClusterTopology::from_shards(alloc, shards)?;
         Ok(topology)

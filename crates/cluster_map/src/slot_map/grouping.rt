@@ -1,6 +1,6 @@
 ghost use Rattle.std.specs.Prelude.{◌≡◌, ◌++◌, ◌∷◌, [], List, map, IfOk, OnOk};
 ghost use Rattle.slot_ranges.specs.Nodes.{Nodes};
-ghost use Rattle.slot_ranges.specs.RangeMap.{Entry};
+ghost use Rattle.slot_ranges.specs.RangeMap.{Entry, Ascends};
 ghost use Rattle.cluster_map.specs.Targets.{targets};
 ghost use Rattle.cluster_map.specs.Topology.{primary_of, shards_of};
 
@@ -16,7 +16,8 @@ pub(crate) fn shards_of(
     alloc: Global,
     ranges: &SlotRangeMap<SlotAddrs>,
 ) -> Result<Vec<Shard>, AllocError>
-    ensures { IfOk result (λ shards. shards.items ≡ shards_of ranges.now) }
+    ensures shards { IfOk result (λ shards. shards.items ≡ shards_of ranges.now) }
+    ensures order { Ascends ranges.now }
 {
     let mut seen: IndexSet<&NodeAddress> = IndexSet::new(alloc);
     let mut shards = Vec::new(alloc);

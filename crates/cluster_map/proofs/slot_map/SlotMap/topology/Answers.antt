@@ -7,7 +7,7 @@ use Rattle.cluster_map.proofs.slot_map.SlotMap.topology.Goals as goal
 pub returns-clause-agrees : goal.returns-clause-agrees
 returns-clause-agrees c =
     let entries = c.args.self.now in
-    let up : Ascends entries = rw (← c.self.view_is) c.iter-entries.ensures.order in
+    let up : Ascends entries = rw (← c.self.view_is) c.shards_of.ensures.order in
     let is : c.in_ok-topology.topology ≡ topology_of (shards_of entries) =
-    c.in_ok-topology.ensures.put ∙ ap topology_of (c.in_ok-shards.ensures ∙ ap shards_of c.self.view_is) in
+    c.in_ok-topology.ensures.put ∙ ap topology_of (c.in_ok-shards.ensures.shards ∙ ap shards_of c.self.view_is) in
     subst (Agrees entries) (sym is) (agrees entries up)

@@ -19,8 +19,8 @@ loop-start-preserved c =
       ),
     )
 
-pub returns : goal.returns
-returns c =
+pub returns-clause-shards : goal.returns-clause-shards
+returns-clause-shards c =
     let done = c.loop-start.invariant.3.0 in
     c.loop-start.invariant.3.2
     ∙ ap shards_of (sym (append-nil done) ∙ ap (λ z. done ++ z) (sym c.in-None.ensures.steps.0) ∙ c.loop-start.invariant.3.1)
