@@ -44,6 +44,7 @@ pub trait ReadRoutingStrategyFactory {
 }
 
 /// Makes strategies by their `Default`.
+#[derive(Drop)]
 pub struct DefaultFactory<T> {
     strategy: PhantomData<T>,
 }

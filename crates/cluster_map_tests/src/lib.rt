@@ -4,6 +4,8 @@
 #[cfg(test)]
 mod node_address;
 #[cfg(test)]
+mod read_routing;
+#[cfg(test)]
 mod slot;
 #[cfg(test)]
 mod slot_map;

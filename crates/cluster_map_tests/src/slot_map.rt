@@ -1,3 +1,4 @@
+use crate::read_routing::{FirstReplica, primaries_of};
 use cluster_map::{NodeAddress, Route, SlotAddr, SlotMap, SlotRange};
 use resp_core::RedisResult;
 use std::alloc::{AllocError, Global};
@@ -157,6 +158,284 @@ fn ranges_are_equal_where_their_ends_and_nodes_are(rt: HostRuntime) -> Result<()
     for (what, (start, end, master, replicas), same) in table {
         let other = range_of(alloc, start, end, master, replicas)?;
         assert_eq!(rt; range == other, same, "{what}");
+    }
+    Ok(())
+}
+
+fn map_of(alloc: Global, ranges: &[(u16, u16, &str, &[&str])]) -> RedisResult<SlotMap> {
+    let mut slots = Vec::new(alloc);
+    for (start, end, master, replicas) in ranges {
+        slots
+            .push(range_of(alloc, *start, *end, *master, *replicas)?)
+            .map_err(AllocError::from)?;
+    }
+    Ok(SlotMap::from_slots(alloc, slots)?)
+}
+
+/// Three shards, of which the second has two ranges.
+fn three_shards(alloc: Global) -> RedisResult<SlotMap> {
+    map_of(
+        alloc,
+        &[
+            (1, 1000, "node1:6379", &["replica1:6379"]),
+            (
+                1002,
+                2000,
+                "node2:6379",
+                &["replica2:6379", "replica3:6379"],
+            ),
+            (
+                2001,
+                3000,
+                "node3:6379",
+                &["replica4:6379", "replica5:6379", "replica6:6379"],
+            ),
+            (
+                3001,
+                4000,
+                "node2:6379",
+                &["replica2:6379", "replica3:6379"],
+            ),
+        ],
+    )
+}
+
+/// The hosts, each before a space.
+fn hosts(alloc: Global, nodes: &[&NodeAddress]) -> Result<String, AllocError> {
+    let mut text = String::new(alloc);
+    for node in nodes {
+        text.push_str(node.host())?;
+        text.push(' ')?;
+    }
+    Ok(text)
+}
+
+#[test]
+fn a_lent_strategy_is_asked_for_reads_where_there_are_replicas(
+    rt: HostRuntime,
+) -> Result<(), Fail> {
+    let alloc = rt.alloc();
+    let three = ["r:1", "r:2", "r:3"];
+    let none: [&str; 0] = [];
+    let table = [
+        (three.as_slice(), SlotAddr::Master, ("p", 1)),
+        (three.as_slice(), SlotAddr::ReplicaOptional, ("r", 1)),
+        (three.as_slice(), SlotAddr::ReplicaRequired, ("r", 1)),
+        (none.as_slice(), SlotAddr::ReplicaOptional, ("p", 1)),
+        (none.as_slice(), SlotAddr::ReplicaRequired, ("p", 1)),
+    ];
+    for (replicas, addr, wanted) in table {
+        let map = map_of(alloc, &[(1, 1000, "p:1", replicas)])?;
+        let route = Route::new(500, addr);
+        let node = map.slot_addr_for_route(route, Some(&FirstReplica), 4);
+        assert_eq!(rt;
+            node.map(|n| (n.host(), n.port())),
+            Some(wanted),
+            "{addr:?}, replicas {replicas:?}"
+        );
+        assert!(rt;
+            map.slot_addr_for_route(Route::new(1001, addr), Some(&FirstReplica), 4)
+                .is_none(),
+            "no range"
+        );
+    }
+    Ok(())
+}
+
+#[test]
+fn fallbacks_are_the_replicas_and_then_the_primary(rt: HostRuntime) -> Result<(), Fail> {
+    let alloc = rt.alloc();
+    let map = three_shards(alloc)?;
+    let table = [
+        (1500, SlotAddr::ReplicaOptional, "replica2 replica3 node2 "),
+        (1500, SlotAddr::Master, ""),
+        (
+            2500,
+            SlotAddr::ReplicaRequired,
+            "replica4 replica5 replica6 ",
+        ),
+        (1001, SlotAddr::ReplicaOptional, ""),
+    ];
+    for (slot, addr, wanted) in table {
+        let mut text = String::new(alloc);
+        for node in &map.shard_fallback_addrs(alloc, Route::new(slot, addr))? {
+            text.push_str(node.host())?;
+            text.push(' ')?;
+        }
+        assert_eq!(rt; text.as_str(), wanted, "slot {slot}, {addr:?}");
+    }
+    Ok(())
+}
+
+#[test]
+fn primaries_and_nodes_are_listed_once(rt: HostRuntime) -> Result<(), Fail> {
+    let alloc = rt.alloc();
+    let map = three_shards(alloc)?;
+    let primaries = map.addresses_for_all_primaries(alloc)?;
+    assert_eq!(rt;
+        hosts(alloc, &primaries)?.as_str(),
+        "node1 node2 node3 ",
+        "primaries"
+    );
+    let nodes = map.addresses_for_all_nodes(alloc)?;
+    assert_eq!(rt;
+        hosts(alloc, &nodes)?.as_str(),
+        "node1 replica1 node2 replica2 replica3 node3 replica4 replica5 replica6 ",
+        "nodes"
+    );
+    Ok(())
+}
+
+#[test]
+fn each_of_many_routes_has_its_node(rt: HostRuntime) -> Result<(), Fail> {
+    let alloc = rt.alloc();
+    let map = three_shards(alloc)?;
+    let read = SlotAddr::ReplicaOptional;
+    let write = SlotAddr::Master;
+    let two = [(1, write), (2001, read)];
+    let six = [
+        (1, read),
+        (2001, write),
+        (2, read),
+        (2002, write),
+        (3, read),
+        (2003, write),
+    ];
+    let four = [(1, read), (5000, write), (6000, read), (2002, write)];
+    let table = [
+        (two.as_slice(), true, "node1 replica4 "),
+        (two.as_slice(), false, "node1 node3 "),
+        (
+            six.as_slice(),
+            true,
+            "replica1 node3 replica1 node3 replica1 node3 ",
+        ),
+        (four.as_slice(), true, "replica1 none none node3 "),
+    ];
+    for (slots, lent, wanted) in table {
+        let mut routes = Vec::new(alloc);
+        for (slot, addr) in slots {
+            routes.push((Route::new(*slot, *addr), Vec::new(alloc)))?;
+        }
+        let found = if lent {
+            map.addresses_for_multi_slot(alloc, &routes, Some(&FirstReplica), 0)?
+        } else {
+            map.addresses_for_multi_slot(alloc, &routes, None, 0)?
+        };
+        let mut text = String::new(alloc);
+        for node in &found {
+            text.push_str(node.map_or("none", |n| n.host()))?;
+            text.push(' ')?;
+        }
+        assert_eq!(rt; text.as_str(), wanted, "lent {lent}");
+    }
+    Ok(())
+}
+
+#[test]
+fn ranges_are_filled_listed_and_cleared(rt: HostRuntime) -> Result<(), Fail> {
+    let alloc = rt.alloc();
+    let mut map = map_of(alloc, &[(0, 100, "a:1", &["r:1"])])?;
+    let later = vec![in alloc; range_of(alloc, 0, 50, "b:1", &["s:1", "s:2"])?]?;
+    map.fill_slots(later)?;
+    let mut text = String::new(alloc);
+    for addrs in map.values() {
+        for node in addrs {
+            text.push_str(node.host())?;
+        }
+        text.push(' ')?;
+    }
+    assert_eq!(rt; text.as_str(), "bss ar ", "values");
+    map.clear();
+    assert_eq!(rt; map.values().count(), 0, "cleared");
+    assert!(rt;
+        map.slot_addr_for_route(Route::new(10, SlotAddr::Master), None, 0)
+            .is_none(),
+        "no range"
+    );
+    Ok(())
+}
+
+#[test]
+fn a_topology_has_a_shard_for_each_primary(rt: HostRuntime) -> Result<(), Fail> {
+    let alloc = rt.alloc();
+    let topology = three_shards(alloc)?.topology(alloc)?;
+    assert_eq!(rt;
+        primaries_of(alloc, &topology)?.as_str(),
+        "node1 node2 node3 ",
+        "shards"
+    );
+    for slot in [1001, 5000] {
+        assert!(rt; topology.shard_for_slot(slot).is_none(), "slot {slot}");
+    }
+    let Some(shard) = topology.shard_for_slot(3500) else {
+        return Err(Fail::new("other candidates or none"));
+    };
+    assert_eq!(rt; shard.primary().host(), "node2", "slot 3500");
+    assert_eq!(rt;
+        shard.slot_ranges(),
+        [(1002, 2000), (3001, 4000)].as_slice(),
+        "its ranges"
+    );
+    assert_eq!(rt; shard.replicas().len(), 2, "its replicas");
+    let map = map_of(
+        alloc,
+        &[
+            (0, 5000, "node1:6379", &["replica1:6379"]),
+            (5001, 10000, "node2:6379", &[]),
+        ],
+    )?;
+    let topology = map.topology(alloc)?;
+    let table = [
+        (5000, "node1", (0, 5000), 1),
+        (5001, "node2", (5001, 10000), 0),
+    ];
+    for (slot, primary, range, replicas) in table {
+        let Some(shard) = topology.shard_for_slot(slot) else {
+            return Err(Fail::new("other candidates or none"));
+        };
+        assert_eq!(rt; shard.primary().host(), primary, "slot {slot}");
+        assert_eq!(rt; shard.slot_ranges(), [range].as_slice(), "slot {slot}");
+        assert_eq!(rt; shard.replicas().len(), replicas, "slot {slot}");
+    }
+    assert_eq!(rt; topology.shards().count(), 2, "two shards");
+    Ok(())
+}
+
+#[test]
+fn a_slot_at_the_end_of_a_range_is_its_own(rt: HostRuntime) -> Result<(), Fail> {
+    let alloc = rt.alloc();
+    let map = map_of(
+        alloc,
+        &[
+            (1, 1000, "node1:6379", &["replica1:6379"]),
+            (1001, 2000, "node2:6379", &["replica2:6379"]),
+        ],
+    )?;
+    let table = [
+        (1, SlotAddr::Master, Some("node1")),
+        (500, SlotAddr::Master, Some("node1")),
+        (1000, SlotAddr::Master, Some("node1")),
+        (1000, SlotAddr::ReplicaOptional, Some("replica1")),
+        (1001, SlotAddr::Master, Some("node2")),
+        (1500, SlotAddr::Master, Some("node2")),
+        (2000, SlotAddr::Master, Some("node2")),
+        (2001, SlotAddr::Master, None),
+    ];
+    for (slot, addr, wanted) in table {
+        let node = map.slot_addr_for_route(Route::new(slot, addr), Some(&FirstReplica), 0);
+        assert_eq!(rt; node.map(|n| n.host()), wanted, "slot {slot}, {addr:?}");
+    }
+    for (addr, wanted) in [
+        (SlotAddr::ReplicaOptional, "node1"),
+        (SlotAddr::ReplicaRequired, "replica1"),
+    ] {
+        let node = map.slot_addr_for_route(Route::new(1000, addr), None, 0);
+        assert_eq!(rt;
+            node.map(|n| n.host()),
+            Some(wanted),
+            "no strategy, {addr:?}"
+        );
     }
     Ok(())
 }

@@ -74,3 +74,21 @@ fn ranges_come_by_ascending_end(rt: HostRuntime) -> Result<(), Fail> {
     assert!(rt; empty.iter().next().is_none(), "the default is empty");
     Ok(())
 }
+
+#[test]
+fn values_are_listed_copied_and_cleared(rt: HostRuntime) -> Result<(), Fail> {
+    let alloc = rt.alloc();
+    let mut map = SlotRangeMap::new(alloc);
+    for (start, end, value) in [(20u16, 30u16, 'b'), (0, 10, 'a'), (5, 30, 'c')] {
+        map.insert(start, end, value)?;
+    }
+    let copy = map.clone()?;
+    map.clear();
+    assert_eq!(rt; map.values().count(), 0, "cleared");
+    let mut text = String::new(alloc);
+    for value in copy.values() {
+        text.push(*value)?;
+    }
+    assert_eq!(rt; text.as_str(), "ac", "the copy");
+    Ok(())
+}

@@ -49,7 +49,7 @@ impl<'a> Replicas<'a> {
     pub fn choose_random(&self, pick: usize) -> &'a NodeAddress
         ensures { slice_get (addresses_of self.now) (pick % length (addresses_of self.now)) ≡ Some result.now }
     {
-        &self.nodes[pick % self.nodes.len()]
+        &self.nodes[pick % self.len()]
     }
 
     pub fn iter(&self) -> slice::Iter<'a, NodeAddress>
