@@ -6,7 +6,7 @@ use Rattle.std.proofs.lemmas.List.Elements.{filter-append}
 use Rattle.std.proofs.lemmas.Option.{slice_get-map}
 use Rattle.std.specs.List.{list_any}
 use Rattle.cluster_slots.specs.Address.{Address, same_address}
-use Rattle.slot_ranges.specs.Nodes.{Nodes}
+use Rattle.slot_ranges.specs.SlotNodes.{SlotNodes}
 use Rattle.slot_ranges.specs.RangeMap.{Entry, EndsAfter, Ascends}
 use Rattle.cluster_map.specs.Shards.{ShardNodes}
 use Rattle.cluster_map.specs.Topology.{primary_of, entry_primary, has_primary, ends_of, shard_of, shards_of, placed, placed_from, inserted, topology_of, Agrees}
@@ -122,10 +122,10 @@ parts_are pre ps n (s ∷ ss) e q =
     ∙ ap (λ z. map (with_key s.primary) s.ranges ++ z) (parts_are (pre ++ s.primary ∷ []) ps (suc n) ss m w)
 
 -- at an end, the ranges of one primary
-abbrev part : Address → List (Entry Nodes) → List (Entry (Option Address))
+abbrev part : Address → List (Entry SlotNodes) → List (Entry (Option Address))
 part k rs = map (with_key k) (map ends_of (filter (has_primary k) rs))
 
-part_ends : (e : ℕ) (k : Address) (rs : List (Entry Nodes)) → filter (ends_with e) (part k rs) ≡ part k (filter (ends_with e) rs)
+part_ends : (e : ℕ) (k : Address) (rs : List (Entry SlotNodes)) → filter (ends_with e) (part k rs) ≡ part k (filter (ends_with e) rs)
 part_ends e k [] = refl
 part_ends e k (r ∷ rs) = by_test (has_primary k r)
     (λ h. rw h (by_test (nat_eq r.1 e) (λ t. rw (t, h) (ap (λ z. (r.0, r.1, Some k) ∷ z) (part_ends e k rs))) (λ t. rw t (part_ends e k rs))))
@@ -150,7 +150,7 @@ last_of-append o [] ys = refl
 last_of-append o (x ∷ xs) ys = last_of-append (Some x) xs ys
 
 -- at an end that no range has
-last_none : (e : ℕ) (rs : List (Entry Nodes)) → filter (ends_with e) rs ≡ [] → (ks : List Address) (o : Option (Entry (Option Address))) → last_of o (filter (ends_with e) (parts (map (shard_of rs) ks))) ≡ o
+last_none : (e : ℕ) (rs : List (Entry SlotNodes)) → filter (ends_with e) rs ≡ [] → (ks : List Address) (o : Option (Entry (Option Address))) → last_of o (filter (ends_with e) (parts (map (shard_of rs) ks))) ≡ o
 last_none e rs h [] o = refl
 last_none e rs h (k ∷ ks) o =
     ap (last_of o) (filter-append (ends_with e) (part k rs) (parts (map (shard_of rs) ks)))
@@ -161,11 +161,11 @@ same_cond : {X : Type 0} (b : Bool) (x : X) → cond b x x ≡ x
 same_cond true x = refl
 same_cond false x = refl
 
-abbrev keyed : Entry Nodes → Entry (Option Address)
+abbrev keyed : Entry SlotNodes → Entry (Option Address)
 keyed r = with_value (λ n. Some n.primary) r
 
 -- at an end that r has
-last_one : (e : ℕ) (rs : List (Entry Nodes)) (r : Entry Nodes) → filter (ends_with e) rs ≡ r ∷ [] → (ks : List Address) (o : Option (Entry (Option Address))) → last_of o (filter (ends_with e) (parts (map (shard_of rs) ks))) ≡ cond (list_any (same_address (entry_primary r)) ks) (Some (keyed r)) o
+last_one : (e : ℕ) (rs : List (Entry SlotNodes)) (r : Entry SlotNodes) → filter (ends_with e) rs ≡ r ∷ [] → (ks : List Address) (o : Option (Entry (Option Address))) → last_of o (filter (ends_with e) (parts (map (shard_of rs) ks))) ≡ cond (list_any (same_address (entry_primary r)) ks) (Some (keyed r)) o
 last_one e rs r h [] o = refl
 last_one e rs r h (k ∷ ks) o =
     ap (last_of o) (filter-append (ends_with e) (part k rs) (parts (map (shard_of rs) ks)))
@@ -178,11 +178,11 @@ last_one e rs r h (k ∷ ks) o =
     rw (t, q) (ap (λ z. cond (list_any (same_address (entry_primary r)) ks) (Some (keyed r)) z) w ∙ same_cond (list_any (same_address (entry_primary r)) ks) (Some (keyed r))))
     (λ t. let q : same_address k (entry_primary r) ≡ false = same_sym k (entry_primary r) ∙ t in rw (t, q) refl)
 
-find_keyed : (e : ℕ) (rs : List (Entry Nodes)) → find e (map keyed rs) ≡ option_map keyed (find e rs)
+find_keyed : (e : ℕ) (rs : List (Entry SlotNodes)) → find e (map keyed rs) ≡ option_map keyed (find e rs)
 find_keyed e [] = refl
 find_keyed e (r ∷ rs) = by_test (nat_eq r.1 e) (λ h. rw h refl) (λ h. rw h (find_keyed e rs))
 
-there : (e : ℕ) (rs : List (Entry Nodes)) (r : Entry Nodes) (q : Entry Nodes → Bool) → find e rs ≡ Some r → list_any q rs ≡ false → q r ≡ false
+there : (e : ℕ) (rs : List (Entry SlotNodes)) (r : Entry SlotNodes) (q : Entry SlotNodes → Bool) → find e rs ≡ Some r → list_any q rs ≡ false → q r ≡ false
 there e [] r q = λ h k. cc
 there e (x ∷ xs) r q = by_test (q x)
     (λ t. rw t (λ h k. cc))
@@ -190,12 +190,12 @@ there e (x ∷ xs) r q = by_test (q x)
     (λ s. rw s (λ h k. let i : x ≡ r = cc in ap q (sym i) ∙ t))
     (λ s. rw s (λ h k. there e xs r q h k))))
 
-listed_primary : (e : ℕ) (rs : List (Entry Nodes)) (r : Entry Nodes) → find e rs ≡ Some r → list_any (same_address (entry_primary r)) (primaries rs) ≡ true
+listed_primary : (e : ℕ) (rs : List (Entry SlotNodes)) (r : Entry SlotNodes) → find e rs ≡ Some r → list_any (same_address (entry_primary r)) (primaries rs) ≡ true
 listed_primary e rs r h = by_test (list_any (same_address (entry_primary r)) (primaries rs)) (λ t. t)
     (λ t. let f : has_primary (entry_primary r) r ≡ false = there e rs r (has_primary (entry_primary r)) h (primaries_cover rs (entry_primary r) t) in
     let k : true ≡ false = sym (same_refl (entry_primary r)) ∙ f in cc)
 
-look : (rs : List (Entry Nodes)) → Ascends rs → (e : ℕ) → find e (stepped [] (parts (primary_shards rs))) ≡ find e (map keyed rs)
+look : (rs : List (Entry SlotNodes)) → Ascends rs → (e : ℕ) → find e (stepped [] (parts (primary_shards rs))) ≡ find e (map keyed rs)
 look rs up e =
     find_inserted e [] (parts (primary_shards rs))
     ∙ by_option (find e rs)
@@ -204,23 +204,23 @@ look rs up e =
     ∙ ap (λ b. cond b (Some (keyed r)) None) (listed_primary e rs r h)
     ∙ sym (find_keyed e rs ∙ ap (option_map keyed) h))
 
-above_keyed : (e : ℕ) (rs : List (Entry Nodes)) → EndsAfter e rs → EndsAfter e (map keyed rs)
+above_keyed : (e : ℕ) (rs : List (Entry SlotNodes)) → EndsAfter e rs → EndsAfter e (map keyed rs)
 above_keyed e [] h = tt
 above_keyed e (r ∷ rs) h = h
 
-rises_keyed : (rs : List (Entry Nodes)) → Ascends rs → Ascends (map keyed rs)
+rises_keyed : (rs : List (Entry SlotNodes)) → Ascends rs → Ascends (map keyed rs)
 rises_keyed [] up = tt
 rises_keyed (r ∷ rs) up = (above_keyed r.1 rs up.0, rises_keyed rs up.1)
 
 -- the primary of an element by its place
-flat : (ss : List ShardNodes) (a : Option ℕ) (b : Option Nodes) → option_map (slice_get (map primary_of ss)) a ≡ option_map (λ n. Some n.primary) b → option_map primary_of (option_and_then (slice_get ss) a) ≡ option_map (λ n. n.primary) b
+flat : (ss : List ShardNodes) (a : Option ℕ) (b : Option SlotNodes) → option_map (slice_get (map primary_of ss)) a ≡ option_map (λ n. Some n.primary) b → option_map primary_of (option_and_then (slice_get ss) a) ≡ option_map (λ n. n.primary) b
 flat ss None None h = refl
 flat ss None (Some n) h = cc
 flat ss (Some i) None h = cc
 flat ss (Some i) (Some n) h = let k : slice_get (map primary_of ss) i ≡ Some n.primary = cc in sym (slice_get-map primary_of ss i) ∙ k
 
 -- at each number the shard's primary is the map's, or there is neither
-same_answers : (rs : List (Entry Nodes)) → Ascends rs → (slot : ℕ) → option_map primary_of (option_and_then (slice_get (shards_of rs)) (answer (inserted [] (placed_from 0 (shards_of rs))) slot)) ≡ option_map (λ (n : Nodes). n.primary) (answer rs slot)
+same_answers : (rs : List (Entry SlotNodes)) → Ascends rs → (slot : ℕ) → option_map primary_of (option_and_then (slice_get (shards_of rs)) (answer (inserted [] (placed_from 0 (shards_of rs))) slot)) ≡ option_map (λ (n : SlotNodes). n.primary) (answer rs slot)
 same_answers rs up slot =
     let ss = shards_of rs in
     let ps = map primary_of ss in
@@ -233,7 +233,7 @@ same_answers rs up slot =
     ∙ flat ss (answer ranges slot) (answer rs slot)
     (sym (with_value-answer (slice_get ps) ranges slot) ∙ ap (λ z. answer z slot) resolved ∙ with_value-answer (λ n. Some n.primary) rs slot)
 
-pub agrees : (rs : List (Entry Nodes)) → Ascends rs → Agrees rs (topology_of (shards_of rs))
+pub agrees : (rs : List (Entry SlotNodes)) → Ascends rs → Agrees rs (topology_of (shards_of rs))
 agrees rs up slot address =
     let ss = shards_of rs in
     let ranges = inserted [] (placed_from 0 ss) in
@@ -242,20 +242,20 @@ agrees rs up slot address =
       (λ (nodes, answers, is).
           let found = answer-is rs slot nodes up answers in
           by_option (answer ranges slot)
-          (λ none. let no : None ≡ Some nodes.primary = sym (ap (λ z. option_map primary_of (option_and_then (slice_get ss) z)) none) ∙ same ∙ ap (option_map (λ (n : Nodes). n.primary)) found in cc)
+          (λ none. let no : None ≡ Some nodes.primary = sym (ap (λ z. option_map primary_of (option_and_then (slice_get ss) z)) none) ∙ same ∙ ap (option_map (λ (n : SlotNodes). n.primary)) found in cc)
           (λ place at. by_option (slice_get ss place)
-          (λ none. let no : None ≡ Some nodes.primary = sym (ap (λ z. option_map primary_of (option_and_then (slice_get ss) z)) at ∙ ap (option_map primary_of) none) ∙ same ∙ ap (option_map (λ (n : Nodes). n.primary)) found in cc)
+          (λ none. let no : None ≡ Some nodes.primary = sym (ap (λ z. option_map primary_of (option_and_then (slice_get ss) z)) at ∙ ap (option_map primary_of) none) ∙ same ∙ ap (option_map (λ (n : SlotNodes). n.primary)) found in cc)
           (λ shard got.
-          let yes : Some shard.primary ≡ Some nodes.primary = sym (ap (λ z. option_map primary_of (option_and_then (slice_get ss) z)) at ∙ ap (option_map primary_of) got) ∙ same ∙ ap (option_map (λ (n : Nodes). n.primary)) found in
+          let yes : Some shard.primary ≡ Some nodes.primary = sym (ap (λ z. option_map primary_of (option_and_then (slice_get ss) z)) at ∙ ap (option_map primary_of) got) ∙ same ∙ ap (option_map (λ (n : SlotNodes). n.primary)) found in
           let one : shard.primary ≡ nodes.primary = cc in
           (shard, (place, answer-some ranges slot place rising at, got), one ∙ sym is)))),
       (λ (shard, (place, answers, got), is).
           let found = answer-is ranges slot place rising answers in
-          let there : Some shard.primary ≡ option_map (λ (n : Nodes). n.primary) (answer rs slot) = sym (ap (λ z. option_map primary_of (option_and_then (slice_get ss) z)) found ∙ ap (option_map primary_of) got) ∙ same in
+          let there : Some shard.primary ≡ option_map (λ (n : SlotNodes). n.primary) (answer rs slot) = sym (ap (λ z. option_map primary_of (option_and_then (slice_get ss) z)) found ∙ ap (option_map primary_of) got) ∙ same in
           by_option (answer rs slot)
-          (λ none. let no : Some shard.primary ≡ None = there ∙ ap (option_map (λ (n : Nodes). n.primary)) none in cc)
+          (λ none. let no : Some shard.primary ≡ None = there ∙ ap (option_map (λ (n : SlotNodes). n.primary)) none in cc)
           (λ nodes at.
-          let yes : Some shard.primary ≡ Some nodes.primary = there ∙ ap (option_map (λ (n : Nodes). n.primary)) at in
+          let yes : Some shard.primary ≡ Some nodes.primary = there ∙ ap (option_map (λ (n : SlotNodes). n.primary)) at in
           let one : shard.primary ≡ nodes.primary = cc in
           (nodes, answer-some rs slot nodes up at, sym is ∙ one))),
     )

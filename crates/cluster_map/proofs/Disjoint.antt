@@ -3,7 +3,7 @@ use Rattle.std.proofs.Common.{◌≡◌, ◌<◌, ◌≤◌, ℕ, inl, inr, ◌�
 use Rattle.std.proofs.lemmas.Bool.{cases_order}
 use Rattle.std.proofs.lemmas.List.Sorted.{IsPermutation-map, IsPermutation-sym, Contains-permutation}
 use Rattle.slot_ranges.specs.RangeMap.{Entry, end_of, Ascends, insert_entry, AreDisjoint}
-use Rattle.slot_ranges.specs.Nodes.{Nodes, RangeNodes, nodes_of, range_entry, filled}
+use Rattle.slot_ranges.specs.SlotNodes.{SlotNodes, RangeNodes, nodes_of, range_entry, insert_ranges}
 use Rattle.slot_ranges.proofs.Ranges.{Contains-cons_cases, Contains-cons_head, Contains-cons_tail, Contains-nil, EndsAfter-contains, insert_entry-front, insert_entry-place, insert_entry-later, Ascends-insert_entry}
 
 -- after an insert there is the new entry
@@ -92,20 +92,20 @@ same_entries (e ∷ es) (f ∷ fs) up_es up_fs into back =
     ap (λ z. z ∷ es) heads ∙ ap (λ z. f ∷ z) rest
 
 -- the entries with that of a range put in
-abbrev with_range : List (Entry Nodes) → RangeNodes → List (Entry Nodes)
+abbrev with_range : List (Entry SlotNodes) → RangeNodes → List (Entry SlotNodes)
 with_range es r = insert_entry es r.start r.end (nodes_of r)
 
-with_range-ascends : (es : List (Entry Nodes)) (r : RangeNodes) → Ascends es → Ascends (with_range es r)
+with_range-ascends : (es : List (Entry SlotNodes)) (r : RangeNodes) → Ascends es → Ascends (with_range es r)
 with_range-ascends es r up = Ascends-insert_entry es r.start r.end (nodes_of r) up
 
-filled-ascends : (es : List (Entry Nodes)) (rs : List RangeNodes) → Ascends es → Ascends (filled es rs)
-filled-ascends es [] up = up
-filled-ascends es (r ∷ rs) up = filled-ascends (with_range es r) rs (with_range-ascends es r up)
+insert_ranges-ascends : (es : List (Entry SlotNodes)) (rs : List RangeNodes) → Ascends es → Ascends (insert_ranges es rs)
+insert_ranges-ascends es [] up = up
+insert_ranges-ascends es (r ∷ rs) up = insert_ranges-ascends (with_range es r) rs (with_range-ascends es r up)
 
 -- each entry was there before, or is that of a range
-filled-cases : (es : List (Entry Nodes)) (rs : List RangeNodes) (e : Entry Nodes) → Ascends es → Contains (filled es rs) e → Contains es e ⊎ Contains (map range_entry rs) e
-filled-cases es [] e up there = inl there
-filled-cases es (r ∷ rs) e up there = elim (filled-cases (with_range es r) rs e (with_range-ascends es r up) there) [
+insert_ranges-cases : (es : List (Entry SlotNodes)) (rs : List RangeNodes) (e : Entry SlotNodes) → Ascends es → Contains (insert_ranges es rs) e → Contains es e ⊎ Contains (map range_entry rs) e
+insert_ranges-cases es [] e up there = inl there
+insert_ranges-cases es (r ∷ rs) e up there = elim (insert_ranges-cases (with_range es r) rs e (with_range-ascends es r up) there) [
   | inl now ↦ elim (Contains-insert_cases es r.start r.end (nodes_of r) e up now) [
     | inl new ↦ inr (rw (← new) (Contains-cons_head (range_entry r) (map range_entry rs)))
     | inr old ↦ inl old
@@ -114,59 +114,59 @@ filled-cases es (r ∷ rs) e up there = elim (filled-cases (with_range es r) rs 
 ]
 
 -- entries with the same end are the same
-abbrev HaveOwnEnds : List (Entry Nodes) → Type 0
-HaveOwnEnds es = (e f : Entry Nodes) → Contains es e → Contains es f → end_of e ≡ end_of f → e ≡ f
+abbrev HaveOwnEnds : List (Entry SlotNodes) → Type 0
+HaveOwnEnds es = (e f : Entry SlotNodes) → Contains es e → Contains es f → end_of e ≡ end_of f → e ≡ f
 
 -- the entries of the ranges are among these
-abbrev AreAmong : List RangeNodes → List (Entry Nodes) → Type 0
-AreAmong rs all = (f : Entry Nodes) → Contains (map range_entry rs) f → Contains all f
+abbrev AreAmong : List RangeNodes → List (Entry SlotNodes) → Type 0
+AreAmong rs all = (f : Entry SlotNodes) → Contains (map range_entry rs) f → Contains all f
 
-among_later : (r : RangeNodes) (rs : List RangeNodes) (all : List (Entry Nodes)) → AreAmong (r ∷ rs) all → AreAmong rs all
+among_later : (r : RangeNodes) (rs : List RangeNodes) (all : List (Entry SlotNodes)) → AreAmong (r ∷ rs) all → AreAmong rs all
 among_later r rs all among f later = among f (Contains-cons_tail (range_entry r) (map range_entry rs) f later)
 
 -- an entry stays where those that come in have ends of their own
-filled-keeps : (all es : List (Entry Nodes)) (rs : List RangeNodes) (e : Entry Nodes) → HaveOwnEnds all → Ascends es → AreAmong rs all → Contains all e → Contains es e → Contains (filled es rs) e
-filled-keeps all es [] e own up among mine there = there
-filled-keeps all es (r ∷ rs) e own up among mine there =
+insert_ranges-keeps : (all es : List (Entry SlotNodes)) (rs : List RangeNodes) (e : Entry SlotNodes) → HaveOwnEnds all → Ascends es → AreAmong rs all → Contains all e → Contains es e → Contains (insert_ranges es rs) e
+insert_ranges-keeps all es [] e own up among mine there = there
+insert_ranges-keeps all es (r ∷ rs) e own up among mine there =
     let head = among (range_entry r) (Contains-cons_head (range_entry r) (map range_entry rs)) in
-    filled-keeps all (with_range es r) rs e own (with_range-ascends es r up) (among_later r rs all among) mine
+    insert_ranges-keeps all (with_range es r) rs e own (with_range-ascends es r up) (among_later r rs all among) mine
     (Contains-insert_kept es r.start r.end (nodes_of r) e up (λ ends. own (range_entry r) e head mine ends) there)
 
 -- each range is there
-filled-has : (all es : List (Entry Nodes)) (rs : List RangeNodes) (e : Entry Nodes) → HaveOwnEnds all → Ascends es → AreAmong rs all → Contains (map range_entry rs) e → Contains (filled es rs) e
-filled-has all es [] e own up among there = absurd (Contains-nil e there)
-filled-has all es (r ∷ rs) e own up among there =
+insert_ranges-has : (all es : List (Entry SlotNodes)) (rs : List RangeNodes) (e : Entry SlotNodes) → HaveOwnEnds all → Ascends es → AreAmong rs all → Contains (map range_entry rs) e → Contains (insert_ranges es rs) e
+insert_ranges-has all es [] e own up among there = absurd (Contains-nil e there)
+insert_ranges-has all es (r ∷ rs) e own up among there =
     let later = among_later r rs all among in
     let next = with_range-ascends es r up in
     elim (Contains-cons_cases (range_entry r) (map range_entry rs) e there) [
-      | inl first ↦ filled-keeps all (with_range es r) rs e own next later (among e there) (rw (← first) (Contains-inserted es r.start r.end (nodes_of r) up))
-      | inr rest ↦ filled-has all (with_range es r) rs e own next later rest
+      | inl first ↦ insert_ranges-keeps all (with_range es r) rs e own next later (among e there) (rw (← first) (Contains-inserted es r.start r.end (nodes_of r) up))
+      | inr rest ↦ insert_ranges-has all (with_range es r) rs e own next later rest
     ]
 
-disjoint_own_ends : (es : List (Entry Nodes)) → AreDisjoint es → HaveOwnEnds es
+disjoint_own_ends : (es : List (Entry SlotNodes)) → AreDisjoint es → HaveOwnEnds es
 disjoint_own_ends es disjoint e f at_e at_f ends =
     let e_straight : e.0 ≤ end_of e = disjoint.straight e at_e in
     let f_straight : f.0 ≤ end_of f = disjoint.straight f at_f in
     disjoint.apart e f (end_of e) at_e at_f (e_straight, omega arith) (omega arith, omega arith)
 
 -- each entry of a map is that of a range
-filled-only : (rs : List RangeNodes) (e : Entry Nodes) → Contains (filled [] rs) e → Contains (map range_entry rs) e
-filled-only rs e there = elim (filled-cases [] rs e tt there) [
+insert_ranges-only : (rs : List RangeNodes) (e : Entry SlotNodes) → Contains (insert_ranges [] rs) e → Contains (map range_entry rs) e
+insert_ranges-only rs e there = elim (insert_ranges-cases [] rs e tt there) [
   | inl none ↦ absurd (Contains-nil e none)
   | inr some ↦ some
 ]
 
 -- the map of disjoint ranges has the entries of the ranges
-pub kept : (rs : List RangeNodes) (e : Entry Nodes) → AreDisjoint (map range_entry rs) → Contains (filled [] rs) e ↔ Contains (map range_entry rs) e
-kept rs e disjoint = (filled-only rs e, filled-has (map range_entry rs) [] rs e (disjoint_own_ends (map range_entry rs) disjoint) tt (λ f there. there))
+pub kept : (rs : List RangeNodes) (e : Entry SlotNodes) → AreDisjoint (map range_entry rs) → Contains (insert_ranges [] rs) e ↔ Contains (map range_entry rs) e
+kept rs e disjoint = (insert_ranges-only rs e, insert_ranges-has (map range_entry rs) [] rs e (disjoint_own_ends (map range_entry rs) disjoint) tt (λ f there. there))
 
 -- and is the same for every order of them
-pub any_order : (rs others : List RangeNodes) → IsPermutation rs others → AreDisjoint (map range_entry rs) → filled [] rs ≡ filled [] others
+pub any_order : (rs others : List RangeNodes) → IsPermutation rs others → AreDisjoint (map range_entry rs) → insert_ranges [] rs ≡ insert_ranges [] others
 any_order rs others same disjoint =
     let all = map range_entry rs in
     let moved = IsPermutation-map range_entry rs others same in
     let among : AreAmong others all = λ f there. Contains-permutation (map range_entry others) all f (IsPermutation-sym all (map range_entry others) moved) there in
     let own = disjoint_own_ends all disjoint in
-    same_entries (filled [] rs) (filled [] others) (filled-ascends [] rs tt) (filled-ascends [] others tt)
-    (λ e there. filled-has all [] others e own tt among (Contains-permutation all (map range_entry others) e moved (filled-only rs e there)))
-    (λ e there. (kept rs e disjoint).1 (among e (filled-only others e there)))
+    same_entries (insert_ranges [] rs) (insert_ranges [] others) (insert_ranges-ascends [] rs tt) (insert_ranges-ascends [] others tt)
+    (λ e there. insert_ranges-has all [] others e own tt among (Contains-permutation all (map range_entry others) e moved (insert_ranges-only rs e there)))
+    (λ e there. (kept rs e disjoint).1 (among e (insert_ranges-only others e there)))

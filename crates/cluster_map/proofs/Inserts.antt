@@ -3,10 +3,10 @@ use Rattle.std.proofs.Common.{◌≡◌, ◌<◌, ◌≤◌, ℕ, inl, inr, cond
 use Rattle.std.specs.Ordering.{match_ordering}
 use Rattle.std.proofs.lemmas.Bool.{cases_order}
 use Rattle.std.proofs.lemmas.Bool.Decides.{nat_tests}
-use Rattle.slot_ranges.specs.RangeMap.{Entry, value_of, Ascends, Answers, IsUncovered, insert_entry}
+use Rattle.slot_ranges.specs.RangeMap.{Entry, value_of, Ascends, IsAnswerAt, IsUncovered, insert_entry}
 use Rattle.cluster_map.specs.Topology.{inserted}
 use Rattle.cluster_map.proofs.Members.{by_test}
-use Rattle.slot_ranges.proofs.Ranges.{ending_from, EndsFirstFrom-unique, EndsFirstFrom-answer, EndsFirstFrom-head, Answers-first, IsUncovered-first, IsUncovered-none, insert_entry-front, insert_entry-place, insert_entry-later, Ascends-insert_entry}
+use Rattle.slot_ranges.proofs.Ranges.{ending_from, EndsFirstFrom-unique, EndsFirstFrom-answer, EndsFirstFrom-head, IsAnswerAt-first, IsUncovered-first, IsUncovered-none, insert_entry-front, insert_entry-place, insert_entry-later, Ascends-insert_entry}
 
 abbrev pub insert_step : {V : Type 0} → List (Entry V) → ℕ → ℕ → V → List (Entry V)
 insert_step [] start end value = (start, end, value) ∷ []
@@ -51,17 +51,17 @@ first_given slot (e ∷ es) = cond (nat_le e.0 slot) (Some e.2) None
 abbrev pub answer : {V : Type 0} → List (Entry V) → ℕ → Option V
 answer es slot = first_given slot (ending_from slot es)
 
-given_case : {V : Type 0} (es : List (Entry V)) (slot : ℕ) (value : V) (rest : List (Entry V)) → Ascends es → ending_from slot es ≡ rest → first_given slot rest ≡ Some value → Answers es slot value
+given_case : {V : Type 0} (es : List (Entry V)) (slot : ℕ) (value : V) (rest : List (Entry V)) → Ascends es → ending_from slot es ≡ rest → first_given slot rest ≡ Some value → IsAnswerAt es slot value
 given_case es slot value [] ascends is given = cc
 given_case es slot value (e ∷ rest) ascends is given = by_test (nat_le e.0 slot)
     (λ t.
     let there : Some e.2 ≡ Some value = sym (rw t refl) ∙ given in
     let same : e.2 ≡ value = cc in
     let starts : e.0 ≤ slot = grind (arith, nat_tests) in
-    subst (λ v. Answers es slot v) same (Answers-first es slot e (EndsFirstFrom-head es slot e rest ascends is) starts))
+    subst (λ v. IsAnswerAt es slot v) same (IsAnswerAt-first es slot e (EndsFirstFrom-head es slot e rest ascends is) starts))
     (λ t. let there : None ≡ Some value = sym (rw t refl) ∙ given in cc)
 
-pub answer-some : {V : Type 0} (es : List (Entry V)) (slot : ℕ) (value : V) → Ascends es → answer es slot ≡ Some value → Answers es slot value
+pub answer-some : {V : Type 0} (es : List (Entry V)) (slot : ℕ) (value : V) → Ascends es → answer es slot ≡ Some value → IsAnswerAt es slot value
 answer-some es slot value ascends is = given_case es slot value (ending_from slot es) ascends refl is
 
 none_case : {V : Type 0} (es : List (Entry V)) (slot : ℕ) (rest : List (Entry V)) → Ascends es → ending_from slot es ≡ rest → first_given slot rest ≡ None → IsUncovered es slot
@@ -76,14 +76,14 @@ pub by_option : {X A : Type 0} (o : Option X) → (o ≡ None → A) → ((x : X
 by_option None f g = f refl
 by_option (Some x) f g = g x refl
 
-pub Answers-unique : {V : Type 0} (es : List (Entry V)) (slot : ℕ) (v w : V) → Ascends es → Answers es slot v → Answers es slot w → v ≡ w
-Answers-unique es slot v w ascends a b =
+pub IsAnswerAt-unique : {V : Type 0} (es : List (Entry V)) (slot : ℕ) (v w : V) → Ascends es → IsAnswerAt es slot v → IsAnswerAt es slot w → v ≡ w
+IsAnswerAt-unique es slot v w ascends a b =
     ap value_of (EndsFirstFrom-unique es slot (a.start, a.end, v) (b.start, b.end, w) ascends (EndsFirstFrom-answer es slot v a) (EndsFirstFrom-answer es slot w b))
 
-pub answer-is : {V : Type 0} (es : List (Entry V)) (slot : ℕ) (value : V) → Ascends es → Answers es slot value → answer es slot ≡ Some value
+pub answer-is : {V : Type 0} (es : List (Entry V)) (slot : ℕ) (value : V) → Ascends es → IsAnswerAt es slot value → answer es slot ≡ Some value
 answer-is es slot value ascends a = by_option (answer es slot)
     (λ none. absurd (none_case es slot (ending_from slot es) ascends refl none value a))
-    (λ w is. is ∙ ap Some (Answers-unique es slot w value ascends (answer-some es slot w ascends is) a))
+    (λ w is. is ∙ ap Some (IsAnswerAt-unique es slot w value ascends (answer-some es slot w ascends is) a))
 
 -- another value for each entry
 abbrev pub with_value : {A B : Type 0} → (A → B) → Entry A → Entry B

@@ -7,7 +7,7 @@ use Rattle.indexmap.specs.IndexSet.{insert_key}
 use Rattle.cluster_slots.specs.Address.{Address, same_address}
 use Rattle.cluster_slots.proofs.Orders.{same_from_address}
 use Rattle.cluster_map.specs.EachOnce.{once_by, each_once}
-use Rattle.slot_ranges.specs.Nodes.{Nodes}
+use Rattle.slot_ranges.specs.SlotNodes.{SlotNodes}
 use Rattle.slot_ranges.specs.RangeMap.{Entry, value_of}
 use Rattle.cluster_map.specs.Targets.{targets}
 
@@ -30,7 +30,7 @@ pub list_any-last : {A : Type 0} (p : A → Bool) (xs : List A) (x : A) → list
 list_any-last p [] x = by_test (p x) (λ h. rw h refl) (λ h. rw h refl)
 list_any-last p (y ∷ ys) x = by_test (p y) (λ h. rw h refl) (λ h. rw h (list_any-last p ys x))
 
--- a filter behind one that lets more through does nothing
+-- a filter after one that lets more through does nothing
 filter-less : {A : Type 0} (p q : A → Bool) (xs : List A) → ((x : A) → p x ≡ true → q x ≡ true) → filter p (filter q xs) ≡ filter p xs
 filter-less p q [] more = refl
 filter-less p q (x ∷ xs) more = by_test (q x)
@@ -39,7 +39,7 @@ filter-less p q (x ∷ xs) more = by_test (q x)
     (λ s. let u : true ≡ false = sym (more x s) ∙ t in cc)
     (λ s. rw (t, s) (filter-less p q xs more)))
 
--- two filters, one behind the other, are the filter of both
+-- two filters, one after the other, are the filter of both
 filter-both : {A : Type 0} (p q r : A → Bool) (xs : List A) → ((x : A) → r x ≡ cond (q x) (p x) false) → filter p (filter q xs) ≡ filter r xs
 filter-both p q r [] both = refl
 filter-both p q r (x ∷ xs) both = by_test (q x)
@@ -107,13 +107,13 @@ targets-cond false rs ss = refl
 pub targets-insert : (rs : List (Bor Address)) (r : Bor Address) → targets (insert_key same_target rs r) ≡ add_new (targets rs) r.now
 targets-insert rs r = targets-cond (list_any (same_target r) rs) rs (rs ++ r ∷ []) ∙ rw (list_any-targets r rs, targets-append rs r) refl
 
-abbrev pub primary_of : Nodes → Address
+abbrev pub primary_of : SlotNodes → Address
 primary_of n = n.primary
 
-pub primaries_last : (ns : List Nodes) (n : Nodes) → map primary_of (ns ++ n ∷ []) ≡ map primary_of ns ++ n.primary ∷ []
+pub primaries_last : (ns : List SlotNodes) (n : SlotNodes) → map primary_of (ns ++ n ∷ []) ≡ map primary_of ns ++ n.primary ∷ []
 primaries_last [] n = refl
 primaries_last (m ∷ ms) n = ap (λ z. m.primary ∷ z) (primaries_last ms n)
 
-pub primaries_in : (es : List (Entry Nodes)) → map primary_of (map value_of es) ≡ map (λ (e : Entry Nodes). (value_of e).primary) es
+pub primaries_in : (es : List (Entry SlotNodes)) → map primary_of (map value_of es) ≡ map (λ (e : Entry SlotNodes). (value_of e).primary) es
 primaries_in [] = refl
 primaries_in (e ∷ es) = ap (λ z. (value_of e).primary ∷ z) (primaries_in es)

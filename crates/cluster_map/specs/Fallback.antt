@@ -1,19 +1,19 @@
 -- The nodes that a read may go to in place of the one that its route has.
 use Rattle.std.specs.Prelude.{◌≡◌, ◌⊎◌, List, [], ◌∷◌, ◌++◌}
 use Rattle.cluster_slots.specs.Address.{Address}
-use Rattle.cluster_slots.specs.RouteTo.{RouteTo}
+use Rattle.cluster_slots.specs.SlotRoute.{SlotRoute}
 use Rattle.cluster_slots.specs.declared.slot.SlotAddr.{SlotAddr}
 use Rattle.cluster_slots.specs.declared.slot.SlotAddr.TheVariants.{Master, ReplicaOptional, ReplicaRequired}
-use Rattle.slot_ranges.specs.Nodes.{Nodes}
-use Rattle.slot_ranges.specs.RangeMap.{Entry, Answers, IsUncovered}
+use Rattle.slot_ranges.specs.SlotNodes.{SlotNodes}
+use Rattle.slot_ranges.specs.RangeMap.{Entry, IsAnswerAt, IsUncovered}
 
 -- what is asked for at the primary can go nowhere else; other reads can go to the replicas, and where they need not go to a replica, to the primary at last
-abbrev pub fallback : Nodes → SlotAddr → List Address
+abbrev pub fallback : SlotNodes → SlotAddr → List Address
 fallback nodes Master = []
 fallback nodes ReplicaOptional = nodes.replicas ++ nodes.primary ∷ []
 fallback nodes ReplicaRequired = nodes.replicas
 
 -- the fallback of the entry that answers for the route's slot, or nothing where none does
-abbrev pub IsFallback : List (Entry Nodes) → RouteTo → List Address → Type 0
+abbrev pub IsFallback : List (Entry SlotNodes) → SlotRoute → List Address → Type 0
 IsFallback entries route addresses =
-    (IsUncovered entries route.slot × (addresses ≡ [])) ⊎ ((nodes : Nodes) × Answers entries route.slot nodes × (addresses ≡ fallback nodes route.addr))
+    (IsUncovered entries route.slot × (addresses ≡ [])) ⊎ ((nodes : SlotNodes) × IsAnswerAt entries route.slot nodes × (addresses ≡ fallback nodes route.addr))

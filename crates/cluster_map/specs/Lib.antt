@@ -4,8 +4,8 @@ pub use Rattle.cluster_slots.specs.Bytes
 pub use Rattle.cluster_slots.specs.HashTag
 pub use Rattle.cluster_slots.specs.KeySlot
 pub use Rattle.cluster_slots.specs.Number
-pub use Rattle.cluster_slots.specs.RouteTo
-pub use Rattle.slot_ranges.specs.Nodes
+pub use Rattle.cluster_slots.specs.SlotRoute
+pub use Rattle.slot_ranges.specs.SlotNodes
 pub use Rattle.slot_ranges.specs.RangeMap
 pub use Rattle.slot_ranges.specs.RangeTree
 pub use Rattle.slot_ranges.specs.SlotsReply

@@ -2,25 +2,25 @@
 use Rattle.std.specs.Prelude.{ℕ, List, [], Option, MatchOption, IsSome, IfSome, ◌↔◌}
 use Rattle.resp_core.specs.Reply.{Reply}
 use Rattle.cluster_slots.specs.Address.{Address}
-use Rattle.cluster_slots.specs.RouteTo.{RouteTo}
-use Rattle.slot_ranges.specs.Nodes.{Nodes, filled}
-use Rattle.slot_ranges.specs.RangeMap.{Entry, Answers, IsUncovered}
+use Rattle.cluster_slots.specs.SlotRoute.{SlotRoute}
+use Rattle.slot_ranges.specs.SlotNodes.{SlotNodes, insert_ranges}
+use Rattle.slot_ranges.specs.RangeMap.{Entry, IsAnswerAt, IsUncovered}
 use Rattle.cluster_map.specs.RouteNode.{IsNodeOfRoute}
 use Rattle.slot_ranges.specs.SlotsReply.{ranges_in}
 
 -- what `slot_addr_for_route` finds for a route in a map of these entries
-abbrev pub IsFound : List (Entry Nodes) → RouteTo → ℕ → Option Address → Type 0
+abbrev pub IsFound : List (Entry SlotNodes) → SlotRoute → ℕ → Option Address → Type 0
 IsFound entries route pick found = MatchOption found (IsUncovered entries route.slot) (IsNodeOfRoute entries route pick)
 
 -- an entry answers for the slot
-abbrev pub IsCovered : List (Entry Nodes) → ℕ → Type 0
-IsCovered entries slot = (nodes : Nodes) × Answers entries slot nodes
+abbrev pub IsCovered : List (Entry SlotNodes) → ℕ → Type 0
+IsCovered entries slot = (nodes : SlotNodes) × IsAnswerAt entries slot nodes
 
 -- the entries that the ranges of a reply leave, put in one after the other
-abbrev pub entries_in : List ℕ → Reply → List (Entry Nodes)
-entries_in answering reply = filled [] (ranges_in answering reply)
+abbrev pub entries_in : List ℕ → Reply → List (Entry SlotNodes)
+entries_in answering reply = insert_ranges [] (ranges_in answering reply)
 
 -- an address is found exactly where an entry of the reply answers for the route's slot, and it is the one that the route asks for there
-pub record IsFoundByReply (answering : List ℕ) (reply : Reply) (route : RouteTo) (pick : ℕ) (found : Option Address) : Type 0 where
+pub record IsFoundByReply (answering : List ℕ) (reply : Reply) (route : SlotRoute) (pick : ℕ) (found : Option Address) : Type 0 where
   pub there : IsSome found ↔ IsCovered (entries_in answering reply) route.slot
   pub node : IfSome found (IsNodeOfRoute (entries_in answering reply) route pick)

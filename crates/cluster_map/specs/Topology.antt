@@ -3,8 +3,8 @@ use Rattle.std.specs.Prelude.{◌≡◌, ◌↔◌, ℕ, suc, Bool, nat_eq, List
 use Rattle.cluster_slots.specs.Address.{Address, same_address}
 use Rattle.cluster_slots.specs.declared.slot.SlotAddr.TheVariants.{Master}
 use Rattle.cluster_map.specs.EachOnce.{once_by, each_once}
-use Rattle.slot_ranges.specs.Nodes.{Nodes}
-use Rattle.slot_ranges.specs.RangeMap.{Entry, value_of, insert_entry, Answers}
+use Rattle.slot_ranges.specs.SlotNodes.{SlotNodes}
+use Rattle.slot_ranges.specs.RangeMap.{Entry, value_of, insert_entry, IsAnswerAt}
 use Rattle.cluster_map.specs.RouteNode.{IsNodeOfRoute}
 use Rattle.cluster_map.specs.Shards.{ShardNodes}
 
@@ -12,10 +12,10 @@ abbrev pub primary_of : ShardNodes → Address
 primary_of s = s.primary
 
 -- the primary of an entry, and whether it is this one
-abbrev pub entry_primary : Entry Nodes → Address
+abbrev pub entry_primary : Entry SlotNodes → Address
 entry_primary e = (value_of e).primary
 
-abbrev pub has_primary : Address → Entry Nodes → Bool
+abbrev pub has_primary : Address → Entry SlotNodes → Bool
 has_primary primary e = same_address primary (entry_primary e)
 
 -- the range of an entry
@@ -23,19 +23,19 @@ abbrev pub ends_of : {V : Type 0} → Entry V → ℕ × ℕ
 ends_of e = (e.0, e.1)
 
 -- the replicas of the first entry
-abbrev pub first_replicas : List (Entry Nodes) → List Address
+abbrev pub first_replicas : List (Entry SlotNodes) → List Address
 first_replicas [] = []
 first_replicas (e ∷ es) = (value_of e).replicas
 
-abbrev pub shard_with : Address → List (Entry Nodes) → ShardNodes
+abbrev pub shard_with : Address → List (Entry SlotNodes) → ShardNodes
 shard_with primary es = record { ranges = map ends_of es; primary = primary; replicas = first_replicas es }
 
 -- the shard of a primary: its entries' ranges by ascending end, and the replicas of the first of them
-abbrev pub shard_of : List (Entry Nodes) → Address → ShardNodes
+abbrev pub shard_of : List (Entry SlotNodes) → Address → ShardNodes
 shard_of es primary = shard_with primary (filter (has_primary primary) es)
 
 -- a shard for each primary, by its first entry
-abbrev pub shards_of : List (Entry Nodes) → List ShardNodes
+abbrev pub shards_of : List (Entry SlotNodes) → List ShardNodes
 shards_of es = map (shard_of es) (each_once (map entry_primary es))
 
 -- shards, and entries that have the places of the shards as values
@@ -62,7 +62,7 @@ topology_of ss = record { shards = ss; ranges = inserted [] (placed_from 0 ss) }
 
 -- the shard whose place is the answer for the slot
 abbrev pub IsShardAt : Topology → ℕ → ShardNodes → Type 0
-IsShardAt t slot shard = (place : ℕ) × Answers t.ranges slot place × (slice_get t.shards place ≡ Some shard)
+IsShardAt t slot shard = (place : ℕ) × IsAnswerAt t.ranges slot place × (slice_get t.shards place ≡ Some shard)
 
 -- the places that still have a range, each once, by the first of its ranges
 abbrev pub places_left : List (Entry ℕ) → List ℕ
@@ -82,6 +82,6 @@ abbrev pub shards_left : Topology → List ShardNodes
 shards_left t = at_places t.shards (places_left t.ranges)
 
 -- every number has a shard with a primary exactly where a route to the primary has this node
-abbrev pub Agrees : List (Entry Nodes) → Topology → Type 0
+abbrev pub Agrees : List (Entry SlotNodes) → Topology → Type 0
 Agrees es t =
     (slot : ℕ) (address : Address) → IsNodeOfRoute es (record { slot = slot; addr = Master }) 0 address ↔ ((shard : ShardNodes) × IsShardAt t slot shard × (shard.primary ≡ address))

@@ -2,16 +2,16 @@ ghost use Rattle.std.specs.Prelude.{◌≡◌, ℕ, List, [], map, Option, IfOk,
 ghost use Rattle.std.specs.List.{AllZip};
 ghost use Rattle.std.specs.Cmp.Rules.{comparing};
 ghost use Rattle.std.proofs.Common.{rules};
-ghost use Rattle.resp_core.specs.Fault.{out_of_memory};
+ghost use Rattle.resp_core.specs.ErrorParts.{out_of_memory};
 ghost use Rattle.resp_core.specs.View.{view};
 ghost use Rattle.cluster_slots.specs.Address.{Address};
-ghost use Rattle.cluster_slots.specs.RouteTo.{RouteTo};
-ghost use Rattle.slot_ranges.specs.Nodes.{Nodes, RangeNodes, nodes_of, range_entry, same_range, filled, nodes_in};
+ghost use Rattle.cluster_slots.specs.SlotRoute.{SlotRoute};
+ghost use Rattle.slot_ranges.specs.SlotNodes.{SlotNodes, RangeNodes, nodes_of, range_entry, same_range, insert_ranges, nodes_in};
 ghost use Rattle.slot_ranges.specs.RangeMap.{Entry, Ascends, AreDisjoint, IsUncovered, value_of};
 ghost use Rattle.cluster_map.specs.EachOnce.{each_once};
 ghost use Rattle.cluster_map.specs.Fallback.{fallback, IsFallback};
 ghost use Rattle.cluster_map.specs.Targets.{targets};
-ghost use Rattle.cluster_map.specs.RouteNode.{IsAsked, IsNodeOfRoute, IsPicked, IsPickedNode};
+ghost use Rattle.cluster_map.specs.RouteNode.{IsNodeFor, IsNodeOfRoute, IsPicked, IsPickedNode};
 ghost use Rattle.cluster_map.specs.ReplyNode.{IsFound, IsFoundByReply, entries_in};
 ghost use Rattle.cluster_map.specs.Topology.{shards_of, topology_of, Agrees};
 
@@ -40,9 +40,9 @@ pub struct SlotAddrs {
 }
 
 impl Model for SlotAddrs {
-    ghost use Rattle.slot_ranges.specs.Nodes.{Nodes};
+    ghost use Rattle.slot_ranges.specs.SlotNodes.{SlotNodes};
 
-    ghost Value = { Nodes };
+    ghost Value = { SlotNodes };
 
     ghost view = { λ s. record { primary = s.primary; replicas = s.replicas.items } };
 }
@@ -106,7 +106,7 @@ impl SlotAddrs {
         pick: usize,
     ) -> &NodeAddress
         ensures node { MatchOption strategy.entry
-            (IsAsked self.now slot_addr pick result.now)
+            (IsNodeFor self.now slot_addr pick result.now)
             (λ s. IsPicked (picks s.now) self.now slot slot_addr result.now) }
     {
         let Some(replicas) = Replicas::new(self.replicas.as_slice()) else {
@@ -134,9 +134,9 @@ pub struct SlotMap {
 impl Model for SlotMap {
     ghost use Rattle.std.specs.Prelude.{List};
     ghost use Rattle.slot_ranges.specs.RangeMap.{Entry};
-    ghost use Rattle.slot_ranges.specs.Nodes.{Nodes};
+    ghost use Rattle.slot_ranges.specs.SlotNodes.{SlotNodes};
 
-    ghost Value = { List (Entry Nodes) };
+    ghost Value = { List (Entry SlotNodes) };
 
     ghost view = { λ m. m.slots };
 }
@@ -161,10 +161,10 @@ impl SlotMap {
     ///
     /// # Errors
     ///
-    /// Where there is no memory for a range, those before it stay in the map.
+    /// If memory runs out for a range, those before it stay in the map.
     pub fn fill_slots(&mut self, slots: Vec<SlotRange>) -> Result<(), AllocError>
-        ensures put { OnOk result (self.new ≡ filled self.old slots.items) }
-        ensures before { OnErr result ((count : ℕ) × (count < length slots.items) × (self.new ≡ filled self.old (take count slots.items))) }
+        ensures put { OnOk result (self.new ≡ insert_ranges self.old slots.items) }
+        ensures before { OnErr result ((count : ℕ) × (count < length slots.items) × (self.new ≡ insert_ranges self.old (take count slots.items))) }
     {
         for slot in slots {
             let (start, end) = (slot.start, slot.end);
@@ -177,11 +177,11 @@ impl SlotMap {
     /// earlier one that has the same end.
     #[tactic(auto, using(crate::proofs::Disjoint::any_order))]
     pub fn from_slots(alloc: Global, slots: Vec<SlotRange>) -> Result<Self, AllocError>
-        ensures put { IfOk result (λ map. map ≡ filled [] slots.items) }
+        ensures put { IfOk result (λ map. map ≡ insert_ranges [] slots.items) }
         // Where no two of the ranges meet and none is reversed, each has its entry,
-        ensures kept { AreDisjoint (map range_entry slots.items) → IfOk result (λ m. (e : Entry Nodes) → Contains m e ↔ Contains (map range_entry slots.items) e) }
+        ensures kept { AreDisjoint (map range_entry slots.items) → IfOk result (λ m. (e : Entry SlotNodes) → Contains m e ↔ Contains (map range_entry slots.items) e) }
         // and their order does not count.
-        ensures any_order { (others : List RangeNodes) → IsPermutation slots.items others → AreDisjoint (map range_entry slots.items) → IfOk result (λ m. m ≡ filled [] others) }
+        ensures any_order { (others : List RangeNodes) → IsPermutation slots.items others → AreDisjoint (map range_entry slots.items) → IfOk result (λ m. m ≡ insert_ranges [] others) }
     {
         let mut map = SlotMap::new(alloc);
         map.fill_slots(slots)?;
@@ -192,11 +192,11 @@ impl SlotMap {
     ///
     /// # Errors
     ///
-    /// Kind `OutOfMemory` where there is no memory.
+    /// Kind `OutOfMemory` if memory runs out.
     pub fn from_reply(alloc: Global, reply: &Value, answering: &str) -> RedisResult<Self>
         ensures entries { IfOk result (λ map. map ≡ entries_in answering.now (view reply.now)) }
         // So what a route then finds is what the reply says.
-        ensures node { IfOk result (λ map. (route : RouteTo) (pick : ℕ) (found : Option Address) → IsFound map route pick found → IsFoundByReply answering.now (view reply.now) route pick found) }
+        ensures node { IfOk result (λ map. (route : SlotRoute) (pick : ℕ) (found : Option Address) → IsFound map route pick found → IsFoundByReply answering.now (view reply.now) route pick found) }
         ensures memory { IfErr result (λ e. e ≡ out_of_memory) }
     {
         let slots = parse_slots(alloc, reply, answering)?;
@@ -240,7 +240,7 @@ impl SlotMap {
         Ok(found)
     }
 
-    /// The nodes that a read may go to where the one of its route fails: the replicas, and behind
+    /// The nodes that a read may go to where the one of its route fails: the replicas, and after
     /// them the primary where no replica is required. There is none for a primary's route, nor where
     /// no range answers for the slot.
     pub fn shard_fallback_addrs(
@@ -276,7 +276,7 @@ impl SlotMap {
         &self,
         alloc: Global,
     ) -> Result<Vec<&NodeAddress>, AllocError>
-        ensures all { IfOk result (λ found. targets found.items ≡ each_once (map (λ (e : Entry Nodes). (value_of e).primary) self.now)) }
+        ensures all { IfOk result (λ found. targets found.items ≡ each_once (map (λ (e : Entry SlotNodes). (value_of e).primary) self.now)) }
     {
         let mut seen = IndexSet::new(alloc);
         for addrs in self.values() {
@@ -287,7 +287,7 @@ impl SlotMap {
 
     /// Each node once, by its first range and, within a range, the primary first.
     pub fn addresses_for_all_nodes(&self, alloc: Global) -> Result<Vec<&NodeAddress>, AllocError>
-        ensures all { IfOk result (λ found. targets found.items ≡ each_once (flat_map (λ (e : Entry Nodes). nodes_in (value_of e)) self.now)) }
+        ensures all { IfOk result (λ found. targets found.items ≡ each_once (flat_map (λ (e : Entry SlotNodes). nodes_in (value_of e)) self.now)) }
     {
         let mut seen = IndexSet::new(alloc);
         for addrs in self.values() {

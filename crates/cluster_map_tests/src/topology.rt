@@ -3,7 +3,7 @@ use resp_core::Value;
 use std::alloc::{AllocError, Global};
 use std::test::Fail;
 
-// Texts stand in backquotes, a status behind a plus, and any other word is a number.
+// Texts stand in backquotes, a status after a plus, and any other word is a number.
 fn word(alloc: Global, text: &str) -> Result<Value, Fail> {
     if text == "nil" {
         return Ok(Value::Nil);

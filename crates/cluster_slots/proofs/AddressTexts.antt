@@ -7,7 +7,7 @@ use Rattle.std.proofs.lemmas.Bool.Decides.{nat_tests}
 use Rattle.std.proofs.lemmas.Fmt.{decimal_by_steps, decimal_is_IsNumeral}
 use Rattle.std.specs.Prelude.{◌≤◌, ◌+◌, ◌^◌, ◌%◌, ◌==◌, false, decimal}
 use Rattle.std.specs.Str.Parse.{digits_value, without_leading_plus}
-use Rattle.cluster_slots.specs.Address.{Address, printed}
+use Rattle.cluster_slots.specs.Address.{Address, display_text}
 use Rattle.std.specs.Str.Pattern.{CutsPrefixes, CutsSuffixes, FindsCharPrefix, FindsCharSuffix, IsTrimStartMatches, IsTrimEndMatches, RFindsChar, SplitsAroundMatch}
 use Rattle.cluster_slots.specs.AddressText.{IsBracketed, IsPlainHost, ReadsAs, IsAddressText, IsNoAddress}
 use Rattle.cluster_slots.specs.Number.{number_in}
@@ -104,7 +104,7 @@ before_closes (x ∷ xs) (y ∷ ys) k m e f g =
     let same = before_closes xs ys k m r (λ front p. f (x ∷ front) (ap (λ z. x ∷ z) p)) (λ front p. g (y ∷ front) (ap (λ z. y ∷ z) p)) in
     ap (λ z. z ∷ xs) q ∙ ap (λ z. y ∷ z) same
 
--- a host that is there does not begin with a bracket with something behind it either
+-- a host that is there does not begin with a bracket with something after it either
 start_behind : (host back : List ℕ) → host ≢ [] → NoStart host → NoStart (host ++ back)
 start_behind [] back n f rest e = absurd (n refl)
 start_behind (c ∷ cs) back n f rest e = let q : c ≡ 91 = cc in f cs (ap (λ x. x ∷ cs) q)
@@ -214,7 +214,7 @@ decimal_number n small =
     let value : digits_value 10 (without_leading_plus (decimal n)) ≡ n = ap (digits_value 10) same ∙ numeral.1 in
     sym (number-ok 16 (decimal n) n ((rw same numeral.0, rw value small), sym value))
 
-pub printed_law : (text : List ℕ) (a : Address) → a.port < 2 ^ 16 → text ≡ printed a → (IsAddressText text a.host a.port → IsPlainHost a.host) × (IsPlainHost a.host → IsAddressText text a.host a.port)
+pub printed_law : (text : List ℕ) (a : Address) → a.port < 2 ^ 16 → text ≡ display_text a → (IsAddressText text a.host a.port → IsPlainHost a.host) × (IsPlainHost a.host → IsAddressText text a.host a.port)
 printed_law text a small e = (
   (λ (l, r, reading). let (o, c, b) = reading.bracketed in record { some = b.some; start = b.start; end = b.end }),
   (λ plain. (

@@ -8,7 +8,7 @@ use Rattle.cluster_slots.proofs.Lists.{Lacks, lacks_from, has, first_cut}
 pub no_open : (key : List ℕ) → ¬ (Contains key 123) → HasNoTag key
 no_open key h t (u, v, held) = has 123 u (t ++ 125 ∷ v) (subst (Lacks 123) held.split (lacks_from 123 key h))
 
--- the rest behind the first opening brace is the tag, a closing brace and what follows
+-- the rest after the first opening brace is the tag, a closing brace and what follows
 rest_is : (key front rest t u v : List ℕ) → key ≡ front ++ 123 ∷ rest → ¬ (Contains front 123) → HoldsTag key t u v → rest ≡ t ++ 125 ∷ v
 rest_is key front rest t u v e h held =
     (first_cut 123 front rest u (t ++ 125 ∷ v) (sym e ∙ held.split) (lacks_from 123 front h) (lacks_from 123 u held.first)).1

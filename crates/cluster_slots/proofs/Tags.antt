@@ -10,7 +10,7 @@ use Rattle.cluster_slots.proofs.HashTags.{no_open, no_close, nothing_between, ta
 use Rattle.resp_core.proofs.Cases.{by_test}
 
 module _ (b : ℕ) where
-  -- behind the first b of a list that starts with another
+  -- after the first b of a list that starts with another
   behind_other : (x : ℕ) (xs : List ℕ) → nat_eq b x ≡ false → after_first (nat_eq b) (x ∷ xs) ≡ after_first (nat_eq b) xs
   behind_other x xs e =
       let n : ℕ = position_or_len (nat_eq b) xs in
@@ -23,7 +23,7 @@ module _ (b : ℕ) where
       let more : 1 + n ≡ suc n = omega arith in
       rw e (ap (λ k. take k (x ∷ xs)) more)
 
-  -- a list that has no b has nothing behind the first one
+  -- a list that has no b has nothing after the first one
   lacking : (xs : List ℕ) → list_any (nat_eq b) xs ≡ false → Lacks b xs × (after_first (nat_eq b) xs ≡ [])
   lacking [] h = (tt, refl)
   lacking (x ∷ xs) h = by_test (nat_eq b x) (λ e. cc (h, e)) (λ e.
@@ -43,7 +43,7 @@ module _ (b : ℕ) where
       let differs : x ≢ b = λ q. grind (arith, nat_tests) in
       rw (behind_other x xs e, before_other x xs e) (ap (λ z. x ∷ z) w.0, (differs, w.1)))
 
--- no closing brace behind the first opening one, or nothing between
+-- no closing brace after the first opening one, or nothing between
 tag_is : (key front rest : List ℕ) → key ≡ front ++ 123 ∷ rest → Lacks 123 front → IsHashTag key (tag_in key rest)
 tag_is key front rest e free = by_test (list_any (nat_eq 125) rest)
     (λ closed.

@@ -11,8 +11,8 @@ pub record Address : Type 0 where
   pub port : ℕ
 
 -- the printed form: host, colon, decimal port
-abbrev pub printed : Address → List ℕ
-printed a = a.host ++ colon ∷ decimal a.port
+abbrev pub display_text : Address → List ℕ
+display_text a = a.host ++ colon ∷ decimal a.port
 
 -- whether two addresses have one host and one port
 abbrev pub same_address : Address → Address → Bool

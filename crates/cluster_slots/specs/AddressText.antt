@@ -1,11 +1,11 @@
 -- The texts that name a node's address.
 use Rattle.std.specs.Prelude.{◌≡◌, ◌≢◌, ℕ, List, [], ◌∷◌, ◌++◌, Some, None, Contains, replicate, codes}
-use Rattle.resp_core.specs.Fault.{Fault}
+use Rattle.resp_core.specs.ErrorParts.{ErrorParts}
 use Rattle.resp_core.specs.declared.error.ErrorKind.TheVariants.{InvalidClientConfig}
 use Rattle.cluster_slots.specs.Number.{number_in}
 use Rattle.cluster_slots.specs.Bytes.{colon, open_bracket, close_bracket}
 
--- the text is the host with some opening brackets before it and some closing ones behind it, all that there are
+-- the text is the host with some opening brackets before it and some closing ones after it, all that there are
 pub record IsBracketed (text host : List ℕ) (opens closes : ℕ) : Type 0 where
   pub whole : text ≡ replicate opens open_bracket ++ host ++ replicate closes close_bracket
   pub some : host ≢ []
@@ -34,5 +34,5 @@ pub record IsPlainHost (host : List ℕ) : Type 0 where
   pub end : (front : List ℕ) → host ≢ front ++ close_bracket ∷ []
 
 -- the refusal of a text that stands for no address
-abbrev pub invalid_node_string : Fault
+abbrev pub invalid_node_string : ErrorParts
 invalid_node_string = record { kind = InvalidClientConfig; desc = codes "Invalid node string"; detail = None }

@@ -5,8 +5,8 @@ ghost use Rattle.std.specs.Rc.{rc_str_bytes};
 ghost use Rattle.std.specs.Cmp.{partial_order_from_own_ties};
 ghost use Rattle.std.specs.Cmp.Rules.{comparing, hashing};
 ghost use Rattle.std.proofs.Common.{rules, refl};
-ghost use Rattle.resp_core.specs.Fault.{out_of_memory};
-ghost use Rattle.cluster_slots.specs.Address.{Address, printed, same_address, address_cmp};
+ghost use Rattle.resp_core.specs.ErrorParts.{out_of_memory};
+ghost use Rattle.cluster_slots.specs.Address.{Address, display_text, same_address, address_cmp};
 ghost use Rattle.cluster_slots.specs.Number.{number_in};
 ghost use Rattle.cluster_slots.specs.AddressText.{IsAddressText, IsNoAddress, IsPlainHost, invalid_node_string};
 
@@ -67,7 +67,7 @@ impl NodeAddress {
     /// # Errors
     ///
     /// Kind `InvalidClientConfig` and text `Invalid node string` for a text that names no address;
-    /// kind `OutOfMemory` where there is no memory for the host.
+    /// kind `OutOfMemory` if memory runs out for the host.
     pub fn try_from(alloc: Global, text: &str) -> RedisResult<Self>
         ensures read { IfOk result (λ a. IsAddressText text.now a.host a.port) }
         ensures refused { IfErr result (λ e. ((e ≡ invalid_node_string) × IsNoAddress text.now) ⊎ (e ≡ out_of_memory)) }
@@ -112,7 +112,7 @@ impl Clone for NodeAddress {
 }
 
 impl fmt::Display for NodeAddress {
-    ghost output = { λ a. Some (printed a) };
+    ghost output = { λ a. Some (display_text a) };
 
     fn fmt<W: fmt::Write>(&self, f: &mut fmt::Formatter<W>) -> fmt::Result {
         let host = self.host();
@@ -122,7 +122,7 @@ impl fmt::Display for NodeAddress {
 }
 
 impl fmt::Debug for NodeAddress {
-    ghost debug_output = { λ a. Some (printed a) };
+    ghost debug_output = { λ a. Some (display_text a) };
 
     fn fmt<W: fmt::Write>(&self, f: &mut fmt::Formatter<W>) -> fmt::Result {
         let host = self.host();
@@ -188,7 +188,7 @@ impl Hash for NodeAddress {
 
 /// The host and the port that a text names.
 ///
-/// The text is cut at its last colon. All brackets `[` before the host and `]` behind it are left
+/// The text is cut at its last colon. All brackets `[` before the host and `]` after it are left
 /// out, and a host has to be left. The port is a decimal number up to 65535, with or without a `+`.
 ///
 /// # Errors
@@ -198,7 +198,7 @@ pub fn split_node_address(text: &str) -> RedisResult<(&str, u16)>
     ensures read { IfOk result (λ named. IsAddressText text.now named.0.now named.1) }
     ensures refused { IfErr result (λ e. (e ≡ invalid_node_string) × IsNoAddress text.now) }
     // The printed form of an address names it exactly where its host is a plain one.
-    ensures printed { (a : Address) → a.port < 2 ^ 16 → text.now ≡ printed a → (IsAddressText text.now a.host a.port ↔ IsPlainHost a.host) }
+    ensures printed { (a : Address) → a.port < 2 ^ 16 → text.now ≡ display_text a → (IsAddressText text.now a.host a.port ↔ IsPlainHost a.host) }
 {
     let invalid = (ErrorKind::InvalidClientConfig, "Invalid node string");
     host_and_port(text).ok_or(RedisError::from(invalid))

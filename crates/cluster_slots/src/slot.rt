@@ -88,9 +88,9 @@ pub struct Route {
 }
 
 impl Model for Route {
-    ghost use Rattle.cluster_slots.specs.RouteTo.{RouteTo};
+    ghost use Rattle.cluster_slots.specs.SlotRoute.{SlotRoute};
 
-    ghost Value = { RouteTo };
+    ghost Value = { SlotRoute };
 
     ghost view = { λ r. record { slot = r.slot; addr = r.slot_addr } };
 

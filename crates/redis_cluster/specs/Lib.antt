@@ -16,11 +16,11 @@ pub use Rattle.redis_commands.specs.NameTables
 pub use Rattle.redis_commands.specs.Policies
 pub use Rattle.redis_commands.specs.ReadOnly
 pub use Rattle.redis_commands.specs.Run
-pub use Rattle.redis_commands.specs.Table
+pub use Rattle.redis_commands.specs.Lookup
 pub use Rattle.redis_commands.specs.Tuples
 pub use Rattle.redis_commands.specs.TwoWords
 pub use Rattle.redis_commands.specs.Upper
-pub use Rattle.redis_commands.specs.Ways
+pub use Rattle.redis_commands.specs.RouteBy
 pub use Rattle.redis_pipeline.specs.Pipeline
 pub use Rattle.redis_pipeline.specs.Refusals
 pub use Rattle.redis_routing.specs.Complete

@@ -3,33 +3,23 @@
 
 #[cfg(test)]
 mod for_routable;
-
 #[cfg(test)]
 mod given;
-
 #[cfg(test)]
 mod info;
-
 #[cfg(test)]
 mod pipeline;
-
 #[cfg(test)]
 mod policy;
-
 #[cfg(test)]
 mod read_only;
-
 #[cfg(test)]
 mod routable;
-
+#[cfg(test)]
+mod route_by;
 #[cfg(test)]
 mod split_command;
-
 #[cfg(test)]
 mod splitting;
-
 #[cfg(test)]
 mod sub_commands;
-
-#[cfg(test)]
-mod ways;

@@ -3,7 +3,7 @@ use Rattle.std.proofs.Common.{◌≡◌, ℕ, zero, suc, ◌+◌, ◌<◌, cond,
 use Rattle.std.specs.Prelude.{slice_get, option_and_then}
 use Rattle.std.proofs.lemmas.Bool.{eqb-true}
 use Rattle.std.proofs.lemmas.Option.{slice_get_within, slice_get-get_or, get_or_from_slice_get}
-use Rattle.resp_core.specs.Reply.{Reply, nil, array, replies_of, items_in, items_of}
+use Rattle.resp_core.specs.Reply.{Reply, nil, array, replies_of, items_in, array_of}
 use Rattle.resp_core.specs.declared.error.ErrorKind.{ErrorKind}
 use Rattle.resp_core.specs.declared.error.ErrorKind.TheVariants.{Client}
 use Rattle.redis_combiners.specs.AllItems.{all_items}
@@ -12,8 +12,8 @@ use Rattle.redis_combiners.specs.ByPlaces.{by_places}
 use Rattle.redis_combiners.specs.KeyPlaces.{places, all_places}
 use Rattle.redis_combiners.specs.Lists.{flatten}
 use Rattle.redis_combiners.specs.Misfits.{first_misfit}
-use Rattle.redis_combiners.specs.SortedArrays.{array_of, array_by_places, sorted_arrays}
-use Rattle.redis_commands.specs.declared.ways.MultiSlotArgPattern.{MultiSlotArgPattern}
+use Rattle.redis_combiners.specs.SortedArrays.{array_or_refusal, array_by_places, sorted_arrays}
+use Rattle.redis_commands.specs.declared.route_by.MultiSlotArgPattern.{MultiSlotArgPattern}
 use Rattle.resp_core.proofs.Cases.{by_test}
 use Rattle.redis_combiners.proofs.Lists.{Front, front}
 use Rattle.redis_combiners.proofs.Misfits.{Fits, fits, items_length}
@@ -61,7 +61,7 @@ stands pattern rs [] pss xs e f g i j r list place a b h = absurd (cc)
 stands pattern [] (list0 ∷ lists) pss xs e f g i j r list place a b h = absurd (cc)
 stands pattern (r0 ∷ rs) (list0 ∷ lists) pss xs e f g zero j r list place a b h =
     let c : Front (places pattern list0) (map (places pattern) lists) pss = front (places pattern list0) (map (places pattern) lists) pss e in
-    let t : Fits (items_of r0) rs (length c.first) (map length c.others) xs = fits (items_of r0) rs (length c.first) (map length c.others) xs (sym (ap (λ qss. first_misfit (r0 ∷ rs) (map length qss)) c.is) ∙ f) g in
+    let t : Fits (array_of r0) rs (length c.first) (map length c.others) xs = fits (array_of r0) rs (length c.first) (map length c.others) xs (sym (ap (λ qss. first_misfit (r0 ∷ rs) (map length qss)) c.is) ∙ f) g in
     let same_list : list0 ≡ list = cc in
     let same_reply : r0 ≡ r = cc in
     let there : slice_get c.first j ≡ Some place = sym (ap (option_and_then (λ ps. slice_get ps j)) c.there) ∙ ap (λ l. place_at pattern l j) same_list ∙ h in
@@ -69,7 +69,7 @@ stands pattern (r0 ∷ rs) (list0 ∷ lists) pss xs e f g zero j r list place a 
     first_stands c.first c.others pss t.first t.others xs j place (item_at r j) c.is t.is t.long there here
 stands pattern (r0 ∷ rs) (list0 ∷ lists) pss xs e f g (suc i) j r list place a b h =
     let c : Front (places pattern list0) (map (places pattern) lists) pss = front (places pattern list0) (map (places pattern) lists) pss e in
-    let t : Fits (items_of r0) rs (length c.first) (map length c.others) xs = fits (items_of r0) rs (length c.first) (map length c.others) xs (sym (ap (λ qss. first_misfit (r0 ∷ rs) (map length qss)) c.is) ∙ f) g in
+    let t : Fits (array_of r0) rs (length c.first) (map length c.others) xs = fits (array_of r0) rs (length c.first) (map length c.others) xs (sym (ap (λ qss. first_misfit (r0 ∷ rs) (map length qss)) c.is) ∙ f) g in
     later_stands c.first c.others pss t.first t.others xs place (item_at r j) c.is t.is t.long (stands pattern rs lists c.others t.others c.others_are t.others_fit t.others_are i j r list place a b h)
 
 -- what the whole is made of
@@ -90,21 +90,21 @@ items_by_places pss rs = option_and_then (by_places (flatten pss)) (all_items rs
 made : (o : Option (List (List ℕ))) (rs : List Reply) (whole : Reply) → array_by_places o rs ≡ Ok whole → Made o rs whole
 made None rs whole e = absurd (cc)
 made (Some pss) rs whole e = by_test (eqb (length rs) (length pss))
-    (λ t. fitted (first_misfit rs (map length pss)) refl (eqb-true (length rs) (length pss) t) (sym (ap (λ b. cond b (array_of (first_misfit rs (map length pss)) (items_by_places pss rs)) (Err Client)) t) ∙ e))
-    (λ f. absurd (refused (sym (ap (λ b. cond b (array_of (first_misfit rs (map length pss)) (items_by_places pss rs)) (Err Client)) f) ∙ e)))
+    (λ t. fitted (first_misfit rs (map length pss)) refl (eqb-true (length rs) (length pss) t) (sym (ap (λ b. cond b (array_or_refusal (first_misfit rs (map length pss)) (items_by_places pss rs)) (Err Client)) t) ∙ e))
+    (λ f. absurd (refused (sym (ap (λ b. cond b (array_or_refusal (first_misfit rs (map length pss)) (items_by_places pss rs)) (Err Client)) f) ∙ e)))
   where
     refused : Err Client ≡ Ok whole → ⊥
     refused h = cc
 
-    ended : (xs : List Reply) (a : Option (List Reply)) → all_items rs ≡ Some xs → by_places (flatten pss) xs ≡ a → length rs ≡ length pss → first_misfit rs (map length pss) ≡ None → array_of None a ≡ Ok whole → Made (Some pss) rs whole
+    ended : (xs : List Reply) (a : Option (List Reply)) → all_items rs ≡ Some xs → by_places (flatten pss) xs ≡ a → length rs ≡ length pss → first_misfit rs (map length pss) ≡ None → array_or_refusal None a ≡ Ok whole → Made (Some pss) rs whole
     ended xs None g h n m e = absurd (cc)
     ended xs (Some out) g h n m e = record { pss = pss; xs = xs; out = out; found = refl; count = n; fit = m; items = g; sorted = h; is = cc }
 
-    gone : (a : Option (List Reply)) → all_items rs ≡ a → length rs ≡ length pss → first_misfit rs (map length pss) ≡ None → array_of None (option_and_then (by_places (flatten pss)) a) ≡ Ok whole → Made (Some pss) rs whole
+    gone : (a : Option (List Reply)) → all_items rs ≡ a → length rs ≡ length pss → first_misfit rs (map length pss) ≡ None → array_or_refusal None (option_and_then (by_places (flatten pss)) a) ≡ Ok whole → Made (Some pss) rs whole
     gone None g n m h = absurd (cc)
     gone (Some xs) g n m h = ended xs (by_places (flatten pss) xs) g refl n m h
 
-    fitted : (k : Option ErrorKind) → first_misfit rs (map length pss) ≡ k → length rs ≡ length pss → array_of k (items_by_places pss rs) ≡ Ok whole → Made (Some pss) rs whole
+    fitted : (k : Option ErrorKind) → first_misfit rs (map length pss) ≡ k → length rs ≡ length pss → array_or_refusal k (items_by_places pss rs) ≡ Ok whole → Made (Some pss) rs whole
     fitted (Some k) m n h = absurd (cc)
     fitted None m n h = gone (all_items rs) refl n m h
 

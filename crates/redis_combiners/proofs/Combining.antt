@@ -10,8 +10,8 @@ use Rattle.redis_combiners.specs.ByPlaces.{by_places}
 use Rattle.redis_combiners.specs.KeyPlaces.{all_places}
 use Rattle.redis_combiners.specs.Lists.{flatten}
 use Rattle.redis_combiners.specs.Misfits.{first_misfit}
-use Rattle.redis_combiners.specs.SortedArrays.{array_of, array_by_places, sorted_arrays}
-use Rattle.redis_commands.specs.declared.ways.MultiSlotArgPattern.{MultiSlotArgPattern}
+use Rattle.redis_combiners.specs.SortedArrays.{array_or_refusal, array_by_places, sorted_arrays}
+use Rattle.redis_commands.specs.declared.route_by.MultiSlotArgPattern.{MultiSlotArgPattern}
 use Rattle.redis_combiners.proofs.Misfits.{items_length}
 
 -- the lists of places that were found: all in one list, and how long each is
@@ -28,7 +28,7 @@ found (Some pss) all counts e f = record { lists = pss; is = refl; all_are = cc;
 -- the last step, where the parts of the reply are known
 pub record Known (pattern : MultiSlotArgPattern) (rs : List Reply) (lists : List (List ℕ)) (all : List ℕ) (xs : List Reply) : Type 0 where
   pub long : length xs ≡ length all
-  pub is : sorted_arrays pattern rs lists ≡ array_of None (by_places all xs)
+  pub is : sorted_arrays pattern rs lists ≡ array_or_refusal None (by_places all xs)
 
 pub known : (pattern : MultiSlotArgPattern) (rs : List Reply) (lists : List (List ℕ)) (all counts : List ℕ) (xs : List Reply)
     → Found (all_places pattern lists) all counts → length rs ≡ length counts → first_misfit rs counts ≡ None → all_items rs ≡ Some xs
@@ -40,8 +40,8 @@ known pattern rs lists all counts xs p n f g =
     record {
       long = items_length rs p.lists xs m h g ∙ ap length (sym p.all_are);
       is = ap (λ o. array_by_places o rs) p.is
-          ∙ ap (λ b. cond b (array_of (first_misfit rs (map length p.lists)) sorted) (Err Client)) (eq-eqb (length rs) (length p.lists) m)
-          ∙ ap (λ k. array_of k sorted) h
-          ∙ ap (λ o. array_of None (option_and_then (by_places (flatten p.lists)) o)) g
-          ∙ ap (λ qs. array_of None (by_places qs xs)) (sym p.all_are);
+          ∙ ap (λ b. cond b (array_or_refusal (first_misfit rs (map length p.lists)) sorted) (Err Client)) (eq-eqb (length rs) (length p.lists) m)
+          ∙ ap (λ k. array_or_refusal k sorted) h
+          ∙ ap (λ o. array_or_refusal None (option_and_then (by_places (flatten p.lists)) o)) g
+          ∙ ap (λ qs. array_or_refusal None (by_places qs xs)) (sym p.all_are);
     }

@@ -2,7 +2,7 @@
 use Rattle.std.proofs.Common.{◌≡◌, length, ℕ, ◌^◌, ◌<◌, ℤ, List, [], ◌∷◌, ◌++◌, Option, Some, ap, sym, ◌∙◌, arith, map, Vec, Global}
 use Rattle.std.specs.Option.{option_zip}
 use Rattle.std.proofs.lemmas.List.{map_push, length-map}
-use Rattle.resp_core.specs.Reply.{Reply, int_of, bulk_of}
+use Rattle.resp_core.specs.Reply.{Reply, int_of, bulk_string_of}
 use Rattle.resp_core.specs.View.{view, view_pair}
 use Rattle.resp_core.specs.declared.value.Value.{Value}
 use Rattle.redis_combiners.specs.KeyNumbers.{KeyNumber, twos, pairs_among}
@@ -12,12 +12,12 @@ use Rattle.redis_combiners.proofs.Ahead.{before, before-more}
 
 -- one more pair of a reply
 pub pairs_more : (so_far : List KeyNumber) (key number : Value) (rest0 rest1 rest2 : List Value) (k : List ℕ) (n : ℤ) (whole : Option (List KeyNumber))
-    → rest0 ≡ key ∷ rest1 → rest1 ≡ number ∷ rest2 → Some k ≡ bulk_of (view key) → Some n ≡ int_of (view number)
+    → rest0 ≡ key ∷ rest1 → rest1 ≡ number ∷ rest2 → Some k ≡ bulk_string_of (view key) → Some n ≡ int_of (view number)
     → before so_far (pairs_among (map view rest0)) ≡ whole → before (so_far ++ (k, n) ∷ []) (pairs_among (map view rest2)) ≡ whole
 pairs_more so_far key number rest0 rest1 rest2 k n whole e f b i h =
     sym (before-more so_far (k, n) (pairs_among (map view rest2)))
     ∙ ap (λ o. before so_far (all_some (option_zip o (Some n) ∷ twos (map view rest2)))) b
-    ∙ ap (λ o. before so_far (all_some (option_zip (bulk_of (view key)) o ∷ twos (map view rest2)))) i
+    ∙ ap (λ o. before so_far (all_some (option_zip (bulk_string_of (view key)) o ∷ twos (map view rest2)))) i
     ∙ ap (λ vs. before so_far (pairs_among (map view vs))) (sym (e ∙ ap (λ vs. key ∷ vs) f))
     ∙ h
 

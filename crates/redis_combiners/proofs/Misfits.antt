@@ -4,7 +4,7 @@ use Rattle.std.specs.Prelude.{option_map, slice_get}
 use Rattle.std.specs.List.{filter_map, cons_option, zip}
 use Rattle.std.proofs.lemmas.List.{drop_more, length-append}
 use Rattle.std.proofs.lemmas.Bool.{eqb-true}
-use Rattle.resp_core.specs.Reply.{Reply, items_of}
+use Rattle.resp_core.specs.Reply.{Reply, array_of}
 use Rattle.resp_core.specs.View.{view}
 use Rattle.resp_core.specs.declared.value.Value.{Value}
 use Rattle.resp_core.specs.declared.error.ErrorKind.{ErrorKind}
@@ -20,12 +20,12 @@ after o rs counts = slice_get (cons_option o (filter_map misfit (zip rs counts))
 
 -- a reply and its count come next
 turn : (v : Value) (rest' rest : List Value) (counts : List ℕ) (k : ℕ) → k + length rest ≡ length counts → rest ≡ v ∷ rest'
-    → first_misfit (map view rest) (drop k counts) ≡ after (misfit_of (items_of (view v)) (get_or counts k 0)) (map view rest') (drop (k + 1) counts)
+    → first_misfit (map view rest) (drop k counts) ≡ after (misfit_of (array_of (view v)) (get_or counts k 0)) (map view rest') (drop (k + 1) counts)
 turn v rest' rest counts k n e =
     ap (λ vs. first_misfit (map view vs) (drop k counts)) e
     ∙ ap (first_misfit (map view (v ∷ rest'))) (drop_more counts k 0 (omega (arith, ap length e)))
 
-pub no_array : (v : Value) (rest' rest : List Value) (counts : List ℕ) (k : ℕ) (whole : Option ErrorKind) → k + length rest ≡ length counts → rest ≡ v ∷ rest' → None ≡ items_of (view v)
+pub no_array : (v : Value) (rest' rest : List Value) (counts : List ℕ) (k : ℕ) (whole : Option ErrorKind) → k + length rest ≡ length counts → rest ≡ v ∷ rest' → None ≡ array_of (view v)
     → first_misfit (map view rest) (drop k counts) ≡ whole → whole ≡ Some UnexpectedReturnType
 no_array v rest' rest counts k whole n e none inv = sym inv ∙ turn v rest' rest counts k n e ∙ ap (λ o. after (misfit_of o (get_or counts k 0)) (map view rest') (drop (k + 1) counts)) (sym none)
 
@@ -39,16 +39,16 @@ pub record Fits (o : Option (List Reply)) (rs : List Reply) (n : ℕ) (counts : 
   pub others_are : all_items rs ≡ Some others
   pub is : xs ≡ first ++ others
 
-pub fits : (o : Option (List Reply)) (rs : List Reply) (n : ℕ) (counts : List ℕ) (xs : List Reply) → after (misfit_of o n) rs counts ≡ None → option_map flatten (all_some (o ∷ map items_of rs)) ≡ Some xs → Fits o rs n counts xs
+pub fits : (o : Option (List Reply)) (rs : List Reply) (n : ℕ) (counts : List ℕ) (xs : List Reply) → after (misfit_of o n) rs counts ≡ None → option_map flatten (all_some (o ∷ map array_of rs)) ≡ Some xs → Fits o rs n counts xs
 fits None rs n counts xs f g = absurd (cc)
 fits (Some ys) rs n counts xs f g = by_test (eqb (length ys) n)
-    (λ t. whole (all_some (map items_of rs)) refl (sym (ap (λ b. after (cond b None (Some Client)) rs counts) t) ∙ f) (eqb-true (length ys) n t) g)
+    (λ t. whole (all_some (map array_of rs)) refl (sym (ap (λ b. after (cond b None (Some Client)) rs counts) t) ∙ f) (eqb-true (length ys) n t) g)
     (λ t. absurd (refused (sym (ap (λ b. after (cond b None (Some Client)) rs counts) t) ∙ f)))
   where
     refused : Some Client ≡ None → ⊥
     refused h = cc
 
-    whole : (a : Option (List (List Reply))) → all_some (map items_of rs) ≡ a → first_misfit rs counts ≡ None → length ys ≡ n → option_map flatten (option_map (λ yss. ys ∷ yss) a) ≡ Some xs → Fits (Some ys) rs n counts xs
+    whole : (a : Option (List (List Reply))) → all_some (map array_of rs) ≡ a → first_misfit rs counts ≡ None → length ys ≡ n → option_map flatten (option_map (λ yss. ys ∷ yss) a) ≡ Some xs → Fits (Some ys) rs n counts xs
     whole None is m l h = absurd (cc)
     whole (Some yss) is m l h = record { first = ys; others = flatten yss; there = refl; long = l; others_fit = m; others_are = ap (option_map flatten) is; is = cc }
 
@@ -60,6 +60,6 @@ items_length [] [] xs n f g = nil_is xs (cc)
 items_length [] (ps ∷ pss) xs n f g = absurd (omega arith)
 items_length (r ∷ rs) [] xs n f g = absurd (omega arith)
 items_length (r ∷ rs) (ps ∷ pss) xs n f g =
-    let t : Fits (items_of r) rs (length ps) (map length pss) xs = fits (items_of r) rs (length ps) (map length pss) xs f g in
+    let t : Fits (array_of r) rs (length ps) (map length pss) xs = fits (array_of r) rs (length ps) (map length pss) xs f g in
     let h : length t.others ≡ length (flatten pss) = items_length rs pss t.others (omega arith) t.others_fit t.others_are in
     omega (arith, ap length t.is, length-append t.first t.others, length-append ps (flatten pss), t.long)

@@ -11,7 +11,7 @@ use Rattle.std.proofs.lemmas.List.Sums.{sum_by-cons, sum_by-append}
 use Rattle.std.proofs.lemmas.List.Concat.{length-flat_map}
 use Rattle.std.proofs.lemmas.List.Folds.{list_any-append, flat_map-map}
 use borrow.Author.Differences.{up, down}
-use Rattle.resp_core.specs.Reply.{Reply, items_of}
+use Rattle.resp_core.specs.Reply.{Reply, array_of}
 use Rattle.redis_combiners.specs.KeyNumbers.{KeyNumber, pairs_among, all_pairs}
 use Rattle.redis_combiners.specs.Lists.{flatten}
 use Rattle.redis_combiners.specs.Totals.{totals, map_of, map_of_totals, combined_map}
@@ -19,7 +19,7 @@ use Rattle.redis_combiners.proofs.Lists.{all_some_is}
 use Rattle.redis_combiners.proofs.Totals.{or_zero, sum_at, sum_has, same_totals}
 
 abbrev own_pairs : Reply → Option (List KeyNumber)
-own_pairs reply = option_and_then pairs_among (items_of reply)
+own_pairs reply = option_and_then pairs_among (array_of reply)
 
 abbrev missing : Reply → Bool
 missing reply = is_none (own_pairs reply)

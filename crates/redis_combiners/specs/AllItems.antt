@@ -1,8 +1,8 @@
 -- The items of all replies, in order.
 use Rattle.std.specs.Prelude.{List, map, Option, option_map}
-use Rattle.resp_core.specs.Reply.{Reply, items_of}
+use Rattle.resp_core.specs.Reply.{Reply, array_of}
 use Rattle.redis_combiners.specs.Lists.{all_some, flatten}
 
 -- the items of all replies, one reply after the other, if each is an array
 abbrev pub all_items : List Reply → Option (List Reply)
-all_items replies = option_map flatten (all_some (map items_of replies))
+all_items replies = option_map flatten (all_some (map array_of replies))

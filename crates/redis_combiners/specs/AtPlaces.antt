@@ -1,12 +1,12 @@
 -- Where the items of each reply stand in the one array.
 use Rattle.std.specs.Prelude.{◌≡◌, ℕ, List, Option, Some, slice_get, option_and_then}
-use Rattle.resp_core.specs.Reply.{Reply, items_of}
+use Rattle.resp_core.specs.Reply.{Reply, array_of}
 use Rattle.redis_combiners.specs.KeyPlaces.{places}
-use Rattle.redis_commands.specs.declared.ways.MultiSlotArgPattern.{MultiSlotArgPattern}
+use Rattle.redis_commands.specs.declared.route_by.MultiSlotArgPattern.{MultiSlotArgPattern}
 
 -- item j of a reply, if it is an array that has one
 abbrev pub item_at : Reply → ℕ → Option Reply
-item_at reply j = option_and_then (λ items. slice_get items j) (items_of reply)
+item_at reply j = option_and_then (λ items. slice_get items j) (array_of reply)
 
 -- place j of a list, if it has one
 abbrev pub place_at : MultiSlotArgPattern → List ℕ → ℕ → Option ℕ

@@ -1,4 +1,4 @@
-pub use Rattle.resp_core.specs.Fault
+pub use Rattle.resp_core.specs.ErrorParts
 pub use Rattle.resp_core.specs.Reply
 pub use Rattle.resp_core.specs.View
 pub mod Aggregate

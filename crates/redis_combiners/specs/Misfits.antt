@@ -1,7 +1,7 @@
 -- Replies that do not have as many items as their lists have places.
 use Rattle.std.specs.Prelude.{ℕ, ◌==◌, List, length, Option, Some, None, slice_get, if◌then◌else◌}
 use Rattle.std.specs.List.{filter_map, zip}
-use Rattle.resp_core.specs.Reply.{Reply, items_of}
+use Rattle.resp_core.specs.Reply.{Reply, array_of}
 use Rattle.resp_core.specs.declared.error.ErrorKind.{ErrorKind}
 use Rattle.resp_core.specs.declared.error.ErrorKind.TheVariants.{UnexpectedReturnType, Client}
 
@@ -12,7 +12,7 @@ misfit_of (Some items) count = if length items == count then None else Some Clie
 
 -- why a reply does not fit its count, if it does not: it is not an array, or does not have as many items
 abbrev pub misfit : Reply × ℕ → Option ErrorKind
-misfit pair = misfit_of (items_of pair.0) pair.1
+misfit pair = misfit_of (array_of pair.0) pair.1
 
 -- why the first reply that does not fit its count does not
 abbrev pub first_misfit : List Reply → List ℕ → Option ErrorKind

@@ -8,18 +8,18 @@ use Rattle.redis_combiners.specs.ByPlaces.{by_places}
 use Rattle.redis_combiners.specs.KeyPlaces.{all_places}
 use Rattle.redis_combiners.specs.Lists.{flatten}
 use Rattle.redis_combiners.specs.Misfits.{first_misfit}
-use Rattle.redis_commands.specs.declared.ways.MultiSlotArgPattern.{MultiSlotArgPattern}
+use Rattle.redis_commands.specs.declared.route_by.MultiSlotArgPattern.{MultiSlotArgPattern}
 
 -- an array of the items; refused where a reply does not fit, or else where there is no order of the items
-abbrev pub array_of : Option ErrorKind → Option (List Reply) → Result Reply ErrorKind
-array_of (Some kind) items = Err kind
-array_of None None = Err Client
-array_of None (Some items) = Ok (array (replies_of items))
+abbrev pub array_or_refusal : Option ErrorKind → Option (List Reply) → Result Reply ErrorKind
+array_or_refusal (Some kind) items = Err kind
+array_or_refusal None None = Err Client
+array_or_refusal None (Some items) = Ok (array (replies_of items))
 
 -- the items of the replies by the places of their lists; refused where a list is not of whole tuples, then where there are not as many replies as lists
 abbrev pub array_by_places : Option (List (List ℕ)) → List Reply → Result Reply ErrorKind
 array_by_places None replies = Err Client
-array_by_places (Some lists) replies = if length replies == length lists then array_of (first_misfit replies (map length lists)) (option_and_then (by_places (flatten lists)) (all_items replies)) else Err Client
+array_by_places (Some lists) replies = if length replies == length lists then array_or_refusal (first_misfit replies (map length lists)) (option_and_then (by_places (flatten lists)) (all_items replies)) else Err Client
 
 -- the one array for the replies to the parts with these lists of arguments, or the kind of the first refusal
 abbrev pub sorted_arrays : MultiSlotArgPattern → List Reply → List (List ℕ) → Result Reply ErrorKind

@@ -1,5 +1,5 @@
 ghost use Rattle.std.specs.Prelude.{◌≡◌, ◌⊎◌, map, MatchResult, option_map, Some, None, IfOk};
-ghost use Rattle.resp_core.specs.Fault.{out_of_memory};
+ghost use Rattle.resp_core.specs.ErrorParts.{out_of_memory};
 ghost use Rattle.resp_core.specs.Reply.{array, replies_of};
 ghost use Rattle.resp_core.specs.View.{view};
 ghost use Rattle.resp_core.specs.declared.error.ErrorKind.TheVariants.{UnexpectedReturnType};
@@ -30,7 +30,7 @@ fn collect_items(alloc: Global, values: Vec<Value>) -> Result<Option<Vec<Value>>
 {
     let mut all = Vec::new(alloc);
     for value in values {
-        let Some(mut items) = value.into_items() else {
+        let Some(mut items) = value.into_array() else {
             return Ok(None);
         };
         all.append(&mut items)?;

@@ -1,6 +1,6 @@
 ghost use Rattle.std.specs.Prelude.{◌≡◌, ◌⊎◌, length, map, MatchResult, Some, None};
 ghost use Rattle.resp_core.specs.View.{view};
-ghost use Rattle.resp_core.specs.Fault.{out_of_memory};
+ghost use Rattle.resp_core.specs.ErrorParts.{out_of_memory};
 ghost use Rattle.redis_combiners.specs.AllItems.{all_items};
 ghost use Rattle.redis_combiners.specs.Misfits.{first_misfit};
 
@@ -18,7 +18,7 @@ pub(super) fn gather(alloc: Global, values: Vec<Value>, counts: &[usize]) -> Red
     let mut all = Vec::new(alloc);
     let mut k = 0;
     for value in values {
-        let Some(mut items) = value.into_items() else {
+        let Some(mut items) = value.into_array() else {
             return Err(RedisError::from((
                 ErrorKind::UnexpectedReturnType,
                 "a reply is not an array",

@@ -1,6 +1,6 @@
 ghost use Rattle.std.specs.Prelude.{◌≡◌, ◌==◌, ◌⊎◌, IfOk, map, length, MatchResult, option_map, Some, None};
 ghost use Rattle.std.specs.List.{list_all};
-ghost use Rattle.resp_core.specs.Fault.{out_of_memory};
+ghost use Rattle.resp_core.specs.ErrorParts.{out_of_memory};
 ghost use Rattle.resp_core.specs.Reply.{array, replies_of};
 ghost use Rattle.resp_core.specs.View.{view};
 ghost use Rattle.resp_core.specs.declared.error.ErrorKind.TheVariants.{UnexpectedReturnType};
@@ -59,7 +59,7 @@ fn rows(alloc: Global, values: &[Value]) -> Result<Option<Vec<Vec<bool>>>, Alloc
 {
     let mut all = Vec::with_capacity(alloc, values.len())?;
     for value in values {
-        let Some(items) = value.as_items() else {
+        let Some(items) = value.as_array() else {
             return Ok(None);
         };
         let Some(row) = bits(alloc, items)? else {

@@ -4,7 +4,7 @@ ghost use Rattle.std.specs.Str.{bytes_eq};
 ghost use Rattle.std.specs.Ordering.{nat_cmp};
 ghost use Rattle.std.specs.Cmp.Lexicographic.{slice_cmp};
 ghost use Rattle.std.specs.List.Sorted.{IsStrictlySortedBy};
-ghost use Rattle.resp_core.specs.Fault.{out_of_memory};
+ghost use Rattle.resp_core.specs.ErrorParts.{out_of_memory};
 ghost use Rattle.resp_core.specs.Reply.{Reply, bulk, int};
 ghost use Rattle.resp_core.specs.View.{view, view_pair};
 ghost use Rattle.resp_core.specs.declared.error.ErrorKind.TheVariants.{UnexpectedReturnType};
@@ -59,7 +59,7 @@ fn collect_pairs(
 {
     let mut pairs = Vec::new(alloc);
     for value in values {
-        let Some(items) = value.into_items() else {
+        let Some(items) = value.into_array() else {
             return Ok(None);
         };
         if !add_pairs(&mut pairs, items)? {
@@ -78,7 +78,7 @@ fn add_pairs(pairs: &mut Vec<(Vec<u8>, i64)>, items: Vec<Value>) -> Result<bool,
         let Some(number) = rest.next() else {
             return Ok(false);
         };
-        let Some(bytes) = key.into_bulk() else {
+        let Some(bytes) = key.into_bulk_string() else {
             return Ok(false);
         };
         let Some(n) = number.as_int() else {

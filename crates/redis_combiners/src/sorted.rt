@@ -1,5 +1,5 @@
 ghost use Rattle.std.specs.Prelude.{◌≡◌, ◌⊎◌, map, MatchResult, IfOk, Ok, Err};
-ghost use Rattle.resp_core.specs.Fault.{out_of_memory};
+ghost use Rattle.resp_core.specs.ErrorParts.{out_of_memory};
 ghost use Rattle.resp_core.specs.Reply.{array, replies_of};
 ghost use Rattle.resp_core.specs.View.{view};
 ghost use Rattle.redis_combiners.specs.AtPlaces.{AreAtPlaces};

@@ -3,15 +3,11 @@
 
 #[cfg(test)]
 mod arrays;
-
 #[cfg(test)]
 mod logical;
-
 #[cfg(test)]
 mod maps;
-
 #[cfg(test)]
 mod sorted;
-
 #[cfg(test)]
 mod sums;

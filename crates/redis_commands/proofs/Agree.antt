@@ -2,7 +2,7 @@
 use Rattle.std.proofs.Common.{◌≡◌, ℕ, List, [], ◌∷◌, Bool, true, false, Option, None, Some, refl, sym, ap, ◌∙◌, map}
 use Rattle.std.specs.Str.{bytes_eq}
 use Rattle.std.proofs.lemmas.Slice.Eq.{bytes_eq-Decides}
-use Rattle.redis_commands.specs.Table.{lookup, has_name}
+use Rattle.redis_commands.specs.Lookup.{lookup, has_name}
 use Rattle.resp_core.proofs.Cases.{by_test}
 
 module _ {A : Type 0} where

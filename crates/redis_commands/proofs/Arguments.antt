@@ -4,7 +4,7 @@ use Rattle.std.specs.Prelude.{slice_get, position}
 use Rattle.std.proofs.lemmas.Bool.{cases_lt, lt-ltb, le-ltb}
 use Rattle.std.proofs.lemmas.List.{get_or_past, get_or-map, length-map}
 use Rattle.std.proofs.lemmas.List.Sums.{position_or_len_is}
-use Rattle.resp_core.specs.Reply.{Reply, bulk_of, items_of}
+use Rattle.resp_core.specs.Reply.{Reply, bulk_string_of, array_of}
 use Rattle.resp_core.specs.View.{view}
 use Rattle.resp_core.specs.declared.value.Value.{Value}
 use Rattle.redis_commands.specs.Command.{Arguments, argument, is_word, arguments_in}
@@ -16,7 +16,7 @@ argument-map-Some (x ∷ items) zero = refl
 argument-map-Some (x ∷ items) (suc i) = argument-map-Some items i
 
 -- of the items of an array
-argument-map : (items : List Reply) (i : ℕ) (d : Reply) → i < length items → argument (map bulk_of items) i ≡ bulk_of (get_or items i d)
+argument-map : (items : List Reply) (i : ℕ) (d : Reply) → i < length items → argument (map bulk_string_of items) i ≡ bulk_string_of (get_or items i d)
 argument-map [] i d h = absurd (omega arith)
 argument-map (x ∷ items) zero d h = refl
 argument-map (x ∷ items) (suc i) d h = argument-map items i d (omega arith)
@@ -26,22 +26,22 @@ argument_past args i h = get_or_past args i None h
 
 -- the arguments that a value is
 abbrev pub arguments_of : Value → Arguments
-arguments_of value = arguments_in (option_map (λ items. map bulk_of items) (items_of (view value)))
+arguments_of value = arguments_in (option_map (λ items. map bulk_string_of items) (array_of (view value)))
 
-pub arguments_of_items : (value : Value) (items : List Value) → Some (map view items) ≡ items_of (view value) → arguments_of value ≡ map bulk_of (map view items)
-arguments_of_items value items is = sym (ap (λ o. arguments_in (option_map (λ xs. map bulk_of xs) o)) is)
+pub arguments_of_items : (value : Value) (items : List Value) → Some (map view items) ≡ array_of (view value) → arguments_of value ≡ map bulk_string_of (map view items)
+arguments_of_items value items is = sym (ap (λ o. arguments_in (option_map (λ xs. map bulk_string_of xs) o)) is)
 
 -- an item of an array is the argument at its place
-pub bulk_at : (items : List Value) (i : ℕ) (item : Value) → i < length items → item ≡ get_or items i item → bulk_of (view item) ≡ argument (map bulk_of (map view items)) i
+pub bulk_at : (items : List Value) (i : ℕ) (item : Value) → i < length items → item ≡ get_or items i item → bulk_string_of (view item) ≡ argument (map bulk_string_of (map view items)) i
 bulk_at items i item h e =
-    ap (λ x. bulk_of (view x)) e ∙ sym (ap bulk_of (get_or-map view items i item (view item) h)) ∙ sym (argument-map (map view items) i (view item) (rw length-map h))
+    ap (λ x. bulk_string_of (view x)) e ∙ sym (ap bulk_string_of (get_or-map view items i item (view item) h)) ∙ sym (argument-map (map view items) i (view item) (rw length-map h))
 
-pub item_argument : (value : Value) (items : List Value) (i : ℕ) (item : Value) → Some (map view items) ≡ items_of (view value) → i < length items → item ≡ get_or items i item → bulk_of (view item) ≡ argument (arguments_of value) i
+pub item_argument : (value : Value) (items : List Value) (i : ℕ) (item : Value) → Some (map view items) ≡ array_of (view value) → i < length items → item ≡ get_or items i item → bulk_string_of (view item) ≡ argument (arguments_of value) i
 item_argument value items i item is h e = bulk_at items i item h e ∙ ap (λ args. argument args i) (sym (arguments_of_items value items is))
 
-pub no_item : (value : Value) (items : List Value) (i : ℕ) → Some (map view items) ≡ items_of (view value) → length items ≤ i → None ≡ argument (arguments_of value) i
+pub no_item : (value : Value) (items : List Value) (i : ℕ) → Some (map view items) ≡ array_of (view value) → length items ≤ i → None ≡ argument (arguments_of value) i
 no_item value items i is h =
-    sym (ap (λ args. argument args i) (arguments_of_items value items is) ∙ argument_past (map bulk_of (map view items)) i (rw (length-map, length-map) h))
+    sym (ap (λ args. argument args i) (arguments_of_items value items is) ∙ argument_past (map bulk_string_of (map view items)) i (rw (length-map, length-map) h))
 
 -- one argument more is not the word
 pub none_more : (word : List ℕ) (args : Arguments) (i : ℕ) → ((k : ℕ) → k < i → is_word word (argument args k) ≡ false) → is_word word (argument args i) ≡ false → (k : ℕ) → k < i + 1 → is_word word (argument args k) ≡ false

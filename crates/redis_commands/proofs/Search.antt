@@ -8,7 +8,7 @@ use Rattle.std.proofs.lemmas.Bool.{cases_lt}
 use Rattle.std.proofs.lemmas.Cmp.{nat_list_cmp_total}
 use Rattle.std.proofs.lemmas.List.Sorted.{searchable_from_sorted}
 use Rattle.std.proofs.lemmas.Map.Text.{is_eq-slice_cmp}
-use Rattle.redis_commands.specs.Table.{lookup, has_name, ascends, ascends_from}
+use Rattle.redis_commands.specs.Lookup.{lookup, has_name, ascends, ascends_from}
 
 abbrev order : List ℕ → List ℕ → Ordering
 order = slice_cmp nat_cmp

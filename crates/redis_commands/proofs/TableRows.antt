@@ -1,15 +1,15 @@
 -- The tables in the code have the rows of those in specs/.
 use Rattle.std.proofs.Common.{◌≡◌, ℕ, List, refl, map}
-use Rattle.redis_commands.specs.Table.{lookup, has_name}
-use Rattle.redis_commands.specs.Ways.{ways, way_in}
+use Rattle.redis_commands.specs.Lookup.{lookup, has_name}
+use Rattle.redis_commands.specs.RouteBy.{base_routings, base_routing}
 use Rattle.redis_commands.specs.Policies.{policies, policy_of}
 use Rattle.redis_commands.specs.TwoWords.{two_word_names, takes_second}
-use Rattle.redis_commands.specs.declared.names.TheConstants.{WAYS, POLICIES, TWO_WORD_NAMES}
+use Rattle.redis_commands.specs.declared.tables.TheConstants.{BASE_ROUTINGS, POLICIES, TWO_WORD_NAMES}
 use Rattle.redis_commands.proofs.Agree.{agree, agree_names}
 
-pub lookup-WAYS : (name : List ℕ) → lookup (map (λ row. (row.0.now, row.1)) WAYS) name ≡ way_in name
-unfolding way_in
-lookup-WAYS name = agree (map (λ row. (row.0.now, row.1)) WAYS) ways refl refl name
+pub lookup-BASE_ROUTINGS : (name : List ℕ) → lookup (map (λ row. (row.0.now, row.1)) BASE_ROUTINGS) name ≡ base_routing name
+unfolding base_routing
+lookup-BASE_ROUTINGS name = agree (map (λ row. (row.0.now, row.1)) BASE_ROUTINGS) base_routings refl refl name
 
 pub lookup-POLICIES : (name : List ℕ) → lookup (map (λ row. (row.0.now, row.1)) POLICIES) name ≡ policy_of name
 unfolding policy_of

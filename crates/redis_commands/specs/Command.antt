@@ -13,7 +13,7 @@ Arguments = List (Option (List ℕ))
 abbrev pub argument : Arguments → ℕ → Option (List ℕ)
 argument args place = slice_index_or args place None
 
--- a word, and behind a space the second one, if there is one
+-- a word, and after a space the second one, if there is one
 abbrev pub with_second : List ℕ → Option (List ℕ) → List ℕ
 with_second first None = first
 with_second first (Some second) = first ++ 32 ∷ second
@@ -50,7 +50,7 @@ abbrev pub is_word : List ℕ → Option (List ℕ) → Bool
 is_word word None = false
 is_word word (Some bytes) = bytes_eq (map to_ascii_lowercase bytes) (map to_ascii_lowercase word)
 
--- the arguments that the items of a reply are, where it is an array: those that are no bulk string are gaps
+-- the arguments that the items of a reply are, where it is an array: those that are not bulk strings are gaps
 abbrev pub arguments_in : Option Arguments → Arguments
 arguments_in None = []
 arguments_in (Some args) = args

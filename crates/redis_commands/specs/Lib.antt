@@ -5,8 +5,8 @@ pub mod NameTables
 pub mod Policies
 pub mod ReadOnly
 pub mod Run
-pub mod Table
+pub mod Lookup
 pub mod Tuples
 pub mod TwoWords
 pub mod Upper
-pub mod Ways
+pub mod RouteBy

@@ -1,6 +1,6 @@
 -- The policies of names: how the replies of several nodes make one (the project's table of policies).
 use Rattle.std.specs.Prelude.{ℕ, List, [], ◌∷◌, ◌++◌, Option, codes}
-use Rattle.redis_commands.specs.Table.{lookup, each}
+use Rattle.redis_commands.specs.Lookup.{lookup, each}
 use Rattle.redis_commands.specs.declared.policy.LogicalAggregateOp.TheVariants.{And}
 use Rattle.redis_commands.specs.declared.policy.AggregateOp.TheVariants.{Min, Sum}
 use Rattle.redis_commands.specs.declared.policy.ResponsePolicy.{ResponsePolicy}

@@ -1,10 +1,10 @@
 -- The tuples that the run of a command over many keys makes: a key each, and the arguments that go with it. Places count the arguments of the run from 0.
 use Rattle.std.specs.Prelude.{ℕ, ◌+◌, ◌-◌, ◌%◌, Bool, ◌&&◌, cond, nat_eq, nat_lt, List, [], ◌∷◌, length, take, drop}
 use Rattle.std.specs.List.{range_with_len}
-use Rattle.redis_commands.specs.declared.ways.MultiSlotArgPattern.{MultiSlotArgPattern}
-use Rattle.redis_commands.specs.declared.ways.MultiSlotArgPattern.TheVariants.{KeysOnly, KeyValuePairs, KeysAndLastArg, KeyWithTwoArgTriples}
+use Rattle.redis_commands.specs.declared.route_by.MultiSlotArgPattern.{MultiSlotArgPattern}
+use Rattle.redis_commands.specs.declared.route_by.MultiSlotArgPattern.TheVariants.{KeysOnly, KeyValuePairs, KeysAndLastArg, KeyWithTwoArgTriples}
 
--- a key, its place, and the arguments behind it that go with it
+-- a key, its place, and the arguments after it that go with it
 pub record Tuple : Type 0 where
   pub place : ℕ
   pub key : List ℕ
@@ -49,7 +49,7 @@ width_of KeyValuePairs = 2
 width_of KeysAndLastArg = 1
 width_of KeyWithTwoArgTriples = 3
 
--- how many of so many arguments make tuples: those behind them are shared by all
+-- how many of so many arguments make tuples: those after them are shared by all
 abbrev pub own_count : MultiSlotArgPattern → ℕ → ℕ
 own_count KeysOnly m = m
 own_count KeyValuePairs m = m

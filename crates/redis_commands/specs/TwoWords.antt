@@ -1,6 +1,6 @@
 -- The first words of names that have two words.
 use Rattle.std.specs.Prelude.{ℕ, List, [], ◌∷◌, Bool, codes}
-use Rattle.redis_commands.specs.Table.{has_name}
+use Rattle.redis_commands.specs.Lookup.{has_name}
 
 -- the words that a second one belongs to
 abbrev pub two_word_names : List (List ℕ)

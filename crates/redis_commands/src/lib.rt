@@ -1,16 +1,16 @@
 //! Commands as a cluster reads them: their names, and what the tables know of a name.
 #![tactic(auto)]
 
-mod names;
+mod lookup;
 mod policy;
 mod read_only;
 mod routable;
+mod route_by;
 mod tables;
-mod ways;
-mod words;
+mod upper_case;
 
+pub use lookup::contains;
 pub use policy::{AggregateOp, LogicalAggregateOp, ResponsePolicy};
 pub use read_only::ReadOnlyNames;
 pub use routable::Routable;
-pub use tables::contains;
-pub use ways::{MultiSlotArgPattern, Way, way_of};
+pub use route_by::{MultiSlotArgPattern, RouteBy, base_routing};

@@ -1,8 +1,8 @@
 ghost use Rattle.std.specs.Prelude.{◌≡◌};
 ghost use Rattle.redis_commands.specs.Policies.{policy_of};
 
-use super::names::POLICIES;
-use super::tables::find;
+use super::lookup::find;
+use super::tables::POLICIES;
 
 /// How the bits in the replies of several nodes are joined, place by place.
 #[derive(Clone, Copy, Debug, PartialEq, Eq)]

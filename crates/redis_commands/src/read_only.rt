@@ -3,7 +3,7 @@ ghost use Rattle.std.specs.Str.{bytes_eq};
 ghost use Rattle.redis_commands.specs.ReadOnly.{is_among};
 ghost use Rattle.redis_commands.specs.Upper.{upper};
 
-use super::words::to_upper_case;
+use super::upper_case::to_upper_case;
 use std::alloc::{AllocError, Global};
 use std::collections::BTreeSet;
 use std::marker::Model;
@@ -37,7 +37,7 @@ impl ReadOnlyNames {
     ///
     /// # Errors
     ///
-    /// Where there is no memory, the set stays as it was.
+    /// If memory runs out, the set stays as it was.
     pub fn insert(&mut self, alloc: Global, name: &[u8]) -> Result<(), AllocError>
         ensures inserted { OnOk result ((q : List ℕ) → is_among self.new q ≡ (bytes_eq q (upper name.now) || is_among self.old q)) }
         ensures unchanged { OnErr result (self.new ≡ self.old) }

@@ -1,12 +1,12 @@
 ghost use Rattle.std.specs.Prelude.{◌≡◌, ◌<◌, ◌^◌, ℕ, List, Option, Some, IfOk, IfSome, map, length, position, option_copied, option_map};
-ghost use Rattle.resp_core.specs.Reply.{bulk_of, items_of};
+ghost use Rattle.resp_core.specs.Reply.{bulk_string_of, array_of};
 ghost use Rattle.resp_core.specs.View.{view};
 ghost use Rattle.redis_commands.specs.Command.{Arguments, argument, command_of, is_word, arguments_in};
 ghost use Rattle.redis_commands.specs.TwoWords.{takes_second};
 
-use super::names::TWO_WORD_NAMES;
-use super::tables::contains;
-use super::words::to_upper_case;
+use super::lookup::contains;
+use super::tables::TWO_WORD_NAMES;
+use super::upper_case::to_upper_case;
 use resp_core::{Cmd, Value};
 use std::alloc::{AllocError, Global};
 
@@ -63,24 +63,24 @@ impl Routable for Cmd {
     }
 }
 
-/// The items of an array, of which those that are no bulk string are gaps. Any other value is a
+/// The items of an array, of which those that are not bulk strings are gaps. Any other value is a
 /// command with no argument.
 impl Routable for Value {
-    ghost args = { λ value. arguments_in (option_map (λ items. map bulk_of items) (items_of (view value))) };
+    ghost args = { λ value. arguments_in (option_map (λ items. map bulk_string_of items) (array_of (view value))) };
 
     fn arg_idx(&self, index: usize) -> Option<&[u8]> {
-        let items = self.as_items()?;
+        let items = self.as_array()?;
         if index < items.len() {
-            items[index].as_bulk()
+            items[index].as_bulk_string()
         } else {
             None
         }
     }
 
     fn position(&self, candidate: &[u8]) -> Option<usize> {
-        let items = self.as_items()?;
+        let items = self.as_array()?;
         for place in 0..items.len() {
-            if is_candidate(items[place].as_bulk(), candidate) {
+            if is_candidate(items[place].as_bulk_string(), candidate) {
                 return Some(place);
             }
         }

@@ -2,7 +2,7 @@
 use Rattle.std.proofs.Common.{◌≡◌, ℕ, zero, suc, List, [], ◌∷◌, ◌++◌, Bool, length, get_or, set, refl, ap, sym, ◌∙◌, arith}
 use Rattle.std.specs.List.{zip}
 use Rattle.std.proofs.lemmas.Slice.Zip.{firsts-zip}
-use Rattle.redis_pipeline.specs.Pipeline.{Command, Commands, commands_of, on_last}
+use Rattle.redis_pipeline.specs.Pipeline.{CommandWords, MarkedCommands, commands_of, on_last}
 
 module _ {A B : Type 0} where
   -- an item more at the end of each
@@ -39,5 +39,5 @@ module _ {A B : Type 0} where
   length-pairs (a ∷ xs) (b ∷ ys) same = ap suc (length-pairs xs ys (omega (arith, same)))
 
 -- the commands of a pipeline that is seen as these pairs
-pub commands_of-zip : (commands : List Command) (ignored : List Bool) (pipeline : Commands) → zip commands ignored ≡ pipeline → length ignored ≡ length commands → commands ≡ commands_of pipeline
+pub commands_of-zip : (commands : List CommandWords) (ignored : List Bool) (pipeline : MarkedCommands) → zip commands ignored ≡ pipeline → length ignored ≡ length commands → commands ≡ commands_of pipeline
 commands_of-zip commands ignored pipeline pairs same = sym (firsts-zip commands ignored same) ∙ ap commands_of pairs

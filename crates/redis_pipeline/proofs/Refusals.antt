@@ -7,7 +7,7 @@ use Rattle.std.proofs.lemmas.Bool.Decides.{nat_tests}
 use Rattle.std.proofs.lemmas.List.{length-map}
 use Rattle.std.proofs.lemmas.Slice.Eq.{bytes_eq-Decides}
 use Rattle.std.proofs.lemmas.Str.{utf8_valid_len-IsUtf8}
-use Rattle.redis_commands.specs.Table.{has_name}
+use Rattle.redis_commands.specs.Lookup.{has_name}
 use Rattle.redis_pipeline.specs.Refusals.{is_refused, refused_names}
 use Rattle.redis_commands.specs.Upper.{upper}
 use Rattle.redis_pipeline.specs.Pipeline.{text_of}

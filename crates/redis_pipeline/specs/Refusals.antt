@@ -1,6 +1,6 @@
 -- The names of the commands that a cluster pipeline refuses.
 use Rattle.std.specs.Prelude.{ℕ, List, [], ◌∷◌, Bool, codes}
-use Rattle.redis_commands.specs.Table.{has_name}
+use Rattle.redis_commands.specs.Lookup.{has_name}
 
 -- the refused names; one with a space is met only by a first argument that holds the space
 abbrev pub refused_names : List (List ℕ)

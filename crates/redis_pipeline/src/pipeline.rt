@@ -1,10 +1,10 @@
 ghost use Rattle.std.specs.Prelude.{◌≡◌, ◌<◌, ◌++◌, ◌∷◌, [], None, IfOk, IfErr, OnOk, OnErr, codes, length};
 ghost use Rattle.resp_core.specs.declared.error.ErrorKind.TheVariants.{Client};
 ghost use Rattle.redis_pipeline.specs.declared.pipeline.TheConstants.{UNROUTABLE_ERROR};
-ghost use Rattle.redis_pipeline.specs.Pipeline.{commands_of, is_ignored, named, with_argument, with_last_ignored, no_command, IsArgumentRefusal, first_refused, IsRefusal};
+ghost use Rattle.redis_pipeline.specs.Pipeline.{commands_of, is_ignored, command_named, with_argument, with_last_ignored, no_command, IsArgumentRefusal, first_refused, IsRefusal};
 
-mod names;
 mod refusals;
+mod refused_names;
 
 use self::refusals::{explain, first_refused};
 use resp_core::{Cmd, ErrorKind, RedisError, RedisResult};
@@ -58,7 +58,7 @@ impl ClusterPipeline {
     ///
     /// # Errors
     ///
-    /// Where there is no memory.
+    /// If memory runs out.
     pub fn with_capacity(alloc: Global, capacity: usize) -> Result<Self, AllocError>
         ensures { IfOk result (λ pipeline. pipeline ≡ []) }
     {
@@ -79,10 +79,10 @@ impl ClusterPipeline {
     ///
     /// # Errors
     ///
-    /// Where there is no memory, the pipeline stays as it was: this is `push_cmd`, which says so.
+    /// If memory runs out, the pipeline stays as it was: this is `push_cmd`, which says so.
     pub fn cmd(&mut self, alloc: Global, name: &[u8]) -> Result<&mut Self, AllocError>
         ensures same_reference { IfOk result (λ pipeline. pipeline.ghost_name ≡ self.entry.ghost_name) }
-        ensures added { IfOk result (λ pipeline. pipeline.now ≡ self.old ++ named name.now ∷ []) }
+        ensures added { IfOk result (λ pipeline. pipeline.now ≡ self.old ++ command_named name.now ∷ []) }
     {
         self.push_cmd(alloc, name)?;
         Ok(self)
@@ -92,9 +92,9 @@ impl ClusterPipeline {
     ///
     /// # Errors
     ///
-    /// Where there is no memory, the pipeline stays as it was.
+    /// If memory runs out, the pipeline stays as it was.
     pub fn push_cmd(&mut self, alloc: Global, name: &[u8]) -> Result<(), AllocError>
-        ensures added { OnOk result (self.new ≡ self.old ++ named name.now ∷ []) }
+        ensures added { OnOk result (self.new ≡ self.old ++ command_named name.now ∷ []) }
         ensures unchanged { OnErr result (self.new ≡ self.old) }
     {
         let mut command = Cmd::new(alloc);
@@ -109,7 +109,7 @@ impl ClusterPipeline {
     ///
     /// # Errors
     ///
-    /// Of kind `Client` where there is no command yet, and else where there is no memory. The
+    /// Of kind `Client` where there is no command yet, and else if memory runs out. The
     /// pipeline stays as it was: this is `write_arg`, which says so.
     pub fn arg(&mut self, arg: &[u8]) -> RedisResult<&mut Self>
         ensures same_reference { IfOk result (λ pipeline. pipeline.ghost_name ≡ self.entry.ghost_name) }
@@ -125,7 +125,7 @@ impl ClusterPipeline {
     ///
     /// # Errors
     ///
-    /// Of kind `Client` where there is no command yet, and else where there is no memory. The
+    /// Of kind `Client` where there is no command yet, and else if memory runs out. The
     /// pipeline stays as it was.
     pub fn write_arg(&mut self, arg: &[u8]) -> RedisResult<()>
         ensures not_empty { OnOk result (0 < length self.old) }

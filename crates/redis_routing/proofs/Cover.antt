@@ -13,11 +13,11 @@ use Rattle.std.proofs.lemmas.List.Elements.{All-map}
 use Rattle.std.proofs.lemmas.List.Folds.{list_any-append}
 use Rattle.std.proofs.lemmas.List.Sums.{sum_by-cons}
 use Rattle.redis_routing.specs.Laws.{Covers, lists_with}
-use Rattle.redis_routing.specs.Parts.{slot_of, firsts, part, part_places, part_words}
+use Rattle.redis_routing.specs.Parts.{slot_of, first_appearances, tuples_in_slot, places_in_slot, words_in_slot}
 use Rattle.redis_routing.specs.Routing.{route_to, routes_of}
 use Rattle.redis_commands.specs.Tuples.{Tuple, keys_alone, keys_and_values, keys_and_two, fits, own_count, width_of, tuples_from, tuples_in, shared_in, places_of, words_of}
-use Rattle.redis_commands.specs.declared.ways.MultiSlotArgPattern.{MultiSlotArgPattern}
-use Rattle.redis_commands.specs.declared.ways.MultiSlotArgPattern.TheVariants.{KeysOnly, KeyValuePairs, KeysAndLastArg, KeyWithTwoArgTriples}
+use Rattle.redis_commands.specs.declared.route_by.MultiSlotArgPattern.{MultiSlotArgPattern}
+use Rattle.redis_commands.specs.declared.route_by.MultiSlotArgPattern.TheVariants.{KeysOnly, KeyValuePairs, KeysAndLastArg, KeyWithTwoArgTriples}
 use Rattle.resp_core.proofs.Cases.{by_test}
 
 self : (n : ℕ) → nat_eq n n ≡ true
@@ -78,10 +78,10 @@ count_first s n ns =
     (λ other. count_no (nat_eq s) n others other ∙ count_kept s n ns other ∙ sym (ap (λ b. cond b 1 (count_by (nat_eq s) ns)) other))
 
 -- each number stands once among the firsts
-count_firsts : (s : ℕ) (ns : List ℕ) → count_by (nat_eq s) (firsts ns) ≡ cond (list_any (nat_eq s) ns) 1 0
+count_firsts : (s : ℕ) (ns : List ℕ) → count_by (nat_eq s) (first_appearances ns) ≡ cond (list_any (nat_eq s) ns) 1 0
 count_firsts s [] = refl
 count_firsts s (n ∷ ns) =
-    count_first s n (firsts ns) ∙ ap (λ c. cond (nat_eq s n) 1 c) (count_firsts s ns)
+    count_first s n (first_appearances ns) ∙ ap (λ c. cond (nat_eq s n) 1 c) (count_firsts s ns)
     ∙ by_test (nat_eq s n) (λ same. rw same refl) (λ other. rw other refl)
 
 -- the numbers ascend, from the one bound to below the other
@@ -139,7 +139,7 @@ range_has low (suc n) p from to =
     (λ same. rw same refl)
     (λ other. let apart : low + 1 ≤ p = grind (arith, nat_tests) in rw other (range_has (low + 1) n p apart (omega arith)))
 
--- the place behind a tuple that stands at a place
+-- the place after a tuple that stands at a place
 abbrev pub next : ℕ → Tuple → ℕ
 next low t = low + (1 + length t.extras)
 
@@ -203,7 +203,7 @@ tiles_run pattern run whole =
 
 -- the places of a slot's tuples
 abbrev tuple_places : ℕ → List Tuple → List ℕ
-tuple_places s ts = flat_map places_of (part s ts)
+tuple_places s ts = flat_map places_of (tuples_in_slot s ts)
 
 -- the places of the tuples of a slot ascend
 part_between : (low high s : ℕ) (ts : List Tuple) → Tiles low high ts → Between low high (tuple_places s ts)
@@ -255,7 +255,7 @@ module _ (pattern : MultiSlotArgPattern) (run : List (List ℕ)) where
       rw e at (range_between own (length run - own))
 
   -- the places of a part ascend within the run
-  pub part_in_run : (slot : ℕ) → fits pattern (length run) ≡ true → Between 0 (length run) (part_places pattern run slot)
+  pub part_in_run : (slot : ℕ) → fits pattern (length run) ≡ true → Between 0 (length run) (places_in_slot pattern run slot)
   part_in_run slot whole = joined 0 own (length run) (tuple_places slot tuples) last (part_between 0 own slot tuples (tiles_run pattern run whole)) last_between
 
   -- the slots of the keys
@@ -264,7 +264,7 @@ module _ (pattern : MultiSlotArgPattern) (run : List (List ℕ)) where
 
   -- whether the place is in the list of the slot's route
   abbrev has : ℕ → ℕ → Bool
-  has p s = list_any (nat_eq p) (part_places pattern run s)
+  has p s = list_any (nat_eq p) (places_in_slot pattern run s)
 
   either : (p s : ℕ) → has p s ≡ (list_any (nat_eq p) (tuple_places s tuples) || list_any (nat_eq p) last)
   either p s = list_any-append (nat_eq p) (tuple_places s tuples) last
@@ -281,34 +281,34 @@ module _ (pattern : MultiSlotArgPattern) (run : List (List ℕ)) where
 
   module _ (reads : Bool) where
     -- the lists with a place, counted by slots
-    by_slots : (p : ℕ) → lists_with p (routes_of reads pattern run) ≡ count_by (has p) (firsts slots)
-    by_slots p = count-map (λ r. list_any (nat_eq p) r.1) (route_to reads pattern run) (firsts slots)
+    by_slots : (p : ℕ) → lists_with p (routes_of reads pattern run) ≡ count_by (has p) (first_appearances slots)
+    by_slots p = count-map (λ r. list_any (nat_eq p) r.1) (route_to reads pattern run) (first_appearances slots)
 
     in_each : (p : ℕ) → own ≤ p → p < length run → lists_with p (routes_of reads pattern run) ≡ length (routes_of reads pattern run)
-    in_each p from to = by_slots p ∙ count_all (has p) (firsts slots) (λ s. has_shared p s from to) ∙ sym (simp length-map)
+    in_each p from to = by_slots p ∙ count_all (has p) (first_appearances slots) (λ s. has_shared p s from to) ∙ sym (simp length-map)
 
     one_route : (slot : ℕ) → count_by (λ r. nat_eq slot r.0.slot) (routes_of reads pattern run) ≤ 1
     one_route slot =
-        let e = count-map (λ r. nat_eq slot r.0.slot) (route_to reads pattern run) (firsts slots) ∙ count_firsts slot slots in
+        let e = count-map (λ r. nat_eq slot r.0.slot) (route_to reads pattern run) (first_appearances slots) ∙ count_firsts slot slots in
         rw e (by_test (list_any (nat_eq slot) slots) (λ yes. rw yes (omega arith)) (λ none. rw none (omega arith)))
 
     module _ (whole : fits pattern (length run) ≡ true) where
-      places_between : (s : ℕ) → Between 0 (length run) (part_places pattern run s)
+      places_between : (s : ℕ) → Between 0 (length run) (places_in_slot pattern run s)
       places_between s = part_in_run s whole
 
       lists_ascend : All (λ r. IsStrictlySortedBy nat_cmp r.1) (routes_of reads pattern run)
       lists_ascend =
-          let ascends : (s : ℕ) → IsStrictlySortedBy nat_cmp (part_places pattern run s) = λ s. ascending 0 (length run) (part_places pattern run s) (places_between s) in
-          All-map (λ r. IsStrictlySortedBy nat_cmp r.1) (route_to reads pattern run) (firsts slots) (λ k d h. ascends (get_or (firsts slots) k d))
+          let ascends : (s : ℕ) → IsStrictlySortedBy nat_cmp (places_in_slot pattern run s) = λ s. ascending 0 (length run) (places_in_slot pattern run s) (places_between s) in
+          All-map (λ r. IsStrictlySortedBy nat_cmp r.1) (route_to reads pattern run) (first_appearances slots) (λ k d h. ascends (get_or (first_appearances slots) k d))
 
       in_one : (p : ℕ) → p < own → lists_with p (routes_of reads pattern run) ≡ 1
       in_one p to =
           let o = owner p 0 own tuples (tiles_run pattern run whole) (omega arith) to in
           let same : has p ≡ nat_eq o.0 = fun_ext (λ s. has_own p s to ∙ o.2 s) in
-          by_slots p ∙ ap (λ f. count_by f (firsts slots)) same ∙ count_firsts o.0 slots ∙ ap (λ b. cond b 1 0) o.1
+          by_slots p ∙ ap (λ f. count_by f (first_appearances slots)) same ∙ count_firsts o.0 slots ∙ ap (λ b. cond b 1 0) o.1
 
       in_none : (p : ℕ) → length run ≤ p → lists_with p (routes_of reads pattern run) ≡ 0
-      in_none p past = by_slots p ∙ count_none (has p) (firsts slots) (λ s. not_past p 0 (length run) (part_places pattern run s) past (places_between s))
+      in_none p past = by_slots p ∙ count_none (has p) (first_appearances slots) (λ s. not_past p 0 (length run) (places_in_slot pattern run s) past (places_between s))
 
 -- the cover law of the routes of a split
 pub covers : (reads : Bool) (pattern : MultiSlotArgPattern) (run : List (List ℕ)) → fits pattern (length run) ≡ true → Covers pattern run (routes_of reads pattern run)
@@ -367,7 +367,7 @@ module _ (at : ℕ → List ℕ) where
   read_tuples KeyWithTwoArgTriples low run h = read_triples low run h
 
   -- what is read at the places of a part's tuples is their arguments
-  read_part : (s : ℕ) (ts : List Tuple) → AreRead at ts → map at (tuple_places s ts) ≡ flat_map words_of (part s ts)
+  read_part : (s : ℕ) (ts : List Tuple) → AreRead at ts → map at (tuple_places s ts) ≡ flat_map words_of (tuples_in_slot s ts)
   read_part s [] h = refl
   read_part s (t ∷ ts) h =
       by_test (nat_eq (slot_of t) s)
@@ -388,15 +388,15 @@ module _ (pattern : MultiSlotArgPattern) (run : List (List ℕ)) where
       let under : k < own pattern run = omega (arith, length_own pattern run) in
       ap argument_at (zero-add k) ∙ sym (get_or-take (own pattern run) run k [] under)
 
-  tuples_read : (slot : ℕ) → map argument_at (tuple_places slot (tuples pattern run)) ≡ flat_map words_of (part slot (tuples pattern run))
+  tuples_read : (slot : ℕ) → map argument_at (tuple_places slot (tuples pattern run)) ≡ flat_map words_of (tuples_in_slot slot (tuples pattern run))
   tuples_read slot = read_part argument_at slot (tuples pattern run) (read_tuples argument_at pattern 0 (take (own pattern run) run) own_read)
 
   last_read : map argument_at (last pattern run) ≡ shared_in pattern run
   last_read = read_range run (own pattern run) (length run - own pattern run) (omega (arith, own_small pattern (length run)))
 
 -- the arguments at the places of a part are the part's
-pub picked : (pattern : MultiSlotArgPattern) (run : List (List ℕ)) (slot : ℕ) → map (λ p. get_or run p []) (part_places pattern run slot) ≡ part_words pattern run slot
+pub picked : (pattern : MultiSlotArgPattern) (run : List (List ℕ)) (slot : ℕ) → map (λ p. get_or run p []) (places_in_slot pattern run slot) ≡ words_in_slot pattern run slot
 picked pattern run slot =
     map-append (argument_at pattern run) (tuple_places slot (tuples pattern run)) (last pattern run)
     ∙ ap (λ ws. ws ++ map (argument_at pattern run) (last pattern run)) (tuples_read pattern run slot)
-    ∙ ap (λ ws. flat_map words_of (part slot (tuples pattern run)) ++ ws) (last_read pattern run)
+    ∙ ap (λ ws. flat_map words_of (tuples_in_slot slot (tuples pattern run)) ++ ws) (last_read pattern run)

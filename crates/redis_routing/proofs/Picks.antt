@@ -4,23 +4,23 @@ use Rattle.std.specs.List.{range_with_len}
 use Rattle.std.specs.Prelude.{slice_get}
 use Rattle.std.proofs.lemmas.List.{drop-drop, get_or-drop, get_or-map, length-map, map-append}
 use Rattle.std.proofs.lemmas.Option.{slice_get-map, slice_get-get_or, get_or_from_slice_get}
-use Rattle.cluster_slots.specs.RouteTo.{RouteTo}
+use Rattle.cluster_slots.specs.SlotRoute.{SlotRoute}
 use Rattle.redis_commands.specs.Command.{Arguments, HasWords, argument, command_of}
 use Rattle.redis_routing.specs.Laws.{ArePartsPickedAfter}
 use Rattle.redis_commands.specs.NameTables.{NameTables}
-use Rattle.redis_routing.specs.Parts.{firsts, slot_of, part_places, part_words, part_after}
+use Rattle.redis_routing.specs.Parts.{first_appearances, slot_of, places_in_slot, words_in_slot, part_of_slot_after}
 use Rattle.redis_routing.specs.Routing.{routes_of, route_to}
 use Rattle.redis_commands.specs.Run.{run_after}
 use Rattle.redis_routing.specs.SubCommand.{all_texts, sub_command_after}
 use Rattle.redis_commands.specs.Tuples.{fits, tuples_in}
 use Rattle.redis_routing.specs.Complete.{pattern_of, pattern_by_name_with, routes_by_way, routes_by_name, multi_slot_routes_with, AreSubCommandsWith}
 use Rattle.redis_commands.specs.Tuples.{is_complete}
-use Rattle.redis_routing.specs.Split.{Split, IsSplit, part_at, part_for}
-use Rattle.redis_routing.specs.Target.{parts_of}
-use Rattle.redis_commands.specs.declared.ways.MultiSlotArgPattern.{MultiSlotArgPattern}
-use Rattle.redis_commands.specs.declared.ways.MultiSlotArgPattern.TheVariants.{KeysOnly, KeyValuePairs, KeysAndLastArg, KeyWithTwoArgTriples}
-use Rattle.redis_commands.specs.declared.ways.Way.{Way}
-use Rattle.redis_commands.specs.declared.ways.Way.TheVariants as way
+use Rattle.redis_routing.specs.Split.{Split, IsSplit, route_part, split_part}
+use Rattle.redis_routing.specs.Target.{route_lists}
+use Rattle.redis_commands.specs.declared.route_by.MultiSlotArgPattern.{MultiSlotArgPattern}
+use Rattle.redis_commands.specs.declared.route_by.MultiSlotArgPattern.TheVariants.{KeysOnly, KeyValuePairs, KeysAndLastArg, KeyWithTwoArgTriples}
+use Rattle.redis_commands.specs.declared.route_by.RouteBy.{RouteBy}
+use Rattle.redis_commands.specs.declared.route_by.RouteBy.TheVariants as way
 use Rattle.std.proofs.lemmas.Bool.Decides.{nat_tests}
 use Rattle.redis_routing.proofs.Cover.{Between, bounds, part_in_run, picked}
 use Rattle.redis_routing.proofs.SubCommands.{before, name_before}
@@ -59,20 +59,20 @@ texts_at words args low (p ∷ places) h =
     ∙ ap (option_map (λ texts. get_or run p [] ∷ texts)) (texts_at words args (p + 1) places h.1)
 
 part_picked : (words : ℕ) (args : Arguments) (pattern : MultiSlotArgPattern) (slot : ℕ) → HasWords words args → fits pattern (length (run_after words args)) ≡ true
-    → option_map (map Some) (sub_command_after words args (part_places pattern (run_after words args) slot)) ≡ Some (part_after words pattern args slot)
+    → option_map (map Some) (sub_command_after words args (places_in_slot pattern (run_after words args) slot)) ≡ Some (part_of_slot_after words pattern args slot)
 part_picked words args pattern slot name whole =
     let run = run_after words args in
-    let behind = map (λ place. argument args (place + words)) (part_places pattern run slot) in
-    let texts : all_texts behind ≡ Some (part_words pattern run slot) = texts_at words args 0 (part_places pattern run slot) (part_in_run pattern run slot whole) ∙ ap Some (picked pattern run slot) in
-    let made : sub_command_after words args (part_places pattern run slot) ≡ Some (name.texts ++ part_words pattern run slot) =
+    let behind = map (λ place. argument args (place + words)) (places_in_slot pattern run slot) in
+    let texts : all_texts behind ≡ Some (words_in_slot pattern run slot) = texts_at words args 0 (places_in_slot pattern run slot) (part_in_run pattern run slot whole) ∙ ap Some (picked pattern run slot) in
+    let made : sub_command_after words args (places_in_slot pattern run slot) ≡ Some (name.texts ++ words_in_slot pattern run slot) =
     sym (name_before (map (λ place. argument args place) (range_with_len 0 words)) behind name.texts (name_read words args name)) ∙ ap (before name.texts) texts in
-    ap (option_map (map Some)) made ∙ ap Some (map-append Some name.texts (part_words pattern run slot) ∙ ap (λ front. front ++ map Some (part_words pattern run slot)) name.taken)
+    ap (option_map (map Some)) made ∙ ap Some (map-append Some name.texts (words_in_slot pattern run slot) ∙ ap (λ front. front ++ map Some (words_in_slot pattern run slot)) name.taken)
 
 -- the parts of all routes
 pub parts_picked : (words : ℕ) (args : Arguments) (reads : Bool) (pattern : MultiSlotArgPattern) → HasWords words args → fits pattern (length (run_after words args)) ≡ true → ArePartsPickedAfter words args pattern (routes_of reads pattern (run_after words args))
 parts_picked words args reads pattern name whole = λ k d inside.
     let run = run_after words args in
-    let slots = firsts (map slot_of (tuples_in pattern run)) in
+    let slots = first_appearances (map slot_of (tuples_in pattern run)) in
     let few : k < length slots = rw length-map at inside in
     let is : get_or (routes_of reads pattern run) k d ≡ route_to reads pattern run (get_or slots k 0) = get_or-map (route_to reads pattern run) slots k 0 d few in
     rw is (part_picked words args pattern (get_or slots k 0) name whole)
@@ -84,7 +84,7 @@ complete_fits KeysAndLastArg m h = grind (arith, nat_tests)
 complete_fits KeyWithTwoArgTriples m h = h
 
 -- the sub-commands of a complete command
-pub complete_sub_commands : (words : ℕ) (tables : NameTables) (only_reads : List ℕ → Bool) (args : Arguments) (routes : List (RouteTo × List ℕ)) → ((name : List ℕ) → Some name ≡ command_of args → HasWords words args)
+pub complete_sub_commands : (words : ℕ) (tables : NameTables) (only_reads : List ℕ → Bool) (args : Arguments) (routes : List (SlotRoute × List ℕ)) → ((name : List ℕ) → Some name ≡ command_of args → HasWords words args)
     → multi_slot_routes_with words tables only_reads args ≡ Some routes → AreSubCommandsWith words tables args routes
 complete_sub_commands words tables only_reads args routes has = by_name (command_of args) refl
   where
@@ -96,7 +96,7 @@ complete_sub_commands words tables only_reads args routes has = by_name (command
         rw (same, routes-are) (parts_picked words args (only_reads name) pattern (has name (sym named)) (complete_fits pattern (length (run_after words args)) whole))
     by_length name pattern named is false whole split = absurd (cc split)
 
-    by_way : (name : List ℕ) → command_of args ≡ Some name → (w : Option Way) → tables.way name ≡ w → routes_by_way words (only_reads name) args w ≡ Some routes → AreSubCommandsWith words tables args routes
+    by_way : (name : List ℕ) → command_of args ≡ Some name → (w : Option RouteBy) → tables.way name ≡ w → routes_by_way words (only_reads name) args w ≡ Some routes → AreSubCommandsWith words tables args routes
     by_way name named None is split = absurd (cc split)
     by_way name named (Some way.AllNodes) is split = absurd (cc split)
     by_way name named (Some way.AllMasters) is split = absurd (cc split)
@@ -113,7 +113,7 @@ complete_sub_commands words tables only_reads args routes has = by_name (command
     by_name (Some name) named split = by_way name named (tables.way name) refl split
 
 -- a route with the places of its part
-abbrev pub shown : RouteTo × Vec ℕ Global → RouteTo × List ℕ
+abbrev pub shown : SlotRoute × Vec ℕ Global → SlotRoute × List ℕ
 shown route = (route.0, route.1.items)
 
 -- a sub-command that is a part, as texts
@@ -122,8 +122,8 @@ is_made None part is = absurd (cc is)
 is_made (Some words) part is = (words, refl, cc is)
 
 -- the sub-command by the places of a route of a split is the part of its number
-pub part_made : (split : Split) → IsSplit split → (routes : List (RouteTo × Vec ℕ Global)) (number : ℕ) (route : RouteTo × Vec ℕ Global) → parts_of routes ≡ split.routes → number < length split.routes → route ≡ get_or routes number route
-    → (words : List (List ℕ)) × (sub_command_after split.words split.arguments route.1.items ≡ Some words) × (Some (map Some words) ≡ part_at split number)
+pub part_made : (split : Split) → IsSplit split → (routes : List (SlotRoute × Vec ℕ Global)) (number : ℕ) (route : SlotRoute × Vec ℕ Global) → route_lists routes ≡ split.routes → number < length split.routes → route ≡ get_or routes number route
+    → (words : List (List ℕ)) × (sub_command_after split.words split.arguments route.1.items ≡ Some words) × (Some (map Some words) ≡ route_part split number)
 part_made split whole routes number route routes-are long is =
     let inside : number < length routes = omega (arith, long, ap length routes-are, length-map routes shown) in
     let each : ArePartsPickedAfter split.words split.arguments split.pattern split.routes =
@@ -131,5 +131,5 @@ part_made split whole routes number route routes-are long is =
     let there : slice_get split.routes number ≡ Some (shown route) =
     ap (λ rs. slice_get rs number) (sym routes-are) ∙ slice_get-map shown routes number ∙ ap (option_map shown) (slice_get-get_or routes number route inside ∙ ap Some (sym is)) in
     let here : get_or split.routes number (shown route) ≡ shown route = get_or_from_slice_get split.routes number (shown route) (shown route) there in
-    let part = is_made (sub_command_after split.words split.arguments route.1.items) (part_for split route.0.slot) (subst (λ r. option_map (map Some) (sub_command_after split.words split.arguments r.1) ≡ Some (part_for split r.0.slot)) here (each number (shown route) long)) in
-    (part.0, part.1, ap Some part.2 ∙ sym (ap (option_map (λ r. part_for split r.0.slot)) there))
+    let part = is_made (sub_command_after split.words split.arguments route.1.items) (split_part split route.0.slot) (subst (λ r. option_map (map Some) (sub_command_after split.words split.arguments r.1) ≡ Some (split_part split r.0.slot)) here (each number (shown route) long)) in
+    (part.0, part.1, ap Some part.2 ∙ sym (ap (option_map (λ r. split_part split r.0.slot)) there))

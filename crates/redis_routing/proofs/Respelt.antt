@@ -7,20 +7,20 @@ use Rattle.std.proofs.lemmas.Str.Ascii.{lowercase-uppercase}
 use Rattle.redis_commands.specs.Upper.{upper}
 use Rattle.redis_commands.specs.Command.{Arguments, IsRespelt, argument, command_of, is_word, name_by, in_upper_case}
 use Rattle.redis_routing.specs.Routing.{by_way, by_count, to_key, to_key_after, routing_of, routing, number_at}
-use Rattle.redis_commands.specs.Ways.{ways, way_in}
-use Rattle.redis_commands.specs.declared.ways.Way.{Way}
-use Rattle.redis_commands.specs.declared.ways.Way.TheVariants as way
+use Rattle.redis_commands.specs.RouteBy.{base_routings, base_routing}
+use Rattle.redis_commands.specs.declared.route_by.RouteBy.{RouteBy}
+use Rattle.redis_commands.specs.declared.route_by.RouteBy.TheVariants as way
 use Rattle.redis_commands.proofs.Rows.{each_row}
 
--- whether the key and its count stand behind the first word
-abbrev behind_first : Option Way → Bool
+-- whether the key and its count stand after the first word
+abbrev behind_first : Option RouteBy → Bool
 behind_first (Some (way.CountAt n)) = nat_lt 0 n
 behind_first (Some (way.KeyAt n)) = nat_lt 0 n
 behind_first _ = true
 
-ways_behind : (name : List ℕ) → behind_first (way_in name) ≡ true
-unfolding way_in
-ways_behind name = each_row (λ n w. behind_first w) (λ n. refl) ways refl name
+ways_behind : (name : List ℕ) → behind_first (base_routing name) ≡ true
+unfolding base_routing
+ways_behind name = each_row (λ n w. behind_first w) (λ n. refl) base_routings refl name
 
 abbrev lower : List ℕ → List ℕ
 lower text = map to_ascii_lowercase text
@@ -53,7 +53,7 @@ module _ (spelt first : List ℕ) (same : upper spelt ≡ upper first) (rest : A
   after_streams reads None = refl
   after_streams reads (Some place) = ap (to_key reads) (next place)
 
-  same_way : (reads : Bool) (name : List ℕ) (w : Option Way) → behind_first w ≡ true → by_way reads name given w ≡ by_way reads name respelt w
+  same_way : (reads : Bool) (name : List ℕ) (w : Option RouteBy) → behind_first w ≡ true → by_way reads name given w ≡ by_way reads name respelt w
   same_way reads name None later = refl
   same_way reads name (Some way.AllNodes) later = refl
   same_way reads name (Some way.AllMasters) later = refl
@@ -69,7 +69,7 @@ module _ (spelt first : List ℕ) (same : upper spelt ≡ upper first) (rest : A
   same_routing only_reads =
       let name = name_by (upper first) (in_upper_case (argument rest 0)) in
       let named : command_of given ≡ command_of respelt = ap (λ u. Some (name_by u (in_upper_case (argument rest 0)))) (sym same) in
-      same_way (only_reads name) name (way_in name) (ways_behind name) ∙ ap (routing_of only_reads respelt) named
+      same_way (only_reads name) name (base_routing name) (ways_behind name) ∙ ap (routing_of only_reads respelt) named
 
 pub respelt_routing : (only_reads : List ℕ → Bool) (args other : Arguments) → IsRespelt args other → routing only_reads other ≡ routing only_reads args
 respelt_routing only_reads [] other same = ap (routing only_reads) same

@@ -8,23 +8,23 @@ use Rattle.std.proofs.lemmas.Bool.Decides.{nat_tests}
 use Rattle.std.proofs.lemmas.List.{take_at, drop_at, length-append, length-drop, length-take, length-take-le}
 use Rattle.std.proofs.lemmas.List.Elements.{All-cons, All-filter, All-head, All-map, All-tail, All-weaker}
 use Rattle.cluster_slots.specs.KeySlot.{key_slot}
-use Rattle.cluster_slots.specs.RouteTo.{RouteTo}
+use Rattle.cluster_slots.specs.SlotRoute.{SlotRoute}
 use Rattle.redis_commands.specs.Upper.{upper}
 use Rattle.redis_commands.specs.TwoWords.{takes_second}
 use Rattle.redis_commands.specs.Command.{Arguments, argument, command_of, in_upper_case, name_by, with_second}
-use Rattle.redis_commands.specs.Ways.{ways, way_in}
+use Rattle.redis_commands.specs.RouteBy.{base_routings, base_routing}
 use Rattle.redis_commands.specs.Run.{front, run_after}
 use Rattle.redis_commands.specs.Tuples.{Tuple, fits, keys_alone, keys_and_two, keys_and_values, own_count, shared_in, tuples_from, tuples_in, width_of, words_of}
-use Rattle.redis_routing.specs.Parts.{firsts, part, part_after, part_words, slot_of}
-use Rattle.redis_routing.specs.Routing.{by_way_with, nodes_for, route_to, routes_of, routing_with, routing_of_with, to_parts, to_slots}
+use Rattle.redis_routing.specs.Parts.{first_appearances, tuples_in_slot, part_of_slot_after, words_in_slot, slot_of}
+use Rattle.redis_routing.specs.Routing.{by_way_with, nodes_for, route_to, routes_of, routing_with, routing_of_with, to_routing, to_slots}
 use Rattle.redis_routing.specs.Target.{single, specific}
 use Rattle.redis_routing.specs.Laws.{ArePartsRoutedWith}
 use Rattle.redis_commands.specs.NameTables.{NameTables}
 use Rattle.redis_commands.specs.declared.policy.ResponsePolicy.{ResponsePolicy}
-use Rattle.redis_commands.specs.declared.ways.MultiSlotArgPattern.{MultiSlotArgPattern}
-use Rattle.redis_commands.specs.declared.ways.MultiSlotArgPattern.TheVariants.{KeysOnly, KeyValuePairs, KeysAndLastArg, KeyWithTwoArgTriples}
-use Rattle.redis_commands.specs.declared.ways.Way.{Way}
-use Rattle.redis_commands.specs.declared.ways.Way.TheVariants as way
+use Rattle.redis_commands.specs.declared.route_by.MultiSlotArgPattern.{MultiSlotArgPattern}
+use Rattle.redis_commands.specs.declared.route_by.MultiSlotArgPattern.TheVariants.{KeysOnly, KeyValuePairs, KeysAndLastArg, KeyWithTwoArgTriples}
+use Rattle.redis_commands.specs.declared.route_by.RouteBy.{RouteBy}
+use Rattle.redis_commands.specs.declared.route_by.RouteBy.TheVariants as way
 use Rattle.redis_commands.proofs.CommandNames.{one_word}
 use Rattle.redis_commands.proofs.Rows.{each_row}
 use Rattle.resp_core.proofs.Cases.{by_test}
@@ -37,13 +37,13 @@ or_true false b h = h
 abbrev is_plain : List ℕ → Bool
 is_plain name = not (takes_second name || list_any (nat_eq 32) name)
 
-abbrev plain_if_split : List ℕ → Option Way → Bool
+abbrev plain_if_split : List ℕ → Option RouteBy → Bool
 plain_if_split name (Some (way.MultiSlot pattern)) = is_plain name
 plain_if_split name _ = true
 
-ways_plain : (name : List ℕ) → plain_if_split name (way_in name) ≡ true
-unfolding way_in takes_second
-ways_plain name = each_row plain_if_split (λ n. refl) ways refl name
+ways_plain : (name : List ℕ) → plain_if_split name (base_routing name) ≡ true
+unfolding base_routing takes_second
+ways_plain name = each_row plain_if_split (λ n. refl) base_routings refl name
 
 space_between : (first second : List ℕ) → list_any (nat_eq 32) (first ++ 32 ∷ second) ≡ true
 space_between [] second = refl
@@ -61,7 +61,7 @@ takes_none first second plain =
     (λ takes. takes)
 
 -- the name of a command that splits under the project's own tables is that of its first word, whatever follows
-pub first_names : (args : Arguments) (name : List ℕ) (pattern : MultiSlotArgPattern) → Some name ≡ command_of args → way_in name ≡ Some (way.MultiSlot pattern) → (other : Arguments) → command_of (take 1 args ++ other) ≡ Some name
+pub first_names : (args : Arguments) (name : List ℕ) (pattern : MultiSlotArgPattern) → Some name ≡ command_of args → base_routing name ≡ Some (way.MultiSlot pattern) → (other : Arguments) → command_of (take 1 args ++ other) ≡ Some name
 first_names [] name pattern named way_is other = cc named
 first_names (None ∷ rest) name pattern named way_is other = cc named
 first_names (Some first ∷ rest) name pattern named way_is other =
@@ -80,17 +80,17 @@ first_again slot true = rw (eq-eqb slot slot refl) refl
 first_again slot false = refl
 
 -- a part has one slot, unless it is empty
-firsts-part : (slot : ℕ) (ts : List Tuple) → firsts (map slot_of (part slot ts)) ≡ cond (list_any (λ t. nat_eq (slot_of t) slot) ts) (slot ∷ []) []
-firsts-part slot [] = refl
-firsts-part slot (t ∷ ts) =
+first_appearances-part : (slot : ℕ) (ts : List Tuple) → first_appearances (map slot_of (tuples_in_slot slot ts)) ≡ cond (list_any (λ t. nat_eq (slot_of t) slot) ts) (slot ∷ []) []
+first_appearances-part slot [] = refl
+first_appearances-part slot (t ∷ ts) =
     by_test (nat_eq (slot_of t) slot)
     (λ here. let same : slot_of t ≡ slot = eqb-true (slot_of t) slot here in
-    rw here (ap (λ ns. slot_of t ∷ filter (λ n. not (nat_eq (slot_of t) n)) ns) (firsts-part slot ts)
+    rw here (ap (λ ns. slot_of t ∷ filter (λ n. not (nat_eq (slot_of t) n)) ns) (first_appearances-part slot ts)
     ∙ ap (λ k. k ∷ filter (λ n. not (nat_eq k n)) (cond (list_any (λ u. nat_eq (slot_of u) slot) ts) (slot ∷ []) [])) same
     ∙ first_again slot (list_any (λ u. nat_eq (slot_of u) slot) ts)))
-    (λ other. rw other (firsts-part slot ts))
+    (λ other. rw other (first_appearances-part slot ts))
 
-some_tuple : (slot : ℕ) (ts : List Tuple) → firsts (map slot_of ts) ≡ slot ∷ [] → 0 < length ts
+some_tuple : (slot : ℕ) (ts : List Tuple) → first_appearances (map slot_of ts) ≡ slot ∷ [] → 0 < length ts
 some_tuple slot [] h = cc h
 some_tuple slot (t ∷ ts) h = omega arith
 
@@ -104,10 +104,10 @@ wider : (make : ℕ → List (List ℕ) → List Tuple) (width bound other : ℕ
 wider make width bound other ts within whole = record { slots = whole.slots; size = whole.size; few = omega (arith, whole.few) }
 
 -- a part keeps a tuple or drops it
-kept_or_not : (P : List Tuple → Type 0) (slot : ℕ) (t : Tuple) (ts : List Tuple) → P (part slot ts) → P (t ∷ part slot ts) → P (part slot (t ∷ ts))
+kept_or_not : (P : List Tuple → Type 0) (slot : ℕ) (t : Tuple) (ts : List Tuple) → P (tuples_in_slot slot ts) → P (t ∷ tuples_in_slot slot ts) → P (tuples_in_slot slot (t ∷ ts))
 kept_or_not P slot t ts dropped kept = by_test (nat_eq (slot_of t) slot) (λ here. rw here kept) (λ other. rw other dropped)
 
-whole_alone : (slot place : ℕ) (run : List (List ℕ)) → IsWhole keys_alone 1 (length run) (part slot (keys_alone place run))
+whole_alone : (slot place : ℕ) (run : List (List ℕ)) → IsWhole keys_alone 1 (length run) (tuples_in_slot slot (keys_alone place run))
 whole_alone slot place [] = record { slots = λ p. refl; size = refl; few = omega arith }
 whole_alone slot place (key ∷ run) =
     let rest = whole_alone slot (place + 1) run in
@@ -115,7 +115,7 @@ whole_alone slot place (key ∷ run) =
     (wider keys_alone 1 (length run) (suc (length run)) _ (omega arith) rest)
     (record { slots = λ p. ap (λ ns. key_slot key ∷ ns) (rest.slots (p + 1)); size = omega (arith, rest.size); few = omega (arith, rest.few) })
 
-whole_values : (slot place : ℕ) (run : List (List ℕ)) → IsWhole keys_and_values 2 (length run) (part slot (keys_and_values place run))
+whole_values : (slot place : ℕ) (run : List (List ℕ)) → IsWhole keys_and_values 2 (length run) (tuples_in_slot slot (keys_and_values place run))
 whole_values slot place [] = record { slots = λ p. refl; size = refl; few = omega arith }
 whole_values slot place (key ∷ []) = record { slots = λ p. refl; size = refl; few = omega arith }
 whole_values slot place (key ∷ value ∷ run) =
@@ -124,7 +124,7 @@ whole_values slot place (key ∷ value ∷ run) =
     (wider keys_and_values 2 (length run) (suc (suc (length run))) _ (omega arith) rest)
     (record { slots = λ p. ap (λ ns. key_slot key ∷ ns) (rest.slots (p + 2)); size = omega (arith, rest.size); few = omega (arith, rest.few) })
 
-whole_two : (slot place : ℕ) (run : List (List ℕ)) → IsWhole keys_and_two 3 (length run) (part slot (keys_and_two place run))
+whole_two : (slot place : ℕ) (run : List (List ℕ)) → IsWhole keys_and_two 3 (length run) (tuples_in_slot slot (keys_and_two place run))
 whole_two slot place [] = record { slots = λ p. refl; size = refl; few = omega arith }
 whole_two slot place (key ∷ []) = record { slots = λ p. refl; size = refl; few = omega arith }
 whole_two slot place (key ∷ a ∷ []) = record { slots = λ p. refl; size = refl; few = omega arith }
@@ -134,7 +134,7 @@ whole_two slot place (key ∷ a ∷ b ∷ run) =
     (wider keys_and_two 3 (length run) (suc (suc (suc (length run)))) _ (omega arith) rest)
     (record { slots = λ p. ap (λ ns. key_slot key ∷ ns) (rest.slots (p + 3)); size = omega (arith, rest.size); few = omega (arith, rest.few) })
 
-whole : (pattern : MultiSlotArgPattern) (slot place : ℕ) (run : List (List ℕ)) → IsWhole (tuples_from pattern) (width_of pattern) (length run) (part slot (tuples_from pattern place run))
+whole : (pattern : MultiSlotArgPattern) (slot place : ℕ) (run : List (List ℕ)) → IsWhole (tuples_from pattern) (width_of pattern) (length run) (tuples_in_slot slot (tuples_from pattern place run))
 whole KeysOnly slot place run = whole_alone slot place run
 whole KeyValuePairs slot place run = whole_values slot place run
 whole KeysAndLastArg slot place run = whole_alone slot place run
@@ -159,13 +159,13 @@ fits_again KeyWithTwoArgTriples m n some = whole_fits (n * 3 + (m - m)) n 3 (ome
 
 module _ (pattern : MultiSlotArgPattern) (run : List (List ℕ)) (slot : ℕ) (there : list_any (λ t. nat_eq (slot_of t) slot) (tuples_in pattern run) ≡ true) where
   abbrev kept : List Tuple
-  kept = part slot (tuples_in pattern run)
+  kept = tuples_in_slot slot (tuples_in pattern run)
 
   abbrev words : List (List ℕ)
-  words = part_words pattern run slot
+  words = words_in_slot pattern run slot
 
-  one_slot : firsts (map slot_of kept) ≡ slot ∷ []
-  one_slot = firsts-part slot (tuples_in pattern run) ∙ ap (λ b. cond b (slot ∷ []) []) there
+  one_slot : first_appearances (map slot_of kept) ≡ slot ∷ []
+  one_slot = first_appearances-part slot (tuples_in pattern run) ∙ ap (λ b. cond b (slot ∷ []) []) there
 
   made : IsWhole (tuples_from pattern) (width_of pattern) (length (take (own_count pattern (length run)) run)) kept
   made = whole pattern slot 0 (take (own_count pattern (length run)) run)
@@ -180,15 +180,15 @@ module _ (pattern : MultiSlotArgPattern) (run : List (List ℕ)) (slot : ℕ) (t
       ∙ sym made.size
 
   -- all tuples of the part by itself have the slot
-  one_slot_again : firsts (map slot_of (tuples_in pattern words)) ≡ slot ∷ []
+  one_slot_again : first_appearances (map slot_of (tuples_in pattern words)) ≡ slot ∷ []
   one_slot_again =
-      ap (λ own. firsts (map slot_of (tuples_from pattern 0 own))) (take_at (flat_map words_of kept) (shared_in pattern run) (own_count pattern (length words)) (sym own-words))
-      ∙ ap firsts (made.slots 0) ∙ one_slot
+      ap (λ own. first_appearances (map slot_of (tuples_from pattern 0 own))) (take_at (flat_map words_of kept) (shared_in pattern run) (own_count pattern (length words)) (sym own-words))
+      ∙ ap first_appearances (made.slots 0) ∙ one_slot
 
   part_to_slot : (reads : Bool) (policy : Option ResponsePolicy) → to_slots reads policy pattern words ≡ Some (single (specific (record { slot = slot; addr = nodes_for reads })))
   part_to_slot reads policy =
-      ap (λ b. cond b (Some (to_parts pattern policy (routes_of reads pattern words))) None) (ap (fits pattern) length-words ∙ fits_again pattern (length run) (length kept) (some_tuple slot kept one_slot))
-      ∙ ap (λ slots. Some (to_parts pattern policy (map (route_to reads pattern words) slots))) one_slot_again
+      ap (λ b. cond b (Some (to_routing pattern policy (routes_of reads pattern words))) None) (ap (fits pattern) length-words ∙ fits_again pattern (length run) (length kept) (some_tuple slot kept one_slot))
+      ∙ ap (λ slots. Some (to_routing pattern policy (map (route_to reads pattern words) slots))) one_slot_again
 
 -- each tuple is one of those with its slot
 all_there : (ts : List Tuple) → All (λ t. list_any (λ u. nat_eq (slot_of u) (slot_of t)) ts ≡ true) ts
@@ -196,9 +196,9 @@ all_there [] k d inside = absurd (omega arith)
 all_there (t ∷ ts) zero d inside = rw (eq-eqb (slot_of t) (slot_of t) refl) refl
 all_there (t ∷ ts) (suc k) d inside = or_true (nat_eq (slot_of t) (slot_of (get_or ts k d))) _ (all_there ts k d (omega arith))
 
-All-firsts : (P : ℕ → Type 0) (ns : List ℕ) → All P ns → All P (firsts ns)
-All-firsts P [] all = all
-All-firsts P (n ∷ ns) all = All-cons P n _ (All-head P n ns all) (All-filter (λ k. not (nat_eq n k)) P (firsts ns) (All-firsts P ns (All-tail P n ns all)))
+All-first_appearances : (P : ℕ → Type 0) (ns : List ℕ) → All P ns → All P (first_appearances ns)
+All-first_appearances P [] all = all
+All-first_appearances P (n ∷ ns) all = All-cons P n _ (All-head P n ns all) (All-filter (λ k. not (nat_eq n k)) P (first_appearances ns) (All-first_appearances P ns (All-tail P n ns all)))
 
 -- where tuples are whole, there is an argument
 fits_some : (pattern : MultiSlotArgPattern) (m : ℕ) → fits pattern m ≡ true → 0 < m
@@ -214,7 +214,7 @@ front_short [] = omega arith
 front_short (None ∷ args) = omega arith
 front_short (Some arg ∷ args) = omega (arith, front_short args)
 
--- behind the words of the name stand only texts of the part
+-- after the words of the name stand only texts of the part
 run-part : (words : ℕ) (args : Arguments) (texts : List (List ℕ)) → 0 < length (run_after words args) → run_after words (take words args ++ map Some texts) ≡ texts
 run-part words args texts some =
     let long : length (take words args) ≡ words = length-take-le words args (omega (arith, some, front_short (drop words args), length-drop words args)) in
@@ -225,10 +225,10 @@ module _ (words : ℕ) (tables : NameTables) (only_reads : List ℕ → Bool) (a
   run = run_after words args
 
   part_routed : (slot : ℕ) → list_any (λ t. nat_eq (slot_of t) slot) (tuples_in pattern run) ≡ true
-      → routing_with words tables only_reads (part_after words pattern args slot) ≡ Some (single (specific (record { slot = slot; addr = nodes_for (only_reads name) })))
+      → routing_with words tables only_reads (part_of_slot_after words pattern args slot) ≡ Some (single (specific (record { slot = slot; addr = nodes_for (only_reads name) })))
   part_routed slot there =
-      let texts : List (List ℕ) = part_words pattern run slot in
-      let as_command : Arguments = part_after words pattern args slot in
+      let texts : List (List ℕ) = words_in_slot pattern run slot in
+      let as_command : Arguments = part_of_slot_after words pattern args slot in
       ap (routing_of_with words tables only_reads as_command) (named (map Some texts))
       ∙ ap (by_way_with words tables (only_reads name) name as_command) way_is
       ∙ ap (to_slots (only_reads name) (tables.policy name) pattern) (run-part words args texts (fits_some pattern (length run) fit))
@@ -237,8 +237,8 @@ module _ (words : ℕ) (tables : NameTables) (only_reads : List ℕ → Bool) (a
   pub parts_routed : ArePartsRoutedWith words tables only_reads args pattern (routes_of (only_reads name) pattern run)
   parts_routed =
       let ts : List Tuple = tuples_in pattern run in
-      let Routed : RouteTo × List ℕ → Type 0 = λ r. routing_with words tables only_reads (part_after words pattern args r.0.slot) ≡ Some (single (specific r.0)) in
+      let Routed : SlotRoute × List ℕ → Type 0 = λ r. routing_with words tables only_reads (part_of_slot_after words pattern args r.0.slot) ≡ Some (single (specific r.0)) in
       let There : ℕ → Type 0 = λ slot. list_any (λ t. nat_eq (slot_of t) slot) ts ≡ true in
-      All-map Routed (route_to (only_reads name) pattern run) (firsts (map slot_of ts))
-      (All-weaker There (λ slot. Routed (route_to (only_reads name) pattern run slot)) part_routed (firsts (map slot_of ts))
-      (All-firsts There (map slot_of ts) (All-map There slot_of ts (all_there ts))))
+      All-map Routed (route_to (only_reads name) pattern run) (first_appearances (map slot_of ts))
+      (All-weaker There (λ slot. Routed (route_to (only_reads name) pattern run slot)) part_routed (first_appearances (map slot_of ts))
+      (All-first_appearances There (map slot_of ts) (All-map There slot_of ts (all_there ts))))

@@ -12,10 +12,10 @@ use Rattle.std.proofs.lemmas.Simd.{map-map}
 use Rattle.std.specs.Cmp.{IsEquivalence}
 use Rattle.cluster_slots.specs.declared.slot.SlotAddr.{SlotAddr}
 use Rattle.redis_routing.specs.Groups.{Group, groups_of, shown, group_route}
-use Rattle.redis_routing.specs.Parts.{firsts, slot_of, part}
+use Rattle.redis_routing.specs.Parts.{first_appearances, slot_of, tuples_in_slot}
 use Rattle.redis_routing.specs.Routing.{nodes_for, routes_of}
 use Rattle.redis_commands.specs.Tuples.{Tuple, tuples_in, own_count, places_of}
-use Rattle.redis_commands.specs.declared.ways.MultiSlotArgPattern.{MultiSlotArgPattern}
+use Rattle.redis_commands.specs.declared.route_by.MultiSlotArgPattern.{MultiSlotArgPattern}
 use Rattle.resp_core.proofs.Cases.{by_test}
 
 swap : (a b : ℕ) → nat_eq a b ≡ nat_eq b a
@@ -34,12 +34,12 @@ numbers_equal = record { refl = λ x. grind (arith, nat_tests); symm = swap; con
     same_tests x y z h = let e : x ≡ y = grind (arith, nat_tests) in ap (λ n. nat_eq n z) e
 
 -- the places of a slot, after one tuple more
-pub part_push : (s : ℕ) (ts : List Tuple) (t : Tuple) → flat_map places_of (part s (ts ++ t ∷ [])) ≡ (if nat_eq (slot_of t) s then flat_map places_of (part s ts) ++ places_of t else flat_map places_of (part s ts))
+pub part_push : (s : ℕ) (ts : List Tuple) (t : Tuple) → flat_map places_of (tuples_in_slot s (ts ++ t ∷ [])) ≡ (if nat_eq (slot_of t) s then flat_map places_of (tuples_in_slot s ts) ++ places_of t else flat_map places_of (tuples_in_slot s ts))
 part_push s ts t =
     ap (flat_map places_of) (filter-append (λ u. nat_eq (slot_of u) s) ts (t ∷ []))
     ∙ by_test (nat_eq (slot_of t) s)
-    (λ h. rw h (flat_map-append places_of (part s ts) (t ∷ []) ∙ ap (λ z. flat_map places_of (part s ts) ++ z) (append-nil (places_of t))))
-    (λ h. rw h (ap (flat_map places_of) (append-nil (part s ts))))
+    (λ h. rw h (flat_map-append places_of (tuples_in_slot s ts) (t ∷ []) ∙ ap (λ z. flat_map places_of (tuples_in_slot s ts) ++ z) (append-nil (places_of t))))
+    (λ h. rw h (ap (flat_map places_of) (append-nil (tuples_in_slot s ts))))
 
 -- whether a number is among some, after one more
 pub list_any_push : (s : ℕ) (xs : List ℕ) (x : ℕ) → list_any (nat_eq s) (xs ++ x ∷ []) ≡ (nat_eq x s || list_any (nat_eq s) xs)
@@ -47,46 +47,46 @@ list_any_push s [] x = by_test (nat_eq x s) (λ h. let k : nat_eq s x ≡ true =
 list_any_push s (y ∷ ys) x = ap (λ b. nat_eq s y || b) (list_any_push s ys x) ∙ or_swap (nat_eq s y) (nat_eq x s) (list_any (nat_eq s) ys)
 
 -- the numbers by first appearance, after one more
-pub firsts_push : (xs : List ℕ) (x : ℕ) → firsts (xs ++ x ∷ []) ≡ (if list_any (nat_eq x) xs then firsts xs else firsts xs ++ x ∷ [])
+pub firsts_push : (xs : List ℕ) (x : ℕ) → first_appearances (xs ++ x ∷ []) ≡ (if list_any (nat_eq x) xs then first_appearances xs else first_appearances xs ++ x ∷ [])
 firsts_push [] x = refl
 firsts_push (y ∷ ys) x =
     ap (λ zs. y ∷ filter (λ z. not (nat_eq y z)) zs) (firsts_push ys x)
     ∙ by_test (list_any (nat_eq x) ys)
     (λ h. rw h (by_test (nat_eq x y) (λ k. rw k refl) (λ k. rw k refl)))
-    (λ h. rw h (ap (λ zs. y ∷ zs) (filter-append (λ z. not (nat_eq y z)) (firsts ys) (x ∷ []))
+    (λ h. rw h (ap (λ zs. y ∷ zs) (filter-append (λ z. not (nat_eq y z)) (first_appearances ys) (x ∷ []))
     ∙ by_test (nat_eq x y)
-    (λ k. let m : nat_eq y x ≡ true = swap y x ∙ k in rw (k, m) (ap (λ zs. y ∷ zs) (append-nil (filter (λ z. not (nat_eq y z)) (firsts ys)))))
+    (λ k. let m : nat_eq y x ≡ true = swap y x ∙ k in rw (k, m) (ap (λ zs. y ∷ zs) (append-nil (filter (λ z. not (nat_eq y z)) (first_appearances ys)))))
     (λ k. let m : nat_eq y x ≡ false = swap y x ∙ k in rw (k, m) refl)))
 
 -- the entries of a map are the groups, where its keys are and each look-up is
 pub shown_groups : (entries : List (ℕ × Vec ℕ Global)) (ts : List Tuple)
-    → keys_of entries ≡ firsts (map slot_of ts)
-    → ((i k : ℕ) (v : Vec ℕ Global) → slice_get entries i ≡ Some (k, v) → v.items ≡ flat_map places_of (part k ts))
+    → keys_of entries ≡ first_appearances (map slot_of ts)
+    → ((i k : ℕ) (v : Vec ℕ Global) → slice_get entries i ≡ Some (k, v) → v.items ≡ flat_map places_of (tuples_in_slot k ts))
     → shown entries ≡ groups_of ts
-shown_groups entries ts keys each = same entries each ∙ ap (map (λ s. (s, flat_map places_of (part s ts)))) keys
+shown_groups entries ts keys each = same entries each ∙ ap (map (λ s. (s, flat_map places_of (tuples_in_slot s ts)))) keys
   where
-    same : (es : List (ℕ × Vec ℕ Global)) → ((i k : ℕ) (v : Vec ℕ Global) → slice_get es i ≡ Some (k, v) → v.items ≡ flat_map places_of (part k ts)) → shown es ≡ map (λ s. (s, flat_map places_of (part s ts))) (keys_of es)
+    same : (es : List (ℕ × Vec ℕ Global)) → ((i k : ℕ) (v : Vec ℕ Global) → slice_get es i ≡ Some (k, v) → v.items ≡ flat_map places_of (tuples_in_slot k ts)) → shown es ≡ map (λ s. (s, flat_map places_of (tuples_in_slot s ts))) (keys_of es)
     same [] h = refl
-    same (e ∷ es) h = ap (λ ps. (e.0, ps) ∷ shown es) (h 0 e.0 e.1 refl) ∙ ap (λ zs. (e.0, flat_map places_of (part e.0 ts)) ∷ zs) (same es (λ i k v at. h (suc i) k v at))
+    same (e ∷ es) h = ap (λ ps. (e.0, ps) ∷ shown es) (h 0 e.0 e.1 refl) ∙ ap (λ zs. (e.0, flat_map places_of (tuples_in_slot e.0 ts)) ∷ zs) (same es (λ i k v at. h (suc i) k v at))
 
 module _ (ts more : List Tuple) (t : Tuple) (slot : ℕ) (same : slot ≡ slot_of t) (is : more ≡ ts ++ t ∷ []) where
   slots_more : map slot_of more ≡ map slot_of ts ++ slot ∷ []
   slots_more = ap (map slot_of) is ∙ map_push slot_of ts t ∙ ap (λ s. map slot_of ts ++ s ∷ []) (sym same)
 
   -- the slots by first appearance, after one tuple more
-  pub order_more : (if list_any (nat_eq slot) (map slot_of ts) then firsts (map slot_of ts) else firsts (map slot_of ts) ++ slot ∷ []) ≡ firsts (map slot_of more)
-  order_more = sym (ap firsts slots_more ∙ firsts_push (map slot_of ts) slot)
+  pub order_more : (if list_any (nat_eq slot) (map slot_of ts) then first_appearances (map slot_of ts) else first_appearances (map slot_of ts) ++ slot ∷ []) ≡ first_appearances (map slot_of more)
+  order_more = sym (ap first_appearances slots_more ∙ firsts_push (map slot_of ts) slot)
 
   -- whether a tuple has the slot
   pub found_more : (s : ℕ) → (nat_eq slot s || list_any (nat_eq s) (map slot_of ts)) ≡ list_any (nat_eq s) (map slot_of more)
   found_more s = sym (ap (list_any (nat_eq s)) slots_more ∙ list_any_push s (map slot_of ts) slot)
 
   -- the places of a slot's tuples
-  pub places_more : (s : ℕ) (places : List ℕ) → places ≡ places_of t → (if nat_eq slot s then flat_map places_of (part s ts) ++ places else flat_map places_of (part s ts)) ≡ flat_map places_of (part s more)
+  pub places_more : (s : ℕ) (places : List ℕ) → places ≡ places_of t → (if nat_eq slot s then flat_map places_of (tuples_in_slot s ts) ++ places else flat_map places_of (tuples_in_slot s ts)) ≡ flat_map places_of (tuples_in_slot s more)
   places_more s places own =
-      ap (λ ps. if nat_eq slot s then flat_map places_of (part s ts) ++ ps else flat_map places_of (part s ts)) own
-      ∙ ap (λ n. if nat_eq n s then flat_map places_of (part s ts) ++ places_of t else flat_map places_of (part s ts)) same
-      ∙ sym (ap (λ us. flat_map places_of (part s us)) is ∙ part_push s ts t)
+      ap (λ ps. if nat_eq slot s then flat_map places_of (tuples_in_slot s ts) ++ ps else flat_map places_of (tuples_in_slot s ts)) own
+      ∙ ap (λ n. if nat_eq n s then flat_map places_of (tuples_in_slot s ts) ++ places_of t else flat_map places_of (tuples_in_slot s ts)) same
+      ∙ sym (ap (λ us. flat_map places_of (tuples_in_slot s us)) is ∙ part_push s ts t)
 
 -- the routes of the groups are those of the run
 pub routes_are : (reads : Bool) (pattern : MultiSlotArgPattern) (run : List (List ℕ)) (groups : List Group) (nodes : SlotAddr) (own m : ℕ)
@@ -99,7 +99,7 @@ routes_are reads pattern run groups nodes own m groups-are nodes-are own-is m-is
     ap (λ ps. map (group_route nodes ps) groups) shared
     ∙ ap (λ n. map (group_route n (range_with_len (own_count pattern (length run)) (length run - own_count pattern (length run)))) groups) nodes-are
     ∙ ap (map (group_route (nodes_for reads) (range_with_len (own_count pattern (length run)) (length run - own_count pattern (length run))))) groups-are
-    ∙ map-map (group_route (nodes_for reads) (range_with_len (own_count pattern (length run)) (length run - own_count pattern (length run)))) (λ s. (s, flat_map places_of (part s ts))) (firsts (map slot_of ts))
+    ∙ map-map (group_route (nodes_for reads) (range_with_len (own_count pattern (length run)) (length run - own_count pattern (length run)))) (λ s. (s, flat_map places_of (tuples_in_slot s ts))) (first_appearances (map slot_of ts))
 
 -- two facts of a value make a third
 pub with_both : {X E : Type 0} (r : Result X E) (P : X → Type 0) (Q : Type 0) (R : X → Type 0) → IfOk r P → OnOk r Q → ((x : X) → P x → Q → R x) → IfOk r R

@@ -2,11 +2,11 @@
 use Rattle.std.proofs.Common.{◌≡◌, ℕ, zero, suc, ◌<◌, List, [], ◌∷◌, Bool, true, length, map, arith}
 use Rattle.std.proofs.lemmas.Bool.Decides.{nat_tests}
 use Rattle.std.proofs.lemmas.List.{length-map}
-use Rattle.redis_routing.specs.Parts.{firsts, slot_of}
+use Rattle.redis_routing.specs.Parts.{first_appearances, slot_of}
 use Rattle.redis_routing.specs.Routing.{route_to, routes_of}
 use Rattle.redis_commands.specs.Tuples.{Tuple, fits, own_count, tuples_in}
-use Rattle.redis_commands.specs.declared.ways.MultiSlotArgPattern.{MultiSlotArgPattern}
-use Rattle.redis_commands.specs.declared.ways.MultiSlotArgPattern.TheVariants.{KeysOnly, KeyValuePairs, KeysAndLastArg, KeyWithTwoArgTriples}
+use Rattle.redis_commands.specs.declared.route_by.MultiSlotArgPattern.{MultiSlotArgPattern}
+use Rattle.redis_commands.specs.declared.route_by.MultiSlotArgPattern.TheVariants.{KeysOnly, KeyValuePairs, KeysAndLastArg, KeyWithTwoArgTriples}
 use Rattle.redis_routing.proofs.Cover.{Tiles, tiles_run}
 
 -- where tuples are whole, some arguments make them
@@ -22,7 +22,7 @@ some_tuple : (high : ℕ) (ts : List Tuple) → Tiles 0 high ts → 0 < high →
 some_tuple high [] tiles some = absurd (omega (arith, tiles, some))
 some_tuple high (t ∷ ts) tiles some = omega arith
 
-some_first : (ns : List ℕ) → 0 < length ns → 0 < length (firsts ns)
+some_first : (ns : List ℕ) → 0 < length ns → 0 < length (first_appearances ns)
 some_first [] some = some
 some_first (n ∷ ns) some = omega arith
 
@@ -30,5 +30,5 @@ pub some_route : (reads : Bool) (pattern : MultiSlotArgPattern) (run : List (Lis
 some_route reads pattern run fit =
     let ts = tuples_in pattern run in
     let tuples : 0 < length ts = some_tuple (own_count pattern (length run)) ts (tiles_run pattern run fit) (some_own pattern (length run) fit) in
-    let slots : 0 < length (firsts (map slot_of ts)) = some_first (map slot_of ts) (omega (arith, tuples, length-map ts slot_of)) in
-    omega (arith, slots, length-map (firsts (map slot_of ts)) (route_to reads pattern run))
+    let slots : 0 < length (first_appearances (map slot_of ts)) = some_first (map slot_of ts) (omega (arith, tuples, length-map ts slot_of)) in
+    omega (arith, slots, length-map (first_appearances (map slot_of ts)) (route_to reads pattern run))

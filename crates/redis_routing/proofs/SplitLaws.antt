@@ -1,25 +1,25 @@
 -- The laws of split commands, for whatever a command is routed to.
 use Rattle.std.proofs.Common.{◌≡◌, ℕ, zero, suc, List, [], ◌∷◌, Bool, true, false, Option, None, Some, ◌++◌, length, take, refl, ap, ◌∙◌}
 use Rattle.std.specs.Prelude.{nat_lt}
-use Rattle.cluster_slots.specs.RouteTo.{RouteTo}
+use Rattle.cluster_slots.specs.SlotRoute.{SlotRoute}
 use Rattle.redis_commands.specs.Command.{Arguments, HasWords, argument, command_of}
 use Rattle.redis_routing.specs.Laws.{Covers, ArePartsRoutedWith, ArePartsPickedAfter, IfSplit}
 use Rattle.redis_commands.specs.NameTables.{NameTables}
-use Rattle.redis_routing.specs.Routing.{to_key, by_count, to_key_or_any, to_key_after, to_slot, routes_of, to_parts, to_slots, by_way, by_way_with, number_at}
+use Rattle.redis_routing.specs.Routing.{to_key, by_count, to_key_or_any, to_key_after, to_slot, routes_of, to_routing, to_slots, by_way, by_way_with, number_at}
 use Rattle.redis_commands.specs.Run.{run_after}
 use Rattle.redis_commands.specs.Tuples.{fits}
-use Rattle.redis_commands.specs.Ways.{way_in}
+use Rattle.redis_commands.specs.RouteBy.{base_routing}
 use Rattle.redis_commands.specs.declared.policy.ResponsePolicy.{ResponsePolicy}
-use Rattle.redis_commands.specs.declared.ways.MultiSlotArgPattern.{MultiSlotArgPattern}
-use Rattle.redis_commands.specs.declared.ways.Way.{Way}
-use Rattle.redis_commands.specs.declared.ways.Way.TheVariants as way
+use Rattle.redis_commands.specs.declared.route_by.MultiSlotArgPattern.{MultiSlotArgPattern}
+use Rattle.redis_commands.specs.declared.route_by.RouteBy.{RouteBy}
+use Rattle.redis_commands.specs.declared.route_by.RouteBy.TheVariants as way
 use Rattle.redis_routing.proofs.Cover.{covers}
 use Rattle.redis_routing.proofs.Picks.{parts_picked}
 use Rattle.redis_routing.proofs.SelfRouting.{parts_routed}
 use Rattle.resp_core.proofs.Cases.{by_test}
 
 -- a fact of the routes of every split, from that of the splits by pattern
-module _ (words : ℕ) (tables : NameTables) (P : MultiSlotArgPattern → List (RouteTo × List ℕ) → Type 0) (args : Arguments) (reads : Bool) (name : List ℕ) where
+module _ (words : ℕ) (tables : NameTables) (P : MultiSlotArgPattern → List (SlotRoute × List ℕ) → Type 0) (args : Arguments) (reads : Bool) (name : List ℕ) where
   of_key : (key : Option (List ℕ)) → IfSplit P (to_key reads key)
   of_key None = tt
   of_key (Some key) = tt
@@ -41,7 +41,7 @@ module _ (words : ℕ) (tables : NameTables) (P : MultiSlotArgPattern → List (
   of_slot None = tt
   of_slot (Some n) = by_test (nat_lt n 16384) (λ h. rw h tt) (λ h. rw h tt)
 
-  of_parts : (pattern : MultiSlotArgPattern) (policy : Option ResponsePolicy) (routes : List (RouteTo × List ℕ)) → P pattern routes → IfSplit P (Some (to_parts pattern policy routes))
+  of_parts : (pattern : MultiSlotArgPattern) (policy : Option ResponsePolicy) (routes : List (SlotRoute × List ℕ)) → P pattern routes → IfSplit P (Some (to_routing pattern policy routes))
   of_parts pattern policy [] h = h
   of_parts pattern policy (only ∷ []) h = tt
   of_parts pattern policy (route ∷ other ∷ routes) h = h
@@ -51,7 +51,7 @@ module _ (words : ℕ) (tables : NameTables) (P : MultiSlotArgPattern → List (
       (λ whole. rw whole (of_parts pattern (tables.policy name) (routes_of reads pattern (run_after words args)) (h whole)))
       (λ broken. rw broken tt)
 
-  of_way : (w : Option Way) → ((pattern : MultiSlotArgPattern) → w ≡ Some (way.MultiSlot pattern) → fits pattern (length (run_after words args)) ≡ true → P pattern (routes_of reads pattern (run_after words args))) → IfSplit P (by_way_with words tables reads name args w)
+  of_way : (w : Option RouteBy) → ((pattern : MultiSlotArgPattern) → w ≡ Some (way.MultiSlot pattern) → fits pattern (length (run_after words args)) ≡ true → P pattern (routes_of reads pattern (run_after words args))) → IfSplit P (by_way_with words tables reads name args w)
   of_way None h = of_key_or_any _
   of_way (Some way.AllNodes) h = tt
   of_way (Some way.AllMasters) h = tt
@@ -79,6 +79,6 @@ module _ (words : ℕ) (tables : NameTables) (only_reads : List ℕ → Bool) (a
   split_picked has = of_way words tables _ args (only_reads name) name (tables.way name) (λ pattern is whole. parts_picked words args (only_reads name) pattern has whole)
 
 -- the way of a command by its name as it is held in several places
-pub same_by_way : (only_reads : List ℕ → Bool) (args : Arguments) (name read looked : List ℕ) (reads : Bool) → read ≡ name → looked ≡ name → reads ≡ only_reads read → by_way reads looked args (way_in looked) ≡ by_way (only_reads name) name args (way_in name)
+pub same_by_way : (only_reads : List ℕ → Bool) (args : Arguments) (name read looked : List ℕ) (reads : Bool) → read ≡ name → looked ≡ name → reads ≡ only_reads read → by_way reads looked args (base_routing looked) ≡ by_way (only_reads name) name args (base_routing name)
 same_by_way only_reads args name read looked reads read-is looked-is reads-is =
-    ap (λ r. by_way r looked args (way_in looked)) (reads-is ∙ ap only_reads read-is) ∙ ap (λ n. by_way (only_reads name) n args (way_in n)) looked-is
+    ap (λ r. by_way r looked args (base_routing looked)) (reads-is ∙ ap only_reads read-is) ∙ ap (λ n. by_way (only_reads name) n args (base_routing n)) looked-is

@@ -20,7 +20,7 @@ name_more args words place texts text inside is =
     let e : words - place ≡ suc (words - (place + 1)) = omega arith in
     before_more texts (argument args place) text (map (λ i. argument args i) (range_with_len (place + 1) (words - (place + 1)))) is ∙ sym (ap (λ n. before texts (all_texts (map (λ i. argument args i) (range_with_len place n)))) e)
 
--- texts and others behind them, if all are there
+-- texts and others after them, if all are there
 abbrev both : Option (List (List ℕ)) → Option (List (List ℕ)) → Option (List (List ℕ))
 both None o = None
 both (Some texts) o = before texts o

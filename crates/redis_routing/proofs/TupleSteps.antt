@@ -5,8 +5,8 @@ use Rattle.std.proofs.lemmas.List.{get_or-drop, get_or-take, length-take-le, tak
 use Rattle.redis_commands.specs.Command.{Arguments, argument}
 use Rattle.redis_commands.specs.Run.{front, run_after}
 use Rattle.redis_commands.specs.Tuples.{Tuple, keys_alone, keys_and_values, keys_and_two, tuples_from, tuples_in, width_of, own_count, places_of}
-use Rattle.redis_commands.specs.declared.ways.MultiSlotArgPattern.{MultiSlotArgPattern}
-use Rattle.redis_commands.specs.declared.ways.MultiSlotArgPattern.TheVariants.{KeysOnly, KeyValuePairs, KeysAndLastArg, KeyWithTwoArgTriples}
+use Rattle.redis_commands.specs.declared.route_by.MultiSlotArgPattern.{MultiSlotArgPattern}
+use Rattle.redis_commands.specs.declared.route_by.MultiSlotArgPattern.TheVariants.{KeysOnly, KeyValuePairs, KeysAndLastArg, KeyWithTwoArgTriples}
 
 -- the next key
 alone_next : (p n : ℕ) (xs : List (List ℕ)) (i : ℕ) → n ≡ p + i → i < length xs → take (suc i) (keys_alone p xs) ≡ take i (keys_alone p xs) ++ record { place = n; key = get_or xs i []; extras = [] } ∷ []
@@ -60,7 +60,7 @@ front_item (None ∷ args) i h = absurd (omega arith)
 front_item (Some arg ∷ args) zero h = refl
 front_item (Some arg ∷ args) (suc i) h = front_item args i (omega (arith, h))
 
--- the arguments of the run stand behind the name
+-- the arguments of the run stand after the name
 pub run_item : (words : ℕ) (args : Arguments) (i : ℕ) → i < length (run_after words args) → argument args (i + words) ≡ Some (get_or (run_after words args) i [])
 run_item words args i h = ap (argument args) (omega arith) ∙ sym (get_or-drop words args i None) ∙ front_item (drop words args) i h
 
@@ -112,7 +112,7 @@ all_taken pattern run n h =
     let same : length (take (own_count pattern (length run)) run) / width_of pattern ≡ own_count pattern (length run) / width_of pattern = ap (λ k. k / width_of pattern) (own_length pattern run) in
     take_all n (tuples_in pattern run) (omega (arith, few, same, h))
 
--- the tuple of a number in a command: its key is an argument behind the name
+-- the tuple of a number in a command: its key is an argument after the name
 pub record IsNextTuple (words : ℕ) (pattern : MultiSlotArgPattern) (args : Arguments) (i : ℕ) (t : Tuple) : Type 0 where
   pub key : argument args (i * width_of pattern + words) ≡ Some t.key
   pub places : places_of t ≡ range_with_len (i * width_of pattern) (width_of pattern)

@@ -3,9 +3,9 @@ use Rattle.std.specs.Prelude.{ℕ, ◌++◌, List, [], Option, None, Some, map}
 use Rattle.std.specs.List.{flat_map}
 use Rattle.std.specs.declared.vec.Vec.{Vec}
 use Rattle.std.specs.declared.alloc.Global.{Global}
-use Rattle.cluster_slots.specs.RouteTo.{RouteTo}
+use Rattle.cluster_slots.specs.SlotRoute.{SlotRoute}
 use Rattle.cluster_slots.specs.declared.slot.SlotAddr.{SlotAddr}
-use Rattle.redis_routing.specs.Parts.{firsts, slot_of, part}
+use Rattle.redis_routing.specs.Parts.{first_appearances, slot_of, tuples_in_slot}
 use Rattle.redis_commands.specs.Tuples.{Tuple, places_of}
 
 -- a slot, and the places of its tuples
@@ -14,7 +14,7 @@ Group = ℕ × List ℕ
 
 -- the groups of some tuples
 abbrev pub groups_of : List Tuple → List Group
-groups_of ts = map (λ s. (s, flat_map places_of (part s ts))) (firsts (map slot_of ts))
+groups_of ts = map (λ s. (s, flat_map places_of (tuples_in_slot s ts))) (first_appearances (map slot_of ts))
 
 -- the list of a slot, or the empty one
 abbrev pub listed : Option (Vec ℕ Global) → List ℕ
@@ -26,5 +26,5 @@ abbrev pub shown : List (ℕ × Vec ℕ Global) → List Group
 shown entries = map (λ e. (e.0, e.1.items)) entries
 
 -- the route of a group
-abbrev pub group_route : SlotAddr → List ℕ → Group → RouteTo × List ℕ
+abbrev pub group_route : SlotAddr → List ℕ → Group → SlotRoute × List ℕ
 group_route nodes shared group = (record { slot = group.0; addr = nodes }, group.1 ++ shared)

@@ -3,22 +3,22 @@ use Rattle.std.specs.Prelude.{◌≡◌, ◌<◌, ◌≤◌, ℕ, Bool, List, Op
 use Rattle.std.specs.List.{list_any}
 use Rattle.std.specs.List.Sorted.{IsStrictlySortedBy}
 use Rattle.std.specs.Ordering.{nat_cmp}
-use Rattle.cluster_slots.specs.RouteTo.{RouteTo}
+use Rattle.cluster_slots.specs.SlotRoute.{SlotRoute}
 use Rattle.redis_commands.specs.Command.{Arguments}
 use Rattle.redis_commands.specs.Tuples.{own_count}
 use Rattle.redis_commands.specs.NameTables.{NameTables, own_tables}
-use Rattle.redis_routing.specs.Parts.{part_after}
+use Rattle.redis_routing.specs.Parts.{part_of_slot_after}
 use Rattle.redis_routing.specs.Routing.{routing_with}
 use Rattle.redis_routing.specs.SubCommand.{sub_command_after}
 use Rattle.redis_routing.specs.Target.{Target, Multiple, specific, all_nodes, all_masters, split, single, multiple}
-use Rattle.redis_commands.specs.declared.ways.MultiSlotArgPattern.{MultiSlotArgPattern}
+use Rattle.redis_commands.specs.declared.route_by.MultiSlotArgPattern.{MultiSlotArgPattern}
 
 -- how many of the lists have the place
-abbrev pub lists_with : ℕ → List (RouteTo × List ℕ) → ℕ
+abbrev pub lists_with : ℕ → List (SlotRoute × List ℕ) → ℕ
 lists_with place routes = count_by (λ r. list_any (nat_eq place) r.1) routes
 
 -- The cover law: each slot has one route, and the lists of the routes ascend and share out the places of the run, of which a shared one stands in each.
-pub record Covers (pattern : MultiSlotArgPattern) (run : List (List ℕ)) (routes : List (RouteTo × List ℕ)) : Type 0 where
+pub record Covers (pattern : MultiSlotArgPattern) (run : List (List ℕ)) (routes : List (SlotRoute × List ℕ)) : Type 0 where
   pub slots : (slot : ℕ) → count_by (λ r. nat_eq slot r.0.slot) routes ≤ 1
   pub ascending : All (λ r. IsStrictlySortedBy nat_cmp r.1) routes
   pub once : (place : ℕ) → place < own_count pattern (length run) → lists_with place routes ≡ 1
@@ -26,26 +26,26 @@ pub record Covers (pattern : MultiSlotArgPattern) (run : List (List ℕ)) (route
   pub within : (place : ℕ) → length run ≤ place → lists_with place routes ≡ 0
 
 -- The self-routing law: the part of each route, as a command of its own, goes to that very route.
-abbrev pub ArePartsRoutedWith : ℕ → NameTables → (List ℕ → Bool) → Arguments → MultiSlotArgPattern → List (RouteTo × List ℕ) → Type 0
-ArePartsRoutedWith words tables only_reads args pattern routes = All (λ r. routing_with words tables only_reads (part_after words pattern args r.0.slot) ≡ Some (single (specific r.0))) routes
+abbrev pub ArePartsRoutedWith : ℕ → NameTables → (List ℕ → Bool) → Arguments → MultiSlotArgPattern → List (SlotRoute × List ℕ) → Type 0
+ArePartsRoutedWith words tables only_reads args pattern routes = All (λ r. routing_with words tables only_reads (part_of_slot_after words pattern args r.0.slot) ≡ Some (single (specific r.0))) routes
 
-abbrev pub ArePartsRouted : (List ℕ → Bool) → Arguments → MultiSlotArgPattern → List (RouteTo × List ℕ) → Type 0
+abbrev pub ArePartsRouted : (List ℕ → Bool) → Arguments → MultiSlotArgPattern → List (SlotRoute × List ℕ) → Type 0
 ArePartsRouted only_reads args pattern routes = ArePartsRoutedWith 1 own_tables only_reads args pattern routes
 
 -- The sub-command of the places of each route is the part of its slot.
-abbrev pub ArePartsPickedAfter : ℕ → Arguments → MultiSlotArgPattern → List (RouteTo × List ℕ) → Type 0
-ArePartsPickedAfter words args pattern routes = All (λ r. option_map (map Some) (sub_command_after words args r.1) ≡ Some (part_after words pattern args r.0.slot)) routes
+abbrev pub ArePartsPickedAfter : ℕ → Arguments → MultiSlotArgPattern → List (SlotRoute × List ℕ) → Type 0
+ArePartsPickedAfter words args pattern routes = All (λ r. option_map (map Some) (sub_command_after words args r.1) ≡ Some (part_of_slot_after words pattern args r.0.slot)) routes
 
-abbrev pub ArePartsPicked : Arguments → MultiSlotArgPattern → List (RouteTo × List ℕ) → Type 0
+abbrev pub ArePartsPicked : Arguments → MultiSlotArgPattern → List (SlotRoute × List ℕ) → Type 0
 ArePartsPicked args pattern routes = ArePartsPickedAfter 1 args pattern routes
 
 -- what holds of the routes of a split, if it is one
-abbrev pub IfSplitTo : (MultiSlotArgPattern → List (RouteTo × List ℕ) → Type 0) → Multiple → Type 0
+abbrev pub IfSplitTo : (MultiSlotArgPattern → List (SlotRoute × List ℕ) → Type 0) → Multiple → Type 0
 IfSplitTo P all_nodes = Unit {0}
 IfSplitTo P all_masters = Unit {0}
 IfSplitTo P (split routes pattern) = P pattern routes
 
-abbrev pub IfSplit : (MultiSlotArgPattern → List (RouteTo × List ℕ) → Type 0) → Option Target → Type 0
+abbrev pub IfSplit : (MultiSlotArgPattern → List (SlotRoute × List ℕ) → Type 0) → Option Target → Type 0
 IfSplit P None = Unit {0}
 IfSplit P (Some (single to)) = Unit {0}
 IfSplit P (Some (multiple to policy)) = IfSplitTo P to

@@ -3,8 +3,8 @@ pub use Rattle.redis_commands.specs.Policies
 pub use Rattle.redis_commands.specs.ReadOnly
 pub use Rattle.redis_commands.specs.Run
 pub use Rattle.redis_commands.specs.Tuples
-pub use Rattle.redis_commands.specs.Ways
-pub use Rattle.resp_core.specs.Fault
+pub use Rattle.redis_commands.specs.RouteBy
+pub use Rattle.resp_core.specs.ErrorParts
 pub mod Complete
 pub mod Groups
 pub mod Laws

@@ -2,19 +2,19 @@
 use Rattle.std.specs.Prelude.{◌+◌, ℕ, zero, suc, Bool, cond, List, [], ◌∷◌, map, length, Option, None, Some, codes, position, nat_lt, option_map}
 use Rattle.cluster_slots.specs.KeySlot.{key_slot}
 use Rattle.cluster_slots.specs.Number.{number_in}
-use Rattle.cluster_slots.specs.RouteTo.{RouteTo}
+use Rattle.cluster_slots.specs.SlotRoute.{SlotRoute}
 use Rattle.cluster_slots.specs.declared.slot.SlotAddr.{SlotAddr}
 use Rattle.cluster_slots.specs.declared.slot.SlotAddr.TheVariants.{Master, ReplicaOptional}
 use Rattle.redis_commands.specs.Command.{Arguments, argument, command_of, is_word}
 use Rattle.redis_commands.specs.Run.{run_after}
 use Rattle.redis_commands.specs.Tuples.{tuples_in, fits}
-use Rattle.redis_routing.specs.Parts.{slot_of, firsts, part_places}
+use Rattle.redis_routing.specs.Parts.{slot_of, first_appearances, places_in_slot}
 use Rattle.redis_routing.specs.Target.{Target, random, specific, all_nodes, all_masters, split, single, multiple}
 use Rattle.redis_commands.specs.NameTables.{NameTables, own_tables}
 use Rattle.redis_commands.specs.declared.policy.ResponsePolicy.{ResponsePolicy}
-use Rattle.redis_commands.specs.declared.ways.MultiSlotArgPattern.{MultiSlotArgPattern}
-use Rattle.redis_commands.specs.declared.ways.Way.{Way}
-use Rattle.redis_commands.specs.declared.ways.Way.TheVariants as way
+use Rattle.redis_commands.specs.declared.route_by.MultiSlotArgPattern.{MultiSlotArgPattern}
+use Rattle.redis_commands.specs.declared.route_by.RouteBy.{RouteBy}
+use Rattle.redis_commands.specs.declared.route_by.RouteBy.TheVariants as way
 
 -- which nodes of a key's slot: a replica too, where the command only reads
 abbrev pub nodes_for : Bool → SlotAddr
@@ -24,7 +24,7 @@ nodes_for reads = cond reads ReplicaOptional Master
 abbrev pub to_key : Bool → Option (List ℕ) → Option Target
 to_key reads key = option_map (λ k. single (specific (record { slot = key_slot k; addr = nodes_for reads }))) key
 
--- by the count of keys and the key behind it: no key, any node
+-- by the count of keys and the key after it: no key, any node
 abbrev pub by_count : Bool → Option ℕ → Option (List ℕ) → Option Target
 by_count reads None key = None
 by_count reads (Some zero) key = Some (single random)
@@ -51,25 +51,25 @@ number_at bits None = None
 number_at bits (Some text) = number_in bits text
 
 -- the route of a slot, and the places of its part
-abbrev pub route_to : Bool → MultiSlotArgPattern → List (List ℕ) → ℕ → RouteTo × List ℕ
-route_to reads pattern run slot = (record { slot = slot; addr = nodes_for reads }, part_places pattern run slot)
+abbrev pub route_to : Bool → MultiSlotArgPattern → List (List ℕ) → ℕ → SlotRoute × List ℕ
+route_to reads pattern run slot = (record { slot = slot; addr = nodes_for reads }, places_in_slot pattern run slot)
 
 -- one route for each slot of a key, by the first key of each
-abbrev pub routes_of : Bool → MultiSlotArgPattern → List (List ℕ) → List (RouteTo × List ℕ)
-routes_of reads pattern run = map (route_to reads pattern run) (firsts (map slot_of (tuples_in pattern run)))
+abbrev pub routes_of : Bool → MultiSlotArgPattern → List (List ℕ) → List (SlotRoute × List ℕ)
+routes_of reads pattern run = map (route_to reads pattern run) (first_appearances (map slot_of (tuples_in pattern run)))
 
 -- to one node, where all keys have one slot, or else to a node of each slot
-abbrev pub to_parts : MultiSlotArgPattern → Option ResponsePolicy → List (RouteTo × List ℕ) → Target
-to_parts pattern policy [] = multiple (split [] pattern) policy
-to_parts pattern policy (only ∷ []) = single (specific only.0)
-to_parts pattern policy (route ∷ other ∷ routes) = multiple (split (route ∷ other ∷ routes) pattern) policy
+abbrev pub to_routing : MultiSlotArgPattern → Option ResponsePolicy → List (SlotRoute × List ℕ) → Target
+to_routing pattern policy [] = multiple (split [] pattern) policy
+to_routing pattern policy (only ∷ []) = single (specific only.0)
+to_routing pattern policy (route ∷ other ∷ routes) = multiple (split (route ∷ other ∷ routes) pattern) policy
 
 -- to the slots of the keys, if the run makes whole tuples
 abbrev pub to_slots : Bool → Option ResponsePolicy → MultiSlotArgPattern → List (List ℕ) → Option Target
-to_slots reads policy pattern run = cond (fits pattern (length run)) (Some (to_parts pattern policy (routes_of reads pattern run))) None
+to_slots reads policy pattern run = cond (fits pattern (length run)) (Some (to_routing pattern policy (routes_of reads pattern run))) None
 
 -- where a command goes by the way of its name, which has so many words, under some tables of names
-abbrev pub by_way_with : ℕ → NameTables → Bool → List ℕ → Arguments → Option Way → Option Target
+abbrev pub by_way_with : ℕ → NameTables → Bool → List ℕ → Arguments → Option RouteBy → Option Target
 by_way_with words tables reads name args None = to_key_or_any reads (argument args 1)
 by_way_with words tables reads name args (Some way.AllNodes) = Some (multiple all_nodes (tables.policy name))
 by_way_with words tables reads name args (Some way.AllMasters) = Some (multiple all_masters (tables.policy name))
@@ -90,7 +90,7 @@ abbrev pub routing_with : ℕ → NameTables → (List ℕ → Bool) → Argumen
 routing_with words tables only_reads args = routing_of_with words tables only_reads args (command_of args)
 
 -- under the project's own tables, in which each name that is split has one word
-abbrev pub by_way : Bool → List ℕ → Arguments → Option Way → Option Target
+abbrev pub by_way : Bool → List ℕ → Arguments → Option RouteBy → Option Target
 by_way reads name args way = by_way_with 1 own_tables reads name args way
 
 abbrev pub routing_of : (List ℕ → Bool) → Arguments → Option (List ℕ) → Option Target

@@ -1,32 +1,32 @@
 -- A complete command over many keys, split by slot.
 use Rattle.std.specs.Prelude.{◌≡◌, ℕ, Bool, true, false, List, Option, None, Some, length, option_map, slice_get}
-use Rattle.cluster_slots.specs.RouteTo.{RouteTo}
+use Rattle.cluster_slots.specs.SlotRoute.{SlotRoute}
 use Rattle.redis_commands.specs.Command.{Arguments, HasWords}
 use Rattle.redis_commands.specs.Tuples.{is_complete}
 use Rattle.redis_commands.specs.NameTables.{NameTables, own_tables}
-use Rattle.redis_routing.specs.Parts.{part_after}
+use Rattle.redis_routing.specs.Parts.{part_of_slot_after}
 use Rattle.redis_routing.specs.Routing.{routes_of}
 use Rattle.redis_commands.specs.Run.{run_after}
 use Rattle.redis_commands.specs.declared.policy.AggregateOp.TheVariants.{Sum}
 use Rattle.redis_commands.specs.declared.policy.ResponsePolicy.{ResponsePolicy}
 use Rattle.redis_commands.specs.declared.policy.ResponsePolicy.TheVariants.{AllSucceeded, Aggregate, CombineArrays}
-use Rattle.redis_commands.specs.declared.ways.MultiSlotArgPattern.{MultiSlotArgPattern}
+use Rattle.redis_commands.specs.declared.route_by.MultiSlotArgPattern.{MultiSlotArgPattern}
 
 -- the arguments of the command, how many of them are its name, its routes with the places of their parts, how its arguments make tuples, and how the replies to its parts make one
 pub record Split : Type 0 where
   pub arguments : Arguments
   pub words : ℕ
-  pub routes : List (RouteTo × List ℕ)
+  pub routes : List (SlotRoute × List ℕ)
   pub pattern : MultiSlotArgPattern
   pub policy : ResponsePolicy
 
 -- the part of a slot, as a command of its own
-abbrev pub part_for : Split → ℕ → Arguments
-part_for split slot = part_after split.words split.pattern split.arguments slot
+abbrev pub split_part : Split → ℕ → Arguments
+split_part split slot = part_of_slot_after split.words split.pattern split.arguments slot
 
 -- the part of the route of this number
-abbrev pub part_at : Split → ℕ → Option Arguments
-part_at split number = option_map (λ r. part_for split r.0.slot) (slice_get split.routes number)
+abbrev pub route_part : Split → ℕ → Option Arguments
+route_part split number = option_map (λ r. split_part split r.0.slot) (slice_get split.routes number)
 
 -- the policy of a command's name under some tables of names
 abbrev pub policy_by_name_with : NameTables → Option (List ℕ) → Option ResponsePolicy

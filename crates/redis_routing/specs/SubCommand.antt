@@ -9,10 +9,10 @@ all_texts [] = Some []
 all_texts (None ∷ args) = None
 all_texts (Some arg ∷ args) = option_map (λ texts. arg ∷ texts) (all_texts args)
 
--- the arguments of a name of so many words and those at these places behind it, if they are all there
+-- the arguments of a name of so many words and those at these places after it, if they are all there
 abbrev pub sub_command_after : ℕ → Arguments → List ℕ → Option (List (List ℕ))
 sub_command_after words args places = all_texts (map (λ place. argument args place) (range_with_len 0 words) ++ map (λ place. argument args (place + words)) places)
 
--- the first argument and those at these places behind it, if they are all there
+-- the first argument and those at these places after it, if they are all there
 abbrev pub sub_command : Arguments → List ℕ → Option (List (List ℕ))
 sub_command args places = sub_command_after 1 args places

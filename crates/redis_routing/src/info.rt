@@ -1,6 +1,6 @@
 ghost use Rattle.std.specs.Prelude.{◌≡◌, IfOk};
 ghost use Rattle.redis_routing.specs.Routing.{nodes_for};
-ghost use Rattle.redis_routing.specs.Target.{parts_of};
+ghost use Rattle.redis_routing.specs.Target.{route_lists};
 
 use cluster_slots::{NodeAddress, Route, SlotAddr};
 use redis_commands::{MultiSlotArgPattern, ResponsePolicy};
@@ -102,7 +102,7 @@ impl Clone for MultipleNodeRoutingInfo {
 }
 
 fn copy_routes(routes: &Vec<(Route, Vec<usize>)>) -> Result<Vec<(Route, Vec<usize>)>, AllocError>
-    ensures { IfOk result (λ copies. parts_of copies.items ≡ parts_of routes.now.items) }
+    ensures { IfOk result (λ copies. route_lists copies.items ≡ route_lists routes.now.items) }
 {
     let mut copies = Vec::with_capacity(*routes.allocator(), routes.len())?;
     for (route, places) in routes {

@@ -5,14 +5,14 @@ ghost use Rattle.redis_routing.specs.Plan.{plan, multiple_of};
 ghost use Rattle.redis_commands.specs.Policies.{policy_of};
 ghost use Rattle.redis_commands.specs.ReadOnly.{is_among};
 ghost use Rattle.redis_routing.specs.Target.{random, single, multiple, specific};
-ghost use Rattle.redis_commands.specs.Ways.{way_in};
+ghost use Rattle.redis_commands.specs.RouteBy.{base_routing};
 ghost use Rattle.redis_routing.specs.Routing as go;
 ghost use Rattle.redis_commands.specs.Run.{run_of};
 
 use super::info::{MultipleNodeRoutingInfo, RoutingInfo, SingleNodeRoutingInfo, nodes_for};
 use super::splitting::by_slots;
 use cluster_slots::{Route, Slot, SlotAddr, parse_u16, parse_u64};
-use redis_commands::{ReadOnlyNames, ResponsePolicy, Routable, Way, way_of};
+use redis_commands::{ReadOnlyNames, ResponsePolicy, Routable, RouteBy, base_routing};
 use std::alloc::{AllocError, Global};
 
 impl RoutingInfo {
@@ -26,7 +26,7 @@ impl RoutingInfo {
     ///
     /// # Errors
     ///
-    /// Where there is no memory.
+    /// If memory runs out.
     pub fn for_routable<R: Routable>(
         alloc: Global,
         command: &R,
@@ -53,21 +53,21 @@ fn by_way<R: Routable>(
     name: &[u8],
     reads: bool,
 ) -> Result<Option<RoutingInfo>, AllocError>
-    ensures { IfOk result (λ info. option_map plan info ≡ go.by_way reads name.now (R.args command.now) (way_in name.now)) }
+    ensures { IfOk result (λ info. option_map plan info ≡ go.by_way reads name.now (R.args command.now) (base_routing name.now)) }
 {
-    let Some(way) = way_of(name) else {
+    let Some(way) = base_routing(name) else {
         return Ok(to_key_or_any(command.arg_idx(1), reads));
     };
     Ok(match way {
-        Way::AllNodes => Some(to_several(MultipleNodeRoutingInfo::AllNodes, name)),
-        Way::AllMasters => Some(to_several(MultipleNodeRoutingInfo::AllMasters, name)),
-        Way::MultiSlot(pattern) => by_slots(alloc, command, name, pattern, reads)?,
-        Way::Undefined => None,
-        Way::CountAt(place) => by_count(command, usize::from(place), reads),
-        Way::KeyAt(place) => to_key(command.arg_idx(usize::from(place)), reads),
-        Way::KeyAfterStreams => after_streams(command, reads),
-        Way::Random => Some(to_any()),
-        Way::SlotAtTwo => to_slot(command.arg_idx(2)),
+        RouteBy::AllNodes => Some(to_several(MultipleNodeRoutingInfo::AllNodes, name)),
+        RouteBy::AllMasters => Some(to_several(MultipleNodeRoutingInfo::AllMasters, name)),
+        RouteBy::MultiSlot(pattern) => by_slots(alloc, command, name, pattern, reads)?,
+        RouteBy::Undefined => None,
+        RouteBy::CountAt(place) => by_count(command, usize::from(place), reads),
+        RouteBy::KeyAt(place) => to_key(command.arg_idx(usize::from(place)), reads),
+        RouteBy::KeyAfterStreams => after_streams(command, reads),
+        RouteBy::Random => Some(to_any()),
+        RouteBy::SlotAtTwo => to_slot(command.arg_idx(2)),
     })
 }
 
@@ -105,7 +105,7 @@ fn to_key_or_any(key: Option<&[u8]>, reads: bool) -> Option<RoutingInfo>
     }
 }
 
-/// By the count of keys at a place and the first key behind it.
+/// By the count of keys at a place and the first key after it.
 fn by_count<R: Routable>(command: &R, place: usize, reads: bool) -> Option<RoutingInfo>
     requires { place < 2 ^ 16 }
     ensures { option_map plan result ≡ go.by_count reads (go.number_at 64 (argument (R.args command.now) place)) (argument (R.args command.now) (place + 1)) }

@@ -3,14 +3,16 @@ ghost use Rattle.redis_commands.specs.Command.{command_of};
 ghost use Rattle.redis_routing.specs.Complete.{multi_slot_routes, pattern_of, pattern_by_name, AreSubCommands};
 ghost use Rattle.redis_commands.specs.Policies.{policy_of};
 ghost use Rattle.redis_commands.specs.ReadOnly.{is_among};
-ghost use Rattle.redis_routing.specs.Split.{Split, IsSplit, part_at, policy_by_name, joins_parts};
-ghost use Rattle.redis_routing.specs.Target.{parts_of};
-ghost use Rattle.redis_commands.specs.Ways.{way_in};
+ghost use Rattle.redis_routing.specs.Split.{Split, IsSplit, route_part, policy_by_name, joins_parts};
+ghost use Rattle.redis_routing.specs.Target.{route_lists};
+ghost use Rattle.redis_commands.specs.RouteBy.{base_routing};
 
 use super::splitting::{NAME_WORDS, routes_by_slot, run_len};
 use super::sub_commands::sub_command;
 use cluster_slots::Route;
-use redis_commands::{MultiSlotArgPattern, ReadOnlyNames, ResponsePolicy, Routable, Way, way_of};
+use redis_commands::{
+    MultiSlotArgPattern, ReadOnlyNames, ResponsePolicy, Routable, RouteBy, base_routing,
+};
 use resp_core::Cmd;
 use std::alloc::{AllocError, Global};
 use std::marker::Model;
@@ -31,23 +33,23 @@ pub struct SplitCommand<'a, R: Routable> {
 
 impl<'a, R: Routable> Model for SplitCommand<'a, R> {
     ghost use Rattle.redis_routing.specs.Split.{Split, IsSplit};
-    ghost use Rattle.redis_routing.specs.Target.{parts_of};
+    ghost use Rattle.redis_routing.specs.Target.{route_lists};
 
     ghost Value = { Split };
 
-    ghost view = { λ s. record { arguments = R.args s.command.now; words = s.words; routes = parts_of s.routes.items; pattern = s.pattern; policy = s.policy } };
+    ghost view = { λ s. record { arguments = R.args s.command.now; words = s.words; routes = route_lists s.routes.items; pattern = s.pattern; policy = s.policy } };
 
-    ghost invariant = { λ s. IsSplit (record { arguments = R.args s.command.now; words = s.words; routes = parts_of s.routes.items; pattern = s.pattern; policy = s.policy }) };
+    ghost invariant = { λ s. IsSplit (record { arguments = R.args s.command.now; words = s.words; routes = route_lists s.routes.items; pattern = s.pattern; policy = s.policy }) };
 }
 
 impl<'a, R: Routable> SplitCommand<'a, R> {
     /// Splits a command. There is nothing to split where its name is not one of those that split by
-    /// slot, where the arguments behind it, up to the first gap, make no whole tuples, or where the
+    /// slot, where the arguments after it, up to the first gap, make no whole tuples, or where the
     /// last argument that all keys share is missing.
     ///
     /// # Errors
     ///
-    /// Where there is no memory.
+    /// If memory runs out.
     pub fn new(
         alloc: Global,
         command: &'a R,
@@ -83,7 +85,7 @@ impl<'a, R: Routable> SplitCommand<'a, R> {
     /// The routes: one for each slot of a key, by the first key of each, with the places of its part
     /// as `command_for_multi_slot_indices` takes them.
     pub fn routes(&self) -> &[(Route, Vec<usize>)]
-        ensures routes { parts_of result.now ≡ self.now.routes }
+        ensures routes { route_lists result.now ≡ self.now.routes }
         ensures split { IsSplit self.now }
     {
         self.routes.as_slice()
@@ -118,10 +120,10 @@ impl<'a, R: Routable> SplitCommand<'a, R> {
     ///
     /// # Errors
     ///
-    /// Where there is no memory.
+    /// If memory runs out.
     pub fn part(&self, alloc: Global, number: usize) -> Result<Cmd, AllocError>
         requires { number < length self.now.routes }
-        ensures { IfOk result (λ part. Some (map Some part) ≡ part_at self.now number) }
+        ensures { IfOk result (λ part. Some (map Some part) ≡ route_part self.now number) }
     {
         let Some(part) = sub_command(alloc, self.command, self.words, &self.routes[number].1)?
         else {
@@ -134,11 +136,11 @@ impl<'a, R: Routable> SplitCommand<'a, R> {
 /// How commands of this name make tuples and how the replies to their parts make one, where they
 /// split by slot.
 fn pattern_and_policy(name: &[u8]) -> Option<(MultiSlotArgPattern, ResponsePolicy)>
-    ensures pattern { option_map (λ found. found.0) result ≡ pattern_of (way_in name.now) }
+    ensures pattern { option_map (λ found. found.0) result ≡ pattern_of (base_routing name.now) }
     ensures policy { IfSome result (λ found. Some found.1 ≡ policy_of name.now) }
     ensures joins { IfSome result (λ found. joins_parts found.1 ≡ true) }
 {
-    let Some(Way::MultiSlot(pattern)) = way_of(name) else {
+    let Some(RouteBy::MultiSlot(pattern)) = base_routing(name) else {
         return None;
     };
     let Some(policy) = ResponsePolicy::for_command(name) else {
@@ -150,20 +152,20 @@ fn pattern_and_policy(name: &[u8]) -> Option<(MultiSlotArgPattern, ResponsePolic
 /// The routes of a command over many keys: one for each slot of a key, by the first key of each,
 /// with the places of its part as `command_for_multi_slot_indices` takes them.
 ///
-/// There are none where the name is not one of those that split by slot, where the arguments behind
+/// There are none where the name is not one of those that split by slot, where the arguments after
 /// it, up to the first gap, make no whole tuples, or where the last argument that all keys share is
 /// missing.
 ///
 /// # Errors
 ///
-/// Where there is no memory.
+/// If memory runs out.
 pub fn multi_slot_routes<R: Routable>(
     alloc: Global,
     command: &R,
     read_only: &ReadOnlyNames,
 ) -> Result<Option<Vec<(Route, Vec<usize>)>>, AllocError>
-    ensures routes { IfOk result (λ routes. option_map (λ r. parts_of r.items) routes ≡ multi_slot_routes (is_among read_only.now) (R.args command.now)) }
-    ensures picked { IfOk result (λ routes. IfSome routes (λ routes. AreSubCommands (R.args command.now) (parts_of routes.items))) }
+    ensures routes { IfOk result (λ routes. option_map (λ r. route_lists r.items) routes ≡ multi_slot_routes (is_among read_only.now) (R.args command.now)) }
+    ensures picked { IfOk result (λ routes. IfSome routes (λ routes. AreSubCommands (R.args command.now) (route_lists routes.items))) }
 {
     match SplitCommand::new(alloc, command, read_only)? {
         Some(split) => Ok(Some(split.routes)),

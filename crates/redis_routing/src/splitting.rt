@@ -2,12 +2,12 @@ ghost use Rattle.std.specs.Prelude.{◌≡◌, ◌<◌, ◌^◌, ◌+◌, ◌-�
 ghost use Rattle.std.specs.List.{flat_map, range_with_len};
 ghost use Rattle.indexmap.specs.IndexMap.{get, keys, IsUnique};
 ghost use Rattle.redis_routing.specs.Groups.{listed, shown, group_route};
-ghost use Rattle.redis_routing.specs.Parts.{firsts, slot_of, part};
+ghost use Rattle.redis_routing.specs.Parts.{first_appearances, slot_of, tuples_in_slot};
 ghost use Rattle.redis_routing.specs.Plan.{plan};
 ghost use Rattle.redis_commands.specs.Policies.{policy_of};
 ghost use Rattle.redis_routing.specs.Routing as go;
 ghost use Rattle.redis_commands.specs.Run.{run_of, run_after};
-ghost use Rattle.redis_routing.specs.Target.{parts_of};
+ghost use Rattle.redis_routing.specs.Target.{route_lists};
 ghost use Rattle.redis_commands.specs.Tuples.{own_count, tuples_in, places_of};
 
 use super::info::{MultipleNodeRoutingInfo, RoutingInfo, SingleNodeRoutingInfo, nodes_for};
@@ -34,10 +34,10 @@ pub(super) fn by_slots<R: Routable>(
         return Ok(None);
     }
     let routes = routes_by_slot(alloc, command, NAME_WORDS, pattern, run, reads)?;
-    Ok(Some(to_parts(routes, pattern, ResponsePolicy::for_command(name))))
+    Ok(Some(to_routing(routes, pattern, ResponsePolicy::for_command(name))))
 }
 
-/// The routes of a run of whole tuples, which stands behind a name of so many words.
+/// The routes of a run of whole tuples, which stands after a name of so many words.
 pub(super) fn routes_by_slot<R: Routable>(
     alloc: Global,
     command: &R,
@@ -48,7 +48,7 @@ pub(super) fn routes_by_slot<R: Routable>(
 ) -> Result<Vec<(Route, Vec<usize>)>, AllocError>
     requires few { run + words < 2 ^ 64 }
     requires run { run ≡ length (run_after words (R.args command.now)) }
-    ensures { IfOk result (λ routes. parts_of routes.items ≡ go.routes_of reads pattern (run_after words (R.args command.now))) }
+    ensures { IfOk result (λ routes. route_lists routes.items ≡ go.routes_of reads pattern (run_after words (R.args command.now))) }
 {
     let own = pattern.own_len(run);
     let groups = group_by_slot(alloc, command, words, pattern, own)?;
@@ -78,8 +78,8 @@ fn group_by_slot<R: Routable>(
 ) -> Result<IndexMap<u16, Vec<usize>>, AllocError>
     requires few { own + words < 2 ^ 64 }
     requires own { own ≡ own_count pattern (length (run_after words (R.args command.now))) }
-    ensures order { IfOk result (λ groups. keys groups ≡ firsts (map slot_of (tuples_in pattern (run_after words (R.args command.now))))) }
-    ensures places { IfOk result (λ groups. (s : ℕ) → listed (get nat_eq groups s) ≡ flat_map places_of (part s (tuples_in pattern (run_after words (R.args command.now))))) }
+    ensures order { IfOk result (λ groups. keys groups ≡ first_appearances (map slot_of (tuples_in pattern (run_after words (R.args command.now))))) }
+    ensures places { IfOk result (λ groups. (s : ℕ) → listed (get nat_eq groups s) ≡ flat_map places_of (tuples_in_slot s (tuples_in pattern (run_after words (R.args command.now))))) }
 {
     let width = pattern.width();
     let mut groups: IndexMap<u16, Vec<usize>> = IndexMap::new(alloc);
@@ -138,7 +138,7 @@ fn to_routes(
     own: usize,
     run: usize,
 ) -> Result<Vec<(Route, Vec<usize>)>, AllocError>
-    ensures routes { IfOk result (λ routes. parts_of routes.items ≡ map (group_route nodes (range_with_len own (run - own))) (shown groups.entries)) }
+    ensures routes { IfOk result (λ routes. route_lists routes.items ≡ map (group_route nodes (range_with_len own (run - own))) (shown groups.entries)) }
     ensures unique { OnOk result (IsUnique nat_eq groups) }
 {
     let mut routes = Vec::with_capacity(alloc, groups.len())?;
@@ -150,12 +150,12 @@ fn to_routes(
 }
 
 /// One node, where there is one route.
-fn to_parts(
+fn to_routing(
     routes: Vec<(Route, Vec<usize>)>,
     pattern: MultiSlotArgPattern,
     policy: Option<ResponsePolicy>,
 ) -> RoutingInfo
-    ensures { plan result ≡ go.to_parts pattern policy (parts_of routes.items) }
+    ensures { plan result ≡ go.to_routing pattern policy (route_lists routes.items) }
 {
     match routes.as_slice() {
         [only] => RoutingInfo::SingleNode(SingleNodeRoutingInfo::SpecificNode(only.0)),

@@ -1,6 +1,6 @@
 ghost use Rattle.std.specs.Prelude.{◌≡◌, ◌⊎◌, ◌<◌, ◌+◌, ◌^◌, length, Some, None, IfOk, IfErr, map, option_copied};
 ghost use Rattle.std.specs.List.{range_with_len};
-ghost use Rattle.resp_core.specs.Fault.{out_of_memory};
+ghost use Rattle.resp_core.specs.ErrorParts.{out_of_memory};
 ghost use Rattle.resp_core.specs.declared.error.ErrorKind.TheVariants.{Client};
 ghost use Rattle.redis_commands.specs.Command.{argument};
 ghost use Rattle.redis_routing.specs.SubCommand as made;
@@ -11,12 +11,12 @@ use resp_core::{Cmd, ErrorKind, RedisError, RedisResult};
 use std::alloc::{AllocError, Global};
 
 /// The part of a command that has these arguments: its first word as it is spelt, and then the
-/// arguments at these places, which are counted from 0 behind that word.
+/// arguments at these places, which are counted from 0 after that word.
 ///
 /// # Errors
 ///
 /// Of kind `Client` where the first word or one of the arguments is a gap or not there, and else
-/// where there is no memory.
+/// if memory runs out.
 pub fn command_for_multi_slot_indices<R: Routable>(
     alloc: Global,
     original: &R,
@@ -31,7 +31,7 @@ pub fn command_for_multi_slot_indices<R: Routable>(
     }
 }
 
-/// The part of a command that has these arguments behind a name of so many words, if none of them
+/// The part of a command that has these arguments after a name of so many words, if none of them
 /// is a gap or not there.
 pub(super) fn sub_command<R: Routable>(
     alloc: Global,
@@ -73,7 +73,7 @@ fn name_of<R: Routable>(
     Ok(Some(command))
 }
 
-/// The argument at a place behind a name of so many words. Where the sum does not fit, it is past
+/// The argument at a place after a name of so many words. Where the sum does not fit, it is past
 /// the last argument of any command.
 fn behind_name<R: Routable>(original: &R, words: usize, index: usize) -> Option<&[u8]>
     ensures { option_copied result ≡ argument (R.args original.now) (index + words) }

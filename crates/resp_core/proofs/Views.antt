@@ -1,7 +1,7 @@
 -- What a value shows, variant by variant.
 use Rattle.std.proofs.Common.{◌≡◌, ℕ, ℤ, List, [], ◌∷◌, map, Vec, String, Global, string_bytes, Bool, Decides, Some, unwrap_or, ◌↔◌, refl, sym, ap, ◌∙◌, rules}
 use Rattle.std.proofs.lemmas.Bool.Decides.{Decides-like}
-use Rattle.resp_core.specs.Reply.{Reply, nil, int, bulk, array, simple, okay, pairs, replies_of, pairs_of, items_in, items_of, pairs_in}
+use Rattle.resp_core.specs.Reply.{Reply, nil, int, bulk, array, simple, okay, pairs, replies_of, pairs_of, items_in, array_of, pairs_in}
 use Rattle.resp_core.specs.View.{view, view_pair}
 use Rattle.resp_core.specs.declared.value.Value.{Value, Nil, Int, BulkString, Array, SimpleString, Okay, Map, the_lemmas}
 
@@ -30,8 +30,8 @@ pub items_in-replies_of : (rs : List Reply) → items_in (replies_of rs) ≡ rs
 items_in-replies_of [] = refl
 items_in-replies_of (r ∷ rs) = ap (λ ts. r ∷ ts) (items_in-replies_of rs)
 
-pub items_of-Array : (items : Vec Value Global) → items_of (view (Array items)) ≡ Some (map view items.items)
-items_of-Array items = ap items_of (view-Array items) ∙ ap Some (items_in-replies_of (map view items.items))
+pub array_of-Array : (items : Vec Value Global) → array_of (view (Array items)) ≡ Some (map view items.items)
+array_of-Array items = ap array_of (view-Array items) ∙ ap Some (items_in-replies_of (map view items.items))
 
 pub pairs_in-pairs_of : (ps : List (Reply × Reply)) → pairs_in (pairs_of ps) ≡ ps
 pairs_in-pairs_of [] = refl
@@ -43,7 +43,7 @@ Array-shows a b xs ys vs ws is-a is-b is-vs is-ws =
     let at_a = ap view is-a ∙ view-Array xs ∙ sym (ap (λ us. array (replies_of (map view us))) is-vs) in
     let at_b = ap view is-b ∙ view-Array ys ∙ sym (ap (λ us. array (replies_of (map view us))) is-ws) in (
       λ e. at_a ∙ ap (λ rs. array (replies_of rs)) e ∙ sym at_b,
-      λ e. sym (items_in-replies_of (map view vs)) ∙ ap (λ t. unwrap_or (items_of t) []) (sym at_a ∙ e ∙ at_b) ∙ items_in-replies_of (map view ws),
+      λ e. sym (items_in-replies_of (map view vs)) ∙ ap (λ t. unwrap_or (array_of t) []) (sym at_a ∙ e ∙ at_b) ∙ items_in-replies_of (map view ws),
     )
 
 pub Array-same : (r : Bool) (a b : Value) (xs ys : Vec Value Global) (vs ws : List Value) → a ≡ Array xs → b ≡ Array ys → vs ≡ xs.items → ws ≡ ys.items → Decides r (map view vs ≡ map view ws) → Decides r (view a ≡ view b)

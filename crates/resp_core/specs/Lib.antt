@@ -1,6 +1,6 @@
 pub mod CmdArgs
 pub mod Copying
-pub mod Fault
+pub mod ErrorParts
 pub mod Freeing
 pub mod Reply
 pub mod SameReply

@@ -48,21 +48,21 @@ int_of okay = None
 int_of (pairs items) = None
 
 -- the bytes, if it is a bulk string
-abbrev pub bulk_of : Reply → Option (List ℕ)
-bulk_of nil = None
-bulk_of (int n) = None
-bulk_of (bulk bytes) = Some bytes
-bulk_of (array items) = None
-bulk_of (simple text) = None
-bulk_of okay = None
-bulk_of (pairs items) = None
+abbrev pub bulk_string_of : Reply → Option (List ℕ)
+bulk_string_of nil = None
+bulk_string_of (int n) = None
+bulk_string_of (bulk bytes) = Some bytes
+bulk_string_of (array items) = None
+bulk_string_of (simple text) = None
+bulk_string_of okay = None
+bulk_string_of (pairs items) = None
 
 -- the items, if it is an array
-abbrev pub items_of : Reply → Option (List Reply)
-items_of nil = None
-items_of (int n) = None
-items_of (bulk bytes) = None
-items_of (array items) = Some (items_in items)
-items_of (simple text) = None
-items_of okay = None
-items_of (pairs items) = None
+abbrev pub array_of : Reply → Option (List Reply)
+array_of nil = None
+array_of (int n) = None
+array_of (bulk bytes) = None
+array_of (array items) = Some (items_in items)
+array_of (simple text) = None
+array_of okay = None
+array_of (pairs items) = None

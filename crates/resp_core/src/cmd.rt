@@ -35,7 +35,7 @@ impl Cmd {
     ///
     /// # Errors
     ///
-    /// Where there is no memory.
+    /// If memory runs out.
     pub fn with_capacity(alloc: Global, items: usize) -> Result<Cmd, AllocError>
         ensures { IfOk result (λ cmd. cmd ≡ []) }
     {
@@ -48,7 +48,7 @@ impl Cmd {
     ///
     /// # Errors
     ///
-    /// Where there is no memory, the command stays as it was: this is `write_arg`, which says so.
+    /// If memory runs out, the command stays as it was: this is `write_arg`, which says so.
     pub fn arg(&mut self, arg: &[u8]) -> Result<&mut Cmd, AllocError>
         ensures same_reference { IfOk result (λ cmd. cmd.ghost_name ≡ self.entry.ghost_name) }
         ensures added { IfOk result (λ cmd. cmd.now ≡ self.old ++ arg.now ∷ []) }
@@ -61,7 +61,7 @@ impl Cmd {
     ///
     /// # Errors
     ///
-    /// Where there is no memory, the command stays as it was.
+    /// If memory runs out, the command stays as it was.
     pub fn write_arg(&mut self, arg: &[u8]) -> Result<(), AllocError>
         ensures added { OnOk result (self.new ≡ self.old ++ arg.now ∷ []) }
         ensures unchanged { OnErr result (self.new ≡ self.old) }

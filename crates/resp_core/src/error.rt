@@ -1,5 +1,5 @@
 ghost use Rattle.std.specs.Prelude.{◌≡◌, ◌↔◌, IsTrue, Some, None, ◌==◌, IfOk, option_copied, option_map, string_bytes};
-ghost use Rattle.resp_core.specs.Fault.{Fault, out_of_memory, same_fault};
+ghost use Rattle.resp_core.specs.ErrorParts.{ErrorParts, out_of_memory, same_error};
 ghost use Rattle.std.specs.Cmp.Rules.{comparing};
 ghost use Rattle.std.proofs.Common.{rules};
 
@@ -29,9 +29,9 @@ pub struct RedisError {
 
 impl Model for RedisError {
     ghost use Rattle.std.specs.Prelude.{option_map, string_bytes};
-    ghost use Rattle.resp_core.specs.Fault.{Fault};
+    ghost use Rattle.resp_core.specs.ErrorParts.{ErrorParts};
 
-    ghost Value = { Fault };
+    ghost Value = { ErrorParts };
 
     ghost view = { λ e. record { kind = e.kind; desc = e.desc.now; detail = option_map string_bytes e.detail } };
 }
@@ -65,12 +65,12 @@ impl RedisError {
 }
 
 impl PartialEq for RedisError {
-    ghost eq = { same_fault };
+    ghost eq = { same_error };
 
     ghost laws = { Prim.search (comparing, rules) depth 9 };
 
     fn eq(&self, other: &Self) -> bool
-        ensures value { result ≡ same_fault self.now other.now }
+        ensures value { result ≡ same_error self.now other.now }
         ensures same { IsTrue result ↔ (self.now ≡ other.now) }
     {
         self.kind == other.kind && self.desc == other.desc && self.detail == other.detail

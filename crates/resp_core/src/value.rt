@@ -3,7 +3,7 @@ ghost use Rattle.std.specs.Cmp.{on_per, on_equiv, partial_equiv_from_equiv};
 ghost use Rattle.resp_core.specs.View.{view, view_pair};
 ghost use Rattle.resp_core.specs.SameReply.{same_reply};
 ghost use Rattle.resp_core.specs.SameReplyLaws.{same_reply-equivalence};
-ghost use Rattle.resp_core.specs.Reply.{int_of, bulk_of, items_of};
+ghost use Rattle.resp_core.specs.Reply.{int_of, bulk_string_of, array_of};
 
 mod comparing;
 mod copying;
@@ -50,8 +50,8 @@ impl Value {
     }
 
     /// The bytes, if this is a bulk string.
-    pub fn as_bulk(&self) -> Option<&[u8]>
-        ensures { option_copied result ≡ bulk_of (view self.now) }
+    pub fn as_bulk_string(&self) -> Option<&[u8]>
+        ensures { option_copied result ≡ bulk_string_of (view self.now) }
     {
         if let Value::BulkString(bytes) = self {
             Some(bytes.as_slice())
@@ -61,8 +61,8 @@ impl Value {
     }
 
     /// The items, if this is an array.
-    pub fn as_items(&self) -> Option<&[Value]>
-        ensures items { option_map (λ vs. map view vs.now) result ≡ items_of (view self.now) }
+    pub fn as_array(&self) -> Option<&[Value]>
+        ensures items { option_map (λ vs. map view vs.now) result ≡ array_of (view self.now) }
         ensures few { IfSome result (λ vs. length vs.now < 2 ^ 63) }
     {
         if let Value::Array(items) = self {
@@ -73,8 +73,8 @@ impl Value {
     }
 
     /// The bytes, if this is a bulk string.
-    pub fn into_bulk(self) -> Option<Vec<u8>>
-        ensures { option_map (λ v. v.items) result ≡ bulk_of (view self) }
+    pub fn into_bulk_string(self) -> Option<Vec<u8>>
+        ensures { option_map (λ v. v.items) result ≡ bulk_string_of (view self) }
     {
         if let Value::BulkString(bytes) = self {
             Some(bytes)
@@ -84,8 +84,8 @@ impl Value {
     }
 
     /// The items, if this is an array.
-    pub fn into_items(self) -> Option<Vec<Value>>
-        ensures { option_map (λ v. map view v.items) result ≡ items_of (view self) }
+    pub fn into_array(self) -> Option<Vec<Value>>
+        ensures { option_map (λ v. map view v.items) result ≡ array_of (view self) }
     {
         if let Value::Array(items) = self {
             Some(items)

@@ -3,9 +3,7 @@
 
 #[cfg(test)]
 mod cmd;
-
 #[cfg(test)]
 mod error;
-
 #[cfg(test)]
 mod value;

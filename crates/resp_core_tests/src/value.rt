@@ -49,21 +49,21 @@ fn parts_by_variant(rt: HostRuntime) -> Result<(), Fail> {
     let alloc = rt.alloc();
     let number = Value::Int(-7);
     assert_eq!(rt; number.as_int(), Some(-7));
-    assert_eq!(rt; number.as_bulk(), None);
-    assert!(rt; number.as_items().is_none());
+    assert_eq!(rt; number.as_bulk_string(), None);
+    assert!(rt; number.as_array().is_none());
     let bytes = bulk(alloc, b"a\0b")?;
     assert_eq!(rt; bytes.as_int(), None);
-    assert_eq!(rt; bytes.as_bulk(), Some(b"a\0b".as_slice()));
+    assert_eq!(rt; bytes.as_bulk_string(), Some(b"a\0b".as_slice()));
     assert_eq!(rt;
-        bytes.into_bulk().ok_or("no bulk string")?.as_slice(),
+        bytes.into_bulk_string().ok_or("no bulk string")?.as_slice(),
         b"a\0b".as_slice()
     );
     let items = Value::Array(vec![in alloc; Value::Nil, Value::Okay]?);
-    assert_eq!(rt; items.as_items().map_or(0, |items| items.len()), 2);
-    let items = items.into_items().ok_or("no array")?;
+    assert_eq!(rt; items.as_array().map_or(0, |items| items.len()), 2);
+    let items = items.into_array().ok_or("no array")?;
     assert!(rt; items.as_slice() == [Value::Nil, Value::Okay].as_slice());
-    assert!(rt; Value::Okay.into_bulk().is_none());
-    assert!(rt; simple(alloc, "OK")?.into_items().is_none());
+    assert!(rt; Value::Okay.into_bulk_string().is_none());
+    assert!(rt; simple(alloc, "OK")?.into_array().is_none());
     Ok(())
 }
 

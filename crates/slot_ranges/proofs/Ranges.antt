@@ -4,7 +4,7 @@ use Rattle.std.proofs.Common.{Bor}
 use Rattle.std.specs.Prelude.{Option, Some, None, MatchOption}
 use Rattle.std.specs.List.{Contains, filter}
 use Rattle.std.proofs.lemmas.Bool.{cases_lt, cases_order, le-leb, lt-leb, lt-ltb, le-ltb, cond-true, cond-false}
-use Rattle.slot_ranges.specs.RangeMap.{Entry, end_of, value_of, EndsAfter, Ascends, Answers, IsUncovered, insert_entry, Holds, AreDisjoint, IsHeldByNone, IsHeldWith}
+use Rattle.slot_ranges.specs.RangeMap.{Entry, end_of, value_of, EndsAfter, Ascends, IsAnswerAt, IsUncovered, insert_entry, Holds, AreDisjoint, IsHeldByNone, IsHeldWith}
 
 -- an element at a place of a longer list is its head, or an element of its tail
 cons_cases_at : {X : Type 0} (y : X) (ys : List X) (x : X) (k : ℕ) → k < length (y ∷ ys) → get_or (y ∷ ys) k x ≡ x → (y ≡ x) ⊎ Contains ys x
@@ -72,12 +72,12 @@ EndsFirstFrom-unique es slot e f ascends first_e first_f =
     same_from_ends es e f ascends first_e.0 first_f.0 (omega arith)
 
 -- an answer is the value of the entry that ends first
-pub EndsFirstFrom-answer : {V : Type 0} (es : List (Entry V)) (slot : ℕ) (value : V) (a : Answers es slot value) → EndsFirstFrom es slot (a.start, a.end, value)
+pub EndsFirstFrom-answer : {V : Type 0} (es : List (Entry V)) (slot : ℕ) (value : V) (a : IsAnswerAt es slot value) → EndsFirstFrom es slot (a.start, a.end, value)
 EndsFirstFrom-answer es slot value a = (a.there, a.before_end, a.least)
 
 -- the entry that ends first answers for the slot, if it starts there or before
-pub Answers-first : {V : Type 0} (es : List (Entry V)) (slot : ℕ) (e : Entry V) → EndsFirstFrom es slot e → e.0 ≤ slot → Answers es slot (value_of e)
-Answers-first es slot e first starts = record { start = e.0; end = e.1; there = first.0; after_start = starts; before_end = first.1; least = first.2 }
+pub IsAnswerAt-first : {V : Type 0} (es : List (Entry V)) (slot : ℕ) (e : Entry V) → EndsFirstFrom es slot e → e.0 ≤ slot → IsAnswerAt es slot (value_of e)
+IsAnswerAt-first es slot e first starts = record { start = e.0; end = e.1; there = first.0; after_start = starts; before_end = first.1; least = first.2 }
 
 -- no entry answers for the slot, if the one that ends first starts after it
 pub IsUncovered-first : {V : Type 0} (es : List (Entry V)) (slot : ℕ) (e : Entry V) → Ascends es → EndsFirstFrom es slot e → slot < e.0 → IsUncovered es slot
@@ -88,8 +88,8 @@ IsUncovered-first es slot e ascends first starts value a =
     omega arith
 
 -- one value at most answers for a slot
-pub Answers-unique : {V : Type 0} (es : List (Entry V)) (slot : ℕ) (v w : V) → Ascends es → Answers es slot v → Answers es slot w → v ≡ w
-Answers-unique es slot v w ascends a b =
+pub IsAnswerAt-unique : {V : Type 0} (es : List (Entry V)) (slot : ℕ) (v w : V) → Ascends es → IsAnswerAt es slot v → IsAnswerAt es slot w → v ≡ w
+IsAnswerAt-unique es slot v w ascends a b =
     ap value_of (EndsFirstFrom-unique es slot (a.start, a.end, v) (b.start, b.end, w) ascends (EndsFirstFrom-answer es slot v a) (EndsFirstFrom-answer es slot w b))
 
 -- the entries that end at a slot or after it
@@ -214,7 +214,7 @@ Ascends-insert_entry (r ∷ rs) start end value ascends = elim (cases_order end 
 ]
 
 -- an answer is the value of an entry that holds the slot
-pub IsHeldWith-answer : {V : Type 0} (es : List (Entry V)) (slot : ℕ) (value : V) → Answers es slot value → IsHeldWith es slot value
+pub IsHeldWith-answer : {V : Type 0} (es : List (Entry V)) (slot : ℕ) (value : V) → IsAnswerAt es slot value → IsHeldWith es slot value
 IsHeldWith-answer es slot value a = ((a.start, a.end, value), a.there, (a.after_start, a.before_end), refl)
 
 -- where disjoint entries leave a slot uncovered, none holds it: the one that ends first would start after the slot, and an entry that holds the slot would hold that start too
@@ -227,7 +227,7 @@ IsHeldByNone-first es slot f e disjoint uncovered first there holds = elim (case
       let same : e ≡ f = disjoint.apart e f f.0 there first.0 (omega arith, omega arith) (omega arith, straight) in
       let start : e.0 ≡ f.0 = ap (λ z. z.0) same in
       absurd (omega arith)
-  | inr starts ↦ uncovered (value_of f) (Answers-first es slot f first starts)
+  | inr starts ↦ uncovered (value_of f) (IsAnswerAt-first es slot f first starts)
 ]
 
 pub IsHeldByNone-uncovered : {V : Type 0} (es : List (Entry V)) (slot : ℕ) → Ascends es → AreDisjoint es → IsUncovered es slot → IsHeldByNone es slot
@@ -239,7 +239,7 @@ IsHeldByNone-uncovered {V} es slot ascends disjoint uncovered e there holds =
     ]) refl
 
 -- the law on disjoint entries, at what a look-up gives
-pub disjoint_law : {V : Type 0} (es : List (Entry V)) (slot : ℕ) (found : Option (Bor V)) → Ascends es → MatchOption found (IsUncovered es slot) (λ x. Answers es slot x.now) → AreDisjoint es
+pub disjoint_law : {V : Type 0} (es : List (Entry V)) (slot : ℕ) (found : Option (Bor V)) → Ascends es → MatchOption found (IsUncovered es slot) (λ x. IsAnswerAt es slot x.now) → AreDisjoint es
     → MatchOption found (IsHeldByNone es slot) (λ x. IsHeldWith es slot x.now)
 disjoint_law es slot None ascends uncovered disjoint = IsHeldByNone-uncovered es slot ascends disjoint uncovered
 disjoint_law es slot (Some x) ascends answers disjoint = IsHeldWith-answer es slot x.now answers

@@ -1,8 +1,8 @@
 pub use Rattle.cluster_slots.specs.Address
-pub use Rattle.resp_core.specs.Fault
+pub use Rattle.resp_core.specs.ErrorParts
 pub use Rattle.resp_core.specs.Reply
 pub use Rattle.resp_core.specs.View
-pub mod Nodes
+pub mod SlotNodes
 pub mod RangeMap
 pub mod RangeTree
 pub mod SlotsReply

@@ -26,7 +26,7 @@ insert_entry es start end value =
     filter (λ e. nat_lt (end_of e) end) es ++ (start, end, value) ∷ filter (λ e. nat_lt end (end_of e)) es
 
 -- the entry holds the slot, and none ends between the slot and the end of this one
-pub record Answers {V : Type 0} (es : List (Entry V)) (slot : ℕ) (value : V) : Type 0 where
+pub record IsAnswerAt {V : Type 0} (es : List (Entry V)) (slot : ℕ) (value : V) : Type 0 where
   pub start : ℕ
   pub end : ℕ
   pub there : Contains es (start, end, value)
@@ -36,7 +36,7 @@ pub record Answers {V : Type 0} (es : List (Entry V)) (slot : ℕ) (value : V) :
 
 -- no entry answers for the slot
 abbrev pub IsUncovered : {V : Type 0} → List (Entry V) → ℕ → Type 0
-IsUncovered {V} es slot = (value : V) → ¬ (Answers es slot value)
+IsUncovered {V} es slot = (value : V) → ¬ (IsAnswerAt es slot value)
 
 -- the slot stands between the ends of the entry, or is one of them
 abbrev pub Holds : {V : Type 0} → Entry V → ℕ → Type 0

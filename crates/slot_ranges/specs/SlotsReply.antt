@@ -4,9 +4,9 @@
 use Rattle.std.specs.Prelude.{ℕ, ℤ, pos, negsuc, nat_lt, Bool, ◌||◌, if◌then◌else◌, List, [], ◌∷◌, filter_map, Option, Some, None, option_and_then, unwrap_or, bytes_eq, codes, encode_utf8_all}
 use Rattle.std.specs.Option.{option_map_or}
 use Rattle.bstr.specs.Utf8.{lossy_chars}
-use Rattle.resp_core.specs.Reply.{Reply, nil, bulk, int_of, items_of}
+use Rattle.resp_core.specs.Reply.{Reply, nil, bulk, int_of, array_of}
 use Rattle.cluster_slots.specs.Address.{Address}
-use Rattle.slot_ranges.specs.Nodes.{RangeNodes}
+use Rattle.slot_ranges.specs.SlotNodes.{RangeNodes}
 
 -- a number of 0 to 65535
 abbrev pub within_u16 : ℤ → Option ℕ
@@ -52,7 +52,7 @@ address_in answering elements = None
 
 -- the address of a node that can be used
 abbrev pub node_in : List ℕ → Reply → Option Address
-node_in answering reply = option_and_then (address_in answering) (items_of reply)
+node_in answering reply = option_and_then (address_in answering) (array_of reply)
 
 -- the range, if it has both ends and a node: the first is the primary
 abbrev pub range_from : Option ℕ → Option ℕ → List Address → Option RangeNodes
@@ -67,8 +67,8 @@ range_in answering elements = None
 -- the elements of each item before the first that is not an array
 abbrev pub leading_arrays : List Reply → List (List Reply)
 leading_arrays [] = []
-leading_arrays (item ∷ items) = option_map_or (λ elements. elements ∷ leading_arrays items) (items_of item) []
+leading_arrays (item ∷ items) = option_map_or (λ elements. elements ∷ leading_arrays items) (array_of item) []
 
 -- the ranges of a reply, in order
 abbrev pub ranges_in : List ℕ → Reply → List RangeNodes
-ranges_in answering reply = filter_map (range_in answering) (leading_arrays (unwrap_or (items_of reply) []))
+ranges_in answering reply = filter_map (range_in answering) (leading_arrays (unwrap_or (array_of reply) []))

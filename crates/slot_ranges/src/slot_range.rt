@@ -1,7 +1,7 @@
 ghost use Rattle.std.specs.Prelude.{◌≡◌, IsTrue, ◌↔◌};
 ghost use Rattle.std.specs.Cmp.Rules.{comparing};
 ghost use Rattle.std.proofs.Common.{rules};
-ghost use Rattle.slot_ranges.specs.Nodes.{RangeNodes, same_range};
+ghost use Rattle.slot_ranges.specs.SlotNodes.{RangeNodes, same_range};
 
 use cluster_slots::NodeAddress;
 use std::alloc::AllocError;
@@ -17,7 +17,7 @@ pub struct SlotRange {
 }
 
 impl Model for SlotRange {
-    ghost use Rattle.slot_ranges.specs.Nodes.{RangeNodes};
+    ghost use Rattle.slot_ranges.specs.SlotNodes.{RangeNodes};
 
     ghost Value = { RangeNodes };
 

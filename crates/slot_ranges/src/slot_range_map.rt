@@ -1,6 +1,6 @@
 ghost use Rattle.std.specs.Prelude.{◌≡◌, [], map, IfOk, OnOk, OnErr, MatchOption};
 ghost use Rattle.std.specs.Iterator.{YieldsFirstBy, YieldsFirstRef, item_count};
-ghost use Rattle.slot_ranges.specs.RangeMap.{Entry, value_of, Ascends, Answers, IsUncovered, AreDisjoint, IsHeldByNone, IsHeldWith, insert_entry};
+ghost use Rattle.slot_ranges.specs.RangeMap.{Entry, value_of, Ascends, IsAnswerAt, IsUncovered, AreDisjoint, IsHeldByNone, IsHeldWith, insert_entry};
 
 use std::alloc::{AllocError, Global};
 use std::collections::{BTreeMap, btree_map};
@@ -47,7 +47,7 @@ impl<V> SlotRangeMap<V> {
     ///
     /// # Errors
     ///
-    /// Where there is no memory, the map stays as it was.
+    /// If memory runs out, the map stays as it was.
     pub fn insert(&mut self, start: u16, end: u16, value: V) -> Result<(), AllocError>
     where
         V: Drop,
@@ -60,7 +60,7 @@ impl<V> SlotRangeMap<V> {
 
     /// The value that answers for the slot. O(log n).
     pub fn get(&self, slot: u16) -> Option<&V>
-        ensures least { MatchOption result (IsUncovered self.now slot) (λ value. Answers self.now slot value.now) }
+        ensures least { MatchOption result (IsUncovered self.now slot) (λ value. IsAnswerAt self.now slot value.now) }
         // Where no two ranges meet and none is reversed, it is the value of the one that contains the
         // slot.
         ensures disjoint { AreDisjoint self.now → MatchOption result (IsHeldByNone self.now slot) (λ value. IsHeldWith self.now slot value.now) }

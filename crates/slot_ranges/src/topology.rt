@@ -1,7 +1,7 @@
 //! What a node answers to `CLUSTER SLOTS`: which nodes serve which slots.
 ghost use Rattle.std.specs.Prelude.{◌≡◌, ◌∷◌, [], IfOk, IfErr, Some, codes, filter_map, map, option_copied, option_map};
 ghost use Rattle.std.specs.Cow.{cow_str_bytes};
-ghost use Rattle.resp_core.specs.Fault.{out_of_memory};
+ghost use Rattle.resp_core.specs.ErrorParts.{out_of_memory};
 ghost use Rattle.resp_core.specs.View.{view};
 ghost use Rattle.slot_ranges.specs.SlotsReply.{u16_of, host_text, host_for, node_in, range_from, range_in, leading_arrays, ranges_in};
 
@@ -16,7 +16,7 @@ use std::borrow::CowStr;
 ///
 /// # Errors
 ///
-/// Kind `OutOfMemory` where there is no memory.
+/// Kind `OutOfMemory` if memory runs out.
 pub fn slot_cmd(alloc: Global) -> RedisResult<Cmd>
     ensures words { IfOk result (λ cmd. cmd ≡ codes "CLUSTER" ∷ codes "SLOTS" ∷ []) }
     ensures memory { IfErr result (λ e. e ≡ out_of_memory) }
@@ -35,12 +35,12 @@ pub fn slot_cmd(alloc: Global) -> RedisResult<Cmd>
 ///
 /// # Errors
 ///
-/// Kind `OutOfMemory` where there is no memory.
+/// Kind `OutOfMemory` if memory runs out.
 pub fn parse_slots(alloc: Global, reply: &Value, answering: &str) -> RedisResult<Vec<SlotRange>>
     ensures read { IfOk result (λ ranges. ranges.items ≡ ranges_in answering.now (view reply.now)) }
     ensures memory { IfErr result (λ e. e ≡ out_of_memory) }
 {
-    let ranges = match reply.as_items() {
+    let ranges = match reply.as_array() {
         Some(items) => read_ranges(alloc, items, answering)?,
         None => Vec::new(alloc),
     };
@@ -56,7 +56,7 @@ fn read_ranges(
 {
     let mut ranges = Vec::new(alloc);
     for item in items {
-        let Some(elements) = item.as_items() else {
+        let Some(elements) = item.as_array() else {
             return Ok(ranges);
         };
         if let Some(range) = read_range(alloc, elements, answering)? {
@@ -118,7 +118,7 @@ fn read_node(
 ) -> Result<Option<NodeAddress>, AllocError>
     ensures { IfOk result (λ address. address ≡ node_in answering.now (view node.now)) }
 {
-    let Some([host, port, ..]) = node.as_items() else {
+    let Some([host, port, ..]) = node.as_array() else {
         return Ok(None);
     };
     let Some(port) = read_u16(port) else {

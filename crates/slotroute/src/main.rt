@@ -27,7 +27,7 @@ fn main(rt: HostRuntime) -> ExitCode {
     let status = match run(&rt, rt.alloc()) {
         Ok(status) => status,
         Err(error) => {
-            // The words are no text, or there is no memory.
+            // The words are not text, or there is no memory.
             let line = match error.kind() {
                 io::ErrorKind::InvalidData => USAGE,
                 _ => "slotroute: no memory\n",

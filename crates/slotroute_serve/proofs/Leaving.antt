@@ -20,7 +20,7 @@ not_ten x h = grind (arith, nat_tests)
 other : (x : ℕ) (xs : List ℕ) → x ≢ 10 → drop_through 10 (x ∷ xs) ≡ drop_through 10 xs
 other x xs h = ap (λ v. cond v xs (drop_through 10 xs)) (not_ten x h)
 
--- of two bytes or more the first is no line feed, and the others stop at one too
+-- of two bytes or more the first is not a line feed, and the others stop at one too
 all_but_last : (b c : ℕ) (bs : List ℕ) → length (b ∷ c ∷ bs) - 1 ≡ suc (length (c ∷ bs) - 1)
 all_but_last b c bs = omega arith
 

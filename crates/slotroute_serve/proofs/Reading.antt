@@ -8,7 +8,7 @@ use native.Mathlib.Numerals.{unary_clauses}
 use Rattle.std.proofs.lemmas.List.{append-nil, length_push, take_more, take_rest, map-append}
 use Rattle.std.proofs.lemmas.Slice.Zip.{AllZip-long}
 use Rattle.cluster_map.specs.Address.{Address}
-use Rattle.cluster_map.specs.Nodes.{RangeNodes}
+use Rattle.cluster_map.specs.SlotNodes.{RangeNodes}
 use Rattle.slotroute_serve.specs.Lines.{onto_first_line, raw_lines, lines_of, line_of, fields_of, until_blank, leading, after_lines, after_map, StopsInLine, StopsInMap}
 use Rattle.slotroute_serve.specs.MapLines.{IsNodeField, IsMapLine, IsMap, IsFirstBad}
 use Rattle.slotroute_serve.specs.Faults.{IsLeftAt}
@@ -177,7 +177,7 @@ left_after_line None left new ranges s d = tt
 left_after_line (Some input) None new ranges s d = absurd s
 left_after_line (Some input) (Some xs) new ranges s d = rw d (left_in_line (Some input) (Some xs) (Some (drop_through 10 xs)) ranges s (line_read xs))
 
--- want of memory after a line was read
+-- out of memory after a line was read
 pub no_memory_after_line : {T : Type 0} (r : Result T Fault) (old left new : Option (List ℕ)) (ranges : List RangeNodes) → IsErrAnd r (λ e. e ≡ Memory) → StillReads old left ranges → DropsThrough left new 10
     → Leaves old new (λ input rest. MatchResult r (λ _. rest ≡ after_map input) (IsLeftAt input rest))
 no_memory_after_line (Ok x) old left new ranges is s d = absurd is
@@ -217,7 +217,7 @@ pub paired_more : {B : Type 0} (R : List ℕ → B → Type 0) (xs : List (Bor (
 paired_more R xs ys i d y l h r =
     rw (take_more xs i d l, map-append) (AllZip-more R (map (λ x. x.now) (take i xs)) ys (get_or xs i d).now y h r)
 
--- Fields that are no map line, because of the primary or of the replicas.
+-- Fields that are not a map line, because of the primary or of the replicas.
 pub no_primary : (fields : List (Bor (List ℕ))) (d : Bor (List ℕ)) (range : RangeNodes) → ((a : Address) → ¬ (IsNodeField (get_or fields 2 d).now a)) → ¬ (IsMapLine (map (λ x. x.now) fields) range)
 no_primary [] d range lacks h = h
 no_primary (a ∷ []) d range lacks h = h

@@ -3,12 +3,12 @@ use Rattle.std.proofs.Common.{◌≡◌, ◌≢◌, ℕ, map, string_bytes, Bor,
 use Rattle.std.specs.Prelude.{Option, Some, None, Result, Ok, Err, OnOk, OnErr, IfErr, IfSome, MatchResult, codes, ⊤}
 use Rattle.std.specs.Result.{IsErrAnd}
 use Rattle.std.specs.Io.KnownBytes.{Appends}
-use Rattle.cluster_map.specs.Address.{Address, printed}
+use Rattle.cluster_map.specs.Address.{Address, display_text}
 use Rattle.cluster_map.specs.KeySlot.{IsKeySlot}
-use Rattle.cluster_map.specs.Nodes.{Nodes, RangeNodes, filled}
+use Rattle.cluster_map.specs.SlotNodes.{SlotNodes, RangeNodes, insert_ranges}
 use Rattle.cluster_map.specs.RangeMap.{Entry, IsUncovered}
-use Rattle.cluster_map.specs.RouteNode.{IsAsked, IsNodeOfRoute}
-use Rattle.cluster_map.specs.RouteTo.{RouteTo}
+use Rattle.cluster_map.specs.RouteNode.{IsNodeFor, IsNodeOfRoute}
+use Rattle.cluster_map.specs.SlotRoute.{SlotRoute}
 use Rattle.cluster_slots.specs.declared.slot.SlotAddr.{SlotAddr}
 use Rattle.cluster_slots.specs.declared.slot.SlotAddr.TheVariants.{Master}
 use Rattle.slotroute_serve.specs.Lines.{leading, after_map}
@@ -30,20 +30,20 @@ pub slot_line_is : (slot : ℕ) (text : List ℕ) → codes "slot " ++ (decimal 
 slot_line_is slot text = simp append_assoc
 
 -- The answer for a key.
-pub found_node : (entries : List (Entry Nodes)) (key line : List ℕ) (route : RouteTo) (slot : ℕ) (address : Address) → IsKeySlot key route.slot → route.addr ≡ Master → slot ≡ route.slot → IsNodeOfRoute entries route 0 address
-    → line ≡ slot_line slot (printed address) → IsNodeAnswer entries key line 0
+pub found_node : (entries : List (Entry SlotNodes)) (key line : List ℕ) (route : SlotRoute) (slot : ℕ) (address : Address) → IsKeySlot key route.slot → route.addr ≡ Master → slot ≡ route.slot → IsNodeOfRoute entries route 0 address
+    → line ≡ slot_line slot (display_text address) → IsNodeAnswer entries key line 0
 found_node entries key line route slot address s a e (nodes, answers, asked) text =
-    let P : SlotAddr → Type 0 = λ x. IsAsked nodes x 0 address in
+    let P : SlotAddr → Type 0 = λ x. IsNodeFor nodes x 0 address in
     rw (text, e) (served route.slot 0 address s (nodes, answers, subst P a asked))
 
-pub found_none : (entries : List (Entry Nodes)) (key line : List ℕ) (route : RouteTo) (slot : ℕ) → IsKeySlot key route.slot → slot ≡ route.slot → IsUncovered entries route.slot → line ≡ slot_line slot (codes "none") → IsNodeAnswer entries key line 1
+pub found_none : (entries : List (Entry SlotNodes)) (key line : List ℕ) (route : SlotRoute) (slot : ℕ) → IsKeySlot key route.slot → slot ≡ route.slot → IsUncovered entries route.slot → line ≡ slot_line slot (codes "none") → IsNodeAnswer entries key line 1
 found_none entries key line route slot s e uncovered text = rw (text, e) (unserved route.slot s uncovered)
 
 -- The answer of a request.
-pub answers_node : (entries : List (Entry Nodes)) (asked : Request) (key : Bor (List ℕ)) (text line : List ℕ) (status : ℕ) → asked ≡ Node key → text ≡ line → IsNodeAnswer entries key.now line status → (words : List (List ℕ)) → Asks words asked → IsAnswer entries words text status
+pub answers_node : (entries : List (Entry SlotNodes)) (asked : Request) (key : Bor (List ℕ)) (text line : List ℕ) (status : ℕ) → asked ≡ Node key → text ≡ line → IsNodeAnswer entries key.now line status → (words : List (List ℕ)) → Asks words asked → IsAnswer entries words text status
 answers_node entries asked key text line status is t h words a = let b : Asks words (Node key) = subst (Asks words) is a in rw (b, t) (node_answer key.now line status h)
 
-pub answers_split : (entries : List (Entry Nodes)) (asked : Request) (command : Bor (List (String Global))) (r : Result (Vec ℕ Global × ℕ) Fault) → asked ≡ Split command
+pub answers_split : (entries : List (Entry SlotNodes)) (asked : Request) (command : Bor (List (String Global))) (r : Result (Vec ℕ Global × ℕ) Fault) → asked ≡ Split command
     → MatchResult r (λ a. IsSplitAnswer entries (map string_bytes command.now) a.0.items a.1) (IsNoSplit (map string_bytes command.now)) → MatchResult r (λ a. (words : List (List ℕ)) → Asks words asked → IsAnswer entries words a.0.items a.1) (IsNoAnswer asked)
 answers_split entries asked command (Ok x) is h = λ words a. let b : Asks words (Split command) = subst (Asks words) is a in rw b.0 (split_answer (map string_bytes command.now) x.0.items x.1 h)
 answers_split entries asked command (Err e) is h = rw is h
@@ -142,21 +142,21 @@ caused_by_answer reads writes asked e (Ok x) h is = absurd is
 caused_by_answer reads writes asked e (Err x) h is = rw is (cause_of_answer reads writes asked e h)
 
 pub answered : (words : List (List ℕ)) (input left out new : Option (List ℕ)) (ranges : List RangeNodes) (text : List ℕ) (status : ℕ) → IfSome input (λ bytes. IsMap (leading bytes) ranges) → Leaves input left (λ bytes rest. rest ≡ after_map bytes)
-    → IsAnswer (filled [] ranges) words text status → Appends out new text → Answers words input left out new status
+    → IsAnswer (insert_ranges [] ranges) words text status → Appends out new text → Answers words input left out new status
 answered words None left out new ranges text status m l a t = (text, t, tt)
 answered words (Some bytes) None out new ranges text status m l a t = absurd l
 answered words (Some bytes) (Some rest) out new ranges text status m l a t = (text, t, rw l (answer words bytes text status ranges m a))
 
 -- a beginning of the answer was written
 begun : (words : List (List ℕ)) (input left out new : Option (List ℕ)) (ranges : List RangeNodes) (text : List ℕ) (status k : ℕ) → IfSome input (λ bytes. IsMap (leading bytes) ranges) → Leaves input left (λ bytes rest. rest ≡ after_map bytes)
-    → IsAnswer (filled [] ranges) words text status → Appends out new (take k text) → Explains words input left out new fault.Output
+    → IsAnswer (insert_ranges [] ranges) words text status → Appends out new (take k text) → Explains words input left out new fault.Output
 begun words None left out new ranges text status k m l a t = (take k text, t, tt)
 begun words (Some bytes) None out new ranges text status k m l a t = absurd l
 begun words (Some bytes) (Some rest) out new ranges text status k m l a t =
     (take k text, t, rw l record { whole = text; status = status; called_for = answer words bytes text status ranges m a; count = k; begins = refl })
 
 pub not_written : (words : List (List ℕ)) (input left out new : Option (List ℕ)) (ranges : List RangeNodes) (text : List ℕ) (status k : ℕ) (e : Fault) (r : Result ℕ Fault) → IfSome input (λ bytes. IsMap (leading bytes) ranges)
-    → Leaves input left (λ bytes rest. rest ≡ after_map bytes) → IsAnswer (filled [] ranges) words text status → Appends out new (take k text) → e ≡ fault.Output → IsErrAnd r (λ x. x ≡ e) → MatchResult r (Answers words input left out new) (Explains words input left out new)
+    → Leaves input left (λ bytes rest. rest ≡ after_map bytes) → IsAnswer (insert_ranges [] ranges) words text status → Appends out new (take k text) → e ≡ fault.Output → IsErrAnd r (λ x. x ≡ e) → MatchResult r (Answers words input left out new) (Explains words input left out new)
 not_written words input left out new ranges text status k e (Ok x) m l a t f is = absurd is
 not_written words input left out new ranges text status k e (Err x) m l a t f is = rw (is, f) (begun words input left out new ranges text status k m l a t)
 
@@ -174,7 +174,7 @@ told failed old new text line (Err x) t whole (k, part) f = (take k line, rw t a
 pub reported_line : (failed : Type 0) (old new : Option (List ℕ)) (e : Fault) (text : List ℕ) (r : Result (Unit {0}) Fault) → text ≡ fault_line e → OnOk r (Appends old new text) → OnErr r ((k : ℕ) × Appends old new (take k text)) → OnErr r failed → Reports failed old new e
 reported_line failed old new e text r t whole part f = let (errs, grown, is) = told failed old new text (fault_line e) r t whole part f in (errs, grown, inl is)
 
--- want of memory was reported in the place of a bad map line
+-- out of memory was reported in the place of a bad map line
 pub reported_memory : (failed : Type 0) (old new : Option (List ℕ)) (e : Fault) (text : List ℕ) (r : Result (Unit {0}) Fault) → IsBadMapLine e → text ≡ fault_line fault.Memory → OnOk r (Appends old new text) → OnErr r ((k : ℕ) × Appends old new (take k text)) → OnErr r failed
     → Reports failed old new e
 reported_memory failed old new e text r b t whole part f = let (errs, grown, is) = told failed old new text (fault_line fault.Memory) r t whole part f in (errs, grown, inr (b, is))

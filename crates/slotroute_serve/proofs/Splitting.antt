@@ -7,16 +7,16 @@ use Rattle.std.proofs.Math.Path.{fun_ext}
 use Rattle.std.specs.Prelude.{Option, Some, None, MatchOption, slice_get}
 use Rattle.std.specs.List.{flat_map, list_any}
 use Rattle.cluster_map.specs.Address.{Address}
-use Rattle.cluster_map.specs.Nodes.{Nodes}
+use Rattle.cluster_map.specs.SlotNodes.{SlotNodes}
 use Rattle.cluster_map.specs.RangeMap.{Entry}
-use Rattle.cluster_map.specs.RouteTo.{RouteTo}
+use Rattle.cluster_map.specs.SlotRoute.{SlotRoute}
 use Rattle.redis_cluster.specs.Command.{Arguments, command_of}
-use Rattle.redis_cluster.specs.Complete.{multi_slot_routes, part_in, part_by_pattern, pattern_by_name}
-use Rattle.redis_cluster.specs.Parts.{part_after}
+use Rattle.redis_cluster.specs.Complete.{multi_slot_routes, part_by_name, part_by_pattern, pattern_by_name}
+use Rattle.redis_cluster.specs.Parts.{part_of_slot_after}
 use Rattle.redis_cluster.specs.ReadOnly.{is_among}
-use Rattle.redis_cluster.specs.Split.{Split, part_at, part_for}
-use Rattle.redis_cluster.specs.Target.{parts_of}
-use Rattle.redis_commands.specs.declared.ways.MultiSlotArgPattern.{MultiSlotArgPattern}
+use Rattle.redis_cluster.specs.Split.{Split, route_part, split_part}
+use Rattle.redis_cluster.specs.Target.{route_lists}
+use Rattle.redis_commands.specs.declared.route_by.MultiSlotArgPattern.{MultiSlotArgPattern}
 use Rattle.slotroute_serve.specs.Split.{Part, IsPart, AreLines, IsSplitAnswer, only_reads, part_line}
 use Rattle.slotroute_serve.proofs.Reading.{AllZip-more}
 
@@ -32,20 +32,20 @@ none_is (Some address) true here e h = cc
 none_is (Some address) false here e h = h
 
 -- a route with the places of its part
-abbrev shown : RouteTo × Vec ℕ Global → RouteTo × List ℕ
+abbrev shown : SlotRoute × Vec ℕ Global → SlotRoute × List ℕ
 shown route = (route.0, route.1.items)
 
 -- The part of the route of a number is that of the route's slot.
-pub part_words : (split : Split) (routes : List (RouteTo × Vec ℕ Global)) (i : ℕ) (route : RouteTo × Vec ℕ Global) (words : List (List ℕ)) → parts_of routes ≡ split.routes → i < length routes → route ≡ get_or routes i route
-    → Some (map Some words) ≡ part_at split i → map Some words ≡ part_for split route.0.slot
-part_words split routes i route words shown-are inside is part =
+pub words_in_slot : (split : Split) (routes : List (SlotRoute × Vec ℕ Global)) (i : ℕ) (route : SlotRoute × Vec ℕ Global) (words : List (List ℕ)) → route_lists routes ≡ split.routes → i < length routes → route ≡ get_or routes i route
+    → Some (map Some words) ≡ route_part split i → map Some words ≡ split_part split route.0.slot
+words_in_slot split routes i route words shown-are inside is part =
     let there : slice_get split.routes i ≡ Some (shown route) =
     ap (λ rs. slice_get rs i) (sym shown-are) ∙ slice_get-map shown routes i ∙ ap (option_map shown) (slice_get-get_or routes i route inside ∙ ap Some (sym is)) in
-    let whole : Some (map Some words) ≡ Some (part_for split route.0.slot) = part ∙ ap (option_map (λ r. part_for split r.0.slot)) there in
+    let whole : Some (map Some words) ≡ Some (split_part split route.0.slot) = part ∙ ap (option_map (λ r. split_part split r.0.slot)) there in
     cc whole
 
 -- The parts of slots by the pattern of the name are those of the command.
-pub same_parts : (args : Arguments) (pattern : MultiSlotArgPattern) → Some pattern ≡ pattern_by_name (command_of args) → part_after 1 pattern args ≡ part_in args
+pub same_parts : (args : Arguments) (pattern : MultiSlotArgPattern) → Some pattern ≡ pattern_by_name (command_of args) → part_of_slot_after 1 pattern args ≡ part_by_name args
 same_parts args pattern named = fun_ext (λ slot. ap (λ p. part_by_pattern 1 p args slot) named)
 
 -- One more part without a node, or with one, in the status.
@@ -56,25 +56,25 @@ status_more false true status e = e
 status_more false false status e = e
 
 -- One more line.
-pub one_more : (entries : List (Entry Nodes)) (parts_by_slot : ℕ → Arguments) (routes : List (RouteTo × Vec ℕ Global)) (i : ℕ) (route : RouteTo × Vec ℕ Global) (lines line : List ℕ) (old status : ℕ) (part : Part) → i < length routes
-    → AreLines entries parts_by_slot (parts_of (take i routes)) lines old → route ≡ get_or routes i route → IsPart entries parts_by_slot route.0 part → line ≡ part_line part → status ≡ cond (is_none part.node) 1 old
-    → AreLines entries parts_by_slot (parts_of (take (i + 1) routes)) (lines ++ line) status
+pub one_more : (entries : List (Entry SlotNodes)) (parts_by_slot : ℕ → Arguments) (routes : List (SlotRoute × Vec ℕ Global)) (i : ℕ) (route : SlotRoute × Vec ℕ Global) (lines line : List ℕ) (old status : ℕ) (part : Part) → i < length routes
+    → AreLines entries parts_by_slot (route_lists (take i routes)) lines old → route ≡ get_or routes i route → IsPart entries parts_by_slot route.0 part → line ≡ part_line part → status ≡ cond (is_none part.node) 1 old
+    → AreLines entries parts_by_slot (route_lists (take (i + 1) routes)) (lines ++ line) status
 one_more entries parts_by_slot routes i route lines line old status part l a is p e s =
-    let here : IsPart entries parts_by_slot (get_or routes i route).0 part = subst (λ (r : RouteTo × Vec ℕ Global). IsPart entries parts_by_slot r.0 part) is p in
+    let here : IsPart entries parts_by_slot (get_or routes i route).0 part = subst (λ (r : SlotRoute × Vec ℕ Global). IsPart entries parts_by_slot r.0 part) is p in
     record {
       parts = a.parts ++ part ∷ [];
-      each = rw (take_more routes i route l, map-append) (AllZip-more (λ r. IsPart entries parts_by_slot r.0) (parts_of (take i routes)) a.parts ((get_or routes i route).0, (get_or routes i route).1.items) part a.each here);
+      each = rw (take_more routes i route l, map-append) (AllZip-more (λ r. IsPart entries parts_by_slot r.0) (route_lists (take i routes)) a.parts ((get_or routes i route).0, (get_or routes i route).1.items) part a.each here);
       lines = ap (λ t. t ++ line) a.lines ∙ ap (λ t. flat_map part_line a.parts ++ t) e ∙ flat_map_more part_line [] a.parts part;
       ended = rw (list_any-append (λ (q : Part). is_none q.node) a.parts (part ∷ [])) (status_more (list_any (λ (q : Part). is_none q.node) a.parts) (is_none part.node) status (s ∙ ap (cond (is_none part.node) 1) a.ended));
     }
 
 -- The lines of a split of the words answer for them.
-pub answers : (entries : List (Entry Nodes)) (words command : List (List ℕ)) (names : List (List ℕ)) (split : Split) (text : List ℕ) (status : ℕ) → command ≡ words → ((name : List ℕ) → is_among names name ≡ only_reads name)
+pub answers : (entries : List (Entry SlotNodes)) (words command : List (List ℕ)) (names : List (List ℕ)) (split : Split) (text : List ℕ) (status : ℕ) → command ≡ words → ((name : List ℕ) → is_among names name ≡ only_reads name)
     → Some split.routes ≡ multi_slot_routes (is_among names) (map Some command) → split.arguments ≡ map Some command → split.words ≡ 1 → Some split.pattern ≡ pattern_by_name (command_of (map Some command))
-    → AreLines entries (part_for split) split.routes text status → IsSplitAnswer entries words text status
+    → AreLines entries (split_part split) split.routes text status → IsSplitAnswer entries words text status
 answers entries words command names split text status same reads routes arguments one pattern lines =
-    let whole : part_for split ≡ part_in (map Some words) =
-    ap (λ n. part_after n split.pattern split.arguments) one ∙ ap (part_after 1 split.pattern) arguments ∙ same_parts (map Some command) split.pattern pattern ∙ ap (λ ws. part_in (map Some ws)) same in
+    let whole : split_part split ≡ part_by_name (map Some words) =
+    ap (λ n. part_of_slot_after n split.pattern split.arguments) one ∙ ap (part_of_slot_after 1 split.pattern) arguments ∙ same_parts (map Some command) split.pattern pattern ∙ ap (λ ws. part_by_name (map Some ws)) same in
     record {
       routes = split.routes;
       split = ap (λ ws. multi_slot_routes only_reads (map Some ws)) (sym same) ∙ ap (λ f. multi_slot_routes f (map Some command)) (sym (fun_ext reads)) ∙ sym routes;

@@ -18,7 +18,7 @@ fault_line Memory = codes "slotroute: no memory\n"
 fault_line Input = codes "slotroute: input failed\n"
 fault_line OutputFailed = codes "slotroute: output failed\n"
 
--- what an error of the reader becomes, by its kind: want of memory, or a failed input
+-- what an error of the reader becomes, by its kind: out of memory, or a failed input
 pub record IsReaderFault (kind : ErrorKind) (fault : Fault) : Type 0 where
   pub memory : kind ≡ OutOfMemory → fault ≡ Memory
   pub input : kind ≢ OutOfMemory → fault ≡ Input
@@ -50,7 +50,7 @@ IsLeftAt input left Memory = StopsInMap input left
 IsLeftAt input left Input = StopsInMap input left
 IsLeftAt input left OutputFailed = left ≡ after_map input
 
--- why there are no lines for a command: it is no complete one over many keys, or memory was refused
+-- why there are no lines for a command: it is not a complete one over many keys, or memory was refused
 abbrev pub IsNoSplit : List (List ℕ) → Fault → Type 0
 IsNoSplit command Usage = ⊥
 IsNoSplit command (BadMapLine number) = ⊥

@@ -5,7 +5,7 @@ use Rattle.std.specs.Str.{IsUtf8}
 use Rattle.cluster_map.specs.Address.{Address}
 use Rattle.cluster_map.specs.AddressText.{IsAddressText}
 use Rattle.cluster_map.specs.Number.{number_in}
-use Rattle.cluster_map.specs.Nodes.{RangeNodes}
+use Rattle.cluster_map.specs.SlotNodes.{RangeNodes}
 
 -- the field names the node at the address, which only a text can
 abbrev pub IsNodeField : List ℕ → Address → Type 0
@@ -23,7 +23,7 @@ IsMapLine (start ∷ end ∷ primary ∷ replicas) range =
 abbrev pub IsMap : List (List (List ℕ)) → List RangeNodes → Type 0
 IsMap lines ranges = AllZip IsMapLine lines ranges
 
--- the line of this number, from 1 on, is the first that is no map line
+-- the line of this number, from 1 on, is the first that is not a map line
 pub record IsFirstBad (lines : List (List (List ℕ))) (number : ℕ) : Type 0 where
   pub good : List (List (List ℕ))
   pub bad : List (List ℕ)

@@ -1,8 +1,8 @@
 -- What the program reads and writes, and its status, for its words and its input.
 use Rattle.std.specs.Prelude.{◌≡◌, ◌≢◌, ℕ, List, [], ◌∷◌, ◌++◌, None, codes, decimal}
-use Rattle.cluster_map.specs.Address.{Address, printed}
+use Rattle.cluster_map.specs.Address.{Address, display_text}
 use Rattle.cluster_map.specs.KeySlot.{IsKeySlot}
-use Rattle.cluster_map.specs.Nodes.{Nodes, RangeNodes, filled}
+use Rattle.cluster_map.specs.SlotNodes.{SlotNodes, RangeNodes, insert_ranges}
 use Rattle.cluster_map.specs.RangeMap.{Entry, IsUncovered}
 use Rattle.cluster_map.specs.RouteNode.{IsNodeOfRoute}
 use Rattle.cluster_slots.specs.declared.slot.SlotAddr.TheVariants.{Master}
@@ -36,12 +36,12 @@ abbrev pub not_multi_key_line : List ℕ
 not_multi_key_line = codes "slotroute: not a multi-key command\n"
 
 -- the line and the status that answer for a key: its slot, and the primary of the range that answers for the slot
-pub data IsNodeAnswer (entries : List (Entry Nodes)) (key : List ℕ) : List ℕ → ℕ → Type 0 where
-  served : (slot pick : ℕ) (address : Address) → IsKeySlot key slot → IsNodeOfRoute entries (record { slot = slot; addr = Master }) pick address → IsNodeAnswer entries key (slot_line slot (printed address)) 0
+pub data IsNodeAnswer (entries : List (Entry SlotNodes)) (key : List ℕ) : List ℕ → ℕ → Type 0 where
+  served : (slot pick : ℕ) (address : Address) → IsKeySlot key slot → IsNodeOfRoute entries (record { slot = slot; addr = Master }) pick address → IsNodeAnswer entries key (slot_line slot (display_text address)) 0
   unserved : (slot : ℕ) → IsKeySlot key slot → IsUncovered entries slot → IsNodeAnswer entries key (slot_line slot (codes "none")) 1
 
 -- what answers for the words on the entries of a map: for those of `node` the line of the key, for those of `split` the lines of the command
-pub data IsAnswer (entries : List (Entry Nodes)) : List (List ℕ) → List ℕ → ℕ → Type 0 where
+pub data IsAnswer (entries : List (Entry SlotNodes)) : List (List ℕ) → List ℕ → ℕ → Type 0 where
   node_answer : (key line : List ℕ) (status : ℕ) → IsNodeAnswer entries key line status → IsAnswer entries (node_words key) line status
   split_answer : (command : List (List ℕ)) (lines : List ℕ) (status : ℕ) → IsSplitAnswer entries command lines status → IsAnswer entries (split_words command) lines status
 
@@ -50,4 +50,4 @@ pub data Output : List (List ℕ) → List ℕ → List ℕ → List ℕ → Lis
   usage : (words : List (List ℕ)) (input : List ℕ) → ¬ (IsRequest words) → Output words input input [] usage_line 2
   bad_map : (words : List (List ℕ)) (input : List ℕ) (number : ℕ) → IsRequest words → IsFirstBad (leading input) number → Output words input (after_lines number input) [] (bad_map_line number) 2
   not_multi_key : (command : List (List ℕ)) (input : List ℕ) (ranges : List RangeNodes) → command ≢ [] → IsMap (leading input) ranges → split_routes command ≡ None → Output (split_words command) input (after_map input) [] not_multi_key_line 2
-  answer : (words : List (List ℕ)) (input text : List ℕ) (status : ℕ) (ranges : List RangeNodes) → IsMap (leading input) ranges → IsAnswer (filled [] ranges) words text status → Output words input (after_map input) text [] status
+  answer : (words : List (List ℕ)) (input text : List ℕ) (status : ℕ) (ranges : List RangeNodes) → IsMap (leading input) ranges → IsAnswer (insert_ranges [] ranges) words text status → Output words input (after_map input) text [] status

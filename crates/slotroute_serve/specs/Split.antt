@@ -1,13 +1,13 @@
 -- What the program answers for a command over many keys.
 use Rattle.std.specs.Prelude.{◌≡◌, ℕ, List, ◌∷◌, [], ◌++◌, Bool, if◌then◌else◌, Option, None, Some, MatchOption, codes, decimal, map, is_none}
 use Rattle.std.specs.List.{AllZip, flat_map, list_any}
-use Rattle.cluster_map.specs.Address.{Address, printed}
-use Rattle.cluster_map.specs.Nodes.{Nodes}
+use Rattle.cluster_map.specs.Address.{Address, display_text}
+use Rattle.cluster_map.specs.SlotNodes.{SlotNodes}
 use Rattle.cluster_map.specs.RangeMap.{Entry, IsUncovered}
 use Rattle.cluster_map.specs.RouteNode.{IsNodeOfRoute}
-use Rattle.cluster_map.specs.RouteTo.{RouteTo}
+use Rattle.cluster_map.specs.SlotRoute.{SlotRoute}
 use Rattle.redis_cluster.specs.Command.{Arguments}
-use Rattle.redis_cluster.specs.Complete.{multi_slot_routes, part_in}
+use Rattle.redis_cluster.specs.Complete.{multi_slot_routes, part_by_name}
 use Rattle.redis_cluster.specs.ReadOnly.{is_among}
 use Rattle.slotroute_serve.specs.Lines.{line_feed, space}
 
@@ -16,7 +16,7 @@ abbrev pub only_reads : List ℕ → Bool
 only_reads = is_among (codes "MGET" ∷ codes "JSON.MGET" ∷ codes "EXISTS" ∷ [])
 
 -- the routes of the parts of a command with these words, if it is a complete one over many keys
-abbrev pub split_routes : List (List ℕ) → Option (List (RouteTo × List ℕ))
+abbrev pub split_routes : List (List ℕ) → Option (List (SlotRoute × List ℕ))
 split_routes words = multi_slot_routes only_reads (map Some words)
 
 -- what a line tells of a part: its slot, its node, if there is one, and its words
@@ -28,15 +28,15 @@ pub record Part : Type 0 where
 -- a node as a line has it
 abbrev pub node_text : Option Address → List ℕ
 node_text None = codes "none"
-node_text (Some address) = printed address
+node_text (Some address) = display_text address
 
--- the line: the slot, the node, and the words, each behind one space
+-- the line: the slot, the node, and the words, each after one space
 abbrev pub part_line : Part → List ℕ
 part_line part =
     decimal part.slot ++ space ∷ node_text part.node ++ flat_map (λ word. space ∷ word) part.words ++ line_feed ∷ []
 
 -- the part of a command that a route is for, by the parts of slots, and the node of the route, which is none where no range answers for its slot
-pub record IsPart (entries : List (Entry Nodes)) (parts_by_slot : ℕ → Arguments) (route : RouteTo) (part : Part) : Type 0 where
+pub record IsPart (entries : List (Entry SlotNodes)) (parts_by_slot : ℕ → Arguments) (route : SlotRoute) (part : Part) : Type 0 where
   pub slot : part.slot ≡ route.slot
   pub node : MatchOption part.node (IsUncovered entries route.slot) (IsNodeOfRoute entries route 0)
   pub words : map Some part.words ≡ parts_by_slot route.slot
@@ -46,14 +46,14 @@ abbrev pub split_status : List Part → ℕ
 split_status parts = if list_any (λ part. is_none part.node) parts then 1 else 0
 
 -- the text has a line for the part of each route, in order
-pub record AreLines (entries : List (Entry Nodes)) (parts_by_slot : ℕ → Arguments) (routes : List (RouteTo × List ℕ)) (text : List ℕ) (status : ℕ) : Type 0 where
+pub record AreLines (entries : List (Entry SlotNodes)) (parts_by_slot : ℕ → Arguments) (routes : List (SlotRoute × List ℕ)) (text : List ℕ) (status : ℕ) : Type 0 where
   pub parts : List Part
   pub each : AllZip (λ route. IsPart entries parts_by_slot route.0) routes parts
   pub lines : text ≡ flat_map part_line parts
   pub ended : status ≡ split_status parts
 
 -- the lines and the status that answer for a command: one line for the part of each of its routes
-pub record IsSplitAnswer (entries : List (Entry Nodes)) (command : List (List ℕ)) (text : List ℕ) (status : ℕ) : Type 0 where
-  pub routes : List (RouteTo × List ℕ)
+pub record IsSplitAnswer (entries : List (Entry SlotNodes)) (command : List (List ℕ)) (text : List ℕ) (status : ℕ) : Type 0 where
+  pub routes : List (SlotRoute × List ℕ)
   pub split : split_routes command ≡ Some routes
-  pub answered : AreLines entries (part_in (map Some command)) routes text status
+  pub answered : AreLines entries (part_by_name (map Some command)) routes text status

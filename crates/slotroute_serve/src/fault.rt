@@ -9,7 +9,7 @@ use std::io;
 pub enum Fault {
     /// The words are none that the program knows.
     Usage,
-    /// This line, counted from 1, is no map line.
+    /// This line, counted from 1, is not a map line.
     BadMapLine(u64),
     /// The command of `split` is not one over many keys, or not a complete one.
     NotMultiKey,

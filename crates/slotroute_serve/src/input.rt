@@ -2,7 +2,7 @@ ghost use Rattle.std.specs.Prelude.{◌≡◌, ℕ, List, length, nat_lt, map, O
 ghost use Rattle.std.specs.List.{AllZip};
 ghost use Rattle.std.specs.Io.BufRead.{DropsThrough, strip_last};
 ghost use Rattle.cluster_map.specs.Address.{Address};
-ghost use Rattle.cluster_map.specs.Nodes.{RangeNodes};
+ghost use Rattle.cluster_map.specs.SlotNodes.{RangeNodes};
 ghost use Rattle.cluster_map.specs.Number.{number_in};
 ghost use Rattle.slotroute_serve.specs.Lines.{line_of, fields_of, leading, after_map, StopsInLine};
 ghost use Rattle.slotroute_serve.specs.MapLines.{IsNodeField, IsMapLine, IsMap};

@@ -117,7 +117,7 @@ fn node_answer(alloc: Global, map: &SlotMap, key: &[u8]) -> Result<(String, u8),
     }
 }
 
-/// Writes the line of a fault. Where there is no memory for that of a bad map line, it tells so.
+/// Writes the line of a fault. If memory runs out for that of a bad map line, it tells so.
 fn report<E: Sink>(alloc: Global, fault: &Fault, err: &mut E)
     ensures { Reports (MayFailToWrite E.fails) (E.contents err.old) (E.contents err.new) fault.now }
 {

@@ -1,7 +1,7 @@
 ghost use Rattle.std.specs.Prelude.{◌≡◌, ℕ, List, Some, ◌∷◌, ◌++◌, map, string_bytes, option_copied, IfOk, OnOk, MatchResult};
 ghost use Rattle.std.specs.List.{flat_map};
 ghost use Rattle.redis_cluster.specs.ReadOnly.{is_among};
-ghost use Rattle.redis_cluster.specs.Split.{part_for};
+ghost use Rattle.redis_cluster.specs.Split.{split_part};
 ghost use Rattle.slotroute_serve.specs.Faults.{IsNoSplit};
 ghost use Rattle.slotroute_serve.specs.Lines.{space};
 ghost use Rattle.slotroute_serve.specs.Split.{only_reads, part_line, AreLines, IsSplitAnswer};
@@ -57,7 +57,7 @@ fn lines_of(
     slot_map: &SlotMap,
     split: &SplitCommand<Cmd>,
 ) -> Result<(Vec<u8>, u8), AllocError>
-    ensures { IfOk result (λ answer. AreLines slot_map.now (part_for split.now) split.now.routes answer.0.items answer.1) }
+    ensures { IfOk result (λ answer. AreLines slot_map.now (split_part split.now) split.now.routes answer.0.items answer.1) }
 {
     let mut lines = Vec::new(alloc);
     let mut status = 0;
@@ -92,7 +92,7 @@ fn line_of(
     Ok(line)
 }
 
-/// Adds the words at the end, each behind a space.
+/// Adds the words at the end, each after a space.
 fn push_words(line: &mut Vec<u8>, words: &Cmd) -> Result<(), AllocError>
     ensures { OnOk result (line.new.items ≡ line.old.items ++ flat_map (λ word. space ∷ word) words.now) }
 {

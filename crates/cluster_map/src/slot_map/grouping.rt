@@ -1,5 +1,5 @@
 ghost use Rattle.std.specs.Prelude.{◌≡◌, ◌++◌, ◌∷◌, [], List, map, IfOk, OnOk};
-ghost use Rattle.slot_ranges.specs.Nodes.{Nodes};
+ghost use Rattle.slot_ranges.specs.SlotNodes.{SlotNodes};
 ghost use Rattle.slot_ranges.specs.RangeMap.{Entry, Ascends};
 ghost use Rattle.cluster_map.specs.Targets.{targets};
 ghost use Rattle.cluster_map.specs.Topology.{primary_of, shards_of};
@@ -39,7 +39,7 @@ fn add_range<'a>(
 ) -> Result<(), AllocError>
     requires { targets seen.old.keys ≡ map primary_of shards.old.items }
     ensures keys { OnOk result (targets seen.new.keys ≡ map primary_of shards.new.items) }
-    ensures shards { OnOk result ((es : List (Entry Nodes)) → shards.old.items ≡ shards_of es → shards.new.items ≡ shards_of (es ++ (start, end, addrs.now) ∷ [])) }
+    ensures shards { OnOk result ((es : List (Entry SlotNodes)) → shards.old.items ≡ shards_of es → shards.new.items ≡ shards_of (es ++ (start, end, addrs.now) ∷ [])) }
 {
     let (place, is_new) = seen.insert_full(addrs.primary())?;
     if is_new {

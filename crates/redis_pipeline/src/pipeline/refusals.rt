@@ -4,7 +4,7 @@ ghost use Rattle.redis_pipeline.specs.Pipeline.{text_of, first_refused, detail_o
 ghost use Rattle.redis_pipeline.specs.Refusals.{is_refused};
 ghost use Rattle.redis_commands.specs.Upper.{upper};
 
-use super::names::REFUSED_NAMES;
+use super::refused_names::REFUSED_NAMES;
 use redis_commands::contains;
 use resp_core::Cmd;
 use std::alloc::{AllocError, Global};
@@ -42,7 +42,7 @@ fn refuses(name: &[u8]) -> bool
     contains(&REFUSED_NAMES, word)
 }
 
-/// The bytes as text, or no text where they are no UTF-8.
+/// The bytes as text, or no text where they are not UTF-8.
 fn as_text(bytes: &[u8]) -> &str
     ensures { result.now ≡ text_of bytes.now }
 {

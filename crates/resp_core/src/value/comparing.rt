@@ -9,7 +9,7 @@ ghost use Rattle.resp_core.specs.Waiting.{AreSame, steps_waiting};
 use super::{Value, same_value};
 use std::alloc::{AllocError, Global};
 
-/// Whether two values are equal. Where there is no memory for the list, it recurses.
+/// Whether two values are equal. If memory runs out for the list, it recurses.
 pub(super) fn same(a: &Value, b: &Value) -> bool
     ensures { IsTrue result ↔ (view a.now ≡ view b.now) }
 {
@@ -96,7 +96,7 @@ fn add_pairs<'a>(
     Ok(true)
 }
 
-/// Adds a pair, or compares it where it is no two arrays and no two maps.
+/// Adds a pair, or compares it where it is not two arrays or two maps.
 fn add<'a>(
     waiting: &mut Vec<(&'a Value, &'a Value)>,
     a: &'a Value,

@@ -3,7 +3,7 @@ use Rattle.std.proofs.lemmas.List.{length-map}
 use Rattle.resp_core.specs.Reply.{Reply}
 use Rattle.resp_core.specs.View.{view}
 use Rattle.redis_combiners.specs.KeyPlaces.{all_places}
-use Rattle.redis_combiners.specs.SortedArrays.{array_of, sorted_arrays}
+use Rattle.redis_combiners.specs.SortedArrays.{array_or_refusal, sorted_arrays}
 use Rattle.redis_combiners.proofs.AtPlaces.{at_places}
 use Rattle.redis_combiners.proofs.Combining.{Known, found, known}
 use Rattle.redis_combiners.proofs.sorted.combine_and_sort_array_results.Goals as goal
@@ -36,5 +36,5 @@ returns-clause-at_place c =
     let k : Known c.args.pattern.now rs lists all xs = known c.args.pattern.now rs lists all counts xs (found (all_places c.args.pattern.now lists) all counts all_is counts_are) same gathered.0 gathered.1 in
     let some = rw c.in-Some-2.is at c.in_ok-sorted.ensures in
     let sorted = rw c.deref-2.ensures.value at some in
-    let whole : sorted_arrays c.args.pattern.now rs lists ≡ Ok (view c.as_array.result) = k.is ∙ ap (array_of None) (sym sorted) ∙ ap Ok (sym c.as_array.ensures) in
+    let whole : sorted_arrays c.args.pattern.now rs lists ≡ Ok (view c.as_array.result) = k.is ∙ ap (array_or_refusal None) (sym sorted) ∙ ap Ok (sym c.as_array.ensures) in
     at_places c.args.pattern.now rs lists (view c.as_array.result) whole

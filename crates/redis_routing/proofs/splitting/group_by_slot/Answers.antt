@@ -3,7 +3,7 @@ use Rattle.std.specs.List.{list_any, flat_map, range_with_len}
 use Rattle.indexmap.specs.IndexMap.{keys}
 use Rattle.cluster_slots.specs.KeySlot.{key_slot}
 use Rattle.redis_commands.specs.Command.{argument}
-use Rattle.redis_routing.specs.Parts.{firsts, slot_of, part}
+use Rattle.redis_routing.specs.Parts.{first_appearances, slot_of, tuples_in_slot}
 use Rattle.redis_commands.specs.Run.{run_after}
 use Rattle.redis_commands.specs.Tuples.{tuples_in, places_of, width_of, own_count}
 use Rattle.redis_routing.proofs.Slots.{order_more, found_more, places_more}
@@ -54,7 +54,7 @@ returns-clause-order g c =
     let count : c.args.own / c.width-width.result ≡ own_count c.args.pattern (length (run_after c.args.words args)) / width_of c.args.pattern =
     ap (λ o. o / c.width-width.result) c.requires.own ∙ ap (λ w. own_count c.args.pattern (length (run_after c.args.words args)) / w) c.width-width.ensures in
     c.loop-number.invariant.order
-    ∙ ap (λ ts. firsts (map slot_of ts)) (all_taken c.args.pattern (run_after c.args.words args) c.loop-number.number (subst (λ n. n ≤ c.loop-number.number) count c.loop-number-test.false))
+    ∙ ap (λ ts. first_appearances (map slot_of ts)) (all_taken c.args.pattern (run_after c.args.words args) c.loop-number.number (subst (λ n. n ≤ c.loop-number.number) count c.loop-number-test.false))
 
 pub returns-clause-places : goal.returns-clause-places
 returns-clause-places g c = λ s.
@@ -62,4 +62,4 @@ returns-clause-places g c = λ s.
     let count : c.args.own / c.width-width.result ≡ own_count c.args.pattern (length (run_after c.args.words args)) / width_of c.args.pattern =
     ap (λ o. o / c.width-width.result) c.requires.own ∙ ap (λ w. own_count c.args.pattern (length (run_after c.args.words args)) / w) c.width-width.ensures in
     c.loop-number.invariant.places s
-    ∙ ap (λ ts. flat_map places_of (part s ts)) (all_taken c.args.pattern (run_after c.args.words args) c.loop-number.number (subst (λ n. n ≤ c.loop-number.number) count c.loop-number-test.false))
+    ∙ ap (λ ts. flat_map places_of (tuples_in_slot s ts)) (all_taken c.args.pattern (run_after c.args.words args) c.loop-number.number (subst (λ n. n ≤ c.loop-number.number) count c.loop-number-test.false))

@@ -3,7 +3,7 @@ use Rattle.std.specs.List.{flat_map}
 use Rattle.std.proofs.lemmas.List.{append-nil}
 use Rattle.std.proofs.lemmas.List.Concat.{flat_map-append}
 use Rattle.cluster_map.specs.EachOnce.{each_once}
-use Rattle.slot_ranges.specs.Nodes.{nodes_in}
+use Rattle.slot_ranges.specs.SlotNodes.{nodes_in}
 use Rattle.cluster_map.proofs.slot_map.SlotMap.addresses_for_all_nodes.Goals as goal
 
 pub loop-addrs-preserved : goal.loop-addrs-preserved

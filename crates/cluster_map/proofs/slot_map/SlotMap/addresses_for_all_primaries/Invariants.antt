@@ -1,6 +1,6 @@
 use Rattle.std.proofs.Common.{◌≡◌, ◌++◌, List, map}
 use Rattle.cluster_map.specs.EachOnce.{each_once}
-use Rattle.slot_ranges.specs.Nodes.{Nodes}
+use Rattle.slot_ranges.specs.SlotNodes.{SlotNodes}
 use Rattle.slot_ranges.specs.RangeMap.{value_of}
 use Rattle.cluster_map.specs.Targets.{targets}
 use Rattle.cluster_map.proofs.Members.{primary_of}
@@ -11,4 +11,4 @@ abbrev pub invariant-loop-addrs : goal.invariant-loop-addrs
 invariant-loop-addrs l =
     (goal.iterator-loop-addrs).can_next l.addrs-iterator ×
     (goal.iterator-loop-addrs).is_finite l.addrs-iterator ×
-    ((done : List Nodes) × (done ++ l.addrs-iterator ≡ map value_of l.self) × (targets l.seen.keys ≡ each_once (map primary_of done)))
+    ((done : List SlotNodes) × (done ++ l.addrs-iterator ≡ map value_of l.self) × (targets l.seen.keys ≡ each_once (map primary_of done)))

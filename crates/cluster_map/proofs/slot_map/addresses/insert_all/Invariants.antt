@@ -1,5 +1,5 @@
 use Rattle.std.proofs.Common.{◌≡◌, fold}
-use Rattle.slot_ranges.specs.Nodes.{nodes_in}
+use Rattle.slot_ranges.specs.SlotNodes.{nodes_in}
 use Rattle.cluster_map.specs.Targets.{targets, left_in}
 use Rattle.cluster_map.proofs.Members.{add_new}
 use Rattle.cluster_map.proofs.slot_map.addresses.insert_all.Given as goal

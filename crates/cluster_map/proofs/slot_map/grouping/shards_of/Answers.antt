@@ -1,6 +1,6 @@
 use Rattle.std.proofs.Common.{◌∙◌, ◌++◌, ◌∷◌, [], ap, sym, append_assoc}
 use Rattle.std.proofs.lemmas.List.{append-nil}
-use Rattle.slot_ranges.specs.Nodes.{Nodes}
+use Rattle.slot_ranges.specs.SlotNodes.{SlotNodes}
 use Rattle.slot_ranges.specs.RangeMap.{Entry}
 use Rattle.cluster_map.specs.Topology.{shards_of}
 use Rattle.cluster_map.proofs.slot_map.grouping.shards_of.Goals as goal
@@ -8,7 +8,7 @@ use Rattle.cluster_map.proofs.slot_map.grouping.shards_of.Goals as goal
 pub loop-start-preserved : goal.loop-start-preserved
 loop-start-preserved c =
     let done = c.loop-start.invariant.3.0 in
-    let e : Entry Nodes = (c.in-Some.start, c.in-Some.end, c.in-Some.addrs.now) in (
+    let e : Entry SlotNodes = (c.in-Some.start, c.in-Some.end, c.in-Some.addrs.now) in (
       tt,
       tt,
       c.in_ok-add_range.ensures.keys,

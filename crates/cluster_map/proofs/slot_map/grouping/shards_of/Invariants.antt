@@ -1,5 +1,5 @@
 use Rattle.std.proofs.Common.{◌≡◌, ◌++◌, List, map}
-use Rattle.slot_ranges.specs.Nodes.{Nodes}
+use Rattle.slot_ranges.specs.SlotNodes.{SlotNodes}
 use Rattle.slot_ranges.specs.RangeMap.{Entry}
 use Rattle.cluster_map.specs.Targets.{targets}
 use Rattle.cluster_map.specs.Topology.{primary_of, shards_of}
@@ -11,4 +11,4 @@ invariant-loop-start l =
     (goal.iterator-loop-start).can_next l.start-iterator ×
     (goal.iterator-loop-start).is_finite l.start-iterator ×
     (targets l.seen.keys ≡ map primary_of l.shards.items) ×
-    ((done : List (Entry Nodes)) × (done ++ l.start-iterator ≡ l.ranges) × (l.shards.items ≡ shards_of done))
+    ((done : List (Entry SlotNodes)) × (done ++ l.start-iterator ≡ l.ranges) × (l.shards.items ≡ shards_of done))

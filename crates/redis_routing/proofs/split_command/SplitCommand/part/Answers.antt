@@ -1,5 +1,5 @@
 use Rattle.std.proofs.Common.{◌≡◌, ◌<◌, Some, None, refl, ap, sym, subst, ◌∙◌, length, map}
-use Rattle.redis_routing.specs.Split.{Split, part_at}
+use Rattle.redis_routing.specs.Split.{Split, route_part}
 use Rattle.redis_routing.specs.SubCommand.{sub_command_after}
 use Rattle.redis_routing.proofs.Picks.{part_made}
 use Rattle.redis_routing.proofs.split_command.SplitCommand.part.Goals as goal
@@ -19,4 +19,4 @@ returns g c =
     let whole = part_made _ c.self.invariant c.self.inside.routes.items c.args.number c.index.result.now refl inside c.index.ensures in
     let made : sub_command_after c.self.inside.words args c.index.result.now.1.items ≡ Some c.in-Some.part = ap (sub_command_after c.self.inside.words args) (sym c.deref.ensures.value) ∙ sym c.in_ok-part.ensures ∙ c.in-Some.is in
     let same : c.in-Some.part ≡ whole.0 = cc (whole.1, made) in
-    ap (λ words. Some (map Some words)) same ∙ whole.2 ∙ ap (λ (s : Split). part_at s c.args.number) c.self.view_is
+    ap (λ words. Some (map Some words)) same ∙ whole.2 ∙ ap (λ (s : Split). route_part s c.args.number) c.self.view_is

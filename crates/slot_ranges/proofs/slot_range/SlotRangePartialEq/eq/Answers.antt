@@ -1,5 +1,5 @@
 use Rattle.std.proofs.Common.{◌≡◌, rules}
-use Rattle.slot_ranges.specs.Nodes.{same_range}
+use Rattle.slot_ranges.specs.SlotNodes.{same_range}
 use Rattle.slot_ranges.proofs.SameRanges.{range_decides}
 use Rattle.slot_ranges.proofs.slot_range.SlotRangePartialEq.eq.Goals as goal
 

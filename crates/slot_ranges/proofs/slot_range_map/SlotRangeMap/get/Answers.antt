@@ -1,7 +1,7 @@
 use Rattle.std.proofs.Common.{sym, ◌∙◌, ap, inl, inr}
 use Rattle.std.proofs.lemmas.Bool.{cases_lt, le-leb, lt-leb}
 use Rattle.slot_ranges.specs.RangeTree.{entry_of, entries_of}
-use Rattle.slot_ranges.proofs.Ranges.{IsUncovered-none, EndsFirstFrom-head, Answers-first, IsUncovered-first, disjoint_law}
+use Rattle.slot_ranges.proofs.Ranges.{IsUncovered-none, EndsFirstFrom-head, IsAnswerAt-first, IsUncovered-first, disjoint_law}
 use Rattle.slot_ranges.proofs.Trees.{entries_of-from}
 use Rattle.slot_ranges.proofs.slot_range_map.SlotRangeMap.get.Goals as goal
 
@@ -25,7 +25,7 @@ returns-clause-least g c =
           (IsUncovered-first (entries_of c.self.inside.ranges.entries) c.args.slot entry c.self.invariant first after)
       | inr before ↦
           rw (c.then_some.ensures, le-leb entry.0 c.args.slot before, ← c.self.view_is)
-          (Answers-first (entries_of c.self.inside.ranges.entries) c.args.slot entry first before)
+          (IsAnswerAt-first (entries_of c.self.inside.ranges.entries) c.args.slot entry first before)
     ]
 
 -- the law on disjoint entries follows from either answer

@@ -1,0 +1,89 @@
+ghost use Rattle.std.specs.Prelude.{◌≡◌, ◌≤◌};
+ghost use Rattle.redis_commands.specs.Tuples.{is_complete};
+ghost use Rattle.redis_commands.specs.Tuples.{width_of, fits, own_count};
+ghost use Rattle.redis_commands.specs.RouteBy.{base_routing};
+
+use super::lookup::find;
+use super::tables::BASE_ROUTINGS;
+
+/// How the arguments of a command over many keys make tuples of a key and what goes with it.
+#[derive(Clone, Copy, Debug, PartialEq, Eq)]
+pub enum MultiSlotArgPattern {
+    /// Each argument is a key.
+    KeysOnly,
+    /// A key and its value in turn.
+    KeyValuePairs,
+    /// Each argument is a key but the last, which all keys share.
+    KeysAndLastArg,
+    /// A key and two arguments in turn.
+    KeyWithTwoArgTriples,
+}
+
+impl MultiSlotArgPattern {
+    /// How many arguments a tuple has.
+    pub fn width(self) -> usize
+        ensures { result ≡ width_of self }
+    {
+        match self {
+            MultiSlotArgPattern::KeysOnly | MultiSlotArgPattern::KeysAndLastArg => 1,
+            MultiSlotArgPattern::KeyValuePairs => 2,
+            MultiSlotArgPattern::KeyWithTwoArgTriples => 3,
+        }
+    }
+
+    /// Whether so many arguments make whole tuples, and at least one.
+    pub fn fits(self, run: usize) -> bool
+        ensures { result ≡ fits self run }
+    {
+        run > 0
+            && match self {
+                MultiSlotArgPattern::KeysOnly | MultiSlotArgPattern::KeysAndLastArg => true,
+                MultiSlotArgPattern::KeyValuePairs => run % 2 == 0,
+                MultiSlotArgPattern::KeyWithTwoArgTriples => run % 3 == 0,
+            }
+    }
+
+    /// Whether so many arguments are complete: they make whole tuples, and where keys share a last
+    /// argument, it is there.
+    pub fn is_complete(self, run: usize) -> bool
+        ensures { result ≡ is_complete self run }
+    {
+        match self {
+            MultiSlotArgPattern::KeysAndLastArg => run > 1,
+            _ => self.fits(run),
+        }
+    }
+
+    /// How many of so many arguments make tuples: those after them are shared by all.
+    pub fn own_len(self, run: usize) -> usize
+        ensures own { result ≡ own_count self run }
+        ensures within { result ≤ run }
+    {
+        match self {
+            MultiSlotArgPattern::KeysAndLastArg if run > 1 => run - 1,
+            _ => run,
+        }
+    }
+}
+
+/// Where the commands of a name go. Arguments are counted from 0, the first word of the command.
+#[derive(Clone, Copy, Debug, PartialEq, Eq)]
+pub enum RouteBy {
+    AllNodes,
+    AllMasters,
+    MultiSlot(MultiSlotArgPattern),
+    Undefined,
+    /// A number of keys at this argument, and the first key after it.
+    CountAt(u8),
+    KeyAt(u8),
+    KeyAfterStreams,
+    Random,
+    SlotAtTwo,
+}
+
+/// The way of a name in upper case, unless it is that of most names: the key at argument 1.
+pub fn base_routing(name: &[u8]) -> Option<RouteBy>
+    ensures { result ≡ base_routing name.now }
+{
+    find(&BASE_ROUTINGS, name)
+}
