@@ -8,11 +8,11 @@ use Rattle.std.specs.List.{list_any}
 use Rattle.cluster_slots.specs.Address.{Address, same_address}
 use Rattle.slot_ranges.specs.SlotNodes.{SlotNodes}
 use Rattle.slot_ranges.specs.RangeMap.{Entry, EndsAfter, Ascends}
-use Rattle.cluster_map.specs.Shards.{ShardNodes}
-use Rattle.cluster_map.specs.Topology.{primary_of, entry_primary, has_primary, ends_of, shard_of, shards_of, placed, placed_from, inserted, topology_of, Agrees}
+use Rattle.read_strategies.specs.Shards.{ShardNodes}
+use Rattle.read_strategies.specs.Topology.{primary_of, entry_primary, has_primary, ends_of, shard_of, shards_of, placed, placed_from, inserted, topology_of, Agrees}
 use Rattle.cluster_map.proofs.Groups.{primaries, primary_shards, primary_shards-are, primaries_cover, same_true, same_refl, same_sym}
 use Rattle.cluster_map.proofs.Inserts.{insert_step, step, stepped, stepped-is, Ascends-inserted, answer, answer-some, answer-is, by_option, with_value, with_value-stepped, with_value-answer}
-use Rattle.cluster_map.proofs.Members.{by_test}
+use Rattle.resp_core.proofs.Cases.{by_test}
 use Rattle.slot_ranges.proofs.Ranges.{EndsAfter-smaller}
 
 by_order : {A : Type 0} (a b : ℕ) → (a < b → A) → (a ≡ b → A) → (b < a → A) → A

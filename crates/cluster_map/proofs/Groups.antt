@@ -8,10 +8,12 @@ use Rattle.cluster_slots.specs.Address.{Address, same_address}
 use Rattle.cluster_slots.proofs.Orders.{same_from_address, address_decides}
 use Rattle.slot_ranges.specs.SlotNodes.{SlotNodes}
 use Rattle.slot_ranges.specs.RangeMap.{Entry}
-use Rattle.cluster_map.specs.Shards.{ShardNodes}
+use Rattle.read_strategies.specs.Shards.{ShardNodes}
 use Rattle.cluster_map.specs.Targets.{targets}
-use Rattle.cluster_map.specs.Topology.{primary_of, entry_primary, has_primary, ends_of, first_replicas, shard_with, shard_of, shards_of}
-use Rattle.cluster_map.proofs.Members.{by_test, add_new, added_once, same_target}
+use Rattle.read_strategies.specs.Topology.{primary_of, entry_primary, has_primary, ends_of, first_replicas, shard_with, shard_of, shards_of}
+use Rattle.read_strategies.proofs.Members.{add_new, added_once}
+use Rattle.resp_core.proofs.Cases.{by_test}
+use Rattle.cluster_map.proofs.TargetSets.{same_target}
 
 -- a shard with a range more
 abbrev pub with_range : ShardNodes → Entry SlotNodes → ShardNodes

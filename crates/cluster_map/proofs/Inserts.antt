@@ -4,8 +4,8 @@ use Rattle.std.specs.Ordering.{match_ordering}
 use Rattle.std.proofs.lemmas.Bool.{cases_order}
 use Rattle.std.proofs.lemmas.Bool.Decides.{nat_tests}
 use Rattle.slot_ranges.specs.RangeMap.{Entry, value_of, Ascends, IsAnswerAt, IsUncovered, insert_entry}
-use Rattle.cluster_map.specs.Topology.{inserted}
-use Rattle.cluster_map.proofs.Members.{by_test}
+use Rattle.read_strategies.specs.Topology.{inserted}
+use Rattle.resp_core.proofs.Cases.{by_test}
 use Rattle.slot_ranges.proofs.Ranges.{ending_from, EndsFirstFrom-unique, EndsFirstFrom-answer, EndsFirstFrom-head, IsAnswerAt-first, IsUncovered-first, IsUncovered-none, insert_entry-front, insert_entry-place, insert_entry-later, Ascends-insert_entry}
 
 abbrev pub insert_step : {V : Type 0} → List (Entry V) → ℕ → ℕ → V → List (Entry V)

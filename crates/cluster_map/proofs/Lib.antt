@@ -1,8 +1,6 @@
 pub mod Agreement
 pub mod Disjoint
-pub mod Elements
-pub mod Filling
 pub mod Groups
 pub mod Inserts
-pub mod Members
 pub mod ReplyNodes
+pub mod TargetSets

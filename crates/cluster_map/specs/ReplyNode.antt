@@ -5,7 +5,7 @@ use Rattle.cluster_slots.specs.Address.{Address}
 use Rattle.cluster_slots.specs.SlotRoute.{SlotRoute}
 use Rattle.slot_ranges.specs.SlotNodes.{SlotNodes, insert_ranges}
 use Rattle.slot_ranges.specs.RangeMap.{Entry, IsAnswerAt, IsUncovered}
-use Rattle.cluster_map.specs.RouteNode.{IsNodeOfRoute}
+use Rattle.read_strategies.specs.RouteNode.{IsNodeOfRoute}
 use Rattle.slot_ranges.specs.SlotsReply.{ranges_in}
 
 -- what `slot_addr_for_route` finds for a route in a map of these entries

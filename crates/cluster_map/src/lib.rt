@@ -2,15 +2,14 @@
 //! reads go.
 #![tactic(auto)]
 
-pub mod read_routing;
 pub mod slot_map;
 
 pub use cluster_slots::{
     NodeAddress, Route, SLOT_SIZE, Slot, SlotAddr, node_address, slot, split_node_address,
 };
-pub use read_routing::{
+pub use read_strategies::{
     AnyNodeCandidates, ClusterTopology, DefaultFactory, ReadCandidates, ReadRoutingStrategy,
-    ReadRoutingStrategyFactory, Replicas, ReplicasOnlyCandidates, Shard,
+    ReadRoutingStrategyFactory, Replicas, ReplicasOnlyCandidates, Shard, read_routing,
 };
 pub use slot_map::{SlotAddrs, SlotMap, SlotRange};
 pub use slot_ranges::{SlotRangeMap, parse_slots, slot_cmd, slot_range_map, topology};

@@ -1,7 +1,7 @@
 ghost use Rattle.std.specs.Prelude.{◌≡◌, ◌++◌, List, IfOk, OnOk};
 ghost use Rattle.std.specs.Iterator.{YieldsFirstRef, item_count};
 ghost use Rattle.cluster_slots.specs.Address.{Address};
-ghost use Rattle.cluster_map.specs.EachOnce.{each_once};
+ghost use Rattle.read_strategies.specs.EachOnce.{each_once};
 ghost use Rattle.slot_ranges.specs.SlotNodes.{nodes_in};
 ghost use Rattle.cluster_map.specs.Targets.{targets, left_in};
 

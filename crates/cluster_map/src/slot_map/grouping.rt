@@ -2,12 +2,12 @@ ghost use Rattle.std.specs.Prelude.{◌≡◌, ◌++◌, ◌∷◌, [], List, ma
 ghost use Rattle.slot_ranges.specs.SlotNodes.{SlotNodes};
 ghost use Rattle.slot_ranges.specs.RangeMap.{Entry, Ascends};
 ghost use Rattle.cluster_map.specs.Targets.{targets};
-ghost use Rattle.cluster_map.specs.Topology.{primary_of, shards_of};
+ghost use Rattle.read_strategies.specs.Topology.{primary_of, shards_of};
 
-use crate::read_routing::Shard;
 use crate::slot_map::SlotAddrs;
 use cluster_slots::NodeAddress;
 use indexmap::IndexSet;
+use read_strategies::Shard;
 use slot_ranges::slot_range_map::SlotRangeMap;
 use std::alloc::{AllocError, Global};
 

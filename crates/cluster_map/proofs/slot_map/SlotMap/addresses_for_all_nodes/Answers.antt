@@ -2,7 +2,7 @@ use Rattle.std.proofs.Common.{◌∙◌, ◌++◌, ◌∷◌, [], ap, sym, appen
 use Rattle.std.specs.List.{flat_map}
 use Rattle.std.proofs.lemmas.List.{append-nil}
 use Rattle.std.proofs.lemmas.List.Concat.{flat_map-append}
-use Rattle.cluster_map.specs.EachOnce.{each_once}
+use Rattle.read_strategies.specs.EachOnce.{each_once}
 use Rattle.slot_ranges.specs.SlotNodes.{nodes_in}
 use Rattle.cluster_map.proofs.slot_map.SlotMap.addresses_for_all_nodes.Goals as goal
 

@@ -1,6 +1,6 @@
 use Rattle.std.proofs.Common.{◌≡◌, ◌++◌, List, map}
 use Rattle.std.specs.List.{flat_map}
-use Rattle.cluster_map.specs.EachOnce.{each_once}
+use Rattle.read_strategies.specs.EachOnce.{each_once}
 use Rattle.slot_ranges.specs.SlotNodes.{SlotNodes, nodes_in}
 use Rattle.slot_ranges.specs.RangeMap.{value_of}
 use Rattle.cluster_map.specs.Targets.{targets}

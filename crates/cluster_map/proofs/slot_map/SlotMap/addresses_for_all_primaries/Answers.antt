@@ -1,10 +1,11 @@
 use Rattle.std.proofs.Common.{◌≡◌, ◌∙◌, ◌++◌, ◌∷◌, [], map, ap, sym, append_assoc, arith}
 use Rattle.std.proofs.lemmas.Grind.{common_steps}
 use Rattle.std.proofs.lemmas.List.{append-nil}
-use Rattle.cluster_map.specs.EachOnce.{each_once}
+use Rattle.read_strategies.specs.EachOnce.{each_once}
 use Rattle.slot_ranges.specs.RangeMap.{value_of}
 use Rattle.cluster_map.specs.Targets.{targets}
-use Rattle.cluster_map.proofs.Members.{primary_of, add_new, added_more, targets-insert, primaries_last, primaries_in}
+use Rattle.read_strategies.proofs.Members.{add_new, added_more}
+use Rattle.cluster_map.proofs.TargetSets.{primary_of, targets-insert, primaries_last, primaries_in}
 use Rattle.cluster_map.proofs.slot_map.SlotMap.addresses_for_all_primaries.Goals as goal
 
 pub loop-addrs-preserved : goal.loop-addrs-preserved

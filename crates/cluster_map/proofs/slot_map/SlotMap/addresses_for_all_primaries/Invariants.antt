@@ -1,9 +1,9 @@
 use Rattle.std.proofs.Common.{◌≡◌, ◌++◌, List, map}
-use Rattle.cluster_map.specs.EachOnce.{each_once}
+use Rattle.read_strategies.specs.EachOnce.{each_once}
 use Rattle.slot_ranges.specs.SlotNodes.{SlotNodes}
 use Rattle.slot_ranges.specs.RangeMap.{value_of}
 use Rattle.cluster_map.specs.Targets.{targets}
-use Rattle.cluster_map.proofs.Members.{primary_of}
+use Rattle.cluster_map.proofs.TargetSets.{primary_of}
 use Rattle.cluster_map.proofs.slot_map.SlotMap.addresses_for_all_primaries.Given as goal
 
 -- the members are the primaries of the ranges so far

@@ -1,6 +1,6 @@
 use Rattle.std.proofs.Common.{◌≡◌, ◌∙◌, ap, subst, sym}
 use Rattle.slot_ranges.specs.RangeMap.{Ascends}
-use Rattle.cluster_map.specs.Topology.{shards_of, topology_of, Agrees}
+use Rattle.read_strategies.specs.Topology.{shards_of, topology_of, Agrees}
 use Rattle.cluster_map.proofs.Agreement.{agrees}
 use Rattle.cluster_map.proofs.slot_map.SlotMap.topology.Goals as goal
 

@@ -2,7 +2,7 @@ use Rattle.std.proofs.Common.{◌∙◌, ◌++◌, ◌∷◌, [], ap, sym, appen
 use Rattle.std.proofs.lemmas.List.{append-nil}
 use Rattle.slot_ranges.specs.SlotNodes.{SlotNodes}
 use Rattle.slot_ranges.specs.RangeMap.{Entry}
-use Rattle.cluster_map.specs.Topology.{shards_of}
+use Rattle.read_strategies.specs.Topology.{shards_of}
 use Rattle.cluster_map.proofs.slot_map.grouping.shards_of.Goals as goal
 
 pub loop-start-preserved : goal.loop-start-preserved

@@ -2,7 +2,7 @@ use Rattle.std.proofs.Common.{◌≡◌, ◌++◌, List, map}
 use Rattle.slot_ranges.specs.SlotNodes.{SlotNodes}
 use Rattle.slot_ranges.specs.RangeMap.{Entry}
 use Rattle.cluster_map.specs.Targets.{targets}
-use Rattle.cluster_map.specs.Topology.{primary_of, shards_of}
+use Rattle.read_strategies.specs.Topology.{primary_of, shards_of}
 use Rattle.cluster_map.proofs.slot_map.grouping.shards_of.Given as goal
 
 -- the shards are those of the ranges so far, and the set has their primaries

@@ -1,7 +1,0 @@
-use Rattle.std.proofs.Common.{◌≡◌, map, take}
-use Rattle.cluster_map.specs.Topology.{inserted, placed}
-use Rattle.cluster_map.proofs.read_routing.cluster_topology.insert_ranges.Given as goal
-
--- the ranges so far are put in
-abbrev pub invariant-loop-range : goal.invariant-loop-range
-invariant-loop-range l = l.ranges ≡ inserted l.fn.ranges (map (placed l.place) (take l.range-index l.shard_ranges))

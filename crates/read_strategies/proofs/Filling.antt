@@ -1,0 +1,94 @@
+-- All ranges of the shards, put in one after the other, and the places that they have.
+use Rattle.std.proofs.Common.{◌≡◌, ◌<◌, ◌≤◌, ◌+◌, ℕ, zero, suc, Bool, not, nat_eq, nat_lt, inl, inr, List, [], ◌∷◌, ◌++◌, map, filter, length, take, get_or, slice_index, sym, ap, ◌∙◌, append_assoc, arith}
+use Rattle.std.proofs.lemmas.List.{append-nil, take_more, length-take-le}
+use Rattle.std.proofs.lemmas.List.Sums.{fold-append}
+use Rattle.std.specs.List.{Contains}
+use Rattle.read_strategies.specs.EachOnce.{once_by}
+use Rattle.slot_ranges.specs.RangeMap.{Entry, end_of, value_of, insert_entry}
+use Rattle.read_strategies.specs.Shards.{ShardNodes}
+use Rattle.read_strategies.specs.Topology.{inserted, placed, placed_from, places_left}
+use Rattle.resp_core.proofs.Cases.{by_test}
+use Rattle.slot_ranges.proofs.Ranges.{Contains-cons_cases, Contains-nil}
+
+abbrev put : List (Entry ℕ) → Entry ℕ → List (Entry ℕ)
+put es e = insert_entry es e.0 e.1 (value_of e)
+
+placed_from-last : (place : ℕ) (ss : List ShardNodes) (s : ShardNodes) → placed_from place (ss ++ s ∷ []) ≡ placed_from place ss ++ map (placed (place + length ss)) s.ranges
+placed_from-last place [] s = append-nil (map (placed place) s.ranges) ∙ ap (λ k. map (placed k) s.ranges) (omega arith)
+placed_from-last place (x ∷ xs) s =
+    ap (λ z. map (placed place) x.ranges ++ z) (placed_from-last (suc place) xs s ∙ ap (λ k. placed_from (suc place) xs ++ map (placed k) s.ranges) (omega arith))
+    ∙ sym (append_assoc (map (placed place) x.ranges) (placed_from (suc place) xs) (map (placed (place + length (x ∷ xs))) s.ranges))
+
+-- the ranges of one shard more
+pub inserted-more : (ss : List ShardNodes) (i : ℕ) (s : ShardNodes) → i < length ss → s ≡ get_or ss i s → inserted (inserted [] (placed_from 0 (take i ss))) (map (placed i) s.ranges) ≡ inserted [] (placed_from 0 (take (i + 1) ss))
+inserted-more ss i s within is =
+    let t : take (i + 1) ss ≡ take i ss ++ s ∷ [] = take_more ss i s within ∙ ap (λ z. take i ss ++ z ∷ []) (sym is) in
+    let m : length (take i ss) ≡ i = length-take-le i ss (omega arith) in
+    let n : 0 + length (take i ss) ≡ i = omega arith in
+    sym (fold-append put [] (placed_from 0 (take i ss)) (map (placed i) s.ranges))
+    ∙ ap (inserted []) (ap (λ k. placed_from 0 (take i ss) ++ map (placed k) s.ranges) (sym n) ∙ sym (placed_from-last 0 (take i ss) s) ∙ ap (placed_from 0) (sym t))
+
+-- each place is below a number
+abbrev pub AllPlaces : ℕ → List (Entry ℕ) → Type 0
+AllPlaces n [] = Unit {0}
+AllPlaces n (e ∷ es) = (value_of e < n) × AllPlaces n es
+
+places-filter : (n : ℕ) (p : Entry ℕ → Bool) (es : List (Entry ℕ)) → AllPlaces n es → AllPlaces n (filter p es)
+places-filter n p [] all = tt
+places-filter n p (e ∷ es) all = by_test (p e) (λ t. rw t (all.0, places-filter n p es all.1)) (λ t. rw t (places-filter n p es all.1))
+
+places-append : (n : ℕ) (xs ys : List (Entry ℕ)) → AllPlaces n xs → AllPlaces n ys → AllPlaces n (xs ++ ys)
+places-append n [] ys a b = b
+places-append n (x ∷ xs) ys a b = (a.0, places-append n xs ys a.1 b)
+
+places-insert : (n : ℕ) (es : List (Entry ℕ)) (e : Entry ℕ) → value_of e < n → AllPlaces n es → AllPlaces n (put es e)
+places-insert n es e below all =
+    places-append n (filter (λ r. nat_lt (end_of r) e.1) es) (e ∷ filter (λ r. nat_lt e.1 (end_of r)) es)
+    (places-filter n (λ r. nat_lt (end_of r) e.1) es all)
+    (below, places-filter n (λ r. nat_lt e.1 (end_of r)) es all)
+
+places-inserted : (n : ℕ) (es more : List (Entry ℕ)) → AllPlaces n es → AllPlaces n more → AllPlaces n (inserted es more)
+places-inserted n es [] a b = a
+places-inserted n es (x ∷ xs) a b = places-inserted n (put es x) xs (places-insert n es x b.0 a) b.1
+
+places-placed : (n place : ℕ) (ranges : List (ℕ × ℕ)) → place < n → AllPlaces n (map (placed place) ranges)
+places-placed n place [] below = tt
+places-placed n place (r ∷ rs) below = (below, places-placed n place rs below)
+
+places-from : (n place : ℕ) (ss : List ShardNodes) → place + length ss ≤ n → AllPlaces n (placed_from place ss)
+places-from n place [] below = tt
+places-from n place (s ∷ ss) below = places-append n (map (placed place) s.ranges) (placed_from (suc place) ss) (places-placed n place s.ranges (omega arith)) (places-from n (suc place) ss (omega arith))
+
+pub all_places : (ss : List ShardNodes) → AllPlaces (length ss) (inserted [] (placed_from 0 ss))
+all_places ss = places-inserted (length ss) [] (placed_from 0 ss) tt (places-from (length ss) 0 ss (omega arith))
+
+pub place_below : (n : ℕ) (es : List (Entry ℕ)) → AllPlaces n es → (e : Entry ℕ) → Contains es e → value_of e < n
+place_below n [] all e there = absurd (Contains-nil e there)
+place_below n (r ∷ rs) all e there = elim (Contains-cons_cases r rs e there) [
+  | inl same ↦ let value : value_of r ≡ value_of e = ap value_of same in let here : value_of r < n = all.0 in omega arith
+  | inr later ↦ place_below n rs all.1 e later
+]
+
+abbrev AllBelow : ℕ → List ℕ → Type 0
+AllBelow n [] = Unit {0}
+AllBelow n (k ∷ ks) = (k < n) × AllBelow n ks
+
+below-values : (n : ℕ) (es : List (Entry ℕ)) → AllPlaces n es → AllBelow n (map value_of es)
+below-values n [] all = tt
+below-values n (e ∷ es) all = (all.0, below-values n es all.1)
+
+below-filter : (n : ℕ) (p : ℕ → Bool) (ks : List ℕ) → AllBelow n ks → AllBelow n (filter p ks)
+below-filter n p [] all = tt
+below-filter n p (k ∷ ks) all = by_test (p k) (λ t. rw t (all.0, below-filter n p ks all.1)) (λ t. rw t (below-filter n p ks all.1))
+
+below-once : (n : ℕ) (ks : List ℕ) → AllBelow n ks → AllBelow n (once_by nat_eq ks)
+below-once n [] all = tt
+below-once n (k ∷ ks) all = (all.0, below-filter n (λ y. not (nat_eq y k)) (once_by nat_eq ks) (below-once n ks all.1))
+
+below-at : (n : ℕ) (ks : List ℕ) → AllBelow n ks → (k : ℕ) → k < length ks → slice_index ks k < n
+below-at n [] all k within = absurd (omega arith)
+below-at n (x ∷ xs) all zero within = all.0
+below-at n (x ∷ xs) all (suc k) within = below-at n xs all.1 k (omega arith)
+
+pub left_below : (n : ℕ) (es : List (Entry ℕ)) → AllPlaces n es → (k : ℕ) → k < length (places_left es) → slice_index (places_left es) k < n
+left_below n es all = below-at n (places_left es) (below-once n (map value_of es) (below-values n es all))

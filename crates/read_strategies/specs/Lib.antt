@@ -1,0 +1,10 @@
+pub use Rattle.cluster_slots.specs.Address
+pub use Rattle.slot_ranges.specs.RangeMap
+pub use Rattle.slot_ranges.specs.SlotNodes
+pub mod Candidates
+pub mod EachOnce
+pub mod ReadCandidates
+pub mod RouteNode
+pub mod Shards
+pub mod ShardsToGive
+pub mod Topology

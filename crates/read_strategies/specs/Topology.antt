@@ -1,0 +1,87 @@
+-- The shards of a map, and the map from slots to shards.
+use Rattle.std.specs.Prelude.{◌≡◌, ◌↔◌, ℕ, suc, Bool, nat_eq, List, [], ◌∷◌, ◌++◌, map, filter, fold, Option, None, Some, slice_get}
+use Rattle.cluster_slots.specs.Address.{Address, same_address}
+use Rattle.cluster_slots.specs.declared.slot.SlotAddr.TheVariants.{Master}
+use Rattle.read_strategies.specs.EachOnce.{once_by, each_once}
+use Rattle.slot_ranges.specs.SlotNodes.{SlotNodes}
+use Rattle.slot_ranges.specs.RangeMap.{Entry, value_of, insert_entry, IsAnswerAt}
+use Rattle.read_strategies.specs.RouteNode.{IsNodeOfRoute}
+use Rattle.read_strategies.specs.Shards.{ShardNodes}
+
+abbrev pub primary_of : ShardNodes → Address
+primary_of s = s.primary
+
+-- the primary of an entry, and whether it is this one
+abbrev pub entry_primary : Entry SlotNodes → Address
+entry_primary e = (value_of e).primary
+
+abbrev pub has_primary : Address → Entry SlotNodes → Bool
+has_primary primary e = same_address primary (entry_primary e)
+
+-- the range of an entry
+abbrev pub ends_of : {V : Type 0} → Entry V → ℕ × ℕ
+ends_of e = (e.0, e.1)
+
+-- the replicas of the first entry
+abbrev pub first_replicas : List (Entry SlotNodes) → List Address
+first_replicas [] = []
+first_replicas (e ∷ es) = (value_of e).replicas
+
+abbrev pub shard_with : Address → List (Entry SlotNodes) → ShardNodes
+shard_with primary es = record { ranges = map ends_of es; primary = primary; replicas = first_replicas es }
+
+-- the shard of a primary: its entries' ranges by ascending end, and the replicas of the first of them
+abbrev pub shard_of : List (Entry SlotNodes) → Address → ShardNodes
+shard_of es primary = shard_with primary (filter (has_primary primary) es)
+
+-- a shard for each primary, by its first entry
+abbrev pub shards_of : List (Entry SlotNodes) → List ShardNodes
+shards_of es = map (shard_of es) (each_once (map entry_primary es))
+
+-- shards, and entries that have the places of the shards as values
+pub record Topology : Type 0 where
+  pub shards : List ShardNodes
+  pub ranges : List (Entry ℕ)
+
+-- the entries after more are put in, in order
+abbrev pub inserted : {V : Type 0} → List (Entry V) → List (Entry V) → List (Entry V)
+inserted es more = fold (λ es e. insert_entry es e.0 e.1 (value_of e)) es more
+
+-- a range with a place
+abbrev pub placed : ℕ → ℕ × ℕ → Entry ℕ
+placed place range = (range.0, range.1, place)
+
+-- the ranges of the shards, in order, with the shards' places, which count from this one
+abbrev pub placed_from : ℕ → List ShardNodes → List (Entry ℕ)
+placed_from place [] = []
+placed_from place (s ∷ ss) = map (placed place) s.ranges ++ placed_from (suc place) ss
+
+-- the ranges of the shards are put in, in order
+abbrev pub topology_of : List ShardNodes → Topology
+topology_of ss = record { shards = ss; ranges = inserted [] (placed_from 0 ss) }
+
+-- the shard whose place is the answer for the slot
+abbrev pub IsShardAt : Topology → ℕ → ShardNodes → Type 0
+IsShardAt t slot shard = (place : ℕ) × IsAnswerAt t.ranges slot place × (slice_get t.shards place ≡ Some shard)
+
+-- the places that still have a range, each once, by the first of its ranges
+abbrev pub places_left : List (Entry ℕ) → List ℕ
+places_left es = once_by nat_eq (map value_of es)
+
+abbrev pub then_rest : {X : Type 0} → Option X → List X → List X
+then_rest None xs = xs
+then_rest (Some x) xs = x ∷ xs
+
+-- the elements at these places
+abbrev pub at_places : {X : Type 0} → List X → List ℕ → List X
+at_places xs [] = []
+at_places xs (place ∷ places) = then_rest (slice_get xs place) (at_places xs places)
+
+-- the shards that still have a range
+abbrev pub shards_left : Topology → List ShardNodes
+shards_left t = at_places t.shards (places_left t.ranges)
+
+-- every number has a shard with a primary exactly where a route to the primary has this node
+abbrev pub Agrees : List (Entry SlotNodes) → Topology → Type 0
+Agrees es t =
+    (slot : ℕ) (address : Address) → IsNodeOfRoute es (record { slot = slot; addr = Master }) 0 address ↔ ((shard : ShardNodes) × IsShardAt t slot shard × (shard.primary ≡ address))

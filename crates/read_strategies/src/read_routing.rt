@@ -1,0 +1,66 @@
+ghost use Rattle.read_strategies.specs.Candidates.{Candidates, IsCandidate};
+ghost use Rattle.read_strategies.specs.ReadCandidates.{candidates_of};
+ghost use Rattle.cluster_slots.specs.Address.{Address};
+
+use std::marker::PhantomData;
+
+mod candidates;
+mod cluster_topology;
+mod replicas;
+mod shard;
+mod shards;
+
+pub use candidates::{AnyNodeCandidates, ReadCandidates, ReplicasOnlyCandidates};
+use cluster_slots::NodeAddress;
+pub use cluster_topology::ClusterTopology;
+pub use replicas::Replicas;
+pub use shard::Shard;
+pub use shards::Shards;
+
+/// Where reads go that need not go to the primary.
+pub trait ReadRoutingStrategy: Drop {
+    /// The addresses that a read of these candidates may go to.
+    ghost picks: { Self → Candidates → Address → Type 0 };
+
+    /// Tells the strategy of the cluster's shards.
+    fn on_topology_changed(&mut self, topology: ClusterTopology) {
+        let _ = topology;
+    }
+
+    /// The node that a read goes to. It is asked only where there are replicas.
+    fn route_read<'a>(&self, candidates: &ReadCandidates<'a>) -> &'a NodeAddress
+        ensures picked { picks self.now (candidates_of candidates.now) result.now }
+        ensures candidate { IsCandidate (candidates_of candidates.now) result.now };
+
+    /// It is one of the candidates.
+    ghost picks_candidates: { (s : Self) (c : Candidates) (address : Address) → picks s c address → IsCandidate c address };
+}
+
+/// What makes strategies.
+pub trait ReadRoutingStrategyFactory {
+    type Strategy: ReadRoutingStrategy;
+
+    fn create_strategy(&self) -> Self::Strategy;
+}
+
+/// Makes strategies by their `Default`.
+#[derive(Drop)]
+pub struct DefaultFactory<T> {
+    strategy: PhantomData<T>,
+}
+
+impl<T> DefaultFactory<T> {
+    pub fn new() -> Self {
+        DefaultFactory {
+            strategy: PhantomData,
+        }
+    }
+}
+
+impl<T: ReadRoutingStrategy + Default> ReadRoutingStrategyFactory for DefaultFactory<T> {
+    type Strategy = T;
+
+    fn create_strategy(&self) -> T {
+        T::default()
+    }
+}
