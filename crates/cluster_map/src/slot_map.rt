@@ -3,6 +3,7 @@ ghost use Rattle.std.specs.List.{AllZip};
 ghost use Rattle.std.specs.Cmp.Rules.{comparing};
 ghost use Rattle.std.proofs.Common.{rules};
 ghost use Rattle.resp_core.specs.ErrorParts.{out_of_memory};
+ghost use Rattle.resp_core.specs.Reply.{Reply};
 ghost use Rattle.resp_core.specs.View.{view};
 ghost use Rattle.cluster_slots.specs.Address.{Address};
 ghost use Rattle.cluster_slots.specs.SlotRoute.{SlotRoute};
@@ -213,6 +214,11 @@ impl SlotMap {
         ensures node { MatchOption result (IsUncovered self.now route.slot) (λ address. MatchOption strategy.entry
             (IsNodeOfRoute self.now route pick address.now)
             (λ s. IsPickedNode (picks s.now) self.now route address.now)) }
+        // In the map of a reply it is the node that the reply says.
+        ensures reply { (answering : List ℕ) (reply : Reply) → self.now ≡ entries_in answering reply →
+            MatchOption result (IsUncovered (entries_in answering reply) route.slot) (λ address. MatchOption strategy.entry
+            (IsNodeOfRoute (entries_in answering reply) route pick address.now)
+            (λ s. IsPickedNode (picks s.now) (entries_in answering reply) route address.now)) }
         // So one range at most answers for a slot.
         ensures order { Ascends self.now }
     {
@@ -233,7 +239,7 @@ impl SlotMap {
             (IsNodeOfRoute self.now route.0 pick address.now)
             (λ s. IsPickedNode (picks s.now) self.now route.0 address.now))) routes.now found.items) }
     {
-        let mut found = Vec::new(alloc);
+        let mut found = Vec::with_capacity(alloc, routes.len())?;
         for (route, _) in routes {
             found.push(self.slot_addr_for_route(*route, strategy, pick))?;
         }

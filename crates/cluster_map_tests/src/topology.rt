@@ -201,7 +201,7 @@ fn a_reply_makes_a_map(rt: HostRuntime) -> Result<(), Fail> {
     ];
     for (text, key, addr, want) in table {
         let map = SlotMap::from_reply(alloc, &array(alloc, text)?, "node")?;
-        let node = map.slot_addr_for_route(Route::with_key(key.as_bytes(), addr), 0);
+        let node = map.slot_addr_for_route(Route::with_key(key.as_bytes(), addr), None, 0);
         assert_eq!(rt;
             node.map(|n| (n.host(), n.port())),
             want,
@@ -223,8 +223,29 @@ fn a_reply_may_have_an_item_for_each_slot(rt: HostRuntime) -> Result<(), Fail> {
     assert_eq!(rt; parse_slots(alloc, &reply, "node")?.len(), 16384);
     let map = SlotMap::from_reply(alloc, &reply, "node")?;
     for slot in 0..16384 {
-        let node = map.slot_addr_for_route(Route::new(slot, SlotAddr::Master), 0);
+        let node = map.slot_addr_for_route(Route::new(slot, SlotAddr::Master), None, 0);
         assert_eq!(rt; node.map(|n| n.port()), Some(slot), "slot {slot}");
+    }
+    Ok(())
+}
+
+#[test]
+fn an_item_may_have_many_nodes_and_long_hosts(rt: HostRuntime) -> Result<(), Fail> {
+    let alloc = rt.alloc();
+    let mut item = vec![in alloc; Value::Int(0), Value::Int(16383)]?;
+    for port in 0..100 {
+        let host = Value::BulkString(vec![in alloc; b'h'; 300]?);
+        item.push(Value::Array(vec![in alloc; host, Value::Int(port)]?))?;
+    }
+    let reply = Value::Array(vec![in alloc; Value::Array(item)]?);
+    let ranges = parse_slots(alloc, &reply, "node")?;
+    assert_eq!(rt; ranges.len(), 1);
+    for range in &ranges {
+        assert_eq!(rt; range.master.host().len(), 300);
+        assert_eq!(rt; range.replicas.len(), 99);
+        for (place, replica) in range.replicas.iter().enumerate() {
+            assert_eq!(rt; usize::from(replica.port()), place + 1, "replica {place}");
+        }
     }
     Ok(())
 }

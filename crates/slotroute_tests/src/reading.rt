@@ -4,15 +4,17 @@ use slotroute_serve::serve;
 use std::io::{self, BufRead, ErrorKind, Read};
 use std::test::Fail;
 
-/// Gives the bytes of `rest` one by one, and fails where it is asked for more.
+/// Gives the bytes of `rest` one by one. Where it is asked for more, it fails and remembers that.
 #[derive(Drop)]
 struct BoundedReader<'a> {
     rest: &'a [u8],
+    is_asked_for_more: bool,
 }
 
 impl Read for BoundedReader<'_> {
     fn read(&mut self, buf: &mut [u8]) -> io::Result<usize> {
         if self.rest.is_empty() {
+            self.is_asked_for_more = true;
             return Err(io::Error::from(ErrorKind::WouldBlock));
         }
         let n = buf.len().min(1);
@@ -23,6 +25,7 @@ impl Read for BoundedReader<'_> {
 impl BufRead for BoundedReader<'_> {
     fn fill_buf(&mut self) -> io::Result<&[u8]> {
         if self.rest.is_empty() {
+            self.is_asked_for_more = true;
             return Err(io::Error::from(ErrorKind::WouldBlock));
         }
         Ok(&self.rest[..1])
@@ -50,11 +53,15 @@ fn nothing_more_is_asked_for(rt: HostRuntime) -> Result<(), Fail> {
     let alloc = rt.alloc();
     for (i, (texts, input, want_status)) in READINGS.iter().enumerate() {
         let words = words_of(alloc, texts)?;
-        let mut reader = BoundedReader { rest: input };
+        let mut reader = BoundedReader {
+            rest: input,
+            is_asked_for_more: false,
+        };
         let mut out = Vec::new(alloc);
         let mut err = Vec::new(alloc);
         let status = serve(alloc, &words, &mut reader, &mut out, &mut err);
         assert_eq!(rt; reader.rest.len(), 0, "at {i}");
+        assert!(rt; !reader.is_asked_for_more, "at {i}");
         assert_eq!(rt; status, *want_status, "at {i}");
         assert!(rt;
             err.as_slice() != b"slotroute: input failed\n".as_slice(),
