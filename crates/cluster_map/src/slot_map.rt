@@ -49,6 +49,7 @@ impl Model for SlotAddrs {
 }
 
 impl SlotAddrs {
+    /// The nodes of a range: its primary, and its replicas in order.
     pub fn new(primary: NodeAddress, replicas: Vec<NodeAddress>) -> Self
         ensures { result ≡ record { primary = primary; replicas = replicas.items } }
     {
@@ -143,6 +144,7 @@ impl Model for SlotMap {
 }
 
 impl SlotMap {
+    /// A map of no range. Takes no memory.
     pub fn new(alloc: Global) -> Self
         ensures { result ≡ [] }
     {
@@ -151,6 +153,7 @@ impl SlotMap {
         }
     }
 
+    /// The same as `new`.
     pub fn default(alloc: Global) -> Self
         ensures { result ≡ [] }
     {

@@ -77,12 +77,14 @@ impl NodeAddress {
         Ok(NodeAddress::new(alloc, host, port)?)
     }
 
+    /// The host, without brackets: a name, an IPv4 or an IPv6 address.
     pub fn host(&self) -> &str
         ensures { result.now ≡ self.now.host }
     {
         self.host.as_str()
     }
 
+    /// The port, 0 to 65535.
     pub fn port(&self) -> u16
         ensures { result ≡ self.now.port }
     {

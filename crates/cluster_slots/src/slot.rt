@@ -105,6 +105,7 @@ impl Route {
         Route { slot, slot_addr }
     }
 
+    /// A route to a slot.
     pub fn with_slot(slot: Slot, slot_addr: SlotAddr) -> Self
         ensures { result ≡ record { slot = slot; addr = slot_addr } }
     {
@@ -120,12 +121,14 @@ impl Route {
         Route::with_slot(Slot::for_key(key), slot_addr)
     }
 
+    /// The number of the slot, which `new` may have been given past 16383.
     pub fn slot(&self) -> u16
         ensures { result ≡ self.now.slot }
     {
         self.slot
     }
 
+    /// Which of the slot's nodes the command may go to.
     pub fn slot_addr(&self) -> SlotAddr
         ensures { result ≡ self.now.addr }
     {

@@ -50,6 +50,7 @@ pub struct DefaultFactory<T> {
 }
 
 impl<T> DefaultFactory<T> {
+    /// A factory of `T::default()`.
     pub fn new() -> Self {
         DefaultFactory {
             strategy: PhantomData,

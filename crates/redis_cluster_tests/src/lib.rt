@@ -1,4 +1,4 @@
-//! Tests of the public calls of `redis_cluster`, but for the combiners.
+//! Tests of the public calls of `redis_cluster`, but for the combiners and pipelines.
 #![tactic(auto)]
 
 #[cfg(test)]
@@ -7,8 +7,6 @@ mod for_routable;
 mod given;
 #[cfg(test)]
 mod info;
-#[cfg(test)]
-mod pipeline;
 #[cfg(test)]
 mod policy;
 #[cfg(test)]

@@ -5,6 +5,7 @@ use redis_cluster::routing::{
     AggregateOp, MultiSlotArgPattern, MultipleNodeRoutingInfo, ReadOnlyNames, ResponsePolicy,
     RoutingInfo, multi_slot_routes,
 };
+use resp_core::Cmd;
 use std::alloc::{AllocError, Global};
 use std::test::Fail;
 

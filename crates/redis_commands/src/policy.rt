@@ -7,35 +7,37 @@ use super::tables::POLICIES;
 /// How the bits in the replies of several nodes are joined, place by place.
 #[derive(Clone, Copy, Debug, PartialEq, Eq)]
 pub enum LogicalAggregateOp {
-    /// 1 where every reply has 1.
+    /// 1 where every reply has 1: `SCRIPT EXISTS sha1`.
     And,
 }
 
 /// How the numbers in the replies of several nodes make one.
 #[derive(Clone, Copy, Debug, PartialEq, Eq)]
 pub enum AggregateOp {
+    /// The least: `WAIT 1 100`.
     Min,
+    /// The sum: `DBSIZE`.
     Sum,
 }
 
 /// How the replies of several nodes make one reply.
 #[derive(Clone, Copy, Debug, PartialEq, Eq)]
 pub enum ResponsePolicy {
-    /// The first reply of a node that succeeded; the others may fail.
+    /// The first reply of a node that succeeded; the others may fail: `SCRIPT KILL`.
     OneSucceeded,
-    /// The first reply that is not empty, or an empty one where all are.
+    /// The first reply that is not empty, or an empty one where all are: `RANDOMKEY`.
     FirstSucceededNonEmptyOrAllEmpty,
-    /// One of the replies, where every node succeeded.
+    /// One of the replies, where every node succeeded: `MSET key value`.
     AllSucceeded,
-    /// Lists of 0 and 1, joined place by place.
+    /// Lists of 0 and 1, joined place by place: `SCRIPT EXISTS sha1`.
     AggregateLogical(LogicalAggregateOp),
-    /// Numbers, made into one.
+    /// Numbers, made into one: `DEL key1 key2`.
     Aggregate(AggregateOp),
-    /// Arrays, joined into one.
+    /// Arrays, joined into one: `KEYS *`, or `MGET key1 key2` by the places of its keys.
     CombineArrays,
-    /// Left to the caller.
+    /// Left to the caller: `INFO`.
     Special,
-    /// Maps of numbers, summed key by key.
+    /// Maps of numbers, summed key by key: `PUBSUB NUMSUB channel`.
     CombineMaps,
 }
 

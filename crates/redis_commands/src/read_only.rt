@@ -25,6 +25,7 @@ impl Model for ReadOnlyNames {
 }
 
 impl ReadOnlyNames {
+    /// A set of no name. Takes no memory.
     pub fn new(alloc: Global) -> Self
         ensures { result ≡ [] }
     {

@@ -9,13 +9,13 @@ use super::tables::BASE_ROUTINGS;
 /// How the arguments of a command over many keys make tuples of a key and what goes with it.
 #[derive(Clone, Copy, Debug, PartialEq, Eq)]
 pub enum MultiSlotArgPattern {
-    /// Each argument is a key.
+    /// Each argument is a key: `DEL key1 key2`.
     KeysOnly,
-    /// A key and its value in turn.
+    /// A key and its value in turn: `MSET key1 value1 key2 value2`.
     KeyValuePairs,
-    /// Each argument is a key but the last, which all keys share.
+    /// Each argument is a key but the last, which all keys share: `JSON.MGET key1 key2 path`.
     KeysAndLastArg,
-    /// A key and two arguments in turn.
+    /// A key and two arguments in turn: `JSON.MSET key1 path1 value1 key2 path2 value2`.
     KeyWithTwoArgTriples,
 }
 
@@ -69,15 +69,23 @@ impl MultiSlotArgPattern {
 /// Where the commands of a name go. Arguments are counted from 0, the first word of the command.
 #[derive(Clone, Copy, Debug, PartialEq, Eq)]
 pub enum RouteBy {
+    /// To each node: `CONFIG SET maxmemory 100mb`.
     AllNodes,
+    /// To each primary: `DBSIZE`.
     AllMasters,
+    /// Split by slot: `MGET key1 key2`.
     MultiSlot(MultiSlotArgPattern),
+    /// Nowhere, since one node's answer would mislead: `SCAN 0`.
     Undefined,
-    /// A number of keys at this argument, and the first key after it.
+    /// A number of keys at this argument, and the first key after it: `EVAL script 1 key`.
     CountAt(u8),
+    /// The key is this argument: `BITOP AND dest key`.
     KeyAt(u8),
+    /// The key follows the argument STREAMS: `XREAD COUNT 2 STREAMS key 0`.
     KeyAfterStreams,
+    /// To any node: `ECHO hello`.
     Random,
+    /// A slot number is argument 2: `CLUSTER COUNTKEYSINSLOT 7`.
     SlotAtTwo,
 }
 

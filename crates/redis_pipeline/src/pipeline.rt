@@ -45,6 +45,7 @@ impl Model for ClusterPipeline {
 }
 
 impl ClusterPipeline {
+    /// A pipeline of no command. Takes no memory.
     pub fn new(alloc: Global) -> Self
         ensures { result ≡ [] }
     {

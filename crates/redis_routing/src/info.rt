@@ -27,25 +27,26 @@ pub enum RoutingInfo {
 /// The one node that a command goes to.
 #[derive(Debug, PartialEq, Eq, Drop)]
 pub enum SingleNodeRoutingInfo {
-    /// Any node will do.
+    /// Any node will do: `ECHO hello`, or `EVAL 'return 1' 0`.
     Random,
-    /// Any primary will do.
+    /// Any primary will do. No rule of this layer answers it; a caller may.
     RandomPrimary,
-    /// A node of the route's slot.
+    /// A node of the route's slot: `GET foo`, slot 12182.
     SpecificNode(Route),
-    /// The node at this address.
+    /// The node at this address, as after a redirect.
     ByAddress { host: String, port: u16 },
 }
 
 /// The nodes that a command goes to.
 #[derive(Debug, PartialEq, Eq, Drop)]
 pub enum MultipleNodeRoutingInfo {
-    /// Each node.
+    /// Each node: `CONFIG SET maxmemory 100mb`.
     AllNodes,
-    /// Each primary.
+    /// Each primary: `DBSIZE`.
     AllMasters,
     /// Each route gets the part of the command that these places are, counted from 0 after the
-    /// name, under the pattern.
+    /// name, under the pattern. `MSET foo bar foo2 bar2 {foo}foo3 bar3` has the routes 12182 with
+    /// places 0, 1, 4, 5, and 1044 with places 2, 3.
     MultiSlot((Vec<(Route, Vec<usize>)>, MultiSlotArgPattern)),
 }
 

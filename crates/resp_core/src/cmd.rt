@@ -23,6 +23,7 @@ impl Model for Cmd {
 }
 
 impl Cmd {
+    /// A command of no item. Takes no memory.
     pub fn new(alloc: Global) -> Cmd
         ensures { result ≡ [] }
     {
@@ -87,6 +88,7 @@ impl Cmd {
         self.args.len()
     }
 
+    /// Whether there is no item.
     pub fn is_empty(&self) -> bool
         ensures { IsTrue result ↔ (self.now ≡ []) }
     {

@@ -40,6 +40,7 @@ impl Model for RedisError {
 pub type RedisResult<T> = Result<T, RedisError>;
 
 impl RedisError {
+    /// What kind of thing went wrong.
     pub fn kind(&self) -> ErrorKind
         ensures { result ≡ self.now.kind }
     {

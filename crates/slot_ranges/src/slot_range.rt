@@ -25,6 +25,7 @@ impl Model for SlotRange {
 }
 
 impl SlotRange {
+    /// The slots from `start` to `end`, both included, and the nodes that serve them.
     pub fn new(start: u16, end: u16, master: NodeAddress, replicas: Vec<NodeAddress>) -> Self
         ensures { result ≡ record { start = start; end = end; master = master; replicas = replicas.items } }
     {

@@ -29,6 +29,7 @@ impl<V> Model for SlotRangeMap<V> {
 }
 
 impl<V> SlotRangeMap<V> {
+    /// A map of no range. Takes no memory.
     pub fn new(alloc: Global) -> Self
         ensures { result ≡ [] }
     {
@@ -37,6 +38,7 @@ impl<V> SlotRangeMap<V> {
         }
     }
 
+    /// The same as `new`.
     pub fn default(alloc: Global) -> Self
         ensures { result ≡ [] }
     {

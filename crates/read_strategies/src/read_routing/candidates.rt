@@ -14,18 +14,21 @@ pub struct AnyNodeCandidates<'a> {
 impl<'a> AnyNodeCandidates<'a> {
     ghost use Rattle.read_strategies.specs.ReadCandidates.{addresses_of, any_node_of};
 
+    /// The slot of the key that is read.
     pub fn slot(&self) -> u16
         ensures { result ≡ (any_node_of self.now).slot }
     {
         self.slot
     }
 
+    /// The primary, which may be picked too.
     pub fn primary(&self) -> &'a NodeAddress
         ensures { (any_node_of self.now).primary ≡ Some result.now }
     {
         self.primary
     }
 
+    /// The replicas, at least one.
     pub fn replicas(&self) -> Replicas<'a>
         ensures { addresses_of result ≡ (any_node_of self.now).replicas }
     {
@@ -43,12 +46,14 @@ pub struct ReplicasOnlyCandidates<'a> {
 impl<'a> ReplicasOnlyCandidates<'a> {
     ghost use Rattle.read_strategies.specs.ReadCandidates.{addresses_of, replicas_only_of};
 
+    /// The slot of the key that is read.
     pub fn slot(&self) -> u16
         ensures { result ≡ (replicas_only_of self.now).slot }
     {
         self.slot
     }
 
+    /// The replicas, at least one.
     pub fn replicas(&self) -> Replicas<'a>
         ensures { addresses_of result ≡ (replicas_only_of self.now).replicas }
     {
@@ -66,6 +71,7 @@ pub enum ReadCandidates<'a> {
 impl<'a> ReadCandidates<'a> {
     ghost use Rattle.read_strategies.specs.ReadCandidates.{addresses_of, candidates_of};
 
+    /// The slot of the key that is read.
     pub fn slot(&self) -> u16
         ensures { result ≡ (candidates_of self.now).slot }
     {
@@ -75,6 +81,7 @@ impl<'a> ReadCandidates<'a> {
         }
     }
 
+    /// Candidates of a read that the primary may answer too.
     pub fn any_node(slot: u16, primary: &'a NodeAddress, replicas: Replicas<'a>) -> Self
         ensures { candidates_of result ≡ record { slot = slot; primary = Some primary.now; replicas = addresses_of replicas.entry } }
     {
@@ -85,6 +92,7 @@ impl<'a> ReadCandidates<'a> {
         })
     }
 
+    /// Candidates of a read that a replica must answer.
     pub fn replicas_only(slot: u16, replicas: Replicas<'a>) -> Self
         ensures { candidates_of result ≡ record { slot = slot; primary = None; replicas = addresses_of replicas.entry } }
     {

@@ -26,6 +26,7 @@ impl<'a> Replicas<'a> {
         }
     }
 
+    /// How many replicas there are, at least 1.
     pub fn len(&self) -> usize
         ensures value { result ≡ length (addresses_of self.now) }
         ensures some { 0 < result }
@@ -33,12 +34,14 @@ impl<'a> Replicas<'a> {
         self.nodes.len()
     }
 
+    /// The first replica.
     pub fn first(&self) -> &'a NodeAddress
         ensures { slice_get (addresses_of self.now) 0 ≡ Some result.now }
     {
         &self.nodes[0]
     }
 
+    /// The replica at a place, counted from 0, if there is one.
     pub fn get(&self, index: usize) -> Option<&'a NodeAddress>
         ensures { option_copied result ≡ slice_get (addresses_of self.now) index }
     {
@@ -52,6 +55,7 @@ impl<'a> Replicas<'a> {
         &self.nodes[pick % self.len()]
     }
 
+    /// The replicas in order.
     pub fn iter(&self) -> slice::Iter<'a, NodeAddress>
         ensures { iter_rest result ≡ addresses_of self.now }
     {

@@ -22,6 +22,7 @@ impl Model for Shard {
 }
 
 impl Shard {
+    /// A shard of these ranges, both ends of each included, and these nodes.
     pub fn new(ranges: Vec<(u16, u16)>, primary: NodeAddress, replicas: Vec<NodeAddress>) -> Self
         ensures { result ≡ record { ranges = ranges.items; primary = primary; replicas = replicas.items } }
     {
@@ -32,18 +33,21 @@ impl Shard {
         }
     }
 
+    /// The ranges of slots, as (start, end), both included.
     pub fn slot_ranges(&self) -> &[(u16, u16)]
         ensures { result.now ≡ self.now.ranges }
     {
         self.ranges.as_slice()
     }
 
+    /// The node that writes go to.
     pub fn primary(&self) -> &NodeAddress
         ensures { result.now ≡ self.now.primary }
     {
         &self.primary
     }
 
+    /// The replicas, in the order of the reply that told of them.
     pub fn replicas(&self) -> &[NodeAddress]
         ensures { result.now ≡ self.now.replicas }
     {

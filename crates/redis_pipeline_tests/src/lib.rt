@@ -1,0 +1,5 @@
+//! Tests of pipelines.
+#![tactic(auto)]
+
+#[cfg(test)]
+mod pipeline;
