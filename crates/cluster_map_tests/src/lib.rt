@@ -1,15 +1,7 @@
-//! Tests of the public calls of `cluster_map`.
+//! Tests of slot maps, shards and read strategies.
 #![tactic(auto)]
 
 #[cfg(test)]
-mod node_address;
-#[cfg(test)]
 mod read_routing;
 #[cfg(test)]
-mod slot;
-#[cfg(test)]
 mod slot_map;
-#[cfg(test)]
-mod slot_range_map;
-#[cfg(test)]
-mod topology;

@@ -1,0 +1,7 @@
+//! Tests of addresses and slots.
+#![tactic(auto)]
+
+#[cfg(test)]
+mod node_address;
+#[cfg(test)]
+mod slot;
