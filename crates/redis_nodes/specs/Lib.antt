@@ -1,0 +1,4 @@
+pub mod MultiKey
+pub mod Unsplit
+pub mod Trace
+pub mod Sent
