@@ -60,6 +60,7 @@ pub(super) fn run_len<R: Routable>(command: &R, words: usize) -> usize
     requires { words < 2 ^ 63 }
     ensures run { result ≡ length (run_after words (R.args command.now)) }
     ensures few { result < 2 ^ 63 }
+    ensures arguments { length (R.args command.now) < 2 ^ 63 }
 {
     let mut run = 0;
     while command.arg_idx(run + words).is_some() {
