@@ -1,1 +1,2 @@
 pub mod SplitParts
+pub mod SplitPlaces

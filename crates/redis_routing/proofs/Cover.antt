@@ -178,7 +178,7 @@ tiles_from KeysAndLastArg low run even = tiles_alone low run
 tiles_from KeyWithTwoArgTriples low run even = tiles_triples low run even
 
 -- no more arguments make tuples than there are
-own_small : (pattern : MultiSlotArgPattern) (m : ℕ) → own_count pattern m ≤ m
+pub own_small : (pattern : MultiSlotArgPattern) (m : ℕ) → own_count pattern m ≤ m
 own_small KeysOnly m = omega arith
 own_small KeyValuePairs m = omega arith
 own_small KeysAndLastArg m = by_test (nat_lt 1 m) (λ many. rw many (omega arith)) (λ one. rw one (omega arith))

@@ -236,7 +236,7 @@ fits_some KeysAndLastArg m h = grind (arith, nat_tests)
 fits_some KeyWithTwoArgTriples zero h = absurd (cc h)
 fits_some KeyWithTwoArgTriples (suc m) h = omega arith
 
-front_short : (args : Arguments) → length (front args) ≤ length args
+pub front_short : (args : Arguments) → length (front args) ≤ length args
 front_short [] = omega arith
 front_short (None ∷ args) = omega arith
 front_short (Some arg ∷ args) = omega (arith, front_short args)
