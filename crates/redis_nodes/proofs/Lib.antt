@@ -1,2 +1,5 @@
 pub mod SplitParts
 pub mod SplitPlaces
+pub mod Counts
+pub mod Fold
+pub mod Parts
