@@ -1,5 +1,5 @@
 -- How often numbers stand in lists, and sums that count.
-use Rattle.std.proofs.Common.{◌≡◌, ℕ, zero, suc, ◌+◌, ◌*◌, ◌<◌, ◌≤◌, List, [], ◌∷◌, ◌++◌, Bool, true, false, cond, map, refl, sym, ap, ◌∙◌, arith}
+use Rattle.std.proofs.Common.{◌≡◌, ℕ, ◌+◌, ◌*◌, ◌<◌, List, [], ◌∷◌, ◌++◌, true, false, cond, refl, sym, ap, ◌∙◌, arith}
 use Rattle.std.specs.Prelude.{nat_eq}
 use Rattle.std.specs.List.{sum_by, list_any}
 use Rattle.std.proofs.lemmas.Bool.Decides.{nat_tests}
@@ -28,13 +28,6 @@ times-append n xs ys = sum_by-append (λ y. cond (nat_eq n y) 1 0) xs ys
 -- with the number at its end a list has it once more
 pub times_push : (n : ℕ) (xs : List ℕ) → times n (xs ++ n ∷ []) ≡ times n xs + 1
 times_push n xs = sum_by_push (λ y. cond (nat_eq n y) 1 0) xs n ∙ ap (λ b. times n xs + cond b 1 0) (same_number n)
-
--- how often a number stands among the values of a function is a sum
-pub times-map : {X : Type 0} (f : X → ℕ) (n : ℕ) (xs : List X) → times n (map f xs) ≡ sum_by (λ x. cond (nat_eq n (f x)) 1 0) xs
-times-map f n [] = refl
-times-map f n (x ∷ xs) =
-    sum_by-cons (λ y. cond (nat_eq n y) 1 0) (f x) (map f xs) ∙ ap (λ k. cond (nat_eq n (f x)) 1 0 + k) (times-map f n xs)
-    ∙ sym (sum_by-cons (λ y. cond (nat_eq n (f y)) 1 0) x xs)
 
 -- a number that stands in a list is found there
 pub found : (n : ℕ) (xs : List ℕ) → 0 < times n xs → list_any (λ x. nat_eq n x) xs ≡ true
@@ -73,4 +66,4 @@ sum_at n w (x ∷ xs) =
     by_test (nat_eq n x)
     (λ here. e ∙ ap (λ b. cond b w 0 + sum_by (λ x. cond (nat_eq n x) w 0) xs) here ∙ ap (λ k. w + k) rest ∙ sym (ap (λ k. k * w) (times_here n x xs here) ∙ one_more (times n xs) w))
     (λ there. let none = e ∙ ap (λ b. cond b w 0 + sum_by (λ x. cond (nat_eq n x) w 0) xs) there in
-      omega (arith, none, rest, ap (λ k. k * w) (times_there n x xs there)))
+    omega (arith, none, rest, ap (λ k. k * w) (times_there n x xs there)))

@@ -1,15 +1,14 @@
 -- What tuples do to a keyspace is, at each key, what they do to that key's cell. So the parts of a command may be run in any order.
-use Rattle.std.proofs.Common.{◌≡◌, ℕ, suc, ◌+◌, ◌<◌, ◌≤◌, List, [], ◌∷◌, ◌++◌, Bool, true, false, cond, Option, refl, sym, ap, ◌∙◌, arith, inl, inr, ◌⊎◌, filter, length, append_assoc}
+use Rattle.std.proofs.Common.{◌≡◌, ℕ, ◌≤◌, List, [], ◌∷◌, ◌++◌, Bool, true, false, cond, Option, refl, sym, ap, ◌∙◌, arith, inl, inr, ◌⊎◌, filter}
 use Rattle.std.specs.Prelude.{nat_eq}
 use Rattle.std.specs.Str.{bytes_eq}
 use Rattle.std.specs.List.{flat_map, list_any}
-use Rattle.std.proofs.lemmas.Bool.{cases_lt, eqb-true}
-use Rattle.std.proofs.lemmas.List.{append-nil}
+use Rattle.std.proofs.lemmas.Bool.{cases_lt}
 use Rattle.std.proofs.lemmas.Slice.Eq.{bytes_eq-Decides}
 use Rattle.cluster_slots.specs.KeySlot.{key_slot}
 use Rattle.resp_core.proofs.Cases.{by_test}
 use Rattle.redis_nodes.specs.MultiKey.{KeyTuple, tuples_of_slot}
-use Rattle.redis_nodes.specs.Unsplit.{Act, Keyspace, Result, put, after, results}
+use Rattle.redis_nodes.specs.Unsplit.{Act, Keyspace, put, after}
 use Rattle.redis_nodes.specs.Orders.{times, tuples_of_slots}
 use Rattle.redis_nodes.proofs.Counts.{times_here, times_there, found, not_found}
 
@@ -56,8 +55,8 @@ module _ {C : Type 0} (act : Act C) where
   skips test key other (t ∷ ts) c =
       by_test (test (key_slot t.key))
       (λ here. by_test (bytes_eq t.key key)
-        (λ h. absurd (let e = same_answer test t.key key h in cc))
-        (λ h. rw (here, cell_after, h) (skips test key other ts c)))
+      (λ h. absurd (let e = same_answer test t.key key h in cc))
+      (λ h. rw (here, cell_after, h) (skips test key other ts c)))
       (λ there. rw there (skips test key other ts c))
 
   -- the tuples of slots of which the key's is one do what all tuples do
@@ -67,8 +66,8 @@ module _ {C : Type 0} (act : Act C) where
       by_test (test (key_slot t.key))
       (λ here. rw here (keeps test key own ts _))
       (λ there. by_test (bytes_eq t.key key)
-        (λ h. absurd (let e = same_answer test t.key key h in cc))
-        (λ h. rw (there, cell_after, h) (keeps test key own ts c)))
+      (λ h. absurd (let e = same_answer test t.key key h in cc))
+      (λ h. rw (there, cell_after, h) (keeps test key own ts c)))
 
   -- the parts of slots that are not the key's leave its cell
   pub joined_skips : (key : List ℕ) (ts : List KeyTuple) (slots : List ℕ) (c : Option C) → times (key_slot key) slots ≡ 0 → cell_after key (joined slots ts) c ≡ c
@@ -127,9 +126,9 @@ module _ {C : Type 0} (act : Act C) where
   pub joined_is_whole : (slots : List ℕ) (ts : List KeyTuple) (ks : Keyspace C) → Covers slots ts → after act (joined slots ts) ks ≡ after act ts ks
   joined_is_whole slots ts ks h = λ i key. (after_is (joined slots ts) ks key
       ∙ elim (covered_or_idle key slots ts h) as (λ _. cell_after key (joined slots ts) (ks key) ≡ cell_after key ts (ks key)) [
-          | inl once ↦ joined_keeps key ts slots (ks key) once
-          | inr idle ↦ idle_joined key slots ts (ks key) idle ∙ sym (idle_after key ts (ks key) idle)
-        ]
+        | inl once ↦ joined_keeps key ts slots (ks key) once
+        | inr idle ↦ idle_joined key slots ts (ks key) idle ∙ sym (idle_after key ts (ks key) idle)
+      ]
       ∙ sym (after_is ts ks key)) i
 
   -- at one key, parts of different slots do what the tuples of those slots do

@@ -3,3 +3,5 @@ pub mod SplitPlaces
 pub mod Counts
 pub mod Fold
 pub mod Parts
+pub mod Orders
+pub mod Whole

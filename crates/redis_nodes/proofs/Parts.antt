@@ -1,5 +1,5 @@
 -- One part more is run: what it leaves, and what its tuples add to the reply.
-use Rattle.std.proofs.Common.{◌≡◌, ℕ, suc, List, [], ◌∷◌, ◌++◌, Bool, true, false, cond, Option, refl, sym, ap, ◌∙◌, arith, length, map, append_assoc}
+use Rattle.std.proofs.Common.{◌≡◌, ℕ, suc, List, [], ◌∷◌, ◌++◌, true, cond, refl, sym, ap, ◌∙◌, length, append_assoc}
 use Rattle.std.specs.Prelude.{nat_eq}
 use Rattle.std.specs.Str.{bytes_eq}
 use Rattle.std.proofs.lemmas.Bool.{eqb-true}
@@ -39,13 +39,13 @@ module _ {C : Type 0} (act : Act C) where
   results-part slot (t ∷ ts) ks now agree =
       by_test (nat_eq (key_slot t.key) slot)
       (λ here. rw here
-        (ap (λ c. (act t c).result ∷ results act (tuples_of_slot slot ts) (put t.key (act t c).cell now)) (agree t.key here)
-        ∙ ap (λ rs. (act t (ks t.key)).result ∷ rs) (results-part slot ts (put t.key (act t (ks t.key)).cell ks) (put t.key (act t (ks t.key)).cell now)
-          (λ key own. ap (cond (bytes_eq t.key key) (act t (ks t.key)).cell) (agree key own)))))
+      (ap (λ c. (act t c).result ∷ results act (tuples_of_slot slot ts) (put t.key (act t c).cell now)) (agree t.key here)
+      ∙ ap (λ rs. (act t (ks t.key)).result ∷ rs) (results-part slot ts (put t.key (act t (ks t.key)).cell ks) (put t.key (act t (ks t.key)).cell now)
+      (λ key own. ap (cond (bytes_eq t.key key) (act t (ks t.key)).cell) (agree key own)))))
       (λ there. rw there (results-part slot ts (put t.key (act t (ks t.key)).cell ks) now
-        (λ key own. agree key own ∙ by_test (bytes_eq t.key key)
-          (λ h. absurd (let e = same_answer (λ n. nat_eq n slot) t.key key h in cc))
-          (λ h. rw h refl))))
+      (λ key own. agree key own ∙ by_test (bytes_eq t.key key)
+      (λ h. absurd (let e = same_answer (λ n. nat_eq n slot) t.key key h in cc))
+      (λ h. rw h refl))))
 
   -- After parts of other slots a part leaves what all these parts leave.
   pub one_part_more : (before : List ℕ) (slot : ℕ) (ts : List KeyTuple) (ks : Keyspace C) → after act (tuples_of_slot slot ts) (after act (joined before ts) ks) ≡ after act (joined (before ++ slot ∷ []) ts) ks
