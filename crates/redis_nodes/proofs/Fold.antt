@@ -17,9 +17,9 @@ abbrev pub joined : List ℕ → List KeyTuple → List KeyTuple
 joined slots ts = flat_map (λ slot. tuples_of_slot slot ts) slots
 
 -- the slot of each tuple stands in the list once
-abbrev pub Covers : List ℕ → List KeyTuple → Type 0
-Covers slots [] = Unit {0}
-Covers slots (t ∷ ts) = (times (key_slot t.key) slots ≡ 1) × Covers slots ts
+abbrev pub NamesSlots : List ℕ → List KeyTuple → Type 0
+NamesSlots slots [] = Unit {0}
+NamesSlots slots (t ∷ ts) = (times (key_slot t.key) slots ≡ 1) × NamesSlots slots ts
 
 -- keys of the same bytes are one key
 same_key : (a b : List ℕ) → bytes_eq a b ≡ true → a ≡ b
@@ -115,17 +115,17 @@ module _ {C : Type 0} (act : Act C) where
       ∙ ap (cell_after key (joined slots ts)) (idle_part key slot ts c h) ∙ idle_joined key slots ts c h
 
   -- a key has a slot that is named once, or none of the tuples
-  covered_or_idle : (key : List ℕ) (slots : List ℕ) (ts : List KeyTuple) → Covers slots ts → (times (key_slot key) slots ≡ 1) ⊎ Idle key ts
-  covered_or_idle key slots [] h = inr tt
-  covered_or_idle key slots (t ∷ ts) h =
+  named_or_idle : (key : List ℕ) (slots : List ℕ) (ts : List KeyTuple) → NamesSlots slots ts → (times (key_slot key) slots ≡ 1) ⊎ Idle key ts
+  named_or_idle key slots [] h = inr tt
+  named_or_idle key slots (t ∷ ts) h =
       by_test (bytes_eq t.key key)
       (λ e. inl (ap (λ k. times (key_slot k) slots) (sym (same_key t.key key e)) ∙ h.0))
-      (λ e. elim (covered_or_idle key slots ts h.1) [ inl once ↦ inl once | inr idle ↦ inr (e, idle) ])
+      (λ e. elim (named_or_idle key slots ts h.1) [ inl once ↦ inl once | inr idle ↦ inr (e, idle) ])
 
   -- All parts, in any order, leave what the command leaves that is not split.
-  pub joined_is_whole : (slots : List ℕ) (ts : List KeyTuple) (ks : Keyspace C) → Covers slots ts → after act (joined slots ts) ks ≡ after act ts ks
+  pub joined_is_whole : (slots : List ℕ) (ts : List KeyTuple) (ks : Keyspace C) → NamesSlots slots ts → after act (joined slots ts) ks ≡ after act ts ks
   joined_is_whole slots ts ks h = λ i key. (after_is (joined slots ts) ks key
-      ∙ elim (covered_or_idle key slots ts h) as (λ _. cell_after key (joined slots ts) (ks key) ≡ cell_after key ts (ks key)) [
+      ∙ elim (named_or_idle key slots ts h) as (λ _. cell_after key (joined slots ts) (ks key) ≡ cell_after key ts (ks key)) [
         | inl once ↦ joined_keeps key ts slots (ks key) once
         | inr idle ↦ idle_joined key slots ts (ks key) idle ∙ sym (idle_after key ts (ks key) idle)
       ]

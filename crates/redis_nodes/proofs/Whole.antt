@@ -6,24 +6,24 @@ use Rattle.cluster_slots.specs.KeySlot.{key_slot}
 use Rattle.redis_nodes.specs.MultiKey.{KeyTuple, tuples_of_slot}
 use Rattle.redis_nodes.specs.Unsplit.{Act, Keyspace, after, results}
 use Rattle.redis_nodes.specs.Orders.{times, NamesOnce, in_order, tuples_of_slots}
-use Rattle.redis_nodes.proofs.Fold.{joined, Covers, joined_is_whole, joined_is_of_slots}
+use Rattle.redis_nodes.proofs.Fold.{joined, NamesSlots, joined_is_whole, joined_is_of_slots}
 use Rattle.redis_nodes.proofs.Parts.{chosen, one_part_more, results_one_more}
 use Rattle.redis_nodes.proofs.Orders.{times-in_order, apart_front, not_before, in_order_more}
 
--- slots cover tuples if the slot of each tuple stands there once
-pub covers_from : (slots : List ℕ) (ts : List KeyTuple) → All (λ t. times (key_slot t.key) slots ≡ 1) ts → Covers slots ts
-covers_from slots [] h = tt
-covers_from slots (t ∷ ts) h = (All-head (λ x. times (key_slot x.key) slots ≡ 1) t ts h, covers_from slots ts (All-tail (λ x. times (key_slot x.key) slots ≡ 1) t ts h))
+-- the same of each tuple by its place in the list
+pub names_slots_from : (slots : List ℕ) (ts : List KeyTuple) → All (λ t. times (key_slot t.key) slots ≡ 1) ts → NamesSlots slots ts
+names_slots_from slots [] h = tt
+names_slots_from slots (t ∷ ts) h = (All-head (λ x. times (key_slot x.key) slots ≡ 1) t ts h, names_slots_from slots ts (All-tail (λ x. times (key_slot x.key) slots ≡ 1) t ts h))
 
--- slots cover tuples in another order too
-pub covers-in_order : (slots order : List ℕ) (ts : List KeyTuple) → NamesOnce (length slots) order → Covers slots ts → Covers (in_order slots order) ts
-covers-in_order slots order [] names h = tt
-covers-in_order slots order (t ∷ ts) names h = (times-in_order (key_slot t.key) slots order names ∙ h.0, covers-in_order slots order ts names h.1)
+-- slots that are named are so in another order too
+pub names_slots-in_order : (slots order : List ℕ) (ts : List KeyTuple) → NamesOnce (length slots) order → NamesSlots slots ts → NamesSlots (in_order slots order) ts
+names_slots-in_order slots order [] names h = tt
+names_slots-in_order slots order (t ∷ ts) names h = (times-in_order (key_slot t.key) slots order names ∙ h.0, names_slots-in_order slots order ts names h.1)
 
 module _ {C : Type 0} (act : Act C) (slots order : List ℕ) (ts : List KeyTuple) (ks : Keyspace C) where
   -- After all parts the keyspace is what the command leaves that is not split.
-  pub keyspace_of_all : NamesOnce (length slots) order → Covers slots ts → after act (joined (in_order slots order) ts) ks ≡ after act ts ks
-  keyspace_of_all names covers = joined_is_whole act (in_order slots order) ts ks (covers-in_order slots order ts names covers)
+  pub keyspace_of_all : NamesOnce (length slots) order → NamesSlots slots ts → after act (joined (in_order slots order) ts) ks ≡ after act ts ks
+  keyspace_of_all names named = joined_is_whole act (in_order slots order) ts ks (names_slots-in_order slots order ts names named)
 
   -- After the first parts of an order it is what the tuples of their slots leave, in the order of the arguments.
   pub keyspace_at_stop : (i : ℕ) → NamesOnce (length slots) order → ((n : ℕ) → times n slots ≤ 1) → after act (joined (in_order slots (take i order)) ts) ks ≡ after act (tuples_of_slots (in_order slots (take i order)) ts) ks
