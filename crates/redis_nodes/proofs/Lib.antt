@@ -5,3 +5,4 @@ pub mod Fold
 pub mod Parts
 pub mod Orders
 pub mod Whole
+pub mod Once

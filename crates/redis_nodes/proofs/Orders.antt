@@ -19,7 +19,7 @@ below zero f = 0
 below (suc n) f = f 0 + below n (λ k. f (suc k))
 
 -- functions that agree below n have one sum
-below_same : (n : ℕ) (f g : ℕ → ℕ) → ((k : ℕ) → k < n → f k ≡ g k) → below n f ≡ below n g
+pub below_same : (n : ℕ) (f g : ℕ → ℕ) → ((k : ℕ) → k < n → f k ≡ g k) → below n f ≡ below n g
 below_same zero f g e = refl
 below_same (suc n) f g e = omega (arith, e 0 (omega arith), below_same n (λ k. f (suc k)) (λ k. g (suc k)) (λ k l. e (suc k) (omega arith)))
 

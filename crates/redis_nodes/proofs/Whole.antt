@@ -10,7 +10,7 @@ use Rattle.redis_nodes.proofs.Fold.{joined, NamesSlots, joined_is_whole, joined_
 use Rattle.redis_nodes.proofs.Parts.{chosen, one_part_more, results_one_more}
 use Rattle.redis_nodes.proofs.Orders.{times-in_order, apart_front, not_before, in_order_more}
 
--- the same of each tuple by its place in the list
+-- a list names the slots of tuples if it has the slot of each of them once
 pub names_slots_from : (slots : List ℕ) (ts : List KeyTuple) → All (λ t. times (key_slot t.key) slots ≡ 1) ts → NamesSlots slots ts
 names_slots_from slots [] h = tt
 names_slots_from slots (t ∷ ts) h = (All-head (λ x. times (key_slot x.key) slots ≡ 1) t ts h, names_slots_from slots ts (All-tail (λ x. times (key_slot x.key) slots ≡ 1) t ts h))
