@@ -54,8 +54,13 @@ pub sum_alike : {X : Type 0} (f g : X → ℕ) → ((x : X) → f x ≡ g x) →
 sum_alike f g e [] = refl
 sum_alike f g e (x ∷ xs) = omega (arith, sum_by-cons f x xs, sum_by-cons g x xs, e x, sum_alike f g e xs)
 
+-- once more
 pub one_more : (n w : ℕ) → (1 + n) * w ≡ w + n * w
 one_more n w = grind arith
+
+-- once
+pub once_times : (w : ℕ) → 1 * w ≡ w
+once_times w = omega arith
 
 -- what is added wherever a number stands, in all
 pub sum_at : (n w : ℕ) (xs : List ℕ) → sum_by (λ x. cond (nat_eq n x) w 0) xs ≡ times n xs * w

@@ -6,3 +6,5 @@ pub mod Parts
 pub mod Orders
 pub mod Whole
 pub mod Once
+pub mod Totals
+pub mod Places

@@ -11,7 +11,7 @@ use Rattle.std.proofs.lemmas.List.Sums.{sum_by-cons, sum_by-append}
 use Rattle.std.proofs.lemmas.Option.{slice_get-map}
 use Rattle.resp_core.proofs.Cases.{by_test}
 use Rattle.redis_nodes.specs.Orders.{times, NamesOnce, in_order}
-use Rattle.redis_nodes.proofs.Counts.{same_number, times_here, times_there, times-append, times_push, one_more}
+use Rattle.redis_nodes.proofs.Counts.{same_number, times_here, times_there, times-append, times_push, one_more, once_times}
 
 -- the sum of a function's values at the numbers below n
 abbrev pub below : ℕ → (ℕ → ℕ) → ℕ
@@ -65,9 +65,6 @@ below_list f (x ∷ xs) = ap (λ s. 0 + f x + s) (below_list f xs) ∙ ap (λ s.
 sum-flat_map : {X Y : Type 0} (f : Y → ℕ) (h : X → List Y) (xs : List X) → sum_by f (flat_map h xs) ≡ sum_by (λ x. sum_by f (h x)) xs
 sum-flat_map f h [] = refl
 sum-flat_map f h (x ∷ xs) = sum_by-append f (h x) (flat_map h xs) ∙ ap (λ s. sum_by f (h x) + s) (sum-flat_map f h xs) ∙ sym (sum_by-cons (λ y. sum_by f (h y)) x xs)
-
-once_times : (w : ℕ) → 1 * w ≡ w
-once_times w = omega arith
 
 -- What is taken in an order that names each place once has the same sums.
 pub sum-in_order : {X : Type 0} (f : X → ℕ) (xs : List X) (order : List ℕ) → NamesOnce (length xs) order → sum_by f (in_order xs order) ≡ sum_by f xs
