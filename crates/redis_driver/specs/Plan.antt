@@ -7,7 +7,7 @@ use Rattle.redis_commands.specs.Run.{run_after}
 use Rattle.redis_routing.specs.Split.{Split, IsSplit, split_part}
 use Rattle.redis_nodes.specs.MultiKey.{KeyTuple, ReplyForm, tuples_of, form_by_policy}
 use Rattle.redis_nodes.specs.SlotResults.{results_of_slot}
-use Rattle.redis_nodes.specs.Unsplit.{Result, reply_by}
+use Rattle.redis_nodes.specs.Unsplit.{TupleResult, reply_by}
 
 -- the command with its routes, and for each route its node, its part, and its reply, if that was told
 pub record Plan : Type 0 where
@@ -37,13 +37,13 @@ abbrev pub tuples_in_split : Split → List KeyTuple
 tuples_in_split split = tuples_of split.pattern (run_after split.words split.arguments)
 
 -- These are the replies to the parts, where the tuples of the unsplit command have these results.
-pub record ArePartsAnswered (split : Split) (form : ReplyForm) (results : List Result) (replies : List Reply) : Type 0 where
+pub record ArePartsAnswered (split : Split) (form : ReplyForm) (results : List TupleResult) (replies : List Reply) : Type 0 where
   pub form_is : form_by_policy split.policy ≡ Some form
   pub each : length results ≡ length (tuples_in_split split)
   pub replies_are : replies ≡ map (λ slot. reply_by form (results_of_slot slot (tuples_in_split split) results)) (slots_of split.routes)
 
 -- All replies of the plan were told, and these are they.
-pub record ArePartReplies (plan : Plan) (form : ReplyForm) (results : List Result) : Type 0 where
+pub record ArePartReplies (plan : Plan) (form : ReplyForm) (results : List TupleResult) : Type 0 where
   pub replies : List Reply
   pub all_told : plan.replies ≡ map Some replies
   pub answered : ArePartsAnswered plan.split form results replies

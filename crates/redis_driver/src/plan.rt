@@ -11,7 +11,7 @@ ghost use Rattle.redis_routing.specs.Split.{policy_by_name, split_part};
 ghost use Rattle.redis_routing.specs.Target.{route_lists};
 ghost use Rattle.redis_nodes.specs.MultiKey.{ReplyForm, list};
 ghost use Rattle.redis_nodes.specs.Unsplit.{reply_by};
-ghost use Rattle.redis_nodes.specs.Unsplit.{Result as Added};
+ghost use Rattle.redis_nodes.specs.Unsplit.{TupleResult};
 ghost use Rattle.redis_driver.specs.Driven.{IsFirstUncovered};
 ghost use Rattle.redis_driver.specs.Faults.{IsPlanFault};
 ghost use Rattle.redis_driver.specs.Plan.{IsPlan, ArePartReplies, ArePartsAnswered, slots_of};
@@ -153,7 +153,7 @@ impl<'a, R: Routable> SplitPlan<'a, R> {
     /// `Client` where a reply was not told. Else what the combiners refuse; where the replies are
     /// those to parts of one command they refuse nothing, and memory runs out for lists alone.
     pub fn combine(self, alloc: Global) -> RedisResult<Value>
-        ensures unsplit { (form : ReplyForm) (results : List Added) → ArePartReplies self form results → MatchResult result
+        ensures unsplit { (form : ReplyForm) (results : List TupleResult) → ArePartReplies self form results → MatchResult result
             (λ value. view value ≡ reply_by form results)
             (λ error. (error ≡ out_of_memory) × (form ≡ list)) }
         ensures untold { list_any is_none self.replies ≡ true → IfErr result (λ error. error.kind ≡ Client) }
@@ -182,7 +182,7 @@ fn join<R: Routable>(
     replies: Vec<Value>,
 ) -> RedisResult<Value>
     requires each { length replies.items ≡ length split.now.routes }
-    ensures unsplit { (form : ReplyForm) (results : List Added) → ArePartsAnswered split.now form results (map view replies.items) → MatchResult result
+    ensures unsplit { (form : ReplyForm) (results : List TupleResult) → ArePartsAnswered split.now form results (map view replies.items) → MatchResult result
         (λ value. view value ≡ reply_by form results)
         (λ error. (error ≡ out_of_memory) × (form ≡ list)) }
 {

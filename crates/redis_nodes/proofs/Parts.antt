@@ -7,15 +7,10 @@ use Rattle.std.proofs.lemmas.List.{append-nil}
 use Rattle.cluster_slots.specs.KeySlot.{key_slot}
 use Rattle.resp_core.proofs.Cases.{by_test}
 use Rattle.redis_nodes.specs.MultiKey.{KeyTuple, tuples_of_slot}
-use Rattle.redis_nodes.specs.Unsplit.{Act, Keyspace, Result, put, after, results}
+use Rattle.redis_nodes.specs.Unsplit.{Act, Keyspace, put, after, results}
 use Rattle.redis_nodes.specs.Orders.{times}
+use Rattle.redis_nodes.specs.SlotResults.{results_of_slot}
 use Rattle.redis_nodes.proofs.Fold.{joined, after_is, joined_skips, same_answer}
-
--- the results of the tuples whose key has the slot, in their order
-abbrev pub chosen : ℕ → List KeyTuple → List Result → List Result
-chosen slot [] rs = []
-chosen slot (t ∷ ts) [] = []
-chosen slot (t ∷ ts) (r ∷ rs) = cond (nat_eq (key_slot t.key) slot) (r ∷ chosen slot ts rs) (chosen slot ts rs)
 
 -- one slot more adds its part at the end
 pub joined_more : (before : List ℕ) (slot : ℕ) (ts : List KeyTuple) → joined (before ++ slot ∷ []) ts ≡ joined before ts ++ tuples_of_slot slot ts
@@ -34,7 +29,7 @@ module _ {C : Type 0} (act : Act C) where
   length-results (t ∷ ts) ks = ap suc (length-results ts _)
 
   -- the results of a part, on a keyspace that agrees at the keys of its slot
-  pub results-part : (slot : ℕ) (ts : List KeyTuple) (ks now : Keyspace C) → ((key : List ℕ) → nat_eq (key_slot key) slot ≡ true → now key ≡ ks key) → results act (tuples_of_slot slot ts) now ≡ chosen slot ts (results act ts ks)
+  pub results-part : (slot : ℕ) (ts : List KeyTuple) (ks now : Keyspace C) → ((key : List ℕ) → nat_eq (key_slot key) slot ≡ true → now key ≡ ks key) → results act (tuples_of_slot slot ts) now ≡ results_of_slot slot ts (results act ts ks)
   results-part slot [] ks now agree = refl
   results-part slot (t ∷ ts) ks now agree =
       by_test (nat_eq (key_slot t.key) slot)
@@ -52,6 +47,6 @@ module _ {C : Type 0} (act : Act C) where
   one_part_more before slot ts ks = sym (after-append (joined before ts) (tuples_of_slot slot ts) ks) ∙ ap (λ xs. after act xs ks) (sym (joined_more before slot ts))
 
   -- After parts of other slots the tuples of a part add what they add to the reply to the whole command.
-  pub results_one_more : (before : List ℕ) (slot : ℕ) (ts : List KeyTuple) (ks : Keyspace C) → times slot before ≡ 0 → results act (tuples_of_slot slot ts) (after act (joined before ts) ks) ≡ chosen slot ts (results act ts ks)
+  pub results_one_more : (before : List ℕ) (slot : ℕ) (ts : List KeyTuple) (ks : Keyspace C) → times slot before ≡ 0 → results act (tuples_of_slot slot ts) (after act (joined before ts) ks) ≡ results_of_slot slot ts (results act ts ks)
   results_one_more before slot ts ks fresh = results-part slot ts ks (after act (joined before ts) ks)
       (λ key own. after_is act (joined before ts) ks key ∙ joined_skips act key ts before (ks key) (ap (λ n. times n before) (eqb-true (key_slot key) slot own) ∙ fresh))

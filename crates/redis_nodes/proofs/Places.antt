@@ -1,20 +1,18 @@
 -- The tuples of a slot by their numbers, counted from 0: which results are theirs, and that each number is one of its own slot alone.
-use Rattle.std.proofs.Common.{◌≡◌, ℕ, zero, suc, ◌+◌, ◌<◌, ◌≤◌, List, [], ◌∷◌, ◌++◌, Bool, true, false, cond, Option, Some, None, All, Less, refl, sym, ap, subst, ◌∙◌, arith, length, map, get_or}
+use Rattle.std.proofs.Common.{◌≡◌, ℕ, zero, suc, ◌+◌, ◌<◌, List, [], ◌∷◌, ◌++◌, true, false, cond, Some, Less, refl, sym, ap, subst, ◌∙◌, arith, length, get_or}
 use Rattle.std.specs.Prelude.{nat_eq, nat_lt, slice_get}
-use Rattle.std.specs.List.{AllByRecursion, flat_map, sum_by}
+use Rattle.std.specs.List.{AllByRecursion}
 use Rattle.std.specs.List.Sorted.{IsStrictlySortedBy}
 use Rattle.std.specs.Ordering.{nat_cmp}
 use Rattle.std.specs.Option.{option_to_list}
-use Rattle.std.proofs.lemmas.Bool.{eqb-true}
 use Rattle.std.proofs.lemmas.Bool.Decides.{nat_tests}
 use Rattle.cluster_slots.specs.KeySlot.{key_slot}
 use Rattle.resp_core.proofs.Cases.{by_test}
 use Rattle.redis_nodes.specs.MultiKey.{KeyTuple, tuples_of_slot}
-use Rattle.redis_nodes.specs.Unsplit.{Result}
-use Rattle.redis_nodes.specs.Orders.{times, NamesOnce, in_order}
-use Rattle.redis_nodes.proofs.Counts.{same_number, times_here, times_there, sum_alike, sum_at, once_times}
-use Rattle.redis_nodes.proofs.Fold.{NamesSlots}
-use Rattle.redis_nodes.proofs.Parts.{chosen}
+use Rattle.redis_nodes.specs.Unsplit.{TupleResult}
+use Rattle.redis_nodes.specs.Orders.{times, in_order}
+use Rattle.redis_nodes.proofs.Counts.{times_here, times_there}
+use Rattle.redis_nodes.specs.SlotResults.{results_of_slot}
 
 -- the numbers, counted on from one, of the tuples whose key has the slot
 abbrev pub numbers_from : ℕ → ℕ → List KeyTuple → List ℕ
@@ -36,19 +34,19 @@ module _ {X : Type 0} (all : List X) where
   taken_here n x rest is = ap (λ o. option_to_list o ++ in_order all rest) is
 
 -- the results of a slot, where the first is number n of all
-chosen_from : (all rs : List Result) (n slot : ℕ) (ts : List KeyTuple) → length rs ≡ length ts → ((k : ℕ) → slice_get all (n + k) ≡ slice_get rs k) → chosen slot ts rs ≡ in_order all (numbers_from n slot ts)
-chosen_from all rs n slot [] l at = refl
-chosen_from all [] n slot (t ∷ ts) l at = absurd (omega arith)
-chosen_from all (r ∷ rs) n slot (t ∷ ts) l at =
+results_of_slot_from : (all rs : List TupleResult) (n slot : ℕ) (ts : List KeyTuple) → length rs ≡ length ts → ((k : ℕ) → slice_get all (n + k) ≡ slice_get rs k) → results_of_slot slot ts rs ≡ in_order all (numbers_from n slot ts)
+results_of_slot_from all rs n slot [] l at = refl
+results_of_slot_from all [] n slot (t ∷ ts) l at = absurd (omega arith)
+results_of_slot_from all (r ∷ rs) n slot (t ∷ ts) l at =
     let first : slice_get all n ≡ Some r = ap (slice_get all) (omega arith) ∙ at 0 in
-    let rest : chosen slot ts rs ≡ in_order all (numbers_from (n + 1) slot ts) = chosen_from all rs (n + 1) slot ts (omega arith) (λ k. ap (slice_get all) (omega arith) ∙ at (suc k)) in
+    let rest : results_of_slot slot ts rs ≡ in_order all (numbers_from (n + 1) slot ts) = results_of_slot_from all rs (n + 1) slot ts (omega arith) (λ k. ap (slice_get all) (omega arith) ∙ at (suc k)) in
     by_test (nat_eq (key_slot t.key) slot)
     (λ here. rw here (ap (λ xs. r ∷ xs) rest ∙ sym (taken_here all n r (numbers_from (n + 1) slot ts) first)))
     (λ there. rw there rest)
 
 -- The results of a slot are those at the numbers of its tuples.
-pub chosen_is : (slot : ℕ) (ts : List KeyTuple) (rs : List Result) → length rs ≡ length ts → chosen slot ts rs ≡ in_order rs (numbers_of_slot slot ts)
-chosen_is slot ts rs l = chosen_from rs rs 0 slot ts l (λ k. ap (slice_get rs) (omega arith))
+pub results_of_slot_is : (slot : ℕ) (ts : List KeyTuple) (rs : List TupleResult) → length rs ≡ length ts → results_of_slot slot ts rs ≡ in_order rs (numbers_of_slot slot ts)
+results_of_slot_is slot ts rs l = results_of_slot_from rs rs 0 slot ts l (λ k. ap (slice_get rs) (omega arith))
 
 -- the tuples of a slot, where the first is number n of all
 part_from : (all : List KeyTuple) (n slot : ℕ) (ts : List KeyTuple) → ((k : ℕ) → slice_get all (n + k) ≡ slice_get ts k) → tuples_of_slot slot ts ≡ in_order all (numbers_from n slot ts)
@@ -76,11 +74,11 @@ pub length-numbers_of_slot : (slot : ℕ) (ts : List KeyTuple) → length (numbe
 length-numbers_of_slot slot ts = length-numbers 0 slot ts
 
 -- and as many results
-pub length-chosen : (slot : ℕ) (ts : List KeyTuple) (rs : List Result) → length rs ≡ length ts → length (chosen slot ts rs) ≡ length (tuples_of_slot slot ts)
-length-chosen slot [] rs l = refl
-length-chosen slot (t ∷ ts) [] l = absurd (omega arith)
-length-chosen slot (t ∷ ts) (r ∷ rs) l =
-    let rest = length-chosen slot ts rs (omega arith) in
+pub length-results_of_slot : (slot : ℕ) (ts : List KeyTuple) (rs : List TupleResult) → length rs ≡ length ts → length (results_of_slot slot ts rs) ≡ length (tuples_of_slot slot ts)
+length-results_of_slot slot [] rs l = refl
+length-results_of_slot slot (t ∷ ts) [] l = absurd (omega arith)
+length-results_of_slot slot (t ∷ ts) (r ∷ rs) l =
+    let rest = length-results_of_slot slot ts rs (omega arith) in
     by_test (nat_eq (key_slot t.key) slot) (λ here. rw here (ap suc rest)) (λ there. rw there rest)
 
 -- numbers counted on from n lie above those below n

@@ -7,7 +7,8 @@ use Rattle.redis_nodes.specs.MultiKey.{KeyTuple, tuples_of_slot}
 use Rattle.redis_nodes.specs.Unsplit.{Act, Keyspace, after, results}
 use Rattle.redis_nodes.specs.Orders.{times, NamesOnce, in_order, tuples_of_slots}
 use Rattle.redis_nodes.proofs.Fold.{joined, NamesSlots, joined_is_whole, joined_is_of_slots}
-use Rattle.redis_nodes.proofs.Parts.{chosen, one_part_more, results_one_more}
+use Rattle.redis_nodes.specs.SlotResults.{results_of_slot}
+use Rattle.redis_nodes.proofs.Parts.{one_part_more, results_one_more}
 use Rattle.redis_nodes.proofs.Orders.{times-in_order, apart_front, not_before, in_order_more}
 
 -- a list names the slots of tuples if it has the slot of each of them once
@@ -37,5 +38,5 @@ module _ {C : Type 0} (act : Act C) (slots order : List ℕ) (ts : List KeyTuple
 
   -- and what its tuples add to the reply
   pub results_more : (i k slot : ℕ) → NamesOnce (length slots) order → ((n : ℕ) → times n slots ≤ 1) → i < length order → k ≡ get_or order i 0 → slice_get slots k ≡ Some slot
-      → results act (tuples_of_slot slot ts) (after act (joined (in_order slots (take i order)) ts) ks) ≡ chosen slot ts (results act ts ks)
+      → results act (tuples_of_slot slot ts) (after act (joined (in_order slots (take i order)) ts) ks) ≡ results_of_slot slot ts (results act ts ks)
   results_more i k slot names apart within at is = results_one_more act (in_order slots (take i order)) slot ts ks (not_before slots order i k slot names apart within at is)

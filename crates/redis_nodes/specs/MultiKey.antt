@@ -1,5 +1,5 @@
 -- A command over many keys as what it means: its name, its keys with what goes with each, and what they share.
-use Rattle.std.specs.Prelude.{ℕ, List, [], Option, None, Some, Bool, cond, map, filter, length, nat_eq, slice_get}
+use Rattle.std.specs.Prelude.{ℕ, List, Option, None, Some, cond, map, filter, length, nat_eq, slice_get}
 use Rattle.cluster_slots.specs.KeySlot.{key_slot}
 use Rattle.redis_commands.specs.Command.{Arguments, command_of}
 use Rattle.redis_commands.specs.NameTables.{NameTables, own_tables}

@@ -6,14 +6,14 @@ use Rattle.resp_core.specs.Reply as reply
 use Rattle.redis_nodes.specs.MultiKey.{KeyTuple, MultiKey, ReplyForm, list, count, okay}
 
 -- what a tuple adds to the reply: its value, and whether it counts
-pub record Result : Type 0 where
+pub record TupleResult : Type 0 where
   pub value : Reply
   pub counts : Bool
 
 -- what stands at the key after a tuple, and what the tuple adds to the reply
 pub record Outcome (C : Type 0) : Type 0 where
   pub cell : Option C
-  pub result : Result
+  pub result : TupleResult
 
 -- what a key of a command does, by the command's name, the argument that its keys share, the key, the arguments that go with it, and what stands at the key
 abbrev pub Step : Type 0 → Type 0
@@ -42,12 +42,12 @@ module _ {C : Type 0} (act : Act C) where
   after (t ∷ ts) keyspace = after ts (put t.key (act t (keyspace t.key)).cell keyspace)
 
   -- what each adds to the reply, in order
-  abbrev pub results : List KeyTuple → Keyspace C → List Result
+  abbrev pub results : List KeyTuple → Keyspace C → List TupleResult
   results [] keyspace = []
   results (t ∷ ts) keyspace = (act t (keyspace t.key)).result ∷ results ts (put t.key (act t (keyspace t.key)).cell keyspace)
 
 -- the reply: a list of the values, how many count, or `OK`
-abbrev pub reply_by : ReplyForm → List Result → Reply
+abbrev pub reply_by : ReplyForm → List TupleResult → Reply
 reply_by list rs = array (replies_of (map (λ r. r.value) rs))
 reply_by count rs = int (pos (count_by (λ r. r.counts) rs))
 reply_by okay rs = reply.okay
@@ -56,7 +56,7 @@ module _ {C : Type 0} (step : Step C) (command : MultiKey) (keyspace : Keyspace 
   abbrev pub keyspace_after : Keyspace C
   keyspace_after = after (act_of step command) command.tuples keyspace
 
-  abbrev pub results_of : List Result
+  abbrev pub results_of : List TupleResult
   results_of = results (act_of step command) command.tuples keyspace
 
   abbrev pub reply_to : Reply
