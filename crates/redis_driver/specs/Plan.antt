@@ -1,6 +1,8 @@
 -- The plan of a command over many keys: a part for each of its routes, the node that it goes to, and the reply to it.
 use Rattle.std.specs.Prelude.{◌≡◌, ℕ, Bool, cond, List, [], ◌∷◌, Option, None, Some, map, length}
 use Rattle.resp_core.specs.Reply.{Reply}
+use Rattle.resp_core.specs.View.{view}
+use Rattle.resp_core.specs.declared.value.Value.{Value}
 use Rattle.cluster_slots.specs.Address.{Address}
 use Rattle.cluster_slots.specs.SlotRoute.{SlotRoute}
 use Rattle.redis_commands.specs.Run.{run_after}
@@ -14,7 +16,7 @@ pub record Plan : Type 0 where
   pub split : Split
   pub nodes : List Address
   pub parts : List (List (List ℕ))
-  pub replies : List (Option Reply)
+  pub replies : List (Option Value)
 
 abbrev pub slots_of : List (SlotRoute × List ℕ) → List ℕ
 slots_of routes = map (λ r. r.0.slot) routes
@@ -27,7 +29,7 @@ pub record IsPlan (plan : Plan) : Type 0 where
   pub replies : length plan.replies ≡ length plan.split.routes
 
 -- the replies that were told
-abbrev pub told : List Bool → List Reply → List (Option Reply)
+abbrev pub told : List Bool → List Value → List (Option Value)
 told [] replies = []
 told (is_told ∷ rest) [] = []
 told (is_told ∷ rest) (reply ∷ replies) = cond is_told (Some reply) None ∷ told rest replies
@@ -44,6 +46,6 @@ pub record ArePartsAnswered (split : Split) (form : ReplyForm) (results : List T
 
 -- All replies of the plan were told, and these are they.
 pub record ArePartReplies (plan : Plan) (form : ReplyForm) (results : List TupleResult) : Type 0 where
-  pub replies : List Reply
+  pub replies : List Value
   pub all_told : plan.replies ≡ map Some replies
-  pub answered : ArePartsAnswered plan.split form results replies
+  pub answered : ArePartsAnswered plan.split form results (map view replies)

@@ -1,4 +1,4 @@
-ghost use Rattle.std.specs.Prelude.{◌≡◌, ◌<◌, ◌⊎◌, ⊥, ℕ, List, true, Option, Some, None, is_none, MatchOption, MatchResult, IfOk, OnOk, IfErr, length, map, option_map, slice_get, slice_set};
+ghost use Rattle.std.specs.Prelude.{◌≡◌, ◌<◌, ◌⊎◌, ℕ, List, true, Option, Some, None, is_none, MatchOption, MatchResult, IfOk, OnOk, IfErr, length, map, option_map, slice_get, slice_set};
 ghost use Rattle.std.specs.List.{AllZip, list_any};
 ghost use Rattle.resp_core.specs.ErrorParts.{out_of_memory};
 ghost use Rattle.resp_core.specs.View.{view};
@@ -41,15 +41,18 @@ pub struct SplitPlan<'a, R: Routable> {
 }
 
 impl<'a, R: Routable> Model for SplitPlan<'a, R> {
-    ghost use Rattle.std.specs.Prelude.{map};
-    ghost use Rattle.resp_core.specs.View.{view};
+    ghost use Rattle.std.specs.Prelude.{◌≡◌, length, map};
+    ghost use Rattle.std.specs.Coded.{codes};
+    ghost use Rattle.resp_core.specs.contracts.value.Value as value;
     ghost use Rattle.redis_driver.specs.Plan.{Plan, IsPlan, told};
 
     ghost Value = { Plan };
 
-    ghost view = { λ p. record { split = p.split; nodes = map (λ n. n.now) p.nodes.items; parts = p.parts.items; replies = told p.answered.items (map view p.replies.items) } };
+    ghost coded = { Prim.hlevel (codes, value.the_row.coded) };
 
-    ghost invariant = { λ p. IsPlan (record { split = p.split; nodes = map (λ n. n.now) p.nodes.items; parts = p.parts.items; replies = told p.answered.items (map view p.replies.items) }) × (length p.answered.items ≡ length p.replies.items) };
+    ghost view = { λ p. record { split = p.split; nodes = map (λ n. n.now) p.nodes.items; parts = p.parts.items; replies = told p.answered.items p.replies.items } };
+
+    ghost invariant = { λ p. IsPlan (record { split = p.split; nodes = map (λ n. n.now) p.nodes.items; parts = p.parts.items; replies = told p.answered.items p.replies.items }) × (length p.answered.items ≡ length p.replies.items) };
 }
 
 impl<'a, R: Routable> SplitPlan<'a, R> {
@@ -132,7 +135,7 @@ impl<'a, R: Routable> SplitPlan<'a, R> {
     ///
     /// Gives the reply back where there is no such route, or its reply was told before.
     pub fn tell(&mut self, number: usize, reply: Value) -> Result<(), Value>
-        ensures told { OnOk result ((slice_get self.old.replies number ≡ Some None) × (self.new ≡ record { split = self.old.split; nodes = self.old.nodes; parts = self.old.parts; replies = slice_set self.old.replies number (Some (view reply)) })) }
+        ensures told { OnOk result ((slice_get self.old.replies number ≡ Some None) × (self.new ≡ record { split = self.old.split; nodes = self.old.nodes; parts = self.old.parts; replies = slice_set self.old.replies number (Some reply) })) }
         ensures refused { IfErr result (λ back. (back ≡ reply) × (self.new ≡ self.old) × (slice_get self.old.replies number ≡ Some None → ⊥)) }
     {
         match self.answered.get(number) {
