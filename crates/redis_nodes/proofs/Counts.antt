@@ -44,25 +44,25 @@ pub sum_none : {X : Type 0} (xs : List X) → sum_by (λ x. 0) xs ≡ 0
 sum_none [] = refl
 sum_none (x ∷ xs) = omega (arith, sum_by-cons (λ y. 0) x xs, sum_none xs)
 
--- a sum of sums is the sum of both
+-- a sum of two functions is the sum of both sums
 pub sum_both : {X : Type 0} (f g h : X → ℕ) → ((x : X) → h x ≡ f x + g x) → (xs : List X) → sum_by h xs ≡ sum_by f xs + sum_by g xs
 sum_both f g h e [] = refl
 sum_both f g h e (x ∷ xs) = omega (arith, sum_by-cons f x xs, sum_by-cons g x xs, sum_by-cons h x xs, e x, sum_both f g h e xs)
 
--- the sum over a list of what two functions give alike
+-- functions that give the same have one sum
 pub sum_alike : {X : Type 0} (f g : X → ℕ) → ((x : X) → f x ≡ g x) → (xs : List X) → sum_by f xs ≡ sum_by g xs
 sum_alike f g e [] = refl
 sum_alike f g e (x ∷ xs) = omega (arith, sum_by-cons f x xs, sum_by-cons g x xs, e x, sum_alike f g e xs)
 
--- once more
+-- once more is one more
 pub one_more : (n w : ℕ) → (1 + n) * w ≡ w + n * w
 one_more n w = grind arith
 
--- once
+-- once is one
 pub once_times : (w : ℕ) → 1 * w ≡ w
 once_times w = omega arith
 
--- what is added wherever a number stands, in all
+-- what is added wherever a number stands is added as often as it stands there
 pub sum_at : (n w : ℕ) (xs : List ℕ) → sum_by (λ x. cond (nat_eq n x) w 0) xs ≡ times n xs * w
 sum_at n w [] = omega arith
 sum_at n w (x ∷ xs) =

@@ -36,7 +36,8 @@ module _ {C : Type 0} (act : Act C) where
   cell_after key (t ∷ ts) c = cell_after key ts (cond (bytes_eq t.key key) (act t c).cell c)
 
   -- one tuple changes the cell of its own key alone
-  own_cell : (t : KeyTuple) (key : List ℕ) (ks : Keyspace C) → put t.key (act t (ks t.key)).cell ks key ≡ cond (bytes_eq t.key key) (act t (ks key)).cell (ks key)
+  own_cell : (t : KeyTuple) (key : List ℕ) (ks : Keyspace C)
+      → put t.key (act t (ks t.key)).cell ks key ≡ cond (bytes_eq t.key key) (act t (ks key)).cell (ks key)
   own_cell t key ks = by_test (bytes_eq t.key key) (λ h. rw h (ap (λ k. (act t (ks k)).cell) (same_key t.key key h))) (λ h. rw h refl)
 
   -- a fold over the keyspace is a fold over each cell
@@ -50,7 +51,8 @@ module _ {C : Type 0} (act : Act C) where
   cell_after-append key (x ∷ xs) ys c = cell_after-append key xs ys _
 
   -- the tuples of slots that the key's is not one of leave its cell
-  skips : (test : ℕ → Bool) (key : List ℕ) → test (key_slot key) ≡ false → (ts : List KeyTuple) (c : Option C) → cell_after key (filter (λ t. test (key_slot t.key)) ts) c ≡ c
+  skips : (test : ℕ → Bool) (key : List ℕ) → test (key_slot key) ≡ false → (ts : List KeyTuple) (c : Option C)
+      → cell_after key (filter (λ t. test (key_slot t.key)) ts) c ≡ c
   skips test key other [] c = refl
   skips test key other (t ∷ ts) c =
       by_test (test (key_slot t.key))
@@ -60,7 +62,8 @@ module _ {C : Type 0} (act : Act C) where
       (λ there. rw there (skips test key other ts c))
 
   -- the tuples of slots of which the key's is one do what all tuples do
-  keeps : (test : ℕ → Bool) (key : List ℕ) → test (key_slot key) ≡ true → (ts : List KeyTuple) (c : Option C) → cell_after key (filter (λ t. test (key_slot t.key)) ts) c ≡ cell_after key ts c
+  keeps : (test : ℕ → Bool) (key : List ℕ) → test (key_slot key) ≡ true → (ts : List KeyTuple) (c : Option C)
+      → cell_after key (filter (λ t. test (key_slot t.key)) ts) c ≡ cell_after key ts c
   keeps test key own [] c = refl
   keeps test key own (t ∷ ts) c =
       by_test (test (key_slot t.key))
@@ -70,7 +73,8 @@ module _ {C : Type 0} (act : Act C) where
       (λ h. rw (there, cell_after, h) (keeps test key own ts c)))
 
   -- the parts of slots that are not the key's leave its cell
-  pub joined_skips : (key : List ℕ) (ts : List KeyTuple) (slots : List ℕ) (c : Option C) → times (key_slot key) slots ≡ 0 → cell_after key (joined slots ts) c ≡ c
+  pub joined_skips : (key : List ℕ) (ts : List KeyTuple) (slots : List ℕ) (c : Option C) → times (key_slot key) slots ≡ 0
+      → cell_after key (joined slots ts) c ≡ c
   joined_skips key ts [] c none = refl
   joined_skips key ts (slot ∷ slots) c none =
       cell_after-append key (tuples_of_slot slot ts) (joined slots ts) c
@@ -80,7 +84,8 @@ module _ {C : Type 0} (act : Act C) where
       ∙ joined_skips key ts slots c (omega (arith, times_there (key_slot key) slot slots other)))
 
   -- where the key's slot is named once, the parts do to its cell what all tuples do
-  pub joined_keeps : (key : List ℕ) (ts : List KeyTuple) (slots : List ℕ) (c : Option C) → times (key_slot key) slots ≡ 1 → cell_after key (joined slots ts) c ≡ cell_after key ts c
+  pub joined_keeps : (key : List ℕ) (ts : List KeyTuple) (slots : List ℕ) (c : Option C) → times (key_slot key) slots ≡ 1
+      → cell_after key (joined slots ts) c ≡ cell_after key ts c
   joined_keeps key ts [] c once = absurd (let f : 0 ≡ 1 = once in omega arith)
   joined_keeps key ts (slot ∷ slots) c once =
       cell_after-append key (tuples_of_slot slot ts) (joined slots ts) c
@@ -94,12 +99,12 @@ module _ {C : Type 0} (act : Act C) where
   Idle key [] = Unit {0}
   Idle key (t ∷ ts) = (bytes_eq t.key key ≡ false) × Idle key ts
 
-  -- such tuples leave its cell
+  -- tuples none of which has the key leave its cell
   idle_after : (key : List ℕ) (ts : List KeyTuple) (c : Option C) → Idle key ts → cell_after key ts c ≡ c
   idle_after key [] c h = refl
   idle_after key (t ∷ ts) c h = rw (h.0) (idle_after key ts c h.1)
 
-  -- and so does a part of them
+  -- a part of tuples none of which has the key leaves its cell
   idle_part : (key : List ℕ) (slot : ℕ) (ts : List KeyTuple) (c : Option C) → Idle key ts → cell_after key (tuples_of_slot slot ts) c ≡ c
   idle_part key slot [] c h = refl
   idle_part key slot (t ∷ ts) c h =
@@ -107,7 +112,7 @@ module _ {C : Type 0} (act : Act C) where
       (λ here. rw (here, cell_after, h.0) (idle_part key slot ts c h.1))
       (λ there. rw there (idle_part key slot ts c h.1))
 
-  -- and so do parts of them
+  -- parts of tuples none of which has the key leave its cell
   idle_joined : (key : List ℕ) (slots : List ℕ) (ts : List KeyTuple) (c : Option C) → Idle key ts → cell_after key (joined slots ts) c ≡ c
   idle_joined key [] ts c h = refl
   idle_joined key (slot ∷ slots) ts c h =
@@ -132,7 +137,8 @@ module _ {C : Type 0} (act : Act C) where
       ∙ sym (after_is ts ks key)) i
 
   -- at one key, parts of different slots do what the tuples of those slots do
-  joined_is_among : (slots : List ℕ) (key : List ℕ) (ts : List KeyTuple) (c : Option C) → times (key_slot key) slots ≤ 1 → cell_after key (joined slots ts) c ≡ cell_after key (tuples_of_slots slots ts) c
+  joined_is_among : (slots : List ℕ) (key : List ℕ) (ts : List KeyTuple) (c : Option C) → times (key_slot key) slots ≤ 1
+      → cell_after key (joined slots ts) c ≡ cell_after key (tuples_of_slots slots ts) c
   joined_is_among slots key ts c most =
       let test : ℕ → Bool = λ n. list_any (λ slot. nat_eq n slot) slots in
       elim (cases_lt 0 (times (key_slot key) slots)) as (λ _. cell_after key (joined slots ts) c ≡ cell_after key (tuples_of_slots slots ts) c) [
@@ -141,7 +147,8 @@ module _ {C : Type 0} (act : Act C) where
       ]
 
   -- The parts of different slots, in any order, leave what the tuples of those slots leave, one after the other.
-  pub joined_is_of_slots : (slots : List ℕ) (ts : List KeyTuple) (ks : Keyspace C) → ((n : ℕ) → times n slots ≤ 1) → after act (joined slots ts) ks ≡ after act (tuples_of_slots slots ts) ks
+  pub joined_is_of_slots : (slots : List ℕ) (ts : List KeyTuple) (ks : Keyspace C) → ((n : ℕ) → times n slots ≤ 1)
+      → after act (joined slots ts) ks ≡ after act (tuples_of_slots slots ts) ks
   joined_is_of_slots slots ts ks apart = λ i key. (after_is (joined slots ts) ks key
       ∙ joined_is_among slots key ts (ks key) (apart (key_slot key))
       ∙ sym (after_is (tuples_of_slots slots ts) ks key)) i

@@ -8,3 +8,4 @@ pub mod Whole
 pub mod Once
 pub mod Totals
 pub mod Places
+pub mod Placed

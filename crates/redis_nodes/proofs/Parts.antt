@@ -18,7 +18,7 @@ joined_more [] slot ts = append-nil (tuples_of_slot slot ts)
 joined_more (b ∷ before) slot ts = ap (λ xs. tuples_of_slot b ts ++ xs) (joined_more before slot ts) ∙ sym (append_assoc (tuples_of_slot b ts) (joined before ts) (tuples_of_slot slot ts))
 
 module _ {C : Type 0} (act : Act C) where
-  -- some tuples and then others
+  -- some tuples and then others leave what all of them leave
   pub after-append : (xs ys : List KeyTuple) (ks : Keyspace C) → after act (xs ++ ys) ks ≡ after act ys (after act xs ks)
   after-append [] ys ks = refl
   after-append (x ∷ xs) ys ks = after-append xs ys _
@@ -29,7 +29,9 @@ module _ {C : Type 0} (act : Act C) where
   length-results (t ∷ ts) ks = ap suc (length-results ts _)
 
   -- the results of a part, on a keyspace that agrees at the keys of its slot
-  pub results-part : (slot : ℕ) (ts : List KeyTuple) (ks now : Keyspace C) → ((key : List ℕ) → nat_eq (key_slot key) slot ≡ true → now key ≡ ks key) → results act (tuples_of_slot slot ts) now ≡ results_of_slot slot ts (results act ts ks)
+  pub results-part : (slot : ℕ) (ts : List KeyTuple) (ks now : Keyspace C)
+      → ((key : List ℕ) → nat_eq (key_slot key) slot ≡ true → now key ≡ ks key)
+      → results act (tuples_of_slot slot ts) now ≡ results_of_slot slot ts (results act ts ks)
   results-part slot [] ks now agree = refl
   results-part slot (t ∷ ts) ks now agree =
       by_test (nat_eq (key_slot t.key) slot)
@@ -43,10 +45,12 @@ module _ {C : Type 0} (act : Act C) where
       (λ h. rw h refl))))
 
   -- After parts of other slots a part leaves what all these parts leave.
-  pub one_part_more : (before : List ℕ) (slot : ℕ) (ts : List KeyTuple) (ks : Keyspace C) → after act (tuples_of_slot slot ts) (after act (joined before ts) ks) ≡ after act (joined (before ++ slot ∷ []) ts) ks
+  pub one_part_more : (before : List ℕ) (slot : ℕ) (ts : List KeyTuple) (ks : Keyspace C)
+      → after act (tuples_of_slot slot ts) (after act (joined before ts) ks) ≡ after act (joined (before ++ slot ∷ []) ts) ks
   one_part_more before slot ts ks = sym (after-append (joined before ts) (tuples_of_slot slot ts) ks) ∙ ap (λ xs. after act xs ks) (sym (joined_more before slot ts))
 
   -- After parts of other slots the tuples of a part add what they add to the reply to the whole command.
-  pub results_one_more : (before : List ℕ) (slot : ℕ) (ts : List KeyTuple) (ks : Keyspace C) → times slot before ≡ 0 → results act (tuples_of_slot slot ts) (after act (joined before ts) ks) ≡ results_of_slot slot ts (results act ts ks)
+  pub results_one_more : (before : List ℕ) (slot : ℕ) (ts : List KeyTuple) (ks : Keyspace C) → times slot before ≡ 0
+      → results act (tuples_of_slot slot ts) (after act (joined before ts) ks) ≡ results_of_slot slot ts (results act ts ks)
   results_one_more before slot ts ks fresh = results-part slot ts ks (after act (joined before ts) ks)
       (λ key own. after_is act (joined before ts) ks key ∙ joined_skips act key ts before (ks key) (ap (λ n. times n before) (eqb-true (key_slot key) slot own) ∙ fresh))

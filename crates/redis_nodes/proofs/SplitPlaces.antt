@@ -1,11 +1,10 @@
 -- The places of the parts of a command over many keys: those of the slot's tuples, by their numbers, and the place that all keys share.
-use Rattle.std.proofs.Common.{◌≡◌, ℕ, ◌+◌, ◌-◌, ◌*◌, ◌%◌, ◌≤◌, List, [], ◌∷◌, ◌++◌, Bool, true, cond, Some, map, length, take, drop, refl, sym, ap, ◌∙◌, subst, add-one, suc-mul, zero-mul, arith}
+use Rattle.std.proofs.Common.{◌≡◌, ℕ, ◌+◌, ◌-◌, ◌*◌, ◌%◌, ◌≤◌, List, [], ◌∷◌, ◌++◌, Bool, true, Some, map, length, take, drop, refl, sym, ap, ◌∙◌, subst, add-one, suc-mul, zero-mul, arith}
 use Rattle.std.specs.Prelude.{nat_eq, All}
 use Rattle.std.specs.List.{flat_map, range_with_len}
 use Rattle.std.proofs.lemmas.Bool.Decides.{nat_tests}
 use Rattle.std.proofs.lemmas.List.{length-drop, length-map}
 use Rattle.std.proofs.lemmas.List.Elements.{All-map}
-use Rattle.cluster_slots.specs.KeySlot.{key_slot}
 use Rattle.cluster_slots.specs.SlotRoute.{SlotRoute}
 use Rattle.redis_commands.specs.Command.{Arguments, command_of}
 use Rattle.redis_commands.specs.NameTables.{NameTables, own_tables}
@@ -20,13 +19,9 @@ use Rattle.redis_routing.proofs.Cover.{length_own, own_small, own_whole}
 use Rattle.redis_routing.proofs.Picks.{complete_fits}
 use Rattle.redis_routing.proofs.SelfRouting.{front_short}
 use Rattle.redis_nodes.specs.MultiKey.{KeyTuple, MultiKey, multi_key_with, multi_key, unplaced}
+use Rattle.redis_nodes.proofs.Places.{numbers_from}
 use Rattle.redis_nodes.proofs.SplitParts.{IsMade, is_made, routes_made}
 use Rattle.resp_core.proofs.Cases.{by_test}
-
--- the numbers of the tuples whose key has the slot, where the first tuple has this number
-abbrev pub numbers_from : ℕ → ℕ → List KeyTuple → List ℕ
-numbers_from slot number [] = []
-numbers_from slot number (t ∷ ts) = cond (nat_eq (key_slot t.key) slot) (number ∷ numbers_from slot (number + 1) ts) (numbers_from slot (number + 1) ts)
 
 -- the places of the arguments of the tuple of a number, where each tuple has so many
 abbrev pub argument_places : ℕ → ℕ → List ℕ
