@@ -40,7 +40,7 @@ pub fn drive<R: Routable, N: Nodes>(
     alloc: Global,
     command: &R,
     read_only: &ReadOnlyNames,
-    map: &SlotMap,
+    slot_map: &SlotMap,
     strategy: Option<&dyn ReadRoutingStrategy>,
     pick: usize,
     order: &[usize],
@@ -48,20 +48,20 @@ pub fn drive<R: Routable, N: Nodes>(
 ) -> Result<Value, DriveError>
     // The headline: each part went once, in the order given, to a node of its route, and the keyspace
     // and the reply are those of the unsplit command.
-    ensures driven { IfOk result (λ value. IsDriven (λ route address. MatchOption strategy.entry (IsNodeOfRoute map.now route pick address) (λ s. IsPickedNode (picks s.now) map.now route address))
-        N.step (request (R.args command.now) (is_among read_only.now) map.now order.now)
+    ensures driven { IfOk result (λ value. IsDriven (λ route address. MatchOption strategy.entry (IsNodeOfRoute slot_map.now route pick address) (λ s. IsPickedNode (picks s.now) slot_map.now route address))
+        N.step (request (R.args command.now) (is_among read_only.now) slot_map.now order.now)
         (state (N.keyspace nodes.old) (N.trace nodes.old) (N.mark nodes.old)) (state (N.keyspace nodes.new) (N.trace nodes.new) (N.mark nodes.new)) (view value)) }
     // It is so where the command can be driven and no node may refuse, unless memory runs out.
-    ensures headline { IsHeadline (N.may_refuse nodes.old) (request (R.args command.now) (is_among read_only.now) map.now order.now) (N.trace nodes.old) → IfErr result (λ e. e.fault ≡ DriveFault.Memory) }
+    ensures headline { IsHeadline (N.may_refuse nodes.old) (request (R.args command.now) (is_among read_only.now) slot_map.now order.now) (N.trace nodes.old) → IfErr result (λ e. e.fault ≡ DriveFault.Memory) }
     // Each fault has its cause, and what was answered before stands.
-    ensures fault { IfErr result (λ e. IsFault (λ route address. MatchOption strategy.entry (IsNodeOfRoute map.now route pick address) (λ s. IsPickedNode (picks s.now) map.now route address))
-        N.step (request (R.args command.now) (is_among read_only.now) map.now order.now)
+    ensures fault { IfErr result (λ e. IsFault (λ route address. MatchOption strategy.entry (IsNodeOfRoute slot_map.now route pick address) (λ s. IsPickedNode (picks s.now) slot_map.now route address))
+        N.step (request (R.args command.now) (is_among read_only.now) slot_map.now order.now)
         (state (N.keyspace nodes.old) (N.trace nodes.old) (N.mark nodes.old)) (state (N.keyspace nodes.new) (N.trace nodes.new) (N.mark nodes.new))
         (N.may_refuse nodes.old) e.fault e.answered) }
     // What nodes may refuse stays the same.
     ensures may_refuse { (count : ℕ) (ending : Ending) → N.may_refuse nodes.new count ending ↔ N.may_refuse nodes.old count ending }
 {
-    let mut plan = SplitPlan::new(alloc, command, read_only, map, strategy, pick)?;
+    let mut plan = SplitPlan::new(alloc, command, read_only, slot_map, strategy, pick)?;
     if !names_once(alloc, plan.len(), order)? {
         return Err(DriveError {
             fault: DriveFault::BadOrder,

@@ -67,7 +67,7 @@ impl<'a, R: Routable> SplitPlan<'a, R> {
         alloc: Global,
         command: &'a R,
         read_only: &ReadOnlyNames,
-        map: &'a SlotMap,
+        slot_map: &'a SlotMap,
         strategy: Option<&dyn ReadRoutingStrategy>,
         pick: usize,
     ) -> Result<Self, PlanFault>
@@ -76,14 +76,14 @@ impl<'a, R: Routable> SplitPlan<'a, R> {
         ensures words { IfOk result (λ plan. plan.split.words ≡ 1) }
         ensures pattern { IfOk result (λ plan. Some plan.split.pattern ≡ pattern_by_name (command_of (R.args command.now))) }
         ensures policy { IfOk result (λ plan. Some plan.split.policy ≡ policy_by_name (command_of (R.args command.now))) }
-        ensures nodes { IfOk result (λ plan. AllZip (λ route address. MatchOption strategy.entry (IsNodeOfRoute map.now route.0 pick address) (λ s. IsPickedNode (picks s.now) map.now route.0 address)) plan.split.routes plan.nodes) }
+        ensures nodes { IfOk result (λ plan. AllZip (λ route address. MatchOption strategy.entry (IsNodeOfRoute slot_map.now route.0 pick address) (λ s. IsPickedNode (picks s.now) slot_map.now route.0 address)) plan.split.routes plan.nodes) }
         ensures untold { IfOk result (λ plan. plan.replies ≡ map (λ route. None) plan.split.routes) }
-        ensures fault { IfErr result (λ fault. IsPlanFault map.now (is_among read_only.now) (R.args command.now) fault) }
+        ensures fault { IfErr result (λ fault. IsPlanFault slot_map.now (is_among read_only.now) (R.args command.now) fault) }
     {
         let Some(split) = SplitCommand::new(alloc, command, read_only)? else {
             return Err(PlanFault::NotMultiKey);
         };
-        let nodes = nodes_of(alloc, map, split.routes(), strategy, pick)?;
+        let nodes = nodes_of(alloc, slot_map, split.routes(), strategy, pick)?;
         let parts = parts_of(alloc, &split)?;
         let count = split.len();
         let replies = no_replies(alloc, count)?;
@@ -156,10 +156,10 @@ impl<'a, R: Routable> SplitPlan<'a, R> {
     /// `Client` where a reply was not told. Else what the combiners refuse; where the replies are
     /// those to parts of one command they refuse nothing, and memory runs out for lists alone.
     pub fn combine(self, alloc: Global) -> RedisResult<Value>
-        ensures unsplit { (form : ReplyForm) (results : List TupleResult) → ArePartReplies self form results → MatchResult result
+        ensures unsplit { (form : ReplyForm) (results : List TupleResult) → ArePartReplies self.entry form results → MatchResult result
             (λ value. view value ≡ reply_by form results)
             (λ error. (error ≡ out_of_memory) × (form ≡ list)) }
-        ensures untold { list_any is_none self.replies ≡ true → IfErr result (λ error. error.kind ≡ Client) }
+        ensures untold { list_any is_none self.entry.replies ≡ true → IfErr result (λ error. error.kind ≡ Client) }
     {
         let SplitPlan {
             split,
@@ -204,17 +204,17 @@ fn join<R: Routable>(
 /// The nodes of routes, or the slot of the first one that has none.
 fn nodes_of<'a>(
     alloc: Global,
-    map: &'a SlotMap,
+    slot_map: &'a SlotMap,
     routes: &[(Route, Vec<usize>)],
     strategy: Option<&dyn ReadRoutingStrategy>,
     pick: usize,
 ) -> Result<Vec<&'a NodeAddress>, PlanFault>
-    ensures nodes { IfOk result (λ nodes. AllZip (λ route address. MatchOption strategy.entry (IsNodeOfRoute map.now route.0 pick address) (λ s. IsPickedNode (picks s.now) map.now route.0 address)) (route_lists routes.now) (map (λ n. n.now) nodes.items)) }
-    ensures fault { IfErr result (λ fault. (fault ≡ PlanFault.Memory) ⊎ ((slot : ℕ) × (fault ≡ PlanFault.NotCovered slot) × IsFirstUncovered map.now (map (λ r. r.0) routes.now) slot)) }
+    ensures nodes { IfOk result (λ nodes. AllZip (λ route address. MatchOption strategy.entry (IsNodeOfRoute slot_map.now route.0 pick address) (λ s. IsPickedNode (picks s.now) slot_map.now route.0 address)) (route_lists routes.now) (map (λ n. n.now) nodes.items)) }
+    ensures fault { IfErr result (λ fault. (fault ≡ PlanFault.Memory) ⊎ ((slot : ℕ) × (fault ≡ PlanFault.NotCovered slot) × IsFirstUncovered slot_map.now (map (λ r. r.0) routes.now) slot)) }
 {
     let mut nodes = Vec::with_capacity(alloc, routes.len())?;
     for (route, _) in routes {
-        let Some(node) = map.slot_addr_for_route(*route, strategy, pick) else {
+        let Some(node) = slot_map.slot_addr_for_route(*route, strategy, pick) else {
             return Err(PlanFault::NotCovered(route.slot()));
         };
         nodes.push(node).map_err(AllocError::from)?;
