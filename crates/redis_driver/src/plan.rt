@@ -19,7 +19,7 @@ ghost use Rattle.redis_driver.specs.Plan.{IsPlan, ArePartReplies, ArePartsAnswer
 use crate::fault::PlanFault;
 use cluster_map::{ReadRoutingStrategy, SlotMap};
 use cluster_slots::{NodeAddress, Route};
-use redis_commands::{AggregateOp, ReadOnlyNames, ResponsePolicy, Routable};
+use redis_commands::{ReadOnlyNames, ResponsePolicy, Routable};
 use redis_combiners::{aggregate, combine_and_sort_array_results};
 use redis_routing::SplitCommand;
 use resp_core::{Cmd, ErrorKind, RedisError, RedisResult, Value};
@@ -189,15 +189,24 @@ fn join<R: Routable>(
         (λ value. view value ≡ reply_by form results)
         (λ error. (error ≡ out_of_memory) × (form ≡ list)) }
 {
+    let routes = split.routes();
     match split.policy() {
-        ResponsePolicy::Aggregate(AggregateOp::Sum) => aggregate(replies, AggregateOp::Sum),
         ResponsePolicy::CombineArrays => {
-            combine_and_sort_array_results(alloc, replies, split.routes(), &split.pattern())
+            combine_and_sort_array_results(alloc, replies, routes, &split.pattern())
         }
-        _ => match replies.into_iter().next() {
-            Some(first) => Ok(first),
-            None => unreachable!(),
-        },
+        ResponsePolicy::Aggregate(op) => aggregate(replies, op),
+        _ => Ok(first_of(replies)),
+    }
+}
+
+/// The first of some replies.
+fn first_of(replies: Vec<Value>) -> Value
+    requires some { 0 < length replies.items }
+    ensures { Some (view result) ≡ slice_get (map view replies.items) 0 }
+{
+    match replies.into_iter().next() {
+        Some(first) => first,
+        None => unreachable!(),
     }
 }
 

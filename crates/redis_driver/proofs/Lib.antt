@@ -1,0 +1,4 @@
+pub mod SplitTuples
+pub mod JoinedCounts
+pub mod PlacesOfKeys
+pub mod JoinedLists
