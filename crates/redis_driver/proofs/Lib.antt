@@ -2,3 +2,4 @@ pub mod SplitTuples
 pub mod JoinedCounts
 pub mod PlacesOfKeys
 pub mod JoinedLists
+pub mod Joined

@@ -1,3 +1,4 @@
 pub mod Plan
 pub mod Driven
 pub mod Faults
+pub mod Joined

@@ -1,6 +1,7 @@
-ghost use Rattle.std.specs.Prelude.{◌≡◌, ◌<◌, ◌⊎◌, ℕ, List, true, Option, Some, None, is_none, MatchOption, MatchResult, IfOk, OnOk, IfErr, length, map, option_map, slice_get, slice_set};
+ghost use Rattle.std.specs.Prelude.{◌≡◌, ◌<◌, ◌⊎◌, ℕ, List, true, Option, Some, None, is_none, Ok, Err, MatchOption, MatchResult, IfOk, OnOk, IfErr, length, map, option_map, slice_get, slice_set};
 ghost use Rattle.std.specs.List.{AllZip, list_any};
 ghost use Rattle.resp_core.specs.ErrorParts.{out_of_memory};
+ghost use Rattle.resp_core.specs.Reply.{Reply};
 ghost use Rattle.resp_core.specs.View.{view};
 ghost use Rattle.resp_core.specs.declared.error.ErrorKind.TheVariants.{Client};
 ghost use Rattle.read_strategies.specs.RouteNode.{IsNodeOfRoute, IsPickedNode};
@@ -14,7 +15,8 @@ ghost use Rattle.redis_nodes.specs.Unsplit.{reply_by};
 ghost use Rattle.redis_nodes.specs.Unsplit.{TupleResult};
 ghost use Rattle.redis_driver.specs.Driven.{IsFirstUncovered};
 ghost use Rattle.redis_driver.specs.Faults.{IsPlanFault};
-ghost use Rattle.redis_driver.specs.Plan.{IsPlan, ArePartReplies, ArePartsAnswered, slots_of};
+ghost use Rattle.redis_driver.specs.Joined.{joined};
+ghost use Rattle.redis_driver.specs.Plan.{IsPlan, ArePartReplies, slots_of};
 
 use crate::fault::PlanFault;
 use cluster_map::{ReadRoutingStrategy, SlotMap};
@@ -159,6 +161,9 @@ impl<'a, R: Routable> SplitPlan<'a, R> {
         ensures unsplit { (form : ReplyForm) (results : List TupleResult) → ArePartReplies self.entry form results → MatchResult result
             (λ value. view value ≡ reply_by form results)
             (λ error. (error ≡ out_of_memory) × (form ≡ list)) }
+        ensures joined { (replies : List Reply) → self.entry.replies ≡ map Some replies → MatchResult result
+            (λ value. joined self.entry.split replies ≡ Ok (view value))
+            (λ error. ((error ≡ out_of_memory) × (self.entry.split.policy ≡ ResponsePolicy.CombineArrays)) ⊎ (joined self.entry.split replies ≡ Err error.kind)) }
         ensures untold { list_any is_none self.entry.replies ≡ true → IfErr result (λ error. error.kind ≡ Client) }
     {
         let SplitPlan {
@@ -185,9 +190,9 @@ fn join<R: Routable>(
     replies: Vec<Value>,
 ) -> RedisResult<Value>
     requires each { length replies.items ≡ length split.now.routes }
-    ensures unsplit { (form : ReplyForm) (results : List TupleResult) → ArePartsAnswered split.now form results (map view replies.items) → MatchResult result
-        (λ value. view value ≡ reply_by form results)
-        (λ error. (error ≡ out_of_memory) × (form ≡ list)) }
+    ensures joined { MatchResult result
+        (λ value. joined split.now (map view replies.items) ≡ Ok (view value))
+        (λ error. ((error ≡ out_of_memory) × (split.now.policy ≡ ResponsePolicy.CombineArrays)) ⊎ (joined split.now (map view replies.items) ≡ Err error.kind)) }
 {
     let routes = split.routes();
     match split.policy() {
