@@ -1,7 +1,7 @@
 ghost use Rattle.std.specs.Prelude.{◌≡◌, ◌<◌, ◌⊎◌, ℕ, List, true, Option, Some, None, is_none, Ok, Err, MatchOption, MatchResult, IfOk, OnOk, IfErr, length, map, option_map, slice_get, slice_set};
 ghost use Rattle.std.specs.List.{AllZip, list_any};
 ghost use Rattle.resp_core.specs.ErrorParts.{out_of_memory};
-ghost use Rattle.resp_core.specs.Reply.{Reply};
+ghost use Rattle.resp_core.specs.declared.value.Value.{Value};
 ghost use Rattle.resp_core.specs.View.{view};
 ghost use Rattle.resp_core.specs.declared.error.ErrorKind.TheVariants.{Client};
 ghost use Rattle.read_strategies.specs.RouteNode.{IsNodeOfRoute, IsPickedNode};
@@ -161,9 +161,9 @@ impl<'a, R: Routable> SplitPlan<'a, R> {
         ensures unsplit { (form : ReplyForm) (results : List TupleResult) → ArePartReplies self.entry form results → MatchResult result
             (λ value. view value ≡ reply_by form results)
             (λ error. (error ≡ out_of_memory) × (form ≡ list)) }
-        ensures joined { (replies : List Reply) → self.entry.replies ≡ map Some replies → MatchResult result
-            (λ value. joined self.entry.split replies ≡ Ok (view value))
-            (λ error. ((error ≡ out_of_memory) × (self.entry.split.policy ≡ ResponsePolicy.CombineArrays)) ⊎ (joined self.entry.split replies ≡ Err error.kind)) }
+        ensures joined { (replies : List Value) → self.entry.replies ≡ map Some replies → MatchResult result
+            (λ value. joined self.entry.split (map view replies) ≡ Ok (view value))
+            (λ error. ((error ≡ out_of_memory) × (self.entry.split.policy ≡ ResponsePolicy.CombineArrays)) ⊎ (joined self.entry.split (map view replies) ≡ Err error.kind)) }
         ensures untold { list_any is_none self.entry.replies ≡ true → IfErr result (λ error. error.kind ≡ Client) }
     {
         let SplitPlan {
