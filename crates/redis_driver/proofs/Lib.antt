@@ -3,3 +3,5 @@ pub mod JoinedCounts
 pub mod PlacesOfKeys
 pub mod JoinedLists
 pub mod Joined
+pub mod Zips
+pub mod Told

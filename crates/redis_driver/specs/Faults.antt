@@ -3,7 +3,7 @@ use Rattle.std.specs.Prelude.{◌≡◌, ◌<◌, ◌≤◌, ◌⊎◌, ℕ, Boo
 use Rattle.resp_core.specs.ErrorParts.{ErrorParts}
 use Rattle.cluster_slots.specs.Address.{Address}
 use Rattle.cluster_slots.specs.SlotRoute.{SlotRoute}
-use Rattle.redis_nodes.specs.MultiKey.{MultiKey, ReplyForm, list}
+use Rattle.redis_nodes.specs.MultiKey.{MultiKey, list}
 use Rattle.redis_nodes.specs.Orders.{NamesOnce, in_order}
 use Rattle.redis_nodes.specs.Trace.{Entry, Ending, refused}
 use Rattle.redis_nodes.specs.Unsplit.{Step}

@@ -1,4 +1,5 @@
 pub mod Plan
+pub mod Sends
 pub mod Driven
 pub mod Faults
 pub mod Joined
