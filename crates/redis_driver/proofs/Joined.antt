@@ -1,12 +1,11 @@
 -- What the policies of split commands make of the replies to the parts.
-use Rattle.std.proofs.Common.{◌≡◌, ℕ, ◌<◌, List, [], ◌∷◌, Bool, true, Option, None, Some, Result, Ok, Err, map, length, refl, sym, ap, ◌∙◌, subst, arith, Vec, Global}
+use Rattle.std.proofs.Common.{◌≡◌, ℕ, List, [], ◌∷◌, Option, Some, Ok, map, length, refl, sym, ap, ◌∙◌, arith, Vec, Global}
 use Rattle.std.specs.Prelude.{slice_get}
 use Rattle.std.proofs.lemmas.List.{length-map}
 use Rattle.std.proofs.lemmas.Simd.{map-map}
 use Rattle.cluster_slots.specs.SlotRoute.{SlotRoute}
 use Rattle.resp_core.specs.Reply.{Reply}
 use Rattle.resp_core.specs.Reply as reply
-use Rattle.resp_core.specs.declared.error.ErrorKind.{ErrorKind}
 use Rattle.resp_core.specs.declared.error.ErrorKind.TheVariants.{Client, UnexpectedReturnType}
 use Rattle.redis_combiners.specs.Aggregate.{aggregate_of}
 use Rattle.redis_combiners.specs.SortedArrays.{sorted_arrays}
@@ -17,7 +16,7 @@ use Rattle.redis_commands.specs.declared.policy.ResponsePolicy.TheVariants.{OneS
 use Rattle.redis_commands.specs.declared.route_by.MultiSlotArgPattern.{MultiSlotArgPattern}
 use Rattle.redis_routing.specs.Split.{Split, IsSplit}
 use Rattle.redis_routing.specs.Target.{route_lists}
-use Rattle.redis_nodes.specs.MultiKey.{KeyTuple, ReplyForm, list, count, okay, form_by_policy}
+use Rattle.redis_nodes.specs.MultiKey.{ReplyForm, list, count, okay, form_by_policy}
 use Rattle.redis_nodes.specs.SlotResults.{results_of_slot}
 use Rattle.redis_nodes.specs.Unsplit.{TupleResult, reply_by}
 use Rattle.redis_driver.specs.Joined.{joined, joined_by, or_refused}

@@ -1,10 +1,9 @@
 -- The sum of the counts of a command's parts is the count of the whole command.
-use Rattle.std.proofs.Common.{◌≡◌, ℕ, ◌+◌, ◌-◌, ◌<◌, ◌^◌, List, [], ◌∷◌, Bool, true, cond, Option, None, Some, map, length, fold, refl, sym, ap, ◌∙◌, arith, ℤ, pos, ◌+ℤ◌}
-use lib.IntN.{negsuc}
-use Rattle.std.specs.Prelude.{count_by, option_map, option_and_then, sum_by, int_le, ◌&&◌}
+use Rattle.std.proofs.Common.{◌≡◌, ℕ, ◌+◌, ◌<◌, ◌^◌, List, [], ◌∷◌, true, cond, None, Some, map, length, fold, refl, ap, ◌∙◌, arith, pos, ◌+ℤ◌}
+use Rattle.std.specs.Prelude.{count_by, option_map, option_and_then, sum_by}
 use Rattle.std.proofs.lemmas.List.Sums.{sum_by-cons}
 use Rattle.std.proofs.lemmas.Int.{ints}
-use Rattle.resp_core.specs.Reply.{Reply, int}
+use Rattle.resp_core.specs.Reply.{int}
 use Rattle.redis_combiners.specs.Aggregate.{aggregate_of, fits_i64, in_i64, numbers, total}
 use Rattle.redis_commands.specs.declared.policy.AggregateOp.TheVariants.{Sum}
 use Rattle.redis_nodes.specs.MultiKey.{KeyTuple, count}

@@ -1,7 +1,7 @@
 -- The lists of a command's parts, put in the order of its keys, are the list of the whole command.
-use Rattle.std.proofs.Common.{◌≡◌, ℕ, zero, suc, ◌+◌, ◌<◌, List, [], ◌∷◌, ◌++◌, Bool, true, false, cond, eqb, Option, Some, None, Ok, Err, All, map, length, get_or, refl, sym, ap, ◌∙◌, subst, arith}
+use Rattle.std.proofs.Common.{◌≡◌, ℕ, ◌<◌, List, [], ◌∷◌, ◌++◌, Bool, true, false, cond, Option, Some, None, Ok, Err, All, map, length, get_or, refl, sym, ap, ◌∙◌, subst, arith}
 use Rattle.std.specs.Prelude.{nat_eq, nat_lt, slice_get, option_map, option_and_then}
-use Rattle.std.specs.List.{cons_option, filter_map, flat_map, list_all, range_with_len, zip}
+use Rattle.std.specs.List.{cons_option, filter_map, list_all, range_with_len, zip}
 use Rattle.std.specs.Option.{option_to_list}
 use Rattle.std.proofs.lemmas.Bool.{eq-eqb}
 use Rattle.std.proofs.lemmas.Bool.Decides.{nat_tests}
@@ -11,7 +11,7 @@ use Rattle.std.proofs.lemmas.List.Folds.{flat_map-map}
 use Rattle.std.proofs.lemmas.List.FromFn.{get_or-map-range_with_len, length-map-range_with_len}
 use Rattle.std.proofs.lemmas.Option.{slice_get-get_or}
 use Rattle.cluster_slots.specs.SlotRoute.{SlotRoute}
-use Rattle.resp_core.specs.Reply.{Reply, array, array_of, items_in, replies_of}
+use Rattle.resp_core.specs.Reply.{Reply, array, array_of, replies_of}
 use Rattle.resp_core.specs.declared.error.ErrorKind.TheVariants.{Client}
 use Rattle.resp_core.proofs.Cases.{by_test}
 use Rattle.resp_core.proofs.Views.{items_in-replies_of}

@@ -1,19 +1,17 @@
 -- What a split command is by its tuples: each slot of a key has one route, whose list is the places of the slot's part.
-use Rattle.std.proofs.Common.{◌≡◌, ℕ, zero, suc, ◌+◌, ◌<◌, ◌^◌, List, [], ◌∷◌, Bool, true, Option, None, Some, map, length, drop, take, refl, sym, ap, ◌∙◌, subst, arith}
+use Rattle.std.proofs.Common.{◌≡◌, ℕ, zero, suc, ◌<◌, ◌^◌, List, [], ◌∷◌, true, None, Some, map, length, take, refl, sym, ap, ◌∙◌, subst, arith}
 use Rattle.std.specs.Prelude.{All, slice_get}
 use Rattle.std.proofs.lemmas.Bool.Decides.{nat_tests}
 use Rattle.std.proofs.lemmas.List.{length-map}
-use Rattle.cluster_slots.specs.SlotRoute.{SlotRoute}
 use Rattle.redis_commands.specs.Command.{Arguments, HasWords, command_of}
 use Rattle.redis_commands.specs.NameTables.{NameTables}
 use Rattle.redis_commands.specs.Run.{run_after}
-use Rattle.redis_commands.specs.Tuples.{is_complete, fits, shared_in}
+use Rattle.redis_commands.specs.Tuples.{is_complete, shared_in}
 use Rattle.redis_commands.specs.declared.policy.ResponsePolicy.TheVariants.{CombineArrays}
 use Rattle.redis_commands.specs.declared.route_by.MultiSlotArgPattern.{MultiSlotArgPattern}
 use Rattle.redis_commands.specs.declared.route_by.MultiSlotArgPattern.TheVariants.{KeysOnly, KeyValuePairs, KeysAndLastArg, KeyWithTwoArgTriples}
 use Rattle.redis_commands.specs.declared.route_by.RouteBy.TheVariants as way
 use Rattle.redis_routing.specs.Complete.{pattern_by_name_with, multi_slot_routes_with}
-use Rattle.redis_routing.specs.Routing.{routes_of}
 use Rattle.redis_routing.specs.Split.{Split, IsSplit}
 use Rattle.redis_nodes.specs.MultiKey.{MultiKey, list, tuples_of}
 use Rattle.redis_nodes.proofs.Fold.{NamesSlots}

@@ -1,5 +1,5 @@
 ghost use Rattle.std.specs.Prelude.{◌≡◌, ◌<◌, ◌⊎◌, ℕ, List, true, Option, Some, None, is_none, Ok, Err, MatchOption, MatchResult, IfOk, OnOk, IfErr, length, map, option_map, slice_get, slice_set};
-ghost use Rattle.std.specs.List.{AllZip, list_any};
+ghost use Rattle.std.specs.List.{AllZip, list_all, list_any};
 ghost use Rattle.resp_core.specs.ErrorParts.{out_of_memory};
 ghost use Rattle.resp_core.specs.declared.value.Value.{Value};
 ghost use Rattle.resp_core.specs.View.{view};
@@ -173,7 +173,7 @@ impl<'a, R: Routable> SplitPlan<'a, R> {
             replies,
             answered,
         } = self;
-        if !answered.iter().all(|is_told| *is_told) {
+        if !all_set(&answered) {
             return Err(RedisError::from((
                 ErrorKind::Client,
                 "a part has no reply",
@@ -183,21 +183,27 @@ impl<'a, R: Routable> SplitPlan<'a, R> {
     }
 }
 
+/// Whether all flags are set.
+fn all_set(flags: &[bool]) -> bool
+    ensures { result ≡ list_all (λ flag. flag) flags.now }
+{
+    flags.iter().all(|flag| *flag)
+}
+
 /// The one reply to a split command, by those to its parts.
 fn join<R: Routable>(
     alloc: Global,
     split: &SplitCommand<'_, R>,
     replies: Vec<Value>,
 ) -> RedisResult<Value>
-    requires each { length replies.items ≡ length split.now.routes }
+    requires some { 0 < length replies.items }
     ensures joined { MatchResult result
         (λ value. joined split.now (map view replies.items) ≡ Ok (view value))
         (λ error. ((error ≡ out_of_memory) × (split.now.policy ≡ ResponsePolicy.CombineArrays)) ⊎ (joined split.now (map view replies.items) ≡ Err error.kind)) }
 {
-    let routes = split.routes();
     match split.policy() {
         ResponsePolicy::CombineArrays => {
-            combine_and_sort_array_results(alloc, replies, routes, &split.pattern())
+            combine_and_sort_array_results(alloc, replies, split.routes(), &split.pattern())
         }
         ResponsePolicy::Aggregate(op) => aggregate(replies, op),
         _ => Ok(first_of(replies)),

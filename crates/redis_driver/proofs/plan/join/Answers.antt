@@ -1,4 +1,4 @@
-use Rattle.std.proofs.Common.{◌≡◌, sym, ap, ◌∙◌, inl, inr, ⊎_elim, map, Err}
+use Rattle.std.proofs.Common.{sym, ap, ◌∙◌, inl, inr, ⊎_elim, map, Err}
 use Rattle.std.proofs.lemmas.Result.{MatchResult-weaker}
 use Rattle.resp_core.specs.View.{view}
 use Rattle.resp_core.specs.declared.error.ErrorKind.{ErrorKind}
@@ -9,7 +9,7 @@ pub returns-in-CombineArrays : goal.returns-in-CombineArrays
 returns-in-CombineArrays g c =
     let split = c.args.split.now in
     let policy = sym c.policy.ensures.policy ∙ c.in-CombineArrays.is in
-    let is = arrays_are split c.pattern.result c.routes-routes.result.now (map view c.args.replies.items) policy c.pattern.ensures c.routes-routes.ensures.routes in
+    let is = arrays_are split c.pattern.result c.routes.result.now (map view c.args.replies.items) policy c.pattern.ensures c.routes.ensures.routes in
     record { joined = MatchResult-weaker c.combine_and_sort_array_results.result c.combine_and_sort_array_results.ensures.answer (λ value e. sym is ∙ e) (λ error. ⊎_elim (λ memory. inl (memory, policy)) (λ refused. inr (sym is ∙ refused))) }
 
 pub returns-in-Aggregate : goal.returns-in-Aggregate
