@@ -30,7 +30,7 @@ pub arrays_are : (split : Split) (pattern : MultiSlotArgPattern) (routes : List 
     → sorted_arrays pattern replies (map (λ route. route.1.items) routes) ≡ joined split replies
 arrays_are split pattern routes replies policy same listed =
     let lists : map (λ route. route.1.items) routes ≡ map (λ r. r.1) split.routes =
-        sym (map-map (λ (r : SlotRoute × List ℕ). r.1) (λ (r : SlotRoute × Vec ℕ Global). (r.0, r.1.items)) routes) ∙ ap (map (λ r. r.1)) listed in
+    sym (map-map (λ (r : SlotRoute × List ℕ). r.1) (λ (r : SlotRoute × Vec ℕ Global). (r.0, r.1.items)) routes) ∙ ap (map (λ r. r.1)) listed in
     ap (sorted_arrays pattern replies) lists ∙ ap (λ p. sorted_arrays p replies (map (λ r. r.1) split.routes)) same
     ∙ ap (λ p. joined_by p split.pattern (map (λ r. r.1) split.routes) replies) (sym policy)
 

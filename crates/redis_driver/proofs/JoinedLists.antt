@@ -58,7 +58,7 @@ module _ (xs : List Reply) where
       by_test (nat_eq k p)
       (λ here. absurd (omega (arith, times_here k p ps here)))
       (λ there. other_place k p ps d (All-head (λ q. q < length xs) p ps small) there
-          ∙ none_at k ps d (All-tail (λ q. q < length xs) p ps small) (sym (times_there k p ps there) ∙ none))
+      ∙ none_at k ps d (All-tail (λ q. q < length xs) p ps small) (sym (times_there k p ps there) ∙ none))
 
   one_at : (k : ℕ) (ps : List ℕ) (d : Reply) → All (λ p. p < length xs) ps → times k ps ≡ 1 → items_at k ps (in_order xs ps) ≡ get_or xs k d ∷ []
   one_at k [] d small once = absurd (omega arith)
@@ -67,11 +67,11 @@ module _ (xs : List Reply) where
       let rest : All (λ q. q < length xs) ps = All-tail (λ q. q < length xs) p ps small in
       by_test (nat_eq k p)
       (λ here.
-          let same : p ≡ k = grind (arith, nat_tests) in
-          ap (items_at k (p ∷ ps)) (taken p ps d l) ∙ items_at-cons k p ps (get_or xs p d) (in_order xs ps)
-          ∙ ap (λ b. cond b (get_or xs p d ∷ items_at k ps (in_order xs ps)) (items_at k ps (in_order xs ps))) (same_test k p true here)
-          ∙ ap (λ ys. get_or xs p d ∷ ys) (none_at k ps d rest (omega (arith, times_here k p ps here)))
-          ∙ ap (λ q. get_or xs q d ∷ []) same)
+      let same : p ≡ k = grind (arith, nat_tests) in
+      ap (items_at k (p ∷ ps)) (taken p ps d l) ∙ items_at-cons k p ps (get_or xs p d) (in_order xs ps)
+      ∙ ap (λ b. cond b (get_or xs p d ∷ items_at k ps (in_order xs ps)) (items_at k ps (in_order xs ps))) (same_test k p true here)
+      ∙ ap (λ ys. get_or xs p d ∷ ys) (none_at k ps d rest (omega (arith, times_here k p ps here)))
+      ∙ ap (λ q. get_or xs q d ∷ []) same)
       (λ there. other_place k p ps d l there ∙ one_at k ps d rest (sym (times_there k p ps there) ∙ once))
 
   all_are : (ys : List Reply) → all_some (map Some ys) ≡ Some ys
@@ -92,11 +92,11 @@ module _ (xs : List Reply) where
       let at : ℕ → Option Reply = λ k. single (items_at k order (in_order xs order)) in
       let long : length (map at (range_with_len 0 (length order))) ≡ length order = length-map-range_with_len at 0 (length order) in
       let each : map at (range_with_len 0 (length order)) ≡ map Some xs =
-          same_lists (map at (range_with_len 0 (length order))) (map Some xs) (omega (arith, long, n, length-map xs (λ (x : Reply). Some x))) (λ k d l.
-          let short : k < length xs = omega (arith, long, n) in
-          get_or-map-range_with_len at 0 (length order) k k d (omega (arith, n)) (omega arith)
-          ∙ ap single (one_at k order (array (replies_of [])) names.below (names.once k short))
-          ∙ sym (get_or-map (λ (x : Reply). Some x) xs k (array (replies_of [])) d short)) in
+      same_lists (map at (range_with_len 0 (length order))) (map Some xs) (omega (arith, long, n, length-map xs (λ (x : Reply). Some x))) (λ k d l.
+      let short : k < length xs = omega (arith, long, n) in
+      get_or-map-range_with_len at 0 (length order) k k d (omega (arith, n)) (omega arith)
+      ∙ ap single (one_at k order (array (replies_of [])) names.below (names.once k short))
+      ∙ sym (get_or-map (λ (x : Reply). Some x) xs k (array (replies_of [])) d short)) in
       ap (λ b. cond b (all_some (map at (range_with_len 0 (length order)))) None) (all_small (length order) order (subst (λ m. All (λ p. p < m) order) (sym n) names.below))
       ∙ ap all_some each ∙ all_are xs
 
@@ -144,7 +144,7 @@ module _ (ts : List KeyTuple) (rs : List TupleResult) (l : length rs ≡ length 
   sorted slots named =
       let numbers = flatten (map (λ slot. numbers_of_slot slot ts) slots) in
       let once : NamesOnce (length values) numbers = subst (λ n. NamesOnce n numbers) (sym long_values)
-          (subst (NamesOnce (length ts)) (sym (flat_map-map (λ (ns : List ℕ). ns) (λ slot. numbers_of_slot slot ts) slots)) (numbers_share_out slots ts named)) in
+      (subst (NamesOnce (length ts)) (sym (flat_map-map (λ (ns : List ℕ). ns) (λ slot. numbers_of_slot slot ts) slots)) (numbers_share_out slots ts named)) in
       ap (λ o. option_and_then (by_places numbers) (option_map flatten o)) (each_array slots)
       ∙ ap (by_places numbers) (flat slots)
       ∙ put_back values numbers once
@@ -167,6 +167,6 @@ module _ (ts : List KeyTuple) (rs : List TupleResult) (l : length rs ≡ length 
       let same : length (map reply_of slots) ≡ length numbers = length-map slots reply_of ∙ sym (length-map slots (λ slot. numbers_of_slot slot ts)) in
       ap (λ lists. array_by_places lists (map reply_of slots)) (parts_places pattern routes placed)
       ∙ ap (λ b. cond b (array_or_refusal (first_misfit (map reply_of slots) (map length numbers)) (option_and_then (by_places (flatten numbers)) (all_items (map reply_of slots)))) (Err Client))
-          (eq-eqb (length (map reply_of slots)) (length numbers) same)
+      (eq-eqb (length (map reply_of slots)) (length numbers) same)
       ∙ ap (λ ks. array_or_refusal (slice_get ks 0) (option_and_then (by_places (flatten numbers)) (all_items (map reply_of slots)))) (all_fit slots)
       ∙ ap (array_or_refusal None) (sorted slots named)

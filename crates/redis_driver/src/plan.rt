@@ -21,8 +21,8 @@ ghost use Rattle.redis_driver.specs.Plan.{IsPlan, ArePartReplies, slots_of};
 use crate::fault::PlanFault;
 use cluster_map::{ReadRoutingStrategy, SlotMap};
 use cluster_slots::{NodeAddress, Route};
-use redis_commands::{ReadOnlyNames, ResponsePolicy, Routable};
 use redis_combiners::{aggregate, combine_and_sort_array_results};
+use redis_commands::{ReadOnlyNames, ResponsePolicy, Routable};
 use redis_routing::SplitCommand;
 use resp_core::{Cmd, ErrorKind, RedisError, RedisResult, Value};
 use std::alloc::{AllocError, Global};
@@ -174,10 +174,7 @@ impl<'a, R: Routable> SplitPlan<'a, R> {
             answered,
         } = self;
         if !all_set(&answered) {
-            return Err(RedisError::from((
-                ErrorKind::Client,
-                "a part has no reply",
-            )));
+            return Err(RedisError::from((ErrorKind::Client, "a part has no reply")));
         }
         join(alloc, &split, replies)
     }

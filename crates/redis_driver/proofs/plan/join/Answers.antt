@@ -16,9 +16,11 @@ pub returns-in-Aggregate : goal.returns-in-Aggregate
 returns-in-Aggregate g c =
     let split = c.args.split.now in
     let policy = sym c.policy.ensures.policy ∙ c.in-Aggregate.is in
-    record { joined = MatchResult-weaker c.aggregate.result c.aggregate.ensures.answer
-        (λ value e. number_is split c.in-Aggregate.op (map view c.args.replies.items) _ policy e)
-        (λ error e. inr (number_is split c.in-Aggregate.op (map view c.args.replies.items) _ policy e.0 ∙ ap (λ (k : ErrorKind). Err k) (sym e.1))) }
+    record {
+      joined = MatchResult-weaker c.aggregate.result c.aggregate.ensures.answer
+          (λ value e. number_is split c.in-Aggregate.op (map view c.args.replies.items) _ policy e)
+          (λ error e. inr (number_is split c.in-Aggregate.op (map view c.args.replies.items) _ policy e.0 ∙ ap (λ (k : ErrorKind). Err k) (sym e.1)));
+    }
 
 pub returns-in_default : goal.returns-in_default
 returns-in_default g c = record { joined = first_is c.args.split.now c.policy.result (map view c.args.replies.items) (view c.first_of.result) (sym c.policy.ensures.policy) c.in_default.not-CombineArrays c.in_default.not-Aggregate c.first_of.ensures }

@@ -38,15 +38,15 @@ returns-clause-joined g c = λ replies all.
     let split : c.self.inside.split ≡ c.args.self.split = ap (λ (p : Plan). p.split) c.self.view_is in
     let same : joined c.self.inside.split (map view c.self.inside.replies.items) ≡ joined c.args.self.split (map view replies) = ap (λ s. joined s (map view c.self.inside.replies.items)) split ∙ ap (λ rs. joined c.args.self.split (map view rs)) known in
     MatchResult-weaker c.join.result c.join.ensures.joined (λ value e. sym same ∙ e)
-        (λ error. ⊎_elim (λ memory. inl (memory.0, sym (ap (λ (s : Split). s.policy) split) ∙ memory.1)) (λ refused. inr (sym same ∙ refused)))
+    (λ error. ⊎_elim (λ memory. inl (memory.0, sym (ap (λ (s : Split). s.policy) split) ∙ memory.1)) (λ refused. inr (sym same ∙ refused)))
 
 pub returns-clause-unsplit : goal.returns-clause-unsplit
 returns-clause-unsplit g c = λ form results are.
     let split : c.self.inside.split ≡ c.args.self.split = ap (λ (p : Plan). p.split) c.self.view_is in
     let right : joined c.args.self.split (map view are.replies) ≡ Ok (reply_by form results) = joined_is_unsplit c.args.self.split form results (map view are.replies) (subst IsSplit split c.self.invariant.0.split) are.answered in
     MatchResult-weaker c.join.result (returns-clause-joined g c are.replies are.all_told)
-        (λ value e. let same : Ok (view value) ≡ Ok (reply_by form results) = sym e ∙ right in cc)
-        (λ error. ⊎_elim (λ memory. (memory.0, arrays_make_lists c.args.self.split form are.answered.form_is memory.1)) (λ refused. absurd (let no_refusal : Ok (reply_by form results) ≡ Err error.kind = sym right ∙ refused in cc)))
+    (λ value e. let same : Ok (view value) ≡ Ok (reply_by form results) = sym e ∙ right in cc)
+    (λ error. ⊎_elim (λ memory. (memory.0, arrays_make_lists c.args.self.split form are.answered.form_is memory.1)) (λ refused. absurd (let no_refusal : Ok (reply_by form results) ≡ Err error.kind = sym right ∙ refused in cc)))
 
 pub returns-clause-untold : goal.returns-clause-untold
 returns-clause-untold g c = λ missing.
