@@ -2,3 +2,4 @@ pub mod Plan
 pub mod Sends
 pub mod Driven
 pub mod Faults
+pub mod Joined

@@ -1,6 +1,7 @@
-ghost use Rattle.std.specs.Prelude.{◌≡◌, ◌<◌, ◌⊎◌, ℕ, List, true, Option, Some, None, is_none, MatchOption, MatchResult, IfOk, OnOk, IfErr, length, map, option_map, slice_get, slice_set};
-ghost use Rattle.std.specs.List.{AllZip, list_any};
+ghost use Rattle.std.specs.Prelude.{◌≡◌, ◌<◌, ◌⊎◌, ℕ, List, true, Option, Some, None, is_none, Ok, Err, MatchOption, MatchResult, IfOk, OnOk, IfErr, length, map, option_map, slice_get, slice_set};
+ghost use Rattle.std.specs.List.{AllZip, list_all, list_any};
 ghost use Rattle.resp_core.specs.ErrorParts.{out_of_memory};
+ghost use Rattle.resp_core.specs.declared.value.Value.{Value};
 ghost use Rattle.resp_core.specs.View.{view};
 ghost use Rattle.resp_core.specs.declared.error.ErrorKind.TheVariants.{Client};
 ghost use Rattle.read_strategies.specs.RouteNode.{IsNodeOfRoute, IsPickedNode};
@@ -14,13 +15,14 @@ ghost use Rattle.redis_nodes.specs.Unsplit.{reply_by};
 ghost use Rattle.redis_nodes.specs.Unsplit.{TupleResult};
 ghost use Rattle.redis_driver.specs.Driven.{IsFirstUncovered};
 ghost use Rattle.redis_driver.specs.Faults.{IsPlanFault};
-ghost use Rattle.redis_driver.specs.Plan.{IsPlan, ArePartReplies, ArePartsAnswered, slots_of};
+ghost use Rattle.redis_driver.specs.Joined.{joined};
+ghost use Rattle.redis_driver.specs.Plan.{IsPlan, ArePartReplies, slots_of};
 
 use crate::fault::PlanFault;
 use cluster_map::{ReadRoutingStrategy, SlotMap};
 use cluster_slots::{NodeAddress, Route};
-use redis_commands::{AggregateOp, ReadOnlyNames, ResponsePolicy, Routable};
 use redis_combiners::{aggregate, combine_and_sort_array_results};
+use redis_commands::{ReadOnlyNames, ResponsePolicy, Routable};
 use redis_routing::SplitCommand;
 use resp_core::{Cmd, ErrorKind, RedisError, RedisResult, Value};
 use std::alloc::{AllocError, Global};
@@ -159,6 +161,9 @@ impl<'a, R: Routable> SplitPlan<'a, R> {
         ensures unsplit { (form : ReplyForm) (results : List TupleResult) → ArePartReplies self.entry form results → MatchResult result
             (λ value. view value ≡ reply_by form results)
             (λ error. (error ≡ out_of_memory) × (form ≡ list)) }
+        ensures joined { (replies : List Value) → self.entry.replies ≡ map Some replies → MatchResult result
+            (λ value. joined self.entry.split (map view replies) ≡ Ok (view value))
+            (λ error. ((error ≡ out_of_memory) × (self.entry.split.policy ≡ ResponsePolicy.CombineArrays)) ⊎ (joined self.entry.split (map view replies) ≡ Err error.kind)) }
         ensures untold { list_any is_none self.entry.replies ≡ true → IfErr result (λ error. error.kind ≡ Client) }
     {
         let SplitPlan {
@@ -168,14 +173,18 @@ impl<'a, R: Routable> SplitPlan<'a, R> {
             replies,
             answered,
         } = self;
-        if !answered.iter().all(|is_told| *is_told) {
-            return Err(RedisError::from((
-                ErrorKind::Client,
-                "a part has no reply",
-            )));
+        if !all_set(&answered) {
+            return Err(RedisError::from((ErrorKind::Client, "a part has no reply")));
         }
         join(alloc, &split, replies)
     }
+}
+
+/// Whether all flags are set.
+fn all_set(flags: &[bool]) -> bool
+    ensures { result ≡ list_all (λ flag. flag) flags.now }
+{
+    flags.iter().all(|flag| *flag)
 }
 
 /// The one reply to a split command, by those to its parts.
@@ -184,20 +193,28 @@ fn join<R: Routable>(
     split: &SplitCommand<'_, R>,
     replies: Vec<Value>,
 ) -> RedisResult<Value>
-    requires each { length replies.items ≡ length split.now.routes }
-    ensures unsplit { (form : ReplyForm) (results : List TupleResult) → ArePartsAnswered split.now form results (map view replies.items) → MatchResult result
-        (λ value. view value ≡ reply_by form results)
-        (λ error. (error ≡ out_of_memory) × (form ≡ list)) }
+    requires some { 0 < length replies.items }
+    ensures joined { MatchResult result
+        (λ value. joined split.now (map view replies.items) ≡ Ok (view value))
+        (λ error. ((error ≡ out_of_memory) × (split.now.policy ≡ ResponsePolicy.CombineArrays)) ⊎ (joined split.now (map view replies.items) ≡ Err error.kind)) }
 {
     match split.policy() {
-        ResponsePolicy::Aggregate(AggregateOp::Sum) => aggregate(replies, AggregateOp::Sum),
         ResponsePolicy::CombineArrays => {
             combine_and_sort_array_results(alloc, replies, split.routes(), &split.pattern())
         }
-        _ => match replies.into_iter().next() {
-            Some(first) => Ok(first),
-            None => unreachable!(),
-        },
+        ResponsePolicy::Aggregate(op) => aggregate(replies, op),
+        _ => Ok(first_of(replies)),
+    }
+}
+
+/// The first of some replies.
+fn first_of(replies: Vec<Value>) -> Value
+    requires some { 0 < length replies.items }
+    ensures { Some (view result) ≡ slice_get (map view replies.items) 0 }
+{
+    match replies.into_iter().next() {
+        Some(first) => first,
+        None => unreachable!(),
     }
 }
 
