@@ -6,3 +6,6 @@ pub mod JoinedLists
 pub mod Joined
 pub mod Zips
 pub mod Told
+pub mod Planned
+pub mod Ended
+pub mod Headline

@@ -42,8 +42,7 @@ module _ {C : Type 0} (IsNode : SlotRoute → Address → Type 0) (step : Step C
     pub trace : new.trace ≡ old.trace
 
   -- the parts of the first routes of the order, so many, were answered, and no other
-  pub record IsStopped (routes : List SlotRoute) (count : ℕ) (trace : List Entry) : Type 0 where
-    pub command : MultiKey
+  pub record IsStopped (routes : List SlotRoute) (command : MultiKey) (count : ℕ) (trace : List Entry) : Type 0 where
     pub drivable : IsDrivable r routes command
     pub within : count ≤ length routes
     pub answered : AreAnswered IsNode step r old new command (take count (in_order routes r.order)) trace
@@ -51,8 +50,9 @@ module _ {C : Type 0} (IsNode : SlotRoute → Address → Type 0) (step : Step C
   -- the node of the next route refused its part with the error
   pub record IsNodeFault (may_refuse : ℕ → Ending → Type 0) (error : ErrorParts) (count : ℕ) : Type 0 where
     pub routes : List SlotRoute
+    pub command : MultiKey
     pub before : List Entry
-    pub stopped : IsStopped routes count before
+    pub stopped : IsStopped routes command count before
     pub route : SlotRoute
     pub next : slice_get (in_order routes r.order) count ≡ Some route
     pub last : Entry
@@ -63,9 +63,10 @@ module _ {C : Type 0} (IsNode : SlotRoute → Address → Type 0) (step : Step C
   -- memory ran out after an answer: at a node, which the mark tells, or in combining all replies to a list
   pub record IsLateMemory (count : ℕ) : Type 0 where
     pub routes : List SlotRoute
+    pub command : MultiKey
     pub some : 0 < count
-    pub stopped : IsStopped routes count new.trace
-    pub cause : (new.mark ≡ true) ⊎ ((stopped.command.form ≡ list) × (count ≡ length routes))
+    pub stopped : IsStopped routes command count new.trace
+    pub cause : (new.mark ≡ true) ⊎ ((command.form ≡ list) × (count ≡ length routes))
 
   -- the fault has its cause, and so many parts took effect
   abbrev pub IsFault : (may_refuse : ℕ → Ending → Type 0) → DriveFault → ℕ → Type 0
