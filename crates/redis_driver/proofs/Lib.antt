@@ -1,3 +1,4 @@
+pub mod Sending
 pub mod SplitTuples
 pub mod JoinedCounts
 pub mod PlacesOfKeys
