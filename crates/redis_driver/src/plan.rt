@@ -1,5 +1,6 @@
 ghost use Rattle.std.specs.Prelude.{◌≡◌, ◌<◌, ◌⊎◌, ℕ, List, true, Option, Some, None, is_none, Ok, Err, MatchOption, MatchResult, IfOk, OnOk, IfErr, length, map, option_map, slice_get, slice_set};
 ghost use Rattle.std.specs.List.{AllZip, list_all, list_any};
+ghost use Rattle.std.specs.Result.{IsErrAnd};
 ghost use Rattle.resp_core.specs.ErrorParts.{out_of_memory};
 ghost use Rattle.resp_core.specs.declared.value.Value.{Value};
 ghost use Rattle.resp_core.specs.View.{view};
@@ -164,7 +165,7 @@ impl<'a, R: Routable> SplitPlan<'a, R> {
         ensures joined { (replies : List Value) → self.entry.replies ≡ map Some replies → MatchResult result
             (λ value. joined self.entry.split (map view replies) ≡ Ok (view value))
             (λ error. ((error ≡ out_of_memory) × (self.entry.split.policy ≡ ResponsePolicy.CombineArrays)) ⊎ (joined self.entry.split (map view replies) ≡ Err error.kind)) }
-        ensures untold { list_any is_none self.entry.replies ≡ true → IfErr result (λ error. error.kind ≡ Client) }
+        ensures untold { list_any is_none self.entry.replies ≡ true → IsErrAnd result (λ error. error.kind ≡ Client) }
     {
         let SplitPlan {
             split,
