@@ -218,7 +218,7 @@ fn nodes_of<'a>(
         let Some(node) = slot_map.slot_addr_for_route(*route, strategy, pick) else {
             return Err(PlanFault::NotCovered(route.slot()));
         };
-        nodes.push(node).map_err(AllocError::from)?;
+        nodes.push(node)?;
     }
     Ok(nodes)
 }
