@@ -34,8 +34,8 @@ covered_by_nodes strategy picks entries pick (route ∷ routes) [] are k d l = a
 covered_by_nodes strategy picks entries pick (route ∷ routes) (node ∷ nodes) are zero d l = covered_by_node strategy picks entries pick route node are.0
 covered_by_nodes strategy picks entries pick (route ∷ routes) (node ∷ nodes) are (suc k) d l = covered_by_nodes strategy picks entries pick routes nodes are.1 k d (omega arith)
 
--- the routes without their places
-firsts-route_lists : (routes : List (SlotRoute × Vec ℕ Global)) → map (λ r. r.0) (route_lists routes) ≡ map (λ r. r.0) routes
+-- The routes without their places are the routes.
+pub firsts-route_lists : (routes : List (SlotRoute × Vec ℕ Global)) → map (λ r. r.0) (route_lists routes) ≡ map (λ r. r.0) routes
 firsts-route_lists [] = refl
 firsts-route_lists (route ∷ routes) = ap (λ rs. route.0 ∷ rs) (firsts-route_lists routes)
 

@@ -1,5 +1,5 @@
 -- Replies, some of which were told.
-use Rattle.std.proofs.Common.{◌≡◌, ℕ, zero, suc, ◌<◌, List, [], ◌∷◌, Bool, true, false, cond, Option, None, Some, refl, sym, ap, ◌∙◌, arith, length, get_or, set, slice_get}
+use Rattle.std.proofs.Common.{◌≡◌, ℕ, zero, suc, ◌<◌, List, [], ◌∷◌, Bool, true, false, cond, Option, None, Some, refl, sym, ap, ◌∙◌, arith, length, get_or, map, replicate, set, slice_get}
 use Rattle.std.proofs.lemmas.Option.{none-some}
 use Rattle.resp_core.specs.declared.value.Value.{Value}
 use Rattle.redis_driver.specs.Plan.{told}
@@ -39,3 +39,13 @@ unmarked (false ∷ marks) (reply ∷ replies) zero e none = (omega arith, refl)
 unmarked (mark ∷ marks) (reply ∷ replies) (suc number) e none =
     let later = unmarked marks replies number (omega arith) none in
     (omega arith, later.1)
+
+-- With no mark nothing was told.
+pub none_told : {X : Type 0} (count : ℕ) (replies : List Value) (xs : List X) → length replies ≡ count → length xs ≡ count →
+    told (replicate count false) replies ≡ map (λ x. None) xs
+none_told zero [] [] r e = refl
+none_told zero replies (x ∷ xs) r e = absurd (omega arith)
+none_told zero (reply ∷ replies) xs r e = absurd (omega arith)
+none_told (suc count) [] xs r e = absurd (omega arith)
+none_told (suc count) replies [] r e = absurd (omega arith)
+none_told (suc count) (reply ∷ replies) (x ∷ xs) r e = ap (λ rest. None ∷ rest) (none_told count replies xs (omega arith) (omega arith))

@@ -90,8 +90,7 @@ impl<'a, R: Routable> SplitPlan<'a, R> {
         let parts = parts_of(alloc, &split)?;
         let count = split.len();
         let replies = no_replies(alloc, count)?;
-        let mut answered = Vec::with_capacity(alloc, count)?;
-        answered.resize(count, false)?;
+        let answered = vec![in alloc; false; count]?;
         Ok(SplitPlan {
             split,
             nodes,

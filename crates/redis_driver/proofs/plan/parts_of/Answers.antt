@@ -27,8 +27,8 @@ pub loop-number-preserved : goal.loop-number-preserved
 loop-number-preserved g c =
     let split = c.args.split.now in
     let next = at_slot (λ r. r.0.slot) (split_part split) split.routes c.loop-number.number _ c.in_ok-part.ensures in
-    ap (map (map Some)) c.in_ok-push.ensures.items
-    ∙ parts_more (split_part split) c.loop-number.parts.items c.in_ok-part.field-0 (slots_of split.routes) c.loop-number.number c.loop-number.invariant next
+    rw c.in_ok-push.ensures.items
+    (parts_more (split_part split) c.loop-number.parts.items c.in_ok-part.field-0 (slots_of split.routes) c.loop-number.number c.loop-number.invariant next)
 
 pub returns : goal.returns
 returns g c =
