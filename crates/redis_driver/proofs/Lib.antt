@@ -9,3 +9,5 @@ pub mod Told
 pub mod Planned
 pub mod Ended
 pub mod Headline
+pub mod Covered
+pub mod Telling

@@ -2,7 +2,7 @@ ghost use Rattle.std.specs.Prelude.{◌≡◌};
 
 use redis_nodes::SendError;
 use resp_core::RedisError;
-use std::alloc::AllocError;
+use std::alloc::{AllocError, AllocFailed};
 
 /// Why a command has no plan.
 #[derive(Drop)]
@@ -16,9 +16,21 @@ pub enum PlanFault {
 }
 
 impl From<AllocError> for PlanFault {
-    fn from(_: AllocError) -> Self
-        ensures { result ≡ PlanFault.Memory }
-    {
+    ghost use Rattle.redis_driver.specs.declared.fault.PlanFault.TheVariants as plan;
+
+    ghost from_gives = { λ _ fault. fault ≡ plan.Memory };
+
+    fn from(_: AllocError) -> Self {
+        PlanFault::Memory
+    }
+}
+
+impl<T: Drop> From<AllocFailed<T>> for PlanFault {
+    ghost use Rattle.redis_driver.specs.declared.fault.PlanFault.TheVariants as plan;
+
+    ghost from_gives = { λ _ fault. fault ≡ plan.Memory };
+
+    fn from(_: AllocFailed<T>) -> Self {
         PlanFault::Memory
     }
 }

@@ -1,10 +1,11 @@
 ghost use Rattle.std.specs.Prelude.{◌≡◌, ◌<◌, ◌⊎◌, ℕ, List, true, Option, Some, None, is_none, Ok, Err, MatchOption, MatchResult, IfOk, OnOk, IfErr, length, map, option_map, slice_get, slice_set};
-ghost use Rattle.std.specs.List.{AllZip, list_all, list_any};
+ghost use Rattle.std.specs.List.{All, AllZip, list_all, list_any};
 ghost use Rattle.std.specs.Result.{IsErrAnd};
 ghost use Rattle.resp_core.specs.ErrorParts.{out_of_memory};
 ghost use Rattle.resp_core.specs.declared.value.Value.{Value};
 ghost use Rattle.resp_core.specs.View.{view};
 ghost use Rattle.resp_core.specs.declared.error.ErrorKind.TheVariants.{Client};
+ghost use Rattle.cluster_map.specs.ReplyNode.{IsCovered};
 ghost use Rattle.read_strategies.specs.RouteNode.{IsNodeOfRoute, IsPickedNode};
 ghost use Rattle.redis_commands.specs.Command.{command_of};
 ghost use Rattle.redis_commands.specs.ReadOnly.{is_among};
@@ -80,6 +81,9 @@ impl<'a, R: Routable> SplitPlan<'a, R> {
         ensures pattern { IfOk result (λ plan. Some plan.split.pattern ≡ pattern_by_name (command_of (R.args command.now))) }
         ensures policy { IfOk result (λ plan. Some plan.split.policy ≡ policy_by_name (command_of (R.args command.now))) }
         ensures nodes { IfOk result (λ plan. AllZip (λ route address. MatchOption strategy.entry (IsNodeOfRoute slot_map.now route.0 pick address) (λ s. IsPickedNode (picks s.now) slot_map.now route.0 address)) plan.split.routes plan.nodes) }
+        // So each route's slot has a node.
+        ensures covered { IfOk result (λ plan. All (λ route. IsCovered slot_map.now route.0.slot) plan.split.routes) }
+        ensures whole { IfOk result (λ plan. IsPlan plan) }
         ensures untold { IfOk result (λ plan. plan.replies ≡ map (λ route. None) plan.split.routes) }
         ensures fault { IfErr result (λ fault. IsPlanFault slot_map.now (is_among read_only.now) (R.args command.now) fault) }
     {
@@ -90,8 +94,7 @@ impl<'a, R: Routable> SplitPlan<'a, R> {
         let parts = parts_of(alloc, &split)?;
         let count = split.len();
         let replies = no_replies(alloc, count)?;
-        let mut answered = Vec::with_capacity(alloc, count)?;
-        answered.resize(count, false)?;
+        let answered = vec![in alloc; false; count]?;
         Ok(SplitPlan {
             split,
             nodes,
@@ -141,14 +144,12 @@ impl<'a, R: Routable> SplitPlan<'a, R> {
         ensures told { OnOk result ((slice_get self.old.replies number ≡ Some None) × (self.new ≡ record { split = self.old.split; nodes = self.old.nodes; parts = self.old.parts; replies = slice_set self.old.replies number (Some reply) })) }
         ensures refused { IfErr result (λ back. (back ≡ reply) × (self.new ≡ self.old) × (slice_get self.old.replies number ≡ Some None → ⊥)) }
     {
-        match self.answered.get(number) {
-            Some(false) => {
-                self.answered[number] = true;
-                self.replies[number] = reply;
-                Ok(())
-            }
-            _ => Err(reply),
+        if number >= self.answered.len() || self.answered[number] {
+            return Err(reply);
         }
+        self.answered[number] = true;
+        self.replies[number] = reply;
+        Ok(())
     }
 
     /// The one reply of the command, once each reply was told. Counts are added up, lists are put in
@@ -235,7 +236,7 @@ fn nodes_of<'a>(
         let Some(node) = slot_map.slot_addr_for_route(*route, strategy, pick) else {
             return Err(PlanFault::NotCovered(route.slot()));
         };
-        nodes.push(node).map_err(AllocError::from)?;
+        nodes.push(node)?;
     }
     Ok(nodes)
 }
