@@ -23,11 +23,12 @@ use Rattle.redis_nodes.proofs.Orders.{map-in_order, length-in_order}
 use Rattle.redis_nodes.proofs.Once.{length-names_once}
 use Rattle.redis_nodes.proofs.Whole.{keyspace_of_all, keyspace_at_stop, names_slots_from}
 use Rattle.redis_driver.specs.Driven.{Request, State, IsCoveredCommand, IsDrivable, IsEntryOf, AreSent, AreAnswered, IsDriven}
-use Rattle.redis_driver.specs.Faults.{fault_of_send, IsUntouched, IsStopped, IsNodeFault, IsLateMemory, IsFault}
+use Rattle.redis_driver.specs.Faults.{fault_of_send, IsUntouched, IsStopped, IsNodeFault, IsLateMemory, IsFault, IsEarly}
 use Rattle.redis_driver.specs.Plan.{Plan, slots_of}
 use Rattle.redis_driver.specs.Sends.{Target, targets, target_entry, IsLast, AreStopped}
 use Rattle.redis_driver.specs.declared.fault.DriveFault.{DriveFault}
-use Rattle.redis_driver.proofs.Planned.{IsTarget, IsReady}
+use Rattle.redis_driver.specs.declared.fault.DriveFault.TheVariants as early
+use Rattle.redis_driver.specs.Ready.{IsTarget, IsReady}
 
 module _ {A B : Type 0} (R : A → B → Type 0) where
   both_append : (xs us : List A) (ys vs : List B) → AllZip R xs ys → AllZip R us vs → AllZip R (xs ++ us) (ys ++ vs)
@@ -221,3 +222,12 @@ module _ {C : Type 0} (IsNode : SlotRoute → Address → Type 0) (step : Step C
       send_fault (sent.Refused error) stopped =
           node_fault error stopped.before (stopped_first count stopped.before (omega (arith, within, routes_many)) stopped.trace stopped.keyspace) (slice_get (in_order (targets plan) r.order) count) refl stopped.last
       send_fault sent.Memory stopped = memory_fault count refl stopped (slice_get (in_order (targets plan) r.order) count) refl stopped.before stopped.last stopped.trace
+
+-- a fault that comes before the first send leaves all as it was
+pub early_fault : {C : Type 0} (IsNode : SlotRoute → Address → Type 0) (step : Step C) (r : Request) (old : State C) (may_refuse : ℕ → Ending → Type 0) (fault : DriveFault) → IsEarly r fault → IsFault IsNode step r old old may_refuse fault 0
+early_fault IsNode step r old may_refuse early.NotMultiKey is = (is, record { answered = refl; keyspace = refl; trace = refl }, refl)
+early_fault IsNode step r old may_refuse (early.NotCovered slot) is = (is, record { answered = refl; keyspace = refl; trace = refl }, refl)
+early_fault IsNode step r old may_refuse early.BadOrder is = (is, record { answered = refl; keyspace = refl; trace = refl }, refl)
+early_fault IsNode step r old may_refuse early.Memory is = inl (record { answered = refl; keyspace = refl; trace = refl })
+early_fault IsNode step r old may_refuse (early.Node error) is = absurd is
+early_fault IsNode step r old may_refuse (early.Reply error) is = absurd is

@@ -17,9 +17,10 @@ use Rattle.redis_routing.specs.Parts.{part_of_slot_after}
 use Rattle.redis_routing.specs.Split.{Split, split_part, policy_by_name}
 use Rattle.redis_nodes.specs.MultiKey.{MultiKey, form_of_policy, multi_key, part_of, tuples_of}
 use Rattle.redis_nodes.proofs.SplitParts.{command_of_routes, is_made, part_means}
-use Rattle.redis_driver.specs.Driven.{Request, routes_by}
+use Rattle.redis_driver.specs.Driven.{Request}
 use Rattle.redis_driver.specs.Plan.{Plan, IsPlan, slots_of}
-use Rattle.redis_driver.specs.Sends.{Target, targets, IsPlanOf}
+use Rattle.redis_driver.specs.Sends.{Target, IsPlanOf}
+use Rattle.redis_driver.specs.Ready.{IsTarget, IsReady}
 
 heads : {X : Type 0} {x y : X} {xs ys : List X} → x ∷ xs ≡ y ∷ ys → x ≡ y
 heads e = cc
@@ -70,10 +71,6 @@ module _ (only_reads : List ℕ → Bool) (args : Arguments) (plan : Plan) (argu
         parts = each_part command (split_part plan.split) (slots_of plan.split.routes) plan.parts whole.parts meant;
       })
 
--- a route's node, and its part
-abbrev pub IsTarget : (SlotRoute → Address → Type 0) → Arguments → SlotRoute → Target → Type 0
-IsTarget IsNode args route target = IsNode route target.0 × (map Some target.1 ≡ part_by_name args route.slot)
-
 targets_by : (IsNode : SlotRoute → Address → Type 0) (args : Arguments) (part_at : ℕ → Arguments) (routes : List (SlotRoute × List ℕ)) (nodes : List Address) (parts : List (List (List ℕ)))
     → ((slot : ℕ) → part_at slot ≡ part_by_name args slot) → AllZip (λ r a. IsNode r.0 a) routes nodes → map (map Some) parts ≡ map part_at (slots_of routes)
     → AllZip (IsTarget IsNode args) (map (λ r. r.0) routes) (zip nodes parts)
@@ -83,14 +80,6 @@ targets_by IsNode args part_at (r ∷ routes) [] parts same each parts_are = abs
 targets_by IsNode args part_at (r ∷ routes) (n ∷ nodes) [] same each parts_are = absurd (cc parts_are)
 targets_by IsNode args part_at (r ∷ routes) (n ∷ nodes) (p ∷ parts) same each parts_are =
     ((each.0, heads parts_are ∙ same r.0.slot), targets_by IsNode args part_at routes nodes parts same each.1 (tails parts_are))
-
--- what the driver knows of a plan before the first send
-pub record IsReady (IsNode : SlotRoute → Address → Type 0) (r : Request) (plan : Plan) (command : MultiKey) : Type 0 where
-  pub plan_is : IsPlanOf command plan
-  pub command_is : multi_key r.arguments ≡ Some command
-  pub routes_are : routes_by r.only_reads r.arguments ≡ Some (map (λ t. t.0) plan.split.routes)
-  pub covered : All (λ route. IsCovered r.map route.slot) (map (λ t. t.0) plan.split.routes)
-  pub targets_are : AllZip (IsTarget IsNode r.arguments) (map (λ t. t.0) plan.split.routes) (targets plan)
 
 pub ready : (IsNode : SlotRoute → Address → Type 0) (r : Request) (plan : Plan) → plan.split.arguments ≡ r.arguments → plan.split.words ≡ 1 → Some plan.split.routes ≡ multi_slot_routes r.only_reads r.arguments
     → Some plan.split.pattern ≡ pattern_by_name (command_of r.arguments) → Some plan.split.policy ≡ policy_by_name (command_of r.arguments) → IsPlan plan

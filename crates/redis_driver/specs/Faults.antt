@@ -34,6 +34,15 @@ IsPlanFault entries only_reads args (plan.NotCovered slot) =
     (routes : List SlotRoute) × (routes_by only_reads args ≡ Some routes) × IsFirstUncovered entries routes slot
 IsPlanFault entries only_reads args plan.Memory = Unit {0}
 
+-- why nothing of a request is sent
+abbrev pub IsEarly : Request → DriveFault → Type 0
+IsEarly r NotMultiKey = IsPlanFault r.map r.only_reads r.arguments plan.NotMultiKey
+IsEarly r (NotCovered slot) = IsPlanFault r.map r.only_reads r.arguments (plan.NotCovered slot)
+IsEarly r BadOrder = (routes : List SlotRoute) × (command : MultiKey) × IsCoveredCommand r routes command × (NamesOnce (length routes) r.order → ⊥)
+IsEarly r Memory = Unit {0}
+IsEarly r (Node error) = ⊥
+IsEarly r (Reply error) = ⊥
+
 module _ {C : Type 0} (IsNode : SlotRoute → Address → Type 0) (step : Step C) (r : Request) (old new : State C) where
   -- nothing was sent
   pub record IsUntouched (count : ℕ) : Type 0 where
@@ -70,11 +79,9 @@ module _ {C : Type 0} (IsNode : SlotRoute → Address → Type 0) (step : Step C
 
   -- the fault has its cause, and so many parts took effect
   abbrev pub IsFault : (may_refuse : ℕ → Ending → Type 0) → DriveFault → ℕ → Type 0
-  IsFault may_refuse NotMultiKey count = IsPlanFault r.map r.only_reads r.arguments plan.NotMultiKey × IsUntouched count × (new.mark ≡ old.mark)
-  IsFault may_refuse (NotCovered slot) count = IsPlanFault r.map r.only_reads r.arguments (plan.NotCovered slot) × IsUntouched count × (new.mark ≡ old.mark)
-  IsFault may_refuse BadOrder count =
-      ((routes : List SlotRoute) × (command : MultiKey) × IsCoveredCommand r routes command × (NamesOnce (length routes) r.order → ⊥))
-      × IsUntouched count × (new.mark ≡ old.mark)
+  IsFault may_refuse NotMultiKey count = IsEarly r NotMultiKey × IsUntouched count × (new.mark ≡ old.mark)
+  IsFault may_refuse (NotCovered slot) count = IsEarly r (NotCovered slot) × IsUntouched count × (new.mark ≡ old.mark)
+  IsFault may_refuse BadOrder count = IsEarly r BadOrder × IsUntouched count × (new.mark ≡ old.mark)
   IsFault may_refuse Memory count = IsUntouched count ⊎ IsLateMemory count
   IsFault may_refuse (Node error) count = IsNodeFault may_refuse error count
   -- the replies to the parts of a command always fit

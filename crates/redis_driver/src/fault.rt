@@ -60,29 +60,17 @@ pub struct DriveError {
     pub answered: usize,
 }
 
-impl From<AllocError> for DriveError {
-    fn from(_: AllocError) -> Self
-        ensures { result ≡ record { fault = DriveFault.Memory; answered = 0 } }
-    {
-        DriveError {
-            fault: DriveFault::Memory,
-            answered: 0,
-        }
-    }
-}
-
-impl From<PlanFault> for DriveError {
+impl From<PlanFault> for DriveFault {
     ghost use Rattle.redis_driver.specs.Faults.{fault_of_plan};
 
     fn from(fault: PlanFault) -> Self
-        ensures { result ≡ record { fault = fault_of_plan fault; answered = 0 } }
+        ensures { result ≡ fault_of_plan fault }
     {
-        let fault = match fault {
+        match fault {
             PlanFault::NotMultiKey => DriveFault::NotMultiKey,
             PlanFault::NotCovered(slot) => DriveFault::NotCovered(slot),
             PlanFault::Memory => DriveFault::Memory,
-        };
-        DriveError { fault, answered: 0 }
+        }
     }
 }
 

@@ -83,7 +83,6 @@ impl<'a, R: Routable> SplitPlan<'a, R> {
         ensures nodes { IfOk result (λ plan. AllZip (λ route address. MatchOption strategy.entry (IsNodeOfRoute slot_map.now route.0 pick address) (λ s. IsPickedNode (picks s.now) slot_map.now route.0 address)) plan.split.routes plan.nodes) }
         // So each route's slot has a node.
         ensures covered { IfOk result (λ plan. All (λ route. IsCovered slot_map.now route.0.slot) plan.split.routes) }
-        ensures whole { IfOk result (λ plan. IsPlan plan) }
         ensures untold { IfOk result (λ plan. plan.replies ≡ map (λ route. None) plan.split.routes) }
         ensures fault { IfErr result (λ fault. IsPlanFault slot_map.now (is_among read_only.now) (R.args command.now) fault) }
     {
@@ -116,6 +115,7 @@ impl<'a, R: Routable> SplitPlan<'a, R> {
     pub fn len(&self) -> usize
         ensures len { result ≡ length self.now.split.routes }
         ensures some { 0 < result }
+        ensures plan { IsPlan self.now }
     {
         self.split.len()
     }
