@@ -1,6 +1,5 @@
 -- Replies, some of which were told.
-use Rattle.std.proofs.Common.{◌≡◌, ℕ, zero, suc, ◌<◌, List, [], ◌∷◌, Bool, true, false, cond, Option, None, Some, refl, sym, ap, ◌∙◌, arith, length, get_or, map, replicate, set, slice_get}
-use Rattle.std.proofs.lemmas.Option.{none-some}
+use Rattle.std.proofs.Common.{◌≡◌, ℕ, zero, suc, ◌<◌, List, [], ◌∷◌, Bool, true, false, cond, None, Some, refl, ap, arith, length, get_or, map, replicate, set, slice_get}
 use Rattle.resp_core.specs.declared.value.Value.{Value}
 use Rattle.redis_driver.specs.Plan.{told}
 

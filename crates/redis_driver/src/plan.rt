@@ -242,10 +242,7 @@ fn nodes_of<'a>(
 }
 
 /// The part of each route.
-fn parts_of<R: Routable>(
-    alloc: Global,
-    split: &SplitCommand<'_, R>,
-) -> Result<Vec<Cmd>, AllocError>
+fn parts_of<R: Routable>(alloc: Global, split: &SplitCommand<'_, R>) -> Result<Vec<Cmd>, AllocError>
     ensures { IfOk result (λ parts. map (map Some) parts.items ≡ map (split_part split.now) (slots_of split.now.routes)) }
 {
     let mut parts = Vec::with_capacity(alloc, split.len())?;

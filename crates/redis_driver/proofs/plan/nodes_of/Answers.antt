@@ -1,4 +1,4 @@
-use Rattle.std.proofs.Common.{◌≡◌, ◌+◌, [], ◌∷◌, ◌++◌, inr, ap, sym, refl, ◌∙◌, map, take}
+use Rattle.std.proofs.Common.{inr, ap, sym, refl, ◌∙◌, map, take}
 use Rattle.std.proofs.lemmas.List.{map_push, take_all}
 use Rattle.std.proofs.lemmas.Slice.Zip.{all_zipped_more}
 use Rattle.redis_routing.specs.Target.{route_lists}

@@ -1,4 +1,4 @@
-use Rattle.std.proofs.Common.{◌≡◌, ◌⊎◌, ℕ, Bool, List, Option, Some, None, Result, Ok, Err, IsErrAnd, IfErr, inl, inr, ap, sym, subst, refl, ◌∙◌, arith, false, length, map, option_map, replicate}
+use Rattle.std.proofs.Common.{◌≡◌, ◌⊎◌, ℕ, Bool, List, Some, Result, Ok, Err, IsErrAnd, IfErr, inl, inr, ap, sym, subst, ◌∙◌, false, length, map, option_map, replicate}
 use Rattle.std.specs.List.{AllZip}
 use Rattle.std.specs.declared.alloc.Global.{Global}
 use Rattle.std.specs.declared.vec.Vec.{Vec}
@@ -9,9 +9,8 @@ use Rattle.redis_commands.specs.Command.{Arguments}
 use Rattle.redis_commands.specs.ReadOnly.{is_among}
 use Rattle.redis_routing.specs.Complete.{multi_slot_routes}
 use Rattle.redis_routing.specs.Target.{route_lists}
-use Rattle.redis_driver.specs.Driven.{IsFirstUncovered, routes_by}
+use Rattle.redis_driver.specs.Driven.{IsFirstUncovered}
 use Rattle.redis_driver.specs.Faults.{IsPlanFault}
-use Rattle.redis_driver.specs.Plan.{told}
 use Rattle.redis_driver.specs.declared.fault.PlanFault.{PlanFault}
 use Rattle.redis_driver.specs.declared.fault.PlanFault.TheVariants.{Memory, NotCovered}
 use Rattle.std.proofs.lemmas.List.{length-replicate}
@@ -41,11 +40,11 @@ returns-in_err-nodes-clause-fault g c =
     let only_reads = is_among c.args.read_only.now in
     let args = g.R.Routable.args c.args.command.now in
     let of_command : Some (route_lists c.routes.result.now) ≡ multi_slot_routes only_reads args =
-        ap Some c.routes.ensures.routes ∙ sym (ap (option_map (λ s. s.routes)) c.in-Some.is) ∙ c.in_ok-split.ensures.routes
+    ap Some c.routes.ensures.routes ∙ sym (ap (option_map (λ s. s.routes)) c.in-Some.is) ∙ c.in_ok-split.ensures.routes
     in
     err_from _ _ c.from_residual-in_err-nodes.result c.from_residual-in_err-nodes.ensures.1
     (λ fault is. subst (IsPlanFault entries only_reads args) (sym is)
-      (fault_of_nodes entries only_reads args c.routes.result.now of_command c.in_err-nodes.field-0.0 c.in_err-nodes.ensures.fault))
+    (fault_of_nodes entries only_reads args c.routes.result.now of_command c.in_err-nodes.field-0.0 c.in_err-nodes.ensures.fault))
 
 pub invariant_of-result : goal.invariant_of-result
 invariant_of-result g c =
@@ -54,8 +53,7 @@ invariant_of-result g c =
     let marks = c.in_ok-answered.answered.items in
     let replies = c.in_ok-replies.replies.items in
     let unmarked : marks ≡ replicate c.len-count.result false = c.in_ok-answered.ensures.items_if_clones_equal (λ y is. is) in
-    let long : length marks ≡ length replies = ap length unmarked ∙ length-replicate c.len-count.result false ∙ sym c.in_ok-replies.ensures in
-    (
+    let long : length marks ≡ length replies = ap length unmarked ∙ length-replicate c.len-count.result false ∙ sym c.in_ok-replies.ensures in (
       record {
         split = c.routes.ensures.split;
         nodes = AllZip-long is_node c.in-Some.split.routes nodes (subst (λ routes. AllZip is_node routes nodes) c.routes.ensures.routes c.in_ok-nodes.ensures.nodes);
@@ -77,3 +75,6 @@ pub returns-clause-untold : goal.returns-clause-untold
 returns-clause-untold g c =
     let unmarked : c.in_ok-answered.answered.items ≡ replicate c.len-count.result false = c.in_ok-answered.ensures.items_if_clones_equal (λ y is. is) in
     rw unmarked (none_told c.len-count.result c.in_ok-replies.replies.items c.in-Some.split.routes c.in_ok-replies.ensures (sym c.len-count.ensures.len))
+
+pub returns-clause-whole : goal.returns-clause-whole
+returns-clause-whole g c = (invariant_of-result g c).0
