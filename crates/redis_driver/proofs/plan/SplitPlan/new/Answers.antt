@@ -75,6 +75,3 @@ pub returns-clause-untold : goal.returns-clause-untold
 returns-clause-untold g c =
     let unmarked : c.in_ok-answered.answered.items ≡ replicate c.len-count.result false = c.in_ok-answered.ensures.items_if_clones_equal (λ y is. is) in
     rw unmarked (none_told c.len-count.result c.in_ok-replies.replies.items c.in-Some.split.routes c.in_ok-replies.ensures (sym c.len-count.ensures.len))
-
-pub returns-clause-whole : goal.returns-clause-whole
-returns-clause-whole g c = (invariant_of-result g c).0
