@@ -23,6 +23,7 @@ use Rattle.redis_nodes.proofs.Orders.{map-in_order, length-in_order}
 use Rattle.redis_nodes.proofs.Once.{length-names_once}
 use Rattle.redis_nodes.proofs.Whole.{keyspace_of_all, keyspace_at_stop, names_slots_from}
 use Rattle.redis_driver.specs.Driven.{Request, State, IsCoveredCommand, IsDrivable, IsEntryOf, AreSent, AreAnswered, IsDriven}
+use Rattle.redis_driver.specs.Ended.{AreEndedEarly}
 use Rattle.redis_driver.specs.Faults.{fault_of_send, IsUntouched, IsStopped, IsNodeFault, IsLateMemory, IsFault, IsEarly}
 use Rattle.redis_driver.specs.Plan.{Plan, slots_of}
 use Rattle.redis_driver.specs.Sends.{Target, targets, target_entry, IsLast, AreStopped}
@@ -108,7 +109,7 @@ module _ {C : Type 0} (IsNode : SlotRoute → Address → Type 0) (step : Step C
     of_slots : NamesOnce (length slots) r.order
     of_slots = subst (λ n. NamesOnce n r.order) (sym slots_many) order
 
-    drivable : IsDrivable r routes command
+    pub drivable : IsDrivable r routes command
     drivable = record { is_covered = covered_command; order = of_routes }
 
     sent_first : (count : ℕ) (trace : List Entry) → trace ≡ old.trace ++ map (target_entry answered) (in_order (targets plan) (take count r.order))
@@ -222,6 +223,16 @@ module _ {C : Type 0} (IsNode : SlotRoute → Address → Type 0) (step : Step C
       send_fault (sent.Refused error) stopped =
           node_fault error stopped.before (stopped_first count stopped.before (omega (arith, within, routes_many)) stopped.trace stopped.keyspace) (slice_get (in_order (targets plan) r.order) count) refl stopped.last
       send_fault sent.Memory stopped = memory_fault count refl stopped (slice_get (in_order (targets plan) r.order) count) refl stopped.before stopped.last stopped.trace
+
+    -- a plan that was not driven to its end has a fault with its cause
+    pub ended_fault : (may_refuse : ℕ → Ending → Type 0) (fault : DriveFault) (count : ℕ) → 0 < length plan.split.routes
+        → AreEndedEarly step may_refuse plan r.order old.keyspace new.keyspace old.trace new.trace new.mark fault count → IsFault IsNode step r old new may_refuse fault count
+    ended_fault may_refuse fault count some (inl ended) =
+        subst (λ f. IsFault IsNode step r old new may_refuse f count) (sym ended.fault_is) (send_fault may_refuse count ended.within ended.error (ended.stopped command is.plan_is))
+    ended_fault may_refuse fault count some (inr ended) =
+        let late : IsLateMemory IsNode step r old new count =
+          subst (IsLateMemory IsNode step r old new) (sym ended.count_is) (combining_fault ended.trace (ended.keyspace command is.plan_is) (ended.form command is.plan_is) some) in
+        subst (λ f. IsFault IsNode step r old new may_refuse f count) (sym ended.fault_is) (inr late)
 
 -- a fault that comes before the first send leaves all as it was
 pub early_fault : {C : Type 0} (IsNode : SlotRoute → Address → Type 0) (step : Step C) (r : Request) (old : State C) (may_refuse : ℕ → Ending → Type 0) (fault : DriveFault) → IsEarly r fault → IsFault IsNode step r old old may_refuse fault 0
