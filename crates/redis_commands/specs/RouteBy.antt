@@ -1,9 +1,9 @@
--- The ways of names: where a command of the name goes (the project's table of ways).
+-- How names are routed: where a command of the name goes (the project's table of routings).
 use Rattle.std.specs.Prelude.{ℕ, List, [], ◌∷◌, ◌++◌, Option, codes}
 use Rattle.redis_commands.specs.Lookup.{lookup, each}
 use Rattle.redis_commands.specs.declared.route_by.MultiSlotArgPattern.TheVariants.{KeysOnly, KeyValuePairs, KeysAndLastArg, KeyWithTwoArgTriples}
 use Rattle.redis_commands.specs.declared.route_by.RouteBy.{RouteBy}
-use Rattle.redis_commands.specs.declared.route_by.RouteBy.TheVariants.{AllNodes, AllMasters, MultiSlot, Undefined, CountAt, KeyAt, KeyAfterStreams, Random, SlotAtTwo}
+use Rattle.redis_commands.specs.declared.route_by.RouteBy.TheVariants.{AllNodes, AllMasters, MultiSlot, Undefined, CountAt, KeyAt, KeyAfterStreams, Random, SlotAt}
 
 -- to each node
 abbrev pub to_all_nodes : List (List ℕ)
@@ -113,8 +113,8 @@ base_routings =
     ++ each (CountAt 1) count_at_1
     ++ each KeyAfterStreams key_after_streams
     ++ each Random to_any_node
-    ++ each SlotAtTwo slot_at_2
+    ++ each (SlotAt 2) slot_at_2
 
--- the way of a name, if the table has it
+-- how a name is routed, if the table has it
 unfoldable pub base_routing : List ℕ → Option RouteBy
 base_routing name = lookup base_routings name

@@ -85,11 +85,12 @@ pub enum RouteBy {
     KeyAfterStreams,
     /// To any node: `ECHO hello`.
     Random,
-    /// A slot number is argument 2: `CLUSTER COUNTKEYSINSLOT 7`.
-    SlotAtTwo,
+    /// A slot number is this argument: `CLUSTER COUNTKEYSINSLOT 7`.
+    SlotAt(u8),
 }
 
-/// The way of a name in upper case, unless it is that of most names: the key at argument 1.
+/// How commands of a name are routed, given in upper case as `Routable::command` answers it. `None`
+/// is for most names, whose key is argument 1.
 pub fn base_routing(name: &[u8]) -> Option<RouteBy>
     ensures { result ≡ base_routing name.now }
 {

@@ -13,14 +13,14 @@ use Rattle.redis_routing.specs.Routing.{routes_of, route_to}
 use Rattle.redis_commands.specs.Run.{run_after}
 use Rattle.redis_routing.specs.SubCommand.{all_texts, sub_command_after}
 use Rattle.redis_commands.specs.Tuples.{fits, tuples_in}
-use Rattle.redis_routing.specs.Complete.{pattern_of, pattern_by_name_with, routes_by_way, routes_by_name, multi_slot_routes_with, AreSubCommandsWith}
+use Rattle.redis_routing.specs.Complete.{pattern_of, pattern_by_name_with, routes_by, routes_by_name, multi_slot_routes_with, AreSubCommandsWith}
 use Rattle.redis_commands.specs.Tuples.{is_complete}
 use Rattle.redis_routing.specs.Split.{Split, IsSplit, route_part, split_part}
 use Rattle.redis_routing.specs.Target.{route_lists}
 use Rattle.redis_commands.specs.declared.route_by.MultiSlotArgPattern.{MultiSlotArgPattern}
 use Rattle.redis_commands.specs.declared.route_by.MultiSlotArgPattern.TheVariants.{KeysOnly, KeyValuePairs, KeysAndLastArg, KeyWithTwoArgTriples}
 use Rattle.redis_commands.specs.declared.route_by.RouteBy.{RouteBy}
-use Rattle.redis_commands.specs.declared.route_by.RouteBy.TheVariants as way
+use Rattle.redis_commands.specs.declared.route_by.RouteBy.TheVariants as route_by
 use Rattle.std.proofs.lemmas.Bool.Decides.{nat_tests}
 use Rattle.redis_routing.proofs.Cover.{Between, bounds, part_in_run, picked}
 use Rattle.redis_routing.proofs.SubCommands.{before, name_before}
@@ -88,7 +88,7 @@ pub complete_sub_commands : (words : ℕ) (tables : NameTables) (only_reads : Li
     → multi_slot_routes_with words tables only_reads args ≡ Some routes → AreSubCommandsWith words tables args routes
 complete_sub_commands words tables only_reads args routes has = by_name (command_of args) refl
   where
-    by_length : (name : List ℕ) (pattern : MultiSlotArgPattern) → command_of args ≡ Some name → tables.way name ≡ Some (way.MultiSlot pattern) → (whole : Bool) → is_complete pattern (length (run_after words args)) ≡ whole
+    by_length : (name : List ℕ) (pattern : MultiSlotArgPattern) → command_of args ≡ Some name → tables.route_by name ≡ Some (route_by.MultiSlot pattern) → (whole : Bool) → is_complete pattern (length (run_after words args)) ≡ whole
         → cond whole (Some (routes_of (only_reads name) pattern (run_after words args))) None ≡ Some routes → AreSubCommandsWith words tables args routes
     by_length name pattern named is true whole split =
         let same : pattern_by_name_with tables (command_of args) ≡ Some pattern = ap (pattern_by_name_with tables) named ∙ ap pattern_of is in
@@ -96,21 +96,21 @@ complete_sub_commands words tables only_reads args routes has = by_name (command
         rw (same, routes-are) (parts_picked words args (only_reads name) pattern (has name (sym named)) (complete_fits pattern (length (run_after words args)) whole))
     by_length name pattern named is false whole split = absurd (cc split)
 
-    by_way : (name : List ℕ) → command_of args ≡ Some name → (w : Option RouteBy) → tables.way name ≡ w → routes_by_way words (only_reads name) args w ≡ Some routes → AreSubCommandsWith words tables args routes
-    by_way name named None is split = absurd (cc split)
-    by_way name named (Some way.AllNodes) is split = absurd (cc split)
-    by_way name named (Some way.AllMasters) is split = absurd (cc split)
-    by_way name named (Some (way.MultiSlot pattern)) is split = by_length name pattern named is (is_complete pattern (length (run_after words args))) refl split
-    by_way name named (Some way.Undefined) is split = absurd (cc split)
-    by_way name named (Some (way.CountAt n)) is split = absurd (cc split)
-    by_way name named (Some (way.KeyAt n)) is split = absurd (cc split)
-    by_way name named (Some way.KeyAfterStreams) is split = absurd (cc split)
-    by_way name named (Some way.Random) is split = absurd (cc split)
-    by_way name named (Some way.SlotAtTwo) is split = absurd (cc split)
+    by_route_by : (name : List ℕ) → command_of args ≡ Some name → (w : Option RouteBy) → tables.route_by name ≡ w → routes_by words (only_reads name) args w ≡ Some routes → AreSubCommandsWith words tables args routes
+    by_route_by name named None is split = absurd (cc split)
+    by_route_by name named (Some route_by.AllNodes) is split = absurd (cc split)
+    by_route_by name named (Some route_by.AllMasters) is split = absurd (cc split)
+    by_route_by name named (Some (route_by.MultiSlot pattern)) is split = by_length name pattern named is (is_complete pattern (length (run_after words args))) refl split
+    by_route_by name named (Some route_by.Undefined) is split = absurd (cc split)
+    by_route_by name named (Some (route_by.CountAt n)) is split = absurd (cc split)
+    by_route_by name named (Some (route_by.KeyAt n)) is split = absurd (cc split)
+    by_route_by name named (Some route_by.KeyAfterStreams) is split = absurd (cc split)
+    by_route_by name named (Some route_by.Random) is split = absurd (cc split)
+    by_route_by name named (Some (route_by.SlotAt n)) is split = absurd (cc split)
 
     by_name : (name : Option (List ℕ)) → command_of args ≡ name → routes_by_name words tables only_reads args name ≡ Some routes → AreSubCommandsWith words tables args routes
     by_name None named split = absurd (cc split)
-    by_name (Some name) named split = by_way name named (tables.way name) refl split
+    by_name (Some name) named split = by_route_by name named (tables.route_by name) refl split
 
 -- a route with the places of its part
 abbrev pub shown : SlotRoute × Vec ℕ Global → SlotRoute × List ℕ

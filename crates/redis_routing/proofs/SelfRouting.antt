@@ -16,7 +16,7 @@ use Rattle.redis_commands.specs.RouteBy.{base_routings, base_routing}
 use Rattle.redis_commands.specs.Run.{front, run_after}
 use Rattle.redis_commands.specs.Tuples.{Tuple, fits, keys_alone, keys_and_two, keys_and_values, own_count, shared_in, tuples_from, tuples_in, width_of, words_of}
 use Rattle.redis_routing.specs.Parts.{first_appearances, tuples_in_slot, part_of_slot_after, words_in_slot, slot_of}
-use Rattle.redis_routing.specs.Routing.{by_way_with, nodes_for, route_to, routes_of, routing_with, routing_of_with, to_routing, to_slots}
+use Rattle.redis_routing.specs.Routing.{routing_by_with, nodes_for, route_to, routes_of, routing_with, routing_by_name_with, to_routing, to_slots}
 use Rattle.redis_routing.specs.Target.{single, specific}
 use Rattle.redis_routing.specs.Laws.{ArePartsRoutedWith}
 use Rattle.redis_commands.specs.NameTables.{NameTables}
@@ -24,7 +24,7 @@ use Rattle.redis_commands.specs.declared.policy.ResponsePolicy.{ResponsePolicy}
 use Rattle.redis_commands.specs.declared.route_by.MultiSlotArgPattern.{MultiSlotArgPattern}
 use Rattle.redis_commands.specs.declared.route_by.MultiSlotArgPattern.TheVariants.{KeysOnly, KeyValuePairs, KeysAndLastArg, KeyWithTwoArgTriples}
 use Rattle.redis_commands.specs.declared.route_by.RouteBy.{RouteBy}
-use Rattle.redis_commands.specs.declared.route_by.RouteBy.TheVariants as way
+use Rattle.redis_commands.specs.declared.route_by.RouteBy.TheVariants as route_by
 use Rattle.redis_commands.proofs.CommandNames.{one_word}
 use Rattle.redis_commands.proofs.Rows.{each_row}
 use Rattle.resp_core.proofs.Cases.{by_test}
@@ -38,12 +38,12 @@ abbrev is_plain : List ℕ → Bool
 is_plain name = not (takes_second name || list_any (nat_eq 32) name)
 
 abbrev plain_if_split : List ℕ → Option RouteBy → Bool
-plain_if_split name (Some (way.MultiSlot pattern)) = is_plain name
+plain_if_split name (Some (route_by.MultiSlot pattern)) = is_plain name
 plain_if_split name _ = true
 
-ways_plain : (name : List ℕ) → plain_if_split name (base_routing name) ≡ true
+each_plain : (name : List ℕ) → plain_if_split name (base_routing name) ≡ true
 unfolding base_routing takes_second
-ways_plain name = each_row plain_if_split (λ n. refl) base_routings refl name
+each_plain name = each_row plain_if_split (λ n. refl) base_routings refl name
 
 space_between : (first second : List ℕ) → list_any (nat_eq 32) (first ++ 32 ∷ second) ≡ true
 space_between [] second = refl
@@ -61,13 +61,13 @@ takes_none first second plain =
     (λ takes. takes)
 
 -- the name of a command that splits under the project's own tables is that of its first word, whatever follows
-pub first_names : (args : Arguments) (name : List ℕ) (pattern : MultiSlotArgPattern) → Some name ≡ command_of args → base_routing name ≡ Some (way.MultiSlot pattern) → (other : Arguments) → command_of (take 1 args ++ other) ≡ Some name
-first_names [] name pattern named way_is other = cc named
-first_names (None ∷ rest) name pattern named way_is other = cc named
-first_names (Some first ∷ rest) name pattern named way_is other =
+pub first_names : (args : Arguments) (name : List ℕ) (pattern : MultiSlotArgPattern) → Some name ≡ command_of args → base_routing name ≡ Some (route_by.MultiSlot pattern) → (other : Arguments) → command_of (take 1 args ++ other) ≡ Some name
+first_names [] name pattern named route_by_is other = cc named
+first_names (None ∷ rest) name pattern named route_by_is other = cc named
+first_names (Some first ∷ rest) name pattern named route_by_is other =
     let second : Option (List ℕ) = in_upper_case (argument (Some first ∷ rest) 1) in
     let name_is : name ≡ name_by (upper first) second = cc named in
-    let plain : is_plain name ≡ true = sym (ap (plain_if_split name) way_is) ∙ ways_plain name in
+    let plain : is_plain name ≡ true = sym (ap (plain_if_split name) route_by_is) ∙ each_plain name in
     let takes : takes_second (upper first) ≡ false = takes_none (upper first) second (sym (ap is_plain name_is) ∙ plain) in
     sym (named ∙ sym (one_word (Some first ∷ rest) first refl (sym takes)) ∙ one_word (Some first ∷ other) first refl (sym takes))
 
@@ -220,7 +220,7 @@ run-part words args texts some =
     let long : length (take words args) ≡ words = length-take-le words args (omega (arith, some, front_short (drop words args), length-drop words args)) in
     ap front (drop_at (take words args) (map Some texts) words long) ∙ front-map texts
 
-module _ (words : ℕ) (tables : NameTables) (only_reads : List ℕ → Bool) (args : Arguments) (name : List ℕ) (pattern : MultiSlotArgPattern) (named : (other : Arguments) → command_of (take words args ++ other) ≡ Some name) (way_is : tables.way name ≡ Some (way.MultiSlot pattern)) (fit : fits pattern (length (run_after words args)) ≡ true) where
+module _ (words : ℕ) (tables : NameTables) (only_reads : List ℕ → Bool) (args : Arguments) (name : List ℕ) (pattern : MultiSlotArgPattern) (named : (other : Arguments) → command_of (take words args ++ other) ≡ Some name) (route_by_is : tables.route_by name ≡ Some (route_by.MultiSlot pattern)) (fit : fits pattern (length (run_after words args)) ≡ true) where
   abbrev run : List (List ℕ)
   run = run_after words args
 
@@ -229,8 +229,8 @@ module _ (words : ℕ) (tables : NameTables) (only_reads : List ℕ → Bool) (a
   part_routed slot there =
       let texts : List (List ℕ) = words_in_slot pattern run slot in
       let as_command : Arguments = part_of_slot_after words pattern args slot in
-      ap (routing_of_with words tables only_reads as_command) (named (map Some texts))
-      ∙ ap (by_way_with words tables (only_reads name) name as_command) way_is
+      ap (routing_by_name_with words tables only_reads as_command) (named (map Some texts))
+      ∙ ap (routing_by_with words tables (only_reads name) name as_command) route_by_is
       ∙ ap (to_slots (only_reads name) (tables.policy name) pattern) (run-part words args texts (fits_some pattern (length run) fit))
       ∙ part_to_slot pattern run slot there (only_reads name) (tables.policy name)
 

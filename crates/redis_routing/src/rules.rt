@@ -16,7 +16,7 @@ use redis_commands::{ReadOnlyNames, ResponsePolicy, Routable, RouteBy, base_rout
 use std::alloc::{AllocError, Global};
 
 impl RoutingInfo {
-    /// Where a command goes. `None` where it has no name, where what the way of its name asks for is
+    /// Where a command goes. `None` where it has no name, where the argument that it is routed by is
     /// missing or no number, where its tuples are not whole, or where commands of its name go nowhere.
     /// A name that no table has goes to the slot of argument 1, or without one to any node.
     ///
@@ -42,23 +42,23 @@ impl RoutingInfo {
             return Ok(None);
         };
         let reads = read_only.contains(&name);
-        by_way(alloc, command, &name, reads)
+        for_name(alloc, command, &name, reads)
     }
 }
 
 /// Where a command of the name goes.
-fn by_way<R: Routable>(
+fn for_name<R: Routable>(
     alloc: Global,
     command: &R,
     name: &[u8],
     reads: bool,
 ) -> Result<Option<RoutingInfo>, AllocError>
-    ensures { IfOk result (λ info. option_map plan info ≡ go.by_way reads name.now (R.args command.now) (base_routing name.now)) }
+    ensures { IfOk result (λ info. option_map plan info ≡ go.routing_by reads name.now (R.args command.now) (base_routing name.now)) }
 {
-    let Some(way) = base_routing(name) else {
+    let Some(route_by) = base_routing(name) else {
         return Ok(to_key_or_any(command.arg_idx(1), reads));
     };
-    Ok(match way {
+    Ok(match route_by {
         RouteBy::AllNodes => Some(to_several(MultipleNodeRoutingInfo::AllNodes, name)),
         RouteBy::AllMasters => Some(to_several(MultipleNodeRoutingInfo::AllMasters, name)),
         RouteBy::MultiSlot(pattern) => by_slots(alloc, command, name, pattern, reads)?,
@@ -67,7 +67,7 @@ fn by_way<R: Routable>(
         RouteBy::KeyAt(place) => to_key(command.arg_idx(usize::from(place)), reads),
         RouteBy::KeyAfterStreams => after_streams(command, reads),
         RouteBy::Random => Some(to_any()),
-        RouteBy::SlotAtTwo => to_slot(command.arg_idx(2)),
+        RouteBy::SlotAt(place) => to_slot(command.arg_idx(usize::from(place))),
     })
 }
 
@@ -108,7 +108,7 @@ fn to_key_or_any(key: Option<&[u8]>, reads: bool) -> Option<RoutingInfo>
 /// By the count of keys at a place and the first key after it.
 fn by_count<R: Routable>(command: &R, place: usize, reads: bool) -> Option<RoutingInfo>
     requires { place < 2 ^ 16 }
-    ensures { option_map plan result ≡ go.by_count reads (go.number_at 64 (argument (R.args command.now) place)) (argument (R.args command.now) (place + 1)) }
+    ensures { option_map plan result ≡ go.by_count reads (go.argument_number 64 (argument (R.args command.now) place)) (argument (R.args command.now) (place + 1)) }
 {
     let count = parse_u64(command.arg_idx(place)?)?;
     if count == 0 {
@@ -126,7 +126,7 @@ fn after_streams<R: Routable>(command: &R, reads: bool) -> Option<RoutingInfo>
 
 /// To the primary of the slot that the argument writes.
 fn to_slot(number: Option<&[u8]>) -> Option<RoutingInfo>
-    ensures { option_map plan result ≡ go.to_slot (go.number_at 16 (option_copied number.entry)) }
+    ensures { option_map plan result ≡ go.to_slot (go.argument_number 16 (option_copied number.entry)) }
 {
     let slot = Slot::new(parse_u16(number?)?)?;
     Some(to_route(Route::with_slot(slot, SlotAddr::Master)))
