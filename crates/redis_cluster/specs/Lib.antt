@@ -27,8 +27,7 @@ pub use Rattle.redis_routing.specs.Complete
 pub use Rattle.redis_routing.specs.Groups
 pub use Rattle.redis_routing.specs.Laws
 pub use Rattle.redis_routing.specs.Parts
-pub use Rattle.redis_routing.specs.Plan
 pub use Rattle.redis_routing.specs.Routing
+pub use Rattle.redis_routing.specs.RoutingInfo
 pub use Rattle.redis_routing.specs.Split
 pub use Rattle.redis_routing.specs.SubCommand
-pub use Rattle.redis_routing.specs.Target

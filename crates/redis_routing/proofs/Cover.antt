@@ -14,7 +14,7 @@ use Rattle.std.proofs.lemmas.List.Folds.{list_any-append}
 use Rattle.std.proofs.lemmas.List.Sums.{sum_by-cons}
 use Rattle.redis_routing.specs.Laws.{Covers, lists_with}
 use Rattle.redis_routing.specs.Parts.{slot_of, first_appearances, tuples_in_slot, places_in_slot, words_in_slot}
-use Rattle.redis_routing.specs.Routing.{route_to, routes_of}
+use Rattle.redis_routing.specs.Routing.{route_of_slot, routes_of}
 use Rattle.redis_commands.specs.Tuples.{Tuple, keys_alone, keys_and_values, keys_and_two, fits, own_count, width_of, tuples_from, tuples_in, shared_in, places_of, words_of}
 use Rattle.redis_commands.specs.declared.route_by.MultiSlotArgPattern.{MultiSlotArgPattern}
 use Rattle.redis_commands.specs.declared.route_by.MultiSlotArgPattern.TheVariants.{KeysOnly, KeyValuePairs, KeysAndLastArg, KeyWithTwoArgTriples}
@@ -282,14 +282,14 @@ module _ (pattern : MultiSlotArgPattern) (run : List (List ℕ)) where
   module _ (reads : Bool) where
     -- the lists with a place, counted by slots
     by_slots : (p : ℕ) → lists_with p (routes_of reads pattern run) ≡ count_by (has p) (first_appearances slots)
-    by_slots p = count-map (λ r. list_any (nat_eq p) r.1) (route_to reads pattern run) (first_appearances slots)
+    by_slots p = count-map (λ r. list_any (nat_eq p) r.1) (route_of_slot reads pattern run) (first_appearances slots)
 
     in_each : (p : ℕ) → own ≤ p → p < length run → lists_with p (routes_of reads pattern run) ≡ length (routes_of reads pattern run)
     in_each p from to = by_slots p ∙ count_all (has p) (first_appearances slots) (λ s. has_shared p s from to) ∙ sym (simp length-map)
 
     one_route : (slot : ℕ) → count_by (λ r. nat_eq slot r.0.slot) (routes_of reads pattern run) ≤ 1
     one_route slot =
-        let e = count-map (λ r. nat_eq slot r.0.slot) (route_to reads pattern run) (first_appearances slots) ∙ count_firsts slot slots in
+        let e = count-map (λ r. nat_eq slot r.0.slot) (route_of_slot reads pattern run) (first_appearances slots) ∙ count_firsts slot slots in
         rw e (by_test (list_any (nat_eq slot) slots) (λ yes. rw yes (omega arith)) (λ none. rw none (omega arith)))
 
     module _ (whole : fits pattern (length run) ≡ true) where
@@ -299,7 +299,7 @@ module _ (pattern : MultiSlotArgPattern) (run : List (List ℕ)) where
       lists_ascend : All (λ r. IsStrictlySortedBy nat_cmp r.1) (routes_of reads pattern run)
       lists_ascend =
           let ascends : (s : ℕ) → IsStrictlySortedBy nat_cmp (places_in_slot pattern run s) = λ s. ascending 0 (length run) (places_in_slot pattern run s) (places_between s) in
-          All-map (λ r. IsStrictlySortedBy nat_cmp r.1) (route_to reads pattern run) (first_appearances slots) (λ k d h. ascends (get_or (first_appearances slots) k d))
+          All-map (λ r. IsStrictlySortedBy nat_cmp r.1) (route_of_slot reads pattern run) (first_appearances slots) (λ k d h. ascends (get_or (first_appearances slots) k d))
 
       in_one : (p : ℕ) → p < own → lists_with p (routes_of reads pattern run) ≡ 1
       in_one p to =

@@ -9,14 +9,14 @@ use Rattle.redis_commands.specs.Command.{Arguments, HasWords, argument, command_
 use Rattle.redis_routing.specs.Laws.{ArePartsPickedAfter}
 use Rattle.redis_commands.specs.NameTables.{NameTables}
 use Rattle.redis_routing.specs.Parts.{first_appearances, slot_of, places_in_slot, words_in_slot, part_of_slot_after}
-use Rattle.redis_routing.specs.Routing.{routes_of, route_to}
+use Rattle.redis_routing.specs.Routing.{routes_of, route_of_slot}
 use Rattle.redis_commands.specs.Run.{run_after}
 use Rattle.redis_routing.specs.SubCommand.{all_texts, sub_command_after}
 use Rattle.redis_commands.specs.Tuples.{fits, tuples_in}
 use Rattle.redis_routing.specs.Complete.{pattern_of, pattern_by_name_with, routes_by, routes_by_name, multi_slot_routes_with, AreSubCommandsWith}
 use Rattle.redis_commands.specs.Tuples.{is_complete}
 use Rattle.redis_routing.specs.Split.{Split, IsSplit, route_part, split_part}
-use Rattle.redis_routing.specs.Target.{route_lists}
+use Rattle.redis_routing.specs.RoutingInfo.{route_list, route_lists}
 use Rattle.redis_commands.specs.declared.route_by.MultiSlotArgPattern.{MultiSlotArgPattern}
 use Rattle.redis_commands.specs.declared.route_by.MultiSlotArgPattern.TheVariants.{KeysOnly, KeyValuePairs, KeysAndLastArg, KeyWithTwoArgTriples}
 use Rattle.redis_commands.specs.declared.route_by.RouteBy.{RouteBy}
@@ -74,7 +74,7 @@ parts_picked words args reads pattern name whole = λ k d inside.
     let run = run_after words args in
     let slots = first_appearances (map slot_of (tuples_in pattern run)) in
     let few : k < length slots = rw length-map at inside in
-    let is : get_or (routes_of reads pattern run) k d ≡ route_to reads pattern run (get_or slots k 0) = get_or-map (route_to reads pattern run) slots k 0 d few in
+    let is : get_or (routes_of reads pattern run) k d ≡ route_of_slot reads pattern run (get_or slots k 0) = get_or-map (route_of_slot reads pattern run) slots k 0 d few in
     rw is (part_picked words args pattern (get_or slots k 0) name whole)
 
 pub complete_fits : (pattern : MultiSlotArgPattern) (m : ℕ) → is_complete pattern m ≡ true → fits pattern m ≡ true
@@ -112,10 +112,6 @@ complete_sub_commands words tables only_reads args routes has = by_name (command
     by_name None named split = absurd (cc split)
     by_name (Some name) named split = by_route_by name named (tables.route_by name) refl split
 
--- a route with the places of its part
-abbrev pub shown : SlotRoute × Vec ℕ Global → SlotRoute × List ℕ
-shown route = (route.0, route.1.items)
-
 -- a sub-command that is a part, as texts
 is_made : (made : Option (List (List ℕ))) (part : Arguments) → option_map (map Some) made ≡ Some part → (words : List (List ℕ)) × (made ≡ Some words) × (map Some words ≡ part)
 is_made None part is = absurd (cc is)
@@ -125,11 +121,11 @@ is_made (Some words) part is = (words, refl, cc is)
 pub part_made : (split : Split) → IsSplit split → (routes : List (SlotRoute × Vec ℕ Global)) (number : ℕ) (route : SlotRoute × Vec ℕ Global) → route_lists routes ≡ split.routes → number < length split.routes → route ≡ get_or routes number route
     → (words : List (List ℕ)) × (sub_command_after split.words split.arguments route.1.items ≡ Some words) × (Some (map Some words) ≡ route_part split number)
 part_made split whole routes number route routes-are long is =
-    let inside : number < length routes = omega (arith, long, ap length routes-are, length-map routes shown) in
+    let inside : number < length routes = omega (arith, long, ap length routes-are, length-map routes route_list) in
     let each : ArePartsPickedAfter split.words split.arguments split.pattern split.routes =
     subst (ArePartsPickedAfter split.words split.arguments split.pattern) (sym whole.routes) (parts_picked split.words split.arguments whole.only_reads split.pattern whole.name (complete_fits split.pattern (length (run_after split.words split.arguments)) whole.complete)) in
-    let there : slice_get split.routes number ≡ Some (shown route) =
-    ap (λ rs. slice_get rs number) (sym routes-are) ∙ slice_get-map shown routes number ∙ ap (option_map shown) (slice_get-get_or routes number route inside ∙ ap Some (sym is)) in
-    let here : get_or split.routes number (shown route) ≡ shown route = get_or_from_slice_get split.routes number (shown route) (shown route) there in
-    let part = is_made (sub_command_after split.words split.arguments route.1.items) (split_part split route.0.slot) (subst (λ r. option_map (map Some) (sub_command_after split.words split.arguments r.1) ≡ Some (split_part split r.0.slot)) here (each number (shown route) long)) in
+    let there : slice_get split.routes number ≡ Some (route_list route) =
+    ap (λ rs. slice_get rs number) (sym routes-are) ∙ slice_get-map route_list routes number ∙ ap (option_map route_list) (slice_get-get_or routes number route inside ∙ ap Some (sym is)) in
+    let here : get_or split.routes number (route_list route) ≡ route_list route = get_or_from_slice_get split.routes number (route_list route) (route_list route) there in
+    let part = is_made (sub_command_after split.words split.arguments route.1.items) (split_part split route.0.slot) (subst (λ r. option_map (map Some) (sub_command_after split.words split.arguments r.1) ≡ Some (split_part split r.0.slot)) here (each number (route_list route) long)) in
     (part.0, part.1, ap Some part.2 ∙ sym (ap (option_map (λ r. split_part split r.0.slot)) there))

@@ -16,8 +16,8 @@ use Rattle.redis_commands.specs.RouteBy.{base_routings, base_routing}
 use Rattle.redis_commands.specs.Run.{front, run_after}
 use Rattle.redis_commands.specs.Tuples.{Tuple, fits, keys_alone, keys_and_two, keys_and_values, own_count, shared_in, tuples_from, tuples_in, width_of, words_of}
 use Rattle.redis_routing.specs.Parts.{first_appearances, tuples_in_slot, part_of_slot_after, words_in_slot, slot_of}
-use Rattle.redis_routing.specs.Routing.{routing_by_with, nodes_for, route_to, routes_of, routing_with, routing_by_name_with, to_routing, to_slots}
-use Rattle.redis_routing.specs.Target.{single, specific}
+use Rattle.redis_routing.specs.Routing.{routing_by_with, nodes_for, route_of_slot, routes_of, routing_with, routing_by_name_with, routing_of_routes, to_slots}
+use Rattle.redis_routing.specs.RoutingInfo.{single_node, specific_node}
 use Rattle.redis_routing.specs.Laws.{ArePartsRoutedWith}
 use Rattle.redis_commands.specs.NameTables.{NameTables}
 use Rattle.redis_commands.specs.declared.policy.ResponsePolicy.{ResponsePolicy}
@@ -185,10 +185,10 @@ module _ (pattern : MultiSlotArgPattern) (run : List (List ℕ)) (slot : ℕ) (t
       ap (λ own. first_appearances (map slot_of (tuples_from pattern 0 own))) (take_at (flat_map words_of kept) (shared_in pattern run) (own_count pattern (length words)) (sym own-words))
       ∙ ap first_appearances (made.slots 0) ∙ one_slot
 
-  part_to_slot : (reads : Bool) (policy : Option ResponsePolicy) → to_slots reads policy pattern words ≡ Some (single (specific (record { slot = slot; addr = nodes_for reads })))
+  part_to_slot : (reads : Bool) (policy : Option ResponsePolicy) → to_slots reads policy pattern words ≡ Some (single_node (specific_node (record { slot = slot; addr = nodes_for reads })))
   part_to_slot reads policy =
-      ap (λ b. cond b (Some (to_routing pattern policy (routes_of reads pattern words))) None) (ap (fits pattern) length-words ∙ fits_again pattern (length run) (length kept) (some_tuple slot kept one_slot))
-      ∙ ap (λ slots. Some (to_routing pattern policy (map (route_to reads pattern words) slots))) one_slot_again
+      ap (λ b. cond b (Some (routing_of_routes pattern policy (routes_of reads pattern words))) None) (ap (fits pattern) length-words ∙ fits_again pattern (length run) (length kept) (some_tuple slot kept one_slot))
+      ∙ ap (λ slots. Some (routing_of_routes pattern policy (map (route_of_slot reads pattern words) slots))) one_slot_again
 
 -- each tuple is one of those with its slot
 all_there : (ts : List Tuple) → All (λ t. list_any (λ u. nat_eq (slot_of u) (slot_of t)) ts ≡ true) ts
@@ -225,7 +225,7 @@ module _ (words : ℕ) (tables : NameTables) (only_reads : List ℕ → Bool) (a
   run = run_after words args
 
   part_routed : (slot : ℕ) → list_any (λ t. nat_eq (slot_of t) slot) (tuples_in pattern run) ≡ true
-      → routing_with words tables only_reads (part_of_slot_after words pattern args slot) ≡ Some (single (specific (record { slot = slot; addr = nodes_for (only_reads name) })))
+      → routing_with words tables only_reads (part_of_slot_after words pattern args slot) ≡ Some (single_node (specific_node (record { slot = slot; addr = nodes_for (only_reads name) })))
   part_routed slot there =
       let texts : List (List ℕ) = words_in_slot pattern run slot in
       let as_command : Arguments = part_of_slot_after words pattern args slot in
@@ -237,8 +237,8 @@ module _ (words : ℕ) (tables : NameTables) (only_reads : List ℕ → Bool) (a
   pub parts_routed : ArePartsRoutedWith words tables only_reads args pattern (routes_of (only_reads name) pattern run)
   parts_routed =
       let ts : List Tuple = tuples_in pattern run in
-      let Routed : SlotRoute × List ℕ → Type 0 = λ r. routing_with words tables only_reads (part_of_slot_after words pattern args r.0.slot) ≡ Some (single (specific r.0)) in
+      let Routed : SlotRoute × List ℕ → Type 0 = λ r. routing_with words tables only_reads (part_of_slot_after words pattern args r.0.slot) ≡ Some (single_node (specific_node r.0)) in
       let There : ℕ → Type 0 = λ slot. list_any (λ t. nat_eq (slot_of t) slot) ts ≡ true in
-      All-map Routed (route_to (only_reads name) pattern run) (first_appearances (map slot_of ts))
-      (All-weaker There (λ slot. Routed (route_to (only_reads name) pattern run slot)) part_routed (first_appearances (map slot_of ts))
+      All-map Routed (route_of_slot (only_reads name) pattern run) (first_appearances (map slot_of ts))
+      (All-weaker There (λ slot. Routed (route_of_slot (only_reads name) pattern run slot)) part_routed (first_appearances (map slot_of ts))
       (All-first_appearances There (map slot_of ts) (All-map There slot_of ts (all_there ts))))

@@ -3,7 +3,7 @@ use Rattle.std.proofs.Common.{◌≡◌, ℕ, zero, suc, ◌<◌, List, [], ◌�
 use Rattle.std.proofs.lemmas.Bool.Decides.{nat_tests}
 use Rattle.std.proofs.lemmas.List.{length-map}
 use Rattle.redis_routing.specs.Parts.{first_appearances, slot_of}
-use Rattle.redis_routing.specs.Routing.{route_to, routes_of}
+use Rattle.redis_routing.specs.Routing.{route_of_slot, routes_of}
 use Rattle.redis_commands.specs.Tuples.{Tuple, fits, own_count, tuples_in}
 use Rattle.redis_commands.specs.declared.route_by.MultiSlotArgPattern.{MultiSlotArgPattern}
 use Rattle.redis_commands.specs.declared.route_by.MultiSlotArgPattern.TheVariants.{KeysOnly, KeyValuePairs, KeysAndLastArg, KeyWithTwoArgTriples}
@@ -31,4 +31,4 @@ some_route reads pattern run fit =
     let ts = tuples_in pattern run in
     let tuples : 0 < length ts = some_tuple (own_count pattern (length run)) ts (tiles_run pattern run fit) (some_own pattern (length run) fit) in
     let slots : 0 < length (first_appearances (map slot_of ts)) = some_first (map slot_of ts) (omega (arith, tuples, length-map ts slot_of)) in
-    omega (arith, slots, length-map (first_appearances (map slot_of ts)) (route_to reads pattern run))
+    omega (arith, slots, length-map (first_appearances (map slot_of ts)) (route_of_slot reads pattern run))

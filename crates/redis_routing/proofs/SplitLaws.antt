@@ -5,7 +5,7 @@ use Rattle.cluster_slots.specs.SlotRoute.{SlotRoute}
 use Rattle.redis_commands.specs.Command.{Arguments, HasWords, argument, command_of}
 use Rattle.redis_routing.specs.Laws.{Covers, ArePartsRoutedWith, ArePartsPickedAfter, IfSplit}
 use Rattle.redis_commands.specs.NameTables.{NameTables}
-use Rattle.redis_routing.specs.Routing.{to_key, by_count, to_key_or_any, to_key_after, to_slot, routes_of, to_routing, to_slots, routing_by, routing_by_with, argument_number}
+use Rattle.redis_routing.specs.Routing.{to_key, by_count, to_key_or_any, to_key_after, to_slot, routes_of, routing_of_routes, to_slots, routing_by, routing_by_with, argument_number}
 use Rattle.redis_commands.specs.Run.{run_after}
 use Rattle.redis_commands.specs.Tuples.{fits}
 use Rattle.redis_commands.specs.RouteBy.{base_routing}
@@ -41,7 +41,7 @@ module _ (words : ℕ) (tables : NameTables) (P : MultiSlotArgPattern → List (
   of_slot None = tt
   of_slot (Some n) = by_test (nat_lt n 16384) (λ h. rw h tt) (λ h. rw h tt)
 
-  of_parts : (pattern : MultiSlotArgPattern) (policy : Option ResponsePolicy) (routes : List (SlotRoute × List ℕ)) → P pattern routes → IfSplit P (Some (to_routing pattern policy routes))
+  of_parts : (pattern : MultiSlotArgPattern) (policy : Option ResponsePolicy) (routes : List (SlotRoute × List ℕ)) → P pattern routes → IfSplit P (Some (routing_of_routes pattern policy routes))
   of_parts pattern policy [] h = h
   of_parts pattern policy (only ∷ []) h = tt
   of_parts pattern policy (route ∷ other ∷ routes) h = h

@@ -9,8 +9,7 @@ pub mod Complete
 pub mod Groups
 pub mod Laws
 pub mod Parts
-pub mod Plan
 pub mod Routing
+pub mod RoutingInfo
 pub mod Split
 pub mod SubCommand
-pub mod Target

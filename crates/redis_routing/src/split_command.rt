@@ -4,7 +4,7 @@ ghost use Rattle.redis_routing.specs.Complete.{multi_slot_routes, pattern_of, pa
 ghost use Rattle.redis_commands.specs.Policies.{policy_of};
 ghost use Rattle.redis_commands.specs.ReadOnly.{is_among};
 ghost use Rattle.redis_routing.specs.Split.{Split, IsSplit, route_part, policy_by_name, joins_parts};
-ghost use Rattle.redis_routing.specs.Target.{route_lists};
+ghost use Rattle.redis_routing.specs.RoutingInfo.{route_lists};
 ghost use Rattle.redis_commands.specs.RouteBy.{base_routing};
 
 use super::splitting::{NAME_WORDS, routes_by_slot, run_len};
@@ -33,7 +33,7 @@ pub struct SplitCommand<'a, R: Routable> {
 
 impl<'a, R: Routable> Model for SplitCommand<'a, R> {
     ghost use Rattle.redis_routing.specs.Split.{Split, IsSplit};
-    ghost use Rattle.redis_routing.specs.Target.{route_lists};
+    ghost use Rattle.redis_routing.specs.RoutingInfo.{route_lists};
 
     ghost Value = { Split };
 

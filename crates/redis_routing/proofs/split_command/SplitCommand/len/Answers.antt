@@ -1,7 +1,8 @@
 use Rattle.std.proofs.Common.{length, ap, arith}
 use Rattle.std.proofs.lemmas.List.{length-map}
 use Rattle.redis_commands.specs.Run.{run_after}
-use Rattle.redis_routing.proofs.Picks.{complete_fits, shown}
+use Rattle.redis_routing.specs.RoutingInfo.{route_list}
+use Rattle.redis_routing.proofs.Picks.{complete_fits}
 use Rattle.redis_routing.proofs.SomeRoutes.{some_route}
 use Rattle.redis_routing.proofs.split_command.SplitCommand.len.Goals as goal
 
@@ -10,4 +11,4 @@ returns-clause-some g c =
     let held = c.self.inside in
     let run = run_after held.words (g.R.Routable.args held.command.now) in
     let some = some_route c.self.invariant.only_reads held.pattern run (complete_fits held.pattern (length run) c.self.invariant.complete) in
-    omega (arith, some, ap length c.self.invariant.routes, length-map held.routes.items shown, c.len.ensures)
+    omega (arith, some, ap length c.self.invariant.routes, length-map held.routes.items route_list, c.len.ensures)
