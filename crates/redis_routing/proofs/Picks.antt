@@ -10,7 +10,7 @@ use Rattle.redis_routing.specs.Laws.{ArePartsPickedAfter}
 use Rattle.redis_commands.specs.NameTables.{NameTables}
 use Rattle.redis_routing.specs.Parts.{first_appearances, slot_of, places_in_slot, words_in_slot, part_of_slot_after}
 use Rattle.redis_routing.specs.Routing.{routes_of, route_of_slot}
-use Rattle.redis_commands.specs.Run.{run_after}
+use Rattle.redis_commands.specs.PresentArguments.{present_arguments_after}
 use Rattle.redis_routing.specs.SubCommand.{all_texts, sub_command_after}
 use Rattle.redis_commands.specs.Tuples.{fits, tuples_in}
 use Rattle.redis_routing.specs.Complete.{pattern_of, pattern_by_name_with, routes_by, routes_by_name, multi_slot_routes_with, AreSubCommandsWith}
@@ -22,9 +22,9 @@ use Rattle.redis_commands.specs.declared.route_by.MultiSlotArgPattern.TheVariant
 use Rattle.redis_commands.specs.declared.route_by.RouteBy.{RouteBy}
 use Rattle.redis_commands.specs.declared.route_by.RouteBy.TheVariants as route_by
 use Rattle.std.proofs.lemmas.Bool.Decides.{nat_tests}
-use Rattle.redis_routing.proofs.Cover.{Between, bounds, part_in_run, picked}
+use Rattle.redis_routing.proofs.Cover.{Between, bounds, part_in_present, picked}
 use Rattle.redis_routing.proofs.SubCommands.{before, name_before}
-use Rattle.redis_routing.proofs.TupleSteps.{run_item}
+use Rattle.redis_routing.proofs.TupleSteps.{present_item}
 
 -- a command with a name has its first word
 pub has_first : (args : Arguments) (name : List ℕ) → Some name ≡ command_of args → HasWords 1 args
@@ -48,33 +48,33 @@ name_read : (words : ℕ) (args : Arguments) (name : HasWords words args) → So
 name_read words args name =
     read_from args 0 args refl name.texts (name.taken ∙ ap (λ n. take n args) (sym name.all)) ∙ ap (λ n. all_texts (map (λ place. argument args place) (range_with_len 0 n))) name.all
 
--- the arguments at places of the run
-texts_at : (words : ℕ) (args : Arguments) (low : ℕ) (places : List ℕ) → Between low (length (run_after words args)) places
-    → all_texts (map (λ place. argument args (place + words)) places) ≡ Some (map (λ place. get_or (run_after words args) place []) places)
+-- the present arguments at some places
+texts_at : (words : ℕ) (args : Arguments) (low : ℕ) (places : List ℕ) → Between low (length (present_arguments_after words args)) places
+    → all_texts (map (λ place. argument args (place + words)) places) ≡ Some (map (λ place. get_or (present_arguments_after words args) place []) places)
 texts_at words args low [] h = refl
 texts_at words args low (p ∷ places) h =
-    let run = run_after words args in
-    let inside : p < length run = omega (arith, bounds (p + 1) (length run) places h.1) in
-    ap (λ a. all_texts (a ∷ map (λ place. argument args (place + words)) places)) (run_item words args p inside)
-    ∙ ap (option_map (λ texts. get_or run p [] ∷ texts)) (texts_at words args (p + 1) places h.1)
+    let present = present_arguments_after words args in
+    let inside : p < length present = omega (arith, bounds (p + 1) (length present) places h.1) in
+    ap (λ a. all_texts (a ∷ map (λ place. argument args (place + words)) places)) (present_item words args p inside)
+    ∙ ap (option_map (λ texts. get_or present p [] ∷ texts)) (texts_at words args (p + 1) places h.1)
 
-part_picked : (words : ℕ) (args : Arguments) (pattern : MultiSlotArgPattern) (slot : ℕ) → HasWords words args → fits pattern (length (run_after words args)) ≡ true
-    → option_map (map Some) (sub_command_after words args (places_in_slot pattern (run_after words args) slot)) ≡ Some (part_of_slot_after words pattern args slot)
+part_picked : (words : ℕ) (args : Arguments) (pattern : MultiSlotArgPattern) (slot : ℕ) → HasWords words args → fits pattern (length (present_arguments_after words args)) ≡ true
+    → option_map (map Some) (sub_command_after words args (places_in_slot pattern (present_arguments_after words args) slot)) ≡ Some (part_of_slot_after words pattern args slot)
 part_picked words args pattern slot name whole =
-    let run = run_after words args in
-    let behind = map (λ place. argument args (place + words)) (places_in_slot pattern run slot) in
-    let texts : all_texts behind ≡ Some (words_in_slot pattern run slot) = texts_at words args 0 (places_in_slot pattern run slot) (part_in_run pattern run slot whole) ∙ ap Some (picked pattern run slot) in
-    let made : sub_command_after words args (places_in_slot pattern run slot) ≡ Some (name.texts ++ words_in_slot pattern run slot) =
+    let present = present_arguments_after words args in
+    let behind = map (λ place. argument args (place + words)) (places_in_slot pattern present slot) in
+    let texts : all_texts behind ≡ Some (words_in_slot pattern present slot) = texts_at words args 0 (places_in_slot pattern present slot) (part_in_present pattern present slot whole) ∙ ap Some (picked pattern present slot) in
+    let made : sub_command_after words args (places_in_slot pattern present slot) ≡ Some (name.texts ++ words_in_slot pattern present slot) =
     sym (name_before (map (λ place. argument args place) (range_with_len 0 words)) behind name.texts (name_read words args name)) ∙ ap (before name.texts) texts in
-    ap (option_map (map Some)) made ∙ ap Some (map-append Some name.texts (words_in_slot pattern run slot) ∙ ap (λ front. front ++ map Some (words_in_slot pattern run slot)) name.taken)
+    ap (option_map (map Some)) made ∙ ap Some (map-append Some name.texts (words_in_slot pattern present slot) ∙ ap (λ words. words ++ map Some (words_in_slot pattern present slot)) name.taken)
 
 -- the parts of all routes
-pub parts_picked : (words : ℕ) (args : Arguments) (reads : Bool) (pattern : MultiSlotArgPattern) → HasWords words args → fits pattern (length (run_after words args)) ≡ true → ArePartsPickedAfter words args pattern (routes_of reads pattern (run_after words args))
+pub parts_picked : (words : ℕ) (args : Arguments) (reads : Bool) (pattern : MultiSlotArgPattern) → HasWords words args → fits pattern (length (present_arguments_after words args)) ≡ true → ArePartsPickedAfter words args pattern (routes_of reads pattern (present_arguments_after words args))
 parts_picked words args reads pattern name whole = λ k d inside.
-    let run = run_after words args in
-    let slots = first_appearances (map slot_of (tuples_in pattern run)) in
+    let present = present_arguments_after words args in
+    let slots = first_appearances (map slot_of (tuples_in pattern present)) in
     let few : k < length slots = rw length-map at inside in
-    let is : get_or (routes_of reads pattern run) k d ≡ route_of_slot reads pattern run (get_or slots k 0) = get_or-map (route_of_slot reads pattern run) slots k 0 d few in
+    let is : get_or (routes_of reads pattern present) k d ≡ route_of_slot reads pattern present (get_or slots k 0) = get_or-map (route_of_slot reads pattern present) slots k 0 d few in
     rw is (part_picked words args pattern (get_or slots k 0) name whole)
 
 pub complete_fits : (pattern : MultiSlotArgPattern) (m : ℕ) → is_complete pattern m ≡ true → fits pattern m ≡ true
@@ -88,19 +88,19 @@ pub complete_sub_commands : (words : ℕ) (tables : NameTables) (only_reads : Li
     → multi_slot_routes_with words tables only_reads args ≡ Some routes → AreSubCommandsWith words tables args routes
 complete_sub_commands words tables only_reads args routes has = by_name (command_of args) refl
   where
-    by_length : (name : List ℕ) (pattern : MultiSlotArgPattern) → command_of args ≡ Some name → tables.route_by name ≡ Some (route_by.MultiSlot pattern) → (whole : Bool) → is_complete pattern (length (run_after words args)) ≡ whole
-        → cond whole (Some (routes_of (only_reads name) pattern (run_after words args))) None ≡ Some routes → AreSubCommandsWith words tables args routes
+    by_length : (name : List ℕ) (pattern : MultiSlotArgPattern) → command_of args ≡ Some name → tables.route_by name ≡ Some (route_by.MultiSlot pattern) → (whole : Bool) → is_complete pattern (length (present_arguments_after words args)) ≡ whole
+        → cond whole (Some (routes_of (only_reads name) pattern (present_arguments_after words args))) None ≡ Some routes → AreSubCommandsWith words tables args routes
     by_length name pattern named is true whole split =
         let same : pattern_by_name_with tables (command_of args) ≡ Some pattern = ap (pattern_by_name_with tables) named ∙ ap pattern_of is in
-        let routes-are : routes ≡ routes_of (only_reads name) pattern (run_after words args) = cc split in
-        rw (same, routes-are) (parts_picked words args (only_reads name) pattern (has name (sym named)) (complete_fits pattern (length (run_after words args)) whole))
+        let routes-are : routes ≡ routes_of (only_reads name) pattern (present_arguments_after words args) = cc split in
+        rw (same, routes-are) (parts_picked words args (only_reads name) pattern (has name (sym named)) (complete_fits pattern (length (present_arguments_after words args)) whole))
     by_length name pattern named is false whole split = absurd (cc split)
 
     by_route_by : (name : List ℕ) → command_of args ≡ Some name → (w : Option RouteBy) → tables.route_by name ≡ w → routes_by words (only_reads name) args w ≡ Some routes → AreSubCommandsWith words tables args routes
     by_route_by name named None is split = absurd (cc split)
     by_route_by name named (Some route_by.AllNodes) is split = absurd (cc split)
     by_route_by name named (Some route_by.AllMasters) is split = absurd (cc split)
-    by_route_by name named (Some (route_by.MultiSlot pattern)) is split = by_length name pattern named is (is_complete pattern (length (run_after words args))) refl split
+    by_route_by name named (Some (route_by.MultiSlot pattern)) is split = by_length name pattern named is (is_complete pattern (length (present_arguments_after words args))) refl split
     by_route_by name named (Some route_by.Undefined) is split = absurd (cc split)
     by_route_by name named (Some (route_by.CountAt n)) is split = absurd (cc split)
     by_route_by name named (Some (route_by.KeyAt n)) is split = absurd (cc split)
@@ -123,7 +123,7 @@ pub part_made : (split : Split) → IsSplit split → (routes : List (SlotRoute 
 part_made split whole routes number route routes-are long is =
     let inside : number < length routes = omega (arith, long, ap length routes-are, length-map routes route_list) in
     let each : ArePartsPickedAfter split.words split.arguments split.pattern split.routes =
-    subst (ArePartsPickedAfter split.words split.arguments split.pattern) (sym whole.routes) (parts_picked split.words split.arguments whole.only_reads split.pattern whole.name (complete_fits split.pattern (length (run_after split.words split.arguments)) whole.complete)) in
+    subst (ArePartsPickedAfter split.words split.arguments split.pattern) (sym whole.routes) (parts_picked split.words split.arguments whole.only_reads split.pattern whole.name (complete_fits split.pattern (length (present_arguments_after split.words split.arguments)) whole.complete)) in
     let there : slice_get split.routes number ≡ Some (route_list route) =
     ap (λ rs. slice_get rs number) (sym routes-are) ∙ slice_get-map route_list routes number ∙ ap (option_map route_list) (slice_get-get_or routes number route inside ∙ ap Some (sym is)) in
     let here : get_or split.routes number (route_list route) ≡ route_list route = get_or_from_slice_get split.routes number (route_list route) (route_list route) there in

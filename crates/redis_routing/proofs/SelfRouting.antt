@@ -13,7 +13,7 @@ use Rattle.redis_commands.specs.Upper.{upper}
 use Rattle.redis_commands.specs.TwoWords.{takes_second}
 use Rattle.redis_commands.specs.Command.{Arguments, argument, command_of, in_upper_case, name_by, with_second}
 use Rattle.redis_commands.specs.RouteBy.{base_routings, base_routing}
-use Rattle.redis_commands.specs.Run.{front, run_after}
+use Rattle.redis_commands.specs.PresentArguments.{arguments_before_gap, present_arguments_after}
 use Rattle.redis_commands.specs.Tuples.{Tuple, fits, keys_alone, keys_and_two, keys_and_values, own_count, shared_in, tuples_from, tuples_in, width_of, words_of}
 use Rattle.redis_routing.specs.Parts.{first_appearances, tuples_in_slot, part_of_slot_after, words_in_slot, slot_of}
 use Rattle.redis_routing.specs.Routing.{routing_by_with, nodes_for, route_of_slot, routes_of, routing_with, routing_by_name_with, routing_of_routes, to_slots}
@@ -71,9 +71,9 @@ first_names (Some first ∷ rest) name pattern named route_by_is other =
     let takes : takes_second (upper first) ≡ false = takes_none (upper first) second (sym (ap is_plain name_is) ∙ plain) in
     sym (named ∙ sym (one_word (Some first ∷ rest) first refl (sym takes)) ∙ one_word (Some first ∷ other) first refl (sym takes))
 
-front-map : (words : List (List ℕ)) → front (map Some words) ≡ words
-front-map [] = refl
-front-map (word ∷ words) = ap (λ ws. word ∷ ws) (front-map words)
+arguments_before_gap-map : (words : List (List ℕ)) → arguments_before_gap (map Some words) ≡ words
+arguments_before_gap-map [] = refl
+arguments_before_gap-map (word ∷ words) = ap (λ ws. word ∷ ws) (arguments_before_gap-map words)
 
 first_again : (slot : ℕ) (more : Bool) → slot ∷ filter (λ n. not (nat_eq slot n)) (cond more (slot ∷ []) []) ≡ slot ∷ []
 first_again slot true = rw (eq-eqb slot slot refl) refl
@@ -107,38 +107,38 @@ wider make width bound other ts within whole = record { slots = whole.slots; siz
 kept_or_not : (P : List Tuple → Type 0) (slot : ℕ) (t : Tuple) (ts : List Tuple) → P (tuples_in_slot slot ts) → P (t ∷ tuples_in_slot slot ts) → P (tuples_in_slot slot (t ∷ ts))
 kept_or_not P slot t ts dropped kept = by_test (nat_eq (slot_of t) slot) (λ here. rw here kept) (λ other. rw other dropped)
 
-whole_alone : (slot place : ℕ) (run : List (List ℕ)) → IsWhole keys_alone 1 (length run) (tuples_in_slot slot (keys_alone place run))
+whole_alone : (slot place : ℕ) (present : List (List ℕ)) → IsWhole keys_alone 1 (length present) (tuples_in_slot slot (keys_alone place present))
 whole_alone slot place [] = record { slots = λ p. refl; size = refl; few = omega arith }
-whole_alone slot place (key ∷ run) =
-    let rest = whole_alone slot (place + 1) run in
-    kept_or_not (IsWhole keys_alone 1 (suc (length run))) slot (record { place = place; key = key; extras = [] }) (keys_alone (place + 1) run)
-    (wider keys_alone 1 (length run) (suc (length run)) _ (omega arith) rest)
+whole_alone slot place (key ∷ present) =
+    let rest = whole_alone slot (place + 1) present in
+    kept_or_not (IsWhole keys_alone 1 (suc (length present))) slot (record { place = place; key = key; extras = [] }) (keys_alone (place + 1) present)
+    (wider keys_alone 1 (length present) (suc (length present)) _ (omega arith) rest)
     (record { slots = λ p. ap (λ ns. key_slot key ∷ ns) (rest.slots (p + 1)); size = omega (arith, rest.size); few = omega (arith, rest.few) })
 
-whole_values : (slot place : ℕ) (run : List (List ℕ)) → IsWhole keys_and_values 2 (length run) (tuples_in_slot slot (keys_and_values place run))
+whole_values : (slot place : ℕ) (present : List (List ℕ)) → IsWhole keys_and_values 2 (length present) (tuples_in_slot slot (keys_and_values place present))
 whole_values slot place [] = record { slots = λ p. refl; size = refl; few = omega arith }
 whole_values slot place (key ∷ []) = record { slots = λ p. refl; size = refl; few = omega arith }
-whole_values slot place (key ∷ value ∷ run) =
-    let rest = whole_values slot (place + 2) run in
-    kept_or_not (IsWhole keys_and_values 2 (suc (suc (length run)))) slot (record { place = place; key = key; extras = value ∷ [] }) (keys_and_values (place + 2) run)
-    (wider keys_and_values 2 (length run) (suc (suc (length run))) _ (omega arith) rest)
+whole_values slot place (key ∷ value ∷ present) =
+    let rest = whole_values slot (place + 2) present in
+    kept_or_not (IsWhole keys_and_values 2 (suc (suc (length present)))) slot (record { place = place; key = key; extras = value ∷ [] }) (keys_and_values (place + 2) present)
+    (wider keys_and_values 2 (length present) (suc (suc (length present))) _ (omega arith) rest)
     (record { slots = λ p. ap (λ ns. key_slot key ∷ ns) (rest.slots (p + 2)); size = omega (arith, rest.size); few = omega (arith, rest.few) })
 
-whole_two : (slot place : ℕ) (run : List (List ℕ)) → IsWhole keys_and_two 3 (length run) (tuples_in_slot slot (keys_and_two place run))
+whole_two : (slot place : ℕ) (present : List (List ℕ)) → IsWhole keys_and_two 3 (length present) (tuples_in_slot slot (keys_and_two place present))
 whole_two slot place [] = record { slots = λ p. refl; size = refl; few = omega arith }
 whole_two slot place (key ∷ []) = record { slots = λ p. refl; size = refl; few = omega arith }
 whole_two slot place (key ∷ a ∷ []) = record { slots = λ p. refl; size = refl; few = omega arith }
-whole_two slot place (key ∷ a ∷ b ∷ run) =
-    let rest = whole_two slot (place + 3) run in
-    kept_or_not (IsWhole keys_and_two 3 (suc (suc (suc (length run))))) slot (record { place = place; key = key; extras = a ∷ b ∷ [] }) (keys_and_two (place + 3) run)
-    (wider keys_and_two 3 (length run) (suc (suc (suc (length run)))) _ (omega arith) rest)
+whole_two slot place (key ∷ a ∷ b ∷ present) =
+    let rest = whole_two slot (place + 3) present in
+    kept_or_not (IsWhole keys_and_two 3 (suc (suc (suc (length present))))) slot (record { place = place; key = key; extras = a ∷ b ∷ [] }) (keys_and_two (place + 3) present)
+    (wider keys_and_two 3 (length present) (suc (suc (suc (length present)))) _ (omega arith) rest)
     (record { slots = λ p. ap (λ ns. key_slot key ∷ ns) (rest.slots (p + 3)); size = omega (arith, rest.size); few = omega (arith, rest.few) })
 
-whole : (pattern : MultiSlotArgPattern) (slot place : ℕ) (run : List (List ℕ)) → IsWhole (tuples_from pattern) (width_of pattern) (length run) (tuples_in_slot slot (tuples_from pattern place run))
-whole KeysOnly slot place run = whole_alone slot place run
-whole KeyValuePairs slot place run = whole_values slot place run
-whole KeysAndLastArg slot place run = whole_alone slot place run
-whole KeyWithTwoArgTriples slot place run = whole_two slot place run
+whole : (pattern : MultiSlotArgPattern) (slot place : ℕ) (present : List (List ℕ)) → IsWhole (tuples_from pattern) (width_of pattern) (length present) (tuples_in_slot slot (tuples_from pattern place present))
+whole KeysOnly slot place present = whole_alone slot place present
+whole KeyValuePairs slot place present = whole_values slot place present
+whole KeysAndLastArg slot place present = whole_alone slot place present
+whole KeyWithTwoArgTriples slot place present = whole_two slot place present
 
 -- where n of the tuples of m arguments stand before what all share, what makes tuples is again what those n have
 own_again : (pattern : MultiSlotArgPattern) (m n : ℕ) → 0 < n → n ≤ own_count pattern m → own_count pattern (n * width_of pattern + (m - own_count pattern m)) ≡ n * width_of pattern
@@ -157,37 +157,37 @@ fits_again KeyValuePairs m n some = whole_fits (n * 2 + (m - m)) n 2 (omega arit
 fits_again KeysAndLastArg m n some = lt-ltb 0 (n * 1 + (m - own_count KeysAndLastArg m)) (omega arith)
 fits_again KeyWithTwoArgTriples m n some = whole_fits (n * 3 + (m - m)) n 3 (omega arith) (omega arith)
 
-module _ (pattern : MultiSlotArgPattern) (run : List (List ℕ)) (slot : ℕ) (there : list_any (λ t. nat_eq (slot_of t) slot) (tuples_in pattern run) ≡ true) where
+module _ (pattern : MultiSlotArgPattern) (present : List (List ℕ)) (slot : ℕ) (there : list_any (λ t. nat_eq (slot_of t) slot) (tuples_in pattern present) ≡ true) where
   abbrev kept : List Tuple
-  kept = tuples_in_slot slot (tuples_in pattern run)
+  kept = tuples_in_slot slot (tuples_in pattern present)
 
   abbrev words : List (List ℕ)
-  words = words_in_slot pattern run slot
+  words = words_in_slot pattern present slot
 
   one_slot : first_appearances (map slot_of kept) ≡ slot ∷ []
-  one_slot = first_appearances-part slot (tuples_in pattern run) ∙ ap (λ b. cond b (slot ∷ []) []) there
+  one_slot = first_appearances-part slot (tuples_in pattern present) ∙ ap (λ b. cond b (slot ∷ []) []) there
 
-  made : IsWhole (tuples_from pattern) (width_of pattern) (length (take (own_count pattern (length run)) run)) kept
-  made = whole pattern slot 0 (take (own_count pattern (length run)) run)
+  made : IsWhole (tuples_from pattern) (width_of pattern) (length (take (own_count pattern (length present)) present)) kept
+  made = whole pattern slot 0 (take (own_count pattern (length present)) present)
 
-  length-words : length words ≡ length kept * width_of pattern + (length run - own_count pattern (length run))
-  length-words = length-append (flat_map words_of kept) (shared_in pattern run) ∙ ap (λ n. n + length (shared_in pattern run)) made.size ∙ ap (λ n. length kept * width_of pattern + n) (length-drop (own_count pattern (length run)) run)
+  length-words : length words ≡ length kept * width_of pattern + (length present - own_count pattern (length present))
+  length-words = length-append (flat_map words_of kept) (shared_in pattern present) ∙ ap (λ n. n + length (shared_in pattern present)) made.size ∙ ap (λ n. length kept * width_of pattern + n) (length-drop (own_count pattern (length present)) present)
 
   own-words : own_count pattern (length words) ≡ length (flat_map words_of kept)
   own-words =
       ap (own_count pattern) length-words
-      ∙ own_again pattern (length run) (length kept) (some_tuple slot kept one_slot) (omega (arith, made.few, length-take (own_count pattern (length run)) run))
+      ∙ own_again pattern (length present) (length kept) (some_tuple slot kept one_slot) (omega (arith, made.few, length-take (own_count pattern (length present)) present))
       ∙ sym made.size
 
   -- all tuples of the part by itself have the slot
   one_slot_again : first_appearances (map slot_of (tuples_in pattern words)) ≡ slot ∷ []
   one_slot_again =
-      ap (λ own. first_appearances (map slot_of (tuples_from pattern 0 own))) (take_at (flat_map words_of kept) (shared_in pattern run) (own_count pattern (length words)) (sym own-words))
+      ap (λ own. first_appearances (map slot_of (tuples_from pattern 0 own))) (take_at (flat_map words_of kept) (shared_in pattern present) (own_count pattern (length words)) (sym own-words))
       ∙ ap first_appearances (made.slots 0) ∙ one_slot
 
   part_to_slot : (reads : Bool) (policy : Option ResponsePolicy) → to_slots reads policy pattern words ≡ Some (single_node (specific_node (record { slot = slot; addr = nodes_for reads })))
   part_to_slot reads policy =
-      ap (λ b. cond b (Some (routing_of_routes pattern policy (routes_of reads pattern words))) None) (ap (fits pattern) length-words ∙ fits_again pattern (length run) (length kept) (some_tuple slot kept one_slot))
+      ap (λ b. cond b (Some (routing_of_routes pattern policy (routes_of reads pattern words))) None) (ap (fits pattern) length-words ∙ fits_again pattern (length present) (length kept) (some_tuple slot kept one_slot))
       ∙ ap (λ slots. Some (routing_of_routes pattern policy (map (route_of_slot reads pattern words) slots))) one_slot_again
 
 -- each tuple is one of those with its slot
@@ -209,36 +209,36 @@ fits_some KeysAndLastArg m h = grind (arith, nat_tests)
 fits_some KeyWithTwoArgTriples zero h = absurd (cc h)
 fits_some KeyWithTwoArgTriples (suc m) h = omega arith
 
-front_short : (args : Arguments) → length (front args) ≤ length args
-front_short [] = omega arith
-front_short (None ∷ args) = omega arith
-front_short (Some arg ∷ args) = omega (arith, front_short args)
+before_gap_short : (args : Arguments) → length (arguments_before_gap args) ≤ length args
+before_gap_short [] = omega arith
+before_gap_short (None ∷ args) = omega arith
+before_gap_short (Some arg ∷ args) = omega (arith, before_gap_short args)
 
 -- after the words of the name stand only texts of the part
-run-part : (words : ℕ) (args : Arguments) (texts : List (List ℕ)) → 0 < length (run_after words args) → run_after words (take words args ++ map Some texts) ≡ texts
-run-part words args texts some =
-    let long : length (take words args) ≡ words = length-take-le words args (omega (arith, some, front_short (drop words args), length-drop words args)) in
-    ap front (drop_at (take words args) (map Some texts) words long) ∙ front-map texts
+present-part : (words : ℕ) (args : Arguments) (texts : List (List ℕ)) → 0 < length (present_arguments_after words args) → present_arguments_after words (take words args ++ map Some texts) ≡ texts
+present-part words args texts some =
+    let long : length (take words args) ≡ words = length-take-le words args (omega (arith, some, before_gap_short (drop words args), length-drop words args)) in
+    ap arguments_before_gap (drop_at (take words args) (map Some texts) words long) ∙ arguments_before_gap-map texts
 
-module _ (words : ℕ) (tables : NameTables) (only_reads : List ℕ → Bool) (args : Arguments) (name : List ℕ) (pattern : MultiSlotArgPattern) (named : (other : Arguments) → command_of (take words args ++ other) ≡ Some name) (route_by_is : tables.route_by name ≡ Some (route_by.MultiSlot pattern)) (fit : fits pattern (length (run_after words args)) ≡ true) where
-  abbrev run : List (List ℕ)
-  run = run_after words args
+module _ (words : ℕ) (tables : NameTables) (only_reads : List ℕ → Bool) (args : Arguments) (name : List ℕ) (pattern : MultiSlotArgPattern) (named : (other : Arguments) → command_of (take words args ++ other) ≡ Some name) (route_by_is : tables.route_by name ≡ Some (route_by.MultiSlot pattern)) (fit : fits pattern (length (present_arguments_after words args)) ≡ true) where
+  abbrev present : List (List ℕ)
+  present = present_arguments_after words args
 
-  part_routed : (slot : ℕ) → list_any (λ t. nat_eq (slot_of t) slot) (tuples_in pattern run) ≡ true
+  part_routed : (slot : ℕ) → list_any (λ t. nat_eq (slot_of t) slot) (tuples_in pattern present) ≡ true
       → routing_with words tables only_reads (part_of_slot_after words pattern args slot) ≡ Some (single_node (specific_node (record { slot = slot; addr = nodes_for (only_reads name) })))
   part_routed slot there =
-      let texts : List (List ℕ) = words_in_slot pattern run slot in
+      let texts : List (List ℕ) = words_in_slot pattern present slot in
       let as_command : Arguments = part_of_slot_after words pattern args slot in
       ap (routing_by_name_with words tables only_reads as_command) (named (map Some texts))
       ∙ ap (routing_by_with words tables (only_reads name) name as_command) route_by_is
-      ∙ ap (to_slots (only_reads name) (tables.policy name) pattern) (run-part words args texts (fits_some pattern (length run) fit))
-      ∙ part_to_slot pattern run slot there (only_reads name) (tables.policy name)
+      ∙ ap (to_slots (only_reads name) (tables.policy name) pattern) (present-part words args texts (fits_some pattern (length present) fit))
+      ∙ part_to_slot pattern present slot there (only_reads name) (tables.policy name)
 
-  pub parts_routed : ArePartsRoutedWith words tables only_reads args pattern (routes_of (only_reads name) pattern run)
+  pub parts_routed : ArePartsRoutedWith words tables only_reads args pattern (routes_of (only_reads name) pattern present)
   parts_routed =
-      let ts : List Tuple = tuples_in pattern run in
+      let ts : List Tuple = tuples_in pattern present in
       let Routed : SlotRoute × List ℕ → Type 0 = λ r. routing_with words tables only_reads (part_of_slot_after words pattern args r.0.slot) ≡ Some (single_node (specific_node r.0)) in
       let There : ℕ → Type 0 = λ slot. list_any (λ t. nat_eq (slot_of t) slot) ts ≡ true in
-      All-map Routed (route_of_slot (only_reads name) pattern run) (first_appearances (map slot_of ts))
-      (All-weaker There (λ slot. Routed (route_of_slot (only_reads name) pattern run slot)) part_routed (first_appearances (map slot_of ts))
+      All-map Routed (route_of_slot (only_reads name) pattern present) (first_appearances (map slot_of ts))
+      (All-weaker There (λ slot. Routed (route_of_slot (only_reads name) pattern present slot)) part_routed (first_appearances (map slot_of ts))
       (All-first_appearances There (map slot_of ts) (All-map There slot_of ts (all_there ts))))

@@ -88,18 +88,18 @@ module _ (ts more : List Tuple) (t : Tuple) (slot : ℕ) (same : slot ≡ slot_o
       ∙ ap (λ n. if nat_eq n s then flat_map places_of (tuples_in_slot s ts) ++ places_of t else flat_map places_of (tuples_in_slot s ts)) same
       ∙ sym (ap (λ us. flat_map places_of (tuples_in_slot s us)) is ∙ part_push s ts t)
 
--- the routes of the groups are those of the run
-pub routes_are : (reads : Bool) (pattern : MultiSlotArgPattern) (run : List (List ℕ)) (groups : List Group) (nodes : SlotAddr) (own m : ℕ)
-    → groups ≡ groups_of (tuples_in pattern run) → nodes ≡ nodes_for reads → own ≡ own_count pattern (length run) → m ≡ length run
-    → map (route_of_group nodes (range_with_len own (m - own))) groups ≡ routes_of reads pattern run
-routes_are reads pattern run groups nodes own m groups-are nodes-are own-is m-is =
-    let ts = tuples_in pattern run in
-    let shared : range_with_len own (m - own) ≡ range_with_len (own_count pattern (length run)) (length run - own_count pattern (length run)) =
-    ap (λ o. range_with_len o (m - o)) own-is ∙ ap (λ k. range_with_len (own_count pattern (length run)) (k - own_count pattern (length run))) m-is in
+-- the routes of the groups are those of the present arguments
+pub routes_are : (reads : Bool) (pattern : MultiSlotArgPattern) (present : List (List ℕ)) (groups : List Group) (nodes : SlotAddr) (own m : ℕ)
+    → groups ≡ groups_of (tuples_in pattern present) → nodes ≡ nodes_for reads → own ≡ own_count pattern (length present) → m ≡ length present
+    → map (route_of_group nodes (range_with_len own (m - own))) groups ≡ routes_of reads pattern present
+routes_are reads pattern present groups nodes own m groups-are nodes-are own-is m-is =
+    let ts = tuples_in pattern present in
+    let shared : range_with_len own (m - own) ≡ range_with_len (own_count pattern (length present)) (length present - own_count pattern (length present)) =
+    ap (λ o. range_with_len o (m - o)) own-is ∙ ap (λ k. range_with_len (own_count pattern (length present)) (k - own_count pattern (length present))) m-is in
     ap (λ ps. map (route_of_group nodes ps) groups) shared
-    ∙ ap (λ n. map (route_of_group n (range_with_len (own_count pattern (length run)) (length run - own_count pattern (length run)))) groups) nodes-are
-    ∙ ap (map (route_of_group (nodes_for reads) (range_with_len (own_count pattern (length run)) (length run - own_count pattern (length run))))) groups-are
-    ∙ map-map (route_of_group (nodes_for reads) (range_with_len (own_count pattern (length run)) (length run - own_count pattern (length run)))) (λ s. (s, flat_map places_of (tuples_in_slot s ts))) (first_appearances (map slot_of ts))
+    ∙ ap (λ n. map (route_of_group n (range_with_len (own_count pattern (length present)) (length present - own_count pattern (length present)))) groups) nodes-are
+    ∙ ap (map (route_of_group (nodes_for reads) (range_with_len (own_count pattern (length present)) (length present - own_count pattern (length present))))) groups-are
+    ∙ map-map (route_of_group (nodes_for reads) (range_with_len (own_count pattern (length present)) (length present - own_count pattern (length present)))) (λ s. (s, flat_map places_of (tuples_in_slot s ts))) (first_appearances (map slot_of ts))
 
 -- two facts of a value make a third
 pub with_both : {X E : Type 0} (r : Result X E) (P : X → Type 0) (Q : Type 0) (R : X → Type 0) → IfOk r P → OnOk r Q → ((x : X) → P x → Q → R x) → IfOk r R

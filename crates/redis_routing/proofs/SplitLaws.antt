@@ -6,7 +6,7 @@ use Rattle.redis_commands.specs.Command.{Arguments, HasWords, argument, command_
 use Rattle.redis_routing.specs.Laws.{Covers, ArePartsRoutedWith, ArePartsPickedAfter, IfSplit}
 use Rattle.redis_commands.specs.NameTables.{NameTables}
 use Rattle.redis_routing.specs.Routing.{to_key, by_count, to_key_or_any, to_key_after, to_slot, routes_of, routing_of_routes, to_slots, routing_by, routing_by_with, argument_number}
-use Rattle.redis_commands.specs.Run.{run_after}
+use Rattle.redis_commands.specs.PresentArguments.{present_arguments_after}
 use Rattle.redis_commands.specs.Tuples.{fits}
 use Rattle.redis_commands.specs.RouteBy.{base_routing}
 use Rattle.redis_commands.specs.declared.policy.ResponsePolicy.{ResponsePolicy}
@@ -46,12 +46,12 @@ module _ (words : ℕ) (tables : NameTables) (P : MultiSlotArgPattern → List (
   of_parts pattern policy (only ∷ []) h = tt
   of_parts pattern policy (route ∷ other ∷ routes) h = h
 
-  of_slots : (pattern : MultiSlotArgPattern) → (fits pattern (length (run_after words args)) ≡ true → P pattern (routes_of reads pattern (run_after words args))) → IfSplit P (to_slots reads (tables.policy name) pattern (run_after words args))
-  of_slots pattern h = by_test (fits pattern (length (run_after words args)))
-      (λ whole. rw whole (of_parts pattern (tables.policy name) (routes_of reads pattern (run_after words args)) (h whole)))
+  of_slots : (pattern : MultiSlotArgPattern) → (fits pattern (length (present_arguments_after words args)) ≡ true → P pattern (routes_of reads pattern (present_arguments_after words args))) → IfSplit P (to_slots reads (tables.policy name) pattern (present_arguments_after words args))
+  of_slots pattern h = by_test (fits pattern (length (present_arguments_after words args)))
+      (λ whole. rw whole (of_parts pattern (tables.policy name) (routes_of reads pattern (present_arguments_after words args)) (h whole)))
       (λ broken. rw broken tt)
 
-  of_route_by : (w : Option RouteBy) → ((pattern : MultiSlotArgPattern) → w ≡ Some (route_by.MultiSlot pattern) → fits pattern (length (run_after words args)) ≡ true → P pattern (routes_of reads pattern (run_after words args))) → IfSplit P (routing_by_with words tables reads name args w)
+  of_route_by : (w : Option RouteBy) → ((pattern : MultiSlotArgPattern) → w ≡ Some (route_by.MultiSlot pattern) → fits pattern (length (present_arguments_after words args)) ≡ true → P pattern (routes_of reads pattern (present_arguments_after words args))) → IfSplit P (routing_by_with words tables reads name args w)
   of_route_by None h = of_key_or_any _
   of_route_by (Some route_by.AllNodes) h = tt
   of_route_by (Some route_by.AllMasters) h = tt
@@ -66,8 +66,8 @@ module _ (words : ℕ) (tables : NameTables) (P : MultiSlotArgPattern → List (
 -- the laws of the routes of a command whose name has so many words, under some tables of names
 module _ (words : ℕ) (tables : NameTables) (only_reads : List ℕ → Bool) (args : Arguments) (name : List ℕ) where
   -- the cover law
-  pub split_covers : IfSplit (λ pattern routes. Covers pattern (run_after words args) routes) (routing_by_with words tables (only_reads name) name args (tables.route_by name))
-  split_covers = of_route_by words tables _ args (only_reads name) name (tables.route_by name) (λ pattern is whole. covers (only_reads name) pattern (run_after words args) whole)
+  pub split_covers : IfSplit (λ pattern routes. Covers pattern (present_arguments_after words args) routes) (routing_by_with words tables (only_reads name) name args (tables.route_by name))
+  split_covers = of_route_by words tables _ args (only_reads name) name (tables.route_by name) (λ pattern is whole. covers (only_reads name) pattern (present_arguments_after words args) whole)
 
   -- the self-routing law, where the words of the name make it, whatever follows
   pub split_parts : ((pattern : MultiSlotArgPattern) → tables.route_by name ≡ Some (route_by.MultiSlot pattern) → (other : Arguments) → command_of (take words args ++ other) ≡ Some name)

@@ -5,7 +5,7 @@ use Rattle.redis_commands.specs.Command.{Arguments, command_of}
 use Rattle.redis_commands.specs.NameTables.{NameTables, own_tables}
 use Rattle.redis_routing.specs.Parts.{part_of_slot_after}
 use Rattle.redis_routing.specs.Routing.{routes_of}
-use Rattle.redis_commands.specs.Run.{run_after}
+use Rattle.redis_commands.specs.PresentArguments.{present_arguments_after}
 use Rattle.redis_routing.specs.SubCommand.{sub_command_after}
 use Rattle.redis_commands.specs.Tuples.{is_complete}
 use Rattle.redis_commands.specs.declared.route_by.MultiSlotArgPattern.{MultiSlotArgPattern}
@@ -41,7 +41,7 @@ part_by_name args slot = part_by_name_with 1 own_tables args slot
 -- the routes of a complete command whose name has so many words and is routed so, if it is split by slot
 abbrev pub routes_by : ℕ → Bool → Arguments → Option RouteBy → Option (List (SlotRoute × List ℕ))
 routes_by words reads args None = None
-routes_by words reads args (Some (route_by.MultiSlot pattern)) = cond (is_complete pattern (length (run_after words args))) (Some (routes_of reads pattern (run_after words args))) None
+routes_by words reads args (Some (route_by.MultiSlot pattern)) = cond (is_complete pattern (length (present_arguments_after words args))) (Some (routes_of reads pattern (present_arguments_after words args))) None
 routes_by words reads args (Some _) = None
 
 abbrev pub routes_by_name : ℕ → NameTables → (List ℕ → Bool) → Arguments → Option (List ℕ) → Option (List (SlotRoute × List ℕ))

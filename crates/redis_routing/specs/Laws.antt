@@ -17,13 +17,13 @@ use Rattle.redis_commands.specs.declared.route_by.MultiSlotArgPattern.{MultiSlot
 abbrev pub lists_with : ℕ → List (SlotRoute × List ℕ) → ℕ
 lists_with place routes = count_by (λ r. list_any (nat_eq place) r.1) routes
 
--- The cover law: each slot has one route, and the lists of the routes ascend and share out the places of the run, of which a shared one stands in each.
-pub record Covers (pattern : MultiSlotArgPattern) (run : List (List ℕ)) (routes : List (SlotRoute × List ℕ)) : Type 0 where
+-- The cover law: each slot has one route, and the lists of the routes ascend and share out the places of the present arguments, of which a shared one stands in each.
+pub record Covers (pattern : MultiSlotArgPattern) (present : List (List ℕ)) (routes : List (SlotRoute × List ℕ)) : Type 0 where
   pub slots : (slot : ℕ) → count_by (λ r. nat_eq slot r.0.slot) routes ≤ 1
   pub ascending : All (λ r. IsStrictlySortedBy nat_cmp r.1) routes
-  pub once : (place : ℕ) → place < own_count pattern (length run) → lists_with place routes ≡ 1
-  pub shared : (place : ℕ) → own_count pattern (length run) ≤ place → place < length run → lists_with place routes ≡ length routes
-  pub within : (place : ℕ) → length run ≤ place → lists_with place routes ≡ 0
+  pub once : (place : ℕ) → place < own_count pattern (length present) → lists_with place routes ≡ 1
+  pub shared : (place : ℕ) → own_count pattern (length present) ≤ place → place < length present → lists_with place routes ≡ length routes
+  pub within : (place : ℕ) → length present ≤ place → lists_with place routes ≡ 0
 
 -- The self-routing law: the part of each route, as a command of its own, goes to that very route.
 abbrev pub ArePartsRoutedWith : ℕ → NameTables → (List ℕ → Bool) → Arguments → MultiSlotArgPattern → List (SlotRoute × List ℕ) → Type 0

@@ -1,7 +1,7 @@
 pub use Rattle.redis_commands.specs.Command
 pub use Rattle.redis_commands.specs.Policies
 pub use Rattle.redis_commands.specs.ReadOnly
-pub use Rattle.redis_commands.specs.Run
+pub use Rattle.redis_commands.specs.PresentArguments
 pub use Rattle.redis_commands.specs.Tuples
 pub use Rattle.redis_commands.specs.RouteBy
 pub use Rattle.resp_core.specs.ErrorParts

@@ -6,7 +6,7 @@ use Rattle.cluster_slots.specs.SlotRoute.{SlotRoute}
 use Rattle.cluster_slots.specs.declared.slot.SlotAddr.{SlotAddr}
 use Rattle.cluster_slots.specs.declared.slot.SlotAddr.TheVariants.{Master, ReplicaOptional}
 use Rattle.redis_commands.specs.Command.{Arguments, argument, command_of, is_word}
-use Rattle.redis_commands.specs.Run.{run_after}
+use Rattle.redis_commands.specs.PresentArguments.{present_arguments_after}
 use Rattle.redis_commands.specs.Tuples.{tuples_in, fits}
 use Rattle.redis_routing.specs.Parts.{slot_of, first_appearances, places_in_slot}
 use Rattle.redis_routing.specs.RoutingInfo.{Routing, random, specific_node, all_nodes, all_masters, multi_slot, single_node, multi_node}
@@ -52,11 +52,11 @@ argument_number bits (Some text) = number_in bits text
 
 -- the route of a slot, and the places of its part
 abbrev pub route_of_slot : Bool → MultiSlotArgPattern → List (List ℕ) → ℕ → SlotRoute × List ℕ
-route_of_slot reads pattern run slot = (record { slot = slot; addr = nodes_for reads }, places_in_slot pattern run slot)
+route_of_slot reads pattern present slot = (record { slot = slot; addr = nodes_for reads }, places_in_slot pattern present slot)
 
 -- one route for each slot of a key, by the first key of each
 abbrev pub routes_of : Bool → MultiSlotArgPattern → List (List ℕ) → List (SlotRoute × List ℕ)
-routes_of reads pattern run = map (route_of_slot reads pattern run) (first_appearances (map slot_of (tuples_in pattern run)))
+routes_of reads pattern present = map (route_of_slot reads pattern present) (first_appearances (map slot_of (tuples_in pattern present)))
 
 -- to one node, where all keys have one slot, or else to a node of each slot
 abbrev pub routing_of_routes : MultiSlotArgPattern → Option ResponsePolicy → List (SlotRoute × List ℕ) → Routing
@@ -64,16 +64,16 @@ routing_of_routes pattern policy [] = multi_node (multi_slot [] pattern) policy
 routing_of_routes pattern policy (only ∷ []) = single_node (specific_node only.0)
 routing_of_routes pattern policy (route ∷ other ∷ routes) = multi_node (multi_slot (route ∷ other ∷ routes) pattern) policy
 
--- to the slots of the keys, if the run makes whole tuples
+-- to the slots of the keys, if the present arguments make whole tuples
 abbrev pub to_slots : Bool → Option ResponsePolicy → MultiSlotArgPattern → List (List ℕ) → Option Routing
-to_slots reads policy pattern run = cond (fits pattern (length run)) (Some (routing_of_routes pattern policy (routes_of reads pattern run))) None
+to_slots reads policy pattern present = cond (fits pattern (length present)) (Some (routing_of_routes pattern policy (routes_of reads pattern present))) None
 
 -- where a command goes by how its name is routed, which has so many words, under some tables of names
 abbrev pub routing_by_with : ℕ → NameTables → Bool → List ℕ → Arguments → Option RouteBy → Option Routing
 routing_by_with words tables reads name args None = to_key_or_any reads (argument args 1)
 routing_by_with words tables reads name args (Some route_by.AllNodes) = Some (multi_node all_nodes (tables.policy name))
 routing_by_with words tables reads name args (Some route_by.AllMasters) = Some (multi_node all_masters (tables.policy name))
-routing_by_with words tables reads name args (Some (route_by.MultiSlot pattern)) = to_slots reads (tables.policy name) pattern (run_after words args)
+routing_by_with words tables reads name args (Some (route_by.MultiSlot pattern)) = to_slots reads (tables.policy name) pattern (present_arguments_after words args)
 routing_by_with words tables reads name args (Some route_by.Undefined) = None
 routing_by_with words tables reads name args (Some (route_by.CountAt n)) = by_count reads (argument_number 64 (argument args n)) (argument args (n + 1))
 routing_by_with words tables reads name args (Some (route_by.KeyAt n)) = to_key reads (argument args n)

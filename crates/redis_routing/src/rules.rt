@@ -6,7 +6,7 @@ ghost use Rattle.redis_commands.specs.ReadOnly.{is_among};
 ghost use Rattle.redis_routing.specs.RoutingInfo.{as_routing, as_multiple_nodes, random, single_node, multi_node, specific_node};
 ghost use Rattle.redis_commands.specs.RouteBy.{base_routing};
 ghost use Rattle.redis_routing.specs.Routing.{routing, routing_by, to_key, to_key_or_any, to_key_after, to_slot, by_count, argument_number};
-ghost use Rattle.redis_commands.specs.Run.{run_of};
+ghost use Rattle.redis_commands.specs.PresentArguments.{present_arguments};
 
 use super::info::{MultipleNodeRoutingInfo, RoutingInfo, SingleNodeRoutingInfo, nodes_for};
 use super::splitting::by_slots;
@@ -33,7 +33,7 @@ impl RoutingInfo {
     ) -> Result<Option<RoutingInfo>, AllocError>
         ensures routed { IfOk result (λ info. option_map as_routing info ≡ routing (is_among read_only.now) (R.args command.now)) }
         ensures case { (other : Arguments) → IsRespelt (R.args command.now) other → routing (is_among read_only.now) other ≡ routing (is_among read_only.now) (R.args command.now) }
-        ensures cover { IfOk result (λ info. IfSplit (λ pattern routes. Covers pattern (run_of (R.args command.now)) routes) (option_map as_routing info)) }
+        ensures cover { IfOk result (λ info. IfSplit (λ pattern routes. Covers pattern (present_arguments (R.args command.now)) routes) (option_map as_routing info)) }
         ensures picked { IfOk result (λ info. IfSplit (λ pattern routes. ArePartsPicked (R.args command.now) pattern routes) (option_map as_routing info)) }
         ensures parts { IfOk result (λ info. IfSplit (λ pattern routes. ArePartsRouted (is_among read_only.now) (R.args command.now) pattern routes) (option_map as_routing info)) }
     {

@@ -7,7 +7,7 @@ ghost use Rattle.redis_routing.specs.Split.{Split, IsSplit, route_part, policy_b
 ghost use Rattle.redis_routing.specs.RoutingInfo.{route_lists};
 ghost use Rattle.redis_commands.specs.RouteBy.{base_routing};
 
-use super::splitting::{NAME_WORDS, routes_by_slot, run_len};
+use super::splitting::{NAME_WORDS, routes_by_slot, present_len};
 use super::sub_commands::sub_command;
 use cluster_slots::Route;
 use redis_commands::{
@@ -67,12 +67,12 @@ impl<'a, R: Routable> SplitCommand<'a, R> {
         let Some((pattern, policy)) = pattern_and_policy(&name) else {
             return Ok(None);
         };
-        let run = run_len(command, NAME_WORDS);
-        if !pattern.is_complete(run) {
+        let count = present_len(command, NAME_WORDS);
+        if !pattern.is_complete(count) {
             return Ok(None);
         }
         let reads = read_only.contains(&name);
-        let routes = routes_by_slot(alloc, command, NAME_WORDS, pattern, run, reads)?;
+        let routes = routes_by_slot(alloc, command, NAME_WORDS, pattern, count, reads)?;
         Ok(Some(SplitCommand {
             command,
             words: NAME_WORDS,

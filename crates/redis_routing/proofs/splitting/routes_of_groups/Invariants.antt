@@ -6,5 +6,5 @@ use Rattle.redis_routing.proofs.splitting.routes_of_groups.Given as goal
 
 abbrev pub invariant-loop-slot : goal.invariant-loop-slot
 invariant-loop-slot l =
-    route_lists l.routes.items ++ map (route_of_group l.nodes (range_with_len l.own (l.run - l.own))) (entry_groups l.slot-iterator)
-    ≡ map (route_of_group l.nodes (range_with_len l.own (l.run - l.own))) (entry_groups l.fn.groups.entries)
+    route_lists l.routes.items ++ map (route_of_group l.nodes (range_with_len l.own (l.count - l.own))) (entry_groups l.slot-iterator)
+    ≡ map (route_of_group l.nodes (range_with_len l.own (l.count - l.own))) (entry_groups l.fn.groups.entries)

@@ -3,7 +3,7 @@ use Rattle.std.proofs.lemmas.Result.{IfOk-weaker}
 use Rattle.redis_routing.specs.Laws.{Covers, ArePartsPicked, ArePartsRouted, IfSplit}
 use Rattle.redis_commands.specs.NameTables.{own_tables}
 use Rattle.redis_commands.specs.ReadOnly.{is_among}
-use Rattle.redis_commands.specs.Run.{run_of}
+use Rattle.redis_commands.specs.PresentArguments.{present_arguments}
 use Rattle.redis_routing.proofs.Picks.{has_first}
 use Rattle.redis_routing.proofs.Respelt.{respelt_routing}
 use Rattle.redis_routing.proofs.SelfRouting.{first_names}
@@ -22,7 +22,7 @@ returns-clause-cover g c =
     let only_reads = is_among c.args.read_only.now in
     let name = c.in-Some.name.items in
     let same = same_name_routing only_reads args name c.deref.result.now c.deref-2.result.now c.contains-reads.result c.deref.ensures.value c.deref-2.ensures.value c.contains-reads.ensures in
-    IfOk-weaker c.for_name.result _ _ (λ info e. subst (IfSplit (λ pattern routes. Covers pattern (run_of args) routes)) (sym (e ∙ same)) (split_covers 1 own_tables only_reads args name)) c.for_name.ensures
+    IfOk-weaker c.for_name.result _ _ (λ info e. subst (IfSplit (λ pattern routes. Covers pattern (present_arguments args) routes)) (sym (e ∙ same)) (split_covers 1 own_tables only_reads args name)) c.for_name.ensures
 
 pub returns-clause-picked : goal.returns-clause-picked
 returns-clause-picked g c =
