@@ -6,12 +6,12 @@ pub use Rattle.redis_combiners.specs.ByPlaces
 pub use Rattle.redis_combiners.specs.Entries
 pub use Rattle.redis_combiners.specs.KeyNumbers
 pub use Rattle.redis_combiners.specs.KeyPlaces
-pub use Rattle.redis_combiners.specs.Lists
 pub use Rattle.redis_combiners.specs.Logical
 pub use Rattle.redis_combiners.specs.Misfits
 pub use Rattle.redis_combiners.specs.SortedArrays
 pub use Rattle.redis_combiners.specs.Totals
 pub use Rattle.redis_commands.specs.Command
+pub use Rattle.redis_commands.specs.Lists
 pub use Rattle.redis_commands.specs.NameTables
 pub use Rattle.redis_commands.specs.Policies
 pub use Rattle.redis_commands.specs.ReadOnly

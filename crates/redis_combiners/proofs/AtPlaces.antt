@@ -10,7 +10,7 @@ use Rattle.redis_combiners.specs.AllItems.{all_items}
 use Rattle.redis_combiners.specs.AtPlaces.{item_at, place_at, AreAtPlaces}
 use Rattle.redis_combiners.specs.ByPlaces.{by_places}
 use Rattle.redis_combiners.specs.KeyPlaces.{places, all_places}
-use Rattle.redis_combiners.specs.Lists.{flatten}
+use Rattle.redis_commands.specs.Lists.{flatten}
 use Rattle.redis_combiners.specs.Misfits.{first_misfit}
 use Rattle.redis_combiners.specs.SortedArrays.{array_or_refusal, array_by_places, sorted_arrays}
 use Rattle.redis_commands.specs.declared.route_by.MultiSlotArgPattern.{MultiSlotArgPattern}

@@ -6,7 +6,7 @@ use Rattle.resp_core.specs.Reply.{Reply, int_of, bulk_string_of}
 use Rattle.resp_core.specs.View.{view, view_pair}
 use Rattle.resp_core.specs.declared.value.Value.{Value}
 use Rattle.redis_combiners.specs.KeyNumbers.{KeyNumber, twos, pairs_among}
-use Rattle.redis_combiners.specs.Lists.{all_some}
+use Rattle.redis_commands.specs.Lists.{all_some}
 use Rattle.redis_combiners.specs.Entries.{plain_pairs}
 use Rattle.redis_combiners.proofs.Ahead.{before, before-more}
 

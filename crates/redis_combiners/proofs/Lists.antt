@@ -2,7 +2,7 @@
 use Rattle.std.proofs.Common.{◌≡◌, ℕ, zero, suc, ◌<◌, List, [], ◌∷◌, length, get_or, map, Option, Some, None, Bool, true, false, cond, refl, ap, sym, ◌∙◌, arith}
 use Rattle.std.specs.Prelude.{option_map, is_none, unwrap_or, ◌||◌}
 use Rattle.std.specs.List.{list_any}
-use Rattle.redis_combiners.specs.Lists.{all_some}
+use Rattle.redis_commands.specs.Lists.{all_some}
 
 -- what is there of each, if nothing is missing
 pub all_some_is : {A X : Type 0} (f : A → Option X) (d : X) (xs : List A) → all_some (map f xs) ≡ cond (list_any (λ x. is_none (f x)) xs) None (Some (map (λ x. unwrap_or (f x) d) xs))

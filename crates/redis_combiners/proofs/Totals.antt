@@ -20,7 +20,7 @@ use Rattle.std.proofs.lemmas.List.{length-map, get_or-map}
 use Rattle.resp_core.specs.Reply.{Reply, bulk, int, pairs, pairs_of}
 use Rattle.redis_combiners.specs.Aggregate.{total, fits_i64}
 use Rattle.redis_combiners.specs.KeyNumbers.{KeyNumber, all_pairs}
-use Rattle.redis_combiners.specs.Lists.{all_some}
+use Rattle.redis_commands.specs.Lists.{all_some}
 use Rattle.redis_combiners.specs.Entries.{plain_pairs, number_at}
 use Rattle.redis_combiners.specs.Totals.{has, total_of, total_at, ascending_keys, totals, IsListing, entry_of, map_of, map_of_totals, combined_map}
 use Rattle.redis_combiners.proofs.Ahead.{before, before-more}

@@ -1,7 +1,7 @@
 ghost use Rattle.std.specs.Prelude.{◌≡◌, length, map, IfOk, option_map, replicate, None};
 ghost use Rattle.resp_core.specs.View.{view};
 ghost use Rattle.redis_combiners.specs.ByPlaces.{by_places};
-ghost use Rattle.redis_combiners.specs.Lists.{all_some};
+ghost use Rattle.redis_commands.specs.Lists.{all_some};
 
 use resp_core::Value;
 use std::alloc::{AllocError, Global};

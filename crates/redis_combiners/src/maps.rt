@@ -10,7 +10,7 @@ ghost use Rattle.resp_core.specs.View.{view, view_pair};
 ghost use Rattle.resp_core.specs.declared.error.ErrorKind.TheVariants.{UnexpectedReturnType};
 ghost use Rattle.redis_combiners.specs.Entries.{plain_pairs, number_at};
 ghost use Rattle.redis_combiners.specs.KeyNumbers.{KeyNumber, pairs_among, all_pairs};
-ghost use Rattle.redis_combiners.specs.Lists.{all_some};
+ghost use Rattle.redis_commands.specs.Lists.{all_some};
 ghost use Rattle.redis_combiners.specs.Totals.{total_at, totals, IsListing, entry_of, combined_map};
 
 use resp_core::{ErrorKind, RedisError, RedisResult, Value};

@@ -1,6 +1,7 @@
 pub use Rattle.resp_core.specs.Reply
 pub use Rattle.resp_core.specs.View
 pub mod Command
+pub mod Lists
 pub mod NameTables
 pub mod Policies
 pub mod PresentArguments

@@ -76,5 +76,5 @@ abbrev pub places_of : Tuple → List ℕ
 places_of t = range_with_len t.place (1 + length t.extras)
 
 -- the arguments of a tuple
-abbrev pub words_of : Tuple → List (List ℕ)
-words_of t = t.key ∷ t.extras
+abbrev pub arguments_of : Tuple → List (List ℕ)
+arguments_of t = t.key ∷ t.extras

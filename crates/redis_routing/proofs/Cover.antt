@@ -13,9 +13,9 @@ use Rattle.std.proofs.lemmas.List.Elements.{All-map}
 use Rattle.std.proofs.lemmas.List.Folds.{list_any-append}
 use Rattle.std.proofs.lemmas.List.Sums.{sum_by-cons}
 use Rattle.redis_routing.specs.Laws.{Covers, lists_with}
-use Rattle.redis_routing.specs.Parts.{slot_of, first_appearances, tuples_in_slot, places_in_slot, words_in_slot}
+use Rattle.redis_routing.specs.Parts.{slot_of, first_appearances, tuples_in_slot, places_in_slot, arguments_in_slot}
 use Rattle.redis_routing.specs.Routing.{route_of_slot, routes_of}
-use Rattle.redis_commands.specs.Tuples.{Tuple, keys_alone, keys_and_values, keys_and_two, fits, own_count, width_of, tuples_from, tuples_in, shared_in, places_of, words_of}
+use Rattle.redis_commands.specs.Tuples.{Tuple, keys_alone, keys_and_values, keys_and_two, fits, own_count, width_of, tuples_from, tuples_in, shared_in, places_of, arguments_of}
 use Rattle.redis_commands.specs.declared.route_by.MultiSlotArgPattern.{MultiSlotArgPattern}
 use Rattle.redis_commands.specs.declared.route_by.MultiSlotArgPattern.TheVariants.{KeysOnly, KeyValuePairs, KeysAndLastArg, KeyWithTwoArgTriples}
 use Rattle.resp_core.proofs.Cases.{by_test}
@@ -97,9 +97,9 @@ lower : (low below high : ℕ) (xs : List ℕ) → below ≤ low → Between low
 lower low below high [] small h = omega arith
 lower low below high (x ∷ xs) small h = (omega (arith, h.0), h.1)
 
-joined : (low mid high : ℕ) (xs ys : List ℕ) → Between low mid xs → Between mid high ys → Between low high (xs ++ ys)
-joined low mid high [] ys first second = lower mid low high ys first second
-joined low mid high (x ∷ xs) ys first second = (first.0, joined (x + 1) mid high xs ys first.1 second)
+between-append : (low mid high : ℕ) (xs ys : List ℕ) → Between low mid xs → Between mid high ys → Between low high (xs ++ ys)
+between-append low mid high [] ys first second = lower mid low high ys first second
+between-append low mid high (x ∷ xs) ys first second = (first.0, between-append (x + 1) mid high xs ys first.1 second)
 
 -- what lies below the bound lies below each of them
 above : (x low high : ℕ) (xs : List ℕ) → x < low → Between low high xs → AllByRecursion (λ y. nat_cmp x y ≡ Less) xs
@@ -211,7 +211,7 @@ part_between low high s [] h = omega arith
 part_between low high s (t ∷ ts) h =
     let rest : Between (next low t) high (tuple_places s ts) = part_between (next low t) high s ts h.1 in
     by_test (nat_eq (slot_of t) s)
-    (λ here. rw here (rw h.0 (joined low (next low t) high (range_with_len low (1 + length t.extras)) (tuple_places s ts) (range_between low (1 + length t.extras)) rest)))
+    (λ here. rw here (rw h.0 (between-append low (next low t) high (range_with_len low (1 + length t.extras)) (tuple_places s ts) (range_between low (1 + length t.extras)) rest)))
     (λ there. rw there (lower (next low t) low high (tuple_places s ts) (omega arith) rest))
 
 -- a place that the tuples cover stands in the part of one slot alone, and that is the slot of a key
@@ -256,7 +256,7 @@ module _ (pattern : MultiSlotArgPattern) (present : List (List ℕ)) where
 
   -- the places of a part ascend and are of present arguments
   pub part_in_present : (slot : ℕ) → fits pattern (length present) ≡ true → Between 0 (length present) (places_in_slot pattern present slot)
-  part_in_present slot whole = joined 0 own (length present) (tuple_places slot tuples) last (part_between 0 own slot tuples (tiles_present pattern present whole)) last_between
+  part_in_present slot whole = between-append 0 own (length present) (tuple_places slot tuples) last (part_between 0 own slot tuples (tiles_present pattern present whole)) last_between
 
   -- the slots of the keys
   abbrev slots : List ℕ
@@ -323,7 +323,7 @@ covers reads pattern present whole = record {
 -- what is read at the places of each tuple is its arguments
 abbrev AreRead : (ℕ → List ℕ) → List Tuple → Type 0
 AreRead at [] = Unit {0}
-AreRead at (t ∷ ts) = (map at (places_of t) ≡ words_of t) × AreRead at ts
+AreRead at (t ∷ ts) = (map at (places_of t) ≡ arguments_of t) × AreRead at ts
 
 module _ (at : ℕ → List ℕ) where
   -- from a place on, the arguments are read
@@ -367,11 +367,11 @@ module _ (at : ℕ → List ℕ) where
   read_tuples KeyWithTwoArgTriples low present h = read_triples low present h
 
   -- what is read at the places of a part's tuples is their arguments
-  read_part : (s : ℕ) (ts : List Tuple) → AreRead at ts → map at (tuple_places s ts) ≡ flat_map words_of (tuples_in_slot s ts)
+  read_part : (s : ℕ) (ts : List Tuple) → AreRead at ts → map at (tuple_places s ts) ≡ flat_map arguments_of (tuples_in_slot s ts)
   read_part s [] h = refl
   read_part s (t ∷ ts) h =
       by_test (nat_eq (slot_of t) s)
-      (λ here. rw here (map-append at (places_of t) (tuple_places s ts) ∙ ap (λ ws. ws ++ map at (tuple_places s ts)) h.0 ∙ ap (λ ws. words_of t ++ ws) (read_part s ts h.1)))
+      (λ here. rw here (map-append at (places_of t) (tuple_places s ts) ∙ ap (λ ws. ws ++ map at (tuple_places s ts)) h.0 ∙ ap (λ ws. arguments_of t ++ ws) (read_part s ts h.1)))
       (λ there. rw there (read_part s ts h.1))
 
 -- the arguments from a place to the end
@@ -388,15 +388,15 @@ module _ (pattern : MultiSlotArgPattern) (present : List (List ℕ)) where
       let under : k < own pattern present = omega (arith, length_own pattern present) in
       ap argument_at (zero-add k) ∙ sym (get_or-take (own pattern present) present k [] under)
 
-  tuples_read : (slot : ℕ) → map argument_at (tuple_places slot (tuples pattern present)) ≡ flat_map words_of (tuples_in_slot slot (tuples pattern present))
+  tuples_read : (slot : ℕ) → map argument_at (tuple_places slot (tuples pattern present)) ≡ flat_map arguments_of (tuples_in_slot slot (tuples pattern present))
   tuples_read slot = read_part argument_at slot (tuples pattern present) (read_tuples argument_at pattern 0 (take (own pattern present) present) own_read)
 
   last_read : map argument_at (last pattern present) ≡ shared_in pattern present
   last_read = read_range present (own pattern present) (length present - own pattern present) (omega (arith, own_small pattern (length present)))
 
 -- the arguments at the places of a part are the part's
-pub picked : (pattern : MultiSlotArgPattern) (present : List (List ℕ)) (slot : ℕ) → map (λ p. get_or present p []) (places_in_slot pattern present slot) ≡ words_in_slot pattern present slot
-picked pattern present slot =
+pub arguments_at_places : (pattern : MultiSlotArgPattern) (present : List (List ℕ)) (slot : ℕ) → map (λ p. get_or present p []) (places_in_slot pattern present slot) ≡ arguments_in_slot pattern present slot
+arguments_at_places pattern present slot =
     map-append (argument_at pattern present) (tuple_places slot (tuples pattern present)) (last pattern present)
     ∙ ap (λ ws. ws ++ map (argument_at pattern present) (last pattern present)) (tuples_read pattern present slot)
-    ∙ ap (λ ws. flat_map words_of (tuples_in_slot slot (tuples pattern present)) ++ ws) (last_read pattern present)
+    ∙ ap (λ ws. flat_map arguments_of (tuples_in_slot slot (tuples pattern present)) ++ ws) (last_read pattern present)

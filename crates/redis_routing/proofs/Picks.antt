@@ -8,10 +8,11 @@ use Rattle.cluster_slots.specs.SlotRoute.{SlotRoute}
 use Rattle.redis_commands.specs.Command.{Arguments, HasWords, argument, command_of}
 use Rattle.redis_routing.specs.Laws.{ArePartsPickedAfter}
 use Rattle.redis_commands.specs.NameTables.{NameTables}
-use Rattle.redis_routing.specs.Parts.{first_appearances, slot_of, places_in_slot, words_in_slot, part_of_slot_after}
+use Rattle.redis_routing.specs.Parts.{first_appearances, slot_of, places_in_slot, arguments_in_slot, part_of_slot_after}
 use Rattle.redis_routing.specs.Routing.{routes_of, route_of_slot}
+use Rattle.redis_commands.specs.Lists.{all_some}
 use Rattle.redis_commands.specs.PresentArguments.{present_arguments_after}
-use Rattle.redis_routing.specs.SubCommand.{all_texts, sub_command_after}
+use Rattle.redis_routing.specs.SubCommand.{sub_command_after}
 use Rattle.redis_commands.specs.Tuples.{fits, tuples_in}
 use Rattle.redis_routing.specs.Complete.{pattern_of, pattern_by_name_with, routes_by, routes_by_name, multi_slot_routes_with, AreSubCommandsWith}
 use Rattle.redis_commands.specs.Tuples.{is_complete}
@@ -22,7 +23,7 @@ use Rattle.redis_commands.specs.declared.route_by.MultiSlotArgPattern.TheVariant
 use Rattle.redis_commands.specs.declared.route_by.RouteBy.{RouteBy}
 use Rattle.redis_commands.specs.declared.route_by.RouteBy.TheVariants as route_by
 use Rattle.std.proofs.lemmas.Bool.Decides.{nat_tests}
-use Rattle.redis_routing.proofs.Cover.{Between, bounds, part_in_present, picked}
+use Rattle.redis_routing.proofs.Cover.{Between, bounds, part_in_present, arguments_at_places}
 use Rattle.redis_routing.proofs.SubCommands.{before, name_before}
 use Rattle.redis_routing.proofs.TupleSteps.{present_item}
 
@@ -33,7 +34,7 @@ has_first (None ∷ rest) name named = cc named
 has_first (Some first ∷ rest) name named = record { texts = first ∷ []; all = refl; taken = refl }
 
 -- arguments that are texts, read by their places
-read_from : (args : Arguments) (low : ℕ) (behind : Arguments) → drop low args ≡ behind → (texts : List (List ℕ)) → map Some texts ≡ take (length texts) behind → Some texts ≡ all_texts (map (λ place. argument args place) (range_with_len low (length texts)))
+read_from : (args : Arguments) (low : ℕ) (behind : Arguments) → drop low args ≡ behind → (texts : List (List ℕ)) → map Some texts ≡ take (length texts) behind → Some texts ≡ all_some (map (λ place. argument args place) (range_with_len low (length texts)))
 read_from args low behind is [] taken = refl
 read_from args low [] is (text ∷ texts) taken = absurd (cc taken)
 read_from args low (arg ∷ behind) is (text ∷ texts) taken =
@@ -42,20 +43,20 @@ read_from args low (arg ∷ behind) is (text ∷ texts) taken =
     let rest : drop (low + 1) args ≡ behind = sym (drop-drop 1 low args) ∙ ap (drop 1) is in
     let others : map Some texts ≡ take (length texts) behind = cc taken in
     ap (option_map (λ ts. text ∷ ts)) (read_from args (low + 1) behind rest texts others)
-    ∙ ap (λ a. all_texts (a ∷ map (λ place. argument args place) (range_with_len (low + 1) (length texts)))) (first ∙ sym here)
+    ∙ ap (λ a. all_some (a ∷ map (λ place. argument args place) (range_with_len (low + 1) (length texts)))) (first ∙ sym here)
 
-name_read : (words : ℕ) (args : Arguments) (name : HasWords words args) → Some name.texts ≡ all_texts (map (λ place. argument args place) (range_with_len 0 words))
+name_read : (words : ℕ) (args : Arguments) (name : HasWords words args) → Some name.texts ≡ all_some (map (λ place. argument args place) (range_with_len 0 words))
 name_read words args name =
-    read_from args 0 args refl name.texts (name.taken ∙ ap (λ n. take n args) (sym name.all)) ∙ ap (λ n. all_texts (map (λ place. argument args place) (range_with_len 0 n))) name.all
+    read_from args 0 args refl name.texts (name.taken ∙ ap (λ n. take n args) (sym name.all)) ∙ ap (λ n. all_some (map (λ place. argument args place) (range_with_len 0 n))) name.all
 
 -- the present arguments at some places
 texts_at : (words : ℕ) (args : Arguments) (low : ℕ) (places : List ℕ) → Between low (length (present_arguments_after words args)) places
-    → all_texts (map (λ place. argument args (place + words)) places) ≡ Some (map (λ place. get_or (present_arguments_after words args) place []) places)
+    → all_some (map (λ place. argument args (place + words)) places) ≡ Some (map (λ place. get_or (present_arguments_after words args) place []) places)
 texts_at words args low [] h = refl
 texts_at words args low (p ∷ places) h =
     let present = present_arguments_after words args in
     let inside : p < length present = omega (arith, bounds (p + 1) (length present) places h.1) in
-    ap (λ a. all_texts (a ∷ map (λ place. argument args (place + words)) places)) (present_item words args p inside)
+    ap (λ a. all_some (a ∷ map (λ place. argument args (place + words)) places)) (present_item words args p inside)
     ∙ ap (option_map (λ texts. get_or present p [] ∷ texts)) (texts_at words args (p + 1) places h.1)
 
 part_picked : (words : ℕ) (args : Arguments) (pattern : MultiSlotArgPattern) (slot : ℕ) → HasWords words args → fits pattern (length (present_arguments_after words args)) ≡ true
@@ -63,10 +64,10 @@ part_picked : (words : ℕ) (args : Arguments) (pattern : MultiSlotArgPattern) (
 part_picked words args pattern slot name whole =
     let present = present_arguments_after words args in
     let behind = map (λ place. argument args (place + words)) (places_in_slot pattern present slot) in
-    let texts : all_texts behind ≡ Some (words_in_slot pattern present slot) = texts_at words args 0 (places_in_slot pattern present slot) (part_in_present pattern present slot whole) ∙ ap Some (picked pattern present slot) in
-    let made : sub_command_after words args (places_in_slot pattern present slot) ≡ Some (name.texts ++ words_in_slot pattern present slot) =
+    let texts : all_some behind ≡ Some (arguments_in_slot pattern present slot) = texts_at words args 0 (places_in_slot pattern present slot) (part_in_present pattern present slot whole) ∙ ap Some (arguments_at_places pattern present slot) in
+    let made : sub_command_after words args (places_in_slot pattern present slot) ≡ Some (name.texts ++ arguments_in_slot pattern present slot) =
     sym (name_before (map (λ place. argument args place) (range_with_len 0 words)) behind name.texts (name_read words args name)) ∙ ap (before name.texts) texts in
-    ap (option_map (map Some)) made ∙ ap Some (map-append Some name.texts (words_in_slot pattern present slot) ∙ ap (λ words. words ++ map Some (words_in_slot pattern present slot)) name.taken)
+    ap (option_map (map Some)) made ∙ ap Some (map-append Some name.texts (arguments_in_slot pattern present slot) ∙ ap (λ words. words ++ map Some (arguments_in_slot pattern present slot)) name.taken)
 
 -- the parts of all routes
 pub parts_picked : (words : ℕ) (args : Arguments) (reads : Bool) (pattern : MultiSlotArgPattern) → HasWords words args → fits pattern (length (present_arguments_after words args)) ≡ true → ArePartsPickedAfter words args pattern (routes_of reads pattern (present_arguments_after words args))
@@ -113,19 +114,19 @@ complete_sub_commands words tables only_reads args routes has = by_name (command
     by_name (Some name) named split = by_route_by name named (tables.route_by name) refl split
 
 -- a sub-command that is a part, as texts
-is_made : (made : Option (List (List ℕ))) (part : Arguments) → option_map (map Some) made ≡ Some part → (words : List (List ℕ)) × (made ≡ Some words) × (map Some words ≡ part)
-is_made None part is = absurd (cc is)
-is_made (Some words) part is = (words, refl, cc is)
+sub_command_texts : (made : Option (List (List ℕ))) (part : Arguments) → option_map (map Some) made ≡ Some part → (words : List (List ℕ)) × (made ≡ Some words) × (map Some words ≡ part)
+sub_command_texts None part is = absurd (cc is)
+sub_command_texts (Some words) part is = (words, refl, cc is)
 
 -- the sub-command by the places of a route of a split is the part of its number
-pub part_made : (split : Split) → IsSplit split → (routes : List (SlotRoute × Vec ℕ Global)) (number : ℕ) (route : SlotRoute × Vec ℕ Global) → route_lists routes ≡ split.routes → number < length split.routes → route ≡ get_or routes number route
+pub route_sub_command : (split : Split) → IsSplit split → (routes : List (SlotRoute × Vec ℕ Global)) (number : ℕ) (route : SlotRoute × Vec ℕ Global) → route_lists routes ≡ split.routes → number < length split.routes → route ≡ get_or routes number route
     → (words : List (List ℕ)) × (sub_command_after split.words split.arguments route.1.items ≡ Some words) × (Some (map Some words) ≡ route_part split number)
-part_made split whole routes number route routes-are long is =
+route_sub_command split whole routes number route routes-are long is =
     let inside : number < length routes = omega (arith, long, ap length routes-are, length-map routes route_list) in
     let each : ArePartsPickedAfter split.words split.arguments split.pattern split.routes =
     subst (ArePartsPickedAfter split.words split.arguments split.pattern) (sym whole.routes) (parts_picked split.words split.arguments whole.only_reads split.pattern whole.name (complete_fits split.pattern (length (present_arguments_after split.words split.arguments)) whole.complete)) in
     let there : slice_get split.routes number ≡ Some (route_list route) =
     ap (λ rs. slice_get rs number) (sym routes-are) ∙ slice_get-map route_list routes number ∙ ap (option_map route_list) (slice_get-get_or routes number route inside ∙ ap Some (sym is)) in
     let here : get_or split.routes number (route_list route) ≡ route_list route = get_or_from_slice_get split.routes number (route_list route) (route_list route) there in
-    let part = is_made (sub_command_after split.words split.arguments route.1.items) (split_part split route.0.slot) (subst (λ r. option_map (map Some) (sub_command_after split.words split.arguments r.1) ≡ Some (split_part split r.0.slot)) here (each number (route_list route) long)) in
+    let part = sub_command_texts (sub_command_after split.words split.arguments route.1.items) (split_part split route.0.slot) (subst (λ r. option_map (map Some) (sub_command_after split.words split.arguments r.1) ≡ Some (split_part split r.0.slot)) here (each number (route_list route) long)) in
     (part.0, part.1, ap Some part.2 ∙ sym (ap (option_map (λ r. split_part split r.0.slot)) there))

@@ -14,8 +14,8 @@ use Rattle.redis_commands.specs.TwoWords.{takes_second}
 use Rattle.redis_commands.specs.Command.{Arguments, argument, command_of, in_upper_case, name_by, with_second}
 use Rattle.redis_commands.specs.RouteBy.{base_routings, base_routing}
 use Rattle.redis_commands.specs.PresentArguments.{arguments_before_gap, present_arguments_after}
-use Rattle.redis_commands.specs.Tuples.{Tuple, fits, keys_alone, keys_and_two, keys_and_values, own_count, shared_in, tuples_from, tuples_in, width_of, words_of}
-use Rattle.redis_routing.specs.Parts.{first_appearances, tuples_in_slot, part_of_slot_after, words_in_slot, slot_of}
+use Rattle.redis_commands.specs.Tuples.{Tuple, fits, keys_alone, keys_and_two, keys_and_values, own_count, shared_in, tuples_from, tuples_in, width_of, arguments_of}
+use Rattle.redis_routing.specs.Parts.{first_appearances, tuples_in_slot, part_of_slot_after, arguments_in_slot, slot_of}
 use Rattle.redis_routing.specs.Routing.{routing_by_with, nodes_for, route_of_slot, routes_of, routing_with, routing_by_name_with, routing_of_routes, to_slots}
 use Rattle.redis_routing.specs.RoutingInfo.{single_node, specific_node}
 use Rattle.redis_routing.specs.Laws.{ArePartsRoutedWith}
@@ -96,22 +96,22 @@ some_tuple slot (t ∷ ts) h = omega arith
 
 -- tuples of one width: their arguments, one after another, make tuples of the same slots again; and there are no more of them than the bound
 record IsWhole (make : ℕ → List (List ℕ) → List Tuple) (width bound : ℕ) (ts : List Tuple) : Type 0 where
-  slots : (place : ℕ) → map slot_of (make place (flat_map words_of ts)) ≡ map slot_of ts
-  size : length (flat_map words_of ts) ≡ length ts * width
+  slots : (place : ℕ) → map slot_of (make place (flat_map arguments_of ts)) ≡ map slot_of ts
+  size : length (flat_map arguments_of ts) ≡ length ts * width
   few : length ts ≤ bound
 
 wider : (make : ℕ → List (List ℕ) → List Tuple) (width bound other : ℕ) (ts : List Tuple) → bound ≤ other → IsWhole make width bound ts → IsWhole make width other ts
 wider make width bound other ts within whole = record { slots = whole.slots; size = whole.size; few = omega (arith, whole.few) }
 
 -- a part keeps a tuple or drops it
-kept_or_not : (P : List Tuple → Type 0) (slot : ℕ) (t : Tuple) (ts : List Tuple) → P (tuples_in_slot slot ts) → P (t ∷ tuples_in_slot slot ts) → P (tuples_in_slot slot (t ∷ ts))
-kept_or_not P slot t ts dropped kept = by_test (nat_eq (slot_of t) slot) (λ here. rw here kept) (λ other. rw other dropped)
+with_or_without : (P : List Tuple → Type 0) (slot : ℕ) (t : Tuple) (ts : List Tuple) → P (tuples_in_slot slot ts) → P (t ∷ tuples_in_slot slot ts) → P (tuples_in_slot slot (t ∷ ts))
+with_or_without P slot t ts dropped kept = by_test (nat_eq (slot_of t) slot) (λ here. rw here kept) (λ other. rw other dropped)
 
 whole_alone : (slot place : ℕ) (present : List (List ℕ)) → IsWhole keys_alone 1 (length present) (tuples_in_slot slot (keys_alone place present))
 whole_alone slot place [] = record { slots = λ p. refl; size = refl; few = omega arith }
 whole_alone slot place (key ∷ present) =
     let rest = whole_alone slot (place + 1) present in
-    kept_or_not (IsWhole keys_alone 1 (suc (length present))) slot (record { place = place; key = key; extras = [] }) (keys_alone (place + 1) present)
+    with_or_without (IsWhole keys_alone 1 (suc (length present))) slot (record { place = place; key = key; extras = [] }) (keys_alone (place + 1) present)
     (wider keys_alone 1 (length present) (suc (length present)) _ (omega arith) rest)
     (record { slots = λ p. ap (λ ns. key_slot key ∷ ns) (rest.slots (p + 1)); size = omega (arith, rest.size); few = omega (arith, rest.few) })
 
@@ -120,7 +120,7 @@ whole_values slot place [] = record { slots = λ p. refl; size = refl; few = ome
 whole_values slot place (key ∷ []) = record { slots = λ p. refl; size = refl; few = omega arith }
 whole_values slot place (key ∷ value ∷ present) =
     let rest = whole_values slot (place + 2) present in
-    kept_or_not (IsWhole keys_and_values 2 (suc (suc (length present)))) slot (record { place = place; key = key; extras = value ∷ [] }) (keys_and_values (place + 2) present)
+    with_or_without (IsWhole keys_and_values 2 (suc (suc (length present)))) slot (record { place = place; key = key; extras = value ∷ [] }) (keys_and_values (place + 2) present)
     (wider keys_and_values 2 (length present) (suc (suc (length present))) _ (omega arith) rest)
     (record { slots = λ p. ap (λ ns. key_slot key ∷ ns) (rest.slots (p + 2)); size = omega (arith, rest.size); few = omega (arith, rest.few) })
 
@@ -130,7 +130,7 @@ whole_two slot place (key ∷ []) = record { slots = λ p. refl; size = refl; fe
 whole_two slot place (key ∷ a ∷ []) = record { slots = λ p. refl; size = refl; few = omega arith }
 whole_two slot place (key ∷ a ∷ b ∷ present) =
     let rest = whole_two slot (place + 3) present in
-    kept_or_not (IsWhole keys_and_two 3 (suc (suc (suc (length present))))) slot (record { place = place; key = key; extras = a ∷ b ∷ [] }) (keys_and_two (place + 3) present)
+    with_or_without (IsWhole keys_and_two 3 (suc (suc (suc (length present))))) slot (record { place = place; key = key; extras = a ∷ b ∷ [] }) (keys_and_two (place + 3) present)
     (wider keys_and_two 3 (length present) (suc (suc (suc (length present)))) _ (omega arith) rest)
     (record { slots = λ p. ap (λ ns. key_slot key ∷ ns) (rest.slots (p + 3)); size = omega (arith, rest.size); few = omega (arith, rest.few) })
 
@@ -158,37 +158,37 @@ fits_again KeysAndLastArg m n some = lt-ltb 0 (n * 1 + (m - own_count KeysAndLas
 fits_again KeyWithTwoArgTriples m n some = whole_fits (n * 3 + (m - m)) n 3 (omega arith) (omega arith)
 
 module _ (pattern : MultiSlotArgPattern) (present : List (List ℕ)) (slot : ℕ) (there : list_any (λ t. nat_eq (slot_of t) slot) (tuples_in pattern present) ≡ true) where
-  abbrev kept : List Tuple
-  kept = tuples_in_slot slot (tuples_in pattern present)
+  abbrev slot_tuples : List Tuple
+  slot_tuples = tuples_in_slot slot (tuples_in pattern present)
 
-  abbrev words : List (List ℕ)
-  words = words_in_slot pattern present slot
+  abbrev part_arguments : List (List ℕ)
+  part_arguments = arguments_in_slot pattern present slot
 
-  one_slot : first_appearances (map slot_of kept) ≡ slot ∷ []
+  one_slot : first_appearances (map slot_of slot_tuples) ≡ slot ∷ []
   one_slot = first_appearances-part slot (tuples_in pattern present) ∙ ap (λ b. cond b (slot ∷ []) []) there
 
-  made : IsWhole (tuples_from pattern) (width_of pattern) (length (take (own_count pattern (length present)) present)) kept
-  made = whole pattern slot 0 (take (own_count pattern (length present)) present)
+  whole_part : IsWhole (tuples_from pattern) (width_of pattern) (length (take (own_count pattern (length present)) present)) slot_tuples
+  whole_part = whole pattern slot 0 (take (own_count pattern (length present)) present)
 
-  length-words : length words ≡ length kept * width_of pattern + (length present - own_count pattern (length present))
-  length-words = length-append (flat_map words_of kept) (shared_in pattern present) ∙ ap (λ n. n + length (shared_in pattern present)) made.size ∙ ap (λ n. length kept * width_of pattern + n) (length-drop (own_count pattern (length present)) present)
+  length-part_arguments : length part_arguments ≡ length slot_tuples * width_of pattern + (length present - own_count pattern (length present))
+  length-part_arguments = length-append (flat_map arguments_of slot_tuples) (shared_in pattern present) ∙ ap (λ n. n + length (shared_in pattern present)) whole_part.size ∙ ap (λ n. length slot_tuples * width_of pattern + n) (length-drop (own_count pattern (length present)) present)
 
-  own-words : own_count pattern (length words) ≡ length (flat_map words_of kept)
-  own-words =
-      ap (own_count pattern) length-words
-      ∙ own_again pattern (length present) (length kept) (some_tuple slot kept one_slot) (omega (arith, made.few, length-take (own_count pattern (length present)) present))
-      ∙ sym made.size
+  own-part_arguments : own_count pattern (length part_arguments) ≡ length (flat_map arguments_of slot_tuples)
+  own-part_arguments =
+      ap (own_count pattern) length-part_arguments
+      ∙ own_again pattern (length present) (length slot_tuples) (some_tuple slot slot_tuples one_slot) (omega (arith, whole_part.few, length-take (own_count pattern (length present)) present))
+      ∙ sym whole_part.size
 
   -- all tuples of the part by itself have the slot
-  one_slot_again : first_appearances (map slot_of (tuples_in pattern words)) ≡ slot ∷ []
+  one_slot_again : first_appearances (map slot_of (tuples_in pattern part_arguments)) ≡ slot ∷ []
   one_slot_again =
-      ap (λ own. first_appearances (map slot_of (tuples_from pattern 0 own))) (take_at (flat_map words_of kept) (shared_in pattern present) (own_count pattern (length words)) (sym own-words))
-      ∙ ap first_appearances (made.slots 0) ∙ one_slot
+      ap (λ own. first_appearances (map slot_of (tuples_from pattern 0 own))) (take_at (flat_map arguments_of slot_tuples) (shared_in pattern present) (own_count pattern (length part_arguments)) (sym own-part_arguments))
+      ∙ ap first_appearances (whole_part.slots 0) ∙ one_slot
 
-  part_to_slot : (reads : Bool) (policy : Option ResponsePolicy) → to_slots reads policy pattern words ≡ Some (single_node (specific_node (record { slot = slot; addr = nodes_for reads })))
+  part_to_slot : (reads : Bool) (policy : Option ResponsePolicy) → to_slots reads policy pattern part_arguments ≡ Some (single_node (specific_node (record { slot = slot; addr = nodes_for reads })))
   part_to_slot reads policy =
-      ap (λ b. cond b (Some (routing_of_routes pattern policy (routes_of reads pattern words))) None) (ap (fits pattern) length-words ∙ fits_again pattern (length present) (length kept) (some_tuple slot kept one_slot))
-      ∙ ap (λ slots. Some (routing_of_routes pattern policy (map (route_of_slot reads pattern words) slots))) one_slot_again
+      ap (λ b. cond b (Some (routing_of_routes pattern policy (routes_of reads pattern part_arguments))) None) (ap (fits pattern) length-part_arguments ∙ fits_again pattern (length present) (length slot_tuples) (some_tuple slot slot_tuples one_slot))
+      ∙ ap (λ slots. Some (routing_of_routes pattern policy (map (route_of_slot reads pattern part_arguments) slots))) one_slot_again
 
 -- each tuple is one of those with its slot
 all_there : (ts : List Tuple) → All (λ t. list_any (λ u. nat_eq (slot_of u) (slot_of t)) ts ≡ true) ts
@@ -227,7 +227,7 @@ module _ (words : ℕ) (tables : NameTables) (only_reads : List ℕ → Bool) (a
   part_routed : (slot : ℕ) → list_any (λ t. nat_eq (slot_of t) slot) (tuples_in pattern present) ≡ true
       → routing_with words tables only_reads (part_of_slot_after words pattern args slot) ≡ Some (single_node (specific_node (record { slot = slot; addr = nodes_for (only_reads name) })))
   part_routed slot there =
-      let texts : List (List ℕ) = words_in_slot pattern present slot in
+      let texts : List (List ℕ) = arguments_in_slot pattern present slot in
       let as_command : Arguments = part_of_slot_after words pattern args slot in
       ap (routing_by_name_with words tables only_reads as_command) (named (map Some texts))
       ∙ ap (routing_by_with words tables (only_reads name) name as_command) route_by_is

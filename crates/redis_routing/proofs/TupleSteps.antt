@@ -106,8 +106,8 @@ own_length : (pattern : MultiSlotArgPattern) (present : List (List ℕ)) → len
 own_length pattern present = length-take-le (own_count pattern (length present)) present (own_few pattern (length present))
 
 -- past the last tuple none is left
-pub all_taken : (pattern : MultiSlotArgPattern) (present : List (List ℕ)) (n : ℕ) → own_count pattern (length present) / width_of pattern ≤ n → take n (tuples_in pattern present) ≡ tuples_in pattern present
-all_taken pattern present n h =
+pub tuples_end : (pattern : MultiSlotArgPattern) (present : List (List ℕ)) (n : ℕ) → own_count pattern (length present) / width_of pattern ≤ n → take n (tuples_in pattern present) ≡ tuples_in pattern present
+tuples_end pattern present n h =
     let few : length (tuples_in pattern present) ≤ length (take (own_count pattern (length present)) present) / width_of pattern = tuples_few pattern 0 (take (own_count pattern (length present)) present) in
     let same : length (take (own_count pattern (length present)) present) / width_of pattern ≡ own_count pattern (length present) / width_of pattern = ap (λ k. k / width_of pattern) (own_length pattern present) in
     take_all n (tuples_in pattern present) (omega (arith, few, same, h))

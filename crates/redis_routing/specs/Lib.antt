@@ -1,4 +1,5 @@
 pub use Rattle.redis_commands.specs.Command
+pub use Rattle.redis_commands.specs.Lists
 pub use Rattle.redis_commands.specs.Policies
 pub use Rattle.redis_commands.specs.ReadOnly
 pub use Rattle.redis_commands.specs.PresentArguments

@@ -3,7 +3,8 @@ ghost use Rattle.std.specs.List.{range_with_len};
 ghost use Rattle.resp_core.specs.ErrorParts.{out_of_memory};
 ghost use Rattle.resp_core.specs.declared.error.ErrorKind.TheVariants.{Client};
 ghost use Rattle.redis_commands.specs.Command.{argument};
-ghost use Rattle.redis_routing.specs.SubCommand.{all_texts, sub_command, sub_command_after};
+ghost use Rattle.redis_commands.specs.Lists.{all_some};
+ghost use Rattle.redis_routing.specs.SubCommand.{sub_command, sub_command_after};
 
 use super::splitting::NAME_WORDS;
 use redis_commands::Routable;
@@ -61,7 +62,7 @@ fn name_of<R: Routable>(
     words: usize,
     room: usize,
 ) -> Result<Option<Cmd>, AllocError>
-    ensures { IfOk result (λ cmd. cmd ≡ all_texts (map (λ place. argument (R.args original.now) place) (range_with_len 0 words))) }
+    ensures { IfOk result (λ cmd. cmd ≡ all_some (map (λ place. argument (R.args original.now) place) (range_with_len 0 words))) }
 {
     let mut command = Cmd::with_capacity(alloc, room)?;
     for place in 0..words {

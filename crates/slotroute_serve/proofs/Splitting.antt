@@ -32,9 +32,9 @@ none_is (Some address) true here e h = cc
 none_is (Some address) false here e h = h
 
 -- The part of the route of a number is that of the route's slot.
-pub words_in_slot : (split : Split) (routes : List (SlotRoute × Vec ℕ Global)) (i : ℕ) (route : SlotRoute × Vec ℕ Global) (words : List (List ℕ)) → route_lists routes ≡ split.routes → i < length routes → route ≡ get_or routes i route
+pub words_of_part : (split : Split) (routes : List (SlotRoute × Vec ℕ Global)) (i : ℕ) (route : SlotRoute × Vec ℕ Global) (words : List (List ℕ)) → route_lists routes ≡ split.routes → i < length routes → route ≡ get_or routes i route
     → Some (map Some words) ≡ route_part split i → map Some words ≡ split_part split route.0.slot
-words_in_slot split routes i route words routes-are inside is part =
+words_of_part split routes i route words routes-are inside is part =
     let there : slice_get split.routes i ≡ Some (route_list route) =
     ap (λ rs. slice_get rs i) (sym routes-are) ∙ slice_get-map route_list routes i ∙ ap (option_map route_list) (slice_get-get_or routes i route inside ∙ ap Some (sym is)) in
     let whole : Some (map Some words) ≡ Some (split_part split route.0.slot) = part ∙ ap (option_map (λ r. split_part split r.0.slot)) there in

@@ -1,6 +1,6 @@
 use Rattle.std.proofs.Common.{◌≡◌, map, option_map}
 use Rattle.resp_core.specs.View.{view}
-use Rattle.redis_combiners.specs.Lists.{all_some}
+use Rattle.redis_commands.specs.Lists.{all_some}
 use Rattle.resp_core.proofs.SoFar.{before}
 use Rattle.redis_combiners.proofs.arrange.all_values.Given as goal
 

@@ -5,7 +5,7 @@ use Rattle.resp_core.specs.declared.value.Value.{Value}
 use Rattle.std.proofs.lemmas.List.{length-set, drop-map, get_or_read}
 use Rattle.resp_core.specs.View.{view}
 use Rattle.redis_combiners.specs.ByPlaces.{items_at, by_places}
-use Rattle.redis_combiners.specs.Lists.{all_some}
+use Rattle.redis_commands.specs.Lists.{all_some}
 use Rattle.redis_combiners.proofs.Filled.{Popped, popped, collided, place_twice, held_more, all_held, shown, none_shown, within_more, slots_len}
 use Rattle.redis_combiners.proofs.arrange.arrange.Goals as goal
 

@@ -2,7 +2,7 @@ use Rattle.std.proofs.Common.{◌≡◌, List, map, option_map, Some, None, ap, 
 use Rattle.resp_core.specs.Reply.{Reply, pairs, pairs_of}
 use Rattle.resp_core.specs.View.{view, view_pair}
 use Rattle.resp_core.specs.declared.value.Value.{Map, the_lemmas}
-use Rattle.redis_combiners.specs.Lists.{all_some}
+use Rattle.redis_commands.specs.Lists.{all_some}
 use Rattle.redis_combiners.specs.Entries.{plain_pairs}
 use Rattle.redis_combiners.specs.Totals.{entry_of, combined_map}
 use Rattle.redis_combiners.proofs.KeyNumbers.{few_pairs}

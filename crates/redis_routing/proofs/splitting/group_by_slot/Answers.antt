@@ -7,7 +7,7 @@ use Rattle.redis_routing.specs.Parts.{first_appearances, slot_of, tuples_in_slot
 use Rattle.redis_commands.specs.PresentArguments.{present_arguments_after}
 use Rattle.redis_commands.specs.Tuples.{tuples_in, places_of, width_of, own_count}
 use Rattle.redis_routing.proofs.Slots.{order_more, found_more, places_more}
-use Rattle.redis_routing.proofs.TupleSteps.{next_tuple, all_taken}
+use Rattle.redis_routing.proofs.TupleSteps.{next_tuple, tuples_end}
 use Rattle.redis_routing.proofs.splitting.group_by_slot.Goals as goal
 
 pub unreachable-requires : goal.unreachable-requires
@@ -54,7 +54,7 @@ returns-clause-order g c =
     let count : c.args.own / c.width-width.result ≡ own_count c.args.pattern (length (present_arguments_after c.args.words args)) / width_of c.args.pattern =
     ap (λ o. o / c.width-width.result) c.requires.own ∙ ap (λ w. own_count c.args.pattern (length (present_arguments_after c.args.words args)) / w) c.width-width.ensures in
     c.loop-number.invariant.order
-    ∙ ap (λ ts. first_appearances (map slot_of ts)) (all_taken c.args.pattern (present_arguments_after c.args.words args) c.loop-number.number (subst (λ n. n ≤ c.loop-number.number) count c.loop-number-test.false))
+    ∙ ap (λ ts. first_appearances (map slot_of ts)) (tuples_end c.args.pattern (present_arguments_after c.args.words args) c.loop-number.number (subst (λ n. n ≤ c.loop-number.number) count c.loop-number-test.false))
 
 pub returns-clause-places : goal.returns-clause-places
 returns-clause-places g c = λ s.
@@ -62,4 +62,4 @@ returns-clause-places g c = λ s.
     let count : c.args.own / c.width-width.result ≡ own_count c.args.pattern (length (present_arguments_after c.args.words args)) / width_of c.args.pattern =
     ap (λ o. o / c.width-width.result) c.requires.own ∙ ap (λ w. own_count c.args.pattern (length (present_arguments_after c.args.words args)) / w) c.width-width.ensures in
     c.loop-number.invariant.places s
-    ∙ ap (λ ts. flat_map places_of (tuples_in_slot s ts)) (all_taken c.args.pattern (present_arguments_after c.args.words args) c.loop-number.number (subst (λ n. n ≤ c.loop-number.number) count c.loop-number-test.false))
+    ∙ ap (λ ts. flat_map places_of (tuples_in_slot s ts)) (tuples_end c.args.pattern (present_arguments_after c.args.words args) c.loop-number.number (subst (λ n. n ≤ c.loop-number.number) count c.loop-number-test.false))
