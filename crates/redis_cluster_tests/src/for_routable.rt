@@ -1,5 +1,5 @@
 use crate::given;
-use crate::given::{read_only_names, to_any, to_route, words_of};
+use crate::given::{read_only_names, to_any, to_specific_node, words_of};
 use cluster_map::{Route, SlotAddr};
 use redis_cluster::routing::{
     AggregateOp, MultipleNodeRoutingInfo, ReadOnlyNames, ResponsePolicy, RoutingInfo,
@@ -36,7 +36,7 @@ fn keys_by_their_places(rt: HostRuntime) -> Result<(), Fail> {
     ];
     for (text, slot, nodes) in table {
         let words = words_of(rt.alloc(), text)?;
-        let want = Some(to_route(Route::new(slot, nodes)));
+        let want = Some(to_specific_node(Route::new(slot, nodes)));
         assert!(rt; goes(rt.alloc(), &words, want)?, "{text}");
     }
     Ok(())
@@ -47,7 +47,10 @@ fn any_node(rt: HostRuntime) -> Result<(), Fail> {
     for text in ["EVAL s +0", "GET", "COMMAND", "TFUNCTION LIST x", "SCRIPT"] {
         let words = words_of(rt.alloc(), text)?;
         let want = match text {
-            "TFUNCTION LIST x" => Some(to_route(Route::with_key(b"LIST", SlotAddr::Master))),
+            "TFUNCTION LIST x" => Some(to_specific_node(Route::with_key(
+                b"LIST",
+                SlotAddr::Master,
+            ))),
             _ => Some(to_any()),
         };
         assert!(rt; goes(rt.alloc(), &words, want)?, "{text}");
@@ -118,7 +121,7 @@ fn keys_of_any_bytes(rt: HostRuntime) -> Result<(), Fail> {
     ];
     for (key, slot) in table {
         let words: [&[u8]; 6] = [b"SET", &key, b"true", b"NX", b"PX", b"1800000"];
-        let want = Some(to_route(Route::new(slot, SlotAddr::Master)));
+        let want = Some(to_specific_node(Route::new(slot, SlotAddr::Master)));
         assert!(rt; goes(rt.alloc(), &words, want)?, "slot {slot}");
     }
     Ok(())

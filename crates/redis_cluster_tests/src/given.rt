@@ -42,7 +42,7 @@ pub fn read_only_names(alloc: Global, names: &[&[u8]]) -> Result<ReadOnlyNames, 
     Ok(set)
 }
 
-pub fn to_route(route: Route) -> RoutingInfo {
+pub fn to_specific_node(route: Route) -> RoutingInfo {
     RoutingInfo::SingleNode(SingleNodeRoutingInfo::SpecificNode(route))
 }
 

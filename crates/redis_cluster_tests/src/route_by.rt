@@ -1,7 +1,7 @@
 use redis_cluster::routing::MultiSlotArgPattern;
 use redis_commands::{RouteBy, base_routing};
 
-const WAY_NAMES: [(RouteBy, &str); 13] = [
+const ROUTED_NAMES: [(RouteBy, &str); 13] = [
     (
         RouteBy::AllNodes,
         "ACL SETUSER, ACL DELUSER, ACL SAVE, CLIENT SETNAME, CLIENT SETINFO, \
@@ -65,23 +65,27 @@ const WAY_NAMES: [(RouteBy, &str); 13] = [
          TFCALLASYNC, TFUNCTION DELETE, TFUNCTION LIST, TFUNCTION LOAD, TIME",
     ),
     (
-        RouteBy::SlotAtTwo,
+        RouteBy::SlotAt(2),
         "CLUSTER ADDSLOTS, CLUSTER COUNTKEYSINSLOT, CLUSTER DELSLOTS, \
          CLUSTER DELSLOTSRANGE, CLUSTER GETKEYSINSLOT, CLUSTER SETSLOT",
     ),
 ];
 
 #[test]
-fn each_name_has_its_way(rt: HostRuntime) {
-    for (way, names) in WAY_NAMES {
+fn each_name_is_routed_as_listed(rt: HostRuntime) {
+    for (route_by, names) in ROUTED_NAMES {
         for name in names.split(", ") {
-            assert_eq!(rt; base_routing(name.as_bytes()), Some(way), "way of {name}");
+            assert_eq!(rt;
+                base_routing(name.as_bytes()),
+                Some(route_by),
+                "routing of {name}"
+            );
         }
     }
 }
 
 #[test]
-fn other_names_have_that_of_most(rt: HostRuntime) {
+fn other_names_have_no_row(rt: HostRuntime) {
     for name in [
         "",
         "mget",
@@ -91,6 +95,6 @@ fn other_names_have_that_of_most(rt: HostRuntime) {
         "TFUNCTION",
         "OBJECT HELP",
     ] {
-        assert_eq!(rt; base_routing(name.as_bytes()), None, "way of {name}");
+        assert_eq!(rt; base_routing(name.as_bytes()), None, "routing of {name}");
     }
 }

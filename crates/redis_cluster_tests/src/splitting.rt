@@ -1,5 +1,5 @@
 use crate::given;
-use crate::given::{cmd_of, read_only_names, to_route, value_of, words_of};
+use crate::given::{cmd_of, read_only_names, to_specific_node, value_of, words_of};
 use cluster_map::{Route, SlotAddr};
 use redis_cluster::routing::{
     AggregateOp, MultiSlotArgPattern, MultipleNodeRoutingInfo, ReadOnlyNames, ResponsePolicy,
@@ -18,7 +18,7 @@ fn goes(alloc: Global, words: &[&[u8]], want: Option<RoutingInfo>) -> Result<boo
 }
 
 fn to_one(slot: u16, nodes: SlotAddr) -> RoutingInfo {
-    to_route(Route::new(slot, nodes))
+    to_specific_node(Route::new(slot, nodes))
 }
 
 fn routes_of(

@@ -10,24 +10,24 @@ use Rattle.redis_combiners.specs.AllItems.{all_items}
 use Rattle.redis_combiners.specs.AtPlaces.{item_at, place_at, AreAtPlaces}
 use Rattle.redis_combiners.specs.ByPlaces.{by_places}
 use Rattle.redis_combiners.specs.KeyPlaces.{places, all_places}
-use Rattle.redis_combiners.specs.Lists.{flatten}
+use Rattle.redis_commands.specs.Lists.{flatten}
 use Rattle.redis_combiners.specs.Misfits.{first_misfit}
 use Rattle.redis_combiners.specs.SortedArrays.{array_or_refusal, array_by_places, sorted_arrays}
 use Rattle.redis_commands.specs.declared.route_by.MultiSlotArgPattern.{MultiSlotArgPattern}
 use Rattle.resp_core.proofs.Cases.{by_test}
-use Rattle.redis_combiners.proofs.Lists.{Front, front}
+use Rattle.redis_combiners.proofs.Lists.{FirstAndOthers, first_and_others}
 use Rattle.redis_combiners.proofs.Misfits.{Fits, fits, items_length}
 use Rattle.redis_combiners.proofs.OwnPlaces.{at_own_place, own_place_within}
 
-left : {A : Type 0} (xs ys : List A) (j : ℕ) → j < length xs → slice_get (xs ++ ys) j ≡ slice_get xs j
-left [] ys j l = absurd (omega arith)
-left (x ∷ xs) ys zero l = refl
-left (x ∷ xs) ys (suc j) l = left xs ys j (omega arith)
+slice_get-append_first : {A : Type 0} (xs ys : List A) (j : ℕ) → j < length xs → slice_get (xs ++ ys) j ≡ slice_get xs j
+slice_get-append_first [] ys j l = absurd (omega arith)
+slice_get-append_first (x ∷ xs) ys zero l = refl
+slice_get-append_first (x ∷ xs) ys (suc j) l = slice_get-append_first xs ys j (omega arith)
 
-right : {A : Type 0} (xs ys : List A) (j n : ℕ) → n ≡ length xs + j → slice_get (xs ++ ys) n ≡ slice_get ys j
-right [] ys j n e = ap (slice_get ys) (omega (arith, e))
-right (x ∷ xs) ys j zero e = absurd (omega arith)
-right (x ∷ xs) ys j (suc n) e = right xs ys j n (omega (arith, e))
+slice_get-append_second : {A : Type 0} (xs ys : List A) (j n : ℕ) → n ≡ length xs + j → slice_get (xs ++ ys) n ≡ slice_get ys j
+slice_get-append_second [] ys j n e = ap (slice_get ys) (omega (arith, e))
+slice_get-append_second (x ∷ xs) ys j zero e = absurd (omega arith)
+slice_get-append_second (x ∷ xs) ys j (suc n) e = slice_get-append_second xs ys j n (omega (arith, e))
 
 -- where an item and its place stand among all
 record Stands (pss : List (List ℕ)) (xs : List Reply) (place : ℕ) (item : Option Reply) : Type 0 where
@@ -40,8 +40,8 @@ first_stands ps rest pss ys others xs j place item p x long there here =
     let within : j < length ps = slice_get_within ps j place there in
     record {
       at = j;
-      place_is = ap (λ qss. slice_get (flatten qss) j) p ∙ left ps (flatten rest) j within ∙ there;
-      item_is = ap (λ zs. slice_get zs j) x ∙ left ys others j (omega (arith, long)) ∙ here;
+      place_is = ap (λ qss. slice_get (flatten qss) j) p ∙ slice_get-append_first ps (flatten rest) j within ∙ there;
+      item_is = ap (λ zs. slice_get zs j) x ∙ slice_get-append_first ys others j (omega (arith, long)) ∙ here;
     }
 
 later_stands : (ps : List ℕ) (rest pss : List (List ℕ)) (ys others xs : List Reply) (place : ℕ) (item : Option Reply) → pss ≡ ps ∷ rest → xs ≡ ys ++ others → length ys ≡ length ps → Stands rest others place item → Stands pss xs place item
@@ -49,8 +49,8 @@ later_stands ps rest pss ys others xs place item p x long s =
     let at = length ps + s.at in
     record {
       at = at;
-      place_is = ap (λ qss. slice_get (flatten qss) at) p ∙ right ps (flatten rest) s.at at refl ∙ s.place_is;
-      item_is = ap (λ zs. slice_get zs at) x ∙ right ys others s.at at (omega (arith, long)) ∙ s.item_is;
+      place_is = ap (λ qss. slice_get (flatten qss) at) p ∙ slice_get-append_second ps (flatten rest) s.at at refl ∙ s.place_is;
+      item_is = ap (λ zs. slice_get zs at) x ∙ slice_get-append_second ys others s.at at (omega (arith, long)) ∙ s.item_is;
     }
 
 stands : (pattern : MultiSlotArgPattern) (rs : List Reply) (lists pss : List (List ℕ)) (xs : List Reply)
@@ -60,7 +60,7 @@ stands : (pattern : MultiSlotArgPattern) (rs : List Reply) (lists pss : List (Li
 stands pattern rs [] pss xs e f g i j r list place a b h = absurd (cc)
 stands pattern [] (list0 ∷ lists) pss xs e f g i j r list place a b h = absurd (cc)
 stands pattern (r0 ∷ rs) (list0 ∷ lists) pss xs e f g zero j r list place a b h =
-    let c : Front (places pattern list0) (map (places pattern) lists) pss = front (places pattern list0) (map (places pattern) lists) pss e in
+    let c : FirstAndOthers (places pattern list0) (map (places pattern) lists) pss = first_and_others (places pattern list0) (map (places pattern) lists) pss e in
     let t : Fits (array_of r0) rs (length c.first) (map length c.others) xs = fits (array_of r0) rs (length c.first) (map length c.others) xs (sym (ap (λ qss. first_misfit (r0 ∷ rs) (map length qss)) c.is) ∙ f) g in
     let same_list : list0 ≡ list = cc in
     let same_reply : r0 ≡ r = cc in
@@ -68,12 +68,12 @@ stands pattern (r0 ∷ rs) (list0 ∷ lists) pss xs e f g zero j r list place a 
     let here : slice_get t.first j ≡ item_at r j = sym (ap (option_and_then (λ ys. slice_get ys j)) t.there) ∙ ap (λ s. item_at s j) same_reply in
     first_stands c.first c.others pss t.first t.others xs j place (item_at r j) c.is t.is t.long there here
 stands pattern (r0 ∷ rs) (list0 ∷ lists) pss xs e f g (suc i) j r list place a b h =
-    let c : Front (places pattern list0) (map (places pattern) lists) pss = front (places pattern list0) (map (places pattern) lists) pss e in
+    let c : FirstAndOthers (places pattern list0) (map (places pattern) lists) pss = first_and_others (places pattern list0) (map (places pattern) lists) pss e in
     let t : Fits (array_of r0) rs (length c.first) (map length c.others) xs = fits (array_of r0) rs (length c.first) (map length c.others) xs (sym (ap (λ qss. first_misfit (r0 ∷ rs) (map length qss)) c.is) ∙ f) g in
     later_stands c.first c.others pss t.first t.others xs place (item_at r j) c.is t.is t.long (stands pattern rs lists c.others t.others c.others_are t.others_fit t.others_are i j r list place a b h)
 
 -- what the whole is made of
-record Made (o : Option (List (List ℕ))) (rs : List Reply) (whole : Reply) : Type 0 where
+record IsWhole (o : Option (List (List ℕ))) (rs : List Reply) (whole : Reply) : Type 0 where
   pss : List (List ℕ)
   xs : List Reply
   out : List Reply
@@ -87,24 +87,24 @@ record Made (o : Option (List (List ℕ))) (rs : List Reply) (whole : Reply) : T
 abbrev items_by_places : List (List ℕ) → List Reply → Option (List Reply)
 items_by_places pss rs = option_and_then (by_places (flatten pss)) (all_items rs)
 
-made : (o : Option (List (List ℕ))) (rs : List Reply) (whole : Reply) → array_by_places o rs ≡ Ok whole → Made o rs whole
-made None rs whole e = absurd (cc)
-made (Some pss) rs whole e = by_test (eqb (length rs) (length pss))
+is_whole : (o : Option (List (List ℕ))) (rs : List Reply) (whole : Reply) → array_by_places o rs ≡ Ok whole → IsWhole o rs whole
+is_whole None rs whole e = absurd (cc)
+is_whole (Some pss) rs whole e = by_test (eqb (length rs) (length pss))
     (λ t. fitted (first_misfit rs (map length pss)) refl (eqb-true (length rs) (length pss) t) (sym (ap (λ b. cond b (array_or_refusal (first_misfit rs (map length pss)) (items_by_places pss rs)) (Err Client)) t) ∙ e))
     (λ f. absurd (refused (sym (ap (λ b. cond b (array_or_refusal (first_misfit rs (map length pss)) (items_by_places pss rs)) (Err Client)) f) ∙ e)))
   where
     refused : Err Client ≡ Ok whole → ⊥
     refused h = cc
 
-    ended : (xs : List Reply) (a : Option (List Reply)) → all_items rs ≡ Some xs → by_places (flatten pss) xs ≡ a → length rs ≡ length pss → first_misfit rs (map length pss) ≡ None → array_or_refusal None a ≡ Ok whole → Made (Some pss) rs whole
+    ended : (xs : List Reply) (a : Option (List Reply)) → all_items rs ≡ Some xs → by_places (flatten pss) xs ≡ a → length rs ≡ length pss → first_misfit rs (map length pss) ≡ None → array_or_refusal None a ≡ Ok whole → IsWhole (Some pss) rs whole
     ended xs None g h n m e = absurd (cc)
     ended xs (Some out) g h n m e = record { pss = pss; xs = xs; out = out; found = refl; count = n; fit = m; items = g; sorted = h; is = cc }
 
-    gone : (a : Option (List Reply)) → all_items rs ≡ a → length rs ≡ length pss → first_misfit rs (map length pss) ≡ None → array_or_refusal None (option_and_then (by_places (flatten pss)) a) ≡ Ok whole → Made (Some pss) rs whole
+    gone : (a : Option (List Reply)) → all_items rs ≡ a → length rs ≡ length pss → first_misfit rs (map length pss) ≡ None → array_or_refusal None (option_and_then (by_places (flatten pss)) a) ≡ Ok whole → IsWhole (Some pss) rs whole
     gone None g n m h = absurd (cc)
     gone (Some xs) g n m h = ended xs (by_places (flatten pss) xs) g refl n m h
 
-    fitted : (k : Option ErrorKind) → first_misfit rs (map length pss) ≡ k → length rs ≡ length pss → array_or_refusal k (items_by_places pss rs) ≡ Ok whole → Made (Some pss) rs whole
+    fitted : (k : Option ErrorKind) → first_misfit rs (map length pss) ≡ k → length rs ≡ length pss → array_or_refusal k (items_by_places pss rs) ≡ Ok whole → IsWhole (Some pss) rs whole
     fitted (Some k) m n h = absurd (cc)
     fitted None m n h = gone (all_items rs) refl n m h
 
@@ -114,7 +114,7 @@ items_back (r ∷ rs) = ap (λ ts. r ∷ ts) (items_back rs)
 
 pub at_places : (pattern : MultiSlotArgPattern) (rs : List Reply) (lists : List (List ℕ)) (whole : Reply) → sorted_arrays pattern rs lists ≡ Ok whole → AreAtPlaces pattern rs lists whole
 at_places pattern rs lists whole e i j r list place a b h =
-    let m : Made (all_places pattern lists) rs whole = made (all_places pattern lists) rs whole e in
+    let m : IsWhole (all_places pattern lists) rs whole = is_whole (all_places pattern lists) rs whole e in
     let s : Stands m.pss m.xs place (item_at r j) = stands pattern rs lists m.pss m.xs m.found m.fit m.items i j r list place a b h in
     let long : length m.xs ≡ length (flatten m.pss) = items_length rs m.pss m.xs m.count m.fit m.items in
     let within : s.at < length (flatten m.pss) = slice_get_within (flatten m.pss) s.at place s.place_is in

@@ -8,32 +8,32 @@ use Rattle.resp_core.specs.declared.error.ErrorKind.TheVariants.{Client}
 use Rattle.redis_combiners.specs.AllItems.{all_items}
 use Rattle.redis_combiners.specs.ByPlaces.{by_places}
 use Rattle.redis_combiners.specs.KeyPlaces.{all_places}
-use Rattle.redis_combiners.specs.Lists.{flatten}
+use Rattle.redis_commands.specs.Lists.{flatten}
 use Rattle.redis_combiners.specs.Misfits.{first_misfit}
 use Rattle.redis_combiners.specs.SortedArrays.{array_or_refusal, array_by_places, sorted_arrays}
 use Rattle.redis_commands.specs.declared.route_by.MultiSlotArgPattern.{MultiSlotArgPattern}
 use Rattle.redis_combiners.proofs.Misfits.{items_length}
 
--- the lists of places that were found: all in one list, and how long each is
-pub record Found (o : Option (List (List ℕ))) (all counts : List ℕ) : Type 0 where
+-- the places of some lists: all in one list, and how many each has
+pub record PlacesOfLists (o : Option (List (List ℕ))) (all counts : List ℕ) : Type 0 where
   pub lists : List (List ℕ)
   pub is : o ≡ Some lists
   pub all_are : all ≡ flatten lists
   pub counts_are : counts ≡ map length lists
 
-pub found : (o : Option (List (List ℕ))) (all counts : List ℕ) → Some all ≡ option_map flatten o → Some counts ≡ option_map (map length) o → Found o all counts
-found None all counts e f = absurd (cc)
-found (Some pss) all counts e f = record { lists = pss; is = refl; all_are = cc; counts_are = cc }
+pub places_of_lists : (o : Option (List (List ℕ))) (all counts : List ℕ) → Some all ≡ option_map flatten o → Some counts ≡ option_map (map length) o → PlacesOfLists o all counts
+places_of_lists None all counts e f = absurd (cc)
+places_of_lists (Some pss) all counts e f = record { lists = pss; is = refl; all_are = cc; counts_are = cc }
 
--- the last step, where the parts of the reply are known
-pub record Known (pattern : MultiSlotArgPattern) (rs : List Reply) (lists : List (List ℕ)) (all : List ℕ) (xs : List Reply) : Type 0 where
+-- the last step, where the places and the items are there
+pub record LastStep (pattern : MultiSlotArgPattern) (rs : List Reply) (lists : List (List ℕ)) (all : List ℕ) (xs : List Reply) : Type 0 where
   pub long : length xs ≡ length all
   pub is : sorted_arrays pattern rs lists ≡ array_or_refusal None (by_places all xs)
 
-pub known : (pattern : MultiSlotArgPattern) (rs : List Reply) (lists : List (List ℕ)) (all counts : List ℕ) (xs : List Reply)
-    → Found (all_places pattern lists) all counts → length rs ≡ length counts → first_misfit rs counts ≡ None → all_items rs ≡ Some xs
-    → Known pattern rs lists all xs
-known pattern rs lists all counts xs p n f g =
+pub last_step : (pattern : MultiSlotArgPattern) (rs : List Reply) (lists : List (List ℕ)) (all counts : List ℕ) (xs : List Reply)
+    → PlacesOfLists (all_places pattern lists) all counts → length rs ≡ length counts → first_misfit rs counts ≡ None → all_items rs ≡ Some xs
+    → LastStep pattern rs lists all xs
+last_step pattern rs lists all counts xs p n f g =
     let m : length rs ≡ length p.lists = n ∙ ap length p.counts_are ∙ length-map p.lists length in
     let h : first_misfit rs (map length p.lists) ≡ None = ap (first_misfit rs) (sym p.counts_are) ∙ f in
     let sorted : Option (List Reply) = option_and_then (by_places (flatten p.lists)) (all_items rs) in

@@ -5,8 +5,8 @@ use Rattle.std.proofs.lemmas.List.{map_push, length-map}
 use Rattle.resp_core.specs.Reply.{Reply, int_of, bulk_string_of}
 use Rattle.resp_core.specs.View.{view, view_pair}
 use Rattle.resp_core.specs.declared.value.Value.{Value}
-use Rattle.redis_combiners.specs.KeyNumbers.{KeyNumber, twos, pairs_among}
-use Rattle.redis_combiners.specs.Lists.{all_some}
+use Rattle.redis_combiners.specs.KeyNumbers.{KeyNumber, pairs_in_turn, pairs_among}
+use Rattle.redis_commands.specs.Lists.{all_some}
 use Rattle.redis_combiners.specs.Entries.{plain_pairs}
 use Rattle.redis_combiners.proofs.Ahead.{before, before-more}
 
@@ -16,8 +16,8 @@ pub pairs_more : (so_far : List KeyNumber) (key number : Value) (rest0 rest1 res
     → before so_far (pairs_among (map view rest0)) ≡ whole → before (so_far ++ (k, n) ∷ []) (pairs_among (map view rest2)) ≡ whole
 pairs_more so_far key number rest0 rest1 rest2 k n whole e f b i h =
     sym (before-more so_far (k, n) (pairs_among (map view rest2)))
-    ∙ ap (λ o. before so_far (all_some (option_zip o (Some n) ∷ twos (map view rest2)))) b
-    ∙ ap (λ o. before so_far (all_some (option_zip (bulk_string_of (view key)) o ∷ twos (map view rest2)))) i
+    ∙ ap (λ o. before so_far (all_some (option_zip o (Some n) ∷ pairs_in_turn (map view rest2)))) b
+    ∙ ap (λ o. before so_far (all_some (option_zip (bulk_string_of (view key)) o ∷ pairs_in_turn (map view rest2)))) i
     ∙ ap (λ vs. before so_far (pairs_among (map view vs))) (sym (e ∙ ap (λ vs. key ∷ vs) f))
     ∙ h
 

@@ -7,25 +7,25 @@ use Rattle.std.proofs.lemmas.List.{length-drop, get_or-drop}
 use Rattle.std.proofs.lemmas.List.FromFn.{length-map-range_with_len}
 use Rattle.std.proofs.lemmas.Nat.{mod-mul-add}
 use Rattle.std.proofs.lemmas.Simd.{map-map}
-use Rattle.redis_combiners.specs.KeyPlaces.{every, tuple_places, own_arguments, places}
+use Rattle.redis_combiners.specs.KeyPlaces.{every_nth, tuple_places, own_arguments, places}
 use Rattle.redis_commands.specs.Tuples.{width_of}
 use Rattle.redis_commands.specs.declared.route_by.MultiSlotArgPattern.{MultiSlotArgPattern}
 use Rattle.redis_commands.specs.declared.route_by.MultiSlotArgPattern.TheVariants.{KeysOnly, KeyValuePairs, KeysAndLastArg, KeyWithTwoArgTriples}
 
 -- every width-th number, where the first stands at a place of a longer list
-abbrev every_from : ℕ → ℕ → List ℕ → List ℕ
-every_from w at xs = map (λ e. e.1) (filter (λ e. eqb (e.0 % w) 0) (enumerate_from at xs))
+abbrev every_nth_from : ℕ → ℕ → List ℕ → List ℕ
+every_nth_from w at xs = map (λ e. e.1) (filter (λ e. eqb (e.0 % w) 0) (enumerate_from at xs))
 
 -- the numbers before the next multiple of the width do not count
-skip : (w a j m at : ℕ) (xs : List ℕ) → 0 < j → j + m ≤ w → at ≡ a * w + j → m ≤ length xs → every_from w at xs ≡ every_from w (at + m) (drop m xs)
-skip w a j zero at xs some below is within = ap (λ n. every_from w n xs) (omega arith)
+skip : (w a j m at : ℕ) (xs : List ℕ) → 0 < j → j + m ≤ w → at ≡ a * w + j → m ≤ length xs → every_nth_from w at xs ≡ every_nth_from w (at + m) (drop m xs)
+skip w a j zero at xs some below is within = ap (λ n. every_nth_from w n xs) (omega arith)
 skip w a j (suc m) at [] some below is within = absurd (omega arith)
 skip w a j (suc m) at (x ∷ xs) some below is within =
     let rest : j < w = omega arith in
     let left : at % w ≡ j = ap (λ n. n % w) is ∙ mod-mul-add a w j rest in
     ap (λ b. map (λ e. e.1) (cond b ((at, x) ∷ filter (λ e. eqb (e.0 % w) 0) (enumerate_from (at + 1) xs)) (filter (λ e. eqb (e.0 % w) 0) (enumerate_from (at + 1) xs)))) (ne_eqb (at % w) 0 (λ e. absurd (omega arith)))
     ∙ skip w a (j + 1) m (at + 1) xs (omega arith) (omega arith) (omega arith) (omega arith)
-    ∙ ap (λ n. every_from w n (drop m xs)) (omega arith)
+    ∙ ap (λ n. every_nth_from w n (drop m xs)) (omega arith)
 
 -- a list of one function's values over a range, and over a later one
 shifted : (f g : ℕ → ℕ) (a b n : ℕ) → ((i : ℕ) → f (b + i) ≡ g (a + i)) → map f (range_with_len b n) ≡ map g (range_with_len a n)
@@ -34,18 +34,18 @@ shifted f g a b (suc n) h =
     ap (λ x. x ∷ map f (range_with_len (b + 1) n)) (ap f (omega arith) ∙ h 0 ∙ ap g (omega arith))
     ∙ ap (λ xs. g a ∷ xs) (shifted f g (a + 1) (b + 1) n (λ i. ap f (omega arith) ∙ h (1 + i) ∙ ap g (omega arith)))
 
-every_is : (w a n : ℕ) (xs : List ℕ) → 0 < w → length xs ≡ n * w → every_from w (a * w) xs ≡ map (λ i. slice_index xs (w * i)) (range_with_len 0 n)
-every_is w a zero [] some long = refl
-every_is w a zero (x ∷ xs) some long = absurd (omega (arith, long))
-every_is w a (suc n) [] some long = absurd (omega (arith, long))
-every_is w a (suc n) (x ∷ xs) some long =
+every_nth_is : (w a n : ℕ) (xs : List ℕ) → 0 < w → length xs ≡ n * w → every_nth_from w (a * w) xs ≡ map (λ i. slice_index xs (w * i)) (range_with_len 0 n)
+every_nth_is w a zero [] some long = refl
+every_nth_is w a zero (x ∷ xs) some long = absurd (omega (arith, long))
+every_nth_is w a (suc n) [] some long = absurd (omega (arith, long))
+every_nth_is w a (suc n) (x ∷ xs) some long =
     let first : (a * w) % w ≡ 0 = ap (λ m. m % w) (omega arith) ∙ mod-mul-add a w 0 some in
     let rest : length (drop (w - 1) xs) ≡ n * w = omega (arith, length-drop (w - 1) xs, long) in
     ap (λ b. map (λ e. e.1) (cond b ((a * w, x) ∷ filter (λ e. eqb (e.0 % w) 0) (enumerate_from (a * w + 1) xs)) (filter (λ e. eqb (e.0 % w) 0) (enumerate_from (a * w + 1) xs)))) (eq-eqb ((a * w) % w) 0 first)
     ∙ ap (λ ys. x ∷ ys) (
     skip w a 1 (w - 1) (a * w + 1) xs (omega arith) (omega arith) (omega arith) (omega (arith, long))
-    ∙ ap (λ m. every_from w m (drop (w - 1) xs)) (omega arith)
-    ∙ every_is w (a + 1) n (drop (w - 1) xs) some rest
+    ∙ ap (λ m. every_nth_from w m (drop (w - 1) xs)) (omega arith)
+    ∙ every_nth_is w (a + 1) n (drop (w - 1) xs) some rest
     ∙ sym (shifted (λ i. slice_index (x ∷ xs) (w * i)) (λ i. slice_index (drop (w - 1) xs) (w * i)) 0 1 n (λ i. ap (slice_index (x ∷ xs)) (later i) ∙ sym (get_or-drop (w - 1) xs (w * (0 + i)) 0))))
     ∙ ap (λ m. slice_index (x ∷ xs) m ∷ map (λ i. slice_index (x ∷ xs) (w * i)) (range_with_len 1 n)) none
   where
@@ -67,8 +67,8 @@ heads w xs n = map (λ i. slice_index xs (w * i) / w) (range_with_len 0 n)
 
 tuple_places_are : (w : ℕ) (xs : List ℕ) → 0 < w → length xs % w ≡ 0 → tuple_places w xs ≡ Some (heads w xs (length xs / w))
 tuple_places_are w xs some whole =
-    ap (λ b. cond b (Some (map (λ n. n / w) (every w xs))) None) (eq-eqb (length xs % w) 0 whole)
-    ∙ ap (λ ys. Some (map (λ n. n / w) ys)) (ap (λ m. every_from w m xs) (omega arith) ∙ every_is w 0 (length xs / w) xs some (omega (arith, whole)))
+    ap (λ b. cond b (Some (map (λ n. n / w) (every_nth w xs))) None) (eq-eqb (length xs % w) 0 whole)
+    ∙ ap (λ ys. Some (map (λ n. n / w) ys)) (ap (λ m. every_nth_from w m xs) (omega arith) ∙ every_nth_is w 0 (length xs / w) xs some (omega (arith, whole)))
     ∙ ap Some (map-map (λ n. n / w) (λ i. slice_index xs (w * i)) (range_with_len 0 (length xs / w)))
 
 pub places_are : (pattern : MultiSlotArgPattern) (list own : List ℕ) (w : ℕ) → w ≡ width_of pattern → Some own ≡ own_arguments pattern list → length own % w ≡ 0 → places pattern list ≡ Some (heads w own (length own / w))

@@ -1,7 +1,7 @@
 pub mod Ahead
 pub mod AtPlaces
 pub mod Combining
-pub mod Filled
+pub mod Arranging
 pub mod KeyNumbers
 pub mod KeyPlaces
 pub mod Lists

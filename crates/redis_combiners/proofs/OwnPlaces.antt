@@ -6,9 +6,9 @@ use Rattle.std.proofs.lemmas.Bool.{eq-eqb, ltb-true}
 use Rattle.std.proofs.lemmas.List.FromFn.{length-map-range_with_len, get_or-map-range_with_len}
 use Rattle.resp_core.specs.Reply.{Reply}
 use Rattle.redis_combiners.specs.ByPlaces.{items_at, single, by_places}
-use Rattle.redis_combiners.specs.Lists.{all_some}
+use Rattle.redis_commands.specs.Lists.{all_some}
 use Rattle.resp_core.proofs.Cases.{by_test}
-use Rattle.redis_combiners.proofs.Filled.{items_at-cons}
+use Rattle.redis_combiners.proofs.Arranging.{items_at-cons}
 use Rattle.redis_combiners.proofs.Lists.{all_some_at, all_some_length}
 
 single_is : (xs : List Reply) (x : Reply) → single xs ≡ Some x → xs ≡ x ∷ []

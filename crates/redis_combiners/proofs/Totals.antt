@@ -20,9 +20,9 @@ use Rattle.std.proofs.lemmas.List.{length-map, get_or-map}
 use Rattle.resp_core.specs.Reply.{Reply, bulk, int, pairs, pairs_of}
 use Rattle.redis_combiners.specs.Aggregate.{total, fits_i64}
 use Rattle.redis_combiners.specs.KeyNumbers.{KeyNumber, all_pairs}
-use Rattle.redis_combiners.specs.Lists.{all_some}
+use Rattle.redis_commands.specs.Lists.{all_some}
 use Rattle.redis_combiners.specs.Entries.{plain_pairs, number_at}
-use Rattle.redis_combiners.specs.Totals.{has, total_of, total_at, ascending_keys, totals, IsListing, entry_of, map_of, map_of_totals, combined_map}
+use Rattle.redis_combiners.specs.Totals.{has_key, total_of, total_at, ascending_keys, totals, IsListing, reply_pair, map_of, map_of_totals, combined_map}
 use Rattle.redis_combiners.proofs.Ahead.{before, before-more}
 use Rattle.resp_core.proofs.Cases.{by_test}
 
@@ -48,15 +48,15 @@ sum_is : (q : List ℕ) (ps : List KeyNumber) → or_zero (sum_at q ps) ≡ tota
 sum_is q [] = refl
 sum_is q (p ∷ ps) = more (bytes_eq p.0 q) (sum_is q ps)
   where
-    more : (b : Bool) → or_zero (sum_at q ps) ≡ total_of q ps → or_zero (cond b (Some (p.1 +ℤ or_zero (sum_at q ps))) (sum_at q ps)) ≡ total (map (λ r. r.1) (cond b (p ∷ filter (has q) ps) (filter (has q) ps)))
-    more true e = ap (λ z. p.1 +ℤ z) e ∙ sym (total_more p.1 (map (λ r. r.1) (filter (has q) ps)))
+    more : (b : Bool) → or_zero (sum_at q ps) ≡ total_of q ps → or_zero (cond b (Some (p.1 +ℤ or_zero (sum_at q ps))) (sum_at q ps)) ≡ total (map (λ r. r.1) (cond b (p ∷ filter (has_key q) ps) (filter (has_key q) ps)))
+    more true e = ap (λ z. p.1 +ℤ z) e ∙ sym (total_more p.1 (map (λ r. r.1) (filter (has_key q) ps)))
     more false e = e
 
-pub sum_has : (q : List ℕ) (ps : List KeyNumber) → is_some (sum_at q ps) ≡ list_any (has q) ps
+pub sum_has : (q : List ℕ) (ps : List KeyNumber) → is_some (sum_at q ps) ≡ list_any (has_key q) ps
 sum_has q [] = refl
 sum_has q (p ∷ ps) = more (bytes_eq p.0 q) (sum_has q ps)
   where
-    more : (b : Bool) → is_some (sum_at q ps) ≡ list_any (has q) ps → is_some (cond b (Some (p.1 +ℤ or_zero (sum_at q ps))) (sum_at q ps)) ≡ (b || list_any (has q) ps)
+    more : (b : Bool) → is_some (sum_at q ps) ≡ list_any (has_key q) ps → is_some (cond b (Some (p.1 +ℤ or_zero (sum_at q ps))) (sum_at q ps)) ≡ (b || list_any (has_key q) ps)
     more true e = refl
     more false e = e
 
@@ -68,19 +68,19 @@ pub sum_at_is : (q : List ℕ) (ps : List KeyNumber) → sum_at q ps ≡ total_a
 sum_at_is q ps =
     as_cond (sum_at q ps)
     ∙ ap (λ b. cond b (Some (or_zero (sum_at q ps))) None) (sum_has q ps)
-    ∙ ap (λ z. cond (list_any (has q) ps) (Some z) None) (sum_is q ps)
+    ∙ ap (λ z. cond (list_any (has_key q) ps) (Some z) None) (sum_is q ps)
 
 -- the keys are those of the pairs
 same_bytes : (q k : List ℕ) → is_eq (order q k) ≡ bytes_eq k q
 same_bytes q k = is_eq-slice_cmp q k ∙ nat_list_eq_equiv.symm q k
 
-keys_have : (q : List ℕ) (ps : List KeyNumber) → is_some (get (from_entries {R = order} ps) q) ≡ list_any (has q) ps
+keys_have : (q : List ℕ) (ps : List KeyNumber) → is_some (get (from_entries {R = order} ps) q) ≡ list_any (has_key q) ps
 keys_have q [] = ap is_some (get-empty order q)
 keys_have q (p ∷ ps) =
     ap is_some (get-insert nat_list_cmp_total (from_entries ps) p.0 p.1 q ∙ ap (λ b. cond b (Some p.1) (get (from_entries {R = order} ps) q)) (same_bytes q p.0))
     ∙ more (bytes_eq p.0 q) (get (from_entries {R = order} ps) q) (keys_have q ps)
   where
-    more : (b : Bool) (o : Option ℤ) → is_some o ≡ list_any (has q) ps → is_some (cond b (Some p.1) o) ≡ (b || list_any (has q) ps)
+    more : (b : Bool) (o : Option ℤ) → is_some o ≡ list_any (has_key q) ps → is_some (cond b (Some p.1) o) ≡ (b || list_any (has_key q) ps)
     more true o e = refl
     more false o e = e
 
@@ -135,9 +135,9 @@ unfolding IsStrictlySortedBy
 strictly [] h = tt
 strictly (e ∷ es) h = (less_all e.0 es (first _ _ h), strictly es (second _ _ h))
 
-any_made : (f : List ℕ → ℤ) (q : List ℕ) (ks : List (List ℕ)) → list_any (has q) (map (λ k. (k, f k)) ks) ≡ list_any (λ k. is_eq (order q k)) ks
+any_made : (f : List ℕ → ℤ) (q : List ℕ) (ks : List (List ℕ)) → list_any (has_key q) (map (λ k. (k, f k)) ks) ≡ list_any (λ k. is_eq (order q k)) ks
 any_made f q [] = refl
-any_made f q (k ∷ ks) = ap (λ b. b || list_any (has q) (map (λ j. (j, f j)) ks)) (sym (same_bytes q k)) ∙ ap (λ b. is_eq (order q k) || b) (any_made f q ks)
+any_made f q (k ∷ ks) = ap (λ b. b || list_any (has_key q) (map (λ j. (j, f j)) ks)) (sym (same_bytes q k)) ∙ ap (λ b. is_eq (order q k) || b) (any_made f q ks)
 
 pub listing : (all : List KeyNumber) → IsListing all (totals all)
 listing all =
@@ -225,11 +225,11 @@ fits-true : (z : ℤ) → FitsSigned w64 z → fits_i64 z ≡ true
 fits-true z f = grind (arith, ints)
 
 pub entries_more : (so_far : List (Reply × Reply)) (key : Vec ℕ Global) (z : ℤ) (rest0 rest : List (Vec ℕ Global × ℤ)) (whole : Option (List (Reply × Reply)))
-    → rest0 ≡ (key, z) ∷ rest → FitsSigned w64 z → before so_far (all_some (map entry_of (plain_pairs rest0))) ≡ whole → before (so_far ++ (bulk key.items, int z) ∷ []) (all_some (map entry_of (plain_pairs rest))) ≡ whole
+    → rest0 ≡ (key, z) ∷ rest → FitsSigned w64 z → before so_far (all_some (map reply_pair (plain_pairs rest0))) ≡ whole → before (so_far ++ (bulk key.items, int z) ∷ []) (all_some (map reply_pair (plain_pairs rest))) ≡ whole
 entries_more so_far key z rest0 rest whole e f h =
-    sym (before-more so_far (bulk key.items, int z) (all_some (map entry_of (plain_pairs rest))))
-    ∙ ap (λ b. before so_far (all_some (option_map (λ n. (bulk key.items, int n)) (cond b (Some z) None) ∷ map entry_of (plain_pairs rest)))) (sym (fits-true z f))
-    ∙ ap (λ es. before so_far (all_some (map entry_of (plain_pairs es)))) (sym e)
+    sym (before-more so_far (bulk key.items, int z) (all_some (map reply_pair (plain_pairs rest))))
+    ∙ ap (λ b. before so_far (all_some (option_map (λ n. (bulk key.items, int n)) (cond b (Some z) None) ∷ map reply_pair (plain_pairs rest)))) (sym (fits-true z f))
+    ∙ ap (λ es. before so_far (all_some (map reply_pair (plain_pairs es)))) (sym e)
     ∙ h
 
 both : (a b : Bool) → T a → T b → T (a && b)
@@ -251,7 +251,7 @@ find-number_at q (e ∷ es) = ap (cond (is_eq (slice_cmp nat_cmp q e.0.items)) (
 
 -- what the entries make is what the replies make
 pub combined_map_is : (rs : List Reply) (ps : List KeyNumber) (es : List (Vec ℕ Global × ℤ)) → all_pairs rs ≡ Some ps → length ps < 2 ^ 63 → IsStrictlySortedBy (slice_cmp nat_cmp) (map (λ e. e.0) (plain_pairs es)) → ((q : List ℕ) → number_at es q ≡ total_at q ps)
-    → combined_map rs ≡ option_map (λ l. pairs (pairs_of l)) (all_some (map entry_of (plain_pairs es)))
+    → combined_map rs ≡ option_map (λ l. pairs (pairs_of l)) (all_some (map reply_pair (plain_pairs es)))
 combined_map_is rs ps es k few s h =
     ap (option_and_then map_of_totals) k
     ∙ ap (λ b. cond b (map_of (totals ps)) None) (lt-ltb (length ps) (2 ^ 63) few)

@@ -2,21 +2,21 @@
 use Rattle.std.specs.Prelude.{ℕ, ℤ, List, [], ◌∷◌, map, Option, None, option_and_then, option_map}
 use Rattle.std.specs.Option.{option_zip}
 use Rattle.resp_core.specs.Reply.{Reply, int_of, bulk_string_of, array_of}
-use Rattle.redis_combiners.specs.Lists.{all_some, flatten}
+use Rattle.redis_commands.specs.Lists.{all_some, flatten}
 
 -- a key as bytes, beside a number
 abbrev pub KeyNumber : Type 0
 KeyNumber = List ℕ × ℤ
 
 -- the items two by two: a key and its number, if they are a bulk string and a number; a last item alone is not a pair
-abbrev pub twos : List Reply → List (Option KeyNumber)
-twos [] = []
-twos (key ∷ []) = None ∷ []
-twos (key ∷ (number ∷ items)) = option_zip (bulk_string_of key) (int_of number) ∷ twos items
+abbrev pub pairs_in_turn : List Reply → List (Option KeyNumber)
+pairs_in_turn [] = []
+pairs_in_turn (key ∷ []) = None ∷ []
+pairs_in_turn (key ∷ (number ∷ items)) = option_zip (bulk_string_of key) (int_of number) ∷ pairs_in_turn items
 
 -- the pairs of some items, if these are keys and numbers in turn
 abbrev pub pairs_among : List Reply → Option (List KeyNumber)
-pairs_among items = all_some (twos items)
+pairs_among items = all_some (pairs_in_turn items)
 
 -- the pairs of all replies, one reply after the other, if each is an array of keys and numbers in turn
 abbrev pub all_pairs : List Reply → Option (List KeyNumber)

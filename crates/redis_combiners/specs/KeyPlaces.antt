@@ -1,18 +1,18 @@
 -- The places of the keys of a part of a split command, by the list of its arguments.
 use Rattle.std.specs.Prelude.{ℕ, ◌-◌, ◌/◌, ◌%◌, ◌==◌, List, length, map, filter, take, Option, Some, None, option_and_then, if◌then◌else◌}
 use Rattle.std.specs.List.{enumerate_from}
-use Rattle.redis_combiners.specs.Lists.{all_some}
+use Rattle.redis_commands.specs.Lists.{all_some}
 use Rattle.redis_commands.specs.Tuples.{width_of}
 use Rattle.redis_commands.specs.declared.route_by.MultiSlotArgPattern.{MultiSlotArgPattern}
 use Rattle.redis_commands.specs.declared.route_by.MultiSlotArgPattern.TheVariants.{KeysOnly, KeyValuePairs, KeysAndLastArg, KeyWithTwoArgTriples}
 
 -- every width-th number of a list, from the first on
-abbrev pub every : ℕ → List ℕ → List ℕ
-every width list = map (λ entry. entry.1) (filter (λ entry. entry.0 % width == 0) (enumerate_from 0 list))
+abbrev pub every_nth : ℕ → List ℕ → List ℕ
+every_nth width list = map (λ entry. entry.1) (filter (λ entry. entry.0 % width == 0) (enumerate_from 0 list))
 
 -- the places of tuples of this width: the first number of each tuple, divided by the width, if the list is of whole tuples
 abbrev pub tuple_places : ℕ → List ℕ → Option (List ℕ)
-tuple_places width list = if length list % width == 0 then Some (map (λ n. n / width) (every width list)) else None
+tuple_places width list = if length list % width == 0 then Some (map (λ n. n / width) (every_nth width list)) else None
 
 -- the numbers of a list that make tuples: all, or all but the last one, which must be there, where the keys share the last argument
 abbrev pub own_arguments : MultiSlotArgPattern → List ℕ → Option (List ℕ)

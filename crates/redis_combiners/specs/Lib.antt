@@ -1,3 +1,4 @@
+pub use Rattle.redis_commands.specs.Lists
 pub use Rattle.resp_core.specs.ErrorParts
 pub use Rattle.resp_core.specs.Reply
 pub use Rattle.resp_core.specs.View
@@ -9,7 +10,6 @@ pub mod ByPlaces
 pub mod Entries
 pub mod KeyNumbers
 pub mod KeyPlaces
-pub mod Lists
 pub mod Logical
 pub mod Misfits
 pub mod SortedArrays

@@ -15,19 +15,19 @@ common_length (first ∷ others) = if list_all (λ row. length row == length fir
 abbrev pub column : List (List Bool) → ℕ → List Bool
 column rows place = map (λ row. slice_index_or row place false) rows
 
--- the answer for the bits at one place: with And, whether all are 1
-abbrev pub answer : LogicalAggregateOp → List Bool → Bool
-answer And bits = list_all (λ bit. bit) bits
+-- the bit that those at one place make: with And, whether all are 1
+abbrev pub combined_bit : LogicalAggregateOp → List Bool → Bool
+combined_bit And bits = list_all (λ bit. bit) bits
 
 -- the bit as a reply
 abbrev pub as_int : Bool → Reply
 as_int true = int (pos 1)
 as_int false = int (pos 0)
 
--- the answers for the first places of the rows
-abbrev pub answers : LogicalAggregateOp → List (List Bool) → ℕ → List Reply
-answers op rows width = map (λ place. as_int (answer op (column rows place))) (range_with_len 0 width)
+-- the bits that the rows make at their first places
+abbrev pub combined_bits : LogicalAggregateOp → List (List Bool) → ℕ → List Reply
+combined_bits op rows width = map (λ place. as_int (combined_bit op (column rows place))) (range_with_len 0 width)
 
 -- the items of the one array, if the replies are arrays of 0 and 1, all of one length
 abbrev pub logical_items : LogicalAggregateOp → List Reply → Option (List Reply)
-logical_items op replies = option_and_then (λ rows. option_map (answers op rows) (common_length rows)) (all_rows replies)
+logical_items op replies = option_and_then (λ rows. option_map (combined_bits op rows) (common_length rows)) (all_rows replies)

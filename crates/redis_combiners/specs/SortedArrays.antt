@@ -6,7 +6,7 @@ use Rattle.resp_core.specs.declared.error.ErrorKind.TheVariants.{Client}
 use Rattle.redis_combiners.specs.AllItems.{all_items}
 use Rattle.redis_combiners.specs.ByPlaces.{by_places}
 use Rattle.redis_combiners.specs.KeyPlaces.{all_places}
-use Rattle.redis_combiners.specs.Lists.{flatten}
+use Rattle.redis_commands.specs.Lists.{flatten}
 use Rattle.redis_combiners.specs.Misfits.{first_misfit}
 use Rattle.redis_commands.specs.declared.route_by.MultiSlotArgPattern.{MultiSlotArgPattern}
 

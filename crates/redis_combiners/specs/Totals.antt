@@ -9,19 +9,19 @@ use Rattle.std.specs.Str.{bytes_eq}
 use Rattle.resp_core.specs.Reply.{Reply, bulk, int, pairs, pairs_of}
 use Rattle.redis_combiners.specs.Aggregate.{total, in_i64}
 use Rattle.redis_combiners.specs.KeyNumbers.{KeyNumber, all_pairs}
-use Rattle.redis_combiners.specs.Lists.{all_some}
+use Rattle.redis_commands.specs.Lists.{all_some}
 
 -- whether a pair has the key
-abbrev pub has : List ℕ → KeyNumber → Bool
-has key pair = bytes_eq pair.0 key
+abbrev pub has_key : List ℕ → KeyNumber → Bool
+has_key key pair = bytes_eq pair.0 key
 
 -- the total of a key: the whole sum of the numbers of the pairs that have it
 abbrev pub total_of : List ℕ → List KeyNumber → ℤ
-total_of key all = total (map (λ pair. pair.1) (filter (has key) all))
+total_of key all = total (map (λ pair. pair.1) (filter (has_key key) all))
 
 -- the total of a key, if a pair has it
 abbrev pub total_at : List ℕ → List KeyNumber → Option ℤ
-total_at key all = if list_any (has key) all then Some (total_of key all) else None
+total_at key all = if list_any (has_key key) all then Some (total_of key all) else None
 
 -- the keys that occur, each once, by ascending bytes
 abbrev pub ascending_keys : List KeyNumber → List (List ℕ)
@@ -34,16 +34,16 @@ totals all = map (λ key. (key, total_of key all)) (ascending_keys all)
 -- how totals are listed: by strictly ascending bytes of their keys, which are the keys that occur, each beside its total
 pub record IsListing (all sums : List KeyNumber) : Type 0 where
   pub ascending : IsStrictlySortedBy (slice_cmp nat_cmp) (map (λ sum. sum.0) sums)
-  pub occurs : (key : List ℕ) → list_any (has key) sums ≡ list_any (has key) all
+  pub occurs : (key : List ℕ) → list_any (has_key key) sums ≡ list_any (has_key key) all
   pub beside : All (λ sum. sum.1 ≡ total_of sum.0 all) sums
 
 -- a key and its total as replies, if the total fits in an i64
-abbrev pub entry_of : KeyNumber → Option (Reply × Reply)
-entry_of sum = option_map (λ n. (bulk sum.0, int n)) (in_i64 sum.1)
+abbrev pub reply_pair : KeyNumber → Option (Reply × Reply)
+reply_pair sum = option_map (λ n. (bulk sum.0, int n)) (in_i64 sum.1)
 
 -- the map of some totals, if each fits in an i64
 abbrev pub map_of : List KeyNumber → Option Reply
-map_of sums = option_map (λ entries. pairs (pairs_of entries)) (all_some (map entry_of sums))
+map_of sums = option_map (λ entries. pairs (pairs_of entries)) (all_some (map reply_pair sums))
 
 -- the map of the totals, for fewer than 2 ^ 63 pairs
 abbrev pub map_of_totals : List KeyNumber → Option Reply

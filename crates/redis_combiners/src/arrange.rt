@@ -1,7 +1,7 @@
 ghost use Rattle.std.specs.Prelude.{◌≡◌, length, map, IfOk, option_map, replicate, None};
 ghost use Rattle.resp_core.specs.View.{view};
 ghost use Rattle.redis_combiners.specs.ByPlaces.{by_places};
-ghost use Rattle.redis_combiners.specs.Lists.{all_some};
+ghost use Rattle.redis_commands.specs.Lists.{all_some};
 
 use resp_core::Value;
 use std::alloc::{AllocError, Global};
@@ -21,14 +21,14 @@ fn empty_slots(alloc: Global, n: usize) -> Result<Vec<Option<Value>>, AllocError
 fn all_values(alloc: Global, slots: Vec<Option<Value>>) -> Result<Option<Vec<Value>>, AllocError>
     ensures { IfOk result (λ o. option_map (λ v. map view v.items) o ≡ all_some (map (λ slot. option_map view slot) slots.items)) }
 {
-    let mut held = Vec::with_capacity(alloc, slots.len())?;
+    let mut values = Vec::with_capacity(alloc, slots.len())?;
     for slot in slots {
         let Some(value) = slot else {
             return Ok(None);
         };
-        held.push(value)?;
+        values.push(value)?;
     }
-    Ok(Some(held))
+    Ok(Some(values))
 }
 
 /// The items in the order of their places, if these are the numbers from 0 on, each once.

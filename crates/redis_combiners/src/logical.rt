@@ -5,7 +5,7 @@ ghost use Rattle.resp_core.specs.Reply.{array, replies_of};
 ghost use Rattle.resp_core.specs.View.{view};
 ghost use Rattle.resp_core.specs.declared.error.ErrorKind.TheVariants.{UnexpectedReturnType};
 ghost use Rattle.redis_combiners.specs.Bits.{bit_of, bits_among, all_rows};
-ghost use Rattle.redis_combiners.specs.Logical.{common_length, column, answer, answers, as_int, logical_items};
+ghost use Rattle.redis_combiners.specs.Logical.{common_length, column, combined_bit, combined_bits, as_int, logical_items};
 
 use redis_commands::LogicalAggregateOp;
 use resp_core::{ErrorKind, RedisError, RedisResult, Value};
@@ -36,7 +36,7 @@ pub fn logical_aggregate(
     }
 }
 
-/// The items of the answer, if the replies are of 0 and 1 and of one length.
+/// The items of the one array, if the replies are of 0 and 1 and of one length.
 fn items(
     alloc: Global,
     values: &[Value],
@@ -121,14 +121,14 @@ fn all_have_width(rows: &[Vec<bool>], width: usize) -> bool
     true
 }
 
-/// The answer for each place.
+/// The bit that the rows make at each place.
 fn fold_columns(
     alloc: Global,
     rows: &[Vec<bool>],
     width: usize,
     op: LogicalAggregateOp,
 ) -> Result<Vec<Value>, AllocError>
-    ensures { IfOk result (λ items. map view items.items ≡ answers op (map (λ row. row.items) rows.now) width) }
+    ensures { IfOk result (λ items. map view items.items ≡ combined_bits op (map (λ row. row.items) rows.now) width) }
 {
     let mut items = Vec::with_capacity(alloc, width)?;
     for place in 0..width {
@@ -137,9 +137,9 @@ fn fold_columns(
     Ok(items)
 }
 
-/// The answer for one place.
+/// The bit that the rows make at one place.
 fn fold_column(rows: &[Vec<bool>], place: usize, op: LogicalAggregateOp) -> bool
-    ensures { result ≡ answer op (column (map (λ row. row.items) rows.now) place) }
+    ensures { result ≡ combined_bit op (column (map (λ row. row.items) rows.now) place) }
 {
     let mut all = true;
     for row in rows {

@@ -10,8 +10,8 @@ ghost use Rattle.resp_core.specs.View.{view, view_pair};
 ghost use Rattle.resp_core.specs.declared.error.ErrorKind.TheVariants.{UnexpectedReturnType};
 ghost use Rattle.redis_combiners.specs.Entries.{plain_pairs, number_at};
 ghost use Rattle.redis_combiners.specs.KeyNumbers.{KeyNumber, pairs_among, all_pairs};
-ghost use Rattle.redis_combiners.specs.Lists.{all_some};
-ghost use Rattle.redis_combiners.specs.Totals.{total_at, totals, IsListing, entry_of, combined_map};
+ghost use Rattle.redis_commands.specs.Lists.{all_some};
+ghost use Rattle.redis_combiners.specs.Totals.{total_at, totals, IsListing, reply_pair, combined_map};
 
 use resp_core::{ErrorKind, RedisError, RedisResult, Value};
 use std::alloc::{AllocError, Global};
@@ -128,7 +128,7 @@ fn to_entries(
     alloc: Global,
     sums: BTreeMap<Vec<u8>, i128>,
 ) -> Result<Option<Vec<(Value, Value)>>, AllocError>
-    ensures list { IfOk result (λ list. option_map (λ v. map view_pair v.items) list ≡ all_some (map entry_of (plain_pairs sums.entries))) }
+    ensures list { IfOk result (λ list. option_map (λ v. map view_pair v.items) list ≡ all_some (map reply_pair (plain_pairs sums.entries))) }
     ensures ascending { IsStrictlySortedBy (slice_cmp nat_cmp) (map (λ e. e.0) (plain_pairs sums.entries)) }
 {
     let mut list = Vec::with_capacity(alloc, sums.len())?;

@@ -1,6 +1,6 @@
 ghost use Rattle.std.specs.Prelude.{◌≡◌, ◌++◌, IfOk, length, option_map, map};
 ghost use Rattle.redis_combiners.specs.KeyPlaces.{own_arguments, places, all_places};
-ghost use Rattle.redis_combiners.specs.Lists.{flatten};
+ghost use Rattle.redis_commands.specs.Lists.{flatten};
 
 use cluster_slots::Route;
 use redis_commands::MultiSlotArgPattern;

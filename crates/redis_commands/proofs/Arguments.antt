@@ -25,10 +25,10 @@ pub argument_past : (args : Arguments) (i : ℕ) → length args ≤ i → argum
 argument_past args i h = get_or_past args i None h
 
 -- the arguments that a value is
-abbrev pub arguments_of : Value → Arguments
-arguments_of value = arguments_in (option_map (λ items. map bulk_string_of items) (array_of (view value)))
+abbrev pub arguments_of_value : Value → Arguments
+arguments_of_value value = arguments_in (option_map (λ items. map bulk_string_of items) (array_of (view value)))
 
-pub arguments_of_items : (value : Value) (items : List Value) → Some (map view items) ≡ array_of (view value) → arguments_of value ≡ map bulk_string_of (map view items)
+pub arguments_of_items : (value : Value) (items : List Value) → Some (map view items) ≡ array_of (view value) → arguments_of_value value ≡ map bulk_string_of (map view items)
 arguments_of_items value items is = sym (ap (λ o. arguments_in (option_map (λ xs. map bulk_string_of xs) o)) is)
 
 -- an item of an array is the argument at its place
@@ -36,10 +36,10 @@ pub bulk_at : (items : List Value) (i : ℕ) (item : Value) → i < length items
 bulk_at items i item h e =
     ap (λ x. bulk_string_of (view x)) e ∙ sym (ap bulk_string_of (get_or-map view items i item (view item) h)) ∙ sym (argument-map (map view items) i (view item) (rw length-map h))
 
-pub item_argument : (value : Value) (items : List Value) (i : ℕ) (item : Value) → Some (map view items) ≡ array_of (view value) → i < length items → item ≡ get_or items i item → bulk_string_of (view item) ≡ argument (arguments_of value) i
+pub item_argument : (value : Value) (items : List Value) (i : ℕ) (item : Value) → Some (map view items) ≡ array_of (view value) → i < length items → item ≡ get_or items i item → bulk_string_of (view item) ≡ argument (arguments_of_value value) i
 item_argument value items i item is h e = bulk_at items i item h e ∙ ap (λ args. argument args i) (sym (arguments_of_items value items is))
 
-pub no_item : (value : Value) (items : List Value) (i : ℕ) → Some (map view items) ≡ array_of (view value) → length items ≤ i → None ≡ argument (arguments_of value) i
+pub no_item : (value : Value) (items : List Value) (i : ℕ) → Some (map view items) ≡ array_of (view value) → length items ≤ i → None ≡ argument (arguments_of_value value) i
 no_item value items i is h =
     sym (ap (λ args. argument args i) (arguments_of_items value items is) ∙ argument_past (map bulk_string_of (map view items)) i (rw (length-map, length-map) h))
 

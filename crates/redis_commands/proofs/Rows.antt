@@ -1,4 +1,4 @@
--- What holds of each row of the table of ways holds of the way of every name.
+-- What holds of each row of the table of routings, and of a name without a row, holds of every name.
 use Rattle.std.proofs.Common.{◌≡◌, ℕ, List, [], ◌∷◌, Bool, true, false, Option, None, Some, map, refl, sym, ap, ◌∙◌}
 use Rattle.std.specs.Str.{bytes_eq}
 use Rattle.std.proofs.lemmas.Slice.Eq.{bytes_eq-Decides}

@@ -1,10 +1,11 @@
 pub use Rattle.resp_core.specs.Reply
 pub use Rattle.resp_core.specs.View
 pub mod Command
+pub mod Lists
 pub mod NameTables
 pub mod Policies
+pub mod PresentArguments
 pub mod ReadOnly
-pub mod Run
 pub mod Lookup
 pub mod Tuples
 pub mod TwoWords

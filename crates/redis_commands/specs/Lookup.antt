@@ -15,8 +15,8 @@ has_name [] name = false
 has_name (n ∷ names) name = bytes_eq n name || has_name names name
 
 -- a row for each name, all with one value
-abbrev pub each : {A : Type 0} → A → List (List ℕ) → List (List ℕ × A)
-each value names = map (λ n. (n, value)) names
+abbrev pub rows_with : {A : Type 0} → A → List (List ℕ) → List (List ℕ × A)
+rows_with value names = map (λ n. (n, value)) names
 
 -- each name is below the next, by bytes
 abbrev pub ascends_from : List ℕ → List (List ℕ) → Bool

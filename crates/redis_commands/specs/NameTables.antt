@@ -5,11 +5,11 @@ use Rattle.redis_commands.specs.RouteBy.{base_routing}
 use Rattle.redis_commands.specs.declared.policy.ResponsePolicy.{ResponsePolicy}
 use Rattle.redis_commands.specs.declared.route_by.RouteBy.{RouteBy}
 
--- the way and the policy of each name that has one
+-- how each name is routed, and its policy, where it has them
 pub record NameTables : Type 0 where
-  pub way : List ℕ → Option RouteBy
+  pub route_by : List ℕ → Option RouteBy
   pub policy : List ℕ → Option ResponsePolicy
 
 -- the project's own tables
 abbrev pub own_tables : NameTables
-own_tables = record { way = base_routing; policy = policy_of }
+own_tables = record { route_by = base_routing; policy = policy_of }

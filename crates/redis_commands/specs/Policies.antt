@@ -1,25 +1,25 @@
 -- The policies of names: how the replies of several nodes make one (the project's table of policies).
 use Rattle.std.specs.Prelude.{ℕ, List, [], ◌∷◌, ◌++◌, Option, codes}
-use Rattle.redis_commands.specs.Lookup.{lookup, each}
+use Rattle.redis_commands.specs.Lookup.{lookup, rows_with}
 use Rattle.redis_commands.specs.declared.policy.LogicalAggregateOp.TheVariants.{And}
 use Rattle.redis_commands.specs.declared.policy.AggregateOp.TheVariants.{Min, Sum}
 use Rattle.redis_commands.specs.declared.policy.ResponsePolicy.{ResponsePolicy}
 use Rattle.redis_commands.specs.declared.policy.ResponsePolicy.TheVariants.{OneSucceeded, FirstSucceededNonEmptyOrAllEmpty, AllSucceeded, AggregateLogical, Aggregate, CombineArrays, Special, CombineMaps}
 
 -- 1 where all replies have 1
-abbrev pub all_true : List (List ℕ)
-all_true =
+abbrev pub aggregate_logical_and : List (List ℕ)
+aggregate_logical_and =
     codes "SCRIPT EXISTS" ∷ []
 
 -- the sum of the replies
-abbrev pub summed : List (List ℕ)
-summed =
+abbrev pub aggregate_sum : List (List ℕ)
+aggregate_sum =
     codes "DBSIZE" ∷ codes "DEL" ∷ codes "EXISTS" ∷ codes "SLOWLOG LEN" ∷ codes "TOUCH" ∷ codes "UNLINK" ∷
     codes "LATENCY RESET" ∷ codes "PUBSUB NUMPAT" ∷ []
 
 -- the least of the replies
-abbrev pub least : List (List ℕ)
-least =
+abbrev pub aggregate_min : List (List ℕ)
+aggregate_min =
     codes "WAIT" ∷ []
 
 -- one reply, where all nodes succeeded
@@ -33,14 +33,14 @@ all_succeeded =
     codes "UNWATCH" ∷ codes "WATCH" ∷ []
 
 -- the replies as one array
-abbrev pub arrays_joined : List (List ℕ)
-arrays_joined =
+abbrev pub combine_arrays : List (List ℕ)
+combine_arrays =
     codes "KEYS" ∷ codes "FT._ALIASLIST" ∷ codes "FT._LIST" ∷ codes "MGET" ∷ codes "JSON.MGET" ∷
     codes "SLOWLOG GET" ∷ codes "PUBSUB CHANNELS" ∷ codes "PUBSUB SHARDCHANNELS" ∷ []
 
 -- the replies as one map
-abbrev pub maps_merged : List (List ℕ)
-maps_merged =
+abbrev pub combine_maps : List (List ℕ)
+combine_maps =
     codes "PUBSUB NUMSUB" ∷ codes "PUBSUB SHARDNUMSUB" ∷ []
 
 -- one reply, where one node succeeded
@@ -49,8 +49,8 @@ one_succeeded =
     codes "FUNCTION KILL" ∷ codes "SCRIPT KILL" ∷ []
 
 -- the first reply that is not empty
-abbrev pub first_non_empty : List (List ℕ)
-first_non_empty =
+abbrev pub first_succeeded_non_empty : List (List ℕ)
+first_succeeded_non_empty =
     codes "RANDOMKEY" ∷ []
 
 -- left to the caller
@@ -62,15 +62,15 @@ special =
 
 abbrev pub policies : List (List ℕ × ResponsePolicy)
 policies =
-    each (AggregateLogical And) all_true
-    ++ each (Aggregate Sum) summed
-    ++ each (Aggregate Min) least
-    ++ each AllSucceeded all_succeeded
-    ++ each CombineArrays arrays_joined
-    ++ each CombineMaps maps_merged
-    ++ each OneSucceeded one_succeeded
-    ++ each FirstSucceededNonEmptyOrAllEmpty first_non_empty
-    ++ each Special special
+    rows_with (AggregateLogical And) aggregate_logical_and
+    ++ rows_with (Aggregate Sum) aggregate_sum
+    ++ rows_with (Aggregate Min) aggregate_min
+    ++ rows_with AllSucceeded all_succeeded
+    ++ rows_with CombineArrays combine_arrays
+    ++ rows_with CombineMaps combine_maps
+    ++ rows_with OneSucceeded one_succeeded
+    ++ rows_with FirstSucceededNonEmptyOrAllEmpty first_succeeded_non_empty
+    ++ rows_with Special special
 
 -- the policy of a name, if the table has it
 unfoldable pub policy_of : List ℕ → Option ResponsePolicy

@@ -1,9 +1,9 @@
--- The ways of names: where a command of the name goes (the project's table of ways).
+-- How names are routed: where a command of the name goes (the project's table of routings).
 use Rattle.std.specs.Prelude.{ℕ, List, [], ◌∷◌, ◌++◌, Option, codes}
-use Rattle.redis_commands.specs.Lookup.{lookup, each}
+use Rattle.redis_commands.specs.Lookup.{lookup, rows_with}
 use Rattle.redis_commands.specs.declared.route_by.MultiSlotArgPattern.TheVariants.{KeysOnly, KeyValuePairs, KeysAndLastArg, KeyWithTwoArgTriples}
 use Rattle.redis_commands.specs.declared.route_by.RouteBy.{RouteBy}
-use Rattle.redis_commands.specs.declared.route_by.RouteBy.TheVariants.{AllNodes, AllMasters, MultiSlot, Undefined, CountAt, KeyAt, KeyAfterStreams, Random, SlotAtTwo}
+use Rattle.redis_commands.specs.declared.route_by.RouteBy.TheVariants.{AllNodes, AllMasters, MultiSlot, Undefined, CountAt, KeyAt, KeyAfterStreams, Random, SlotAt}
 
 -- to each node
 abbrev pub to_all_nodes : List (List ℕ)
@@ -101,20 +101,20 @@ slot_at_2 =
 
 abbrev pub base_routings : List (List ℕ × RouteBy)
 base_routings =
-    each AllNodes to_all_nodes
-    ++ each AllMasters to_all_masters
-    ++ each (MultiSlot KeysOnly) keys_only
-    ++ each (MultiSlot KeyValuePairs) key_value_pairs
-    ++ each (MultiSlot KeysAndLastArg) keys_and_last_arg
-    ++ each (MultiSlot KeyWithTwoArgTriples) key_with_two_arg_triples
-    ++ each Undefined to_no_node
-    ++ each (CountAt 2) count_at_2
-    ++ each (KeyAt 2) key_at_2
-    ++ each (CountAt 1) count_at_1
-    ++ each KeyAfterStreams key_after_streams
-    ++ each Random to_any_node
-    ++ each SlotAtTwo slot_at_2
+    rows_with AllNodes to_all_nodes
+    ++ rows_with AllMasters to_all_masters
+    ++ rows_with (MultiSlot KeysOnly) keys_only
+    ++ rows_with (MultiSlot KeyValuePairs) key_value_pairs
+    ++ rows_with (MultiSlot KeysAndLastArg) keys_and_last_arg
+    ++ rows_with (MultiSlot KeyWithTwoArgTriples) key_with_two_arg_triples
+    ++ rows_with Undefined to_no_node
+    ++ rows_with (CountAt 2) count_at_2
+    ++ rows_with (KeyAt 2) key_at_2
+    ++ rows_with (CountAt 1) count_at_1
+    ++ rows_with KeyAfterStreams key_after_streams
+    ++ rows_with Random to_any_node
+    ++ rows_with (SlotAt 2) slot_at_2
 
--- the way of a name, if the table has it
+-- how a name is routed, if the table has it
 unfoldable pub base_routing : List ℕ → Option RouteBy
 base_routing name = lookup base_routings name

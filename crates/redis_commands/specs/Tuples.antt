@@ -1,4 +1,4 @@
--- The tuples that the run of a command over many keys makes: a key each, and the arguments that go with it. Places count the arguments of the run from 0.
+-- The tuples that the present arguments of a command over many keys make: a key each, and the arguments that go with it. Places count them from 0.
 use Rattle.std.specs.Prelude.{ℕ, ◌+◌, ◌-◌, ◌%◌, Bool, ◌&&◌, cond, nat_eq, nat_lt, List, [], ◌∷◌, length, take, drop}
 use Rattle.std.specs.List.{range_with_len}
 use Rattle.redis_commands.specs.declared.route_by.MultiSlotArgPattern.{MultiSlotArgPattern}
@@ -13,20 +13,20 @@ pub record Tuple : Type 0 where
 -- from a place on, each argument is a key
 abbrev pub keys_alone : ℕ → List (List ℕ) → List Tuple
 keys_alone place [] = []
-keys_alone place (key ∷ run) = record { place = place; key = key; extras = [] } ∷ keys_alone (place + 1) run
+keys_alone place (key ∷ present) = record { place = place; key = key; extras = [] } ∷ keys_alone (place + 1) present
 
 -- from a place on, keys and values stand in turn
 abbrev pub keys_and_values : ℕ → List (List ℕ) → List Tuple
 keys_and_values place [] = []
 keys_and_values place (key ∷ []) = []
-keys_and_values place (key ∷ value ∷ run) = record { place = place; key = key; extras = value ∷ [] } ∷ keys_and_values (place + 2) run
+keys_and_values place (key ∷ value ∷ present) = record { place = place; key = key; extras = value ∷ [] } ∷ keys_and_values (place + 2) present
 
 -- from a place on, a key and two more arguments stand in turn
 abbrev pub keys_and_two : ℕ → List (List ℕ) → List Tuple
 keys_and_two place [] = []
 keys_and_two place (key ∷ []) = []
 keys_and_two place (key ∷ a ∷ []) = []
-keys_and_two place (key ∷ a ∷ b ∷ run) = record { place = place; key = key; extras = a ∷ b ∷ [] } ∷ keys_and_two (place + 3) run
+keys_and_two place (key ∷ a ∷ b ∷ present) = record { place = place; key = key; extras = a ∷ b ∷ [] } ∷ keys_and_two (place + 3) present
 
 -- whether so many arguments make whole tuples, and at least one
 abbrev pub fits : MultiSlotArgPattern → ℕ → Bool
@@ -58,23 +58,23 @@ own_count KeyWithTwoArgTriples m = m
 
 -- the tuples of arguments of which none is shared
 abbrev pub tuples_from : MultiSlotArgPattern → ℕ → List (List ℕ) → List Tuple
-tuples_from KeysOnly place run = keys_alone place run
-tuples_from KeyValuePairs place run = keys_and_values place run
-tuples_from KeysAndLastArg place run = keys_alone place run
-tuples_from KeyWithTwoArgTriples place run = keys_and_two place run
+tuples_from KeysOnly place present = keys_alone place present
+tuples_from KeyValuePairs place present = keys_and_values place present
+tuples_from KeysAndLastArg place present = keys_alone place present
+tuples_from KeyWithTwoArgTriples place present = keys_and_two place present
 
--- the tuples of a run
+-- the tuples of the present arguments
 abbrev pub tuples_in : MultiSlotArgPattern → List (List ℕ) → List Tuple
-tuples_in pattern run = tuples_from pattern 0 (take (own_count pattern (length run)) run)
+tuples_in pattern present = tuples_from pattern 0 (take (own_count pattern (length present)) present)
 
--- the arguments of a run that all its tuples share: the last one or none
+-- the present arguments that all tuples share: the last one or none
 abbrev pub shared_in : MultiSlotArgPattern → List (List ℕ) → List (List ℕ)
-shared_in pattern run = drop (own_count pattern (length run)) run
+shared_in pattern present = drop (own_count pattern (length present)) present
 
 -- the places of a tuple's arguments
 abbrev pub places_of : Tuple → List ℕ
 places_of t = range_with_len t.place (1 + length t.extras)
 
 -- the arguments of a tuple
-abbrev pub words_of : Tuple → List (List ℕ)
-words_of t = t.key ∷ t.extras
+abbrev pub arguments_of : Tuple → List (List ℕ)
+arguments_of t = t.key ∷ t.extras

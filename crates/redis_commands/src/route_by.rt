@@ -32,36 +32,36 @@ impl MultiSlotArgPattern {
     }
 
     /// Whether so many arguments make whole tuples, and at least one.
-    pub fn fits(self, run: usize) -> bool
-        ensures { result ≡ fits self run }
+    pub fn fits(self, count: usize) -> bool
+        ensures { result ≡ fits self count }
     {
-        run > 0
+        count > 0
             && match self {
                 MultiSlotArgPattern::KeysOnly | MultiSlotArgPattern::KeysAndLastArg => true,
-                MultiSlotArgPattern::KeyValuePairs => run % 2 == 0,
-                MultiSlotArgPattern::KeyWithTwoArgTriples => run % 3 == 0,
+                MultiSlotArgPattern::KeyValuePairs => count % 2 == 0,
+                MultiSlotArgPattern::KeyWithTwoArgTriples => count % 3 == 0,
             }
     }
 
     /// Whether so many arguments are complete: they make whole tuples, and where keys share a last
     /// argument, it is there.
-    pub fn is_complete(self, run: usize) -> bool
-        ensures { result ≡ is_complete self run }
+    pub fn is_complete(self, count: usize) -> bool
+        ensures { result ≡ is_complete self count }
     {
         match self {
-            MultiSlotArgPattern::KeysAndLastArg => run > 1,
-            _ => self.fits(run),
+            MultiSlotArgPattern::KeysAndLastArg => count > 1,
+            _ => self.fits(count),
         }
     }
 
     /// How many of so many arguments make tuples: those after them are shared by all.
-    pub fn own_len(self, run: usize) -> usize
-        ensures own { result ≡ own_count self run }
-        ensures within { result ≤ run }
+    pub fn own_len(self, count: usize) -> usize
+        ensures own { result ≡ own_count self count }
+        ensures within { result ≤ count }
     {
         match self {
-            MultiSlotArgPattern::KeysAndLastArg if run > 1 => run - 1,
-            _ => run,
+            MultiSlotArgPattern::KeysAndLastArg if count > 1 => count - 1,
+            _ => count,
         }
     }
 }
@@ -85,11 +85,12 @@ pub enum RouteBy {
     KeyAfterStreams,
     /// To any node: `ECHO hello`.
     Random,
-    /// A slot number is argument 2: `CLUSTER COUNTKEYSINSLOT 7`.
-    SlotAtTwo,
+    /// A slot number is this argument: `CLUSTER COUNTKEYSINSLOT 7`.
+    SlotAt(u8),
 }
 
-/// The way of a name in upper case, unless it is that of most names: the key at argument 1.
+/// How commands of a name are routed, given in upper case as `Routable::command` answers it. `None`
+/// is for most names, whose key is argument 1.
 pub fn base_routing(name: &[u8]) -> Option<RouteBy>
     ensures { result ≡ base_routing name.now }
 {

@@ -1,7 +1,7 @@
 use super::policy::{AggregateOp, LogicalAggregateOp, ResponsePolicy};
 use super::route_by::{MultiSlotArgPattern, RouteBy};
 
-/// The names whose way is not that of most names, by ascending bytes.
+/// How names are routed, but for most names, whose key is argument 1: by ascending bytes.
 pub(super) const BASE_ROUTINGS: [(&[u8], RouteBy); 155] = [
     (b"ACL DELUSER", RouteBy::AllNodes),
     (b"ACL DRYRUN", RouteBy::Random),
@@ -31,12 +31,12 @@ pub(super) const BASE_ROUTINGS: [(&[u8], RouteBy); 155] = [
     (b"CLIENT TRACKINGINFO", RouteBy::Random),
     (b"CLIENT UNBLOCK", RouteBy::Random),
     (b"CLIENT UNPAUSE", RouteBy::Random),
-    (b"CLUSTER ADDSLOTS", RouteBy::SlotAtTwo),
+    (b"CLUSTER ADDSLOTS", RouteBy::SlotAt(2)),
     (b"CLUSTER COUNT-FAILURE-REPORTS", RouteBy::Random),
-    (b"CLUSTER COUNTKEYSINSLOT", RouteBy::SlotAtTwo),
-    (b"CLUSTER DELSLOTS", RouteBy::SlotAtTwo),
-    (b"CLUSTER DELSLOTSRANGE", RouteBy::SlotAtTwo),
-    (b"CLUSTER GETKEYSINSLOT", RouteBy::SlotAtTwo),
+    (b"CLUSTER COUNTKEYSINSLOT", RouteBy::SlotAt(2)),
+    (b"CLUSTER DELSLOTS", RouteBy::SlotAt(2)),
+    (b"CLUSTER DELSLOTSRANGE", RouteBy::SlotAt(2)),
+    (b"CLUSTER GETKEYSINSLOT", RouteBy::SlotAt(2)),
     (b"CLUSTER INFO", RouteBy::Random),
     (b"CLUSTER KEYSLOT", RouteBy::Random),
     (b"CLUSTER MEET", RouteBy::Random),
@@ -45,7 +45,7 @@ pub(super) const BASE_ROUTINGS: [(&[u8], RouteBy); 155] = [
     (b"CLUSTER REPLICAS", RouteBy::Random),
     (b"CLUSTER RESET", RouteBy::Random),
     (b"CLUSTER SET-CONFIG-EPOCH", RouteBy::Random),
-    (b"CLUSTER SETSLOT", RouteBy::SlotAtTwo),
+    (b"CLUSTER SETSLOT", RouteBy::SlotAt(2)),
     (b"CLUSTER SHARDS", RouteBy::Random),
     (b"CLUSTER SLOTS", RouteBy::Random),
     (b"COMMAND", RouteBy::Random),

@@ -5,7 +5,7 @@ use Rattle.resp_core.specs.View.{view}
 use Rattle.resp_core.specs.declared.value.Value.{Value}
 use Rattle.cluster_slots.specs.Address.{Address}
 use Rattle.cluster_slots.specs.SlotRoute.{SlotRoute}
-use Rattle.redis_commands.specs.Run.{run_after}
+use Rattle.redis_commands.specs.PresentArguments.{present_arguments_after}
 use Rattle.redis_routing.specs.Split.{Split, IsSplit, split_part}
 use Rattle.redis_nodes.specs.MultiKey.{KeyTuple, ReplyForm, tuples_of, form_by_policy}
 use Rattle.redis_nodes.specs.SlotResults.{results_of_slot}
@@ -36,7 +36,7 @@ told (is_told ∷ rest) (reply ∷ replies) = cond is_told (Some reply) None ∷
 
 -- the tuples of the command
 abbrev pub tuples_in_split : Split → List KeyTuple
-tuples_in_split split = tuples_of split.pattern (run_after split.words split.arguments)
+tuples_in_split split = tuples_of split.pattern (present_arguments_after split.words split.arguments)
 
 -- These are the replies to the parts, where the tuples of the unsplit command have these results.
 pub record ArePartsAnswered (split : Split) (form : ReplyForm) (results : List TupleResult) (replies : List Reply) : Type 0 where

@@ -11,7 +11,7 @@ ghost use Rattle.redis_commands.specs.Command.{command_of};
 ghost use Rattle.redis_commands.specs.ReadOnly.{is_among};
 ghost use Rattle.redis_routing.specs.Complete.{multi_slot_routes, pattern_by_name};
 ghost use Rattle.redis_routing.specs.Split.{policy_by_name, split_part};
-ghost use Rattle.redis_routing.specs.Target.{route_lists};
+ghost use Rattle.redis_routing.specs.RoutingInfo.{route_lists};
 ghost use Rattle.redis_nodes.specs.MultiKey.{ReplyForm, list};
 ghost use Rattle.redis_nodes.specs.Unsplit.{reply_by};
 ghost use Rattle.redis_nodes.specs.Unsplit.{TupleResult};

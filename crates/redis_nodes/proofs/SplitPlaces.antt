@@ -8,16 +8,16 @@ use Rattle.std.proofs.lemmas.List.Elements.{All-map}
 use Rattle.cluster_slots.specs.SlotRoute.{SlotRoute}
 use Rattle.redis_commands.specs.Command.{Arguments, command_of}
 use Rattle.redis_commands.specs.NameTables.{NameTables, own_tables}
-use Rattle.redis_commands.specs.Run.{run_after}
+use Rattle.redis_commands.specs.PresentArguments.{present_arguments_after}
 use Rattle.redis_commands.specs.Tuples.{Tuple, is_complete, keys_alone, keys_and_values, keys_and_two, own_count, places_of, tuples_from, tuples_in, width_of}
 use Rattle.redis_commands.specs.declared.route_by.MultiSlotArgPattern.{MultiSlotArgPattern}
 use Rattle.redis_commands.specs.declared.route_by.MultiSlotArgPattern.TheVariants.{KeysOnly, KeyValuePairs, KeysAndLastArg, KeyWithTwoArgTriples}
 use Rattle.redis_routing.specs.Complete.{pattern_of, pattern_by_name_with, pattern_by_name, multi_slot_routes_with, multi_slot_routes}
 use Rattle.redis_routing.specs.Parts.{first_appearances, slot_of, tuples_in_slot}
-use Rattle.redis_routing.specs.Routing.{route_to, routes_of}
+use Rattle.redis_routing.specs.Routing.{route_of_slot, routes_of}
 use Rattle.redis_routing.proofs.Cover.{length_own, own_small, own_whole}
 use Rattle.redis_routing.proofs.Picks.{complete_fits}
-use Rattle.redis_routing.proofs.SelfRouting.{front_short}
+use Rattle.redis_routing.proofs.SelfRouting.{before_gap_short}
 use Rattle.redis_nodes.specs.MultiKey.{KeyTuple, MultiKey, multi_key_with, multi_key, unplaced}
 use Rattle.redis_nodes.proofs.Places.{numbers_from}
 use Rattle.redis_nodes.proofs.SplitParts.{IsMade, is_made, routes_made}
@@ -105,7 +105,7 @@ shared_after KeyWithTwoArgTriples m complete = let none : m - m ≡ 0 = omega ar
 
 module _ (words : ℕ) (tables : NameTables) (args : Arguments) (pattern : MultiSlotArgPattern) (command : MultiKey) (made : IsMade words tables args pattern command) where
   abbrev run : List (List ℕ)
-  run = run_after words args
+  run = present_arguments_after words args
 
   own_is : own_count pattern (length run) ≡ length command.tuples * width_of pattern
   own_is =
@@ -117,7 +117,7 @@ module _ (words : ℕ) (tables : NameTables) (args : Arguments) (pattern : Multi
   pub tuples_few_with : length command.tuples ≤ length args
   tuples_few_with =
       let own : own_count pattern (length run) ≤ length run = own_small pattern (length run) in
-      let few : length run ≤ length args - words = omega (arith, front_short (drop words args), length-drop words args) in
+      let few : length run ≤ length args - words = omega (arith, before_gap_short (drop words args), length-drop words args) in
       let count : length command.tuples ≤ length command.tuples * width_of pattern = le_times pattern (length command.tuples) in
       omega (arith, own_is)
     where
@@ -127,7 +127,7 @@ module _ (words : ℕ) (tables : NameTables) (args : Arguments) (pattern : Multi
       le_times KeysAndLastArg n = omega arith
       le_times KeyWithTwoArgTriples n = omega arith
 
-  part_place : (reads : Bool) (slot : ℕ) → (route_to reads pattern run slot).1 ≡ places_of_part pattern command.tuples slot
+  part_place : (reads : Bool) (slot : ℕ) → (route_of_slot reads pattern run slot).1 ≡ places_of_part pattern command.tuples slot
   part_place reads slot =
       let own = own_count pattern (length run) in
       let after = range_with_len own (length run - own) in
@@ -137,7 +137,7 @@ module _ (words : ℕ) (tables : NameTables) (args : Arguments) (pattern : Multi
       ∙ ap (λ ps. flat_map (argument_places (width_of pattern)) (numbers_from slot 0 command.tuples) ++ ps) (shared_after pattern (length run) made.complete ∙ ap (shared_places pattern) own_is)
 
   parts_placed : (reads : Bool) → All (λ r. r.1 ≡ places_of_part pattern command.tuples r.0.slot) (routes_of reads pattern run)
-  parts_placed reads = All-map (λ r. r.1 ≡ places_of_part pattern command.tuples r.0.slot) (route_to reads pattern run) (first_appearances (map slot_of (tuples_in pattern run))) (λ k d inside. part_place reads _)
+  parts_placed reads = All-map (λ r. r.1 ≡ places_of_part pattern command.tuples r.0.slot) (route_of_slot reads pattern run) (first_appearances (map slot_of (tuples_in pattern run))) (λ k d inside. part_place reads _)
 
 -- the list of each route has the places of its part
 pub route_places_with : (words : ℕ) (tables : NameTables) (only_reads : List ℕ → Bool) (args : Arguments) (command : MultiKey) (pattern : MultiSlotArgPattern) (routes : List (SlotRoute × List ℕ))
@@ -147,7 +147,7 @@ route_places_with words tables only_reads args command pattern routes is by rout
     let made = is_made words tables args command is in
     let same : made.0 ≡ pattern = cc (ap (pattern_by_name_with tables) made.1.name ∙ ap pattern_of made.1.split, by) in
     let held : IsMade words tables args pattern command = subst (λ p. IsMade words tables args p command) same made.1 in
-    let routes-are : routes_of (only_reads command.name) pattern (run_after words args) ≡ routes = cc (routes_made words tables args pattern command held only_reads, routed) in
+    let routes-are : routes_of (only_reads command.name) pattern (present_arguments_after words args) ≡ routes = cc (routes_made words tables args pattern command held only_reads, routed) in
     subst (All (λ r. r.1 ≡ places_of_part pattern command.tuples r.0.slot)) routes-are (parts_placed words tables args pattern command held (only_reads command.name))
 
 pub route_places : (only_reads : List ℕ → Bool) (args : Arguments) (command : MultiKey) (pattern : MultiSlotArgPattern) (routes : List (SlotRoute × List ℕ))

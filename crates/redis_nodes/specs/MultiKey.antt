@@ -3,7 +3,7 @@ use Rattle.std.specs.Prelude.{ℕ, List, Option, None, Some, cond, map, filter, 
 use Rattle.cluster_slots.specs.KeySlot.{key_slot}
 use Rattle.redis_commands.specs.Command.{Arguments, command_of}
 use Rattle.redis_commands.specs.NameTables.{NameTables, own_tables}
-use Rattle.redis_commands.specs.Run.{run_after}
+use Rattle.redis_commands.specs.PresentArguments.{present_arguments_after}
 use Rattle.redis_commands.specs.Tuples.{Tuple, tuples_in, shared_in, is_complete}
 use Rattle.redis_commands.specs.declared.policy.AggregateOp.TheVariants.{Sum}
 use Rattle.redis_commands.specs.declared.policy.ResponsePolicy.{ResponsePolicy}
@@ -58,7 +58,7 @@ form_of_policy (Some policy) = form_by_policy policy
 -- A complete command over many keys, whose name has so many words, by some tables of names. There is none where the name is not one of those that split by slot, where the arguments after it, up to the first gap, make no whole tuples, or where the argument that all keys share is missing.
 abbrev pub multi_key_with : ℕ → NameTables → Arguments → Option MultiKey
 multi_key_with words tables args =
-    command_with (command_of args) (run_after words args) (pattern_by_name_with tables (command_of args)) (form_of_policy (policy_by_name_with tables (command_of args)))
+    command_with (command_of args) (present_arguments_after words args) (pattern_by_name_with tables (command_of args)) (form_of_policy (policy_by_name_with tables (command_of args)))
 
 -- by the project's own tables, in which each name has one word
 abbrev pub multi_key : Arguments → Option MultiKey

@@ -1,4 +1,4 @@
--- The lists of the routes of a split ascend and share out the places of the run, and each gives the arguments of its part.
+-- The lists of the routes of a split ascend and share out the places of the present arguments, and each gives the arguments of its part.
 use Rattle.std.proofs.Common.{◌≡◌, ℕ, zero, suc, ◌+◌, ◌-◌, ◌%◌, ◌<◌, ◌≤◌, List, [], ◌∷◌, ◌++◌, Bool, true, false, not, cond, ◌&&◌, ◌||◌, refl, sym, ap, ◌∙◌, arith, length, map, take, drop, get_or, filter, Less, inl, inr, length-take-le, drop-cons, drop_of_length-le, add-one, zero-add}
 use Rattle.std.specs.Prelude.{nat_eq, nat_lt, count_by, All}
 use Rattle.std.specs.List.{AllByRecursion, list_any, flat_map, range_with_len}
@@ -13,9 +13,9 @@ use Rattle.std.proofs.lemmas.List.Elements.{All-map}
 use Rattle.std.proofs.lemmas.List.Folds.{list_any-append}
 use Rattle.std.proofs.lemmas.List.Sums.{sum_by-cons}
 use Rattle.redis_routing.specs.Laws.{Covers, lists_with}
-use Rattle.redis_routing.specs.Parts.{slot_of, first_appearances, tuples_in_slot, places_in_slot, words_in_slot}
-use Rattle.redis_routing.specs.Routing.{route_to, routes_of}
-use Rattle.redis_commands.specs.Tuples.{Tuple, keys_alone, keys_and_values, keys_and_two, fits, own_count, width_of, tuples_from, tuples_in, shared_in, places_of, words_of}
+use Rattle.redis_routing.specs.Parts.{slot_of, first_appearances, tuples_in_slot, places_in_slot, arguments_in_slot}
+use Rattle.redis_routing.specs.Routing.{route_of_slot, routes_of}
+use Rattle.redis_commands.specs.Tuples.{Tuple, keys_alone, keys_and_values, keys_and_two, fits, own_count, width_of, tuples_from, tuples_in, shared_in, places_of, arguments_of}
 use Rattle.redis_commands.specs.declared.route_by.MultiSlotArgPattern.{MultiSlotArgPattern}
 use Rattle.redis_commands.specs.declared.route_by.MultiSlotArgPattern.TheVariants.{KeysOnly, KeyValuePairs, KeysAndLastArg, KeyWithTwoArgTriples}
 use Rattle.resp_core.proofs.Cases.{by_test}
@@ -97,9 +97,9 @@ lower : (low below high : ℕ) (xs : List ℕ) → below ≤ low → Between low
 lower low below high [] small h = omega arith
 lower low below high (x ∷ xs) small h = (omega (arith, h.0), h.1)
 
-joined : (low mid high : ℕ) (xs ys : List ℕ) → Between low mid xs → Between mid high ys → Between low high (xs ++ ys)
-joined low mid high [] ys first second = lower mid low high ys first second
-joined low mid high (x ∷ xs) ys first second = (first.0, joined (x + 1) mid high xs ys first.1 second)
+between-append : (low mid high : ℕ) (xs ys : List ℕ) → Between low mid xs → Between mid high ys → Between low high (xs ++ ys)
+between-append low mid high [] ys first second = lower mid low high ys first second
+between-append low mid high (x ∷ xs) ys first second = (first.0, between-append (x + 1) mid high xs ys first.1 second)
 
 -- what lies below the bound lies below each of them
 above : (x low high : ℕ) (xs : List ℕ) → x < low → Between low high xs → AllByRecursion (λ y. nat_cmp x y ≡ Less) xs
@@ -148,34 +148,34 @@ abbrev pub Tiles : ℕ → ℕ → List Tuple → Type 0
 Tiles low high [] = low ≡ high
 Tiles low high (t ∷ ts) = (t.place ≡ low) × Tiles (next low t) high ts
 
-tiles_alone : (low : ℕ) (run : List (List ℕ)) → Tiles low (low + length run) (keys_alone low run)
+tiles_alone : (low : ℕ) (present : List (List ℕ)) → Tiles low (low + length present) (keys_alone low present)
 tiles_alone low [] = omega arith
-tiles_alone low (key ∷ run) =
-    let e : (low + 1) + length run ≡ low + suc (length run) = omega arith in
-    (refl, rw e at (tiles_alone (low + 1) run))
+tiles_alone low (key ∷ present) =
+    let e : (low + 1) + length present ≡ low + suc (length present) = omega arith in
+    (refl, rw e at (tiles_alone (low + 1) present))
 
-tiles_pairs : (low : ℕ) (run : List (List ℕ)) → length run % 2 ≡ 0 → Tiles low (low + length run) (keys_and_values low run)
+tiles_pairs : (low : ℕ) (present : List (List ℕ)) → length present % 2 ≡ 0 → Tiles low (low + length present) (keys_and_values low present)
 tiles_pairs low [] even = omega arith
 tiles_pairs low (key ∷ []) even = absurd (omega arith)
-tiles_pairs low (key ∷ value ∷ run) even =
-    let e : (low + 2) + length run ≡ low + suc (suc (length run)) = omega arith in
-    let less : length run % 2 ≡ 0 = omega arith in
-    (refl, rw e at (tiles_pairs (low + 2) run less))
+tiles_pairs low (key ∷ value ∷ present) even =
+    let e : (low + 2) + length present ≡ low + suc (suc (length present)) = omega arith in
+    let less : length present % 2 ≡ 0 = omega arith in
+    (refl, rw e at (tiles_pairs (low + 2) present less))
 
-tiles_triples : (low : ℕ) (run : List (List ℕ)) → length run % 3 ≡ 0 → Tiles low (low + length run) (keys_and_two low run)
+tiles_triples : (low : ℕ) (present : List (List ℕ)) → length present % 3 ≡ 0 → Tiles low (low + length present) (keys_and_two low present)
 tiles_triples low [] even = omega arith
 tiles_triples low (key ∷ []) even = absurd (omega arith)
 tiles_triples low (key ∷ a ∷ []) even = absurd (omega arith)
-tiles_triples low (key ∷ a ∷ b ∷ run) even =
-    let e : (low + 3) + length run ≡ low + suc (suc (suc (length run))) = omega arith in
-    let less : length run % 3 ≡ 0 = omega arith in
-    (refl, rw e at (tiles_triples (low + 3) run less))
+tiles_triples low (key ∷ a ∷ b ∷ present) even =
+    let e : (low + 3) + length present ≡ low + suc (suc (suc (length present))) = omega arith in
+    let less : length present % 3 ≡ 0 = omega arith in
+    (refl, rw e at (tiles_triples (low + 3) present less))
 
-tiles_from : (pattern : MultiSlotArgPattern) (low : ℕ) (run : List (List ℕ)) → length run % width_of pattern ≡ 0 → Tiles low (low + length run) (tuples_from pattern low run)
-tiles_from KeysOnly low run even = tiles_alone low run
-tiles_from KeyValuePairs low run even = tiles_pairs low run even
-tiles_from KeysAndLastArg low run even = tiles_alone low run
-tiles_from KeyWithTwoArgTriples low run even = tiles_triples low run even
+tiles_from : (pattern : MultiSlotArgPattern) (low : ℕ) (present : List (List ℕ)) → length present % width_of pattern ≡ 0 → Tiles low (low + length present) (tuples_from pattern low present)
+tiles_from KeysOnly low present even = tiles_alone low present
+tiles_from KeyValuePairs low present even = tiles_pairs low present even
+tiles_from KeysAndLastArg low present even = tiles_alone low present
+tiles_from KeyWithTwoArgTriples low present even = tiles_triples low present even
 
 -- no more arguments make tuples than there are
 pub own_small : (pattern : MultiSlotArgPattern) (m : ℕ) → own_count pattern m ≤ m
@@ -184,8 +184,8 @@ own_small KeyValuePairs m = omega arith
 own_small KeysAndLastArg m = by_test (nat_lt 1 m) (λ many. rw many (omega arith)) (λ one. rw one (omega arith))
 own_small KeyWithTwoArgTriples m = omega arith
 
-pub length_own : (pattern : MultiSlotArgPattern) (run : List (List ℕ)) → length (take (own_count pattern (length run)) run) ≡ own_count pattern (length run)
-length_own pattern run = length-take-le (own_count pattern (length run)) run (own_small pattern (length run))
+pub length_own : (pattern : MultiSlotArgPattern) (present : List (List ℕ)) → length (take (own_count pattern (length present)) present) ≡ own_count pattern (length present)
+length_own pattern present = length-take-le (own_count pattern (length present)) present (own_small pattern (length present))
 
 -- the arguments that make tuples come out even
 pub own_whole : (pattern : MultiSlotArgPattern) (m : ℕ) → fits pattern m ≡ true → own_count pattern m % width_of pattern ≡ 0
@@ -194,12 +194,12 @@ own_whole KeyValuePairs m h = eqb-true (m % 2) 0 (and_second (nat_lt 0 m) (nat_e
 own_whole KeysAndLastArg m h = omega arith
 own_whole KeyWithTwoArgTriples m h = eqb-true (m % 3) 0 (and_second (nat_lt 0 m) (nat_eq (m % 3) 0) h)
 
--- the tuples of a run stand side by side from the first place on
-pub tiles_run : (pattern : MultiSlotArgPattern) (run : List (List ℕ)) → fits pattern (length run) ≡ true → Tiles 0 (own_count pattern (length run)) (tuples_in pattern run)
-tiles_run pattern run whole =
-    let own = own_count pattern (length run) in
-    let e : 0 + length (take own run) ≡ own = omega (arith, length_own pattern run) in
-    rw e at (tiles_from pattern 0 (take own run) (ap (λ m. m % width_of pattern) (length_own pattern run) ∙ own_whole pattern (length run) whole))
+-- the tuples stand side by side from the first place on
+pub tiles_present : (pattern : MultiSlotArgPattern) (present : List (List ℕ)) → fits pattern (length present) ≡ true → Tiles 0 (own_count pattern (length present)) (tuples_in pattern present)
+tiles_present pattern present whole =
+    let own = own_count pattern (length present) in
+    let e : 0 + length (take own present) ≡ own = omega (arith, length_own pattern present) in
+    rw e at (tiles_from pattern 0 (take own present) (ap (λ m. m % width_of pattern) (length_own pattern present) ∙ own_whole pattern (length present) whole))
 
 -- the places of a slot's tuples
 abbrev tuple_places : ℕ → List Tuple → List ℕ
@@ -211,7 +211,7 @@ part_between low high s [] h = omega arith
 part_between low high s (t ∷ ts) h =
     let rest : Between (next low t) high (tuple_places s ts) = part_between (next low t) high s ts h.1 in
     by_test (nat_eq (slot_of t) s)
-    (λ here. rw here (rw h.0 (joined low (next low t) high (range_with_len low (1 + length t.extras)) (tuple_places s ts) (range_between low (1 + length t.extras)) rest)))
+    (λ here. rw here (rw h.0 (between-append low (next low t) high (range_with_len low (1 + length t.extras)) (tuple_places s ts) (range_between low (1 + length t.extras)) rest)))
     (λ there. rw there (lower (next low t) low high (tuple_places s ts) (omega arith) rest))
 
 -- a place that the tuples cover stands in the part of one slot alone, and that is the slot of a key
@@ -239,24 +239,24 @@ owner p low high (t ∷ ts) h from to = elim (cases_lt p (next low t)) [
       )
 ]
 
-module _ (pattern : MultiSlotArgPattern) (run : List (List ℕ)) where
+module _ (pattern : MultiSlotArgPattern) (present : List (List ℕ)) where
   abbrev own : ℕ
-  own = own_count pattern (length run)
+  own = own_count pattern (length present)
 
   abbrev tuples : List Tuple
-  tuples = tuples_in pattern run
+  tuples = tuples_in pattern present
 
   abbrev last : List ℕ
-  last = range_with_len own (length run - own)
+  last = range_with_len own (length present - own)
 
-  last_between : Between own (length run) last
+  last_between : Between own (length present) last
   last_between =
-      let e : own + (length run - own) ≡ length run = omega (arith, own_small pattern (length run)) in
-      rw e at (range_between own (length run - own))
+      let e : own + (length present - own) ≡ length present = omega (arith, own_small pattern (length present)) in
+      rw e at (range_between own (length present - own))
 
-  -- the places of a part ascend within the run
-  pub part_in_run : (slot : ℕ) → fits pattern (length run) ≡ true → Between 0 (length run) (places_in_slot pattern run slot)
-  part_in_run slot whole = joined 0 own (length run) (tuple_places slot tuples) last (part_between 0 own slot tuples (tiles_run pattern run whole)) last_between
+  -- the places of a part ascend and are of present arguments
+  pub part_in_present : (slot : ℕ) → fits pattern (length present) ≡ true → Between 0 (length present) (places_in_slot pattern present slot)
+  part_in_present slot whole = between-append 0 own (length present) (tuple_places slot tuples) last (part_between 0 own slot tuples (tiles_present pattern present whole)) last_between
 
   -- the slots of the keys
   abbrev slots : List ℕ
@@ -264,139 +264,139 @@ module _ (pattern : MultiSlotArgPattern) (run : List (List ℕ)) where
 
   -- whether the place is in the list of the slot's route
   abbrev has : ℕ → ℕ → Bool
-  has p s = list_any (nat_eq p) (places_in_slot pattern run s)
+  has p s = list_any (nat_eq p) (places_in_slot pattern present s)
 
   either : (p s : ℕ) → has p s ≡ (list_any (nat_eq p) (tuple_places s tuples) || list_any (nat_eq p) last)
   either p s = list_any-append (nat_eq p) (tuple_places s tuples) last
 
   has_own : (p s : ℕ) → p < own → has p s ≡ list_any (nat_eq p) (tuple_places s tuples)
   has_own p s to =
-      let none : list_any (nat_eq p) last ≡ false = not_below p own (length run) last to last_between in
+      let none : list_any (nat_eq p) last ≡ false = not_below p own (length present) last to last_between in
       either p s ∙ ap (λ b. list_any (nat_eq p) (tuple_places s tuples) || b) none ∙ or-false (list_any (nat_eq p) (tuple_places s tuples))
 
-  has_shared : (p s : ℕ) → own ≤ p → p < length run → has p s ≡ true
+  has_shared : (p s : ℕ) → own ≤ p → p < length present → has p s ≡ true
   has_shared p s from to =
-      let held : list_any (nat_eq p) last ≡ true = range_has own (length run - own) p from (omega arith) in
+      let held : list_any (nat_eq p) last ≡ true = range_has own (length present - own) p from (omega arith) in
       either p s ∙ ap (λ b. list_any (nat_eq p) (tuple_places s tuples) || b) held ∙ or-true (list_any (nat_eq p) (tuple_places s tuples))
 
   module _ (reads : Bool) where
     -- the lists with a place, counted by slots
-    by_slots : (p : ℕ) → lists_with p (routes_of reads pattern run) ≡ count_by (has p) (first_appearances slots)
-    by_slots p = count-map (λ r. list_any (nat_eq p) r.1) (route_to reads pattern run) (first_appearances slots)
+    by_slots : (p : ℕ) → lists_with p (routes_of reads pattern present) ≡ count_by (has p) (first_appearances slots)
+    by_slots p = count-map (λ r. list_any (nat_eq p) r.1) (route_of_slot reads pattern present) (first_appearances slots)
 
-    in_each : (p : ℕ) → own ≤ p → p < length run → lists_with p (routes_of reads pattern run) ≡ length (routes_of reads pattern run)
+    in_each : (p : ℕ) → own ≤ p → p < length present → lists_with p (routes_of reads pattern present) ≡ length (routes_of reads pattern present)
     in_each p from to = by_slots p ∙ count_all (has p) (first_appearances slots) (λ s. has_shared p s from to) ∙ sym (simp length-map)
 
-    one_route : (slot : ℕ) → count_by (λ r. nat_eq slot r.0.slot) (routes_of reads pattern run) ≤ 1
+    one_route : (slot : ℕ) → count_by (λ r. nat_eq slot r.0.slot) (routes_of reads pattern present) ≤ 1
     one_route slot =
-        let e = count-map (λ r. nat_eq slot r.0.slot) (route_to reads pattern run) (first_appearances slots) ∙ count_firsts slot slots in
+        let e = count-map (λ r. nat_eq slot r.0.slot) (route_of_slot reads pattern present) (first_appearances slots) ∙ count_firsts slot slots in
         rw e (by_test (list_any (nat_eq slot) slots) (λ yes. rw yes (omega arith)) (λ none. rw none (omega arith)))
 
-    module _ (whole : fits pattern (length run) ≡ true) where
-      places_between : (s : ℕ) → Between 0 (length run) (places_in_slot pattern run s)
-      places_between s = part_in_run s whole
+    module _ (whole : fits pattern (length present) ≡ true) where
+      places_between : (s : ℕ) → Between 0 (length present) (places_in_slot pattern present s)
+      places_between s = part_in_present s whole
 
-      lists_ascend : All (λ r. IsStrictlySortedBy nat_cmp r.1) (routes_of reads pattern run)
+      lists_ascend : All (λ r. IsStrictlySortedBy nat_cmp r.1) (routes_of reads pattern present)
       lists_ascend =
-          let ascends : (s : ℕ) → IsStrictlySortedBy nat_cmp (places_in_slot pattern run s) = λ s. ascending 0 (length run) (places_in_slot pattern run s) (places_between s) in
-          All-map (λ r. IsStrictlySortedBy nat_cmp r.1) (route_to reads pattern run) (first_appearances slots) (λ k d h. ascends (get_or (first_appearances slots) k d))
+          let ascends : (s : ℕ) → IsStrictlySortedBy nat_cmp (places_in_slot pattern present s) = λ s. ascending 0 (length present) (places_in_slot pattern present s) (places_between s) in
+          All-map (λ r. IsStrictlySortedBy nat_cmp r.1) (route_of_slot reads pattern present) (first_appearances slots) (λ k d h. ascends (get_or (first_appearances slots) k d))
 
-      in_one : (p : ℕ) → p < own → lists_with p (routes_of reads pattern run) ≡ 1
+      in_one : (p : ℕ) → p < own → lists_with p (routes_of reads pattern present) ≡ 1
       in_one p to =
-          let o = owner p 0 own tuples (tiles_run pattern run whole) (omega arith) to in
+          let o = owner p 0 own tuples (tiles_present pattern present whole) (omega arith) to in
           let same : has p ≡ nat_eq o.0 = fun_ext (λ s. has_own p s to ∙ o.2 s) in
           by_slots p ∙ ap (λ f. count_by f (first_appearances slots)) same ∙ count_firsts o.0 slots ∙ ap (λ b. cond b 1 0) o.1
 
-      in_none : (p : ℕ) → length run ≤ p → lists_with p (routes_of reads pattern run) ≡ 0
-      in_none p past = by_slots p ∙ count_none (has p) (first_appearances slots) (λ s. not_past p 0 (length run) (places_in_slot pattern run s) past (places_between s))
+      in_none : (p : ℕ) → length present ≤ p → lists_with p (routes_of reads pattern present) ≡ 0
+      in_none p past = by_slots p ∙ count_none (has p) (first_appearances slots) (λ s. not_past p 0 (length present) (places_in_slot pattern present s) past (places_between s))
 
 -- the cover law of the routes of a split
-pub covers : (reads : Bool) (pattern : MultiSlotArgPattern) (run : List (List ℕ)) → fits pattern (length run) ≡ true → Covers pattern run (routes_of reads pattern run)
-covers reads pattern run whole = record {
-  slots = one_route pattern run reads;
-  ascending = lists_ascend pattern run reads whole;
-  once = in_one pattern run reads whole;
-  shared = in_each pattern run reads;
-  within = in_none pattern run reads whole;
+pub covers : (reads : Bool) (pattern : MultiSlotArgPattern) (present : List (List ℕ)) → fits pattern (length present) ≡ true → Covers pattern present (routes_of reads pattern present)
+covers reads pattern present whole = record {
+  slots = one_route pattern present reads;
+  ascending = lists_ascend pattern present reads whole;
+  once = in_one pattern present reads whole;
+  shared = in_each pattern present reads;
+  within = in_none pattern present reads whole;
 }
 
 -- what is read at the places of each tuple is its arguments
 abbrev AreRead : (ℕ → List ℕ) → List Tuple → Type 0
 AreRead at [] = Unit {0}
-AreRead at (t ∷ ts) = (map at (places_of t) ≡ words_of t) × AreRead at ts
+AreRead at (t ∷ ts) = (map at (places_of t) ≡ arguments_of t) × AreRead at ts
 
 module _ (at : ℕ → List ℕ) where
   -- from a place on, the arguments are read
   abbrev IsReadFrom : ℕ → List (List ℕ) → Type 0
-  IsReadFrom low run = (k : ℕ) → k < length run → at (low + k) ≡ get_or run k []
+  IsReadFrom low present = (k : ℕ) → k < length present → at (low + k) ≡ get_or present k []
 
-  first_read : (low : ℕ) (key : List ℕ) (run : List (List ℕ)) → IsReadFrom low (key ∷ run) → at low ≡ key
-  first_read low key run h = ap at (omega arith) ∙ h 0 (omega arith)
+  first_read : (low : ℕ) (key : List ℕ) (present : List (List ℕ)) → IsReadFrom low (key ∷ present) → at low ≡ key
+  first_read low key present h = ap at (omega arith) ∙ h 0 (omega arith)
 
-  rest_read : (low : ℕ) (key : List ℕ) (run : List (List ℕ)) → IsReadFrom low (key ∷ run) → IsReadFrom (low + 1) run
-  rest_read low key run h k inside = ap at (omega arith) ∙ h (suc k) (omega arith)
+  rest_read : (low : ℕ) (key : List ℕ) (present : List (List ℕ)) → IsReadFrom low (key ∷ present) → IsReadFrom (low + 1) present
+  rest_read low key present h k inside = ap at (omega arith) ∙ h (suc k) (omega arith)
 
-  read_alone : (low : ℕ) (run : List (List ℕ)) → IsReadFrom low run → AreRead at (keys_alone low run)
+  read_alone : (low : ℕ) (present : List (List ℕ)) → IsReadFrom low present → AreRead at (keys_alone low present)
   read_alone low [] h = tt
-  read_alone low (key ∷ run) h = (ap (λ a. a ∷ []) (first_read low key run h), read_alone (low + 1) run (rest_read low key run h))
+  read_alone low (key ∷ present) h = (ap (λ a. a ∷ []) (first_read low key present h), read_alone (low + 1) present (rest_read low key present h))
 
-  read_pairs : (low : ℕ) (run : List (List ℕ)) → IsReadFrom low run → AreRead at (keys_and_values low run)
+  read_pairs : (low : ℕ) (present : List (List ℕ)) → IsReadFrom low present → AreRead at (keys_and_values low present)
   read_pairs low [] h = tt
   read_pairs low (key ∷ []) h = tt
-  read_pairs low (key ∷ value ∷ run) h =
-      let second = rest_read low key (value ∷ run) h in
+  read_pairs low (key ∷ value ∷ present) h =
+      let second = rest_read low key (value ∷ present) h in
       let e : (low + 1) + 1 ≡ low + 2 = omega arith in
-      let third : IsReadFrom (low + 2) run = rw e at (rest_read (low + 1) value run second) in
-      (cc (first_read low key (value ∷ run) h, first_read (low + 1) value run second), read_pairs (low + 2) run third)
+      let third : IsReadFrom (low + 2) present = rw e at (rest_read (low + 1) value present second) in
+      (cc (first_read low key (value ∷ present) h, first_read (low + 1) value present second), read_pairs (low + 2) present third)
 
-  read_triples : (low : ℕ) (run : List (List ℕ)) → IsReadFrom low run → AreRead at (keys_and_two low run)
+  read_triples : (low : ℕ) (present : List (List ℕ)) → IsReadFrom low present → AreRead at (keys_and_two low present)
   read_triples low [] h = tt
   read_triples low (key ∷ []) h = tt
   read_triples low (key ∷ a ∷ []) h = tt
-  read_triples low (key ∷ a ∷ b ∷ run) h =
-      let second = rest_read low key (a ∷ b ∷ run) h in
-      let third = rest_read (low + 1) a (b ∷ run) second in
+  read_triples low (key ∷ a ∷ b ∷ present) h =
+      let second = rest_read low key (a ∷ b ∷ present) h in
+      let third = rest_read (low + 1) a (b ∷ present) second in
       let e : ((low + 1) + 1) + 1 ≡ low + 3 = omega arith in
-      let fourth : IsReadFrom (low + 3) run = rw e at (rest_read ((low + 1) + 1) b run third) in
-      (cc (first_read low key (a ∷ b ∷ run) h, first_read (low + 1) a (b ∷ run) second, first_read ((low + 1) + 1) b run third), read_triples (low + 3) run fourth)
+      let fourth : IsReadFrom (low + 3) present = rw e at (rest_read ((low + 1) + 1) b present third) in
+      (cc (first_read low key (a ∷ b ∷ present) h, first_read (low + 1) a (b ∷ present) second, first_read ((low + 1) + 1) b present third), read_triples (low + 3) present fourth)
 
-  read_tuples : (pattern : MultiSlotArgPattern) (low : ℕ) (run : List (List ℕ)) → IsReadFrom low run → AreRead at (tuples_from pattern low run)
-  read_tuples KeysOnly low run h = read_alone low run h
-  read_tuples KeyValuePairs low run h = read_pairs low run h
-  read_tuples KeysAndLastArg low run h = read_alone low run h
-  read_tuples KeyWithTwoArgTriples low run h = read_triples low run h
+  read_tuples : (pattern : MultiSlotArgPattern) (low : ℕ) (present : List (List ℕ)) → IsReadFrom low present → AreRead at (tuples_from pattern low present)
+  read_tuples KeysOnly low present h = read_alone low present h
+  read_tuples KeyValuePairs low present h = read_pairs low present h
+  read_tuples KeysAndLastArg low present h = read_alone low present h
+  read_tuples KeyWithTwoArgTriples low present h = read_triples low present h
 
   -- what is read at the places of a part's tuples is their arguments
-  read_part : (s : ℕ) (ts : List Tuple) → AreRead at ts → map at (tuple_places s ts) ≡ flat_map words_of (tuples_in_slot s ts)
+  read_part : (s : ℕ) (ts : List Tuple) → AreRead at ts → map at (tuple_places s ts) ≡ flat_map arguments_of (tuples_in_slot s ts)
   read_part s [] h = refl
   read_part s (t ∷ ts) h =
       by_test (nat_eq (slot_of t) s)
-      (λ here. rw here (map-append at (places_of t) (tuple_places s ts) ∙ ap (λ ws. ws ++ map at (tuple_places s ts)) h.0 ∙ ap (λ ws. words_of t ++ ws) (read_part s ts h.1)))
+      (λ here. rw here (map-append at (places_of t) (tuple_places s ts) ∙ ap (λ ws. ws ++ map at (tuple_places s ts)) h.0 ∙ ap (λ ws. arguments_of t ++ ws) (read_part s ts h.1)))
       (λ there. rw there (read_part s ts h.1))
 
 -- the arguments from a place to the end
-read_range : (run : List (List ℕ)) (low n : ℕ) → low + n ≡ length run → map (λ p. get_or run p []) (range_with_len low n) ≡ drop low run
-read_range run low zero e = sym (drop_of_length-le run (omega arith))
-read_range run low (suc n) e = ap (λ ws. get_or run low [] ∷ ws) (read_range run (low + 1) n (omega arith) ∙ ap (λ k. drop k run) (add-one low)) ∙ sym (drop-cons run low [] (omega arith))
+read_range : (present : List (List ℕ)) (low n : ℕ) → low + n ≡ length present → map (λ p. get_or present p []) (range_with_len low n) ≡ drop low present
+read_range present low zero e = sym (drop_of_length-le present (omega arith))
+read_range present low (suc n) e = ap (λ ws. get_or present low [] ∷ ws) (read_range present (low + 1) n (omega arith) ∙ ap (λ k. drop k present) (add-one low)) ∙ sym (drop-cons present low [] (omega arith))
 
-module _ (pattern : MultiSlotArgPattern) (run : List (List ℕ)) where
+module _ (pattern : MultiSlotArgPattern) (present : List (List ℕ)) where
   abbrev argument_at : ℕ → List ℕ
-  argument_at p = get_or run p []
+  argument_at p = get_or present p []
 
-  own_read : IsReadFrom argument_at 0 (take (own pattern run) run)
+  own_read : IsReadFrom argument_at 0 (take (own pattern present) present)
   own_read k inside =
-      let under : k < own pattern run = omega (arith, length_own pattern run) in
-      ap argument_at (zero-add k) ∙ sym (get_or-take (own pattern run) run k [] under)
+      let under : k < own pattern present = omega (arith, length_own pattern present) in
+      ap argument_at (zero-add k) ∙ sym (get_or-take (own pattern present) present k [] under)
 
-  tuples_read : (slot : ℕ) → map argument_at (tuple_places slot (tuples pattern run)) ≡ flat_map words_of (tuples_in_slot slot (tuples pattern run))
-  tuples_read slot = read_part argument_at slot (tuples pattern run) (read_tuples argument_at pattern 0 (take (own pattern run) run) own_read)
+  tuples_read : (slot : ℕ) → map argument_at (tuple_places slot (tuples pattern present)) ≡ flat_map arguments_of (tuples_in_slot slot (tuples pattern present))
+  tuples_read slot = read_part argument_at slot (tuples pattern present) (read_tuples argument_at pattern 0 (take (own pattern present) present) own_read)
 
-  last_read : map argument_at (last pattern run) ≡ shared_in pattern run
-  last_read = read_range run (own pattern run) (length run - own pattern run) (omega (arith, own_small pattern (length run)))
+  last_read : map argument_at (last pattern present) ≡ shared_in pattern present
+  last_read = read_range present (own pattern present) (length present - own pattern present) (omega (arith, own_small pattern (length present)))
 
 -- the arguments at the places of a part are the part's
-pub picked : (pattern : MultiSlotArgPattern) (run : List (List ℕ)) (slot : ℕ) → map (λ p. get_or run p []) (places_in_slot pattern run slot) ≡ words_in_slot pattern run slot
-picked pattern run slot =
-    map-append (argument_at pattern run) (tuple_places slot (tuples pattern run)) (last pattern run)
-    ∙ ap (λ ws. ws ++ map (argument_at pattern run) (last pattern run)) (tuples_read pattern run slot)
-    ∙ ap (λ ws. flat_map words_of (tuples_in_slot slot (tuples pattern run)) ++ ws) (last_read pattern run)
+pub arguments_at_places : (pattern : MultiSlotArgPattern) (present : List (List ℕ)) (slot : ℕ) → map (λ p. get_or present p []) (places_in_slot pattern present slot) ≡ arguments_in_slot pattern present slot
+arguments_at_places pattern present slot =
+    map-append (argument_at pattern present) (tuple_places slot (tuples pattern present)) (last pattern present)
+    ∙ ap (λ ws. ws ++ map (argument_at pattern present) (last pattern present)) (tuples_read pattern present slot)
+    ∙ ap (λ ws. flat_map arguments_of (tuples_in_slot slot (tuples pattern present)) ++ ws) (last_read pattern present)

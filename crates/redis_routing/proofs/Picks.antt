@@ -8,23 +8,24 @@ use Rattle.cluster_slots.specs.SlotRoute.{SlotRoute}
 use Rattle.redis_commands.specs.Command.{Arguments, HasWords, argument, command_of}
 use Rattle.redis_routing.specs.Laws.{ArePartsPickedAfter}
 use Rattle.redis_commands.specs.NameTables.{NameTables}
-use Rattle.redis_routing.specs.Parts.{first_appearances, slot_of, places_in_slot, words_in_slot, part_of_slot_after}
-use Rattle.redis_routing.specs.Routing.{routes_of, route_to}
-use Rattle.redis_commands.specs.Run.{run_after}
-use Rattle.redis_routing.specs.SubCommand.{all_texts, sub_command_after}
+use Rattle.redis_routing.specs.Parts.{first_appearances, slot_of, places_in_slot, arguments_in_slot, part_of_slot_after}
+use Rattle.redis_routing.specs.Routing.{routes_of, route_of_slot}
+use Rattle.redis_commands.specs.Lists.{all_some}
+use Rattle.redis_commands.specs.PresentArguments.{present_arguments_after}
+use Rattle.redis_routing.specs.SubCommand.{sub_command_after}
 use Rattle.redis_commands.specs.Tuples.{fits, tuples_in}
-use Rattle.redis_routing.specs.Complete.{pattern_of, pattern_by_name_with, routes_by_way, routes_by_name, multi_slot_routes_with, AreSubCommandsWith}
+use Rattle.redis_routing.specs.Complete.{pattern_of, pattern_by_name_with, routes_by, routes_by_name, multi_slot_routes_with, AreSubCommandsWith}
 use Rattle.redis_commands.specs.Tuples.{is_complete}
 use Rattle.redis_routing.specs.Split.{Split, IsSplit, route_part, split_part}
-use Rattle.redis_routing.specs.Target.{route_lists}
+use Rattle.redis_routing.specs.RoutingInfo.{route_list, route_lists}
 use Rattle.redis_commands.specs.declared.route_by.MultiSlotArgPattern.{MultiSlotArgPattern}
 use Rattle.redis_commands.specs.declared.route_by.MultiSlotArgPattern.TheVariants.{KeysOnly, KeyValuePairs, KeysAndLastArg, KeyWithTwoArgTriples}
 use Rattle.redis_commands.specs.declared.route_by.RouteBy.{RouteBy}
-use Rattle.redis_commands.specs.declared.route_by.RouteBy.TheVariants as way
+use Rattle.redis_commands.specs.declared.route_by.RouteBy.TheVariants as route_by
 use Rattle.std.proofs.lemmas.Bool.Decides.{nat_tests}
-use Rattle.redis_routing.proofs.Cover.{Between, bounds, part_in_run, picked}
+use Rattle.redis_routing.proofs.Cover.{Between, bounds, part_in_present, arguments_at_places}
 use Rattle.redis_routing.proofs.SubCommands.{before, name_before}
-use Rattle.redis_routing.proofs.TupleSteps.{run_item}
+use Rattle.redis_routing.proofs.TupleSteps.{present_item}
 
 -- a command with a name has its first word
 pub has_first : (args : Arguments) (name : List ℕ) → Some name ≡ command_of args → HasWords 1 args
@@ -33,7 +34,7 @@ has_first (None ∷ rest) name named = cc named
 has_first (Some first ∷ rest) name named = record { texts = first ∷ []; all = refl; taken = refl }
 
 -- arguments that are texts, read by their places
-read_from : (args : Arguments) (low : ℕ) (behind : Arguments) → drop low args ≡ behind → (texts : List (List ℕ)) → map Some texts ≡ take (length texts) behind → Some texts ≡ all_texts (map (λ place. argument args place) (range_with_len low (length texts)))
+read_from : (args : Arguments) (low : ℕ) (behind : Arguments) → drop low args ≡ behind → (texts : List (List ℕ)) → map Some texts ≡ take (length texts) behind → Some texts ≡ all_some (map (λ place. argument args place) (range_with_len low (length texts)))
 read_from args low behind is [] taken = refl
 read_from args low [] is (text ∷ texts) taken = absurd (cc taken)
 read_from args low (arg ∷ behind) is (text ∷ texts) taken =
@@ -42,39 +43,39 @@ read_from args low (arg ∷ behind) is (text ∷ texts) taken =
     let rest : drop (low + 1) args ≡ behind = sym (drop-drop 1 low args) ∙ ap (drop 1) is in
     let others : map Some texts ≡ take (length texts) behind = cc taken in
     ap (option_map (λ ts. text ∷ ts)) (read_from args (low + 1) behind rest texts others)
-    ∙ ap (λ a. all_texts (a ∷ map (λ place. argument args place) (range_with_len (low + 1) (length texts)))) (first ∙ sym here)
+    ∙ ap (λ a. all_some (a ∷ map (λ place. argument args place) (range_with_len (low + 1) (length texts)))) (first ∙ sym here)
 
-name_read : (words : ℕ) (args : Arguments) (name : HasWords words args) → Some name.texts ≡ all_texts (map (λ place. argument args place) (range_with_len 0 words))
+name_read : (words : ℕ) (args : Arguments) (name : HasWords words args) → Some name.texts ≡ all_some (map (λ place. argument args place) (range_with_len 0 words))
 name_read words args name =
-    read_from args 0 args refl name.texts (name.taken ∙ ap (λ n. take n args) (sym name.all)) ∙ ap (λ n. all_texts (map (λ place. argument args place) (range_with_len 0 n))) name.all
+    read_from args 0 args refl name.texts (name.taken ∙ ap (λ n. take n args) (sym name.all)) ∙ ap (λ n. all_some (map (λ place. argument args place) (range_with_len 0 n))) name.all
 
--- the arguments at places of the run
-texts_at : (words : ℕ) (args : Arguments) (low : ℕ) (places : List ℕ) → Between low (length (run_after words args)) places
-    → all_texts (map (λ place. argument args (place + words)) places) ≡ Some (map (λ place. get_or (run_after words args) place []) places)
+-- the present arguments at some places
+texts_at : (words : ℕ) (args : Arguments) (low : ℕ) (places : List ℕ) → Between low (length (present_arguments_after words args)) places
+    → all_some (map (λ place. argument args (place + words)) places) ≡ Some (map (λ place. get_or (present_arguments_after words args) place []) places)
 texts_at words args low [] h = refl
 texts_at words args low (p ∷ places) h =
-    let run = run_after words args in
-    let inside : p < length run = omega (arith, bounds (p + 1) (length run) places h.1) in
-    ap (λ a. all_texts (a ∷ map (λ place. argument args (place + words)) places)) (run_item words args p inside)
-    ∙ ap (option_map (λ texts. get_or run p [] ∷ texts)) (texts_at words args (p + 1) places h.1)
+    let present = present_arguments_after words args in
+    let inside : p < length present = omega (arith, bounds (p + 1) (length present) places h.1) in
+    ap (λ a. all_some (a ∷ map (λ place. argument args (place + words)) places)) (present_item words args p inside)
+    ∙ ap (option_map (λ texts. get_or present p [] ∷ texts)) (texts_at words args (p + 1) places h.1)
 
-part_picked : (words : ℕ) (args : Arguments) (pattern : MultiSlotArgPattern) (slot : ℕ) → HasWords words args → fits pattern (length (run_after words args)) ≡ true
-    → option_map (map Some) (sub_command_after words args (places_in_slot pattern (run_after words args) slot)) ≡ Some (part_of_slot_after words pattern args slot)
+part_picked : (words : ℕ) (args : Arguments) (pattern : MultiSlotArgPattern) (slot : ℕ) → HasWords words args → fits pattern (length (present_arguments_after words args)) ≡ true
+    → option_map (map Some) (sub_command_after words args (places_in_slot pattern (present_arguments_after words args) slot)) ≡ Some (part_of_slot_after words pattern args slot)
 part_picked words args pattern slot name whole =
-    let run = run_after words args in
-    let behind = map (λ place. argument args (place + words)) (places_in_slot pattern run slot) in
-    let texts : all_texts behind ≡ Some (words_in_slot pattern run slot) = texts_at words args 0 (places_in_slot pattern run slot) (part_in_run pattern run slot whole) ∙ ap Some (picked pattern run slot) in
-    let made : sub_command_after words args (places_in_slot pattern run slot) ≡ Some (name.texts ++ words_in_slot pattern run slot) =
+    let present = present_arguments_after words args in
+    let behind = map (λ place. argument args (place + words)) (places_in_slot pattern present slot) in
+    let texts : all_some behind ≡ Some (arguments_in_slot pattern present slot) = texts_at words args 0 (places_in_slot pattern present slot) (part_in_present pattern present slot whole) ∙ ap Some (arguments_at_places pattern present slot) in
+    let made : sub_command_after words args (places_in_slot pattern present slot) ≡ Some (name.texts ++ arguments_in_slot pattern present slot) =
     sym (name_before (map (λ place. argument args place) (range_with_len 0 words)) behind name.texts (name_read words args name)) ∙ ap (before name.texts) texts in
-    ap (option_map (map Some)) made ∙ ap Some (map-append Some name.texts (words_in_slot pattern run slot) ∙ ap (λ front. front ++ map Some (words_in_slot pattern run slot)) name.taken)
+    ap (option_map (map Some)) made ∙ ap Some (map-append Some name.texts (arguments_in_slot pattern present slot) ∙ ap (λ words. words ++ map Some (arguments_in_slot pattern present slot)) name.taken)
 
 -- the parts of all routes
-pub parts_picked : (words : ℕ) (args : Arguments) (reads : Bool) (pattern : MultiSlotArgPattern) → HasWords words args → fits pattern (length (run_after words args)) ≡ true → ArePartsPickedAfter words args pattern (routes_of reads pattern (run_after words args))
+pub parts_picked : (words : ℕ) (args : Arguments) (reads : Bool) (pattern : MultiSlotArgPattern) → HasWords words args → fits pattern (length (present_arguments_after words args)) ≡ true → ArePartsPickedAfter words args pattern (routes_of reads pattern (present_arguments_after words args))
 parts_picked words args reads pattern name whole = λ k d inside.
-    let run = run_after words args in
-    let slots = first_appearances (map slot_of (tuples_in pattern run)) in
+    let present = present_arguments_after words args in
+    let slots = first_appearances (map slot_of (tuples_in pattern present)) in
     let few : k < length slots = rw length-map at inside in
-    let is : get_or (routes_of reads pattern run) k d ≡ route_to reads pattern run (get_or slots k 0) = get_or-map (route_to reads pattern run) slots k 0 d few in
+    let is : get_or (routes_of reads pattern present) k d ≡ route_of_slot reads pattern present (get_or slots k 0) = get_or-map (route_of_slot reads pattern present) slots k 0 d few in
     rw is (part_picked words args pattern (get_or slots k 0) name whole)
 
 pub complete_fits : (pattern : MultiSlotArgPattern) (m : ℕ) → is_complete pattern m ≡ true → fits pattern m ≡ true
@@ -88,48 +89,44 @@ pub complete_sub_commands : (words : ℕ) (tables : NameTables) (only_reads : Li
     → multi_slot_routes_with words tables only_reads args ≡ Some routes → AreSubCommandsWith words tables args routes
 complete_sub_commands words tables only_reads args routes has = by_name (command_of args) refl
   where
-    by_length : (name : List ℕ) (pattern : MultiSlotArgPattern) → command_of args ≡ Some name → tables.way name ≡ Some (way.MultiSlot pattern) → (whole : Bool) → is_complete pattern (length (run_after words args)) ≡ whole
-        → cond whole (Some (routes_of (only_reads name) pattern (run_after words args))) None ≡ Some routes → AreSubCommandsWith words tables args routes
+    by_length : (name : List ℕ) (pattern : MultiSlotArgPattern) → command_of args ≡ Some name → tables.route_by name ≡ Some (route_by.MultiSlot pattern) → (whole : Bool) → is_complete pattern (length (present_arguments_after words args)) ≡ whole
+        → cond whole (Some (routes_of (only_reads name) pattern (present_arguments_after words args))) None ≡ Some routes → AreSubCommandsWith words tables args routes
     by_length name pattern named is true whole split =
         let same : pattern_by_name_with tables (command_of args) ≡ Some pattern = ap (pattern_by_name_with tables) named ∙ ap pattern_of is in
-        let routes-are : routes ≡ routes_of (only_reads name) pattern (run_after words args) = cc split in
-        rw (same, routes-are) (parts_picked words args (only_reads name) pattern (has name (sym named)) (complete_fits pattern (length (run_after words args)) whole))
+        let routes-are : routes ≡ routes_of (only_reads name) pattern (present_arguments_after words args) = cc split in
+        rw (same, routes-are) (parts_picked words args (only_reads name) pattern (has name (sym named)) (complete_fits pattern (length (present_arguments_after words args)) whole))
     by_length name pattern named is false whole split = absurd (cc split)
 
-    by_way : (name : List ℕ) → command_of args ≡ Some name → (w : Option RouteBy) → tables.way name ≡ w → routes_by_way words (only_reads name) args w ≡ Some routes → AreSubCommandsWith words tables args routes
-    by_way name named None is split = absurd (cc split)
-    by_way name named (Some way.AllNodes) is split = absurd (cc split)
-    by_way name named (Some way.AllMasters) is split = absurd (cc split)
-    by_way name named (Some (way.MultiSlot pattern)) is split = by_length name pattern named is (is_complete pattern (length (run_after words args))) refl split
-    by_way name named (Some way.Undefined) is split = absurd (cc split)
-    by_way name named (Some (way.CountAt n)) is split = absurd (cc split)
-    by_way name named (Some (way.KeyAt n)) is split = absurd (cc split)
-    by_way name named (Some way.KeyAfterStreams) is split = absurd (cc split)
-    by_way name named (Some way.Random) is split = absurd (cc split)
-    by_way name named (Some way.SlotAtTwo) is split = absurd (cc split)
+    by_route_by : (name : List ℕ) → command_of args ≡ Some name → (w : Option RouteBy) → tables.route_by name ≡ w → routes_by words (only_reads name) args w ≡ Some routes → AreSubCommandsWith words tables args routes
+    by_route_by name named None is split = absurd (cc split)
+    by_route_by name named (Some route_by.AllNodes) is split = absurd (cc split)
+    by_route_by name named (Some route_by.AllMasters) is split = absurd (cc split)
+    by_route_by name named (Some (route_by.MultiSlot pattern)) is split = by_length name pattern named is (is_complete pattern (length (present_arguments_after words args))) refl split
+    by_route_by name named (Some route_by.Undefined) is split = absurd (cc split)
+    by_route_by name named (Some (route_by.CountAt n)) is split = absurd (cc split)
+    by_route_by name named (Some (route_by.KeyAt n)) is split = absurd (cc split)
+    by_route_by name named (Some route_by.KeyAfterStreams) is split = absurd (cc split)
+    by_route_by name named (Some route_by.Random) is split = absurd (cc split)
+    by_route_by name named (Some (route_by.SlotAt n)) is split = absurd (cc split)
 
     by_name : (name : Option (List ℕ)) → command_of args ≡ name → routes_by_name words tables only_reads args name ≡ Some routes → AreSubCommandsWith words tables args routes
     by_name None named split = absurd (cc split)
-    by_name (Some name) named split = by_way name named (tables.way name) refl split
-
--- a route with the places of its part
-abbrev pub shown : SlotRoute × Vec ℕ Global → SlotRoute × List ℕ
-shown route = (route.0, route.1.items)
+    by_name (Some name) named split = by_route_by name named (tables.route_by name) refl split
 
 -- a sub-command that is a part, as texts
-is_made : (made : Option (List (List ℕ))) (part : Arguments) → option_map (map Some) made ≡ Some part → (words : List (List ℕ)) × (made ≡ Some words) × (map Some words ≡ part)
-is_made None part is = absurd (cc is)
-is_made (Some words) part is = (words, refl, cc is)
+sub_command_texts : (made : Option (List (List ℕ))) (part : Arguments) → option_map (map Some) made ≡ Some part → (words : List (List ℕ)) × (made ≡ Some words) × (map Some words ≡ part)
+sub_command_texts None part is = absurd (cc is)
+sub_command_texts (Some words) part is = (words, refl, cc is)
 
 -- the sub-command by the places of a route of a split is the part of its number
-pub part_made : (split : Split) → IsSplit split → (routes : List (SlotRoute × Vec ℕ Global)) (number : ℕ) (route : SlotRoute × Vec ℕ Global) → route_lists routes ≡ split.routes → number < length split.routes → route ≡ get_or routes number route
+pub route_sub_command : (split : Split) → IsSplit split → (routes : List (SlotRoute × Vec ℕ Global)) (number : ℕ) (route : SlotRoute × Vec ℕ Global) → route_lists routes ≡ split.routes → number < length split.routes → route ≡ get_or routes number route
     → (words : List (List ℕ)) × (sub_command_after split.words split.arguments route.1.items ≡ Some words) × (Some (map Some words) ≡ route_part split number)
-part_made split whole routes number route routes-are long is =
-    let inside : number < length routes = omega (arith, long, ap length routes-are, length-map routes shown) in
+route_sub_command split whole routes number route routes-are long is =
+    let inside : number < length routes = omega (arith, long, ap length routes-are, length-map routes route_list) in
     let each : ArePartsPickedAfter split.words split.arguments split.pattern split.routes =
-    subst (ArePartsPickedAfter split.words split.arguments split.pattern) (sym whole.routes) (parts_picked split.words split.arguments whole.only_reads split.pattern whole.name (complete_fits split.pattern (length (run_after split.words split.arguments)) whole.complete)) in
-    let there : slice_get split.routes number ≡ Some (shown route) =
-    ap (λ rs. slice_get rs number) (sym routes-are) ∙ slice_get-map shown routes number ∙ ap (option_map shown) (slice_get-get_or routes number route inside ∙ ap Some (sym is)) in
-    let here : get_or split.routes number (shown route) ≡ shown route = get_or_from_slice_get split.routes number (shown route) (shown route) there in
-    let part = is_made (sub_command_after split.words split.arguments route.1.items) (split_part split route.0.slot) (subst (λ r. option_map (map Some) (sub_command_after split.words split.arguments r.1) ≡ Some (split_part split r.0.slot)) here (each number (shown route) long)) in
+    subst (ArePartsPickedAfter split.words split.arguments split.pattern) (sym whole.routes) (parts_picked split.words split.arguments whole.only_reads split.pattern whole.name (complete_fits split.pattern (length (present_arguments_after split.words split.arguments)) whole.complete)) in
+    let there : slice_get split.routes number ≡ Some (route_list route) =
+    ap (λ rs. slice_get rs number) (sym routes-are) ∙ slice_get-map route_list routes number ∙ ap (option_map route_list) (slice_get-get_or routes number route inside ∙ ap Some (sym is)) in
+    let here : get_or split.routes number (route_list route) ≡ route_list route = get_or_from_slice_get split.routes number (route_list route) (route_list route) there in
+    let part = sub_command_texts (sub_command_after split.words split.arguments route.1.items) (split_part split route.0.slot) (subst (λ r. option_map (map Some) (sub_command_after split.words split.arguments r.1) ≡ Some (split_part split r.0.slot)) here (each number (route_list route) long)) in
     (part.0, part.1, ap Some part.2 ∙ sym (ap (option_map (λ r. split_part split r.0.slot)) there))

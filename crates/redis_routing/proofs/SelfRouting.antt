@@ -14,18 +14,18 @@ use Rattle.redis_commands.specs.Upper.{upper}
 use Rattle.redis_commands.specs.TwoWords.{takes_second}
 use Rattle.redis_commands.specs.Command.{Arguments, argument, command_of, in_upper_case, name_by, with_second}
 use Rattle.redis_commands.specs.RouteBy.{base_routings, base_routing}
-use Rattle.redis_commands.specs.Run.{front, run_after}
-use Rattle.redis_commands.specs.Tuples.{Tuple, fits, is_complete, keys_alone, keys_and_two, keys_and_values, own_count, shared_in, tuples_from, tuples_in, width_of, words_of}
-use Rattle.redis_routing.specs.Parts.{first_appearances, tuples_in_slot, part_of_slot_after, words_in_slot, slot_of}
-use Rattle.redis_routing.specs.Routing.{by_way_with, nodes_for, route_to, routes_of, routing_with, routing_of_with, to_routing, to_slots}
-use Rattle.redis_routing.specs.Target.{single, specific}
+use Rattle.redis_commands.specs.PresentArguments.{arguments_before_gap, present_arguments_after}
+use Rattle.redis_commands.specs.Tuples.{Tuple, fits, is_complete, keys_alone, keys_and_two, keys_and_values, own_count, shared_in, tuples_from, tuples_in, width_of, arguments_of}
+use Rattle.redis_routing.specs.Parts.{first_appearances, tuples_in_slot, part_of_slot_after, arguments_in_slot, slot_of}
+use Rattle.redis_routing.specs.Routing.{routing_by_with, nodes_for, route_of_slot, routes_of, routing_with, routing_by_name_with, routing_of_routes, to_slots}
+use Rattle.redis_routing.specs.RoutingInfo.{single_node, specific_node}
 use Rattle.redis_routing.specs.Laws.{ArePartsRoutedWith}
 use Rattle.redis_commands.specs.NameTables.{NameTables}
 use Rattle.redis_commands.specs.declared.policy.ResponsePolicy.{ResponsePolicy}
 use Rattle.redis_commands.specs.declared.route_by.MultiSlotArgPattern.{MultiSlotArgPattern}
 use Rattle.redis_commands.specs.declared.route_by.MultiSlotArgPattern.TheVariants.{KeysOnly, KeyValuePairs, KeysAndLastArg, KeyWithTwoArgTriples}
 use Rattle.redis_commands.specs.declared.route_by.RouteBy.{RouteBy}
-use Rattle.redis_commands.specs.declared.route_by.RouteBy.TheVariants as way
+use Rattle.redis_commands.specs.declared.route_by.RouteBy.TheVariants as route_by
 use Rattle.redis_commands.proofs.CommandNames.{one_word}
 use Rattle.redis_commands.proofs.Rows.{each_row}
 use Rattle.resp_core.proofs.Cases.{by_test}
@@ -39,12 +39,12 @@ abbrev is_plain : List ℕ → Bool
 is_plain name = not (takes_second name || list_any (nat_eq 32) name)
 
 abbrev plain_if_split : List ℕ → Option RouteBy → Bool
-plain_if_split name (Some (way.MultiSlot pattern)) = is_plain name
+plain_if_split name (Some (route_by.MultiSlot pattern)) = is_plain name
 plain_if_split name _ = true
 
-ways_plain : (name : List ℕ) → plain_if_split name (base_routing name) ≡ true
+each_plain : (name : List ℕ) → plain_if_split name (base_routing name) ≡ true
 unfolding base_routing takes_second
-ways_plain name = each_row plain_if_split (λ n. refl) base_routings refl name
+each_plain name = each_row plain_if_split (λ n. refl) base_routings refl name
 
 space_between : (first second : List ℕ) → list_any (nat_eq 32) (first ++ 32 ∷ second) ≡ true
 space_between [] second = refl
@@ -62,19 +62,19 @@ takes_none first second plain =
     (λ takes. takes)
 
 -- the name of a command that splits under the project's own tables is that of its first word, whatever follows
-pub first_names : (args : Arguments) (name : List ℕ) (pattern : MultiSlotArgPattern) → Some name ≡ command_of args → base_routing name ≡ Some (way.MultiSlot pattern) → (other : Arguments) → command_of (take 1 args ++ other) ≡ Some name
-first_names [] name pattern named way_is other = cc named
-first_names (None ∷ rest) name pattern named way_is other = cc named
-first_names (Some first ∷ rest) name pattern named way_is other =
+pub first_names : (args : Arguments) (name : List ℕ) (pattern : MultiSlotArgPattern) → Some name ≡ command_of args → base_routing name ≡ Some (route_by.MultiSlot pattern) → (other : Arguments) → command_of (take 1 args ++ other) ≡ Some name
+first_names [] name pattern named route_by_is other = cc named
+first_names (None ∷ rest) name pattern named route_by_is other = cc named
+first_names (Some first ∷ rest) name pattern named route_by_is other =
     let second : Option (List ℕ) = in_upper_case (argument (Some first ∷ rest) 1) in
     let name_is : name ≡ name_by (upper first) second = cc named in
-    let plain : is_plain name ≡ true = sym (ap (plain_if_split name) way_is) ∙ ways_plain name in
+    let plain : is_plain name ≡ true = sym (ap (plain_if_split name) route_by_is) ∙ each_plain name in
     let takes : takes_second (upper first) ≡ false = takes_none (upper first) second (sym (ap is_plain name_is) ∙ plain) in
     sym (named ∙ sym (one_word (Some first ∷ rest) first refl (sym takes)) ∙ one_word (Some first ∷ other) first refl (sym takes))
 
-front-map : (words : List (List ℕ)) → front (map Some words) ≡ words
-front-map [] = refl
-front-map (word ∷ words) = ap (λ ws. word ∷ ws) (front-map words)
+arguments_before_gap-map : (words : List (List ℕ)) → arguments_before_gap (map Some words) ≡ words
+arguments_before_gap-map [] = refl
+arguments_before_gap-map (word ∷ words) = ap (λ ws. word ∷ ws) (arguments_before_gap-map words)
 
 first_again : (slot : ℕ) (more : Bool) → slot ∷ filter (λ n. not (nat_eq slot n)) (cond more (slot ∷ []) []) ≡ slot ∷ []
 first_again slot true = rw (eq-eqb slot slot refl) refl
@@ -105,49 +105,49 @@ same_contents f ts us same = sym (map-map f content ts) ∙ ap (map f) same ∙ 
 
 -- tuples of one width: their arguments, one after another, make tuples of the same contents again; and there are no more of them than the bound
 record IsWhole (make : ℕ → List (List ℕ) → List Tuple) (width bound : ℕ) (ts : List Tuple) : Type 0 where
-  tuples : (place : ℕ) → map content (make place (flat_map words_of ts)) ≡ map content ts
-  size : length (flat_map words_of ts) ≡ length ts * width
+  tuples : (place : ℕ) → map content (make place (flat_map arguments_of ts)) ≡ map content ts
+  size : length (flat_map arguments_of ts) ≡ length ts * width
   few : length ts ≤ bound
 
 wider : (make : ℕ → List (List ℕ) → List Tuple) (width bound other : ℕ) (ts : List Tuple) → bound ≤ other → IsWhole make width bound ts → IsWhole make width other ts
 wider make width bound other ts within whole = record { tuples = whole.tuples; size = whole.size; few = omega (arith, whole.few) }
 
 -- a part keeps a tuple or drops it
-kept_or_not : (P : List Tuple → Type 0) (slot : ℕ) (t : Tuple) (ts : List Tuple) → P (tuples_in_slot slot ts) → P (t ∷ tuples_in_slot slot ts) → P (tuples_in_slot slot (t ∷ ts))
-kept_or_not P slot t ts dropped kept = by_test (nat_eq (slot_of t) slot) (λ here. rw here kept) (λ other. rw other dropped)
+with_or_without : (P : List Tuple → Type 0) (slot : ℕ) (t : Tuple) (ts : List Tuple) → P (tuples_in_slot slot ts) → P (t ∷ tuples_in_slot slot ts) → P (tuples_in_slot slot (t ∷ ts))
+with_or_without P slot t ts dropped kept = by_test (nat_eq (slot_of t) slot) (λ here. rw here kept) (λ other. rw other dropped)
 
-whole_alone : (slot place : ℕ) (run : List (List ℕ)) → IsWhole keys_alone 1 (length run) (tuples_in_slot slot (keys_alone place run))
+whole_alone : (slot place : ℕ) (present : List (List ℕ)) → IsWhole keys_alone 1 (length present) (tuples_in_slot slot (keys_alone place present))
 whole_alone slot place [] = record { tuples = λ p. refl; size = refl; few = omega arith }
-whole_alone slot place (key ∷ run) =
-    let rest = whole_alone slot (place + 1) run in
-    kept_or_not (IsWhole keys_alone 1 (suc (length run))) slot (record { place = place; key = key; extras = [] }) (keys_alone (place + 1) run)
-    (wider keys_alone 1 (length run) (suc (length run)) _ (omega arith) rest)
+whole_alone slot place (key ∷ present) =
+    let rest = whole_alone slot (place + 1) present in
+    with_or_without (IsWhole keys_alone 1 (suc (length present))) slot (record { place = place; key = key; extras = [] }) (keys_alone (place + 1) present)
+    (wider keys_alone 1 (length present) (suc (length present)) _ (omega arith) rest)
     (record { tuples = λ p. ap (λ us. (key, []) ∷ us) (rest.tuples (p + 1)); size = omega (arith, rest.size); few = omega (arith, rest.few) })
 
-whole_values : (slot place : ℕ) (run : List (List ℕ)) → IsWhole keys_and_values 2 (length run) (tuples_in_slot slot (keys_and_values place run))
+whole_values : (slot place : ℕ) (present : List (List ℕ)) → IsWhole keys_and_values 2 (length present) (tuples_in_slot slot (keys_and_values place present))
 whole_values slot place [] = record { tuples = λ p. refl; size = refl; few = omega arith }
 whole_values slot place (key ∷ []) = record { tuples = λ p. refl; size = refl; few = omega arith }
-whole_values slot place (key ∷ value ∷ run) =
-    let rest = whole_values slot (place + 2) run in
-    kept_or_not (IsWhole keys_and_values 2 (suc (suc (length run)))) slot (record { place = place; key = key; extras = value ∷ [] }) (keys_and_values (place + 2) run)
-    (wider keys_and_values 2 (length run) (suc (suc (length run))) _ (omega arith) rest)
+whole_values slot place (key ∷ value ∷ present) =
+    let rest = whole_values slot (place + 2) present in
+    with_or_without (IsWhole keys_and_values 2 (suc (suc (length present)))) slot (record { place = place; key = key; extras = value ∷ [] }) (keys_and_values (place + 2) present)
+    (wider keys_and_values 2 (length present) (suc (suc (length present))) _ (omega arith) rest)
     (record { tuples = λ p. ap (λ us. (key, value ∷ []) ∷ us) (rest.tuples (p + 2)); size = omega (arith, rest.size); few = omega (arith, rest.few) })
 
-whole_two : (slot place : ℕ) (run : List (List ℕ)) → IsWhole keys_and_two 3 (length run) (tuples_in_slot slot (keys_and_two place run))
+whole_two : (slot place : ℕ) (present : List (List ℕ)) → IsWhole keys_and_two 3 (length present) (tuples_in_slot slot (keys_and_two place present))
 whole_two slot place [] = record { tuples = λ p. refl; size = refl; few = omega arith }
 whole_two slot place (key ∷ []) = record { tuples = λ p. refl; size = refl; few = omega arith }
 whole_two slot place (key ∷ a ∷ []) = record { tuples = λ p. refl; size = refl; few = omega arith }
-whole_two slot place (key ∷ a ∷ b ∷ run) =
-    let rest = whole_two slot (place + 3) run in
-    kept_or_not (IsWhole keys_and_two 3 (suc (suc (suc (length run))))) slot (record { place = place; key = key; extras = a ∷ b ∷ [] }) (keys_and_two (place + 3) run)
-    (wider keys_and_two 3 (length run) (suc (suc (suc (length run)))) _ (omega arith) rest)
+whole_two slot place (key ∷ a ∷ b ∷ present) =
+    let rest = whole_two slot (place + 3) present in
+    with_or_without (IsWhole keys_and_two 3 (suc (suc (suc (length present))))) slot (record { place = place; key = key; extras = a ∷ b ∷ [] }) (keys_and_two (place + 3) present)
+    (wider keys_and_two 3 (length present) (suc (suc (suc (length present)))) _ (omega arith) rest)
     (record { tuples = λ p. ap (λ us. (key, a ∷ b ∷ []) ∷ us) (rest.tuples (p + 3)); size = omega (arith, rest.size); few = omega (arith, rest.few) })
 
-whole : (pattern : MultiSlotArgPattern) (slot place : ℕ) (run : List (List ℕ)) → IsWhole (tuples_from pattern) (width_of pattern) (length run) (tuples_in_slot slot (tuples_from pattern place run))
-whole KeysOnly slot place run = whole_alone slot place run
-whole KeyValuePairs slot place run = whole_values slot place run
-whole KeysAndLastArg slot place run = whole_alone slot place run
-whole KeyWithTwoArgTriples slot place run = whole_two slot place run
+whole : (pattern : MultiSlotArgPattern) (slot place : ℕ) (present : List (List ℕ)) → IsWhole (tuples_from pattern) (width_of pattern) (length present) (tuples_in_slot slot (tuples_from pattern place present))
+whole KeysOnly slot place present = whole_alone slot place present
+whole KeyValuePairs slot place present = whole_values slot place present
+whole KeysAndLastArg slot place present = whole_alone slot place present
+whole KeyWithTwoArgTriples slot place present = whole_two slot place present
 
 -- where n of the tuples of m arguments stand before what all share, what makes tuples is again what those n have
 own_again : (pattern : MultiSlotArgPattern) (m n : ℕ) → 0 < n → n ≤ own_count pattern m → own_count pattern (n * width_of pattern + (m - own_count pattern m)) ≡ n * width_of pattern
@@ -173,49 +173,49 @@ still_complete KeyValuePairs m n some complete = fits_again KeyValuePairs m n so
 still_complete KeysAndLastArg m n some complete = grind (arith, nat_tests)
 still_complete KeyWithTwoArgTriples m n some complete = fits_again KeyWithTwoArgTriples m n some
 
-module _ (pattern : MultiSlotArgPattern) (run : List (List ℕ)) (slot : ℕ) (there : list_any (λ t. nat_eq (slot_of t) slot) (tuples_in pattern run) ≡ true) where
-  abbrev kept : List Tuple
-  kept = tuples_in_slot slot (tuples_in pattern run)
+module _ (pattern : MultiSlotArgPattern) (present : List (List ℕ)) (slot : ℕ) (there : list_any (λ t. nat_eq (slot_of t) slot) (tuples_in pattern present) ≡ true) where
+  abbrev slot_tuples : List Tuple
+  slot_tuples = tuples_in_slot slot (tuples_in pattern present)
 
-  abbrev words : List (List ℕ)
-  words = words_in_slot pattern run slot
+  abbrev part_arguments : List (List ℕ)
+  part_arguments = arguments_in_slot pattern present slot
 
-  one_slot : first_appearances (map slot_of kept) ≡ slot ∷ []
-  one_slot = first_appearances-part slot (tuples_in pattern run) ∙ ap (λ b. cond b (slot ∷ []) []) there
+  one_slot : first_appearances (map slot_of slot_tuples) ≡ slot ∷ []
+  one_slot = first_appearances-part slot (tuples_in pattern present) ∙ ap (λ b. cond b (slot ∷ []) []) there
 
-  made : IsWhole (tuples_from pattern) (width_of pattern) (length (take (own_count pattern (length run)) run)) kept
-  made = whole pattern slot 0 (take (own_count pattern (length run)) run)
+  whole_part : IsWhole (tuples_from pattern) (width_of pattern) (length (take (own_count pattern (length present)) present)) slot_tuples
+  whole_part = whole pattern slot 0 (take (own_count pattern (length present)) present)
 
-  length-words : length words ≡ length kept * width_of pattern + (length run - own_count pattern (length run))
-  length-words = length-append (flat_map words_of kept) (shared_in pattern run) ∙ ap (λ n. n + length (shared_in pattern run)) made.size ∙ ap (λ n. length kept * width_of pattern + n) (length-drop (own_count pattern (length run)) run)
+  length-part_arguments : length part_arguments ≡ length slot_tuples * width_of pattern + (length present - own_count pattern (length present))
+  length-part_arguments = length-append (flat_map arguments_of slot_tuples) (shared_in pattern present) ∙ ap (λ n. n + length (shared_in pattern present)) whole_part.size ∙ ap (λ n. length slot_tuples * width_of pattern + n) (length-drop (own_count pattern (length present)) present)
 
-  own-words : own_count pattern (length words) ≡ length (flat_map words_of kept)
-  own-words =
-      ap (own_count pattern) length-words
-      ∙ own_again pattern (length run) (length kept) (some_tuple slot kept one_slot) (omega (arith, made.few, length-take (own_count pattern (length run)) run))
-      ∙ sym made.size
+  own-part_arguments : own_count pattern (length part_arguments) ≡ length (flat_map arguments_of slot_tuples)
+  own-part_arguments =
+      ap (own_count pattern) length-part_arguments
+      ∙ own_again pattern (length present) (length slot_tuples) (some_tuple slot slot_tuples one_slot) (omega (arith, whole_part.few, length-take (own_count pattern (length present)) present))
+      ∙ sym whole_part.size
 
   -- the tuples of the part by itself have the contents of the slot's
-  pub tuples_again : map content (tuples_in pattern words) ≡ map content kept
+  pub tuples_again : map content (tuples_in pattern part_arguments) ≡ map content slot_tuples
   tuples_again =
-      ap (λ own. map content (tuples_from pattern 0 own)) (take_at (flat_map words_of kept) (shared_in pattern run) (own_count pattern (length words)) (sym own-words))
-      ∙ made.tuples 0
+      ap (λ own. map content (tuples_from pattern 0 own)) (take_at (flat_map arguments_of slot_tuples) (shared_in pattern present) (own_count pattern (length part_arguments)) (sym own-part_arguments))
+      ∙ whole_part.tuples 0
 
-  -- what all its tuples share is what all tuples of the run share
-  pub shared_again : shared_in pattern words ≡ shared_in pattern run
-  shared_again = drop_at (flat_map words_of kept) (shared_in pattern run) (own_count pattern (length words)) (sym own-words)
+  -- what all its tuples share is what all tuples of the command share
+  pub shared_again : shared_in pattern part_arguments ≡ shared_in pattern present
+  shared_again = drop_at (flat_map arguments_of slot_tuples) (shared_in pattern present) (own_count pattern (length part_arguments)) (sym own-part_arguments)
 
-  -- the part of a complete run is complete
-  pub complete_again : is_complete pattern (length run) ≡ true → is_complete pattern (length words) ≡ true
-  complete_again complete = ap (is_complete pattern) length-words ∙ still_complete pattern (length run) (length kept) (some_tuple slot kept one_slot) complete
+  -- the part of a complete command is complete
+  pub complete_again : is_complete pattern (length present) ≡ true → is_complete pattern (length part_arguments) ≡ true
+  complete_again complete = ap (is_complete pattern) length-part_arguments ∙ still_complete pattern (length present) (length slot_tuples) (some_tuple slot slot_tuples one_slot) complete
 
-  one_slot_again : first_appearances (map slot_of (tuples_in pattern words)) ≡ slot ∷ []
-  one_slot_again = ap first_appearances (same_contents (λ u. key_slot u.0) (tuples_in pattern words) kept tuples_again) ∙ one_slot
+  one_slot_again : first_appearances (map slot_of (tuples_in pattern part_arguments)) ≡ slot ∷ []
+  one_slot_again = ap first_appearances (same_contents (λ u. key_slot u.0) (tuples_in pattern part_arguments) slot_tuples tuples_again) ∙ one_slot
 
-  part_to_slot : (reads : Bool) (policy : Option ResponsePolicy) → to_slots reads policy pattern words ≡ Some (single (specific (record { slot = slot; addr = nodes_for reads })))
+  part_to_slot : (reads : Bool) (policy : Option ResponsePolicy) → to_slots reads policy pattern part_arguments ≡ Some (single_node (specific_node (record { slot = slot; addr = nodes_for reads })))
   part_to_slot reads policy =
-      ap (λ b. cond b (Some (to_routing pattern policy (routes_of reads pattern words))) None) (ap (fits pattern) length-words ∙ fits_again pattern (length run) (length kept) (some_tuple slot kept one_slot))
-      ∙ ap (λ slots. Some (to_routing pattern policy (map (route_to reads pattern words) slots))) one_slot_again
+      ap (λ b. cond b (Some (routing_of_routes pattern policy (routes_of reads pattern part_arguments))) None) (ap (fits pattern) length-part_arguments ∙ fits_again pattern (length present) (length slot_tuples) (some_tuple slot slot_tuples one_slot))
+      ∙ ap (λ slots. Some (routing_of_routes pattern policy (map (route_of_slot reads pattern part_arguments) slots))) one_slot_again
 
 -- each of some things is one of those with its number
 pub all_there : {X : Type 0} (number : X → ℕ) (xs : List X) → All (λ x. list_any (λ y. nat_eq (number y) (number x)) xs ≡ true) xs
@@ -236,36 +236,36 @@ fits_some KeysAndLastArg m h = grind (arith, nat_tests)
 fits_some KeyWithTwoArgTriples zero h = absurd (cc h)
 fits_some KeyWithTwoArgTriples (suc m) h = omega arith
 
-pub front_short : (args : Arguments) → length (front args) ≤ length args
-front_short [] = omega arith
-front_short (None ∷ args) = omega arith
-front_short (Some arg ∷ args) = omega (arith, front_short args)
+pub before_gap_short : (args : Arguments) → length (arguments_before_gap args) ≤ length args
+before_gap_short [] = omega arith
+before_gap_short (None ∷ args) = omega arith
+before_gap_short (Some arg ∷ args) = omega (arith, before_gap_short args)
 
 -- after the words of the name stand only texts of the part
-pub run-part : (words : ℕ) (args : Arguments) (texts : List (List ℕ)) → 0 < length (run_after words args) → run_after words (take words args ++ map Some texts) ≡ texts
-run-part words args texts some =
-    let long : length (take words args) ≡ words = length-take-le words args (omega (arith, some, front_short (drop words args), length-drop words args)) in
-    ap front (drop_at (take words args) (map Some texts) words long) ∙ front-map texts
+pub present_arguments-part : (words : ℕ) (args : Arguments) (texts : List (List ℕ)) → 0 < length (present_arguments_after words args) → present_arguments_after words (take words args ++ map Some texts) ≡ texts
+present_arguments-part words args texts some =
+    let long : length (take words args) ≡ words = length-take-le words args (omega (arith, some, before_gap_short (drop words args), length-drop words args)) in
+    ap arguments_before_gap (drop_at (take words args) (map Some texts) words long) ∙ arguments_before_gap-map texts
 
-module _ (words : ℕ) (tables : NameTables) (only_reads : List ℕ → Bool) (args : Arguments) (name : List ℕ) (pattern : MultiSlotArgPattern) (named : (other : Arguments) → command_of (take words args ++ other) ≡ Some name) (way_is : tables.way name ≡ Some (way.MultiSlot pattern)) (fit : fits pattern (length (run_after words args)) ≡ true) where
-  abbrev run : List (List ℕ)
-  run = run_after words args
+module _ (words : ℕ) (tables : NameTables) (only_reads : List ℕ → Bool) (args : Arguments) (name : List ℕ) (pattern : MultiSlotArgPattern) (named : (other : Arguments) → command_of (take words args ++ other) ≡ Some name) (route_by_is : tables.route_by name ≡ Some (route_by.MultiSlot pattern)) (fit : fits pattern (length (present_arguments_after words args)) ≡ true) where
+  abbrev present : List (List ℕ)
+  present = present_arguments_after words args
 
-  part_routed : (slot : ℕ) → list_any (λ t. nat_eq (slot_of t) slot) (tuples_in pattern run) ≡ true
-      → routing_with words tables only_reads (part_of_slot_after words pattern args slot) ≡ Some (single (specific (record { slot = slot; addr = nodes_for (only_reads name) })))
+  part_routed : (slot : ℕ) → list_any (λ t. nat_eq (slot_of t) slot) (tuples_in pattern present) ≡ true
+      → routing_with words tables only_reads (part_of_slot_after words pattern args slot) ≡ Some (single_node (specific_node (record { slot = slot; addr = nodes_for (only_reads name) })))
   part_routed slot there =
-      let texts : List (List ℕ) = words_in_slot pattern run slot in
+      let texts : List (List ℕ) = arguments_in_slot pattern present slot in
       let as_command : Arguments = part_of_slot_after words pattern args slot in
-      ap (routing_of_with words tables only_reads as_command) (named (map Some texts))
-      ∙ ap (by_way_with words tables (only_reads name) name as_command) way_is
-      ∙ ap (to_slots (only_reads name) (tables.policy name) pattern) (run-part words args texts (fits_some pattern (length run) fit))
-      ∙ part_to_slot pattern run slot there (only_reads name) (tables.policy name)
+      ap (routing_by_name_with words tables only_reads as_command) (named (map Some texts))
+      ∙ ap (routing_by_with words tables (only_reads name) name as_command) route_by_is
+      ∙ ap (to_slots (only_reads name) (tables.policy name) pattern) (present_arguments-part words args texts (fits_some pattern (length present) fit))
+      ∙ part_to_slot pattern present slot there (only_reads name) (tables.policy name)
 
-  pub parts_routed : ArePartsRoutedWith words tables only_reads args pattern (routes_of (only_reads name) pattern run)
+  pub parts_routed : ArePartsRoutedWith words tables only_reads args pattern (routes_of (only_reads name) pattern present)
   parts_routed =
-      let ts : List Tuple = tuples_in pattern run in
-      let Routed : SlotRoute × List ℕ → Type 0 = λ r. routing_with words tables only_reads (part_of_slot_after words pattern args r.0.slot) ≡ Some (single (specific r.0)) in
+      let ts : List Tuple = tuples_in pattern present in
+      let Routed : SlotRoute × List ℕ → Type 0 = λ r. routing_with words tables only_reads (part_of_slot_after words pattern args r.0.slot) ≡ Some (single_node (specific_node r.0)) in
       let There : ℕ → Type 0 = λ slot. list_any (λ t. nat_eq (slot_of t) slot) ts ≡ true in
-      All-map Routed (route_to (only_reads name) pattern run) (first_appearances (map slot_of ts))
-      (All-weaker There (λ slot. Routed (route_to (only_reads name) pattern run slot)) part_routed (first_appearances (map slot_of ts))
+      All-map Routed (route_of_slot (only_reads name) pattern present) (first_appearances (map slot_of ts))
+      (All-weaker There (λ slot. Routed (route_of_slot (only_reads name) pattern present slot)) part_routed (first_appearances (map slot_of ts))
       (All-first_appearances There (map slot_of ts) (All-map There slot_of ts (all_there slot_of ts))))

@@ -11,7 +11,7 @@ use Rattle.std.proofs.lemmas.Bool.Decides.{nat_tests}
 use Rattle.std.proofs.lemmas.Simd.{map-map}
 use Rattle.std.specs.Cmp.{IsEquivalence}
 use Rattle.cluster_slots.specs.declared.slot.SlotAddr.{SlotAddr}
-use Rattle.redis_routing.specs.Groups.{Group, groups_of, shown, group_route}
+use Rattle.redis_routing.specs.Groups.{Group, groups_of, entry_groups, route_of_group}
 use Rattle.redis_routing.specs.Parts.{first_appearances, slot_of, tuples_in_slot}
 use Rattle.redis_routing.specs.Routing.{nodes_for, routes_of}
 use Rattle.redis_commands.specs.Tuples.{Tuple, tuples_in, own_count, places_of}
@@ -59,15 +59,15 @@ firsts_push (y ∷ ys) x =
     (λ k. let m : nat_eq y x ≡ false = swap y x ∙ k in rw (k, m) refl)))
 
 -- the entries of a map are the groups, where its keys are and each look-up is
-pub shown_groups : (entries : List (ℕ × Vec ℕ Global)) (ts : List Tuple)
+pub entry_groups_are : (entries : List (ℕ × Vec ℕ Global)) (ts : List Tuple)
     → keys_of entries ≡ first_appearances (map slot_of ts)
     → ((i k : ℕ) (v : Vec ℕ Global) → slice_get entries i ≡ Some (k, v) → v.items ≡ flat_map places_of (tuples_in_slot k ts))
-    → shown entries ≡ groups_of ts
-shown_groups entries ts keys each = same entries each ∙ ap (map (λ s. (s, flat_map places_of (tuples_in_slot s ts)))) keys
+    → entry_groups entries ≡ groups_of ts
+entry_groups_are entries ts keys each = same entries each ∙ ap (map (λ s. (s, flat_map places_of (tuples_in_slot s ts)))) keys
   where
-    same : (es : List (ℕ × Vec ℕ Global)) → ((i k : ℕ) (v : Vec ℕ Global) → slice_get es i ≡ Some (k, v) → v.items ≡ flat_map places_of (tuples_in_slot k ts)) → shown es ≡ map (λ s. (s, flat_map places_of (tuples_in_slot s ts))) (keys_of es)
+    same : (es : List (ℕ × Vec ℕ Global)) → ((i k : ℕ) (v : Vec ℕ Global) → slice_get es i ≡ Some (k, v) → v.items ≡ flat_map places_of (tuples_in_slot k ts)) → entry_groups es ≡ map (λ s. (s, flat_map places_of (tuples_in_slot s ts))) (keys_of es)
     same [] h = refl
-    same (e ∷ es) h = ap (λ ps. (e.0, ps) ∷ shown es) (h 0 e.0 e.1 refl) ∙ ap (λ zs. (e.0, flat_map places_of (tuples_in_slot e.0 ts)) ∷ zs) (same es (λ i k v at. h (suc i) k v at))
+    same (e ∷ es) h = ap (λ ps. (e.0, ps) ∷ entry_groups es) (h 0 e.0 e.1 refl) ∙ ap (λ zs. (e.0, flat_map places_of (tuples_in_slot e.0 ts)) ∷ zs) (same es (λ i k v at. h (suc i) k v at))
 
 module _ (ts more : List Tuple) (t : Tuple) (slot : ℕ) (same : slot ≡ slot_of t) (is : more ≡ ts ++ t ∷ []) where
   slots_more : map slot_of more ≡ map slot_of ts ++ slot ∷ []
@@ -88,18 +88,18 @@ module _ (ts more : List Tuple) (t : Tuple) (slot : ℕ) (same : slot ≡ slot_o
       ∙ ap (λ n. if nat_eq n s then flat_map places_of (tuples_in_slot s ts) ++ places_of t else flat_map places_of (tuples_in_slot s ts)) same
       ∙ sym (ap (λ us. flat_map places_of (tuples_in_slot s us)) is ∙ part_push s ts t)
 
--- the routes of the groups are those of the run
-pub routes_are : (reads : Bool) (pattern : MultiSlotArgPattern) (run : List (List ℕ)) (groups : List Group) (nodes : SlotAddr) (own m : ℕ)
-    → groups ≡ groups_of (tuples_in pattern run) → nodes ≡ nodes_for reads → own ≡ own_count pattern (length run) → m ≡ length run
-    → map (group_route nodes (range_with_len own (m - own))) groups ≡ routes_of reads pattern run
-routes_are reads pattern run groups nodes own m groups-are nodes-are own-is m-is =
-    let ts = tuples_in pattern run in
-    let shared : range_with_len own (m - own) ≡ range_with_len (own_count pattern (length run)) (length run - own_count pattern (length run)) =
-    ap (λ o. range_with_len o (m - o)) own-is ∙ ap (λ k. range_with_len (own_count pattern (length run)) (k - own_count pattern (length run))) m-is in
-    ap (λ ps. map (group_route nodes ps) groups) shared
-    ∙ ap (λ n. map (group_route n (range_with_len (own_count pattern (length run)) (length run - own_count pattern (length run)))) groups) nodes-are
-    ∙ ap (map (group_route (nodes_for reads) (range_with_len (own_count pattern (length run)) (length run - own_count pattern (length run))))) groups-are
-    ∙ map-map (group_route (nodes_for reads) (range_with_len (own_count pattern (length run)) (length run - own_count pattern (length run)))) (λ s. (s, flat_map places_of (tuples_in_slot s ts))) (first_appearances (map slot_of ts))
+-- the routes of the groups are those of the present arguments
+pub routes_are : (reads : Bool) (pattern : MultiSlotArgPattern) (present : List (List ℕ)) (groups : List Group) (nodes : SlotAddr) (own m : ℕ)
+    → groups ≡ groups_of (tuples_in pattern present) → nodes ≡ nodes_for reads → own ≡ own_count pattern (length present) → m ≡ length present
+    → map (route_of_group nodes (range_with_len own (m - own))) groups ≡ routes_of reads pattern present
+routes_are reads pattern present groups nodes own m groups-are nodes-are own-is m-is =
+    let ts = tuples_in pattern present in
+    let shared : range_with_len own (m - own) ≡ range_with_len (own_count pattern (length present)) (length present - own_count pattern (length present)) =
+    ap (λ o. range_with_len o (m - o)) own-is ∙ ap (λ k. range_with_len (own_count pattern (length present)) (k - own_count pattern (length present))) m-is in
+    ap (λ ps. map (route_of_group nodes ps) groups) shared
+    ∙ ap (λ n. map (route_of_group n (range_with_len (own_count pattern (length present)) (length present - own_count pattern (length present)))) groups) nodes-are
+    ∙ ap (map (route_of_group (nodes_for reads) (range_with_len (own_count pattern (length present)) (length present - own_count pattern (length present))))) groups-are
+    ∙ map-map (route_of_group (nodes_for reads) (range_with_len (own_count pattern (length present)) (length present - own_count pattern (length present)))) (λ s. (s, flat_map places_of (tuples_in_slot s ts))) (first_appearances (map slot_of ts))
 
 -- two facts of a value make a third
 pub with_both : {X E : Type 0} (r : Result X E) (P : X → Type 0) (Q : Type 0) (R : X → Type 0) → IfOk r P → OnOk r Q → ((x : X) → P x → Q → R x) → IfOk r R

@@ -3,11 +3,11 @@ use Rattle.std.proofs.Common.{◌≡◌, ℕ, zero, suc, ◌<◌, List, [], ◌�
 use Rattle.std.proofs.lemmas.Bool.Decides.{nat_tests}
 use Rattle.std.proofs.lemmas.List.{length-map}
 use Rattle.redis_routing.specs.Parts.{first_appearances, slot_of}
-use Rattle.redis_routing.specs.Routing.{route_to, routes_of}
+use Rattle.redis_routing.specs.Routing.{route_of_slot, routes_of}
 use Rattle.redis_commands.specs.Tuples.{Tuple, fits, own_count, tuples_in}
 use Rattle.redis_commands.specs.declared.route_by.MultiSlotArgPattern.{MultiSlotArgPattern}
 use Rattle.redis_commands.specs.declared.route_by.MultiSlotArgPattern.TheVariants.{KeysOnly, KeyValuePairs, KeysAndLastArg, KeyWithTwoArgTriples}
-use Rattle.redis_routing.proofs.Cover.{Tiles, tiles_run}
+use Rattle.redis_routing.proofs.Cover.{Tiles, tiles_present}
 
 -- where tuples are whole, some arguments make them
 some_own : (pattern : MultiSlotArgPattern) (m : ℕ) → fits pattern m ≡ true → 0 < own_count pattern m
@@ -26,9 +26,9 @@ some_first : (ns : List ℕ) → 0 < length ns → 0 < length (first_appearances
 some_first [] some = some
 some_first (n ∷ ns) some = omega arith
 
-pub some_route : (reads : Bool) (pattern : MultiSlotArgPattern) (run : List (List ℕ)) → fits pattern (length run) ≡ true → 0 < length (routes_of reads pattern run)
-some_route reads pattern run fit =
-    let ts = tuples_in pattern run in
-    let tuples : 0 < length ts = some_tuple (own_count pattern (length run)) ts (tiles_run pattern run fit) (some_own pattern (length run) fit) in
+pub some_route : (reads : Bool) (pattern : MultiSlotArgPattern) (present : List (List ℕ)) → fits pattern (length present) ≡ true → 0 < length (routes_of reads pattern present)
+some_route reads pattern present fit =
+    let ts = tuples_in pattern present in
+    let tuples : 0 < length ts = some_tuple (own_count pattern (length present)) ts (tiles_present pattern present fit) (some_own pattern (length present) fit) in
     let slots : 0 < length (first_appearances (map slot_of ts)) = some_first (map slot_of ts) (omega (arith, tuples, length-map ts slot_of)) in
-    omega (arith, slots, length-map (first_appearances (map slot_of ts)) (route_to reads pattern run))
+    omega (arith, slots, length-map (first_appearances (map slot_of ts)) (route_of_slot reads pattern present))

@@ -2,45 +2,45 @@
 use Rattle.std.proofs.Common.{◌≡◌, ℕ, suc, ◌<◌, ◌+◌, ◌-◌, List, [], ◌∷◌, ◌++◌, Option, None, Some, map, option_map, refl, sym, ap, ◌∙◌, arith}
 use Rattle.std.specs.List.{range_with_len}
 use Rattle.redis_commands.specs.Command.{Arguments, argument}
-use Rattle.redis_routing.specs.SubCommand.{all_texts}
+use Rattle.redis_commands.specs.Lists.{all_some}
 pub use Rattle.resp_core.proofs.SoFar.{before, before-more}
 
 -- one text more
-pub before_more : (texts : List (List ℕ)) (arg : Option (List ℕ)) (text : List ℕ) (rest : Arguments) → Some text ≡ arg → before (texts ++ text ∷ []) (all_texts rest) ≡ before texts (all_texts (arg ∷ rest))
-before_more texts arg text rest is = sym (before-more texts text (all_texts rest)) ∙ ap (λ a. before texts (all_texts (a ∷ rest))) is
+pub before_more : (texts : List (List ℕ)) (arg : Option (List ℕ)) (text : List ℕ) (rest : Arguments) → Some text ≡ arg → before (texts ++ text ∷ []) (all_some rest) ≡ before texts (all_some (arg ∷ rest))
+before_more texts arg text rest is = sym (before-more texts text (all_some rest)) ∙ ap (λ a. before texts (all_some (a ∷ rest))) is
 
 -- a text that is not there
-pub before_gap : (texts : List (List ℕ)) (arg : Option (List ℕ)) (rest : Arguments) → None ≡ arg → before texts (all_texts (arg ∷ rest)) ≡ None
-before_gap texts arg rest is = sym (ap (λ a. before texts (all_texts (a ∷ rest))) is)
+pub before_gap : (texts : List (List ℕ)) (arg : Option (List ℕ)) (rest : Arguments) → None ≡ arg → before texts (all_some (arg ∷ rest)) ≡ None
+before_gap texts arg rest is = sym (ap (λ a. before texts (all_some (a ∷ rest))) is)
 
 -- one word of the name more
 pub name_more : (args : Arguments) (words place : ℕ) (texts : List (List ℕ)) (text : List ℕ) → place < words → Some text ≡ argument args place
-    → before (texts ++ text ∷ []) (all_texts (map (λ i. argument args i) (range_with_len (place + 1) (words - (place + 1))))) ≡ before texts (all_texts (map (λ i. argument args i) (range_with_len place (words - place))))
+    → before (texts ++ text ∷ []) (all_some (map (λ i. argument args i) (range_with_len (place + 1) (words - (place + 1))))) ≡ before texts (all_some (map (λ i. argument args i) (range_with_len place (words - place))))
 name_more args words place texts text inside is =
     let e : words - place ≡ suc (words - (place + 1)) = omega arith in
-    before_more texts (argument args place) text (map (λ i. argument args i) (range_with_len (place + 1) (words - (place + 1)))) is ∙ sym (ap (λ n. before texts (all_texts (map (λ i. argument args i) (range_with_len place n)))) e)
+    before_more texts (argument args place) text (map (λ i. argument args i) (range_with_len (place + 1) (words - (place + 1)))) is ∙ sym (ap (λ n. before texts (all_some (map (λ i. argument args i) (range_with_len place n)))) e)
 
 -- texts and others after them, if all are there
 abbrev both : Option (List (List ℕ)) → Option (List (List ℕ)) → Option (List (List ℕ))
 both None o = None
 both (Some texts) o = before texts o
 
-all_texts-append : (first rest : Arguments) → all_texts (first ++ rest) ≡ both (all_texts first) (all_texts rest)
-all_texts-append [] rest = none_before (all_texts rest)
+all_some-append : (first rest : Arguments) → all_some (first ++ rest) ≡ both (all_some first) (all_some rest)
+all_some-append [] rest = none_before (all_some rest)
   where
     none_before : (o : Option (List (List ℕ))) → o ≡ before [] o
     none_before None = refl
     none_before (Some texts) = refl
-all_texts-append (None ∷ first) rest = refl
-all_texts-append (Some arg ∷ first) rest = ap (option_map (λ texts. arg ∷ texts)) (all_texts-append first rest) ∙ one_before (all_texts first) (all_texts rest)
+all_some-append (None ∷ first) rest = refl
+all_some-append (Some arg ∷ first) rest = ap (option_map (λ texts. arg ∷ texts)) (all_some-append first rest) ∙ one_before (all_some first) (all_some rest)
   where
     one_before : (p o : Option (List (List ℕ))) → option_map (λ texts. arg ∷ texts) (both p o) ≡ both (option_map (λ texts. arg ∷ texts) p) o
     one_before None o = refl
     one_before (Some texts) None = refl
     one_before (Some texts) (Some more) = refl
 
-pub name_before : (first rest : Arguments) (texts : List (List ℕ)) → Some texts ≡ all_texts first → before texts (all_texts rest) ≡ all_texts (first ++ rest)
-name_before first rest texts is = ap (λ o. both o (all_texts rest)) is ∙ sym (all_texts-append first rest)
+pub name_before : (first rest : Arguments) (texts : List (List ℕ)) → Some texts ≡ all_some first → before texts (all_some rest) ≡ all_some (first ++ rest)
+name_before first rest texts is = ap (λ o. both o (all_some rest)) is ∙ sym (all_some-append first rest)
 
-pub name_gap : (first rest : Arguments) → None ≡ all_texts first → None ≡ all_texts (first ++ rest)
-name_gap first rest is = ap (λ o. both o (all_texts rest)) is ∙ sym (all_texts-append first rest)
+pub name_gap : (first rest : Arguments) → None ≡ all_some first → None ≡ all_some (first ++ rest)
+name_gap first rest is = ap (λ o. both o (all_some rest)) is ∙ sym (all_some-append first rest)

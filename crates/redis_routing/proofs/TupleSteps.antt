@@ -1,9 +1,9 @@
--- The tuples of a run, one after the other.
+-- The tuples of a command, one after the other.
 use Rattle.std.proofs.Common.{◌≡◌, ℕ, zero, suc, ◌+◌, ◌*◌, ◌-◌, ◌/◌, ◌<◌, ◌≤◌, List, [], ◌∷◌, ◌++◌, Bool, true, false, cond, nat_lt, Some, None, refl, sym, ap, ◌∙◌, arith, length, take, drop, get_or, add-one}
 use Rattle.std.specs.List.{range_with_len}
 use Rattle.std.proofs.lemmas.List.{get_or-drop, get_or-take, length-take-le, take_all}
 use Rattle.redis_commands.specs.Command.{Arguments, argument}
-use Rattle.redis_commands.specs.Run.{front, run_after}
+use Rattle.redis_commands.specs.PresentArguments.{arguments_before_gap, present_arguments_after}
 use Rattle.redis_commands.specs.Tuples.{Tuple, keys_alone, keys_and_values, keys_and_two, tuples_from, tuples_in, width_of, own_count, places_of}
 use Rattle.redis_commands.specs.declared.route_by.MultiSlotArgPattern.{MultiSlotArgPattern}
 use Rattle.redis_commands.specs.declared.route_by.MultiSlotArgPattern.TheVariants.{KeysOnly, KeyValuePairs, KeysAndLastArg, KeyWithTwoArgTriples}
@@ -54,15 +54,15 @@ next_in KeyValuePairs xs i h =
 next_in KeyWithTwoArgTriples xs i h =
     (record { place = i * 3; key = get_or xs (i * 3) []; extras = get_or xs (suc (i * 3)) [] ∷ get_or xs (suc (suc (i * 3))) [] ∷ [] }, record { key = refl; places = refl; taken = rw add-one (triple_next 0 (i * 3) xs i (i * 3) (omega arith) refl (omega (arith, h))) })
 
-front_item : (args : Arguments) (i : ℕ) → i < length (front args) → argument args i ≡ Some (get_or (front args) i [])
-front_item [] i h = absurd (omega arith)
-front_item (None ∷ args) i h = absurd (omega arith)
-front_item (Some arg ∷ args) zero h = refl
-front_item (Some arg ∷ args) (suc i) h = front_item args i (omega (arith, h))
+before_gap_item : (args : Arguments) (i : ℕ) → i < length (arguments_before_gap args) → argument args i ≡ Some (get_or (arguments_before_gap args) i [])
+before_gap_item [] i h = absurd (omega arith)
+before_gap_item (None ∷ args) i h = absurd (omega arith)
+before_gap_item (Some arg ∷ args) zero h = refl
+before_gap_item (Some arg ∷ args) (suc i) h = before_gap_item args i (omega (arith, h))
 
--- the arguments of the run stand after the name
-pub run_item : (words : ℕ) (args : Arguments) (i : ℕ) → i < length (run_after words args) → argument args (i + words) ≡ Some (get_or (run_after words args) i [])
-run_item words args i h = ap (argument args) (omega arith) ∙ sym (get_or-drop words args i None) ∙ front_item (drop words args) i h
+-- the present arguments stand after the name
+pub present_item : (words : ℕ) (args : Arguments) (i : ℕ) → i < length (present_arguments_after words args) → argument args (i + words) ≡ Some (get_or (present_arguments_after words args) i [])
+present_item words args i h = ap (argument args) (omega arith) ∙ sym (get_or-drop words args i None) ∙ before_gap_item (drop words args) i h
 
 -- fewer arguments make tuples than there are, and more than one tuple's for each
 own_few : (pattern : MultiSlotArgPattern) (m : ℕ) → own_count pattern m ≤ m
@@ -102,33 +102,33 @@ tuples_few KeyValuePairs p xs = omega (arith, pairs_few p xs)
 tuples_few KeysAndLastArg p xs = omega (arith, alone_few p xs)
 tuples_few KeyWithTwoArgTriples p xs = omega (arith, triples_few p xs)
 
-own_length : (pattern : MultiSlotArgPattern) (run : List (List ℕ)) → length (take (own_count pattern (length run)) run) ≡ own_count pattern (length run)
-own_length pattern run = length-take-le (own_count pattern (length run)) run (own_few pattern (length run))
+own_length : (pattern : MultiSlotArgPattern) (present : List (List ℕ)) → length (take (own_count pattern (length present)) present) ≡ own_count pattern (length present)
+own_length pattern present = length-take-le (own_count pattern (length present)) present (own_few pattern (length present))
 
 -- past the last tuple none is left
-pub all_taken : (pattern : MultiSlotArgPattern) (run : List (List ℕ)) (n : ℕ) → own_count pattern (length run) / width_of pattern ≤ n → take n (tuples_in pattern run) ≡ tuples_in pattern run
-all_taken pattern run n h =
-    let few : length (tuples_in pattern run) ≤ length (take (own_count pattern (length run)) run) / width_of pattern = tuples_few pattern 0 (take (own_count pattern (length run)) run) in
-    let same : length (take (own_count pattern (length run)) run) / width_of pattern ≡ own_count pattern (length run) / width_of pattern = ap (λ k. k / width_of pattern) (own_length pattern run) in
-    take_all n (tuples_in pattern run) (omega (arith, few, same, h))
+pub tuples_end : (pattern : MultiSlotArgPattern) (present : List (List ℕ)) (n : ℕ) → own_count pattern (length present) / width_of pattern ≤ n → take n (tuples_in pattern present) ≡ tuples_in pattern present
+tuples_end pattern present n h =
+    let few : length (tuples_in pattern present) ≤ length (take (own_count pattern (length present)) present) / width_of pattern = tuples_few pattern 0 (take (own_count pattern (length present)) present) in
+    let same : length (take (own_count pattern (length present)) present) / width_of pattern ≡ own_count pattern (length present) / width_of pattern = ap (λ k. k / width_of pattern) (own_length pattern present) in
+    take_all n (tuples_in pattern present) (omega (arith, few, same, h))
 
 -- the tuple of a number in a command: its key is an argument after the name
 pub record IsNextTuple (words : ℕ) (pattern : MultiSlotArgPattern) (args : Arguments) (i : ℕ) (t : Tuple) : Type 0 where
   pub key : argument args (i * width_of pattern + words) ≡ Some t.key
   pub places : places_of t ≡ range_with_len (i * width_of pattern) (width_of pattern)
-  pub taken : take (i + 1) (tuples_in pattern (run_after words args)) ≡ take i (tuples_in pattern (run_after words args)) ++ t ∷ []
+  pub taken : take (i + 1) (tuples_in pattern (present_arguments_after words args)) ≡ take i (tuples_in pattern (present_arguments_after words args)) ++ t ∷ []
 
-pub next_tuple : (words : ℕ) (pattern : MultiSlotArgPattern) (args : Arguments) (i : ℕ) → i < own_count pattern (length (run_after words args)) / width_of pattern → (t : Tuple) × IsNextTuple words pattern args i t
+pub next_tuple : (words : ℕ) (pattern : MultiSlotArgPattern) (args : Arguments) (i : ℕ) → i < own_count pattern (length (present_arguments_after words args)) / width_of pattern → (t : Tuple) × IsNextTuple words pattern args i t
 next_tuple words pattern args i h =
-    let run = run_after words args in
-    let own = own_count pattern (length run) in
+    let present = present_arguments_after words args in
+    let own = own_count pattern (length present) in
     let inside : i * width_of pattern + width_of pattern ≤ own = tuple_within pattern own i h in
     let some : 0 < width_of pattern = wide pattern in
-    let few : own ≤ length run = own_few pattern (length run) in
-    let next = next_in pattern (take own run) i (rw (own_length pattern run) inside) in (
+    let few : own ≤ length present = own_few pattern (length present) in
+    let next = next_in pattern (take own present) i (rw (own_length pattern present) inside) in (
       next.0,
       record {
-        key = run_item words args (i * width_of pattern) (omega (arith, inside, some, few)) ∙ ap Some (sym (next.1.key ∙ get_or-take own run (i * width_of pattern) [] (omega (arith, inside, some))));
+        key = present_item words args (i * width_of pattern) (omega (arith, inside, some, few)) ∙ ap Some (sym (next.1.key ∙ get_or-take own present (i * width_of pattern) [] (omega (arith, inside, some))));
         places = next.1.places;
         taken = next.1.taken;
       },

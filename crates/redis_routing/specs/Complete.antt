@@ -5,22 +5,22 @@ use Rattle.redis_commands.specs.Command.{Arguments, command_of}
 use Rattle.redis_commands.specs.NameTables.{NameTables, own_tables}
 use Rattle.redis_routing.specs.Parts.{part_of_slot_after}
 use Rattle.redis_routing.specs.Routing.{routes_of}
-use Rattle.redis_commands.specs.Run.{run_after}
+use Rattle.redis_commands.specs.PresentArguments.{present_arguments_after}
 use Rattle.redis_routing.specs.SubCommand.{sub_command_after}
 use Rattle.redis_commands.specs.Tuples.{is_complete}
 use Rattle.redis_commands.specs.declared.route_by.MultiSlotArgPattern.{MultiSlotArgPattern}
 use Rattle.redis_commands.specs.declared.route_by.RouteBy.{RouteBy}
-use Rattle.redis_commands.specs.declared.route_by.RouteBy.TheVariants as way
+use Rattle.redis_commands.specs.declared.route_by.RouteBy.TheVariants as route_by
 
--- the pattern of a way, if it is that of a name that is split by slot
+-- the pattern of a name that is split by slot, if it is routed so
 abbrev pub pattern_of : Option RouteBy → Option MultiSlotArgPattern
-pattern_of (Some (way.MultiSlot pattern)) = Some pattern
+pattern_of (Some (route_by.MultiSlot pattern)) = Some pattern
 pattern_of _ = None
 
 -- the pattern of a command's name under some tables of names
 abbrev pub pattern_by_name_with : NameTables → Option (List ℕ) → Option MultiSlotArgPattern
 pattern_by_name_with tables None = None
-pattern_by_name_with tables (Some name) = pattern_of (tables.way name)
+pattern_by_name_with tables (Some name) = pattern_of (tables.route_by name)
 
 -- and under the project's own
 abbrev pub pattern_by_name : Option (List ℕ) → Option MultiSlotArgPattern
@@ -38,15 +38,15 @@ part_by_name_with words tables args slot = part_by_pattern words (pattern_by_nam
 abbrev pub part_by_name : Arguments → ℕ → Arguments
 part_by_name args slot = part_by_name_with 1 own_tables args slot
 
--- the routes of a complete command whose name has so many words and this way, if it is split by slot
-abbrev pub routes_by_way : ℕ → Bool → Arguments → Option RouteBy → Option (List (SlotRoute × List ℕ))
-routes_by_way words reads args None = None
-routes_by_way words reads args (Some (way.MultiSlot pattern)) = cond (is_complete pattern (length (run_after words args))) (Some (routes_of reads pattern (run_after words args))) None
-routes_by_way words reads args (Some _) = None
+-- the routes of a complete command whose name has so many words and is routed so, if it is split by slot
+abbrev pub routes_by : ℕ → Bool → Arguments → Option RouteBy → Option (List (SlotRoute × List ℕ))
+routes_by words reads args None = None
+routes_by words reads args (Some (route_by.MultiSlot pattern)) = cond (is_complete pattern (length (present_arguments_after words args))) (Some (routes_of reads pattern (present_arguments_after words args))) None
+routes_by words reads args (Some _) = None
 
 abbrev pub routes_by_name : ℕ → NameTables → (List ℕ → Bool) → Arguments → Option (List ℕ) → Option (List (SlotRoute × List ℕ))
 routes_by_name words tables only_reads args None = None
-routes_by_name words tables only_reads args (Some name) = routes_by_way words (only_reads name) args (tables.way name)
+routes_by_name words tables only_reads args (Some name) = routes_by words (only_reads name) args (tables.route_by name)
 
 -- the routes of a complete command, with the places of their parts
 abbrev pub multi_slot_routes_with : ℕ → NameTables → (List ℕ → Bool) → Arguments → Option (List (SlotRoute × List ℕ))

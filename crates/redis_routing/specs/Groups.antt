@@ -17,14 +17,14 @@ abbrev pub groups_of : List Tuple → List Group
 groups_of ts = map (λ s. (s, flat_map places_of (tuples_in_slot s ts))) (first_appearances (map slot_of ts))
 
 -- the list of a slot, or the empty one
-abbrev pub listed : Option (Vec ℕ Global) → List ℕ
-listed None = []
-listed (Some places) = places.items
+abbrev pub list_or_empty : Option (Vec ℕ Global) → List ℕ
+list_or_empty None = []
+list_or_empty (Some places) = places.items
 
--- the groups that are the entries of a map
-abbrev pub shown : List (ℕ × Vec ℕ Global) → List Group
-shown entries = map (λ e. (e.0, e.1.items)) entries
+-- the groups that the entries of a map are
+abbrev pub entry_groups : List (ℕ × Vec ℕ Global) → List Group
+entry_groups entries = map (λ e. (e.0, e.1.items)) entries
 
 -- the route of a group
-abbrev pub group_route : SlotAddr → List ℕ → Group → SlotRoute × List ℕ
-group_route nodes shared group = (record { slot = group.0; addr = nodes }, group.1 ++ shared)
+abbrev pub route_of_group : SlotAddr → List ℕ → Group → SlotRoute × List ℕ
+route_of_group nodes shared group = (record { slot = group.0; addr = nodes }, group.1 ++ shared)

@@ -10,24 +10,24 @@ use Rattle.redis_commands.specs.NameTables.{NameTables, own_tables}
 use Rattle.redis_routing.specs.Parts.{part_of_slot_after}
 use Rattle.redis_routing.specs.Routing.{routing_with}
 use Rattle.redis_routing.specs.SubCommand.{sub_command_after}
-use Rattle.redis_routing.specs.Target.{Target, Multiple, specific, all_nodes, all_masters, split, single, multiple}
+use Rattle.redis_routing.specs.RoutingInfo.{Routing, MultipleNodeRouting, specific_node, all_nodes, all_masters, multi_slot, single_node, multi_node}
 use Rattle.redis_commands.specs.declared.route_by.MultiSlotArgPattern.{MultiSlotArgPattern}
 
 -- how many of the lists have the place
 abbrev pub lists_with : ℕ → List (SlotRoute × List ℕ) → ℕ
 lists_with place routes = count_by (λ r. list_any (nat_eq place) r.1) routes
 
--- The cover law: each slot has one route, and the lists of the routes ascend and share out the places of the run, of which a shared one stands in each.
-pub record Covers (pattern : MultiSlotArgPattern) (run : List (List ℕ)) (routes : List (SlotRoute × List ℕ)) : Type 0 where
+-- The cover law: each slot has one route, and the lists of the routes ascend and share out the places of the present arguments, of which a shared one stands in each.
+pub record Covers (pattern : MultiSlotArgPattern) (present : List (List ℕ)) (routes : List (SlotRoute × List ℕ)) : Type 0 where
   pub slots : (slot : ℕ) → count_by (λ r. nat_eq slot r.0.slot) routes ≤ 1
   pub ascending : All (λ r. IsStrictlySortedBy nat_cmp r.1) routes
-  pub once : (place : ℕ) → place < own_count pattern (length run) → lists_with place routes ≡ 1
-  pub shared : (place : ℕ) → own_count pattern (length run) ≤ place → place < length run → lists_with place routes ≡ length routes
-  pub within : (place : ℕ) → length run ≤ place → lists_with place routes ≡ 0
+  pub once : (place : ℕ) → place < own_count pattern (length present) → lists_with place routes ≡ 1
+  pub shared : (place : ℕ) → own_count pattern (length present) ≤ place → place < length present → lists_with place routes ≡ length routes
+  pub within : (place : ℕ) → length present ≤ place → lists_with place routes ≡ 0
 
 -- The self-routing law: the part of each route, as a command of its own, goes to that very route.
 abbrev pub ArePartsRoutedWith : ℕ → NameTables → (List ℕ → Bool) → Arguments → MultiSlotArgPattern → List (SlotRoute × List ℕ) → Type 0
-ArePartsRoutedWith words tables only_reads args pattern routes = All (λ r. routing_with words tables only_reads (part_of_slot_after words pattern args r.0.slot) ≡ Some (single (specific r.0))) routes
+ArePartsRoutedWith words tables only_reads args pattern routes = All (λ r. routing_with words tables only_reads (part_of_slot_after words pattern args r.0.slot) ≡ Some (single_node (specific_node r.0))) routes
 
 abbrev pub ArePartsRouted : (List ℕ → Bool) → Arguments → MultiSlotArgPattern → List (SlotRoute × List ℕ) → Type 0
 ArePartsRouted only_reads args pattern routes = ArePartsRoutedWith 1 own_tables only_reads args pattern routes
@@ -40,12 +40,12 @@ abbrev pub ArePartsPicked : Arguments → MultiSlotArgPattern → List (SlotRout
 ArePartsPicked args pattern routes = ArePartsPickedAfter 1 args pattern routes
 
 -- what holds of the routes of a split, if it is one
-abbrev pub IfSplitTo : (MultiSlotArgPattern → List (SlotRoute × List ℕ) → Type 0) → Multiple → Type 0
+abbrev pub IfSplitTo : (MultiSlotArgPattern → List (SlotRoute × List ℕ) → Type 0) → MultipleNodeRouting → Type 0
 IfSplitTo P all_nodes = Unit {0}
 IfSplitTo P all_masters = Unit {0}
-IfSplitTo P (split routes pattern) = P pattern routes
+IfSplitTo P (multi_slot routes pattern) = P pattern routes
 
-abbrev pub IfSplit : (MultiSlotArgPattern → List (SlotRoute × List ℕ) → Type 0) → Option Target → Type 0
+abbrev pub IfSplit : (MultiSlotArgPattern → List (SlotRoute × List ℕ) → Type 0) → Option Routing → Type 0
 IfSplit P None = Unit {0}
-IfSplit P (Some (single to)) = Unit {0}
-IfSplit P (Some (multiple to policy)) = IfSplitTo P to
+IfSplit P (Some (single_node to)) = Unit {0}
+IfSplit P (Some (multi_node to policy)) = IfSplitTo P to

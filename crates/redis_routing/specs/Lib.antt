@@ -1,7 +1,8 @@
 pub use Rattle.redis_commands.specs.Command
+pub use Rattle.redis_commands.specs.Lists
 pub use Rattle.redis_commands.specs.Policies
 pub use Rattle.redis_commands.specs.ReadOnly
-pub use Rattle.redis_commands.specs.Run
+pub use Rattle.redis_commands.specs.PresentArguments
 pub use Rattle.redis_commands.specs.Tuples
 pub use Rattle.redis_commands.specs.RouteBy
 pub use Rattle.resp_core.specs.ErrorParts
@@ -9,8 +10,7 @@ pub mod Complete
 pub mod Groups
 pub mod Laws
 pub mod Parts
-pub mod Plan
 pub mod Routing
+pub mod RoutingInfo
 pub mod Split
 pub mod SubCommand
-pub mod Target

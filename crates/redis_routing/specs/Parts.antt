@@ -3,8 +3,8 @@ use Rattle.std.specs.Prelude.{ℕ, ◌-◌, not, List, [], ◌∷◌, ◌++◌, 
 use Rattle.std.specs.List.{flat_map, range_with_len}
 use Rattle.cluster_slots.specs.KeySlot.{key_slot}
 use Rattle.redis_commands.specs.Command.{Arguments}
-use Rattle.redis_commands.specs.Run.{run_after}
-use Rattle.redis_commands.specs.Tuples.{Tuple, tuples_in, shared_in, own_count, places_of, words_of}
+use Rattle.redis_commands.specs.PresentArguments.{present_arguments_after}
+use Rattle.redis_commands.specs.Tuples.{Tuple, tuples_in, shared_in, own_count, places_of, arguments_of}
 use Rattle.redis_commands.specs.declared.route_by.MultiSlotArgPattern.{MultiSlotArgPattern}
 
 -- the slot of a tuple's key
@@ -22,17 +22,17 @@ tuples_in_slot slot ts = filter (λ t. nat_eq (slot_of t) slot) ts
 
 -- the places of a slot's tuples, and then the shared one
 abbrev pub places_in_slot : MultiSlotArgPattern → List (List ℕ) → ℕ → List ℕ
-places_in_slot pattern run slot =
-    flat_map places_of (tuples_in_slot slot (tuples_in pattern run))
-    ++ range_with_len (own_count pattern (length run)) (length run - own_count pattern (length run))
+places_in_slot pattern present slot =
+    flat_map places_of (tuples_in_slot slot (tuples_in pattern present))
+    ++ range_with_len (own_count pattern (length present)) (length present - own_count pattern (length present))
 
 -- the arguments of a slot's tuples, and then the shared one
-abbrev pub words_in_slot : MultiSlotArgPattern → List (List ℕ) → ℕ → List (List ℕ)
-words_in_slot pattern run slot = flat_map words_of (tuples_in_slot slot (tuples_in pattern run)) ++ shared_in pattern run
+abbrev pub arguments_in_slot : MultiSlotArgPattern → List (List ℕ) → ℕ → List (List ℕ)
+arguments_in_slot pattern present slot = flat_map arguments_of (tuples_in_slot slot (tuples_in pattern present)) ++ shared_in pattern present
 
 -- the part of a slot as a command of its own: the words of the name as they are spelt, and the slot's arguments
 abbrev pub part_of_slot_after : ℕ → MultiSlotArgPattern → Arguments → ℕ → Arguments
-part_of_slot_after words pattern args slot = take words args ++ map Some (words_in_slot pattern (run_after words args) slot)
+part_of_slot_after words pattern args slot = take words args ++ map Some (arguments_in_slot pattern (present_arguments_after words args) slot)
 
 -- where the name has one word
 abbrev pub part_of_slot : MultiSlotArgPattern → Arguments → ℕ → Arguments

@@ -1,4 +1,4 @@
--- Routing: where a command goes, by the way of its name.
+-- Routing: where a command goes, by how its name is routed.
 use Rattle.std.specs.Prelude.{◌+◌, ℕ, zero, suc, Bool, cond, List, [], ◌∷◌, map, length, Option, None, Some, codes, position, nat_lt, option_map}
 use Rattle.cluster_slots.specs.KeySlot.{key_slot}
 use Rattle.cluster_slots.specs.Number.{number_in}
@@ -6,95 +6,95 @@ use Rattle.cluster_slots.specs.SlotRoute.{SlotRoute}
 use Rattle.cluster_slots.specs.declared.slot.SlotAddr.{SlotAddr}
 use Rattle.cluster_slots.specs.declared.slot.SlotAddr.TheVariants.{Master, ReplicaOptional}
 use Rattle.redis_commands.specs.Command.{Arguments, argument, command_of, is_word}
-use Rattle.redis_commands.specs.Run.{run_after}
+use Rattle.redis_commands.specs.PresentArguments.{present_arguments_after}
 use Rattle.redis_commands.specs.Tuples.{tuples_in, fits}
 use Rattle.redis_routing.specs.Parts.{slot_of, first_appearances, places_in_slot}
-use Rattle.redis_routing.specs.Target.{Target, random, specific, all_nodes, all_masters, split, single, multiple}
+use Rattle.redis_routing.specs.RoutingInfo.{Routing, random, specific_node, all_nodes, all_masters, multi_slot, single_node, multi_node}
 use Rattle.redis_commands.specs.NameTables.{NameTables, own_tables}
 use Rattle.redis_commands.specs.declared.policy.ResponsePolicy.{ResponsePolicy}
 use Rattle.redis_commands.specs.declared.route_by.MultiSlotArgPattern.{MultiSlotArgPattern}
 use Rattle.redis_commands.specs.declared.route_by.RouteBy.{RouteBy}
-use Rattle.redis_commands.specs.declared.route_by.RouteBy.TheVariants as way
+use Rattle.redis_commands.specs.declared.route_by.RouteBy.TheVariants as route_by
 
 -- which nodes of a key's slot: a replica too, where the command only reads
 abbrev pub nodes_for : Bool → SlotAddr
 nodes_for reads = cond reads ReplicaOptional Master
 
 -- to the slot of the key, if the key is there
-abbrev pub to_key : Bool → Option (List ℕ) → Option Target
-to_key reads key = option_map (λ k. single (specific (record { slot = key_slot k; addr = nodes_for reads }))) key
+abbrev pub to_key : Bool → Option (List ℕ) → Option Routing
+to_key reads key = option_map (λ k. single_node (specific_node (record { slot = key_slot k; addr = nodes_for reads }))) key
 
 -- by the count of keys and the key after it: no key, any node
-abbrev pub by_count : Bool → Option ℕ → Option (List ℕ) → Option Target
+abbrev pub by_count : Bool → Option ℕ → Option (List ℕ) → Option Routing
 by_count reads None key = None
-by_count reads (Some zero) key = Some (single random)
+by_count reads (Some zero) key = Some (single_node random)
 by_count reads (Some (suc n)) key = to_key reads key
 
 -- to the slot of the key, or to any node where there is none
-abbrev pub to_key_or_any : Bool → Option (List ℕ) → Option Target
-to_key_or_any reads None = Some (single random)
+abbrev pub to_key_or_any : Bool → Option (List ℕ) → Option Routing
+to_key_or_any reads None = Some (single_node random)
 to_key_or_any reads (Some key) = to_key reads (Some key)
 
 -- to the key at the place after this one
-abbrev pub to_key_after : Bool → Arguments → Option ℕ → Option Target
+abbrev pub to_key_after : Bool → Arguments → Option ℕ → Option Routing
 to_key_after reads args None = None
 to_key_after reads args (Some place) = to_key reads (argument args (place + 1))
 
 -- to the primary of the slot of this number, if it is a slot's
-abbrev pub to_slot : Option ℕ → Option Target
+abbrev pub to_slot : Option ℕ → Option Routing
 to_slot None = None
-to_slot (Some n) = cond (nat_lt n 16384) (Some (single (specific (record { slot = n; addr = Master })))) None
+to_slot (Some n) = cond (nat_lt n 16384) (Some (single_node (specific_node (record { slot = n; addr = Master })))) None
 
--- what an argument writes as a number of so many bits
-abbrev pub number_at : ℕ → Option (List ℕ) → Option ℕ
-number_at bits None = None
-number_at bits (Some text) = number_in bits text
+-- the number of so many bits that an argument writes
+abbrev pub argument_number : ℕ → Option (List ℕ) → Option ℕ
+argument_number bits None = None
+argument_number bits (Some text) = number_in bits text
 
 -- the route of a slot, and the places of its part
-abbrev pub route_to : Bool → MultiSlotArgPattern → List (List ℕ) → ℕ → SlotRoute × List ℕ
-route_to reads pattern run slot = (record { slot = slot; addr = nodes_for reads }, places_in_slot pattern run slot)
+abbrev pub route_of_slot : Bool → MultiSlotArgPattern → List (List ℕ) → ℕ → SlotRoute × List ℕ
+route_of_slot reads pattern present slot = (record { slot = slot; addr = nodes_for reads }, places_in_slot pattern present slot)
 
 -- one route for each slot of a key, by the first key of each
 abbrev pub routes_of : Bool → MultiSlotArgPattern → List (List ℕ) → List (SlotRoute × List ℕ)
-routes_of reads pattern run = map (route_to reads pattern run) (first_appearances (map slot_of (tuples_in pattern run)))
+routes_of reads pattern present = map (route_of_slot reads pattern present) (first_appearances (map slot_of (tuples_in pattern present)))
 
 -- to one node, where all keys have one slot, or else to a node of each slot
-abbrev pub to_routing : MultiSlotArgPattern → Option ResponsePolicy → List (SlotRoute × List ℕ) → Target
-to_routing pattern policy [] = multiple (split [] pattern) policy
-to_routing pattern policy (only ∷ []) = single (specific only.0)
-to_routing pattern policy (route ∷ other ∷ routes) = multiple (split (route ∷ other ∷ routes) pattern) policy
+abbrev pub routing_of_routes : MultiSlotArgPattern → Option ResponsePolicy → List (SlotRoute × List ℕ) → Routing
+routing_of_routes pattern policy [] = multi_node (multi_slot [] pattern) policy
+routing_of_routes pattern policy (only ∷ []) = single_node (specific_node only.0)
+routing_of_routes pattern policy (route ∷ other ∷ routes) = multi_node (multi_slot (route ∷ other ∷ routes) pattern) policy
 
--- to the slots of the keys, if the run makes whole tuples
-abbrev pub to_slots : Bool → Option ResponsePolicy → MultiSlotArgPattern → List (List ℕ) → Option Target
-to_slots reads policy pattern run = cond (fits pattern (length run)) (Some (to_routing pattern policy (routes_of reads pattern run))) None
+-- to the slots of the keys, if the present arguments make whole tuples
+abbrev pub to_slots : Bool → Option ResponsePolicy → MultiSlotArgPattern → List (List ℕ) → Option Routing
+to_slots reads policy pattern present = cond (fits pattern (length present)) (Some (routing_of_routes pattern policy (routes_of reads pattern present))) None
 
--- where a command goes by the way of its name, which has so many words, under some tables of names
-abbrev pub by_way_with : ℕ → NameTables → Bool → List ℕ → Arguments → Option RouteBy → Option Target
-by_way_with words tables reads name args None = to_key_or_any reads (argument args 1)
-by_way_with words tables reads name args (Some way.AllNodes) = Some (multiple all_nodes (tables.policy name))
-by_way_with words tables reads name args (Some way.AllMasters) = Some (multiple all_masters (tables.policy name))
-by_way_with words tables reads name args (Some (way.MultiSlot pattern)) = to_slots reads (tables.policy name) pattern (run_after words args)
-by_way_with words tables reads name args (Some way.Undefined) = None
-by_way_with words tables reads name args (Some (way.CountAt n)) = by_count reads (number_at 64 (argument args n)) (argument args (n + 1))
-by_way_with words tables reads name args (Some (way.KeyAt n)) = to_key reads (argument args n)
-by_way_with words tables reads name args (Some way.KeyAfterStreams) = to_key_after reads args (position (is_word (codes "STREAMS")) args)
-by_way_with words tables reads name args (Some way.Random) = Some (single random)
-by_way_with words tables reads name args (Some way.SlotAtTwo) = to_slot (number_at 16 (argument args 2))
+-- where a command goes by how its name is routed, which has so many words, under some tables of names
+abbrev pub routing_by_with : ℕ → NameTables → Bool → List ℕ → Arguments → Option RouteBy → Option Routing
+routing_by_with words tables reads name args None = to_key_or_any reads (argument args 1)
+routing_by_with words tables reads name args (Some route_by.AllNodes) = Some (multi_node all_nodes (tables.policy name))
+routing_by_with words tables reads name args (Some route_by.AllMasters) = Some (multi_node all_masters (tables.policy name))
+routing_by_with words tables reads name args (Some (route_by.MultiSlot pattern)) = to_slots reads (tables.policy name) pattern (present_arguments_after words args)
+routing_by_with words tables reads name args (Some route_by.Undefined) = None
+routing_by_with words tables reads name args (Some (route_by.CountAt n)) = by_count reads (argument_number 64 (argument args n)) (argument args (n + 1))
+routing_by_with words tables reads name args (Some (route_by.KeyAt n)) = to_key reads (argument args n)
+routing_by_with words tables reads name args (Some route_by.KeyAfterStreams) = to_key_after reads args (position (is_word (codes "STREAMS")) args)
+routing_by_with words tables reads name args (Some route_by.Random) = Some (single_node random)
+routing_by_with words tables reads name args (Some (route_by.SlotAt n)) = to_slot (argument_number 16 (argument args n))
 
 -- where a command of this name goes, under a set of names that only read
-abbrev pub routing_of_with : ℕ → NameTables → (List ℕ → Bool) → Arguments → Option (List ℕ) → Option Target
-routing_of_with words tables only_reads args None = None
-routing_of_with words tables only_reads args (Some name) = by_way_with words tables (only_reads name) name args (tables.way name)
+abbrev pub routing_by_name_with : ℕ → NameTables → (List ℕ → Bool) → Arguments → Option (List ℕ) → Option Routing
+routing_by_name_with words tables only_reads args None = None
+routing_by_name_with words tables only_reads args (Some name) = routing_by_with words tables (only_reads name) name args (tables.route_by name)
 
-abbrev pub routing_with : ℕ → NameTables → (List ℕ → Bool) → Arguments → Option Target
-routing_with words tables only_reads args = routing_of_with words tables only_reads args (command_of args)
+abbrev pub routing_with : ℕ → NameTables → (List ℕ → Bool) → Arguments → Option Routing
+routing_with words tables only_reads args = routing_by_name_with words tables only_reads args (command_of args)
 
 -- under the project's own tables, in which each name that is split has one word
-abbrev pub by_way : Bool → List ℕ → Arguments → Option RouteBy → Option Target
-by_way reads name args way = by_way_with 1 own_tables reads name args way
+abbrev pub routing_by : Bool → List ℕ → Arguments → Option RouteBy → Option Routing
+routing_by reads name args route_by = routing_by_with 1 own_tables reads name args route_by
 
-abbrev pub routing_of : (List ℕ → Bool) → Arguments → Option (List ℕ) → Option Target
-routing_of only_reads args name = routing_of_with 1 own_tables only_reads args name
+abbrev pub routing_by_name : (List ℕ → Bool) → Arguments → Option (List ℕ) → Option Routing
+routing_by_name only_reads args name = routing_by_name_with 1 own_tables only_reads args name
 
-abbrev pub routing : (List ℕ → Bool) → Arguments → Option Target
+abbrev pub routing : (List ℕ → Bool) → Arguments → Option Routing
 routing only_reads args = routing_with 1 own_tables only_reads args

@@ -6,7 +6,7 @@ use Rattle.redis_commands.specs.Tuples.{is_complete}
 use Rattle.redis_commands.specs.NameTables.{NameTables, own_tables}
 use Rattle.redis_routing.specs.Parts.{part_of_slot_after}
 use Rattle.redis_routing.specs.Routing.{routes_of}
-use Rattle.redis_commands.specs.Run.{run_after}
+use Rattle.redis_commands.specs.PresentArguments.{present_arguments_after}
 use Rattle.redis_commands.specs.declared.policy.AggregateOp.TheVariants.{Sum}
 use Rattle.redis_commands.specs.declared.policy.ResponsePolicy.{ResponsePolicy}
 use Rattle.redis_commands.specs.declared.policy.ResponsePolicy.TheVariants.{AllSucceeded, Aggregate, CombineArrays}
@@ -48,7 +48,7 @@ joins_parts _ = false
 pub record IsSplit (split : Split) : Type 0 where
   pub few : length split.arguments < 2 ^ 63
   pub name : HasWords split.words split.arguments
-  pub complete : is_complete split.pattern (length (run_after split.words split.arguments)) ≡ true
+  pub complete : is_complete split.pattern (length (present_arguments_after split.words split.arguments)) ≡ true
   pub only_reads : Bool
-  pub routes : split.routes ≡ routes_of only_reads split.pattern (run_after split.words split.arguments)
+  pub routes : split.routes ≡ routes_of only_reads split.pattern (present_arguments_after split.words split.arguments)
   pub policy : joins_parts split.policy ≡ true

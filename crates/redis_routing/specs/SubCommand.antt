@@ -1,17 +1,12 @@
 -- A part of a command as a command of its own, by the places of its arguments.
-use Rattle.std.specs.Prelude.{ℕ, ◌+◌, List, [], ◌∷◌, ◌++◌, Option, None, Some, map, option_map}
+use Rattle.std.specs.Prelude.{ℕ, ◌+◌, List, ◌++◌, Option, map}
 use Rattle.std.specs.List.{range_with_len}
 use Rattle.redis_commands.specs.Command.{Arguments, argument}
-
--- the texts, if none of them is a gap
-abbrev pub all_texts : Arguments → Option (List (List ℕ))
-all_texts [] = Some []
-all_texts (None ∷ args) = None
-all_texts (Some arg ∷ args) = option_map (λ texts. arg ∷ texts) (all_texts args)
+use Rattle.redis_commands.specs.Lists.{all_some}
 
 -- the arguments of a name of so many words and those at these places after it, if they are all there
 abbrev pub sub_command_after : ℕ → Arguments → List ℕ → Option (List (List ℕ))
-sub_command_after words args places = all_texts (map (λ place. argument args place) (range_with_len 0 words) ++ map (λ place. argument args (place + words)) places)
+sub_command_after words args places = all_some (map (λ place. argument args place) (range_with_len 0 words) ++ map (λ place. argument args (place + words)) places)
 
 -- the first argument and those at these places after it, if they are all there
 abbrev pub sub_command : Arguments → List ℕ → Option (List (List ℕ))

@@ -1,6 +1,6 @@
 ghost use Rattle.std.specs.Prelude.{◌≡◌, IfOk};
 ghost use Rattle.redis_routing.specs.Routing.{nodes_for};
-ghost use Rattle.redis_routing.specs.Target.{route_lists};
+ghost use Rattle.redis_routing.specs.RoutingInfo.{route_lists};
 
 use cluster_slots::{NodeAddress, Route, SlotAddr};
 use redis_commands::{MultiSlotArgPattern, ResponsePolicy};
@@ -52,10 +52,9 @@ pub enum MultipleNodeRoutingInfo {
 
 /// A command with no route goes to any node.
 impl From<Option<Route>> for SingleNodeRoutingInfo {
-    ghost use Rattle.redis_routing.specs.Plan.{single_of};
-    ghost use Rattle.redis_routing.specs.Target.{to_route};
+    ghost use Rattle.redis_routing.specs.RoutingInfo.{as_single_node, specific_or_random};
 
-    ghost from_gives = { λ route info. single_of info ≡ to_route route };
+    ghost from_gives = { λ route info. as_single_node info ≡ specific_or_random route };
 
     fn from(route: Option<Route>) -> Self {
         match route {
@@ -66,9 +65,9 @@ impl From<Option<Route>> for SingleNodeRoutingInfo {
 }
 
 impl Clone for SingleNodeRoutingInfo {
-    ghost use Rattle.redis_routing.specs.Plan.{single_of};
+    ghost use Rattle.redis_routing.specs.RoutingInfo.{as_single_node};
 
-    ghost is_clone = { λ info copy. single_of copy ≡ single_of info };
+    ghost is_clone = { λ info copy. as_single_node copy ≡ as_single_node info };
 
     fn clone(&self) -> Result<Self, AllocError> {
         match self {
@@ -86,9 +85,9 @@ impl Clone for SingleNodeRoutingInfo {
 }
 
 impl Clone for MultipleNodeRoutingInfo {
-    ghost use Rattle.redis_routing.specs.Plan.{multiple_of};
+    ghost use Rattle.redis_routing.specs.RoutingInfo.{as_multiple_nodes};
 
-    ghost is_clone = { λ info copy. multiple_of copy ≡ multiple_of info };
+    ghost is_clone = { λ info copy. as_multiple_nodes copy ≡ as_multiple_nodes info };
 
     fn clone(&self) -> Result<Self, AllocError> {
         match self {
@@ -113,9 +112,9 @@ fn copy_routes(routes: &Vec<(Route, Vec<usize>)>) -> Result<Vec<(Route, Vec<usiz
 }
 
 impl Clone for RoutingInfo {
-    ghost use Rattle.redis_routing.specs.Plan.{plan};
+    ghost use Rattle.redis_routing.specs.RoutingInfo.{as_routing};
 
-    ghost is_clone = { λ info copy. plan copy ≡ plan info };
+    ghost is_clone = { λ info copy. as_routing copy ≡ as_routing info };
 
     fn clone(&self) -> Result<Self, AllocError> {
         match self {

@@ -1,13 +1,12 @@
 ghost use Rattle.std.specs.Prelude.{◌≡◌, ◌<◌, ◌^◌, ◌+◌, IfOk, Some, option_map, option_copied, codes, position};
 ghost use Rattle.redis_commands.specs.Command.{Arguments, IsRespelt, argument, is_word};
 ghost use Rattle.redis_routing.specs.Laws.{Covers, ArePartsPicked, ArePartsRouted, IfSplit};
-ghost use Rattle.redis_routing.specs.Plan.{plan, multiple_of};
 ghost use Rattle.redis_commands.specs.Policies.{policy_of};
 ghost use Rattle.redis_commands.specs.ReadOnly.{is_among};
-ghost use Rattle.redis_routing.specs.Target.{random, single, multiple, specific};
+ghost use Rattle.redis_routing.specs.RoutingInfo.{as_routing, as_multiple_nodes, random, single_node, multi_node, specific_node};
 ghost use Rattle.redis_commands.specs.RouteBy.{base_routing};
-ghost use Rattle.redis_routing.specs.Routing as go;
-ghost use Rattle.redis_commands.specs.Run.{run_of};
+ghost use Rattle.redis_routing.specs.Routing.{routing, routing_by, to_key, to_key_or_any, to_key_after, to_slot, by_count, argument_number};
+ghost use Rattle.redis_commands.specs.PresentArguments.{present_arguments};
 
 use super::info::{MultipleNodeRoutingInfo, RoutingInfo, SingleNodeRoutingInfo, nodes_for};
 use super::splitting::by_slots;
@@ -16,7 +15,7 @@ use redis_commands::{ReadOnlyNames, ResponsePolicy, Routable, RouteBy, base_rout
 use std::alloc::{AllocError, Global};
 
 impl RoutingInfo {
-    /// Where a command goes. `None` where it has no name, where what the way of its name asks for is
+    /// Where a command goes. `None` where it has no name, where the argument that it is routed by is
     /// missing or no number, where its tuples are not whole, or where commands of its name go nowhere.
     /// A name that no table has goes to the slot of argument 1, or without one to any node.
     ///
@@ -32,33 +31,33 @@ impl RoutingInfo {
         command: &R,
         read_only: &ReadOnlyNames,
     ) -> Result<Option<RoutingInfo>, AllocError>
-        ensures routed { IfOk result (λ info. option_map plan info ≡ go.routing (is_among read_only.now) (R.args command.now)) }
-        ensures case { (other : Arguments) → IsRespelt (R.args command.now) other → go.routing (is_among read_only.now) other ≡ go.routing (is_among read_only.now) (R.args command.now) }
-        ensures cover { IfOk result (λ info. IfSplit (λ pattern routes. Covers pattern (run_of (R.args command.now)) routes) (option_map plan info)) }
-        ensures picked { IfOk result (λ info. IfSplit (λ pattern routes. ArePartsPicked (R.args command.now) pattern routes) (option_map plan info)) }
-        ensures parts { IfOk result (λ info. IfSplit (λ pattern routes. ArePartsRouted (is_among read_only.now) (R.args command.now) pattern routes) (option_map plan info)) }
+        ensures routed { IfOk result (λ info. option_map as_routing info ≡ routing (is_among read_only.now) (R.args command.now)) }
+        ensures case { (other : Arguments) → IsRespelt (R.args command.now) other → routing (is_among read_only.now) other ≡ routing (is_among read_only.now) (R.args command.now) }
+        ensures cover { IfOk result (λ info. IfSplit (λ pattern routes. Covers pattern (present_arguments (R.args command.now)) routes) (option_map as_routing info)) }
+        ensures picked { IfOk result (λ info. IfSplit (λ pattern routes. ArePartsPicked (R.args command.now) pattern routes) (option_map as_routing info)) }
+        ensures parts { IfOk result (λ info. IfSplit (λ pattern routes. ArePartsRouted (is_among read_only.now) (R.args command.now) pattern routes) (option_map as_routing info)) }
     {
         let Some(name) = command.command(alloc)? else {
             return Ok(None);
         };
         let reads = read_only.contains(&name);
-        by_way(alloc, command, &name, reads)
+        for_name(alloc, command, &name, reads)
     }
 }
 
 /// Where a command of the name goes.
-fn by_way<R: Routable>(
+fn for_name<R: Routable>(
     alloc: Global,
     command: &R,
     name: &[u8],
     reads: bool,
 ) -> Result<Option<RoutingInfo>, AllocError>
-    ensures { IfOk result (λ info. option_map plan info ≡ go.by_way reads name.now (R.args command.now) (base_routing name.now)) }
+    ensures { IfOk result (λ info. option_map as_routing info ≡ routing_by reads name.now (R.args command.now) (base_routing name.now)) }
 {
-    let Some(way) = base_routing(name) else {
+    let Some(route_by) = base_routing(name) else {
         return Ok(to_key_or_any(command.arg_idx(1), reads));
     };
-    Ok(match way {
+    Ok(match route_by {
         RouteBy::AllNodes => Some(to_several(MultipleNodeRoutingInfo::AllNodes, name)),
         RouteBy::AllMasters => Some(to_several(MultipleNodeRoutingInfo::AllMasters, name)),
         RouteBy::MultiSlot(pattern) => by_slots(alloc, command, name, pattern, reads)?,
@@ -67,37 +66,37 @@ fn by_way<R: Routable>(
         RouteBy::KeyAt(place) => to_key(command.arg_idx(usize::from(place)), reads),
         RouteBy::KeyAfterStreams => after_streams(command, reads),
         RouteBy::Random => Some(to_any()),
-        RouteBy::SlotAtTwo => to_slot(command.arg_idx(2)),
+        RouteBy::SlotAt(place) => to_slot(command.arg_idx(usize::from(place))),
     })
 }
 
 fn to_any() -> RoutingInfo
-    ensures { plan result ≡ single random }
+    ensures { as_routing result ≡ single_node random }
 {
     RoutingInfo::SingleNode(SingleNodeRoutingInfo::Random)
 }
 
 fn to_several(nodes: MultipleNodeRoutingInfo, name: &[u8]) -> RoutingInfo
-    ensures { plan result ≡ multiple (multiple_of nodes) (policy_of name.now) }
+    ensures { as_routing result ≡ multi_node (as_multiple_nodes nodes) (policy_of name.now) }
 {
     RoutingInfo::MultiNode((nodes, ResponsePolicy::for_command(name)))
 }
 
-fn to_route(route: Route) -> RoutingInfo
-    ensures { plan result ≡ single (specific route) }
+fn to_specific_node(route: Route) -> RoutingInfo
+    ensures { as_routing result ≡ single_node (specific_node route) }
 {
     RoutingInfo::SingleNode(SingleNodeRoutingInfo::SpecificNode(route))
 }
 
 /// To the slot of the key, if there is one.
 fn to_key(key: Option<&[u8]>, reads: bool) -> Option<RoutingInfo>
-    ensures { option_map plan result ≡ go.to_key reads (option_copied key.entry) }
+    ensures { option_map as_routing result ≡ to_key reads (option_copied key.entry) }
 {
-    Some(to_route(Route::with_key(key?, nodes_for(reads))))
+    Some(to_specific_node(Route::with_key(key?, nodes_for(reads))))
 }
 
 fn to_key_or_any(key: Option<&[u8]>, reads: bool) -> Option<RoutingInfo>
-    ensures { option_map plan result ≡ go.to_key_or_any reads (option_copied key.entry) }
+    ensures { option_map as_routing result ≡ to_key_or_any reads (option_copied key.entry) }
 {
     match key {
         Some(_) => to_key(key, reads),
@@ -108,7 +107,7 @@ fn to_key_or_any(key: Option<&[u8]>, reads: bool) -> Option<RoutingInfo>
 /// By the count of keys at a place and the first key after it.
 fn by_count<R: Routable>(command: &R, place: usize, reads: bool) -> Option<RoutingInfo>
     requires { place < 2 ^ 16 }
-    ensures { option_map plan result ≡ go.by_count reads (go.number_at 64 (argument (R.args command.now) place)) (argument (R.args command.now) (place + 1)) }
+    ensures { option_map as_routing result ≡ by_count reads (argument_number 64 (argument (R.args command.now) place)) (argument (R.args command.now) (place + 1)) }
 {
     let count = parse_u64(command.arg_idx(place)?)?;
     if count == 0 {
@@ -118,7 +117,7 @@ fn by_count<R: Routable>(command: &R, place: usize, reads: bool) -> Option<Routi
 }
 
 fn after_streams<R: Routable>(command: &R, reads: bool) -> Option<RoutingInfo>
-    ensures { option_map plan result ≡ go.to_key_after reads (R.args command.now) (position (is_word (codes "STREAMS")) (R.args command.now)) }
+    ensures { option_map as_routing result ≡ to_key_after reads (R.args command.now) (position (is_word (codes "STREAMS")) (R.args command.now)) }
 {
     let place = command.position(b"STREAMS")?;
     to_key(command.arg_idx(place + 1), reads)
@@ -126,8 +125,8 @@ fn after_streams<R: Routable>(command: &R, reads: bool) -> Option<RoutingInfo>
 
 /// To the primary of the slot that the argument writes.
 fn to_slot(number: Option<&[u8]>) -> Option<RoutingInfo>
-    ensures { option_map plan result ≡ go.to_slot (go.number_at 16 (option_copied number.entry)) }
+    ensures { option_map as_routing result ≡ to_slot (argument_number 16 (option_copied number.entry)) }
 {
     let slot = Slot::new(parse_u16(number?)?)?;
-    Some(to_route(Route::with_slot(slot, SlotAddr::Master)))
+    Some(to_specific_node(Route::with_slot(slot, SlotAddr::Master)))
 }

@@ -4,10 +4,10 @@ ghost use Rattle.redis_routing.specs.Complete.{multi_slot_routes, pattern_of, pa
 ghost use Rattle.redis_commands.specs.Policies.{policy_of};
 ghost use Rattle.redis_commands.specs.ReadOnly.{is_among};
 ghost use Rattle.redis_routing.specs.Split.{Split, IsSplit, route_part, policy_by_name, joins_parts};
-ghost use Rattle.redis_routing.specs.Target.{route_lists};
+ghost use Rattle.redis_routing.specs.RoutingInfo.{route_lists};
 ghost use Rattle.redis_commands.specs.RouteBy.{base_routing};
 
-use super::splitting::{NAME_WORDS, routes_by_slot, run_len};
+use super::splitting::{NAME_WORDS, present_len, routes_by_slot};
 use super::sub_commands::sub_command;
 use cluster_slots::Route;
 use redis_commands::{
@@ -33,7 +33,7 @@ pub struct SplitCommand<'a, R: Routable> {
 
 impl<'a, R: Routable> Model for SplitCommand<'a, R> {
     ghost use Rattle.redis_routing.specs.Split.{Split, IsSplit};
-    ghost use Rattle.redis_routing.specs.Target.{route_lists};
+    ghost use Rattle.redis_routing.specs.RoutingInfo.{route_lists};
 
     ghost Value = { Split };
 
@@ -67,12 +67,12 @@ impl<'a, R: Routable> SplitCommand<'a, R> {
         let Some((pattern, policy)) = pattern_and_policy(&name) else {
             return Ok(None);
         };
-        let run = run_len(command, NAME_WORDS);
-        if !pattern.is_complete(run) {
+        let count = present_len(command, NAME_WORDS);
+        if !pattern.is_complete(count) {
             return Ok(None);
         }
         let reads = read_only.contains(&name);
-        let routes = routes_by_slot(alloc, command, NAME_WORDS, pattern, run, reads)?;
+        let routes = routes_by_slot(alloc, command, NAME_WORDS, pattern, count, reads)?;
         Ok(Some(SplitCommand {
             command,
             words: NAME_WORDS,

@@ -1,13 +1,13 @@
 ghost use Rattle.std.specs.Prelude.{◌≡◌, ◌<◌, ◌^◌, ◌+◌, ◌-◌, ◌++◌, ◌||◌, ◌∷◌, [], ℕ, true, length, map, IfOk, OnOk, is_some, if◌then◌else◌, nat_eq, option_map};
 ghost use Rattle.std.specs.List.{flat_map, range_with_len};
 ghost use Rattle.indexmap.specs.IndexMap.{get, keys, IsUnique};
-ghost use Rattle.redis_routing.specs.Groups.{listed, shown, group_route};
+ghost use Rattle.redis_routing.specs.Groups.{list_or_empty, entry_groups, route_of_group};
 ghost use Rattle.redis_routing.specs.Parts.{first_appearances, slot_of, tuples_in_slot};
-ghost use Rattle.redis_routing.specs.Plan.{plan};
+ghost use Rattle.redis_routing.specs.RoutingInfo.{as_routing};
 ghost use Rattle.redis_commands.specs.Policies.{policy_of};
-ghost use Rattle.redis_routing.specs.Routing as go;
-ghost use Rattle.redis_commands.specs.Run.{run_of, run_after};
-ghost use Rattle.redis_routing.specs.Target.{route_lists};
+ghost use Rattle.redis_routing.specs.Routing.{to_slots, routes_of, routing_of_routes};
+ghost use Rattle.redis_commands.specs.PresentArguments.{present_arguments, present_arguments_after};
+ghost use Rattle.redis_routing.specs.RoutingInfo.{route_lists};
 ghost use Rattle.redis_commands.specs.Tuples.{own_count, tuples_in, places_of};
 
 use super::info::{MultipleNodeRoutingInfo, RoutingInfo, SingleNodeRoutingInfo, nodes_for};
@@ -27,46 +27,46 @@ pub(super) fn by_slots<R: Routable>(
     pattern: MultiSlotArgPattern,
     reads: bool,
 ) -> Result<Option<RoutingInfo>, AllocError>
-    ensures { IfOk result (λ info. option_map plan info ≡ go.to_slots reads (policy_of name.now) pattern (run_of (R.args command.now))) }
+    ensures { IfOk result (λ info. option_map as_routing info ≡ to_slots reads (policy_of name.now) pattern (present_arguments (R.args command.now))) }
 {
-    let run = run_len(command, NAME_WORDS);
-    if !pattern.fits(run) {
+    let count = present_len(command, NAME_WORDS);
+    if !pattern.fits(count) {
         return Ok(None);
     }
-    let routes = routes_by_slot(alloc, command, NAME_WORDS, pattern, run, reads)?;
-    Ok(Some(to_routing(routes, pattern, ResponsePolicy::for_command(name))))
+    let routes = routes_by_slot(alloc, command, NAME_WORDS, pattern, count, reads)?;
+    Ok(Some(routing_of_routes(routes, pattern, ResponsePolicy::for_command(name))))
 }
 
-/// The routes of a run of whole tuples, which stands after a name of so many words.
+/// The routes of so many present arguments, which make whole tuples, after a name of so many words.
 pub(super) fn routes_by_slot<R: Routable>(
     alloc: Global,
     command: &R,
     words: usize,
     pattern: MultiSlotArgPattern,
-    run: usize,
+    count: usize,
     reads: bool,
 ) -> Result<Vec<(Route, Vec<usize>)>, AllocError>
-    requires few { run + words < 2 ^ 64 }
-    requires run { run ≡ length (run_after words (R.args command.now)) }
-    ensures { IfOk result (λ routes. route_lists routes.items ≡ go.routes_of reads pattern (run_after words (R.args command.now))) }
+    requires few { count + words < 2 ^ 64 }
+    requires count { count ≡ length (present_arguments_after words (R.args command.now)) }
+    ensures { IfOk result (λ routes. route_lists routes.items ≡ routes_of reads pattern (present_arguments_after words (R.args command.now))) }
 {
-    let own = pattern.own_len(run);
+    let own = pattern.own_len(count);
     let groups = group_by_slot(alloc, command, words, pattern, own)?;
-    to_routes(alloc, groups, nodes_for(reads), own, run)
+    routes_of_groups(alloc, groups, nodes_for(reads), own, count)
 }
 
 /// How many arguments follow a name of so many words up to the first gap.
-pub(super) fn run_len<R: Routable>(command: &R, words: usize) -> usize
+pub(super) fn present_len<R: Routable>(command: &R, words: usize) -> usize
     requires { words < 2 ^ 63 }
-    ensures run { result ≡ length (run_after words (R.args command.now)) }
+    ensures count { result ≡ length (present_arguments_after words (R.args command.now)) }
     ensures few { result < 2 ^ 63 }
     ensures arguments { length (R.args command.now) < 2 ^ 63 }
 {
-    let mut run = 0;
-    while command.arg_idx(run + words).is_some() {
-        run += 1;
+    let mut count = 0;
+    while command.arg_idx(count + words).is_some() {
+        count += 1;
     }
-    run
+    count
 }
 
 /// The places of the tuples of each slot, the slots in order of first appearance.
@@ -78,9 +78,9 @@ fn group_by_slot<R: Routable>(
     own: usize,
 ) -> Result<IndexMap<u16, Vec<usize>>, AllocError>
     requires few { own + words < 2 ^ 64 }
-    requires own { own ≡ own_count pattern (length (run_after words (R.args command.now))) }
-    ensures order { IfOk result (λ groups. keys groups ≡ first_appearances (map slot_of (tuples_in pattern (run_after words (R.args command.now))))) }
-    ensures places { IfOk result (λ groups. (s : ℕ) → listed (get nat_eq groups s) ≡ flat_map places_of (tuples_in_slot s (tuples_in pattern (run_after words (R.args command.now))))) }
+    requires own { own ≡ own_count pattern (length (present_arguments_after words (R.args command.now))) }
+    ensures order { IfOk result (λ groups. keys groups ≡ first_appearances (map slot_of (tuples_in pattern (present_arguments_after words (R.args command.now))))) }
+    ensures places { IfOk result (λ groups. (s : ℕ) → list_or_empty (get nat_eq groups s) ≡ flat_map places_of (tuples_in_slot s (tuples_in pattern (present_arguments_after words (R.args command.now))))) }
 {
     let width = pattern.width();
     let mut groups: IndexMap<u16, Vec<usize>> = IndexMap::new(alloc);
@@ -109,7 +109,7 @@ fn add(
     width: usize,
 ) -> Result<(), AllocError>
     requires { place + width < 2 ^ 64 }
-    ensures places { OnOk result ((s : ℕ) → listed (get nat_eq groups.new s) ≡ (if nat_eq slot s then listed (get nat_eq groups.old s) ++ range_with_len place width else listed (get nat_eq groups.old s))) }
+    ensures places { OnOk result ((s : ℕ) → list_or_empty (get nat_eq groups.new s) ≡ (if nat_eq slot s then list_or_empty (get nat_eq groups.old s) ++ range_with_len place width else list_or_empty (get nat_eq groups.old s))) }
     ensures found { OnOk result ((s : ℕ) → is_some (get nat_eq groups.new s) ≡ (nat_eq slot s || is_some (get nat_eq groups.old s))) }
     ensures order { OnOk result (keys groups.new ≡ (if is_some (get nat_eq groups.old slot) then keys groups.old else keys groups.old ++ slot ∷ [])) }
 {
@@ -132,31 +132,31 @@ fn push_places(places: &mut Vec<usize>, start: usize, end: usize) -> Result<(), 
 }
 
 /// A route for each slot, with its places and then the shared ones.
-fn to_routes(
+fn routes_of_groups(
     alloc: Global,
     groups: IndexMap<u16, Vec<usize>>,
     nodes: SlotAddr,
     own: usize,
-    run: usize,
+    count: usize,
 ) -> Result<Vec<(Route, Vec<usize>)>, AllocError>
-    ensures routes { IfOk result (λ routes. route_lists routes.items ≡ map (group_route nodes (range_with_len own (run - own))) (shown groups.entries)) }
+    ensures routes { IfOk result (λ routes. route_lists routes.items ≡ map (route_of_group nodes (range_with_len own (count - own))) (entry_groups groups.entries)) }
     ensures unique { OnOk result (IsUnique nat_eq groups) }
 {
     let mut routes = Vec::with_capacity(alloc, groups.len())?;
     for (slot, mut places) in groups {
-        push_places(&mut places, own, run)?;
+        push_places(&mut places, own, count)?;
         routes.push((Route::new(slot, nodes), places))?;
     }
     Ok(routes)
 }
 
 /// One node, where there is one route.
-fn to_routing(
+fn routing_of_routes(
     routes: Vec<(Route, Vec<usize>)>,
     pattern: MultiSlotArgPattern,
     policy: Option<ResponsePolicy>,
 ) -> RoutingInfo
-    ensures { plan result ≡ go.to_routing pattern policy (route_lists routes.items) }
+    ensures { as_routing result ≡ routing_of_routes pattern policy (route_lists routes.items) }
 {
     match routes.as_slice() {
         [only] => RoutingInfo::SingleNode(SingleNodeRoutingInfo::SpecificNode(only.0)),

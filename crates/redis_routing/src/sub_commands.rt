@@ -3,7 +3,8 @@ ghost use Rattle.std.specs.List.{range_with_len};
 ghost use Rattle.resp_core.specs.ErrorParts.{out_of_memory};
 ghost use Rattle.resp_core.specs.declared.error.ErrorKind.TheVariants.{Client};
 ghost use Rattle.redis_commands.specs.Command.{argument};
-ghost use Rattle.redis_routing.specs.SubCommand as made;
+ghost use Rattle.redis_commands.specs.Lists.{all_some};
+ghost use Rattle.redis_routing.specs.SubCommand.{sub_command, sub_command_after};
 
 use super::splitting::NAME_WORDS;
 use redis_commands::Routable;
@@ -22,8 +23,8 @@ pub fn command_for_multi_slot_indices<R: Routable>(
     original: &R,
     indices: &[usize],
 ) -> RedisResult<Cmd>
-    ensures made { IfOk result (λ cmd. made.sub_command (R.args original.now) indices.now ≡ Some cmd) }
-    ensures refused { IfErr result (λ fault. ((made.sub_command (R.args original.now) indices.now ≡ None) × (fault.kind ≡ Client)) ⊎ (fault ≡ out_of_memory)) }
+    ensures made { IfOk result (λ cmd. sub_command (R.args original.now) indices.now ≡ Some cmd) }
+    ensures refused { IfErr result (λ fault. ((sub_command (R.args original.now) indices.now ≡ None) × (fault.kind ≡ Client)) ⊎ (fault ≡ out_of_memory)) }
 {
     match sub_command(alloc, original, NAME_WORDS, indices)? {
         Some(command) => Ok(command),
@@ -39,7 +40,7 @@ pub(super) fn sub_command<R: Routable>(
     words: usize,
     indices: &[usize],
 ) -> Result<Option<Cmd>, AllocError>
-    ensures { IfOk result (λ cmd. cmd ≡ made.sub_command_after words (R.args original.now) indices.now) }
+    ensures { IfOk result (λ cmd. cmd ≡ sub_command_after words (R.args original.now) indices.now) }
 {
     let room = indices.len().saturating_add(words);
     let Some(mut command) = name_of(alloc, original, words, room)? else {
@@ -61,7 +62,7 @@ fn name_of<R: Routable>(
     words: usize,
     room: usize,
 ) -> Result<Option<Cmd>, AllocError>
-    ensures { IfOk result (λ cmd. cmd ≡ made.all_texts (map (λ place. argument (R.args original.now) place) (range_with_len 0 words))) }
+    ensures { IfOk result (λ cmd. cmd ≡ all_some (map (λ place. argument (R.args original.now) place) (range_with_len 0 words))) }
 {
     let mut command = Cmd::with_capacity(alloc, room)?;
     for place in 0..words {

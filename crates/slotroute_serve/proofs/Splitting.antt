@@ -15,7 +15,7 @@ use Rattle.redis_cluster.specs.Complete.{multi_slot_routes, part_by_name, part_b
 use Rattle.redis_cluster.specs.Parts.{part_of_slot_after}
 use Rattle.redis_cluster.specs.ReadOnly.{is_among}
 use Rattle.redis_cluster.specs.Split.{Split, route_part, split_part}
-use Rattle.redis_cluster.specs.Target.{route_lists}
+use Rattle.redis_cluster.specs.RoutingInfo.{route_list, route_lists}
 use Rattle.redis_commands.specs.declared.route_by.MultiSlotArgPattern.{MultiSlotArgPattern}
 use Rattle.slotroute_serve.specs.Split.{Part, IsPart, AreLines, IsSplitAnswer, only_reads, part_line}
 use Rattle.slotroute_serve.proofs.Reading.{AllZip-more}
@@ -31,16 +31,12 @@ none_is None false here e h = cc
 none_is (Some address) true here e h = cc
 none_is (Some address) false here e h = h
 
--- a route with the places of its part
-abbrev shown : SlotRoute × Vec ℕ Global → SlotRoute × List ℕ
-shown route = (route.0, route.1.items)
-
 -- The part of the route of a number is that of the route's slot.
-pub words_in_slot : (split : Split) (routes : List (SlotRoute × Vec ℕ Global)) (i : ℕ) (route : SlotRoute × Vec ℕ Global) (words : List (List ℕ)) → route_lists routes ≡ split.routes → i < length routes → route ≡ get_or routes i route
+pub words_of_part : (split : Split) (routes : List (SlotRoute × Vec ℕ Global)) (i : ℕ) (route : SlotRoute × Vec ℕ Global) (words : List (List ℕ)) → route_lists routes ≡ split.routes → i < length routes → route ≡ get_or routes i route
     → Some (map Some words) ≡ route_part split i → map Some words ≡ split_part split route.0.slot
-words_in_slot split routes i route words shown-are inside is part =
-    let there : slice_get split.routes i ≡ Some (shown route) =
-    ap (λ rs. slice_get rs i) (sym shown-are) ∙ slice_get-map shown routes i ∙ ap (option_map shown) (slice_get-get_or routes i route inside ∙ ap Some (sym is)) in
+words_of_part split routes i route words routes-are inside is part =
+    let there : slice_get split.routes i ≡ Some (route_list route) =
+    ap (λ rs. slice_get rs i) (sym routes-are) ∙ slice_get-map route_list routes i ∙ ap (option_map route_list) (slice_get-get_or routes i route inside ∙ ap Some (sym is)) in
     let whole : Some (map Some words) ≡ Some (split_part split route.0.slot) = part ∙ ap (option_map (λ r. split_part split r.0.slot)) there in
     cc whole
 

@@ -4,7 +4,7 @@ use Rattle.std.specs.List.{list_all}
 use Rattle.resp_core.specs.View.{view}
 use Rattle.resp_core.specs.declared.value.Value.{Value}
 use Rattle.redis_combiners.specs.ByPlaces.{items_at}
-use Rattle.redis_combiners.proofs.Filled.{shown}
+use Rattle.redis_combiners.proofs.Arranging.{slot_items}
 use Rattle.redis_combiners.proofs.arrange.arrange.Given as goal
 
 -- the last items are in their slots, and the first are left
@@ -13,7 +13,7 @@ invariant-loop-item l = record {
   slots : length l.slots.items ≡ length l.places;
   few : length l.items.items ≤ length l.places;
   left : l.items.items ≡ take (length l.items.items) l.fn.items.items;
-  held : (k : ℕ) (d : Option Value) → k < length l.places → shown (get_or l.slots.items k d) ≡ items_at k (drop (length l.items.items) l.places) (map view (drop (length l.items.items) l.fn.items.items));
+  held : (k : ℕ) (d : Option Value) → k < length l.places → slot_items (get_or l.slots.items k d) ≡ items_at k (drop (length l.items.items) l.places) (map view (drop (length l.items.items) l.fn.items.items));
   within : list_all (λ p. nat_lt p (length l.places)) (drop (length l.items.items) l.places) ≡ true;
 }
 

@@ -1,6 +1,6 @@
 use Rattle.std.proofs.Common.{◌≡◌, ◌∙◌, ap, refl, arith}
 use Rattle.std.proofs.lemmas.List.Elements.{same_from_all_zip}
-use Rattle.redis_routing.specs.Target.{route_lists}
+use Rattle.redis_routing.specs.RoutingInfo.{route_lists}
 use Rattle.redis_routing.proofs.Routes.{one_more}
 use Rattle.redis_routing.proofs.info.copy_routes.Goals as goal
 

@@ -1,5 +1,5 @@
 use Rattle.std.proofs.Common.{◌≡◌, take}
-use Rattle.redis_routing.specs.Target.{route_lists}
+use Rattle.redis_routing.specs.RoutingInfo.{route_lists}
 use Rattle.redis_routing.proofs.info.copy_routes.Given as goal
 
 abbrev pub invariant-loop-route : goal.invariant-loop-route

@@ -3,7 +3,7 @@ use Rattle.redis_routing.specs.Complete.{multi_slot_routes}
 use Rattle.redis_commands.specs.NameTables.{own_tables}
 use Rattle.redis_commands.specs.ReadOnly.{is_among}
 use Rattle.redis_routing.specs.Split.{Split}
-use Rattle.redis_routing.specs.Target.{route_lists}
+use Rattle.redis_routing.specs.RoutingInfo.{route_lists}
 use Rattle.redis_routing.proofs.Picks.{complete_sub_commands, has_first}
 use Rattle.redis_routing.proofs.split_command.multi_slot_routes.Goals as goal
 

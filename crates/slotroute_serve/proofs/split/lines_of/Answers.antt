@@ -1,7 +1,7 @@
 use Rattle.std.proofs.Common.{option_copied, ◌∙◌, sym, ap, ◌≡◌, cond, is_none}
 use Rattle.redis_cluster.specs.Split.{split_part}
 use Rattle.slotroute_serve.specs.Split.{Part, IsPart}
-use Rattle.slotroute_serve.proofs.Splitting.{node_is, none_is, words_in_slot, one_more}
+use Rattle.slotroute_serve.proofs.Splitting.{node_is, none_is, words_of_part, one_more}
 use Rattle.slotroute_serve.proofs.split.lines_of.Goals.{then-is_none, else-is_none}
 use Rattle.slotroute_serve.proofs.split.lines_of.Goals as goal
 
@@ -15,7 +15,7 @@ loop-number-preserved c =
     let is_part : IsPart c.args.slot_map.now (split_part split) route.0 part = record {
       slot = c.slot.ensures;
       node = node_is _ _ c.slot_addr_for_route-node.result c.slot_addr_for_route-node.ensures.node;
-      words = words_in_slot split routes i route c.in_ok-part.part c.routes-routes.ensures.routes c.loop-number-test.true c.index-routes-number.is c.in_ok-part.ensures;
+      words = words_of_part split routes i route c.in_ok-part.part c.routes-routes.ensures.routes c.loop-number-test.true c.index-routes-number.is c.in_ok-part.ensures;
     } in
     let status : c.if-is_none.status ≡ cond (is_none part.node) 1 c.loop-number.status = elim c.if-is_none.branch [
       | then-is_none w ↦ w.status-is ∙ sym (ap (λ b. cond b 1 c.loop-number.status) (none_is c.slot_addr_for_route-node.result c.is_none.result _ c.is_none.ensures w.if-is_none.true))

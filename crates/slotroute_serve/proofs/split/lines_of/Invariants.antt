@@ -1,6 +1,6 @@
 use Rattle.std.proofs.Common.{take}
 use Rattle.redis_cluster.specs.Split.{split_part}
-use Rattle.redis_cluster.specs.Target.{route_lists}
+use Rattle.redis_cluster.specs.RoutingInfo.{route_lists}
 use Rattle.slotroute_serve.specs.Split.{AreLines}
 use Rattle.slotroute_serve.proofs.split.lines_of.Given as goal
 

@@ -1,4 +1,4 @@
--- Slots that are filled from the last item on.
+-- Items that are put into slots, from the last one on.
 use Rattle.std.proofs.Common.{◌≡◌, ℕ, zero, suc, ◌+◌, ◌<◌, ◌≤◌, Bool, true, false, cond, List, [], ◌∷◌, ◌++◌, length, map, take, drop, get_or, Option, Some, None, refl, ap, sym, ◌∙◌, subst, arith, is_some, lit<, Vec, Global}
 use Rattle.std.proofs.Math.ListN.{set}
 use Rattle.std.specs.Prelude.{option_map, option_to_list, filter, nat_eq, nat_lt, ◌&&◌}
@@ -10,11 +10,11 @@ use Rattle.resp_core.specs.Reply.{Reply}
 use Rattle.resp_core.specs.View.{view}
 use Rattle.resp_core.specs.declared.value.Value.{Value}
 use Rattle.redis_combiners.specs.ByPlaces.{items_at, single, by_places}
-use Rattle.redis_combiners.specs.Lists.{all_some}
+use Rattle.redis_commands.specs.Lists.{all_some}
 use Rattle.resp_core.proofs.Cases.{by_test}
 
-abbrev pub shown : Option Value → List Reply
-shown s = option_to_list (option_map view s)
+abbrev pub slot_items : Option Value → List Reply
+slot_items s = option_to_list (option_map view s)
 
 pub items_at-cons : (k p : ℕ) (ps : List ℕ) (x : Reply) (xs : List Reply) → items_at k (p ∷ ps) (x ∷ xs) ≡ cond (nat_eq p k) (x ∷ items_at k ps xs) (items_at k ps xs)
 items_at-cons k p ps x xs = either (nat_eq p k)
@@ -23,18 +23,18 @@ items_at-cons k p ps x xs = either (nat_eq p k)
     either true = refl
     either false = refl
 
-pub held_more : (slots : List (Option Value)) (place : ℕ) (item : Value) (ps : List ℕ) (xs : List Reply) → place < length slots
-    → ((k : ℕ) (d : Option Value) → k < length slots → shown (get_or slots k d) ≡ items_at k ps xs)
-    → shown (get_or slots place None) ≡ []
-    → (k : ℕ) (d : Option Value) → k < length slots → shown (get_or (set slots place (Some item)) k d) ≡ items_at k (place ∷ ps) (view item ∷ xs)
-held_more slots place item ps xs l held empty k d lk = by_test (nat_eq place k)
+pub slot_items_more : (slots : List (Option Value)) (place : ℕ) (item : Value) (ps : List ℕ) (xs : List Reply) → place < length slots
+    → ((k : ℕ) (d : Option Value) → k < length slots → slot_items (get_or slots k d) ≡ items_at k ps xs)
+    → slot_items (get_or slots place None) ≡ []
+    → (k : ℕ) (d : Option Value) → k < length slots → slot_items (get_or (set slots place (Some item)) k d) ≡ items_at k (place ∷ ps) (view item ∷ xs)
+slot_items_more slots place item ps xs l held empty k d lk = by_test (nat_eq place k)
     (λ e. let same : place ≡ k = eqb-true place k e in
-    ap (λ b. shown (get_or (set slots place (Some item)) b d)) (sym same)
-    ∙ ap shown (get_or-set_same slots place (Some item) d l)
+    ap (λ b. slot_items (get_or (set slots place (Some item)) b d)) (sym same)
+    ∙ ap slot_items (get_or-set_same slots place (Some item) d l)
     ∙ ap (λ ys. view item ∷ ys) (sym empty ∙ held place None l ∙ ap (λ b. items_at b ps xs) same)
     ∙ ap (λ b. cond b (view item ∷ items_at k ps xs) (items_at k ps xs)) (sym e)
     ∙ sym (items_at-cons k place ps (view item) xs))
-    (λ e. ap shown (get_or-set_other slots place k (Some item) d (λ h. eqb-false place k e (sym h)))
+    (λ e. ap slot_items (get_or-set_other slots place k (Some item) d (λ h. eqb-false place k e (sym h)))
     ∙ held k d lk
     ∙ ap (λ b. cond b (view item ∷ items_at k ps xs) (items_at k ps xs)) (sym e)
     ∙ sym (items_at-cons k place ps (view item) xs))
@@ -81,9 +81,9 @@ not_single [] l = absurd (omega arith)
 not_single (x ∷ []) l = absurd (omega arith)
 not_single (x ∷ (y ∷ xs)) l = refl
 
-single_shown : (slot : Option Value) → single (shown slot) ≡ option_map view slot
-single_shown None = refl
-single_shown (Some v) = refl
+single_slot_item : (slot : Option Value) → single (slot_items slot) ≡ option_map view slot
+single_slot_item None = refl
+single_slot_item (Some v) = refl
 
 either_none : (b : Bool) (o : Option (List Reply)) → o ≡ None → cond b o None ≡ None
 either_none true o e = e
@@ -98,42 +98,42 @@ place_twice ps xs i k l h =
     either_none (list_all (λ p. nat_lt p (length ps)) ps) (all_some (map f (range_with_len 0 (length ps)))) (one_missing (map f (range_with_len 0 (length ps))) k (omega arith) (there ∙ not_single (items_at k ps xs) long))
 
 -- all slots, once each item is in one
-pub all_held : (slots : List (Option Value)) (ps : List ℕ) (xs : List Reply) → length slots ≡ length ps
-    → ((k : ℕ) (d : Option Value) → k < length ps → shown (get_or slots k d) ≡ items_at k ps xs)
+pub all_slot_items : (slots : List (Option Value)) (ps : List ℕ) (xs : List Reply) → length slots ≡ length ps
+    → ((k : ℕ) (d : Option Value) → k < length ps → slot_items (get_or slots k d) ≡ items_at k ps xs)
     → list_all (λ p. nat_lt p (length ps)) ps ≡ true
     → all_some (map (λ slot. option_map view slot) slots) ≡ by_places ps xs
-all_held slots ps xs n held within =
+all_slot_items slots ps xs n held within =
     let f : ℕ → Option Reply = λ j. single (items_at j ps xs) in
     let seen : Option Value → Option Reply = λ slot. option_map view slot in
-    ap all_some (fill_by_all f (map seen slots) (length ps) None (length-map slots seen ∙ n) (λ k l. get_or-map seen slots k None None (omega arith) ∙ sym (single_shown (get_or slots k None)) ∙ ap single (held k None l)))
+    ap all_some (fill_by_all f (map seen slots) (length ps) None (length-map slots seen ∙ n) (λ k l. get_or-map seen slots k None None (omega arith) ∙ sym (single_slot_item (get_or slots k None)) ∙ ap single (held k None l)))
     ∙ ap (λ b. cond b (all_some (map f (range_with_len 0 (length ps)))) None) (sym within)
 
-pub collided : (slots : List (Option Value)) (place : ℕ) (item : Value) (ps : List ℕ) (xs : List Reply) → place < length slots
-    → ((k : ℕ) (d : Option Value) → k < length slots → shown (get_or slots k d) ≡ items_at k ps xs)
+pub two_at_place : (slots : List (Option Value)) (place : ℕ) (item : Value) (ps : List ℕ) (xs : List Reply) → place < length slots
+    → ((k : ℕ) (d : Option Value) → k < length slots → slot_items (get_or slots k d) ≡ items_at k ps xs)
     → is_some (get_or slots place None) ≡ true
     → 1 < length (items_at place (place ∷ ps) (view item ∷ xs))
-collided slots place item ps xs l held full =
-    let there : 0 < length (shown (get_or slots place None)) = some_shown (get_or slots place None) full in
+two_at_place slots place item ps xs l held full =
+    let there : 0 < length (slot_items (get_or slots place None)) = some_slot_item (get_or slots place None) full in
     let more : 0 < length (items_at place ps xs) = subst (λ ys. 0 < length ys) (held place None l) there in
     let two : 1 < length (cond (nat_eq place place) (view item ∷ items_at place ps xs) (items_at place ps xs)) = subst (λ b. 1 < length (cond b (view item ∷ items_at place ps xs) (items_at place ps xs))) (sym (eq-eqb place place refl)) (suc_more (items_at place ps xs) more) in
     subst (λ ys. 1 < length ys) (sym (items_at-cons place place ps (view item) xs)) two
   where
-    some_shown : (o : Option Value) → is_some o ≡ true → 0 < length (shown o)
-    some_shown None e = absurd (cc)
-    some_shown (Some v) e = lit< tt
+    some_slot_item : (o : Option Value) → is_some o ≡ true → 0 < length (slot_items o)
+    some_slot_item None e = absurd (cc)
+    some_slot_item (Some v) e = lit< tt
 
     suc_more : (ys : List Reply) → 0 < length ys → 1 < length (view item ∷ ys)
     suc_more ys h = omega arith
 
 -- what a `pop` leaves of the first items
-pub record Popped (vs ws : List Value) (item : Value) (all : List Value) (ps : List ℕ) : Type 0 where
+pub record AfterPop (vs ws : List Value) (item : Value) (all : List Value) (ps : List ℕ) : Type 0 where
   pub within : length ws < length ps
   pub next_place : drop (length ws) ps ≡ get_or ps (length ws) 0 ∷ drop (length vs) ps
   pub next_item : map view (drop (length ws) all) ≡ view item ∷ map view (drop (length vs) all)
   pub left : ws ≡ take (length ws) all
 
-pub popped : (vs ws : List Value) (item : Value) (all : List Value) (ps : List ℕ) → vs ≡ ws ++ item ∷ [] → vs ≡ take (length vs) all → length vs ≤ length ps → length all ≡ length ps → Popped vs ws item all ps
-popped vs ws item all ps last left few same =
+pub after_pop : (vs ws : List Value) (item : Value) (all : List Value) (ps : List ℕ) → vs ≡ ws ++ item ∷ [] → vs ≡ take (length vs) all → length vs ≤ length ps → length all ≡ length ps → AfterPop vs ws item all ps
+after_pop vs ws item all ps last left few same =
     let longer : length vs ≡ length ws + 1 = ap length last ∙ length_push ws item in
     let within : length ws < length ps = omega arith in
     let here : get_or all (length ws) item ≡ item = sym (get_or-take (length vs) all (length ws) item (omega arith)) ∙ ap (λ us. get_or us (length ws) item) (sym left ∙ last) ∙ get_or_at ws item [] item (length ws) refl in
@@ -144,9 +144,9 @@ popped vs ws item all ps last left few same =
       left = sym (take_at ws (item ∷ []) (length ws) refl) ∙ ap (take (length ws)) (sym last ∙ left) ∙ take-take (length ws) (length vs) all (omega arith);
     }
 
-pub none_shown : (o : Option Value) → is_some o ≡ false → shown o ≡ []
-none_shown None e = refl
-none_shown (Some v) e = absurd (cc)
+pub no_slot_item : (o : Option Value) → is_some o ≡ false → slot_items o ≡ []
+no_slot_item None e = refl
+no_slot_item (Some v) e = absurd (cc)
 
 pub within_more : (n p : ℕ) (ps qs : List ℕ) → qs ≡ p ∷ ps → p < n → list_all (λ q. nat_lt q n) ps ≡ true → list_all (λ q. nat_lt q n) qs ≡ true
 within_more n p ps qs e l h = ap (list_all (λ q. nat_lt q n)) e ∙ ap (λ b. b && list_all (λ q. nat_lt q n) ps) (lt-ltb p n l) ∙ h
