@@ -12,7 +12,7 @@ use Rattle.slot_ranges.specs.RangeMap.{Entry, IsUncovered}
 use Rattle.read_strategies.specs.Candidates.{Candidates}
 use Rattle.read_strategies.specs.RouteNode.{IsNodeOfRoute, IsPickedNode}
 use Rattle.cluster_map.specs.ReplyNode.{IsCovered}
-use Rattle.redis_routing.specs.Target.{route_lists}
+use Rattle.redis_routing.specs.RoutingInfo.{route_lists}
 use Rattle.redis_driver.specs.Driven.{IsFirstUncovered}
 
 module _ {S : Type 0} (strategy : Option S) (picks : S → Candidates → Address → Type 0) (entries : List (Entry SlotNodes)) (pick : ℕ) where

@@ -18,10 +18,10 @@ use Rattle.resp_core.proofs.Views.{items_in-replies_of}
 use Rattle.redis_combiners.specs.AllItems.{all_items}
 use Rattle.redis_combiners.specs.ByPlaces.{by_places, items_at, single}
 use Rattle.redis_combiners.specs.KeyPlaces.{all_places, places}
-use Rattle.redis_combiners.specs.Lists.{all_some, flatten}
+use Rattle.redis_commands.specs.Lists.{all_some, flatten}
 use Rattle.redis_combiners.specs.Misfits.{first_misfit, misfit, misfit_of}
 use Rattle.redis_combiners.specs.SortedArrays.{array_by_places, array_or_refusal, sorted_arrays}
-use Rattle.redis_combiners.proofs.Filled.{items_at-cons}
+use Rattle.redis_combiners.proofs.Arranging.{items_at-cons}
 use Rattle.redis_commands.specs.declared.route_by.MultiSlotArgPattern.{MultiSlotArgPattern}
 use Rattle.redis_nodes.specs.MultiKey.{KeyTuple, list}
 use Rattle.redis_nodes.specs.Orders.{NamesOnce, in_order, times}

@@ -9,7 +9,7 @@ use Rattle.cluster_slots.specs.SlotRoute.{SlotRoute}
 use Rattle.cluster_map.specs.ReplyNode.{IsCovered}
 use Rattle.redis_commands.specs.Command.{Arguments, command_of}
 use Rattle.redis_commands.specs.NameTables.{own_tables}
-use Rattle.redis_commands.specs.Run.{run_after}
+use Rattle.redis_commands.specs.PresentArguments.{present_arguments_after}
 use Rattle.redis_commands.specs.declared.policy.ResponsePolicy.{ResponsePolicy}
 use Rattle.redis_commands.specs.declared.route_by.MultiSlotArgPattern.{MultiSlotArgPattern}
 use Rattle.redis_routing.specs.Complete.{multi_slot_routes, part_by_name, part_by_pattern, pattern_by_name, pattern_of}
@@ -63,8 +63,8 @@ module _ (only_reads : List ℕ → Bool) (args : Arguments) (plan : Plan) (argu
       (command, found.1, record {
         command_is = ap multi_key arguments ∙ found.1;
         form = ap form_of_policy (policy ∙ ap policy_by_name made.1.name) ∙ made.1.form;
-        tuples = made.1.tuples ∙ ap (λ p. tuples_of p (run_after 1 args)) (sym pattern_is)
-          ∙ ap (λ a. tuples_of plan.split.pattern (run_after 1 a)) (sym arguments) ∙ ap (λ w. tuples_of plan.split.pattern (run_after w plan.split.arguments)) (sym words);
+        tuples = made.1.tuples ∙ ap (λ p. tuples_of p (present_arguments_after 1 args)) (sym pattern_is)
+          ∙ ap (λ a. tuples_of plan.split.pattern (present_arguments_after 1 a)) (sym arguments) ∙ ap (λ w. tuples_of plan.split.pattern (present_arguments_after w plan.split.arguments)) (sym words);
         at_most_once = found.2.at_most_once;
         once = found.2.once;
         nodes = whole.nodes;

@@ -5,12 +5,12 @@ use Rattle.std.proofs.lemmas.Bool.Decides.{nat_tests}
 use Rattle.std.proofs.lemmas.List.{length-map}
 use Rattle.redis_commands.specs.Command.{Arguments, HasWords, command_of}
 use Rattle.redis_commands.specs.NameTables.{NameTables}
-use Rattle.redis_commands.specs.Run.{run_after}
+use Rattle.redis_commands.specs.PresentArguments.{present_arguments_after}
 use Rattle.redis_commands.specs.Tuples.{is_complete, shared_in}
 use Rattle.redis_commands.specs.declared.policy.ResponsePolicy.TheVariants.{CombineArrays}
 use Rattle.redis_commands.specs.declared.route_by.MultiSlotArgPattern.{MultiSlotArgPattern}
 use Rattle.redis_commands.specs.declared.route_by.MultiSlotArgPattern.TheVariants.{KeysOnly, KeyValuePairs, KeysAndLastArg, KeyWithTwoArgTriples}
-use Rattle.redis_commands.specs.declared.route_by.RouteBy.TheVariants as way
+use Rattle.redis_commands.specs.declared.route_by.RouteBy.TheVariants as route_by
 use Rattle.redis_routing.specs.Complete.{pattern_by_name_with, multi_slot_routes_with}
 use Rattle.redis_routing.specs.Split.{Split, IsSplit}
 use Rattle.redis_nodes.specs.MultiKey.{MultiKey, list, tuples_of}
@@ -30,7 +30,7 @@ complete_some KeyWithTwoArgTriples zero h = absurd (cc h)
 complete_some KeyWithTwoArgTriples (suc m) h = omega arith
 
 -- a command with a run after its name has a name
-has_name : (words : ℕ) (args : Arguments) → HasWords words args → 0 < length (run_after words args) → (name : List ℕ) × (command_of args ≡ Some name)
+has_name : (words : ℕ) (args : Arguments) → HasWords words args → 0 < length (present_arguments_after words args) → (name : List ℕ) × (command_of args ≡ Some name)
 has_name zero [] name some = absurd (omega arith)
 has_name zero (None ∷ args) name some = absurd (omega arith)
 has_name zero (Some first ∷ args) name some = (_, refl)
@@ -44,7 +44,7 @@ has_name (suc n) (Some first ∷ args) name some = (_, refl)
 
 -- tables by which each name has this pattern
 abbrev tables_of : MultiSlotArgPattern → NameTables
-tables_of pattern = record { way = λ name. Some (way.MultiSlot pattern); policy = λ name. Some CombineArrays }
+tables_of pattern = record { route_by = λ name. Some (route_by.MultiSlot pattern); policy = λ name. Some CombineArrays }
 
 -- what is known of a split by its tuples
 pub record IsSplitTo (split : Split) : Type 0 where
@@ -55,7 +55,7 @@ pub record IsSplitTo (split : Split) : Type 0 where
 
 module _ (split : Split) (held : IsSplit split) where
   abbrev run : List (List ℕ)
-  run = run_after split.words split.arguments
+  run = present_arguments_after split.words split.arguments
 
   name_is : (name : List ℕ) × (command_of split.arguments ≡ Some name)
   name_is = has_name split.words split.arguments held.name (complete_some split.pattern (length run) held.complete)

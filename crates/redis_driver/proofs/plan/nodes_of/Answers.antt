@@ -1,7 +1,7 @@
 use Rattle.std.proofs.Common.{inr, ap, sym, refl, ◌∙◌, map, take}
 use Rattle.std.proofs.lemmas.List.{map_push, take_all}
 use Rattle.std.proofs.lemmas.Slice.Zip.{all_zipped_more}
-use Rattle.redis_routing.specs.Target.{route_lists}
+use Rattle.redis_routing.specs.RoutingInfo.{route_lists}
 use Rattle.redis_driver.proofs.Covered.{IsNode, covered_by_nodes, first_uncovered, route_lists_more}
 use Rattle.redis_driver.proofs.plan.nodes_of.Goals as goal
 

@@ -1,7 +1,7 @@
 use Rattle.std.proofs.Common.{MatchOption, map, take}
 use Rattle.std.specs.List.{AllZip}
 use Rattle.read_strategies.specs.RouteNode.{IsNodeOfRoute, IsPickedNode}
-use Rattle.redis_routing.specs.Target.{route_lists}
+use Rattle.redis_routing.specs.RoutingInfo.{route_lists}
 use Rattle.redis_driver.proofs.plan.nodes_of.Given as goal
 
 -- the nodes so far are those of the routes so far

@@ -8,7 +8,7 @@ use Rattle.slot_ranges.specs.RangeMap.{Entry}
 use Rattle.redis_commands.specs.Command.{Arguments}
 use Rattle.redis_commands.specs.ReadOnly.{is_among}
 use Rattle.redis_routing.specs.Complete.{multi_slot_routes}
-use Rattle.redis_routing.specs.Target.{route_lists}
+use Rattle.redis_routing.specs.RoutingInfo.{route_lists}
 use Rattle.redis_driver.specs.Driven.{IsFirstUncovered}
 use Rattle.redis_driver.specs.Faults.{IsPlanFault}
 use Rattle.redis_driver.specs.declared.fault.PlanFault.{PlanFault}
