@@ -1,7 +1,6 @@
 -- The node at a place among a primary and its replicas.
-use Rattle.std.proofs.Common.{◌≡◌, ◌<◌, ◌%◌, ◌-◌, ℕ, zero, suc, List, ◌∷◌, length, Option, Some, slice_get, refl, sym, ap, ◌∙◌, arith}
+use Rattle.std.proofs.Common.{◌≡◌, ◌<◌, ◌%◌, ◌-◌, ℕ, zero, suc, List, ◌∷◌, length, Some, slice_get, refl, sym, ap, ◌∙◌, arith}
 use Rattle.std.proofs.Math.Nat.{mod-eq_of_lt}
-use Rattle.std.proofs.lemmas.Nat.{mod_below}
 
 pub at_first : {X : Type 0} (x : X) (xs : List X) (place : ℕ) → place ≡ 0 → slice_get (x ∷ xs) place ≡ Some x
 at_first x xs place is = ap (slice_get (x ∷ xs)) is
