@@ -1,5 +1,5 @@
 -- What stands at a place among the candidates is one of them. For the law of a strategy, `picks_candidates`.
-use Rattle.std.proofs.Common.{◌≡◌, ℕ, zero, suc, ◌⊎◌, inl, inr, List, ◌∷◌, Option, Some, None, Contains, slice_get, sym}
+use Rattle.std.proofs.Common.{◌≡◌, ℕ, zero, suc, ◌⊎◌, inl, inr, List, ◌∷◌, Option, Some, None, Contains, slice_get}
 use Rattle.std.specs.Option.{option_map_or}
 use Rattle.std.proofs.lemmas.Option.{slice_get_within, get_or_from_slice_get}
 use Rattle.cluster_slots.specs.Address.{Address}
