@@ -64,7 +64,7 @@ module _ (rest tuple others : List (Vec ℕ Global)) (width : ℕ) (pattern : Mu
       ap words (take_all (length tuple - 1) (drop 1 tuple) (omega (arith, few))) ∙ sym (drop-map (λ arg. arg.items) 1 tuple) ∙ ap (drop 1) words_front
 
 -- what is kept, with what one tuple more adds
-module _ (kept more : List Reply) (old new : ℕ) (added : Result) (rest all : List Result) where
+module _ (kept more : List Reply) (old new : ℕ) (added : TupleResult) (rest all : List TupleResult) where
   pub values-more : more ≡ kept ++ added.value ∷ [] → added ∷ rest ≡ all → more ++ map (λ r. r.value) rest ≡ kept ++ map (λ r. r.value) all
   values-more is one =
       ap (λ vs. vs ++ map (λ r. r.value) rest) is
@@ -95,7 +95,7 @@ few-more pattern counts old new width rest others all is is_width cut few =
     wide KeyWithTwoArgTriples = omega arith
 
 -- where no tuple is left, what is kept is what all add
-pub all-kept : (kept : List Reply) (count : ℕ) (rest all : List Result) → rest ≡ [] → kept ++ map (λ r. r.value) rest ≡ map (λ r. r.value) all → count + count_by (λ r. r.counts) rest ≡ count_by (λ r. r.counts) all → (kept ≡ map (λ r. r.value) all) × (count ≡ count_by (λ r. r.counts) all)
+pub all-kept : (kept : List Reply) (count : ℕ) (rest all : List TupleResult) → rest ≡ [] → kept ++ map (λ r. r.value) rest ≡ map (λ r. r.value) all → count + count_by (λ r. r.counts) rest ≡ count_by (λ r. r.counts) all → (kept ≡ map (λ r. r.value) all) × (count ≡ count_by (λ r. r.counts) all)
 all-kept kept count rest all none values counts =
     let zero : count_by (λ r. r.counts) rest ≡ 0 = ap (count_by (λ r. r.counts)) none in
     (sym (append-nil kept) ∙ ap (λ rs. kept ++ map (λ r. r.value) rs) (sym none) ∙ values, omega (arith, counts, zero))

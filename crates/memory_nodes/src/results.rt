@@ -74,7 +74,7 @@ impl Results {
     /// The reply that a policy makes of them.
     pub(super) fn into_reply(self, policy: ResponsePolicy) -> Value
         requires { self.count < 2 ^ 63 }
-        ensures { (results : List Result) → AreKept self results → IfSome (form_by_policy policy) (λ form. view result ≡ reply_by form results) }
+        ensures { (results : List TupleResult) → AreKept self results → IfSome (form_by_policy policy) (λ form. view result ≡ reply_by form results) }
     {
         match policy {
             ResponsePolicy::CombineArrays => Value::Array(self.values),
