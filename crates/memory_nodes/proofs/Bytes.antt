@@ -1,5 +1,5 @@
 -- Trees whose keys are bytes.
-use Rattle.std.proofs.Common.{◌≡◌, ℕ, List, Bool, true, false, cond, Option, None, Vec, Global, refl, sym, ap, ◌∙◌}
+use Rattle.std.proofs.Common.{◌≡◌, ℕ, List, Bool, true, false, cond, Option, None, Vec, Global, sym, ap, ◌∙◌}
 use Rattle.std.specs.Ordering.{is_eq, nat_cmp}
 use Rattle.std.specs.Cmp.{eq_by_cmp_equiv}
 use Rattle.std.specs.Cmp.Lexicographic.{slice_cmp, nat_list_cmp_total, nat_list_eq_equiv}
@@ -12,11 +12,8 @@ use Rattle.std.proofs.lemmas.List.Elements.{same_from_all_zip}
 use Rattle.std.proofs.lemmas.Map.Text.{is_eq-slice_cmp}
 use Rattle.std.proofs.lemmas.Map.Entries.{lookup_clone}
 use Rattle.std.proofs.lemmas.Slice.Eq.{bytes_eq-Decides}
+use Rattle.resp_core.proofs.Cases.{by_test}
 use Rattle.memory_nodes.specs.Cells.{found}
-
-pub by_test : {A : Type 0} (b : Bool) → (b ≡ true → A) → (b ≡ false → A) → A
-by_test true yes_case no_case = yes_case refl
-by_test false yes_case no_case = no_case refl
 
 -- bytes that differ are not equal to one key
 apart : (bs cs key : List ℕ) → bytes_eq bs cs ≡ false → is_eq (slice_cmp nat_cmp bs key) ≡ true → is_eq (slice_cmp nat_cmp cs key) ≡ false

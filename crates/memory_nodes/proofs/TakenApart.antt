@@ -47,18 +47,18 @@ by_shape run name pattern policy found way joined e f g h =
     all ∙ with_shape name run pattern (form_by_policy policy) (subst IsSome all h)
 
 -- the lists that a run is cut into
-module _ (args run arguments_before_gap back : List (Vec ℕ Global)) (cmd : List (List ℕ)) (own : ℕ) (pattern : MultiSlotArgPattern) (are_args : words args ≡ cmd) (is_run : run ≡ drop 1 args) (is_own : own ≡ own_count pattern (length run)) where
+module _ (args run tuples shared : List (Vec ℕ Global)) (cmd : List (List ℕ)) (own : ℕ) (pattern : MultiSlotArgPattern) (are_args : words args ≡ cmd) (is_run : run ≡ drop 1 args) (is_own : own ≡ own_count pattern (length run)) where
   words_run : words run ≡ drop 1 cmd
   words_run = ap words is_run ∙ sym (drop-map (λ arg. arg.items) 1 args) ∙ ap (drop 1) are_args
 
   same_own : own ≡ own_count pattern (length (drop 1 cmd))
   same_own = is_own ∙ ap (own_count pattern) (sym (length-map run (λ arg. arg.items)) ∙ ap length words_run)
 
-  words_front : arguments_before_gap ≡ take own run → words arguments_before_gap ≡ take (own_count pattern (length (drop 1 cmd))) (drop 1 cmd)
-  words_front e = ap words e ∙ sym (take-map (λ arg. arg.items) own run) ∙ ap (take own) words_run ∙ ap (λ n. take n (drop 1 cmd)) same_own
+  words_tuples : tuples ≡ take own run → words tuples ≡ take (own_count pattern (length (drop 1 cmd))) (drop 1 cmd)
+  words_tuples e = ap words e ∙ sym (take-map (λ arg. arg.items) own run) ∙ ap (take own) words_run ∙ ap (λ n. take n (drop 1 cmd)) same_own
 
-  words_back : back ≡ drop own run → words back ≡ shared_in pattern (drop 1 cmd)
-  words_back e = ap words e ∙ sym (drop-map (λ arg. arg.items) own run) ∙ ap (drop own) words_run ∙ ap (λ n. drop n (drop 1 cmd)) same_own
+  words_shared : shared ≡ drop own run → words shared ≡ shared_in pattern (drop 1 cmd)
+  words_shared e = ap words e ∙ sym (drop-map (λ arg. arg.items) own run) ∙ ap (drop own) words_run ∙ ap (λ n. drop n (drop 1 cmd)) same_own
 
 -- the command by its name, with its tuples and what they share
 abbrev made_of : List ℕ → MultiSlotArgPattern → List (List ℕ) → List (List ℕ) → ReplyForm → MultiKey
@@ -76,5 +76,5 @@ by_lists run tuples shared name pattern form t s =
 pub taken_apart : (args run tuples shared : List (Vec ℕ Global)) (cmd : List (List ℕ)) (own : ℕ) (name : List ℕ) (pattern : MultiSlotArgPattern) (policy : ResponsePolicy) → words args ≡ cmd → run ≡ drop 1 args → own ≡ own_count pattern (length run) → tuples ≡ take own run → shared ≡ drop own run → command_of (map Some cmd) ≡ Some name → Some pattern ≡ pattern_of (base_routing name) → Some policy ≡ policy_of name → IsSome (multi_key (map Some cmd)) → multi_key (map Some cmd) ≡ option_map (made_of name pattern (words tuples) (words shared)) (form_by_policy policy)
 taken_apart args run tuples shared cmd own name pattern policy a r o t s e f g h =
     let all = ap (λ xs. option_map (shaped name xs pattern) (form_by_policy policy)) (run_all cmd) in
-    let lists = by_lists (drop 1 cmd) (words tuples) (words shared) name pattern (form_by_policy policy) (words_front args run tuples shared cmd own pattern a r o t) (words_back args run tuples shared cmd own pattern a r o s) in
+    let lists = by_lists (drop 1 cmd) (words tuples) (words shared) name pattern (form_by_policy policy) (words_tuples args run tuples shared cmd own pattern a r o t) (words_shared args run tuples shared cmd own pattern a r o s) in
     by_run cmd name pattern policy e f g h ∙ all ∙ lists
