@@ -1,5 +1,5 @@
 -- The topology of a map lists just the map's shards.
-use Rattle.std.proofs.Common.{◌≡◌, ℕ, zero, suc, Bool, true, false, not, nat_eq, List, [], ◌∷◌, map, filter, slice_get, Option, Some, None, refl, sym, ap, subst, ◌∙◌, arith}
+use Rattle.std.proofs.Common.{◌≡◌, ℕ, zero, suc, Bool, true, false, not, nat_eq, List, [], ◌∷◌, map, filter, slice_get, Some, refl, sym, ap, subst, ◌∙◌, arith}
 use Rattle.std.specs.List.{list_any}
 use Rattle.std.proofs.lemmas.Bool.{eqb-true}
 use Rattle.std.proofs.lemmas.Bool.Decides.{nat_tests}
@@ -11,7 +11,7 @@ use Rattle.slot_ranges.specs.RangeMap.{Entry, value_of, Ascends}
 use Rattle.read_strategies.specs.EachOnce.{once_by, each_once}
 use Rattle.read_strategies.specs.Topology.{primary_of, entry_primary, shard_of, shards_of, placed_from, inserted, topology_of, at_places, then_rest, shards_left}
 use Rattle.read_strategies.proofs.Members.{added_once}
-use Rattle.cluster_map.proofs.Groups.{Distinct, primaries, primaries-distinct, same_true, same_refl}
+use Rattle.cluster_map.proofs.Groups.{Distinct, primaries-distinct, same_true, same_refl}
 use Rattle.cluster_map.proofs.Inserts.{stepped, stepped-is, by_option, with_value}
 use Rattle.cluster_map.proofs.Agreement.{keyed, resolved}
 
