@@ -1,8 +1,8 @@
-//! What a user of the layer writes: a map, the node of a key, where a command goes, and one reply of
-//! several.
+//! What a user of the layer writes: a map, the node of a key, where a command goes, one reply of
+//! several, and a command over many keys that is driven.
 #![tactic(auto)]
 
-ghost use Rattle.std.specs.Prelude.{◌≡◌, Some, None, map, MatchOption, MatchResult, IfOk, option_map};
+ghost use Rattle.std.specs.Prelude.{◌≡◌, Some, None, map, MatchOption, MatchResult, IfOk, IfSome, option_map};
 ghost use Rattle.resp_core.specs.View.{view};
 ghost use Rattle.resp_core.specs.declared.error.ErrorKind.TheVariants.{UnexpectedReturnType};
 ghost use Rattle.cluster_map.specs.KeySlot.{key_slot};
@@ -10,9 +10,12 @@ ghost use Rattle.cluster_map.specs.RangeMap.{IsUncovered};
 ghost use Rattle.cluster_map.specs.RouteNode.{IsNodeOfRoute};
 ghost use Rattle.cluster_slots.specs.declared.slot.SlotAddr.TheVariants.{Master};
 ghost use Rattle.redis_cluster.specs.Aggregate.{aggregate_of};
+ghost use Rattle.redis_cluster.specs.MultiKey.{multi_key};
+ghost use Rattle.redis_cluster.specs.Unsplit.{keyspace_after, reply_to};
 ghost use Rattle.redis_commands.specs.declared.policy.AggregateOp.TheVariants.{Sum};
 
 use cluster_map::{NodeAddress, Route, SlotAddr, SlotMap, SlotRange};
+use redis_cluster::driver::{DriveError, Nodes, drive};
 use redis_cluster::routing::{AggregateOp, ReadOnlyNames, RoutingInfo, aggregate};
 use resp_core::{Cmd, RedisResult, Value};
 use std::alloc::{AllocError, Global};
@@ -57,6 +60,31 @@ pub fn deleted(replies: Vec<Value>) -> RedisResult<Value>
         (λ error. (aggregate_of Sum (map view replies.items) ≡ None) × (error.kind ≡ UnexpectedReturnType)) }
 {
     aggregate(replies, AggregateOp::Sum)
+}
+
+/// Deletes the keys of a `DEL`, each at its node, and answers how many there were: as one server
+/// would that has all keys, whatever the nodes' keys hold.
+pub fn delete<N: Nodes>(
+    alloc: Global,
+    command: &Cmd,
+    slot_map: &SlotMap,
+    order: &[usize],
+    nodes: &mut N,
+) -> Result<Value, DriveError>
+    ensures unsplit { IfOk result (λ count. IfSome (multi_key (map Some command.now)) (λ whole.
+        (view count ≡ reply_to N.step whole (N.keyspace nodes.old)) × (N.keyspace nodes.new ≡ keyspace_after N.step whole (N.keyspace nodes.old)))) }
+{
+    let none_only_reads = ReadOnlyNames::new(alloc);
+    drive(
+        alloc,
+        command,
+        &none_only_reads,
+        slot_map,
+        None,
+        0,
+        order,
+        nodes,
+    )
 }
 
 #[cfg(test)]
