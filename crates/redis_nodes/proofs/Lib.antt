@@ -9,3 +9,5 @@ pub mod Once
 pub mod Totals
 pub mod Places
 pub mod Placed
+pub mod Gaps
+pub mod ReplyForms

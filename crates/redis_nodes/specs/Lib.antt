@@ -4,3 +4,4 @@ pub mod Orders
 pub mod SlotResults
 pub mod Trace
 pub mod Sent
+pub mod Front
