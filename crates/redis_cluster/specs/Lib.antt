@@ -38,6 +38,7 @@ pub use Rattle.redis_driver.specs.Joined
 pub use Rattle.redis_driver.specs.Plan
 pub use Rattle.redis_driver.specs.Ready
 pub use Rattle.redis_driver.specs.Sends
+pub use Rattle.redis_nodes.specs.Front
 pub use Rattle.redis_nodes.specs.MultiKey
 pub use Rattle.redis_nodes.specs.Orders
 pub use Rattle.redis_nodes.specs.Sent

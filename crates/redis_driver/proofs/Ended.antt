@@ -1,5 +1,5 @@
 -- What stands when the parts were sent, or the sends stopped.
-use Rattle.std.proofs.Common.{◌≡◌, ◌<◌, ◌≤◌, ℕ, zero, suc, List, [], ◌∷◌, ◌++◌, Bool, true, Option, Some, None, All, inl, inr, ◌⊎◌, refl, sym, ap, ◌∙◌, arith, subst, map, take, length, get_or}
+use Rattle.std.proofs.Common.{◌≡◌, ◌<◌, ◌≤◌, ℕ, zero, suc, List, [], ◌∷◌, ◌++◌, Option, Some, None, All, inl, inr, ◌⊎◌, refl, sym, ap, ◌∙◌, arith, subst, map, take, length, get_or}
 use Rattle.std.specs.Prelude.{slice_get}
 use Rattle.std.specs.List.{AllZip}
 use Rattle.std.specs.Option.{option_to_list}
@@ -19,10 +19,10 @@ use Rattle.redis_nodes.specs.Unsplit.{Step, act_of, after, keyspace_after}
 use Rattle.redis_nodes.specs.declared.nodes.SendError.{SendError}
 use Rattle.redis_nodes.specs.declared.nodes.SendError.TheVariants as sent
 use Rattle.redis_nodes.proofs.Fold.{joined}
-use Rattle.redis_nodes.proofs.Orders.{map-in_order, length-in_order}
+use Rattle.redis_nodes.proofs.Orders.{map-in_order}
 use Rattle.redis_nodes.proofs.Once.{length-names_once}
 use Rattle.redis_nodes.proofs.Whole.{keyspace_of_all, keyspace_at_stop, names_slots_from}
-use Rattle.redis_driver.specs.Driven.{Request, State, IsCoveredCommand, IsDrivable, IsEntryOf, AreSent, AreAnswered, IsDriven}
+use Rattle.redis_driver.specs.Driven.{Request, State, IsCoveredCommand, IsDrivable, IsEntryOf, AreSent}
 use Rattle.redis_driver.specs.Ended.{AreEndedEarly}
 use Rattle.redis_driver.specs.Faults.{fault_of_send, IsUntouched, IsStopped, IsNodeFault, IsLateMemory, IsFault, IsEarly}
 use Rattle.redis_driver.specs.Plan.{Plan, slots_of}

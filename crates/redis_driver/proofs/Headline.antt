@@ -1,13 +1,10 @@
 -- Where a command can be driven and no node may refuse, only memory is left as a fault.
-use Rattle.std.proofs.Common.{◌≡◌, ◌<◌, ◌≤◌, ℕ, ◌+◌, List, [], ◌∷◌, ◌++◌, Option, Some, None, All, refl, sym, ap, ◌∙◌, arith, subst, map, take, length}
-use Rattle.std.specs.Prelude.{slice_get}
-use Rattle.std.specs.List.{AllZip}
+use Rattle.std.proofs.Common.{◌≡◌, ◌<◌, ℕ, ◌+◌, List, [], ◌∷◌, ◌++◌, Some, None, All, refl, sym, ap, ◌∙◌, arith, subst, take, length}
 use Rattle.std.proofs.lemmas.List.{length-append, length-take-le}
 use Rattle.std.proofs.lemmas.List.Elements.{All-head, All-tail}
 use Rattle.std.proofs.lemmas.Option.{slice_get_within}
 use Rattle.cluster_slots.specs.Address.{Address}
 use Rattle.cluster_slots.specs.SlotRoute.{SlotRoute}
-use Rattle.slot_ranges.specs.RangeMap.{IsUncovered, IsAnswerAt}
 use Rattle.cluster_map.specs.ReplyNode.{IsCovered}
 use Rattle.redis_nodes.specs.Orders.{NamesOnce, in_order}
 use Rattle.redis_nodes.specs.Trace.{Ending, answered}

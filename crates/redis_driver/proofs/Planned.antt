@@ -1,5 +1,5 @@
 -- A plan that was made of a command over many keys has a part for each slot of its keys, and a node for each.
-use Rattle.std.proofs.Common.{◌≡◌, ℕ, Bool, true, List, [], ◌∷◌, Option, Some, option_map, All, refl, sym, ap, ◌∙◌, map, subst}
+use Rattle.std.proofs.Common.{◌≡◌, ℕ, Bool, true, List, [], ◌∷◌, Some, option_map, All, sym, ap, ◌∙◌, map}
 use Rattle.std.specs.List.{AllZip, list_any, zip}
 use Rattle.std.specs.Prelude.{nat_eq}
 use Rattle.std.proofs.lemmas.List.Elements.{All-head, All-tail, All-map, All-weaker}
@@ -10,8 +10,6 @@ use Rattle.cluster_map.specs.ReplyNode.{IsCovered}
 use Rattle.redis_commands.specs.Command.{Arguments, command_of}
 use Rattle.redis_commands.specs.NameTables.{own_tables}
 use Rattle.redis_commands.specs.PresentArguments.{present_arguments_after}
-use Rattle.redis_commands.specs.declared.policy.ResponsePolicy.{ResponsePolicy}
-use Rattle.redis_commands.specs.declared.route_by.MultiSlotArgPattern.{MultiSlotArgPattern}
 use Rattle.redis_routing.specs.Complete.{multi_slot_routes, part_by_name, part_by_pattern, pattern_by_name, pattern_of}
 use Rattle.redis_routing.specs.Parts.{part_of_slot_after}
 use Rattle.redis_routing.specs.Split.{Split, split_part, policy_by_name}
@@ -19,7 +17,7 @@ use Rattle.redis_nodes.specs.MultiKey.{MultiKey, form_of_policy, multi_key, part
 use Rattle.redis_nodes.proofs.SplitParts.{command_of_routes, is_made, part_means}
 use Rattle.redis_driver.specs.Driven.{Request}
 use Rattle.redis_driver.specs.Plan.{Plan, IsPlan, slots_of}
-use Rattle.redis_driver.specs.Sends.{Target, IsPlanOf}
+use Rattle.redis_driver.specs.Sends.{IsPlanOf}
 use Rattle.redis_driver.specs.Ready.{IsTarget, IsReady}
 
 heads : {X : Type 0} {x y : X} {xs ys : List X} → x ∷ xs ≡ y ∷ ys → x ≡ y

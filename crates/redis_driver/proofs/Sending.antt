@@ -1,5 +1,5 @@
 -- One part more is sent and its reply told, and the replies are all there in the end.
-use Rattle.std.proofs.Common.{◌≡◌, ◌≢◌, ◌<◌, ◌↔◌, ℕ, zero, suc, ◌+◌, List, [], ◌∷◌, ◌++◌, Bool, true, false, cond, Option, Some, None, refl, sym, ap, ◌∙◌, arith, length, map, take, get_or, subst}
+use Rattle.std.proofs.Common.{◌≡◌, ◌<◌, ◌↔◌, ℕ, zero, suc, ◌+◌, List, [], ◌∷◌, Bool, false, cond, Option, Some, None, refl, sym, ap, ◌∙◌, arith, length, map, take, get_or, subst}
 use Rattle.std.specs.Prelude.{nat_eq, slice_get, slice_set}
 use Rattle.std.specs.List.{AllZip, zip}
 use Rattle.std.proofs.lemmas.Bool.{eqb-true}
@@ -16,8 +16,7 @@ use Rattle.redis_nodes.specs.Trace.{Entry, Ending}
 use Rattle.redis_nodes.specs.Unsplit.{Keyspace}
 use Rattle.redis_nodes.proofs.Counts.{same_number}
 use Rattle.redis_nodes.proofs.Once.{times_more, times-take, names_once-apart}
-use Rattle.redis_driver.specs.Plan.{slots_of}
-use Rattle.redis_driver.specs.Sends.{Target, targets, IsLast}
+use Rattle.redis_driver.specs.Sends.{Target, IsLast}
 
 -- the slot of a route, and where its part goes, which is that of the slot
 pub record RouteTarget (command : MultiKey) (slots : List ℕ) (nodes : List Address) (parts : List (List (List ℕ))) (number : ℕ) : Type 0 where

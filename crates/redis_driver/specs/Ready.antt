@@ -1,5 +1,5 @@
 -- What the driver knows of a plan before the first send.
-use Rattle.std.specs.Prelude.{◌≡◌, List, Some, map}
+use Rattle.std.specs.Prelude.{◌≡◌, Some, map}
 use Rattle.std.specs.List.{All, AllZip}
 use Rattle.cluster_slots.specs.Address.{Address}
 use Rattle.cluster_slots.specs.SlotRoute.{SlotRoute}

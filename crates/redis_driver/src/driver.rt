@@ -3,6 +3,7 @@ ghost use Rattle.resp_core.specs.ErrorParts.{out_of_memory};
 ghost use Rattle.resp_core.specs.View.{view};
 ghost use Rattle.read_strategies.specs.RouteNode.{IsNodeOfRoute, IsPickedNode};
 ghost use Rattle.redis_commands.specs.ReadOnly.{is_among};
+ghost use Rattle.redis_nodes.specs.Front.{IsSameCommand, front};
 ghost use Rattle.redis_nodes.specs.MultiKey.{MultiKey};
 ghost use Rattle.redis_nodes.specs.Orders.{NamesOnce, in_order};
 ghost use Rattle.redis_nodes.specs.Trace.{Ending, answered};
@@ -64,6 +65,8 @@ pub fn drive<R: Routable, N: Nodes>(
         N.step (request (R.args command.now) (is_among read_only.now) slot_map.now order.now)
         (state (N.keyspace nodes.old) (N.trace nodes.old) (N.mark nodes.old)) (state (N.keyspace nodes.new) (N.trace nodes.new) (N.mark nodes.new))
         (N.may_refuse nodes.old) e.fault e.answered) }
+    // A command with gaps is driven as its front.
+    ensures gaps { IsSameCommand (R.args command.now) (front (R.args command.now)) }
     // What nodes may refuse stays the same.
     ensures may_refuse { (count : ℕ) (ending : Ending) → N.may_refuse nodes.new count ending ↔ N.may_refuse nodes.old count ending }
 {

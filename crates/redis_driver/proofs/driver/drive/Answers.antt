@@ -1,10 +1,11 @@
-use Rattle.std.proofs.Common.{◌≡◌, ℕ, map, Result, Ok, Err, IfOk}
+use Rattle.std.proofs.Common.{map, Result, Ok, Err, IfOk}
 use Rattle.std.specs.Prelude.{OnOk}
 use Rattle.std.proofs.lemmas.Result.{IfErr-weaker}
 use Rattle.cluster_slots.specs.Address.{Address}
 use Rattle.cluster_slots.specs.SlotRoute.{SlotRoute}
 use Rattle.redis_commands.specs.ReadOnly.{is_among}
 use Rattle.redis_driver.specs.Driven.{request, state}
+use Rattle.redis_nodes.proofs.Gaps.{same_command}
 use Rattle.redis_driver.proofs.Ended.{drivable, sent_all, ended_fault, early_fault}
 use Rattle.redis_driver.proofs.Headline.{headline_fault}
 use Rattle.redis_driver.proofs.driver.drive.Goals as goal
@@ -59,3 +60,9 @@ returns-in-Err-clause-headline g c =
     let IsNode : SlotRoute → Address → Type 0 = λ route address. Unit {0} in
     λ headline. headline_fault IsNode g.N.Nodes.step asked old old (g.N.Nodes.may_refuse c.args.nodes.now) headline c.in-Err.fault 0
     (early_fault IsNode g.N.Nodes.step asked old (g.N.Nodes.may_refuse c.args.nodes.now) c.in-Err.fault c.in-Err.ensures.early)
+
+pub returns-in-Ok-clause-gaps : goal.returns-in-Ok-clause-gaps
+returns-in-Ok-clause-gaps g c = same_command (g.R.Routable.args c.args.command.now)
+
+pub returns-in-Err-clause-gaps : goal.returns-in-Err-clause-gaps
+returns-in-Err-clause-gaps g c = same_command (g.R.Routable.args c.args.command.now)

@@ -1,4 +1,4 @@
-use Rattle.std.proofs.Common.{◌≡◌, ◌<◌, inl, length, arith}
+use Rattle.std.proofs.Common.{◌≡◌, inl, length, arith}
 use Rattle.redis_nodes.proofs.Once.{length-names_once}
 use Rattle.redis_driver.proofs.driver.drive_plan.Goals as goal
 

@@ -1,9 +1,8 @@
-use Rattle.std.proofs.Common.{◌≡◌, ◌<◌, ◌≤◌, ℕ, ◌+◌, List, [], ◌∷◌, ◌++◌, Option, Some, None, All, refl, sym, ap, ◌∙◌, arith, subst, length, map, take, get_or}
+use Rattle.std.proofs.Common.{◌≡◌, ◌<◌, ℕ, ◌+◌, List, [], ◌∷◌, ◌++◌, Some, None, All, refl, sym, ap, ◌∙◌, arith, subst, length, map, take, get_or}
 use Rattle.std.specs.Prelude.{IsSome, slice_get, slice_set, option_and_then}
-use Rattle.std.specs.List.{zip}
 use Rattle.std.proofs.lemmas.Slice.Zip.{AllZip-long}
 use Rattle.std.proofs.lemmas.List.{append-nil, length-map, map_push, length-set}
-use Rattle.std.proofs.lemmas.Option.{slice_get-get_or, slice_get-map, slice_get_within}
+use Rattle.std.proofs.lemmas.Option.{slice_get-get_or, slice_get_within}
 use Rattle.std.proofs.Common.{append_assoc, take_all}
 use Rattle.resp_core.specs.Reply.{Reply}
 use Rattle.resp_core.specs.View.{view}
@@ -12,9 +11,8 @@ use Rattle.redis_nodes.specs.Orders.{times, in_order, NamesOnce}
 use Rattle.redis_nodes.specs.SlotResults.{results_of_slot}
 use Rattle.redis_nodes.specs.Sent.{ending_of}
 use Rattle.redis_nodes.specs.Trace.{answered}
-use Rattle.redis_nodes.specs.Unsplit.{act_of, after, reply_by, results, results_of, keyspace_after, reply_to}
+use Rattle.redis_nodes.specs.Unsplit.{act_of, after, reply_by, results, results_of}
 use Rattle.redis_nodes.proofs.Fold.{joined}
-use Rattle.redis_nodes.proofs.Once.{names_once-apart, stands}
 use Rattle.redis_nodes.proofs.Orders.{in_order_more, get-in_order}
 use Rattle.redis_nodes.proofs.Whole.{keyspace_of_all, keyspace_at_stop, keyspace_more, results_more, names_slots_from}
 use Rattle.redis_nodes.proofs.Parts.{length-results}

@@ -1,4 +1,4 @@
-use Rattle.std.proofs.Common.{◌≡◌, ◌++◌, ◌<◌, ◌↔◌, ℕ, length, map, take, Some}
+use Rattle.std.proofs.Common.{◌≡◌, ◌++◌, ◌↔◌, ℕ, length, map, take}
 use Rattle.redis_nodes.specs.MultiKey.{MultiKey}
 use Rattle.redis_nodes.specs.Orders.{in_order}
 use Rattle.redis_nodes.specs.SlotResults.{results_of_slot}
