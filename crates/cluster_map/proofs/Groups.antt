@@ -24,8 +24,8 @@ abbrev pub add_range : List ShardNodes → Entry SlotNodes → List ShardNodes
 add_range [] r = shard_with (entry_primary r) (r ∷ []) ∷ []
 add_range (s ∷ ss) r = cond (same_address (entry_primary r) s.primary) (with_range s r ∷ ss) (s ∷ add_range ss r)
 
-abbrev pub grouped : List (Entry SlotNodes) → List ShardNodes
-grouped es = fold add_range [] es
+abbrev pub add_ranges : List (Entry SlotNodes) → List ShardNodes
+add_ranges es = fold add_range [] es
 
 -- each primary once, put in one at a time
 abbrev pub primaries : List (Entry SlotNodes) → List Address
@@ -247,7 +247,7 @@ grouped_from done (r ∷ rest) g =
     ∙ grouped_from (done ++ r ∷ []) rest (rw more (good_more done r (primaries done) g))
     ∙ ap primary_shards (append_assoc done (r ∷ []) rest)
 
-pub grouped_is : (rs : List (Entry SlotNodes)) → grouped rs ≡ shards_of rs
+pub grouped_is : (rs : List (Entry SlotNodes)) → add_ranges rs ≡ shards_of rs
 grouped_is rs = grouped_from [] rs (record { distinct = tt; have = tt; covers = λ p h. refl }) ∙ primary_shards-are rs
 
 good_from : (done rest : List (Entry SlotNodes)) → Good done (primaries done) → Good (done ++ rest) (primaries (done ++ rest))

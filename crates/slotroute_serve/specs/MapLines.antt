@@ -24,7 +24,7 @@ abbrev pub IsMap : List (List (List ℕ)) → List RangeNodes → Type 0
 IsMap lines ranges = AllZip IsMapLine lines ranges
 
 -- the line of this number, from 1 on, is the first that is not a map line
-pub record IsFirstBad (lines : List (List (List ℕ))) (number : ℕ) : Type 0 where
+pub record IsFirstBadLine (lines : List (List (List ℕ))) (number : ℕ) : Type 0 where
   pub good : List (List (List ℕ))
   pub bad : List (List ℕ)
   pub later : List (List (List ℕ))

@@ -6,8 +6,8 @@ use Rattle.cluster_map.specs.SlotNodes.{SlotNodes, RangeNodes, insert_ranges}
 use Rattle.cluster_map.specs.RangeMap.{Entry, IsUncovered}
 use Rattle.cluster_map.specs.RouteNode.{IsNodeOfRoute}
 use Rattle.cluster_slots.specs.declared.slot.SlotAddr.TheVariants.{Master}
-use Rattle.slotroute_serve.specs.Lines.{line_feed, space, leading, after_lines, after_map}
-use Rattle.slotroute_serve.specs.MapLines.{IsMap, IsFirstBad}
+use Rattle.slotroute_serve.specs.Lines.{line_feed, space, leading_lines, after_lines, after_map}
+use Rattle.slotroute_serve.specs.MapLines.{IsMap, IsFirstBadLine}
 use Rattle.slotroute_serve.specs.Split.{IsSplitAnswer, split_routes}
 
 -- the words `node KEY`
@@ -48,6 +48,6 @@ pub data IsAnswer (entries : List (Entry SlotNodes)) : List (List ℕ) → List 
 -- what is left of the input, what goes to the output and to the error stream, and the status
 pub data Output : List (List ℕ) → List ℕ → List ℕ → List ℕ → List ℕ → ℕ → Type 0 where
   usage : (words : List (List ℕ)) (input : List ℕ) → ¬ (IsRequest words) → Output words input input [] usage_line 2
-  bad_map : (words : List (List ℕ)) (input : List ℕ) (number : ℕ) → IsRequest words → IsFirstBad (leading input) number → Output words input (after_lines number input) [] (bad_map_line number) 2
-  not_multi_key : (command : List (List ℕ)) (input : List ℕ) (ranges : List RangeNodes) → command ≢ [] → IsMap (leading input) ranges → split_routes command ≡ None → Output (split_words command) input (after_map input) [] not_multi_key_line 2
-  answer : (words : List (List ℕ)) (input text : List ℕ) (status : ℕ) (ranges : List RangeNodes) → IsMap (leading input) ranges → IsAnswer (insert_ranges [] ranges) words text status → Output words input (after_map input) text [] status
+  bad_map : (words : List (List ℕ)) (input : List ℕ) (number : ℕ) → IsRequest words → IsFirstBadLine (leading_lines input) number → Output words input (after_lines number input) [] (bad_map_line number) 2
+  not_multi_key : (command : List (List ℕ)) (input : List ℕ) (ranges : List RangeNodes) → command ≢ [] → IsMap (leading_lines input) ranges → split_routes command ≡ None → Output (split_words command) input (after_map input) [] not_multi_key_line 2
+  answer : (words : List (List ℕ)) (input text : List ℕ) (status : ℕ) (ranges : List RangeNodes) → IsMap (leading_lines input) ranges → IsAnswer (insert_ranges [] ranges) words text status → Output words input (after_map input) text [] status

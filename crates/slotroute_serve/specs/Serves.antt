@@ -17,7 +17,7 @@ pub record BeginsOutput (words : List (List ℕ)) (input left text : List ℕ) :
   pub begins : text ≡ take count whole
 
 -- the words and the input call for what is left, for what went to the two writers, and for the status
-pub record Answered (words : List (List ℕ)) (input left out_old out_new err_old err_new : Option (List ℕ)) (status : ℕ) : Type 0 where
+pub record HasOutput (words : List (List ℕ)) (input left out_old out_new err_old err_new : Option (List ℕ)) (status : ℕ) : Type 0 where
   pub outs : List ℕ
   pub errs : List ℕ
   pub written : Appends out_old out_new outs
@@ -51,7 +51,7 @@ Explains words input left out_old out_new Input = Appends out_old out_new [] × 
 Explains words input left out_old out_new OutputFailed = (outs : List ℕ) × Appends out_old out_new outs × Leaves input left (λ bytes rest. BeginsOutput words bytes rest outs)
 
 -- memory was refused or a stream failed, where calls that read, write or tell may fail: what was read and written till then, and what was told of it
-pub record Troubled (reads writes tells : Type 0) (words : List (List ℕ)) (input left out_old out_new err_old err_new : Option (List ℕ)) (status : ℕ) : Type 0 where
+pub record HasFault (reads writes tells : Type 0) (words : List (List ℕ)) (input left out_old out_new err_old err_new : Option (List ℕ)) (status : ℕ) : Type 0 where
   pub fault : Fault
   pub explained : Explains words input left out_old out_new fault
   pub caused : IsCaused reads writes fault
@@ -62,7 +62,7 @@ pub record Troubled (reads writes tells : Type 0) (words : List (List ℕ)) (inp
 
 abbrev pub Serves : Type 0 → Type 0 → Type 0 → List (List ℕ) → Option (List ℕ) → Option (List ℕ) → Option (List ℕ) → Option (List ℕ) → Option (List ℕ) → Option (List ℕ) → ℕ → Type 0
 Serves reads writes tells words input left out_old out_new err_old err_new status =
-    Answered words input left out_old out_new err_old err_new status ⊎ Troubled reads writes tells words input left out_old out_new err_old err_new status
+    HasOutput words input left out_old out_new err_old err_new status ⊎ HasFault reads writes tells words input left out_old out_new err_old err_new status
 
 -- memory was refused, of which the whole line was told
 pub record RanOutOfMemory (out_old out_new err_old err_new : Option (List ℕ)) (status : ℕ) : Type 0 where
@@ -71,8 +71,8 @@ pub record RanOutOfMemory (out_old out_new err_old err_new : Option (List ℕ)) 
   pub failed : status ≡ 2
 
 -- an answer without a fault
-abbrev pub Answers : List (List ℕ) → Option (List ℕ) → Option (List ℕ) → Option (List ℕ) → Option (List ℕ) → ℕ → Type 0
-Answers words input left out_old out_new status = (outs : List ℕ) × Appends out_old out_new outs × Leaves input left (λ bytes rest. Output words bytes rest outs [] status)
+abbrev pub HasAnswer : List (List ℕ) → Option (List ℕ) → Option (List ℕ) → Option (List ℕ) → Option (List ℕ) → ℕ → Type 0
+HasAnswer words input left out_old out_new status = (outs : List ℕ) × Appends out_old out_new outs × Leaves input left (λ bytes rest. Output words bytes rest outs [] status)
 
 -- the error stream grew by what tells of the fault
 abbrev pub Reports : Type 0 → Option (List ℕ) → Option (List ℕ) → Fault → Type 0

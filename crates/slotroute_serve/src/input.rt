@@ -4,9 +4,9 @@ ghost use Rattle.std.specs.Io.BufRead.{DropsThrough, strip_last};
 ghost use Rattle.cluster_map.specs.Address.{Address};
 ghost use Rattle.cluster_map.specs.SlotNodes.{RangeNodes};
 ghost use Rattle.cluster_map.specs.Number.{number_in};
-ghost use Rattle.slotroute_serve.specs.Lines.{line_of, fields_of, leading, after_map, StopsInLine};
+ghost use Rattle.slotroute_serve.specs.Lines.{line_of, fields_of, leading_lines, after_map, StopsInLine};
 ghost use Rattle.slotroute_serve.specs.MapLines.{IsNodeField, IsMapLine, IsMap};
-ghost use Rattle.slotroute_serve.specs.Faults.{IsNoMap, IsCaused, IsLeftAt};
+ghost use Rattle.slotroute_serve.specs.Faults.{WhyNoMap, IsCaused, IsLeftAt};
 ghost use Rattle.slotroute_serve.specs.Streams.{MayFailToRead, Leaves};
 
 use crate::fault::Fault;
@@ -19,8 +19,8 @@ use std::io;
 /// Reads the ranges of the leading lines, and the line with no field that ends them.
 pub fn read_map<S: Source>(alloc: Global, source: &mut S) -> Result<Vec<SlotRange>, Fault>
     ensures map { IfSome (S.remaining source.old) (λ input. MatchResult result
-        (λ ranges. IsMap (leading input) ranges.items)
-        (IsNoMap (leading input))) }
+        (λ ranges. IsMap (leading_lines input) ranges.items)
+        (WhyNoMap (leading_lines input))) }
     ensures cause { IfErr result (IsCaused (MayFailToRead S.fails) ⊥) }
     ensures rest { Leaves (S.remaining source.old) (S.remaining source.new) (λ input left.
         MatchResult result (λ _. left ≡ after_map input) (IsLeftAt input left)) }

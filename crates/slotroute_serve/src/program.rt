@@ -2,8 +2,8 @@ ghost use Rattle.std.specs.Prelude.{◌≡◌, ◌⊎◌, ℕ, List, ⊤, map, s
 ghost use Rattle.std.specs.Cow.{cow_str_bytes};
 ghost use Rattle.slotroute_serve.specs.Output.{IsRequest, IsAnswer, IsNodeAnswer};
 ghost use Rattle.slotroute_serve.specs.Faults.{fault_line, IsCaused};
-ghost use Rattle.slotroute_serve.specs.Requests.{Asks, IsNoAnswer};
-ghost use Rattle.slotroute_serve.specs.Serves.{Serves, Answered, RanOutOfMemory, Answers, Explains, Reports, IsBadMapLine};
+ghost use Rattle.slotroute_serve.specs.Requests.{Asks, WhyNoAnswer};
+ghost use Rattle.slotroute_serve.specs.Serves.{Serves, HasOutput, RanOutOfMemory, HasAnswer, Explains, Reports, IsBadMapLine};
 ghost use Rattle.slotroute_serve.specs.Streams.{MayFailToRead, MayFailToWrite};
 
 use crate::fault::Fault;
@@ -52,7 +52,7 @@ pub fn serve_streams<R: Source, O: Sink, E: Sink>(
         (map string_bytes words.now) (R.remaining reader.old) (R.remaining reader.new)
         (O.contents out.old) (O.contents out.new) (E.contents err.old) (E.contents err.new) result }
     ensures steady { ¬ (MayFailToRead R.fails) → ¬ (MayFailToWrite O.fails) → ¬ (MayFailToWrite E.fails)
-        → Answered (map string_bytes words.now) (R.remaining reader.old) (R.remaining reader.new)
+        → HasOutput (map string_bytes words.now) (R.remaining reader.old) (R.remaining reader.new)
         (O.contents out.old) (O.contents out.new) (E.contents err.old) (E.contents err.new) result
         ⊎ RanOutOfMemory (O.contents out.old) (O.contents out.new) (E.contents err.old) (E.contents err.new) result }
     ensures untouched { ¬ (IsRequest (map string_bytes words.now)) → reader.new ≡ reader.old }
@@ -73,7 +73,7 @@ fn run<R: Source, O: Sink>(
     out: &mut O,
 ) -> Result<u8, Fault>
     ensures answer { MatchResult result
-        (Answers (map string_bytes words.now) (R.remaining reader.old) (R.remaining reader.new)
+        (HasAnswer (map string_bytes words.now) (R.remaining reader.old) (R.remaining reader.new)
         (O.contents out.old) (O.contents out.new))
         (Explains (map string_bytes words.now) (R.remaining reader.old) (R.remaining reader.new)
         (O.contents out.old) (O.contents out.new)) }
@@ -94,7 +94,7 @@ fn run<R: Source, O: Sink>(
 fn answer(alloc: Global, map: &SlotMap, request: &Request) -> Result<(Vec<u8>, u8), Fault>
     ensures { MatchResult result
         (λ answer. (words : List (List ℕ)) → Asks words request.now → IsAnswer map.now words answer.0.items answer.1)
-        (IsNoAnswer request.now) }
+        (WhyNoAnswer request.now) }
 {
     match request {
         Request::Node(key) => {

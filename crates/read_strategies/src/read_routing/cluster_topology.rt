@@ -1,7 +1,7 @@
 ghost use Rattle.std.specs.Prelude.{◌≡◌, map, IfOk, OnOk, MatchOption};
 ghost use Rattle.slot_ranges.specs.RangeMap.{Ascends, IsUncovered};
 ghost use Rattle.read_strategies.specs.ShardsToGive.{shards_to_give};
-ghost use Rattle.read_strategies.specs.Topology.{inserted, placed, topology_of, places_left, shards_left, IsShardAt};
+ghost use Rattle.read_strategies.specs.Topology.{insert_entries, place_entry, topology_of, places_left, shards_left, IsShardAt};
 
 use crate::read_routing::shard::Shard;
 use crate::read_routing::shards::Shards;
@@ -103,7 +103,7 @@ fn insert_ranges(
     shard_ranges: &[(u16, u16)],
     place: usize,
 ) -> Result<(), AllocError>
-    ensures { OnOk result (ranges.new ≡ inserted ranges.old (map (placed place) shard_ranges.now)) }
+    ensures { OnOk result (ranges.new ≡ insert_entries ranges.old (map (place_entry place) shard_ranges.now)) }
 {
     for range in shard_ranges {
         ranges.insert(range.0, range.1, place)?;
