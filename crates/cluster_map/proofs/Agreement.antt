@@ -7,11 +7,12 @@ use Rattle.std.proofs.lemmas.Option.{slice_get-map}
 use Rattle.std.specs.List.{list_any}
 use Rattle.std.specs.Prelude.{option_to_list}
 use Rattle.cluster_slots.specs.Address.{Address, same_address}
+use Rattle.cluster_slots.proofs.Orders.{same_from_address}
 use Rattle.slot_ranges.specs.SlotNodes.{SlotNodes}
 use Rattle.slot_ranges.specs.RangeMap.{Entry, EndsAfter, Ascends}
 use Rattle.read_strategies.specs.Shards.{ShardNodes}
 use Rattle.read_strategies.specs.Topology.{primary_of, entry_primary, has_primary, ends_of, shard_of, shards_of, place_entry, place_entries, insert_entries, topology_of, Agrees}
-use Rattle.cluster_map.proofs.Groups.{primaries, primary_shards, primary_shards-are, primaries_cover, same_true, same_refl, same_sym}
+use Rattle.cluster_map.proofs.Groups.{primaries, primary_shards, primary_shards-are, primaries_cover, same_refl, same_sym}
 use Rattle.cluster_map.proofs.Inserts.{insert_step, step, insert_steps, insert_steps-is, Ascends-insert_entries, answer, answer-some, answer-is, by_option, with_value, with_value-insert_steps, with_value-answer}
 use Rattle.resp_core.proofs.Cases.{by_test}
 use Rattle.slot_ranges.proofs.Ranges.{EndsAfter-smaller}
@@ -171,7 +172,7 @@ last_one e rs r h (k ∷ ks) o =
     ∙ last_one e rs r h ks (last_of o (part k (r ∷ [])))
     ∙ by_test (same_address (entry_primary r) k)
     (λ t. let q : same_address k (entry_primary r) ≡ true = same_sym k (entry_primary r) ∙ t in
-    let w : Some (r.0, r.1, Some k) ≡ Some (with_primary r) = ap (λ z. Some (r.0, r.1, Some z)) (sym (same_true (entry_primary r) k t)) in
+    let w : Some (r.0, r.1, Some k) ≡ Some (with_primary r) = ap (λ z. Some (r.0, r.1, Some z)) (sym (same_from_address (entry_primary r) k t)) in
     rw (t, q) (ap (λ z. cond (list_any (same_address (entry_primary r)) ks) (Some (with_primary r)) z) w ∙ same_cond (list_any (same_address (entry_primary r)) ks) (Some (with_primary r))))
     (λ t. let q : same_address k (entry_primary r) ≡ false = same_sym k (entry_primary r) ∙ t in rw (t, q) refl)
 

@@ -6,7 +6,7 @@ use Rattle.std.proofs.lemmas.Bool.Decides.{nat_tests}
 use Rattle.slot_ranges.specs.RangeMap.{Entry, value_of, Ascends, IsAnswerAt, IsUncovered, insert_entry}
 use Rattle.read_strategies.specs.Topology.{insert_entries}
 use Rattle.resp_core.proofs.Cases.{by_test}
-use Rattle.slot_ranges.proofs.Ranges.{ending_from, EndsFirstFrom-unique, EndsFirstFrom-answer, EndsFirstFrom-head, IsAnswerAt-first, IsUncovered-first, IsUncovered-none, insert_entry-front, insert_entry-place, insert_entry-later, Ascends-insert_entry}
+use Rattle.slot_ranges.proofs.Ranges.{ending_from, EndsFirstFrom-unique, EndsFirstFrom-answer, EndsFirstFrom-head, IsAnswerAt-first, IsAnswerAt-unique, IsUncovered-first, IsUncovered-none, insert_entry-front, insert_entry-place, insert_entry-later, Ascends-insert_entry}
 
 abbrev pub insert_step : {V : Type 0} → List (Entry V) → ℕ → ℕ → V → List (Entry V)
 insert_step [] start end value = (start, end, value) ∷ []
@@ -75,10 +75,6 @@ none_case es slot (e ∷ rest) ascends is value_is = by_test (nat_le e.0 slot)
 pub by_option : {X A : Type 0} (o : Option X) → (o ≡ None → A) → ((x : X) → o ≡ Some x → A) → A
 by_option None f g = f refl
 by_option (Some x) f g = g x refl
-
-pub IsAnswerAt-unique : {V : Type 0} (es : List (Entry V)) (slot : ℕ) (v w : V) → Ascends es → IsAnswerAt es slot v → IsAnswerAt es slot w → v ≡ w
-IsAnswerAt-unique es slot v w ascends a b =
-    ap value_of (EndsFirstFrom-unique es slot (a.start, a.end, v) (b.start, b.end, w) ascends (EndsFirstFrom-answer es slot v a) (EndsFirstFrom-answer es slot w b))
 
 pub answer-is : {V : Type 0} (es : List (Entry V)) (slot : ℕ) (value : V) → Ascends es → IsAnswerAt es slot value → answer es slot ≡ Some value
 answer-is es slot value ascends a = by_option (answer es slot)

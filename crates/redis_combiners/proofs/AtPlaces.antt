@@ -15,6 +15,7 @@ use Rattle.redis_combiners.specs.Misfits.{first_misfit}
 use Rattle.redis_combiners.specs.SortedArrays.{array_or_refusal, array_by_places, sorted_arrays}
 use Rattle.redis_commands.specs.declared.route_by.MultiSlotArgPattern.{MultiSlotArgPattern}
 use Rattle.resp_core.proofs.Cases.{by_test}
+use Rattle.resp_core.proofs.Views.{items_in-replies_of}
 use Rattle.redis_combiners.proofs.Lists.{FirstAndOthers, first_and_others}
 use Rattle.redis_combiners.proofs.Misfits.{Fits, fits, items_length}
 use Rattle.redis_combiners.proofs.OwnPlaces.{at_own_place, own_place_within}
@@ -108,10 +109,6 @@ whole_array (Some pss) rs whole e = by_test (eqb (length rs) (length pss))
     fitted (Some k) m n h = absurd (cc)
     fitted None m n h = gone (all_items rs) refl n m h
 
-items_back : (rs : List Reply) → items_in (replies_of rs) ≡ rs
-items_back [] = refl
-items_back (r ∷ rs) = ap (λ ts. r ∷ ts) (items_back rs)
-
 pub items_stand_at_places : (pattern : MultiSlotArgPattern) (rs : List Reply) (lists : List (List ℕ)) (whole : Reply) → sorted_arrays pattern rs lists ≡ Ok whole → AreAtPlaces pattern rs lists whole
 items_stand_at_places pattern rs lists whole e i j r list place a b h =
     let m : WholeArray (all_places pattern lists) rs whole = whole_array (all_places pattern lists) rs whole e in
@@ -122,7 +119,7 @@ items_stand_at_places pattern rs lists whole e i j r list place a b h =
     let below : place < length m.out = subst (λ p. p < length m.out) here (own_place_within (flatten m.pss) m.xs m.out m.sorted s.at within) in
     let same : get_or m.out place nil ≡ get_or m.xs s.at nil = sym (ap (λ p. get_or m.out p nil) here) ∙ at_own_place (flatten m.pss) m.xs m.out nil long m.sorted s.at within in
     sym (ap (λ w. item_at w place) m.is)
-    ∙ ap (λ ys. slice_get ys place) (items_back m.out)
+    ∙ ap (λ ys. slice_get ys place) (items_in-replies_of m.out)
     ∙ slice_get-get_or m.out place nil below
     ∙ ap Some same
     ∙ sym (slice_get-get_or m.xs s.at nil (omega (arith, long, within)))

@@ -8,6 +8,7 @@ use Rattle.std.specs.BTreeSet.{insert_key}
 use Rattle.std.proofs.lemmas.Map.Text.{is_eq-slice_cmp}
 use Rattle.std.proofs.lemmas.Slice.Eq.{bytes_eq-Decides}
 use Rattle.redis_commands.specs.ReadOnly.{is_among}
+use Rattle.resp_core.proofs.Cases.{or_swap}
 
 by_order : {P : Type 0} (o : Ordering) → (o ≡ Ordering.Less → P) → (o ≡ Ordering.Equal → P) → (o ≡ Ordering.Greater → P) → P
 by_order Ordering.Less f g h = f refl
@@ -17,12 +18,6 @@ by_order Ordering.Greater f g h = h refl
 or_twice : (a b : Bool) → (a || b) ≡ (a || (a || b))
 or_twice true b = refl
 or_twice false b = refl
-
-or_swap : (a b c : Bool) → (a || (b || c)) ≡ (b || (a || c))
-or_swap true true c = refl
-or_swap true false c = refl
-or_swap false true c = refl
-or_swap false false c = refl
 
 abbrev pub at : List ℕ → Vec ℕ Global → Bool
 at q k = is_eq (slice_cmp nat_cmp q k.items)

@@ -18,14 +18,11 @@ use Rattle.redis_routing.specs.Routing.{route_of_slot, routes_of}
 use Rattle.redis_commands.specs.Tuples.{Tuple, keys_alone, keys_and_values, keys_and_two, fits, own_count, width_of, tuples_from, tuples_in, shared_in, places_of, arguments_of}
 use Rattle.redis_commands.specs.declared.route_by.MultiSlotArgPattern.{MultiSlotArgPattern}
 use Rattle.redis_commands.specs.declared.route_by.MultiSlotArgPattern.TheVariants.{KeysOnly, KeyValuePairs, KeysAndLastArg, KeyWithTwoArgTriples}
-use Rattle.resp_core.proofs.Cases.{by_test}
+use Rattle.redis_commands.proofs.Patterns.{own_few, length-own}
+use Rattle.resp_core.proofs.Cases.{by_test, and_second}
 
 self : (n : ℕ) → nat_eq n n ≡ true
 self n = grind (arith, nat_tests)
-
-and_second : (a b : Bool) → (a && b) ≡ true → b ≡ true
-and_second true b h = h
-and_second false b h = cc
 
 module _ {X : Type 0} (p : X → Bool) where
   count-cons : (x : X) (xs : List X) → count_by p (x ∷ xs) ≡ cond (p x) 1 0 + count_by p xs
@@ -177,16 +174,6 @@ tiles_from KeyValuePairs low present even = tiles_pairs low present even
 tiles_from KeysAndLastArg low present even = tiles_alone low present
 tiles_from KeyWithTwoArgTriples low present even = tiles_triples low present even
 
--- no more arguments make tuples than there are
-own_small : (pattern : MultiSlotArgPattern) (m : ℕ) → own_count pattern m ≤ m
-own_small KeysOnly m = omega arith
-own_small KeyValuePairs m = omega arith
-own_small KeysAndLastArg m = by_test (nat_lt 1 m) (λ many. rw many (omega arith)) (λ one. rw one (omega arith))
-own_small KeyWithTwoArgTriples m = omega arith
-
-length_own : (pattern : MultiSlotArgPattern) (present : List (List ℕ)) → length (take (own_count pattern (length present)) present) ≡ own_count pattern (length present)
-length_own pattern present = length-take-le (own_count pattern (length present)) present (own_small pattern (length present))
-
 -- the arguments that make tuples come out even
 own_whole : (pattern : MultiSlotArgPattern) (m : ℕ) → fits pattern m ≡ true → own_count pattern m % width_of pattern ≡ 0
 own_whole KeysOnly m h = omega arith
@@ -198,8 +185,8 @@ own_whole KeyWithTwoArgTriples m h = eqb-true (m % 3) 0 (and_second (nat_lt 0 m)
 pub tiles_present : (pattern : MultiSlotArgPattern) (present : List (List ℕ)) → fits pattern (length present) ≡ true → Tiles 0 (own_count pattern (length present)) (tuples_in pattern present)
 tiles_present pattern present whole =
     let own = own_count pattern (length present) in
-    let e : 0 + length (take own present) ≡ own = omega (arith, length_own pattern present) in
-    rw e at (tiles_from pattern 0 (take own present) (ap (λ m. m % width_of pattern) (length_own pattern present) ∙ own_whole pattern (length present) whole))
+    let e : 0 + length (take own present) ≡ own = omega (arith, length-own pattern present) in
+    rw e at (tiles_from pattern 0 (take own present) (ap (λ m. m % width_of pattern) (length-own pattern present) ∙ own_whole pattern (length present) whole))
 
 -- the places of a slot's tuples
 abbrev slot_tuple_places : ℕ → List Tuple → List ℕ
@@ -251,7 +238,7 @@ module _ (pattern : MultiSlotArgPattern) (present : List (List ℕ)) where
 
   last_between : Between own (length present) shared_places
   last_between =
-      let e : own + (length present - own) ≡ length present = omega (arith, own_small pattern (length present)) in
+      let e : own + (length present - own) ≡ length present = omega (arith, own_few pattern (length present)) in
       rw e at (range_between own (length present - own))
 
   -- the places of a part ascend and are of present arguments
@@ -385,14 +372,14 @@ module _ (pattern : MultiSlotArgPattern) (present : List (List ℕ)) where
 
   own_read : IsReadFrom argument_at 0 (take (own pattern present) present)
   own_read k inside =
-      let under : k < own pattern present = omega (arith, length_own pattern present) in
+      let under : k < own pattern present = omega (arith, length-own pattern present) in
       ap argument_at (zero-add k) ∙ sym (get_or-take (own pattern present) present k [] under)
 
   tuples_read : (slot : ℕ) → map argument_at (slot_tuple_places slot (tuples pattern present)) ≡ flat_map arguments_of (tuples_in_slot slot (tuples pattern present))
   tuples_read slot = read_part argument_at slot (tuples pattern present) (read_tuples argument_at pattern 0 (take (own pattern present) present) own_read)
 
   last_read : map argument_at (shared_places pattern present) ≡ shared_in pattern present
-  last_read = read_range present (own pattern present) (length present - own pattern present) (omega (arith, own_small pattern (length present)))
+  last_read = read_range present (own pattern present) (length present - own pattern present) (omega (arith, own_few pattern (length present)))
 
 -- the arguments at the places of a part are the part's
 pub arguments_at_places : (pattern : MultiSlotArgPattern) (present : List (List ℕ)) (slot : ℕ) → map (λ p. get_or present p []) (places_in_slot pattern present slot) ≡ arguments_in_slot pattern present slot
