@@ -28,9 +28,11 @@ first_replicas [] = []
 first_replicas (e ∷ es) = (value_of e).replicas
 
 abbrev pub shard_with : Address → List (Entry SlotNodes) → ShardNodes
-shard_with primary es = record { ranges = map ends_of es; primary = primary; replicas = first_replicas es }
+shard_with primary es =
+    record { ranges = map ends_of es; primary = primary; replicas = first_replicas es }
 
--- the shard of a primary: its entries' ranges by ascending end, and the replicas of the first of them
+-- the shard of a primary: its entries' ranges by ascending end, and the replicas of the first of
+-- them
 abbrev pub shard_of : List (Entry SlotNodes) → Address → ShardNodes
 shard_of es primary = shard_with primary (filter (has_primary primary) es)
 
@@ -62,7 +64,8 @@ topology_of ss = record { shards = ss; ranges = insert_entries [] (place_entries
 
 -- the shard whose place is the answer for the slot
 abbrev pub IsShardAt : Topology → ℕ → ShardNodes → Type 0
-IsShardAt t slot shard = (place : ℕ) × IsAnswerAt t.ranges slot place × (slice_get t.shards place ≡ Some shard)
+IsShardAt t slot shard =
+    (place : ℕ) × IsAnswerAt t.ranges slot place × (slice_get t.shards place ≡ Some shard)
 
 -- the places that still have a range, each once, by the first of its ranges
 abbrev pub places_left : List (Entry ℕ) → List ℕ
@@ -84,4 +87,6 @@ shards_left t = at_places t.shards (places_left t.ranges)
 -- every number has a shard with a primary exactly where a route to the primary has this node
 abbrev pub Agrees : List (Entry SlotNodes) → Topology → Type 0
 Agrees es t =
-    (slot : ℕ) (address : Address) → IsNodeOfRoute es (record { slot = slot; addr = Master }) 0 address ↔ ((shard : ShardNodes) × IsShardAt t slot shard × (shard.primary ≡ address))
+    (slot : ℕ) (address : Address)
+    → IsNodeOfRoute es (record { slot = slot; addr = Master }) 0 address
+        ↔ ((shard : ShardNodes) × IsShardAt t slot shard × (shard.primary ≡ address))

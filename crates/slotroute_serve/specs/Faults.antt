@@ -32,7 +32,8 @@ WhyNoMap lines Memory = ⊤
 WhyNoMap lines Input = ⊤
 WhyNoMap lines OutputFailed = ⊥
 
--- what calls for a fault besides the input: a read that may fail for that of the input, a write that may for that of the output
+-- what calls for a fault besides the input: a read that may fail for that of the input, a write
+-- that may for that of the output
 abbrev pub IsCaused : Type 0 → Type 0 → Fault → Type 0
 IsCaused reading writing Usage = ⊤
 IsCaused reading writing (BadMapLine number) = ⊤
@@ -50,7 +51,8 @@ IsLeftAt input left Memory = StopsInMap input left
 IsLeftAt input left Input = StopsInMap input left
 IsLeftAt input left OutputFailed = left ≡ after_map input
 
--- why there are no lines for a command: it is not a complete one over many keys, or memory was refused
+-- why there are no lines for a command: it is not a complete one over many keys, or memory was
+-- refused
 abbrev pub WhyNoSplit : List (List ℕ) → Fault → Type 0
 WhyNoSplit command Usage = ⊥
 WhyNoSplit command (BadMapLine number) = ⊥

@@ -10,7 +10,8 @@ use Rattle.slotroute_serve.specs.declared.request.Request.TheVariants.{Node, Spl
 -- the words are those of the request
 abbrev pub Asks : List (List ℕ) → Request → Type 0
 Asks words (Node key) = words ≡ node_words key.now
-Asks words (Split command) = (words ≡ split_words (map string_bytes command.now)) × (map string_bytes command.now ≢ [])
+Asks words (Split command) =
+    (words ≡ split_words (map string_bytes command.now)) × (map string_bytes command.now ≢ [])
 
 -- why a request has no answer on a map
 abbrev pub WhyNoAnswer : Request → Fault → Type 0

@@ -42,10 +42,13 @@ pub fn read_map<S: Source>(alloc: Global, source: &mut S) -> Result<Vec<SlotRang
 
 /// Reads one line in place of what `line` held, or answers that the input is at its end.
 fn next_line<S: Source>(source: &mut S, line: &mut Vec<u8>) -> io::Result<bool>
-    ensures text { OnOk result (IfSome (S.remaining source.old) (λ input. line.new.items ≡ line_of input)) }
-    ensures there { IfOk result (λ there. IfSome (S.remaining source.old) (λ input. there ≡ nat_lt 0 (length input))) }
+    ensures text { OnOk result
+        (IfSome (S.remaining source.old) (λ input. line.new.items ≡ line_of input)) }
+    ensures there { IfOk result (λ there. IfSome (S.remaining source.old)
+        (λ input. there ≡ nat_lt 0 (length input))) }
     ensures rest { OnOk result (DropsThrough (S.remaining source.old) (S.remaining source.new) 10) }
-    ensures stops { OnErr result (Leaves (S.remaining source.old) (S.remaining source.new) StopsInLine) }
+    ensures stops { OnErr result
+        (Leaves (S.remaining source.old) (S.remaining source.new) StopsInLine) }
     ensures failed { IfErr result (S.fails source.old) }
 {
     line.clear();
@@ -123,7 +126,8 @@ fn node_of(alloc: Global, field: &[u8]) -> Result<Option<NodeAddress>, AllocErro
 
 fn nodes_of(alloc: Global, fields: &[&[u8]]) -> Result<Option<Vec<NodeAddress>>, AllocError>
     ensures { IfOk result (λ nodes. MatchOption nodes
-        ((addresses : List Address) → ¬ (AllZip IsNodeField (map (λ field. field.now) fields.now) addresses))
+        ((addresses : List Address)
+            → ¬ (AllZip IsNodeField (map (λ field. field.now) fields.now) addresses))
         (λ nodes. AllZip IsNodeField (map (λ field. field.now) fields.now) nodes.items)) }
 {
     let mut nodes = Vec::with_capacity(alloc, fields.len())?;

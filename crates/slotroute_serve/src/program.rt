@@ -48,13 +48,16 @@ pub fn serve_streams<R: Source, O: Sink, E: Sink>(
     out: &mut O,
     err: &mut E,
 ) -> u8
-    ensures served { Serves (MayFailToRead R.fails) (MayFailToWrite O.fails) (MayFailToWrite E.fails)
+    ensures served {
+        Serves (MayFailToRead R.fails) (MayFailToWrite O.fails) (MayFailToWrite E.fails)
         (map string_bytes words.now) (R.remaining reader.old) (R.remaining reader.new)
         (O.contents out.old) (O.contents out.new) (E.contents err.old) (E.contents err.new) result }
-    ensures steady { ¬ (MayFailToRead R.fails) → ¬ (MayFailToWrite O.fails) → ¬ (MayFailToWrite E.fails)
+    ensures steady { ¬ (MayFailToRead R.fails) → ¬ (MayFailToWrite O.fails)
+        → ¬ (MayFailToWrite E.fails)
         → HasOutput (map string_bytes words.now) (R.remaining reader.old) (R.remaining reader.new)
         (O.contents out.old) (O.contents out.new) (E.contents err.old) (E.contents err.new) result
-        ⊎ RanOutOfMemory (O.contents out.old) (O.contents out.new) (E.contents err.old) (E.contents err.new) result }
+        ⊎ RanOutOfMemory (O.contents out.old) (O.contents out.new) (E.contents err.old)
+            (E.contents err.new) result }
     ensures untouched { ¬ (IsRequest (map string_bytes words.now)) → reader.new ≡ reader.old }
 {
     match run(alloc, words, reader, out) {
@@ -93,7 +96,8 @@ fn run<R: Source, O: Sink>(
 /// The text and the status that answer for a request.
 fn answer(alloc: Global, map: &SlotMap, request: &Request) -> Result<(Vec<u8>, u8), Fault>
     ensures { MatchResult result
-        (λ answer. (words : List (List ℕ)) → Asks words request.now → IsAnswer map.now words answer.0.items answer.1)
+        (λ answer. (words : List (List ℕ)) → Asks words request.now
+            → IsAnswer map.now words answer.0.items answer.1)
         (WhyNoAnswer request.now) }
 {
     match request {
@@ -107,7 +111,8 @@ fn answer(alloc: Global, map: &SlotMap, request: &Request) -> Result<(Vec<u8>, u
 
 /// The line and the status that answer for a key.
 fn node_answer(alloc: Global, map: &SlotMap, key: &[u8]) -> Result<(String, u8), AllocError>
-    ensures { IfOk result (λ answer. IsNodeAnswer map.now key.now (string_bytes answer.0) answer.1) }
+    ensures { IfOk result (λ answer. IsNodeAnswer map.now key.now (string_bytes answer.0)
+        answer.1) }
 {
     let route = Route::with_key(key, SlotAddr::Master);
     let slot = route.slot();

@@ -57,7 +57,8 @@ fn lines_of(
     slot_map: &SlotMap,
     split: &SplitCommand<Cmd>,
 ) -> Result<(Vec<u8>, u8), AllocError>
-    ensures { IfOk result (λ answer. ArePartLines slot_map.now (split_part split.now) split.now.routes answer.0.items answer.1) }
+    ensures { IfOk result (λ answer. ArePartLines slot_map.now (split_part split.now)
+        split.now.routes answer.0.items answer.1) }
 {
     let mut lines = Vec::new(alloc);
     let mut status = 0;
@@ -80,7 +81,8 @@ fn line_of(
     node: Option<&NodeAddress>,
     part: &Cmd,
 ) -> Result<Vec<u8>, AllocError>
-    ensures { IfOk result (λ line. line.items ≡ part_line record { slot = slot; node = option_copied node.entry; words = part.now }) }
+    ensures { IfOk result (λ line. line.items
+        ≡ part_line record { slot = slot; node = option_copied node.entry; words = part.now }) }
 {
     let place = match node {
         Some(node) => format!(in alloc; "{slot} {node}")?,
@@ -94,7 +96,8 @@ fn line_of(
 
 /// Adds the words at the end, each after a space.
 fn push_words(line: &mut Vec<u8>, words: &Cmd) -> Result<(), AllocError>
-    ensures { OnOk result (line.new.items ≡ line.old.items ++ flat_map (λ word. space ∷ word) words.now) }
+    ensures { OnOk result
+        (line.new.items ≡ line.old.items ++ flat_map (λ word. space ∷ word) words.now) }
 {
     for word in words.args() {
         line.push(b' ')?;
