@@ -24,7 +24,7 @@ nodes_for reads = cond reads ReplicaOptional Master
 abbrev pub to_key : Bool → Option (List ℕ) → Option Routing
 to_key reads key =
     option_map
-        (λ k. single_node (specific_node (record { slot = key_slot k; addr = nodes_for reads }))) key
+    (λ k. single_node (specific_node (record { slot = key_slot k; addr = nodes_for reads }))) key
 
 -- by the count of keys and the key after it: no key, any node
 abbrev pub by_count : Bool → Option ℕ → Option (List ℕ) → Option Routing

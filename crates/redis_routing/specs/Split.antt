@@ -52,7 +52,8 @@ joins_parts _ = false
 pub record IsSplit (split : Split) : Type 0 where
   pub name : HasWords split.words split.arguments
   pub complete :
-      is_complete split.pattern (length (present_arguments_after split.words split.arguments)) ≡ true
+      is_complete split.pattern (length (present_arguments_after split.words split.arguments))
+      ≡ true
   pub only_reads : Bool
   pub routes : split.routes
       ≡ routes_of only_reads split.pattern (present_arguments_after split.words split.arguments)

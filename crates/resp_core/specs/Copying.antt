@@ -29,8 +29,7 @@ IsFlat okay = ⊤
 IsFlat (pairs items) = ⊥
 
 -- `waiting` is left of the root, once each of `gone`, the latest first, was taken from the end of
--- what waited, and what
--- is inside it put there
+-- what waited, and what is inside it put there
 abbrev pub IsWalk : Reply → List Reply → List Reply → Type 0
 IsWalk root [] waiting = waiting ≡ root ∷ []
 IsWalk root (r ∷ gone) waiting =
