@@ -75,7 +75,7 @@ count_first s n ns =
     (λ other. count_no (nat_eq s) n others other ∙ count_kept s n ns other ∙ sym (ap (λ b. cond b 1 (count_by (nat_eq s) ns)) other))
 
 -- each number stands once among the firsts
-count_firsts : (s : ℕ) (ns : List ℕ) → count_by (nat_eq s) (first_appearances ns) ≡ cond (list_any (nat_eq s) ns) 1 0
+pub count_firsts : (s : ℕ) (ns : List ℕ) → count_by (nat_eq s) (first_appearances ns) ≡ cond (list_any (nat_eq s) ns) 1 0
 count_firsts s [] = refl
 count_firsts s (n ∷ ns) =
     count_first s n (first_appearances ns) ∙ ap (λ c. cond (nat_eq s n) 1 c) (count_firsts s ns)
@@ -175,7 +175,7 @@ tiles_from KeysAndLastArg low present even = tiles_alone low present
 tiles_from KeyWithTwoArgTriples low present even = tiles_triples low present even
 
 -- the arguments that make tuples come out even
-own_whole : (pattern : MultiSlotArgPattern) (m : ℕ) → fits pattern m ≡ true → own_count pattern m % width_of pattern ≡ 0
+pub own_whole : (pattern : MultiSlotArgPattern) (m : ℕ) → fits pattern m ≡ true → own_count pattern m % width_of pattern ≡ 0
 own_whole KeysOnly m h = omega arith
 own_whole KeyValuePairs m h = eqb-true (m % 2) 0 (and_second (nat_lt 0 m) (nat_eq (m % 2) 0) h)
 own_whole KeysAndLastArg m h = omega arith

@@ -7,6 +7,7 @@ use Rattle.std.proofs.lemmas.Bool.{lt-ltb, eq-eqb, eqb-true}
 use Rattle.std.proofs.lemmas.Bool.Decides.{nat_tests}
 use Rattle.std.proofs.lemmas.List.{take_at, drop_at, length-append, length-drop, length-take, length-take-le}
 use Rattle.std.proofs.lemmas.List.Elements.{All-cons, All-filter, All-head, All-map, All-tail, All-weaker}
+use Rattle.std.proofs.lemmas.Simd.{map-map}
 use Rattle.cluster_slots.specs.KeySlot.{key_slot}
 use Rattle.cluster_slots.specs.SlotRoute.{SlotRoute}
 use Rattle.redis_commands.specs.Upper.{upper}
@@ -14,7 +15,7 @@ use Rattle.redis_commands.specs.TwoWords.{takes_second}
 use Rattle.redis_commands.specs.Command.{Arguments, argument, command_of, in_upper_case, name_by, with_second}
 use Rattle.redis_commands.specs.RouteBy.{base_routings, base_routing}
 use Rattle.redis_commands.specs.PresentArguments.{arguments_before_gap, present_arguments_after}
-use Rattle.redis_commands.specs.Tuples.{Tuple, fits, keys_alone, keys_and_two, keys_and_values, own_count, shared_in, tuples_from, tuples_in, width_of, arguments_of}
+use Rattle.redis_commands.specs.Tuples.{Tuple, fits, is_complete, keys_alone, keys_and_two, keys_and_values, own_count, shared_in, tuples_from, tuples_in, width_of, arguments_of}
 use Rattle.redis_routing.specs.Parts.{first_appearances, tuples_in_slot, part_of_slot_after, arguments_in_slot, slot_of}
 use Rattle.redis_routing.specs.Routing.{routing_by_with, nodes_for, route_of_slot, routes_of, routing_with, routing_by_name_with, routing_of_routes, to_slots}
 use Rattle.redis_routing.specs.RoutingInfo.{single_node, specific_node}
@@ -91,45 +92,53 @@ some_tuple : (slot : ℕ) (ts : List Tuple) → first_appearances (map slot_of t
 some_tuple slot [] h = cc h
 some_tuple slot (t ∷ ts) h = omega arith
 
--- tuples of one width: their arguments, one after another, make tuples of the same slots again; and there are no more of them than the bound
+-- what a tuple has besides its place: its key, and what goes with it
+abbrev pub content : Tuple → List ℕ × List (List ℕ)
+content t = (t.key, t.extras)
+
+-- what comes of the content of each tuple is the same where the contents are
+pub same_contents : {X : Type 0} (f : List ℕ × List (List ℕ) → X) (ts us : List Tuple) → map content ts ≡ map content us → map (λ t. f (content t)) ts ≡ map (λ t. f (content t)) us
+same_contents f ts us same = sym (map-map f content ts) ∙ ap (map f) same ∙ map-map f content us
+
+-- tuples of one width: their arguments, one after another, make tuples of the same contents again; and there are no more of them than the bound
 record IsWhole (make : ℕ → List (List ℕ) → List Tuple) (width bound : ℕ) (ts : List Tuple) : Type 0 where
-  slots : (place : ℕ) → map slot_of (make place (flat_map arguments_of ts)) ≡ map slot_of ts
+  tuples : (place : ℕ) → map content (make place (flat_map arguments_of ts)) ≡ map content ts
   size : length (flat_map arguments_of ts) ≡ length ts * width
   few : length ts ≤ bound
 
 wider : (make : ℕ → List (List ℕ) → List Tuple) (width bound other : ℕ) (ts : List Tuple) → bound ≤ other → IsWhole make width bound ts → IsWhole make width other ts
-wider make width bound other ts within whole = record { slots = whole.slots; size = whole.size; few = omega (arith, whole.few) }
+wider make width bound other ts within whole = record { tuples = whole.tuples; size = whole.size; few = omega (arith, whole.few) }
 
 -- a part keeps a tuple or drops it
 with_or_without : (P : List Tuple → Type 0) (slot : ℕ) (t : Tuple) (ts : List Tuple) → P (tuples_in_slot slot ts) → P (t ∷ tuples_in_slot slot ts) → P (tuples_in_slot slot (t ∷ ts))
 with_or_without P slot t ts dropped kept = by_test (nat_eq (slot_of t) slot) (λ here. rw here kept) (λ other. rw other dropped)
 
 whole_alone : (slot place : ℕ) (present : List (List ℕ)) → IsWhole keys_alone 1 (length present) (tuples_in_slot slot (keys_alone place present))
-whole_alone slot place [] = record { slots = λ p. refl; size = refl; few = omega arith }
+whole_alone slot place [] = record { tuples = λ p. refl; size = refl; few = omega arith }
 whole_alone slot place (key ∷ present) =
     let rest = whole_alone slot (place + 1) present in
     with_or_without (IsWhole keys_alone 1 (suc (length present))) slot (record { place = place; key = key; extras = [] }) (keys_alone (place + 1) present)
     (wider keys_alone 1 (length present) (suc (length present)) _ (omega arith) rest)
-    (record { slots = λ p. ap (λ ns. key_slot key ∷ ns) (rest.slots (p + 1)); size = omega (arith, rest.size); few = omega (arith, rest.few) })
+    (record { tuples = λ p. ap (λ us. (key, []) ∷ us) (rest.tuples (p + 1)); size = omega (arith, rest.size); few = omega (arith, rest.few) })
 
 whole_values : (slot place : ℕ) (present : List (List ℕ)) → IsWhole keys_and_values 2 (length present) (tuples_in_slot slot (keys_and_values place present))
-whole_values slot place [] = record { slots = λ p. refl; size = refl; few = omega arith }
-whole_values slot place (key ∷ []) = record { slots = λ p. refl; size = refl; few = omega arith }
+whole_values slot place [] = record { tuples = λ p. refl; size = refl; few = omega arith }
+whole_values slot place (key ∷ []) = record { tuples = λ p. refl; size = refl; few = omega arith }
 whole_values slot place (key ∷ value ∷ present) =
     let rest = whole_values slot (place + 2) present in
     with_or_without (IsWhole keys_and_values 2 (suc (suc (length present)))) slot (record { place = place; key = key; extras = value ∷ [] }) (keys_and_values (place + 2) present)
     (wider keys_and_values 2 (length present) (suc (suc (length present))) _ (omega arith) rest)
-    (record { slots = λ p. ap (λ ns. key_slot key ∷ ns) (rest.slots (p + 2)); size = omega (arith, rest.size); few = omega (arith, rest.few) })
+    (record { tuples = λ p. ap (λ us. (key, value ∷ []) ∷ us) (rest.tuples (p + 2)); size = omega (arith, rest.size); few = omega (arith, rest.few) })
 
 whole_two : (slot place : ℕ) (present : List (List ℕ)) → IsWhole keys_and_two 3 (length present) (tuples_in_slot slot (keys_and_two place present))
-whole_two slot place [] = record { slots = λ p. refl; size = refl; few = omega arith }
-whole_two slot place (key ∷ []) = record { slots = λ p. refl; size = refl; few = omega arith }
-whole_two slot place (key ∷ a ∷ []) = record { slots = λ p. refl; size = refl; few = omega arith }
+whole_two slot place [] = record { tuples = λ p. refl; size = refl; few = omega arith }
+whole_two slot place (key ∷ []) = record { tuples = λ p. refl; size = refl; few = omega arith }
+whole_two slot place (key ∷ a ∷ []) = record { tuples = λ p. refl; size = refl; few = omega arith }
 whole_two slot place (key ∷ a ∷ b ∷ present) =
     let rest = whole_two slot (place + 3) present in
     with_or_without (IsWhole keys_and_two 3 (suc (suc (suc (length present))))) slot (record { place = place; key = key; extras = a ∷ b ∷ [] }) (keys_and_two (place + 3) present)
     (wider keys_and_two 3 (length present) (suc (suc (suc (length present)))) _ (omega arith) rest)
-    (record { slots = λ p. ap (λ ns. key_slot key ∷ ns) (rest.slots (p + 3)); size = omega (arith, rest.size); few = omega (arith, rest.few) })
+    (record { tuples = λ p. ap (λ us. (key, a ∷ b ∷ []) ∷ us) (rest.tuples (p + 3)); size = omega (arith, rest.size); few = omega (arith, rest.few) })
 
 whole : (pattern : MultiSlotArgPattern) (slot place : ℕ) (present : List (List ℕ)) → IsWhole (tuples_from pattern) (width_of pattern) (length present) (tuples_in_slot slot (tuples_from pattern place present))
 whole KeysOnly slot place present = whole_alone slot place present
@@ -154,6 +163,13 @@ fits_again KeyValuePairs m n some = whole_fits (n * 2 + (m - m)) n 2 (omega arit
 fits_again KeysAndLastArg m n some = lt-ltb 0 (n * 1 + (m - own_count KeysAndLastArg m)) (omega arith)
 fits_again KeyWithTwoArgTriples m n some = whole_fits (n * 3 + (m - m)) n 3 (omega arith) (omega arith)
 
+-- and where the m arguments are complete, they are complete with what all share
+still_complete : (pattern : MultiSlotArgPattern) (m n : ℕ) → 0 < n → is_complete pattern m ≡ true → is_complete pattern (n * width_of pattern + (m - own_count pattern m)) ≡ true
+still_complete KeysOnly m n some complete = fits_again KeysOnly m n some
+still_complete KeyValuePairs m n some complete = fits_again KeyValuePairs m n some
+still_complete KeysAndLastArg m n some complete = grind (arith, nat_tests)
+still_complete KeyWithTwoArgTriples m n some complete = fits_again KeyWithTwoArgTriples m n some
+
 module _ (pattern : MultiSlotArgPattern) (present : List (List ℕ)) (slot : ℕ) (there : list_any (λ t. nat_eq (slot_of t) slot) (tuples_in pattern present) ≡ true) where
   abbrev slot_tuples : List Tuple
   slot_tuples = tuples_in_slot slot (tuples_in pattern present)
@@ -176,35 +192,46 @@ module _ (pattern : MultiSlotArgPattern) (present : List (List ℕ)) (slot : ℕ
       ∙ own_again pattern (length present) (length slot_tuples) (some_tuple slot slot_tuples one_slot) (omega (arith, whole_part.few, length-take (own_count pattern (length present)) present))
       ∙ sym whole_part.size
 
-  -- all tuples of the part by itself have the slot
+  -- the tuples of the part by itself have the contents of the slot's
+  pub tuples_again : map content (tuples_in pattern part_arguments) ≡ map content slot_tuples
+  tuples_again =
+      ap (λ own. map content (tuples_from pattern 0 own)) (take_at (flat_map arguments_of slot_tuples) (shared_in pattern present) (own_count pattern (length part_arguments)) (sym own-part_arguments))
+      ∙ whole_part.tuples 0
+
+  -- what all its tuples share is what all tuples of the command share
+  pub shared_again : shared_in pattern part_arguments ≡ shared_in pattern present
+  shared_again = drop_at (flat_map arguments_of slot_tuples) (shared_in pattern present) (own_count pattern (length part_arguments)) (sym own-part_arguments)
+
+  -- the part of a complete command is complete
+  pub complete_again : is_complete pattern (length present) ≡ true → is_complete pattern (length part_arguments) ≡ true
+  complete_again complete = ap (is_complete pattern) length-part_arguments ∙ still_complete pattern (length present) (length slot_tuples) (some_tuple slot slot_tuples one_slot) complete
+
   one_slot_again : first_appearances (map slot_of (tuples_in pattern part_arguments)) ≡ slot ∷ []
-  one_slot_again =
-      ap (λ own. first_appearances (map slot_of (tuples_from pattern 0 own))) (take_at (flat_map arguments_of slot_tuples) (shared_in pattern present) (own_count pattern (length part_arguments)) (sym own-part_arguments))
-      ∙ ap first_appearances (whole_part.slots 0) ∙ one_slot
+  one_slot_again = ap first_appearances (same_contents (λ u. key_slot u.0) (tuples_in pattern part_arguments) slot_tuples tuples_again) ∙ one_slot
 
   part_to_slot : (reads : Bool) (policy : Option ResponsePolicy) → to_slots reads policy pattern part_arguments ≡ Some (single_node (specific_node (record { slot = slot; addr = nodes_for reads })))
   part_to_slot reads policy =
       ap (λ b. cond b (Some (routing_of_routes pattern policy (routes_of reads pattern part_arguments))) None) (ap (fits pattern) length-part_arguments ∙ fits_again pattern (length present) (length slot_tuples) (some_tuple slot slot_tuples one_slot))
       ∙ ap (λ slots. Some (routing_of_routes pattern policy (map (route_of_slot reads pattern part_arguments) slots))) one_slot_again
 
--- each tuple is one of those with its slot
-all_there : (ts : List Tuple) → All (λ t. list_any (λ u. nat_eq (slot_of u) (slot_of t)) ts ≡ true) ts
-all_there [] k d inside = absurd (omega arith)
-all_there (t ∷ ts) zero d inside = rw (eq-eqb (slot_of t) (slot_of t) refl) refl
-all_there (t ∷ ts) (suc k) d inside = or_second (nat_eq (slot_of t) (slot_of (get_or ts k d))) _ (all_there ts k d (omega arith))
+-- each of some things is one of those with its number
+pub all_there : {X : Type 0} (number : X → ℕ) (xs : List X) → All (λ x. list_any (λ y. nat_eq (number y) (number x)) xs ≡ true) xs
+all_there number [] k d inside = absurd (omega arith)
+all_there number (x ∷ xs) zero d inside = rw (eq-eqb (number x) (number x) refl) refl
+all_there number (x ∷ xs) (suc k) d inside = or_second (nat_eq (number x) (number (get_or xs k d))) _ (all_there number xs k d (omega arith))
 
-All-first_appearances : (P : ℕ → Type 0) (ns : List ℕ) → All P ns → All P (first_appearances ns)
+pub All-first_appearances : (P : ℕ → Type 0) (ns : List ℕ) → All P ns → All P (first_appearances ns)
 All-first_appearances P [] all = all
 All-first_appearances P (n ∷ ns) all = All-cons P n _ (All-head P n ns all) (All-filter (λ k. not (nat_eq n k)) P (first_appearances ns) (All-first_appearances P ns (All-tail P n ns all)))
 
-before_gap_short : (args : Arguments) → length (arguments_before_gap args) ≤ length args
+pub before_gap_short : (args : Arguments) → length (arguments_before_gap args) ≤ length args
 before_gap_short [] = omega arith
 before_gap_short (None ∷ args) = omega arith
 before_gap_short (Some arg ∷ args) = omega (arith, before_gap_short args)
 
 -- after the words of the name stand only texts of the part
-present-part : (words : ℕ) (args : Arguments) (texts : List (List ℕ)) → 0 < length (present_arguments_after words args) → present_arguments_after words (take words args ++ map Some texts) ≡ texts
-present-part words args texts some =
+pub present_arguments-part : (words : ℕ) (args : Arguments) (texts : List (List ℕ)) → 0 < length (present_arguments_after words args) → present_arguments_after words (take words args ++ map Some texts) ≡ texts
+present_arguments-part words args texts some =
     let long : length (take words args) ≡ words = length-take-le words args (omega (arith, some, before_gap_short (drop words args), length-drop words args)) in
     ap arguments_before_gap (drop_at (take words args) (map Some texts) words long) ∙ arguments_before_gap-map texts
 
@@ -219,7 +246,7 @@ module _ (words : ℕ) (tables : NameTables) (only_reads : List ℕ → Bool) (a
       let as_command : Arguments = part_of_slot_after words pattern args slot in
       ap (routing_by_name_with words tables only_reads as_command) (named (map Some texts))
       ∙ ap (routing_by_with words tables (only_reads name) name as_command) route_by_is
-      ∙ ap (to_slots (only_reads name) (tables.policy name) pattern) (present-part words args texts (fits_some pattern (length present) fit))
+      ∙ ap (to_slots (only_reads name) (tables.policy name) pattern) (present_arguments-part words args texts (fits_some pattern (length present) fit))
       ∙ part_to_slot pattern present slot there (only_reads name) (tables.policy name)
 
   pub parts_routed : ArePartsRoutedWith words tables only_reads args pattern (routes_of (only_reads name) pattern present)
@@ -229,4 +256,4 @@ module _ (words : ℕ) (tables : NameTables) (only_reads : List ℕ → Bool) (a
       let There : ℕ → Type 0 = λ slot. list_any (λ t. nat_eq (slot_of t) slot) ts ≡ true in
       All-map Routed (route_of_slot (only_reads name) pattern present) (first_appearances (map slot_of ts))
       (All-weaker There (λ slot. Routed (route_of_slot (only_reads name) pattern present slot)) part_routed (first_appearances (map slot_of ts))
-      (All-first_appearances There (map slot_of ts) (All-map There slot_of ts (all_there ts))))
+      (All-first_appearances There (map slot_of ts) (All-map There slot_of ts (all_there slot_of ts))))

@@ -1,5 +1,5 @@
 -- A complete command over many keys, split by slot.
-use Rattle.std.specs.Prelude.{◌≡◌, ℕ, Bool, true, false, List, Option, None, Some, length, option_map, slice_get}
+use Rattle.std.specs.Prelude.{◌≡◌, ◌<◌, ◌^◌, ℕ, Bool, true, false, List, Option, None, Some, length, option_map, slice_get}
 use Rattle.cluster_slots.specs.SlotRoute.{SlotRoute}
 use Rattle.redis_commands.specs.Command.{Arguments, HasWords}
 use Rattle.redis_commands.specs.Tuples.{is_complete}
@@ -47,9 +47,10 @@ joins_parts (Aggregate Sum) = true
 joins_parts CombineArrays = true
 joins_parts _ = false
 
--- The routes are those of the command, which has a name and is complete, and the policy joins the
--- replies to its parts.
+-- The routes are those of the command, which has a name, is complete and has fewer than 2^63
+-- arguments, and the policy joins the replies to its parts.
 pub record IsSplit (split : Split) : Type 0 where
+  pub few : length split.arguments < 2 ^ 63
   pub name : HasWords split.words split.arguments
   pub complete :
       is_complete split.pattern (length (present_arguments_after split.words split.arguments))

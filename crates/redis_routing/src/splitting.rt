@@ -62,6 +62,7 @@ pub(super) fn present_len<R: Routable>(command: &R, words: usize) -> usize
     requires { words < 2 ^ 63 }
     ensures count { result ≡ length (present_arguments_after words (R.args command.now)) }
     ensures few { result < 2 ^ 63 }
+    ensures arguments { length (R.args command.now) < 2 ^ 63 }
 {
     let mut count = 0;
     while command.arg_idx(count + words).is_some() {

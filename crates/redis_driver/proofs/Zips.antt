@@ -1,0 +1,14 @@
+-- Two lists beside each other, element by element.
+use Rattle.std.proofs.Common.{◌≡◌, ℕ, zero, suc, List, [], ◌∷◌, Some, ap}
+use Rattle.std.specs.Prelude.{slice_get}
+use Rattle.std.specs.List.{zip}
+
+same_some : {A : Type 0} (x y : A) → Some x ≡ Some y → x ≡ y
+same_some x y h = cc
+
+-- what stands at a place is what stands there in each of the two
+pub zip_at : {A B : Type 0} (xs : List A) (ys : List B) (k : ℕ) (t : A × B) → slice_get (zip xs ys) k ≡ Some t → (slice_get xs k ≡ Some t.0) × (slice_get ys k ≡ Some t.1)
+zip_at [] ys k t h = absurd (cc h)
+zip_at (u ∷ xs) [] k t h = absurd (cc h)
+zip_at (u ∷ xs) (v ∷ ys) zero t h = (ap (λ o. Some o.0) (same_some (u, v) t h), ap (λ o. Some o.1) (same_some (u, v) t h))
+zip_at (u ∷ xs) (v ∷ ys) (suc k) t h = zip_at xs ys k t h

@@ -1,0 +1,80 @@
+-- Why a command was not driven to its end, and what stands then.
+use Rattle.std.specs.Prelude.{◌≡◌, ◌<◌, ◌≤◌, ◌⊎◌, ℕ, Bool, true, List, [], ◌∷◌, ◌++◌, None, Some, length, take, slice_get}
+use Rattle.resp_core.specs.ErrorParts.{ErrorParts}
+use Rattle.cluster_slots.specs.Address.{Address}
+use Rattle.cluster_slots.specs.SlotRoute.{SlotRoute}
+use Rattle.redis_nodes.specs.MultiKey.{MultiKey, list}
+use Rattle.redis_nodes.specs.Orders.{NamesOnce, in_order}
+use Rattle.redis_nodes.specs.Trace.{Entry, Ending, refused}
+use Rattle.redis_nodes.specs.Unsplit.{Step}
+use Rattle.redis_nodes.specs.declared.nodes.SendError.{SendError}
+use Rattle.redis_nodes.specs.declared.nodes.SendError.TheVariants as sent
+use Rattle.slot_ranges.specs.SlotNodes.{SlotNodes}
+use Rattle.slot_ranges.specs.RangeMap as ranges
+use Rattle.redis_commands.specs.Command.{Arguments}
+use Rattle.redis_driver.specs.Driven.{Request, State, routes_by, IsFirstUncovered, IsCoveredCommand, IsDrivable, IsEntryOf, AreAnswered}
+use Rattle.redis_driver.specs.declared.fault.DriveFault.{DriveFault}
+use Rattle.redis_driver.specs.declared.fault.DriveFault.TheVariants.{NotMultiKey, NotCovered, BadOrder, Memory, Node, Reply}
+use Rattle.redis_driver.specs.declared.fault.PlanFault.{PlanFault}
+use Rattle.redis_driver.specs.declared.fault.PlanFault.TheVariants as plan
+
+abbrev pub fault_of_plan : PlanFault → DriveFault
+fault_of_plan plan.NotMultiKey = NotMultiKey
+fault_of_plan (plan.NotCovered slot) = NotCovered slot
+fault_of_plan plan.Memory = Memory
+
+abbrev pub fault_of_send : SendError → DriveFault
+fault_of_send (sent.Refused error) = Node error
+fault_of_send sent.Memory = Memory
+
+-- why a command has no plan, but for memory
+abbrev pub IsPlanFault : List (ranges.Entry SlotNodes) → (List ℕ → Bool) → Arguments → PlanFault → Type 0
+IsPlanFault entries only_reads args plan.NotMultiKey = routes_by only_reads args ≡ None
+IsPlanFault entries only_reads args (plan.NotCovered slot) =
+    (routes : List SlotRoute) × (routes_by only_reads args ≡ Some routes) × IsFirstUncovered entries routes slot
+IsPlanFault entries only_reads args plan.Memory = Unit {0}
+
+module _ {C : Type 0} (IsNode : SlotRoute → Address → Type 0) (step : Step C) (r : Request) (old new : State C) where
+  -- nothing was sent
+  pub record IsUntouched (count : ℕ) : Type 0 where
+    pub answered : count ≡ 0
+    pub keyspace : new.keyspace ≡ old.keyspace
+    pub trace : new.trace ≡ old.trace
+
+  -- the parts of the first routes of the order, so many, were answered, and no other
+  pub record IsStopped (routes : List SlotRoute) (count : ℕ) (trace : List Entry) : Type 0 where
+    pub command : MultiKey
+    pub drivable : IsDrivable r routes command
+    pub within : count ≤ length routes
+    pub answered : AreAnswered IsNode step r old new command (take count (in_order routes r.order)) trace
+
+  -- the node of the next route refused its part with the error
+  pub record IsNodeFault (may_refuse : ℕ → Ending → Type 0) (error : ErrorParts) (count : ℕ) : Type 0 where
+    pub routes : List SlotRoute
+    pub before : List Entry
+    pub stopped : IsStopped routes count before
+    pub route : SlotRoute
+    pub next : slice_get (in_order routes r.order) count ≡ Some route
+    pub last : Entry
+    pub refusal : IsEntryOf IsNode r.arguments (refused error) route last
+    pub trace : new.trace ≡ before ++ last ∷ []
+    pub allowed : may_refuse (length before) (refused error)
+
+  -- memory ran out after an answer: at a node, which the mark tells, or in combining all replies to a list
+  pub record IsLateMemory (count : ℕ) : Type 0 where
+    pub routes : List SlotRoute
+    pub some : 0 < count
+    pub stopped : IsStopped routes count new.trace
+    pub cause : (new.mark ≡ true) ⊎ ((stopped.command.form ≡ list) × (count ≡ length routes))
+
+  -- the fault has its cause, and so many parts took effect
+  abbrev pub IsFault : (may_refuse : ℕ → Ending → Type 0) → DriveFault → ℕ → Type 0
+  IsFault may_refuse NotMultiKey count = IsPlanFault r.map r.only_reads r.arguments plan.NotMultiKey × IsUntouched count × (new.mark ≡ old.mark)
+  IsFault may_refuse (NotCovered slot) count = IsPlanFault r.map r.only_reads r.arguments (plan.NotCovered slot) × IsUntouched count × (new.mark ≡ old.mark)
+  IsFault may_refuse BadOrder count =
+      ((routes : List SlotRoute) × (command : MultiKey) × IsCoveredCommand r routes command × (NamesOnce (length routes) r.order → ⊥))
+      × IsUntouched count × (new.mark ≡ old.mark)
+  IsFault may_refuse Memory count = IsUntouched count ⊎ IsLateMemory count
+  IsFault may_refuse (Node error) count = IsNodeFault may_refuse error count
+  -- the replies to the parts of a command always fit
+  IsFault may_refuse (Reply error) count = ⊥

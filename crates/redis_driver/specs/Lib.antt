@@ -1,0 +1,4 @@
+pub mod Plan
+pub mod Sends
+pub mod Driven
+pub mod Faults

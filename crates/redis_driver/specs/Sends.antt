@@ -1,0 +1,44 @@
+-- What the sends of a plan's parts leave, by the plan's own lists.
+use Rattle.std.specs.Prelude.{◌≡◌, ◌≤◌, ℕ, Bool, true, List, [], ◌∷◌, ◌++◌, Option, None, Some, map, length, take, slice_get}
+use Rattle.std.specs.List.{All, AllZip, zip}
+use Rattle.cluster_slots.specs.Address.{Address}
+use Rattle.cluster_slots.specs.KeySlot.{key_slot}
+use Rattle.redis_nodes.specs.MultiKey.{MultiKey, multi_key, part_of, form_by_policy}
+use Rattle.redis_nodes.specs.Orders.{times, in_order, tuples_of_slots}
+use Rattle.redis_nodes.specs.Trace.{Entry, Ending, answered, entry}
+use Rattle.redis_nodes.specs.Unsplit.{Step, Keyspace, act_of, after}
+use Rattle.redis_driver.specs.Plan.{Plan, slots_of, tuples_in_split}
+
+-- where a part goes, and the part
+abbrev pub Target : Type 0
+Target = Address × List (List ℕ)
+
+-- those of a plan, route by route
+abbrev pub targets : Plan → List Target
+targets plan = zip plan.nodes plan.parts
+
+abbrev pub target_entry : Ending → Target → Entry
+target_entry ending target = entry target.0 target.1 ending
+
+-- the plan is one of this command: each tuple's slot has one route, whose part is that of the slot
+pub record IsPlanOf (command : MultiKey) (plan : Plan) : Type 0 where
+  pub command_is : multi_key plan.split.arguments ≡ Some command
+  pub form : form_by_policy plan.split.policy ≡ Some command.form
+  pub tuples : command.tuples ≡ tuples_in_split plan.split
+  pub at_most_once : (slot : ℕ) → times slot (slots_of plan.split.routes) ≤ 1
+  pub once : All (λ t. times (key_slot t.key) (slots_of plan.split.routes) ≡ 1) command.tuples
+  pub nodes : length plan.nodes ≡ length plan.split.routes
+  pub parts : AllZip (λ slot part. multi_key (map Some part) ≡ Some (part_of command slot)) (slots_of plan.split.routes) plan.parts
+
+-- the last send was refused, which its entry tells, or ran out of memory, which the mark tells
+abbrev pub IsLast : (ℕ → Ending → Type 0) → List Entry → List Entry → Bool → Option Target → Option Ending → Type 0
+IsLast may_refuse before new mark (Some target) (Some ending) = (new ≡ before ++ target_entry ending target ∷ []) × may_refuse (length before) ending
+IsLast may_refuse before new mark (Some target) None = (new ≡ before) × (mark ≡ true)
+IsLast may_refuse before new mark None ending = ⊥
+
+-- the sends stopped after so many answers: the trace has an entry of each, and of the next one, if it was refused; the keyspace is that of the slots that were answered
+pub record AreStopped {C : Type 0} (step : Step C) (may_refuse : ℕ → Ending → Type 0) (command : MultiKey) (plan : Plan) (order : List ℕ) (count : ℕ) (old_keys new_keys : Keyspace C) (old new : List Entry) (mark : Bool) (ending : Option Ending) : Type 0 where
+  pub before : List Entry
+  pub trace : before ≡ old ++ map (target_entry answered) (in_order (targets plan) (take count order))
+  pub keyspace : new_keys ≡ after (act_of step command) (tuples_of_slots (in_order (slots_of plan.split.routes) (take count order)) command.tuples) old_keys
+  pub last : IsLast may_refuse before new mark (slice_get (in_order (targets plan) order) count) ending

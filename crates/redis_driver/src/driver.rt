@@ -1,0 +1,91 @@
+ghost use Rattle.std.specs.Prelude.{◌≡◌, ◌↔◌, ℕ, MatchOption, IfOk, IfErr};
+ghost use Rattle.resp_core.specs.ErrorParts.{out_of_memory};
+ghost use Rattle.resp_core.specs.View.{view};
+ghost use Rattle.read_strategies.specs.RouteNode.{IsNodeOfRoute, IsPickedNode};
+ghost use Rattle.redis_commands.specs.ReadOnly.{is_among};
+ghost use Rattle.redis_nodes.specs.Trace.{Ending};
+ghost use Rattle.redis_driver.specs.Driven.{request, state, IsDriven, IsHeadline};
+ghost use Rattle.redis_driver.specs.Faults.{IsFault};
+
+use crate::fault::{DriveError, DriveFault};
+use crate::order::names_once;
+use crate::plan::SplitPlan;
+use crate::send::send_all;
+use cluster_map::{ReadRoutingStrategy, SlotMap};
+use redis_commands::{ReadOnlyNames, Routable};
+use redis_nodes::Nodes;
+use resp_core::{ErrorKind, RedisError, Value};
+use std::alloc::Global;
+
+/// Sends a command over many keys part by part, and answers as one server would that has all keys.
+///
+/// The command is split by slot: there is one route for each slot of a key, numbered by the first
+/// key of each, and one part for each route, which has the tuples of the slot in their order. The
+/// parts go out in `order`, a list that names each route number once, each to the primary of its
+/// slot or, where the name only reads and a strategy is lent, to the node that the strategy picks.
+/// `DEL foo bar baz {bar}vaz` goes out as `DEL foo`, `DEL bar {bar}vaz` and `DEL baz`, and the
+/// counts are added up.
+///
+/// Where it answers, the keyspace and the reply are those of the unsplit command, whatever the
+/// command does to a single key, whatever the order. Arguments from the first gap on are not sent.
+///
+/// # Errors
+///
+/// In this order: `NotMultiKey` where the command is not complete, `NotCovered` where a slot of a
+/// key has no node, `BadOrder` where the order does not name each route once. Nothing was sent
+/// then. `Node` is what a node refused: the parts of the order before it took effect, and no later
+/// one is sent. `Memory` is told after any number of answers, which took effect. `Reply` does not
+/// come from nodes that keep their contract.
+pub fn drive<R: Routable, N: Nodes>(
+    alloc: Global,
+    command: &R,
+    read_only: &ReadOnlyNames,
+    slot_map: &SlotMap,
+    strategy: Option<&dyn ReadRoutingStrategy>,
+    pick: usize,
+    order: &[usize],
+    nodes: &mut N,
+) -> Result<Value, DriveError>
+    // The headline: each part went once, in the order given, to a node of its route, and the keyspace
+    // and the reply are those of the unsplit command.
+    ensures driven { IfOk result (λ value. IsDriven (λ route address. MatchOption strategy.entry (IsNodeOfRoute slot_map.now route pick address) (λ s. IsPickedNode (picks s.now) slot_map.now route address))
+        N.step (request (R.args command.now) (is_among read_only.now) slot_map.now order.now)
+        (state (N.keyspace nodes.old) (N.trace nodes.old) (N.mark nodes.old)) (state (N.keyspace nodes.new) (N.trace nodes.new) (N.mark nodes.new)) (view value)) }
+    // It is so where the command can be driven and no node may refuse, unless memory runs out.
+    ensures headline { IsHeadline (N.may_refuse nodes.old) (request (R.args command.now) (is_among read_only.now) slot_map.now order.now) (N.trace nodes.old) → IfErr result (λ e. e.fault ≡ DriveFault.Memory) }
+    // Each fault has its cause, and what was answered before stands.
+    ensures fault { IfErr result (λ e. IsFault (λ route address. MatchOption strategy.entry (IsNodeOfRoute slot_map.now route pick address) (λ s. IsPickedNode (picks s.now) slot_map.now route address))
+        N.step (request (R.args command.now) (is_among read_only.now) slot_map.now order.now)
+        (state (N.keyspace nodes.old) (N.trace nodes.old) (N.mark nodes.old)) (state (N.keyspace nodes.new) (N.trace nodes.new) (N.mark nodes.new))
+        (N.may_refuse nodes.old) e.fault e.answered) }
+    // What nodes may refuse stays the same.
+    ensures may_refuse { (count : ℕ) (ending : Ending) → N.may_refuse nodes.new count ending ↔ N.may_refuse nodes.old count ending }
+{
+    let mut plan = SplitPlan::new(alloc, command, read_only, slot_map, strategy, pick)?;
+    if !names_once(alloc, plan.len(), order)? {
+        return Err(DriveError {
+            fault: DriveFault::BadOrder,
+            answered: 0,
+        });
+    }
+    send_all(&mut plan, order, nodes)?;
+    let answered = plan.len();
+    match plan.combine(alloc) {
+        Ok(reply) => Ok(reply),
+        Err(error) => Err(DriveError {
+            fault: of_combining(error),
+            answered,
+        }),
+    }
+}
+
+/// The fault of replies that could not be combined.
+fn of_combining(error: RedisError) -> DriveFault
+    ensures { error ≡ out_of_memory → result ≡ DriveFault.Memory }
+{
+    if error.kind() == ErrorKind::OutOfMemory {
+        DriveFault::Memory
+    } else {
+        DriveFault::Reply(error)
+    }
+}

@@ -1,0 +1,88 @@
+ghost use Rattle.std.specs.Prelude.{◌≡◌};
+
+use redis_nodes::SendError;
+use resp_core::RedisError;
+use std::alloc::AllocError;
+
+/// Why a command has no plan.
+#[derive(Drop)]
+pub enum PlanFault {
+    /// The command is not one of those that are split by slot, or is not complete.
+    NotMultiKey,
+    /// No node serves this slot: that of the first route that has none.
+    NotCovered(u16),
+    /// Memory ran out.
+    Memory,
+}
+
+impl From<AllocError> for PlanFault {
+    fn from(_: AllocError) -> Self
+        ensures { result ≡ PlanFault.Memory }
+    {
+        PlanFault::Memory
+    }
+}
+
+/// Why a command was not driven to its end.
+#[derive(Drop)]
+pub enum DriveFault {
+    /// The command is not one of those that are split by slot, or is not complete. Nothing was sent.
+    NotMultiKey,
+    /// No node serves this slot: that of the first route that has none. Nothing was sent.
+    NotCovered(u16),
+    /// The order does not name each route once. Nothing was sent.
+    BadOrder,
+    /// Memory ran out.
+    Memory,
+    /// A node refused a part.
+    Node(RedisError),
+    /// The replies could not be combined.
+    Reply(RedisError),
+}
+
+/// Why a command was not driven to its end, and how many of its parts took effect: the first ones of
+/// the order, and no other.
+#[derive(Drop)]
+pub struct DriveError {
+    pub fault: DriveFault,
+    pub answered: usize,
+}
+
+impl From<AllocError> for DriveError {
+    fn from(_: AllocError) -> Self
+        ensures { result ≡ record { fault = DriveFault.Memory; answered = 0 } }
+    {
+        DriveError {
+            fault: DriveFault::Memory,
+            answered: 0,
+        }
+    }
+}
+
+impl From<PlanFault> for DriveError {
+    ghost use Rattle.redis_driver.specs.Faults.{fault_of_plan};
+
+    fn from(fault: PlanFault) -> Self
+        ensures { result ≡ record { fault = fault_of_plan fault; answered = 0 } }
+    {
+        let fault = match fault {
+            PlanFault::NotMultiKey => DriveFault::NotMultiKey,
+            PlanFault::NotCovered(slot) => DriveFault::NotCovered(slot),
+            PlanFault::Memory => DriveFault::Memory,
+        };
+        DriveError { fault, answered: 0 }
+    }
+}
+
+impl From<SendError> for DriveFault {
+    ghost use Rattle.redis_driver.specs.Faults.{fault_of_send};
+
+    fn from(error: SendError) -> Self
+        ensures { result ≡ fault_of_send error }
+    {
+        match error {
+            SendError::Refused(error) => DriveFault::Node(error),
+            SendError::Memory => DriveFault::Memory,
+        }
+    }
+}

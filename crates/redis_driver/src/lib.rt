@@ -1,0 +1,14 @@
+//! Sends a command over many keys slot by slot, so that the nodes' keyspace and the reply are those of the unsplit
+//! command.
+#![tactic(auto)]
+
+mod driver;
+mod fault;
+mod order;
+mod plan;
+mod send;
+
+pub use driver::drive;
+pub use fault::{DriveError, DriveFault, PlanFault};
+pub use plan::SplitPlan;
+pub use redis_nodes::{Nodes, SendError};

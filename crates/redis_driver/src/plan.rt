@@ -1,0 +1,248 @@
+ghost use Rattle.std.specs.Prelude.{◌≡◌, ◌<◌, ◌⊎◌, ℕ, List, true, Option, Some, None, is_none, MatchOption, MatchResult, IfOk, OnOk, IfErr, length, map, option_map, slice_get, slice_set};
+ghost use Rattle.std.specs.List.{AllZip, list_any};
+ghost use Rattle.resp_core.specs.ErrorParts.{out_of_memory};
+ghost use Rattle.resp_core.specs.View.{view};
+ghost use Rattle.resp_core.specs.declared.error.ErrorKind.TheVariants.{Client};
+ghost use Rattle.read_strategies.specs.RouteNode.{IsNodeOfRoute, IsPickedNode};
+ghost use Rattle.redis_commands.specs.Command.{command_of};
+ghost use Rattle.redis_commands.specs.ReadOnly.{is_among};
+ghost use Rattle.redis_routing.specs.Complete.{multi_slot_routes, pattern_by_name};
+ghost use Rattle.redis_routing.specs.Split.{policy_by_name, split_part};
+ghost use Rattle.redis_routing.specs.RoutingInfo.{route_lists};
+ghost use Rattle.redis_nodes.specs.MultiKey.{ReplyForm, list};
+ghost use Rattle.redis_nodes.specs.Unsplit.{reply_by};
+ghost use Rattle.redis_nodes.specs.Unsplit.{TupleResult};
+ghost use Rattle.redis_driver.specs.Driven.{IsFirstUncovered};
+ghost use Rattle.redis_driver.specs.Faults.{IsPlanFault};
+ghost use Rattle.redis_driver.specs.Plan.{IsPlan, ArePartReplies, ArePartsAnswered, slots_of};
+
+use crate::fault::PlanFault;
+use cluster_map::{ReadRoutingStrategy, SlotMap};
+use cluster_slots::{NodeAddress, Route};
+use redis_commands::{AggregateOp, ReadOnlyNames, ResponsePolicy, Routable};
+use redis_combiners::{aggregate, combine_and_sort_array_results};
+use redis_routing::SplitCommand;
+use resp_core::{Cmd, ErrorKind, RedisError, RedisResult, Value};
+use std::alloc::{AllocError, Global};
+use std::marker::Model;
+
+/// A command over many keys, ready to be sent part by part: for each of its routes the node and the
+/// part, and room for the reply. Once each reply is told it gives the one reply of the command.
+///
+/// `drive` is a loop over it. A client with connections of its own sends the parts itself, at once
+/// or in any order, and tells each reply as it comes.
+#[derive(Drop)]
+pub struct SplitPlan<'a, R: Routable> {
+    split: SplitCommand<'a, R>,
+    nodes: Vec<&'a NodeAddress>,
+    parts: Vec<Cmd>,
+    replies: Vec<Value>,
+    answered: Vec<bool>,
+}
+
+impl<'a, R: Routable> Model for SplitPlan<'a, R> {
+    ghost use Rattle.std.specs.Prelude.{◌≡◌, length, map};
+    ghost use Rattle.std.specs.Coded.{codes};
+    ghost use Rattle.resp_core.specs.contracts.value.Value as value;
+    ghost use Rattle.redis_driver.specs.Plan.{Plan, IsPlan, told};
+
+    ghost Value = { Plan };
+
+    ghost coded = { Prim.hlevel (codes, value.the_row.coded) };
+
+    ghost view = { λ p. record { split = p.split; nodes = map (λ n. n.now) p.nodes.items; parts = p.parts.items; replies = told p.answered.items p.replies.items } };
+
+    ghost invariant = { λ p. IsPlan (record { split = p.split; nodes = map (λ n. n.now) p.nodes.items; parts = p.parts.items; replies = told p.answered.items p.replies.items }) × (length p.answered.items ≡ length p.replies.items) };
+}
+
+impl<'a, R: Routable> SplitPlan<'a, R> {
+    /// Plans a command: its routes, in order of first appearance of their slots, the node of each
+    /// by the map, and where reads may go to replicas by the strategy, and the part of each.
+    ///
+    /// # Errors
+    ///
+    /// In this order: `NotMultiKey` where the command is not complete, `NotCovered` where a slot of
+    /// a key has no node, the first in the order of routes. `Memory` where memory ran out.
+    pub fn new(
+        alloc: Global,
+        command: &'a R,
+        read_only: &ReadOnlyNames,
+        slot_map: &'a SlotMap,
+        strategy: Option<&dyn ReadRoutingStrategy>,
+        pick: usize,
+    ) -> Result<Self, PlanFault>
+        ensures routes { IfOk result (λ plan. Some plan.split.routes ≡ multi_slot_routes (is_among read_only.now) (R.args command.now)) }
+        ensures arguments { IfOk result (λ plan. plan.split.arguments ≡ R.args command.now) }
+        ensures words { IfOk result (λ plan. plan.split.words ≡ 1) }
+        ensures pattern { IfOk result (λ plan. Some plan.split.pattern ≡ pattern_by_name (command_of (R.args command.now))) }
+        ensures policy { IfOk result (λ plan. Some plan.split.policy ≡ policy_by_name (command_of (R.args command.now))) }
+        ensures nodes { IfOk result (λ plan. AllZip (λ route address. MatchOption strategy.entry (IsNodeOfRoute slot_map.now route.0 pick address) (λ s. IsPickedNode (picks s.now) slot_map.now route.0 address)) plan.split.routes plan.nodes) }
+        ensures untold { IfOk result (λ plan. plan.replies ≡ map (λ route. None) plan.split.routes) }
+        ensures fault { IfErr result (λ fault. IsPlanFault slot_map.now (is_among read_only.now) (R.args command.now) fault) }
+    {
+        let Some(split) = SplitCommand::new(alloc, command, read_only)? else {
+            return Err(PlanFault::NotMultiKey);
+        };
+        let nodes = nodes_of(alloc, slot_map, split.routes(), strategy, pick)?;
+        let parts = parts_of(alloc, &split)?;
+        let count = split.len();
+        let replies = no_replies(alloc, count)?;
+        let mut answered = Vec::with_capacity(alloc, count)?;
+        answered.resize(count, false)?;
+        Ok(SplitPlan {
+            split,
+            nodes,
+            parts,
+            replies,
+            answered,
+        })
+    }
+
+    /// The routes, with the places of their parts.
+    pub fn routes(&self) -> &[(Route, Vec<usize>)]
+        ensures routes { route_lists result.now ≡ self.now.split.routes }
+        ensures plan { IsPlan self.now }
+    {
+        self.split.routes()
+    }
+
+    /// How many routes there are, which is at least one.
+    pub fn len(&self) -> usize
+        ensures len { result ≡ length self.now.split.routes }
+        ensures some { 0 < result }
+    {
+        self.split.len()
+    }
+
+    /// The node that the part of this route goes to, where there is such a route.
+    pub fn node(&self, number: usize) -> Option<&NodeAddress>
+        ensures { option_map (λ node. node.now) result ≡ slice_get self.now.nodes number }
+    {
+        let node = self.nodes.get(number)?;
+        Some(*node)
+    }
+
+    /// The part of this route, as a command of its own, where there is such a route.
+    pub fn part(&self, number: usize) -> Option<&Cmd>
+        ensures { option_map (λ part. part.now) result ≡ slice_get self.now.parts number }
+    {
+        self.parts.get(number)
+    }
+
+    /// Tells the reply to the part of this route. No memory is taken.
+    ///
+    /// # Errors
+    ///
+    /// Gives the reply back where there is no such route, or its reply was told before.
+    pub fn tell(&mut self, number: usize, reply: Value) -> Result<(), Value>
+        ensures told { OnOk result ((slice_get self.old.replies number ≡ Some None) × (self.new ≡ record { split = self.old.split; nodes = self.old.nodes; parts = self.old.parts; replies = slice_set self.old.replies number (Some reply) })) }
+        ensures refused { IfErr result (λ back. (back ≡ reply) × (self.new ≡ self.old) × (slice_get self.old.replies number ≡ Some None → ⊥)) }
+    {
+        match self.answered.get(number) {
+            Some(false) => {
+                self.answered[number] = true;
+                self.replies[number] = reply;
+                Ok(())
+            }
+            _ => Err(reply),
+        }
+    }
+
+    /// The one reply of the command, once each reply was told. Counts are added up, lists are put in
+    /// the order of the command's keys, and of commands that only succeed it is the reply of route 0.
+    ///
+    /// # Errors
+    ///
+    /// `Client` where a reply was not told. Else what the combiners refuse; where the replies are
+    /// those to parts of one command they refuse nothing, and memory runs out for lists alone.
+    pub fn combine(self, alloc: Global) -> RedisResult<Value>
+        ensures unsplit { (form : ReplyForm) (results : List TupleResult) → ArePartReplies self.entry form results → MatchResult result
+            (λ value. view value ≡ reply_by form results)
+            (λ error. (error ≡ out_of_memory) × (form ≡ list)) }
+        ensures untold { list_any is_none self.entry.replies ≡ true → IfErr result (λ error. error.kind ≡ Client) }
+    {
+        let SplitPlan {
+            split,
+            nodes: _,
+            parts: _,
+            replies,
+            answered,
+        } = self;
+        if !answered.iter().all(|is_told| *is_told) {
+            return Err(RedisError::from((
+                ErrorKind::Client,
+                "a part has no reply",
+            )));
+        }
+        join(alloc, &split, replies)
+    }
+}
+
+/// The one reply to a split command, by those to its parts.
+fn join<R: Routable>(
+    alloc: Global,
+    split: &SplitCommand<'_, R>,
+    replies: Vec<Value>,
+) -> RedisResult<Value>
+    requires each { length replies.items ≡ length split.now.routes }
+    ensures unsplit { (form : ReplyForm) (results : List TupleResult) → ArePartsAnswered split.now form results (map view replies.items) → MatchResult result
+        (λ value. view value ≡ reply_by form results)
+        (λ error. (error ≡ out_of_memory) × (form ≡ list)) }
+{
+    match split.policy() {
+        ResponsePolicy::Aggregate(AggregateOp::Sum) => aggregate(replies, AggregateOp::Sum),
+        ResponsePolicy::CombineArrays => {
+            combine_and_sort_array_results(alloc, replies, split.routes(), &split.pattern())
+        }
+        _ => match replies.into_iter().next() {
+            Some(first) => Ok(first),
+            None => unreachable!(),
+        },
+    }
+}
+
+/// The nodes of routes, or the slot of the first one that has none.
+fn nodes_of<'a>(
+    alloc: Global,
+    slot_map: &'a SlotMap,
+    routes: &[(Route, Vec<usize>)],
+    strategy: Option<&dyn ReadRoutingStrategy>,
+    pick: usize,
+) -> Result<Vec<&'a NodeAddress>, PlanFault>
+    ensures nodes { IfOk result (λ nodes. AllZip (λ route address. MatchOption strategy.entry (IsNodeOfRoute slot_map.now route.0 pick address) (λ s. IsPickedNode (picks s.now) slot_map.now route.0 address)) (route_lists routes.now) (map (λ n. n.now) nodes.items)) }
+    ensures fault { IfErr result (λ fault. (fault ≡ PlanFault.Memory) ⊎ ((slot : ℕ) × (fault ≡ PlanFault.NotCovered slot) × IsFirstUncovered slot_map.now (map (λ r. r.0) routes.now) slot)) }
+{
+    let mut nodes = Vec::with_capacity(alloc, routes.len())?;
+    for (route, _) in routes {
+        let Some(node) = slot_map.slot_addr_for_route(*route, strategy, pick) else {
+            return Err(PlanFault::NotCovered(route.slot()));
+        };
+        nodes.push(node).map_err(AllocError::from)?;
+    }
+    Ok(nodes)
+}
+
+/// The part of each route.
+fn parts_of<R: Routable>(
+    alloc: Global,
+    split: &SplitCommand<'_, R>,
+) -> Result<Vec<Cmd>, AllocError>
+    ensures { IfOk result (λ parts. map (map Some) parts.items ≡ map (split_part split.now) (slots_of split.now.routes)) }
+{
+    let mut parts = Vec::with_capacity(alloc, split.len())?;
+    for number in 0..split.len() {
+        parts.push(split.part(alloc, number)?)?;
+    }
+    Ok(parts)
+}
+
+/// Room for so many replies.
+fn no_replies(alloc: Global, count: usize) -> Result<Vec<Value>, AllocError>
+    ensures { IfOk result (λ replies. length replies.items ≡ count) }
+{
+    let mut replies = Vec::with_capacity(alloc, count)?;
+    for _ in 0..count {
+        replies.push(Value::Nil)?;
+    }
+    Ok(replies)
+}

@@ -1,0 +1,77 @@
+ghost use Rattle.std.specs.Prelude.{◌≡◌, ◌<◌, ◌++◌, ◌∷◌, ◌↔◌, [], ℕ, List, Some, None, map, length, slice_get, IfOk, OnOk, IfErr, IsSome};
+ghost use Rattle.resp_core.specs.View.{view};
+ghost use Rattle.cluster_slots.specs.Address.{Address};
+ghost use Rattle.redis_nodes.specs.MultiKey.{MultiKey, multi_key};
+ghost use Rattle.redis_nodes.specs.Orders.{NamesOnce, in_order};
+ghost use Rattle.redis_nodes.specs.Sent.{IsUnanswered, ending_of};
+ghost use Rattle.redis_nodes.specs.Trace.{Ending, answered};
+ghost use Rattle.redis_nodes.specs.Unsplit.{keyspace_after, reply_to, results_of};
+ghost use Rattle.redis_driver.specs.Faults.{fault_of_send};
+ghost use Rattle.redis_driver.specs.Plan.{ArePartReplies};
+ghost use Rattle.redis_driver.specs.Sends.{Target, targets, target_entry, IsPlanOf, AreStopped};
+
+use crate::fault::{DriveError, DriveFault};
+use crate::plan::SplitPlan;
+use redis_commands::Routable;
+use redis_nodes::{Nodes, SendError};
+use resp_core::Value;
+
+/// Sends the parts of a plan in an order, and tells it the replies.
+pub(super) fn send_all<R: Routable, N: Nodes>(
+    plan: &mut SplitPlan<'_, R>,
+    order: &[usize],
+    nodes: &mut N,
+) -> Result<(), DriveError>
+    requires command { (command : MultiKey) × IsPlanOf command plan.old }
+    requires untold { plan.old.replies ≡ map (λ route. None) plan.old.split.routes }
+    requires order { NamesOnce (length plan.old.split.routes) order.now }
+    ensures plan { OnOk result (plan.new.split ≡ plan.old.split) }
+    ensures replies { OnOk result ((command : MultiKey) → IsPlanOf command plan.old → ArePartReplies plan.new command.form (results_of N.step command (N.keyspace nodes.old))) }
+    ensures trace { OnOk result (N.trace nodes.new ≡ N.trace nodes.old ++ map (target_entry answered) (in_order (targets plan.old) order.now)) }
+    ensures keyspace { OnOk result ((command : MultiKey) → IsPlanOf command plan.old → N.keyspace nodes.new ≡ keyspace_after N.step command (N.keyspace nodes.old)) }
+    ensures within { IfErr result (λ stop. stop.answered < length order.now) }
+    ensures stopped { IfErr result (λ stop. (error : SendError) × (stop.fault ≡ fault_of_send error) × ((command : MultiKey) → IsPlanOf command plan.old → AreStopped N.step (N.may_refuse nodes.old) command plan.old order.now stop.answered
+        (N.keyspace nodes.old) (N.keyspace nodes.new) (N.trace nodes.old) (N.trace nodes.new) (N.mark nodes.new) (ending_of error))) }
+    ensures may_refuse { (count : ℕ) (ending : Ending) → N.may_refuse nodes.new count ending ↔ N.may_refuse nodes.old count ending }
+{
+    let mut answered = 0;
+    for number in order {
+        match send_part(plan, *number, nodes) {
+            Ok(reply) => {
+                if plan.tell(*number, reply).is_err() {
+                    unreachable!()
+                }
+            }
+            Err(error) => {
+                return Err(DriveError {
+                    fault: DriveFault::from(error),
+                    answered,
+                });
+            }
+        }
+        answered += 1;
+    }
+    Ok(())
+}
+
+/// Sends the part of one route.
+fn send_part<R: Routable, N: Nodes>(
+    plan: &SplitPlan<'_, R>,
+    number: usize,
+    nodes: &mut N,
+) -> Result<Value, SendError>
+    requires there { (target : Target) × (slice_get (targets plan.now) number ≡ Some target) × IsSome (multi_key (map Some target.1)) }
+    ensures reply { IfOk result (λ value. (target : Target) (command : MultiKey) → slice_get (targets plan.now) number ≡ Some target → multi_key (map Some target.1) ≡ Some command → view value ≡ reply_to N.step command (N.keyspace nodes.old)) }
+    ensures keyspace { OnOk result ((target : Target) (command : MultiKey) → slice_get (targets plan.now) number ≡ Some target → multi_key (map Some target.1) ≡ Some command → N.keyspace nodes.new ≡ keyspace_after N.step command (N.keyspace nodes.old)) }
+    ensures trace { OnOk result ((target : Target) → slice_get (targets plan.now) number ≡ Some target → N.trace nodes.new ≡ N.trace nodes.old ++ target_entry answered target ∷ []) }
+    ensures unanswered { IfErr result (λ error. (target : Target) → slice_get (targets plan.now) number ≡ Some target → IsUnanswered (N.may_refuse nodes.old) (N.keyspace nodes.old) (N.keyspace nodes.new) (N.trace nodes.old) (N.trace nodes.new) (N.mark nodes.new) target.0 target.1 (ending_of error)) }
+    ensures may_refuse { (count : ℕ) (ending : Ending) → N.may_refuse nodes.new count ending ↔ N.may_refuse nodes.old count ending }
+{
+    let Some(node) = plan.node(number) else {
+        unreachable!()
+    };
+    let Some(part) = plan.part(number) else {
+        unreachable!()
+    };
+    nodes.send(node, part)
+}

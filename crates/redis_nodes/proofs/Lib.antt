@@ -1,0 +1,11 @@
+pub mod SplitParts
+pub mod SplitPlaces
+pub mod Counts
+pub mod Fold
+pub mod Parts
+pub mod Orders
+pub mod Whole
+pub mod Once
+pub mod Totals
+pub mod Places
+pub mod Placed

@@ -1,0 +1,160 @@
+-- The places of the parts of a command over many keys: those of the slot's tuples, by their numbers, and the place that all keys share.
+use Rattle.std.proofs.Common.{◌≡◌, ℕ, ◌+◌, ◌-◌, ◌*◌, ◌%◌, ◌≤◌, List, [], ◌∷◌, ◌++◌, Bool, true, Some, map, length, take, drop, refl, sym, ap, ◌∙◌, subst, add-one, suc-mul, zero-mul, arith}
+use Rattle.std.specs.Prelude.{nat_eq, All}
+use Rattle.std.specs.List.{flat_map, range_with_len}
+use Rattle.std.proofs.lemmas.Bool.Decides.{nat_tests}
+use Rattle.std.proofs.lemmas.List.{length-drop, length-map}
+use Rattle.std.proofs.lemmas.List.Elements.{All-map}
+use Rattle.cluster_slots.specs.SlotRoute.{SlotRoute}
+use Rattle.redis_commands.specs.Command.{Arguments, command_of}
+use Rattle.redis_commands.specs.NameTables.{NameTables, own_tables}
+use Rattle.redis_commands.specs.PresentArguments.{present_arguments_after}
+use Rattle.redis_commands.specs.Tuples.{Tuple, is_complete, keys_alone, keys_and_values, keys_and_two, own_count, places_of, tuples_from, tuples_in, width_of}
+use Rattle.redis_commands.specs.declared.route_by.MultiSlotArgPattern.{MultiSlotArgPattern}
+use Rattle.redis_commands.specs.declared.route_by.MultiSlotArgPattern.TheVariants.{KeysOnly, KeyValuePairs, KeysAndLastArg, KeyWithTwoArgTriples}
+use Rattle.redis_routing.specs.Complete.{pattern_of, pattern_by_name_with, pattern_by_name, multi_slot_routes_with, multi_slot_routes}
+use Rattle.redis_routing.specs.Parts.{first_appearances, slot_of, tuples_in_slot}
+use Rattle.redis_routing.specs.Routing.{route_of_slot, routes_of}
+use Rattle.redis_commands.proofs.Patterns.{length-own, own_few}
+use Rattle.redis_routing.proofs.Cover.{own_whole}
+use Rattle.redis_routing.proofs.Picks.{complete_fits}
+use Rattle.redis_routing.proofs.SelfRouting.{before_gap_short}
+use Rattle.redis_nodes.specs.MultiKey.{KeyTuple, MultiKey, multi_key_with, multi_key, unplaced}
+use Rattle.redis_nodes.proofs.Places.{numbers_from}
+use Rattle.redis_nodes.proofs.SplitParts.{IsMade, is_made, routes_made}
+use Rattle.resp_core.proofs.Cases.{by_test}
+
+-- the places of the arguments of the tuple of a number, where each tuple has so many
+abbrev pub argument_places : ℕ → ℕ → List ℕ
+argument_places width number = range_with_len (number * width) width
+
+-- the place after the tuples, where all keys share the argument there
+abbrev pub shared_places : MultiSlotArgPattern → ℕ → List ℕ
+shared_places KeysOnly place = []
+shared_places KeyValuePairs place = []
+shared_places KeysAndLastArg place = place ∷ []
+shared_places KeyWithTwoArgTriples place = []
+
+-- the places of a slot's part
+abbrev pub places_of_part : MultiSlotArgPattern → List KeyTuple → ℕ → List ℕ
+places_of_part pattern tuples slot = flat_map (argument_places (width_of pattern)) (numbers_from slot 0 tuples) ++ shared_places pattern (length tuples * width_of pattern)
+
+-- the tuples stand side by side from a place on, each of so many arguments
+abbrev AreWide : ℕ → ℕ → List Tuple → Type 0
+AreWide width place [] = Unit {0}
+AreWide width place (t ∷ ts) = (places_of t ≡ range_with_len place width) × AreWide width (place + width) ts
+
+wide_alone : (place : ℕ) (run : List (List ℕ)) → AreWide 1 place (keys_alone place run)
+wide_alone place [] = tt
+wide_alone place (key ∷ run) = (refl, wide_alone (place + 1) run)
+
+wide_pairs : (place : ℕ) (run : List (List ℕ)) → AreWide 2 place (keys_and_values place run)
+wide_pairs place [] = tt
+wide_pairs place (key ∷ []) = tt
+wide_pairs place (key ∷ value ∷ run) = (refl, wide_pairs (place + 2) run)
+
+wide_triples : (place : ℕ) (run : List (List ℕ)) → AreWide 3 place (keys_and_two place run)
+wide_triples place [] = tt
+wide_triples place (key ∷ []) = tt
+wide_triples place (key ∷ a ∷ []) = tt
+wide_triples place (key ∷ a ∷ b ∷ run) = (refl, wide_triples (place + 3) run)
+
+wide : (pattern : MultiSlotArgPattern) (place : ℕ) (run : List (List ℕ)) → AreWide (width_of pattern) place (tuples_from pattern place run)
+wide KeysOnly place run = wide_alone place run
+wide KeyValuePairs place run = wide_pairs place run
+wide KeysAndLastArg place run = wide_alone place run
+wide KeyWithTwoArgTriples place run = wide_triples place run
+
+-- the places of a slot's tuples are those of their numbers
+places_by_number : (width slot number : ℕ) (ts : List Tuple) → AreWide width (number * width) ts → flat_map places_of (tuples_in_slot slot ts) ≡ flat_map (argument_places width) (numbers_from slot number (map unplaced ts))
+places_by_number width slot number [] h = refl
+places_by_number width slot number (t ∷ ts) h =
+    let next : number * width + width ≡ (number + 1) * width = sym (ap (λ n. n * width) (add-one number) ∙ suc-mul number width) in
+    let rest = places_by_number width slot (number + 1) ts (subst (λ place. AreWide width place ts) next h.1) in
+    by_test (nat_eq (slot_of t) slot)
+    (λ here. rw here (ap (λ ps. ps ++ flat_map places_of (tuples_in_slot slot ts)) h.0 ∙ ap (λ ps. argument_places width number ++ ps) rest))
+    (λ other. rw other rest)
+
+count_alone : (place : ℕ) (run : List (List ℕ)) → length (keys_alone place run) * 1 ≡ length run
+count_alone place [] = refl
+count_alone place (key ∷ run) = omega (arith, count_alone (place + 1) run)
+
+count_pairs : (place : ℕ) (run : List (List ℕ)) → length run % 2 ≡ 0 → length (keys_and_values place run) * 2 ≡ length run
+count_pairs place [] even = refl
+count_pairs place (key ∷ []) even = absurd (omega arith)
+count_pairs place (key ∷ value ∷ run) even = let less : length run % 2 ≡ 0 = omega arith in omega (arith, count_pairs (place + 2) run less)
+
+count_triples : (place : ℕ) (run : List (List ℕ)) → length run % 3 ≡ 0 → length (keys_and_two place run) * 3 ≡ length run
+count_triples place [] even = refl
+count_triples place (key ∷ []) even = absurd (omega arith)
+count_triples place (key ∷ a ∷ []) even = absurd (omega arith)
+count_triples place (key ∷ a ∷ b ∷ run) even = let less : length run % 3 ≡ 0 = omega arith in omega (arith, count_triples (place + 3) run less)
+
+-- so many arguments make the tuples
+tuples_count : (pattern : MultiSlotArgPattern) (run : List (List ℕ)) → length run % width_of pattern ≡ 0 → length (tuples_from pattern 0 run) * width_of pattern ≡ length run
+tuples_count KeysOnly run even = count_alone 0 run
+tuples_count KeyValuePairs run even = count_pairs 0 run even
+tuples_count KeysAndLastArg run even = count_alone 0 run
+tuples_count KeyWithTwoArgTriples run even = count_triples 0 run even
+
+-- the places after the tuples of a complete run
+shared_after : (pattern : MultiSlotArgPattern) (m : ℕ) → is_complete pattern m ≡ true → range_with_len (own_count pattern m) (m - own_count pattern m) ≡ shared_places pattern (own_count pattern m)
+shared_after KeysOnly m complete = let none : m - m ≡ 0 = omega arith in ap (range_with_len m) none
+shared_after KeyValuePairs m complete = let none : m - m ≡ 0 = omega arith in ap (range_with_len m) none
+shared_after KeysAndLastArg m complete = let one : m - own_count KeysAndLastArg m ≡ 1 = grind (arith, nat_tests) in ap (range_with_len (own_count KeysAndLastArg m)) one
+shared_after KeyWithTwoArgTriples m complete = let none : m - m ≡ 0 = omega arith in ap (range_with_len m) none
+
+module _ (words : ℕ) (tables : NameTables) (args : Arguments) (pattern : MultiSlotArgPattern) (command : MultiKey) (made : IsMade words tables args pattern command) where
+  abbrev run : List (List ℕ)
+  run = present_arguments_after words args
+
+  own_is : own_count pattern (length run) ≡ length command.tuples * width_of pattern
+  own_is =
+      let whole = own_whole pattern (length run) (complete_fits pattern (length run) made.complete) in
+      let count = tuples_count pattern (take (own_count pattern (length run)) run) (ap (λ m. m % width_of pattern) (length-own pattern run) ∙ whole) in
+      sym (ap (λ ts. length ts * width_of pattern) made.tuples ∙ ap (λ n. n * width_of pattern) (length-map (tuples_in pattern run) unplaced) ∙ count ∙ length-own pattern run)
+
+  -- there are no more tuples than arguments
+  pub tuples_few_with : length command.tuples ≤ length args
+  tuples_few_with =
+      let own : own_count pattern (length run) ≤ length run = own_few pattern (length run) in
+      let few : length run ≤ length args - words = omega (arith, before_gap_short (drop words args), length-drop words args) in
+      let count : length command.tuples ≤ length command.tuples * width_of pattern = le_times pattern (length command.tuples) in
+      omega (arith, own_is)
+    where
+      le_times : (pattern : MultiSlotArgPattern) (n : ℕ) → n ≤ n * width_of pattern
+      le_times KeysOnly n = omega arith
+      le_times KeyValuePairs n = omega arith
+      le_times KeysAndLastArg n = omega arith
+      le_times KeyWithTwoArgTriples n = omega arith
+
+  part_place : (reads : Bool) (slot : ℕ) → (route_of_slot reads pattern run slot).1 ≡ places_of_part pattern command.tuples slot
+  part_place reads slot =
+      let own = own_count pattern (length run) in
+      let after = range_with_len own (length run - own) in
+      let first : AreWide (width_of pattern) (0 * width_of pattern) (tuples_in pattern run) =
+      subst (λ place. AreWide (width_of pattern) place (tuples_in pattern run)) (sym (zero-mul (width_of pattern))) (wide pattern 0 (take own run)) in
+      ap (λ ps. ps ++ after) (places_by_number (width_of pattern) slot 0 (tuples_in pattern run) first ∙ ap (λ ts. flat_map (argument_places (width_of pattern)) (numbers_from slot 0 ts)) (sym made.tuples))
+      ∙ ap (λ ps. flat_map (argument_places (width_of pattern)) (numbers_from slot 0 command.tuples) ++ ps) (shared_after pattern (length run) made.complete ∙ ap (shared_places pattern) own_is)
+
+  parts_placed : (reads : Bool) → All (λ r. r.1 ≡ places_of_part pattern command.tuples r.0.slot) (routes_of reads pattern run)
+  parts_placed reads = All-map (λ r. r.1 ≡ places_of_part pattern command.tuples r.0.slot) (route_of_slot reads pattern run) (first_appearances (map slot_of (tuples_in pattern run))) (λ k d inside. part_place reads _)
+
+-- the list of each route has the places of its part
+pub route_places_with : (words : ℕ) (tables : NameTables) (only_reads : List ℕ → Bool) (args : Arguments) (command : MultiKey) (pattern : MultiSlotArgPattern) (routes : List (SlotRoute × List ℕ))
+    → multi_key_with words tables args ≡ Some command → pattern_by_name_with tables (command_of args) ≡ Some pattern → multi_slot_routes_with words tables only_reads args ≡ Some routes
+    → All (λ r. r.1 ≡ places_of_part pattern command.tuples r.0.slot) routes
+route_places_with words tables only_reads args command pattern routes is by routed =
+    let made = is_made words tables args command is in
+    let same : made.0 ≡ pattern = cc (ap (pattern_by_name_with tables) made.1.name ∙ ap pattern_of made.1.split, by) in
+    let held : IsMade words tables args pattern command = subst (λ p. IsMade words tables args p command) same made.1 in
+    let routes-are : routes_of (only_reads command.name) pattern (present_arguments_after words args) ≡ routes = cc (routes_made words tables args pattern command held only_reads, routed) in
+    subst (All (λ r. r.1 ≡ places_of_part pattern command.tuples r.0.slot)) routes-are (parts_placed words tables args pattern command held (only_reads command.name))
+
+pub route_places : (only_reads : List ℕ → Bool) (args : Arguments) (command : MultiKey) (pattern : MultiSlotArgPattern) (routes : List (SlotRoute × List ℕ))
+    → multi_key args ≡ Some command → pattern_by_name (command_of args) ≡ Some pattern → multi_slot_routes only_reads args ≡ Some routes
+    → All (λ r. r.1 ≡ places_of_part pattern command.tuples r.0.slot) routes
+route_places only_reads args command pattern routes is by routed = route_places_with 1 own_tables only_reads args command pattern routes is by routed
+
+pub tuples_few : (args : Arguments) (command : MultiKey) → multi_key args ≡ Some command → length command.tuples ≤ length args
+tuples_few args command is = let made = is_made 1 own_tables args command is in tuples_few_with 1 own_tables args made.0 command made.1

@@ -1,0 +1,6 @@
+pub mod MultiKey
+pub mod Unsplit
+pub mod Orders
+pub mod SlotResults
+pub mod Trace
+pub mod Sent

@@ -1,0 +1,58 @@
+ghost use Rattle.std.specs.Prelude.{◌≡◌, ℕ, List, [], ◌∷◌, ◌++◌, Bool, false, Some, map, IfOk, OnOk, IfErr, IfSome, IsSome, ◌↔◌};
+ghost use Rattle.resp_core.specs.View.{view};
+ghost use Rattle.redis_nodes.specs.MultiKey.{multi_key};
+ghost use Rattle.redis_nodes.specs.Unsplit.{Step, Keyspace, keyspace_after, reply_to};
+ghost use Rattle.redis_nodes.specs.Trace.{Entry, Ending, answered, entry};
+ghost use Rattle.redis_nodes.specs.Sent.{IsUnanswered, ending_of};
+
+use cluster_slots::NodeAddress;
+use resp_core::{Cmd, RedisError, Value};
+
+/// Why a node did not answer.
+#[derive(Drop)]
+pub enum SendError {
+    /// The node refused the command, and did nothing.
+    Refused(RedisError),
+    /// Memory ran out before anything was sent.
+    Memory,
+}
+
+/// Nodes of one cluster, to which commands over many keys are sent.
+///
+/// `send` is all that a client writes. The rest is named by contracts alone: what commands mean,
+/// and what the nodes hold, have been sent and may refuse. All nodes share one keyspace: a command
+/// has the same effect and reply whichever node is named.
+pub trait Nodes {
+    /// What stands at a key.
+    ghost Cell: { Type 0 };
+
+    /// What one key of a command does to its cell and adds to the reply.
+    ghost step: { Step Cell };
+
+    /// What the nodes hold.
+    ghost keyspace: { Self → Keyspace Cell };
+
+    /// What was sent so far.
+    ghost trace: { Self → List Entry };
+
+    /// Whether the last send ran out of memory.
+    ghost mark: { Self → Bool };
+
+    /// Whether the send that finds so many entries in the trace may end so, without an answer.
+    ghost may_refuse: { Self → ℕ → Ending → Type 0 };
+
+    /// Sends a command over many keys, complete and without gaps, to a node.
+    ///
+    /// # Errors
+    ///
+    /// `Refused` where the node refused the command: the keyspace stays. `Memory` where memory ran
+    /// out: nothing was sent.
+    fn send(&mut self, node: &NodeAddress, cmd: &Cmd) -> Result<Value, SendError>
+        requires whole { IsSome (multi_key (map Some cmd.now)) }
+        ensures reply { IfOk result (λ value. IfSome (multi_key (map Some cmd.now)) (λ command. view value ≡ reply_to step command (keyspace self.old))) }
+        ensures keyspace { OnOk result (IfSome (multi_key (map Some cmd.now)) (λ command. keyspace self.new ≡ keyspace_after step command (keyspace self.old))) }
+        ensures trace { OnOk result (trace self.new ≡ trace self.old ++ entry node.now cmd.now answered ∷ []) }
+        ensures mark { OnOk result (mark self.new ≡ false) }
+        ensures unanswered { IfErr result (λ error. IsUnanswered (may_refuse self.old) (keyspace self.old) (keyspace self.new) (trace self.old) (trace self.new) (mark self.new) node.now cmd.now (ending_of error)) }
+        ensures may_refuse { (count : ℕ) (ending : Ending) → may_refuse self.new count ending ↔ may_refuse self.old count ending };
+}
