@@ -47,7 +47,10 @@ fn any_node(rt: HostRuntime) -> Result<(), Fail> {
     for text in ["EVAL s +0", "GET", "COMMAND", "TFUNCTION LIST x", "SCRIPT"] {
         let words = words_of(rt.alloc(), text)?;
         let want = match text {
-            "TFUNCTION LIST x" => Some(to_specific_node(Route::with_key(b"LIST", SlotAddr::Master))),
+            "TFUNCTION LIST x" => Some(to_specific_node(Route::with_key(
+                b"LIST",
+                SlotAddr::Master,
+            ))),
             _ => Some(to_any()),
         };
         assert!(rt; goes(rt.alloc(), &words, want)?, "{text}");

@@ -75,7 +75,11 @@ const ROUTED_NAMES: [(RouteBy, &str); 13] = [
 fn each_name_is_routed_as_listed(rt: HostRuntime) {
     for (route_by, names) in ROUTED_NAMES {
         for name in names.split(", ") {
-            assert_eq!(rt; base_routing(name.as_bytes()), Some(route_by), "routing of {name}");
+            assert_eq!(rt;
+                base_routing(name.as_bytes()),
+                Some(route_by),
+                "routing of {name}"
+            );
         }
     }
 }

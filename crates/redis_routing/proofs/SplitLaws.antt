@@ -61,7 +61,7 @@ module _ (words : ℕ) (tables : NameTables) (P : MultiSlotArgPattern → List (
   of_route_by (Some (route_by.KeyAt n)) h = of_key _
   of_route_by (Some route_by.KeyAfterStreams) h = of_key_after _
   of_route_by (Some route_by.Random) h = tt
-  of_route_by (Some (route_by.SlotAt n)) h = of_slot _
+  of_route_by (Some (route_by.SlotAt n)) h = of_slot (argument_number 16 (argument args n))
 
 -- the laws of the routes of a command whose name has so many words, under some tables of names
 module _ (words : ℕ) (tables : NameTables) (only_reads : List ℕ → Bool) (args : Arguments) (name : List ℕ) where

@@ -7,7 +7,7 @@ ghost use Rattle.redis_routing.specs.Split.{Split, IsSplit, route_part, policy_b
 ghost use Rattle.redis_routing.specs.RoutingInfo.{route_lists};
 ghost use Rattle.redis_commands.specs.RouteBy.{base_routing};
 
-use super::splitting::{NAME_WORDS, routes_by_slot, present_len};
+use super::splitting::{NAME_WORDS, present_len, routes_by_slot};
 use super::sub_commands::sub_command;
 use cluster_slots::Route;
 use redis_commands::{
