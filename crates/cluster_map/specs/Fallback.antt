@@ -18,5 +18,5 @@ fallback nodes ReplicaRequired = nodes.replicas
 abbrev pub IsFallback : List (Entry SlotNodes) → SlotRoute → List Address → Type 0
 IsFallback entries route addresses =
     (IsUncovered entries route.slot × (addresses ≡ []))
-        ⊎ ((nodes : SlotNodes) × IsAnswerAt entries route.slot nodes
-            × (addresses ≡ fallback nodes route.addr))
+    ⊎ ((nodes : SlotNodes) × IsAnswerAt entries route.slot nodes
+    × (addresses ≡ fallback nodes route.addr))

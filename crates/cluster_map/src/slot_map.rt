@@ -186,7 +186,7 @@ impl SlotMap {
         // Where no two of the ranges meet and none is reversed, each has its entry,
         ensures kept { AreDisjoint (map range_entry slots.items)
             → IfOk result (λ m. (e : Entry SlotNodes)
-                → Contains m e ↔ Contains (map range_entry slots.items) e) }
+            → Contains m e ↔ Contains (map range_entry slots.items) e) }
         // and their order does not count.
         ensures any_order { (others : List RangeNodes) → IsPermutation slots.items others
             → AreDisjoint (map range_entry slots.items)
@@ -223,13 +223,13 @@ impl SlotMap {
     ) -> Option<&NodeAddress>
         ensures node { MatchOption result (IsUncovered self.now route.slot)
             (λ address. MatchOption strategy.entry (IsNodeOfRoute self.now route pick address.now)
-                (λ s. IsPickedNode (picks s.now) self.now route address.now)) }
+            (λ s. IsPickedNode (picks s.now) self.now route address.now)) }
         // In the map of a reply it is the node that the reply says.
         ensures reply { (answering : List ℕ) (reply : Reply) → self.now ≡ entries_in answering reply
             → MatchOption result (IsUncovered (entries_in answering reply) route.slot)
             (λ address. MatchOption strategy.entry
-                (IsNodeOfRoute (entries_in answering reply) route pick address.now)
-                (λ s. IsPickedNode (picks s.now) (entries_in answering reply) route address.now)) }
+            (IsNodeOfRoute (entries_in answering reply) route pick address.now)
+            (λ s. IsPickedNode (picks s.now) (entries_in answering reply) route address.now)) }
         // So one range at most answers for a slot.
         ensures order { Ascends self.now }
     {
@@ -248,9 +248,9 @@ impl SlotMap {
     ) -> Result<Vec<Option<&NodeAddress>>, AllocError>
         ensures each { IfOk result (λ found. AllZip
             (λ route node. MatchOption node (IsUncovered self.now route.0.slot)
-                (λ address. MatchOption strategy.entry
-                    (IsNodeOfRoute self.now route.0 pick address.now)
-                    (λ s. IsPickedNode (picks s.now) self.now route.0 address.now)))
+            (λ address. MatchOption strategy.entry
+            (IsNodeOfRoute self.now route.0 pick address.now)
+            (λ s. IsPickedNode (picks s.now) self.now route.0 address.now)))
             routes.now found.items) }
     {
         let mut found = Vec::with_capacity(alloc, routes.len())?;

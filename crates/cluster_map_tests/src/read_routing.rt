@@ -17,8 +17,11 @@ pub struct FirstReplica;
 impl ReadRoutingStrategy for FirstReplica {
     ghost picks = { λ s c address. slice_get c.replicas 0 ≡ Some address };
 
-    ghost picks_candidates = { λ s c address h. inr (0, slice_get_within c.replicas 0 address h,
-        get_or_from_slice_get c.replicas 0 address address h) };
+    ghost picks_candidates = { λ s c address h. inr (
+      0,
+      slice_get_within c.replicas 0 address h,
+      get_or_from_slice_get c.replicas 0 address address h,
+    ) };
 
     fn route_read<'a>(&self, candidates: &ReadCandidates<'a>) -> &'a NodeAddress {
         match candidates {

@@ -27,7 +27,7 @@ IsHashTag key t = HasTag key t ⊎ ((t ≡ key) × HasNoTag key)
 abbrev pub tag_in : List ℕ → List ℕ → List ℕ
 tag_in key rest =
     cond (list_any (nat_eq close_brace) rest
-        && nat_lt 0 (length (before_first (nat_eq close_brace) rest)))
+    && nat_lt 0 (length (before_first (nat_eq close_brace) rest)))
     (before_first (nat_eq close_brace) rest) key
 
 abbrev pub hash_tag : List ℕ → List ℕ

@@ -154,9 +154,8 @@ impl Eq for NodeAddress {
 impl PartialOrd for NodeAddress {
     ghost partial_cmp = { as_partial_cmp address_cmp };
 
-    ghost laws = {
-        partial_order_from_own_ties
-            (Prim.search (comparing, rules)) (Prim.search (comparing, rules)) };
+    ghost laws = { partial_order_from_own_ties
+        (Prim.search (comparing, rules)) (Prim.search (comparing, rules)) };
 
     fn partial_cmp(&self, other: &Self) -> Option<Ordering> {
         Some(self.cmp(other))

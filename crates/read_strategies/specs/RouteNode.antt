@@ -15,13 +15,13 @@ IsNodeFor nodes Master pick address = address ≡ nodes.primary
 IsNodeFor nodes ReplicaOptional pick address = address ≡ nodes.primary
 IsNodeFor nodes ReplicaRequired pick address =
     MatchOption (slice_get nodes.replicas (pick % length nodes.replicas)) (address ≡ nodes.primary)
-        (λ replica. address ≡ replica)
+    (λ replica. address ≡ replica)
 
 -- where there are replicas, the address is a candidate that a strategy picks, else the primary
 abbrev pub IsPick : (Candidates → Address → Type 0) → SlotNodes → Candidates → Address → Type 0
 IsPick picks nodes candidates address =
     (length nodes.replicas ≡ 0 → address ≡ nodes.primary)
-        × (0 < length nodes.replicas → picks candidates address × IsCandidate candidates address)
+    × (0 < length nodes.replicas → picks candidates address × IsCandidate candidates address)
 
 -- the address is the one that a strategy gives a route among a slot's nodes: the strategy is asked
 -- for reads alone, and where a replica is required the primary is no candidate

@@ -89,4 +89,4 @@ abbrev pub Agrees : List (Entry SlotNodes) → Topology → Type 0
 Agrees es t =
     (slot : ℕ) (address : Address)
     → IsNodeOfRoute es (record { slot = slot; addr = Master }) 0 address
-        ↔ ((shard : ShardNodes) × IsShardAt t slot shard × (shard.primary ≡ address))
+    ↔ ((shard : ShardNodes) × IsShardAt t slot shard × (shard.primary ≡ address))

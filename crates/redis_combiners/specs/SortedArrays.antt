@@ -25,7 +25,7 @@ array_by_places None replies = Err Client
 array_by_places (Some lists) replies =
     if length replies == length lists
     then array_or_refusal (first_misfit replies (map length lists))
-        (option_and_then (by_places (flatten lists)) (all_items replies))
+    (option_and_then (by_places (flatten lists)) (all_items replies))
     else Err Client
 
 -- the one array for the replies to the parts with these lists of arguments, or the kind of the

@@ -16,9 +16,9 @@ use std::alloc::{AllocError, Global};
 pub fn combine_array_results(alloc: Global, values: Vec<Value>) -> RedisResult<Value>
     ensures { MatchResult result
         (λ value. option_map (λ items. array (replies_of items)) (all_items (map view values.items))
-            ≡ Some (view value))
+        ≡ Some (view value))
         (λ fault. (fault ≡ out_of_memory)
-            ⊎ ((all_items (map view values.items) ≡ None) × (fault.kind ≡ UnexpectedReturnType))) }
+        ⊎ ((all_items (map view values.items) ≡ None) × (fault.kind ≡ UnexpectedReturnType))) }
 {
     match collect_items(alloc, values)? {
         Some(items) => Ok(Value::Array(items)),

@@ -16,8 +16,8 @@ use std::alloc::{AllocError, Global};
 ///
 /// # Errors
 ///
-/// `UnexpectedReturnType` where a reply is not an array of 0 and 1, or its length is not that of the
-/// first, or out of memory.
+/// `UnexpectedReturnType` where a reply is not an array of 0 and 1, or its length is not that of
+/// the first, or out of memory.
 pub fn logical_aggregate(
     alloc: Global,
     values: Vec<Value>,
@@ -25,11 +25,11 @@ pub fn logical_aggregate(
 ) -> RedisResult<Value>
     ensures { MatchResult result
         (λ value. option_map (λ items. array (replies_of items))
-                (logical_items op (map view values.items))
-            ≡ Some (view value))
+        (logical_items op (map view values.items))
+        ≡ Some (view value))
         (λ fault. (fault ≡ out_of_memory)
-            ⊎ ((logical_items op (map view values.items) ≡ None)
-                × (fault.kind ≡ UnexpectedReturnType))) }
+        ⊎ ((logical_items op (map view values.items) ≡ None)
+        × (fault.kind ≡ UnexpectedReturnType))) }
 {
     match items(alloc, &values, op)? {
         Some(items) => Ok(Value::Array(items)),

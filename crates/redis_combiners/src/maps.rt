@@ -23,16 +23,16 @@ use std::collections::BTreeMap;
 ///
 /// # Errors
 ///
-/// `UnexpectedReturnType` where a reply is not an array of bulk strings and numbers in turn, or where
-/// the sum of a key does not fit in an i64; a running sum may leave the i64, since it is taken in
-/// 128 bits. Or out of memory, as 2^63 pairs always are.
+/// `UnexpectedReturnType` where a reply is not an array of bulk strings and numbers in turn, or
+/// where the sum of a key does not fit in an i64; a running sum may leave the i64, since it is taken
+/// in 128 bits. Or out of memory, as 2^63 pairs always are.
 #[tactic(auto, using(crate::proofs::TotalOrders::any_order))]
 pub fn combine_map_results(alloc: Global, values: Vec<Value>) -> RedisResult<Value>
     ensures answer { MatchResult result
         (λ value. combined_map (map view values.items) ≡ Some (view value))
         (λ fault. (fault ≡ out_of_memory)
-            ⊎ ((combined_map (map view values.items) ≡ None)
-                × (fault.kind ≡ UnexpectedReturnType))) }
+        ⊎ ((combined_map (map view values.items) ≡ None)
+        × (fault.kind ≡ UnexpectedReturnType))) }
     ensures listing { (all : List KeyNumber) → IsListing all (totals all) }
     ensures any_order { (others : List Reply) → IsPermutation (map view values.items) others
         → combined_map others ≡ combined_map (map view values.items) }
@@ -76,7 +76,7 @@ fn collect_pairs(
 /// Adds the pairs of the items, if these are bulk strings and numbers in turn.
 fn add_pairs(pairs: &mut Vec<(Vec<u8>, i64)>, items: Vec<Value>) -> Result<bool, AllocError>
     ensures { IfOk result (λ ok. option_map (λ ps. plain_pairs pairs.old.items ++ ps)
-            (pairs_among (map view items.items))
+        (pairs_among (map view items.items))
         ≡ (if ok then Some (plain_pairs pairs.new.items) else None)) }
 {
     let mut rest = items.into_iter();
@@ -115,9 +115,9 @@ fn add(sums: &mut BTreeMap<Vec<u8>, i128>, key: Vec<u8>, n: i64) -> Result<(), A
     requires { FitsSigned w128 (unwrap_or (number_at sums.old.entries key.items) (pos 0) +ℤ n) }
     ensures { OnOk result ((q : List ℕ)
         → number_at sums.new.entries q
-            ≡ cond (bytes_eq key.items q)
-                (Some (unwrap_or (number_at sums.old.entries key.items) (pos 0) +ℤ n))
-                (number_at sums.old.entries q)) }
+        ≡ cond (bytes_eq key.items q)
+        (Some (unwrap_or (number_at sums.old.entries key.items) (pos 0) +ℤ n))
+        (number_at sums.old.entries q)) }
 {
     let total = sum_at(sums, &key) + i128::from(n);
     sums.insert(key, total)?;

@@ -32,12 +32,12 @@ pub fn combine_and_sort_array_results(
 ) -> RedisResult<Value>
     ensures answer { MatchResult result
         (λ value. sorted_arrays pattern.now (map view values.items)
-                (map (λ route. route.1.items) sorting_order.now)
-            ≡ Ok (view value))
+        (map (λ route. route.1.items) sorting_order.now)
+        ≡ Ok (view value))
         (λ fault. (fault ≡ out_of_memory)
-            ⊎ (sorted_arrays pattern.now (map view values.items)
-                    (map (λ route. route.1.items) sorting_order.now)
-                ≡ Err fault.kind)) }
+        ⊎ (sorted_arrays pattern.now (map view values.items)
+        (map (λ route. route.1.items) sorting_order.now)
+        ≡ Err fault.kind)) }
     ensures at_place { IfOk result (λ value. AreAtPlaces pattern.now (map view values.items)
         (map (λ route. route.1.items) sorting_order.now) (view value)) }
 {

@@ -19,7 +19,7 @@ pub fn aggregate(values: Vec<Value>, op: AggregateOp) -> RedisResult<Value>
     ensures answer { MatchResult result
         (λ value. aggregate_of op (map view values.items) ≡ Some (view value))
         (λ fault. (aggregate_of op (map view values.items) ≡ None)
-            × (fault.kind ≡ UnexpectedReturnType)) }
+        × (fault.kind ≡ UnexpectedReturnType)) }
     ensures any_order { (others : List Reply) → IsPermutation (map view values.items) others
         → aggregate_of op others ≡ aggregate_of op (map view values.items) }
 {

@@ -300,7 +300,7 @@ module _ (pattern : MultiSlotArgPattern) (present : List (List ℕ)) where
 -- the cover law of the routes of a split
 pub covers : (reads : Bool) (pattern : MultiSlotArgPattern) (present : List (List ℕ)) → fits pattern (length present) ≡ true → Covers pattern present (routes_of reads pattern present)
 covers reads pattern present whole = record {
-  key_slots = one_route pattern present reads;
+  slots = one_route pattern present reads;
   ascending = lists_ascend pattern present reads whole;
   once = in_one pattern present reads whole;
   shared = in_each pattern present reads;

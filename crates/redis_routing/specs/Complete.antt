@@ -69,7 +69,7 @@ abbrev pub AreSubCommandsWith : ℕ → NameTables → Arguments → List (SlotR
 AreSubCommandsWith words tables args routes =
     All
     (λ r. option_map (map Some) (sub_command_after words args r.1)
-        ≡ Some (part_by_name_with words tables args r.0.slot))
+    ≡ Some (part_by_name_with words tables args r.0.slot))
     routes
 
 abbrev pub AreSubCommands : Arguments → List (SlotRoute × List ℕ) → Type 0

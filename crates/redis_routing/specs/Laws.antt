@@ -34,7 +34,7 @@ abbrev pub ArePartsRoutedWith : ℕ → NameTables → (List ℕ → Bool) → A
 ArePartsRoutedWith words tables only_reads args pattern routes =
     All
     (λ r. routing_with words tables only_reads (part_of_slot_after words pattern args r.0.slot)
-        ≡ Some (single_node (specific_node r.0)))
+    ≡ Some (single_node (specific_node r.0)))
     routes
 
 abbrev pub ArePartsRouted : (List ℕ → Bool) → Arguments → MultiSlotArgPattern
@@ -48,7 +48,7 @@ abbrev pub ArePartsPickedAfter : ℕ → Arguments → MultiSlotArgPattern → L
 ArePartsPickedAfter words args pattern routes =
     All
     (λ r. option_map (map Some) (sub_command_after words args r.1)
-        ≡ Some (part_of_slot_after words pattern args r.0.slot))
+    ≡ Some (part_of_slot_after words pattern args r.0.slot))
     routes
 
 abbrev pub ArePartsPicked : Arguments → MultiSlotArgPattern → List (SlotRoute × List ℕ) → Type 0

@@ -25,7 +25,7 @@ abbrev pub places_in_slot : MultiSlotArgPattern → List (List ℕ) → ℕ → 
 places_in_slot pattern present slot =
     flat_map places_of (tuples_in_slot slot (tuples_in pattern present))
     ++ range_with_len (own_count pattern (length present))
-        (length present - own_count pattern (length present))
+    (length present - own_count pattern (length present))
 
 -- the arguments of a slot's tuples, and then the shared one
 abbrev pub arguments_in_slot : MultiSlotArgPattern → List (List ℕ) → ℕ → List (List ℕ)

@@ -9,7 +9,7 @@ use Rattle.redis_commands.specs.Lists.{all_some}
 abbrev pub sub_command_after : ℕ → Arguments → List ℕ → Option (List (List ℕ))
 sub_command_after words args places =
     all_some (map (λ place. argument args place) (range_with_len 0 words)
-        ++ map (λ place. argument args (place + words)) places)
+    ++ map (λ place. argument args (place + words)) places)
 
 -- the first argument and those at these places after it, if they are all there
 abbrev pub sub_command : Arguments → List ℕ → Option (List (List ℕ))

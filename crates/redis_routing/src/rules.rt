@@ -22,7 +22,8 @@ impl RoutingInfo {
     ///
     /// A command over many keys goes to one node where all keys have one slot, and else has a route
     /// for each slot of a key, by the first key of each, with the places of its part as
-    /// `command_for_multi_slot_indices` takes them. The ASCII case of the first word changes nothing.
+    /// `command_for_multi_slot_indices` takes them. The ASCII case of the first word changes
+    /// nothing.
     ///
     /// # Errors
     ///
@@ -36,7 +37,7 @@ impl RoutingInfo {
             ≡ routing (is_among read_only.now) (R.args command.now)) }
         ensures case { (other : Arguments) → IsRespelt (R.args command.now) other
             → routing (is_among read_only.now) other
-                ≡ routing (is_among read_only.now) (R.args command.now) }
+            ≡ routing (is_among read_only.now) (R.args command.now) }
         ensures cover { IfOk result (λ info. IfSplit
             (λ pattern routes. Covers pattern (present_arguments (R.args command.now)) routes)
             (option_map as_routing info)) }
@@ -45,7 +46,7 @@ impl RoutingInfo {
             (option_map as_routing info)) }
         ensures parts { IfOk result (λ info. IfSplit
             (λ pattern routes. ArePartsRouted (is_among read_only.now) (R.args command.now) pattern
-                routes)
+            routes)
             (option_map as_routing info)) }
     {
         let Some(name) = command.command(alloc)? else {
@@ -121,7 +122,7 @@ fn by_count<R: Routable>(command: &R, place: usize, reads: bool) -> Option<Routi
     requires { place < 2 ^ 16 }
     ensures { option_map as_routing result
         ≡ by_count reads (argument_number 64 (argument (R.args command.now) place))
-            (argument (R.args command.now) (place + 1)) }
+        (argument (R.args command.now) (place + 1)) }
 {
     let count = parse_u64(command.arg_idx(place)?)?;
     if count == 0 {
@@ -133,7 +134,7 @@ fn by_count<R: Routable>(command: &R, place: usize, reads: bool) -> Option<Routi
 fn after_streams<R: Routable>(command: &R, reads: bool) -> Option<RoutingInfo>
     ensures { option_map as_routing result
         ≡ to_key_after reads (R.args command.now)
-            (position (is_word (codes "STREAMS")) (R.args command.now)) }
+        (position (is_word (codes "STREAMS")) (R.args command.now)) }
 {
     let place = command.position(b"STREAMS")?;
     to_key(command.arg_idx(place + 1), reads)

@@ -38,12 +38,20 @@ impl<'a, R: Routable> Model for SplitCommand<'a, R> {
     ghost Value = { Split };
 
     ghost view = { λ s. record {
-        arguments = R.args s.command.now; words = s.words; routes = route_lists s.routes.items;
-        pattern = s.pattern; policy = s.policy } };
+      arguments = R.args s.command.now;
+      words = s.words;
+      routes = route_lists s.routes.items;
+      pattern = s.pattern;
+      policy = s.policy;
+    } };
 
     ghost invariant = { λ s. IsSplit (record {
-        arguments = R.args s.command.now; words = s.words; routes = route_lists s.routes.items;
-        pattern = s.pattern; policy = s.policy }) };
+      arguments = R.args s.command.now;
+      words = s.words;
+      routes = route_lists s.routes.items;
+      pattern = s.pattern;
+      policy = s.policy;
+    }) };
 }
 
 impl<'a, R: Routable> SplitCommand<'a, R> {

@@ -84,11 +84,11 @@ fn group_by_slot<R: Routable>(
         ≡ own_count pattern (length (present_arguments_after words (R.args command.now))) }
     ensures order { IfOk result (λ groups. keys groups
         ≡ first_appearances (map slot_of
-            (tuples_in pattern (present_arguments_after words (R.args command.now))))) }
+        (tuples_in pattern (present_arguments_after words (R.args command.now))))) }
     ensures places { IfOk result (λ groups. (s : ℕ)
         → list_or_empty (get nat_eq groups s)
-            ≡ flat_map places_of (tuples_in_slot s
-                (tuples_in pattern (present_arguments_after words (R.args command.now))))) }
+        ≡ flat_map places_of (tuples_in_slot s
+        (tuples_in pattern (present_arguments_after words (R.args command.now))))) }
 {
     let width = pattern.width();
     let mut groups: IndexMap<u16, Vec<usize>> = IndexMap::new(alloc);
@@ -119,15 +119,15 @@ fn add(
     requires { place + width < 2 ^ 64 }
     ensures places { OnOk result ((s : ℕ)
         → list_or_empty (get nat_eq groups.new s)
-            ≡ (if nat_eq slot s
-                then list_or_empty (get nat_eq groups.old s) ++ range_with_len place width
-                else list_or_empty (get nat_eq groups.old s))) }
+        ≡ (if nat_eq slot s
+        then list_or_empty (get nat_eq groups.old s) ++ range_with_len place width
+        else list_or_empty (get nat_eq groups.old s))) }
     ensures found { OnOk result ((s : ℕ)
         → is_some (get nat_eq groups.new s)
-            ≡ (nat_eq slot s || is_some (get nat_eq groups.old s))) }
+        ≡ (nat_eq slot s || is_some (get nat_eq groups.old s))) }
     ensures order { OnOk result (keys groups.new
         ≡ (if is_some (get nat_eq groups.old slot) then keys groups.old
-            else keys groups.old ++ slot ∷ [])) }
+        else keys groups.old ++ slot ∷ [])) }
 {
     match groups.get_mut(&slot) {
         Some(places) => push_places(places, place, place + width),
@@ -158,7 +158,7 @@ fn routes_of_groups(
 ) -> Result<Vec<(Route, Vec<usize>)>, AllocError>
     ensures routes { IfOk result (λ routes. route_lists routes.items
         ≡ map (route_of_group nodes (range_with_len own (count - own)))
-            (entry_groups groups.entries)) }
+        (entry_groups groups.entries)) }
     ensures unique { OnOk result (IsUnique nat_eq groups) }
 {
     let mut routes = Vec::with_capacity(alloc, groups.len())?;

@@ -25,7 +25,7 @@ pub fn command_for_multi_slot_indices<R: Routable>(
 ) -> RedisResult<Cmd>
     ensures made { IfOk result (λ cmd. sub_command (R.args original.now) indices.now ≡ Some cmd) }
     ensures refused { IfErr result (λ fault. ((sub_command (R.args original.now) indices.now ≡ None)
-            × (fault.kind ≡ Client))
+        × (fault.kind ≡ Client))
         ⊎ (fault ≡ out_of_memory)) }
 {
     match sub_command(alloc, original, NAME_WORDS, indices)? {

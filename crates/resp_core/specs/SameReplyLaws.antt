@@ -49,7 +49,7 @@ mutual
   same_replies-tells no_replies no_replies h = refl
   same_replies-tells (reply x xs) (reply y ys) h =
       λ i. reply (same_reply-tells x y (and-first _ _ h) i)
-          (same_replies-tells xs ys (and-second (same_reply x y) _ h) i)
+      (same_replies-tells xs ys (and-second (same_reply x y) _ h) i)
   same_replies-tells a b h = absurd (false≢true h)
 
   same_pairs-tells : (a b : Pairs) → same_pairs a b ≡ true → a ≡ b
@@ -57,8 +57,8 @@ mutual
   same_pairs-tells (pair k v ps) (pair l w qs) h =
       let keys_and_values = and-first (same_reply k l && same_reply v w) _ h in
       λ i. pair (same_reply-tells k l (and-first _ _ keys_and_values) i)
-          (same_reply-tells v w (and-second (same_reply k l) _ keys_and_values) i)
-          (same_pairs-tells ps qs (and-second (same_reply k l && same_reply v w) _ h) i)
+      (same_reply-tells v w (and-second (same_reply k l) _ keys_and_values) i)
+      (same_pairs-tells ps qs (and-second (same_reply k l && same_reply v w) _ h) i)
   same_pairs-tells a b h = absurd (false≢true h)
 
 pub same_reply-Decides : (a b : Reply) → Decides (same_reply a b) (a ≡ b)

@@ -33,8 +33,11 @@ impl Model for RedisError {
 
     ghost Value = { ErrorParts };
 
-    ghost view = { λ e. record
-        { kind = e.kind; desc = e.desc.now; detail = option_map string_bytes e.detail } };
+    ghost view = { λ e. record {
+      kind = e.kind;
+      desc = e.desc.now;
+      detail = option_map string_bytes e.detail;
+    } };
 }
 
 /// An answer of the layer, or why there is none.

@@ -24,7 +24,7 @@ Ascends (e ∷ es) = EndsAfter (end_of e) es × Ascends es
 abbrev pub insert_entry : {V : Type 0} → List (Entry V) → ℕ → ℕ → V → List (Entry V)
 insert_entry es start end value =
     filter (λ e. nat_lt (end_of e) end) es ++ (start, end, value)
-        ∷ filter (λ e. nat_lt end (end_of e)) es
+    ∷ filter (λ e. nat_lt end (end_of e)) es
 
 -- the entry holds the slot, and none ends between the slot and the end of this one
 pub record IsAnswerAt {V : Type 0} (es : List (Entry V)) (slot : ℕ) (value : V) : Type 0 where

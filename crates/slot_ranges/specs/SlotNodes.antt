@@ -33,7 +33,7 @@ abbrev pub same_range : RangeNodes → RangeNodes → Bool
 same_range =
     eq_of_both (on (λ r. r.start) ◌==◌)
     (eq_of_both (on (λ r. r.end) ◌==◌) (eq_of_both (on (λ r. r.master) same_address)
-        (on (λ r. r.replicas) (pointwise same_address))))
+    (on (λ r. r.replicas) (pointwise same_address))))
 
 -- the entries after the ranges are put in, in order
 abbrev pub insert_ranges : List (Entry SlotNodes) → List RangeNodes → List (Entry SlotNodes)

@@ -21,8 +21,12 @@ impl Model for SlotRange {
 
     ghost Value = { RangeNodes };
 
-    ghost view = { λ r. record
-        { start = r.start; end = r.end; master = r.master; replicas = r.replicas.items } };
+    ghost view = { λ r. record {
+      start = r.start;
+      end = r.end;
+      master = r.master;
+      replicas = r.replicas.items;
+    } };
 }
 
 impl SlotRange {

@@ -68,7 +68,7 @@ impl<V> SlotRangeMap<V> {
         // the slot.
         ensures disjoint { AreDisjoint self.now
             → MatchOption result (IsHeldByNone self.now slot) (λ value. IsHeldWith self.now slot
-                value.now) }
+            value.now) }
         ensures order { Ascends self.now }
     {
         let (_, (start, value)) = self.ranges.range(slot..).next()?;

@@ -18,7 +18,7 @@ IsMapLine (start ∷ []) range = ⊥
 IsMapLine (start ∷ end ∷ []) range = ⊥
 IsMapLine (start ∷ end ∷ primary ∷ replicas) range =
     (number_in 16 start ≡ Some range.start) × (number_in 16 end ≡ Some range.end)
-        × IsNodeField primary range.master × AllZip IsNodeField replicas range.replicas
+    × IsNodeField primary range.master × AllZip IsNodeField replicas range.replicas
 
 -- the lines are map lines, and these are their ranges
 abbrev pub IsMap : List (List (List ℕ)) → List RangeNodes → Type 0

@@ -81,7 +81,7 @@ abbrev pub Serves : Type 0 → Type 0 → Type 0 → List (List ℕ) → Option 
     → Option (List ℕ) → Option (List ℕ) → Option (List ℕ) → Option (List ℕ) → ℕ → Type 0
 Serves reads writes tells words input left out_old out_new err_old err_new status =
     HasOutput words input left out_old out_new err_old err_new status
-        ⊎ HasFault reads writes tells words input left out_old out_new err_old err_new status
+    ⊎ HasFault reads writes tells words input left out_old out_new err_old err_new status
 
 -- memory was refused, of which the whole line was told
 pub record RanOutOfMemory (out_old out_new err_old err_new : Option (List ℕ)) (status : ℕ)

@@ -127,7 +127,7 @@ fn node_of(alloc: Global, field: &[u8]) -> Result<Option<NodeAddress>, AllocErro
 fn nodes_of(alloc: Global, fields: &[&[u8]]) -> Result<Option<Vec<NodeAddress>>, AllocError>
     ensures { IfOk result (λ nodes. MatchOption nodes
         ((addresses : List Address)
-            → ¬ (AllZip IsNodeField (map (λ field. field.now) fields.now) addresses))
+        → ¬ (AllZip IsNodeField (map (λ field. field.now) fields.now) addresses))
         (λ nodes. AllZip IsNodeField (map (λ field. field.now) fields.now) nodes.items)) }
 {
     let mut nodes = Vec::with_capacity(alloc, fields.len())?;

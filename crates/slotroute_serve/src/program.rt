@@ -48,16 +48,15 @@ pub fn serve_streams<R: Source, O: Sink, E: Sink>(
     out: &mut O,
     err: &mut E,
 ) -> u8
-    ensures served {
-        Serves (MayFailToRead R.fails) (MayFailToWrite O.fails) (MayFailToWrite E.fails)
-        (map string_bytes words.now) (R.remaining reader.old) (R.remaining reader.new)
+    ensures served { Serves (MayFailToRead R.fails) (MayFailToWrite O.fails)
+        (MayFailToWrite E.fails) (map string_bytes words.now) (R.remaining reader.old) (R.remaining reader.new)
         (O.contents out.old) (O.contents out.new) (E.contents err.old) (E.contents err.new) result }
     ensures steady { ¬ (MayFailToRead R.fails) → ¬ (MayFailToWrite O.fails)
         → ¬ (MayFailToWrite E.fails)
         → HasOutput (map string_bytes words.now) (R.remaining reader.old) (R.remaining reader.new)
         (O.contents out.old) (O.contents out.new) (E.contents err.old) (E.contents err.new) result
         ⊎ RanOutOfMemory (O.contents out.old) (O.contents out.new) (E.contents err.old)
-            (E.contents err.new) result }
+        (E.contents err.new) result }
     ensures untouched { ¬ (IsRequest (map string_bytes words.now)) → reader.new ≡ reader.old }
 {
     match run(alloc, words, reader, out) {
@@ -97,7 +96,7 @@ fn run<R: Source, O: Sink>(
 fn answer(alloc: Global, map: &SlotMap, request: &Request) -> Result<(Vec<u8>, u8), Fault>
     ensures { MatchResult result
         (λ answer. (words : List (List ℕ)) → Asks words request.now
-            → IsAnswer map.now words answer.0.items answer.1)
+        → IsAnswer map.now words answer.0.items answer.1)
         (WhyNoAnswer request.now) }
 {
     match request {

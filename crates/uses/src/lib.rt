@@ -33,7 +33,7 @@ pub fn primary_of<'a>(map: &'a SlotMap, key: &[u8]) -> Option<&'a NodeAddress>
     ensures { MatchOption result
         (IsUncovered map.now (key_slot key.now))
         (λ node. IsNodeOfRoute map.now (record { slot = key_slot key.now; addr = Master }) 0
-            node.now) }
+        node.now) }
 {
     map.slot_addr_for_route(Route::with_key(key, SlotAddr::Master), None, 0)
 }
@@ -56,7 +56,7 @@ pub fn deleted(replies: Vec<Value>) -> RedisResult<Value>
     ensures { MatchResult result
         (λ count. aggregate_of Sum (map view replies.items) ≡ Some (view count))
         (λ error. (aggregate_of Sum (map view replies.items) ≡ None)
-            × (error.kind ≡ UnexpectedReturnType)) }
+        × (error.kind ≡ UnexpectedReturnType)) }
 {
     aggregate(replies, AggregateOp::Sum)
 }

@@ -84,7 +84,10 @@ impl<'a> ReadCandidates<'a> {
     /// Candidates of a read that the primary may answer too.
     pub fn any_node(slot: u16, primary: &'a NodeAddress, replicas: Replicas<'a>) -> Self
         ensures { candidates_of result ≡ record {
-            slot = slot; primary = Some primary.now; replicas = addresses_of replicas.entry } }
+          slot = slot;
+          primary = Some primary.now;
+          replicas = addresses_of replicas.entry;
+        } }
     {
         ReadCandidates::AnyNode(AnyNodeCandidates {
             slot,

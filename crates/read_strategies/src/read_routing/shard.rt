@@ -19,7 +19,10 @@ impl Model for Shard {
     ghost Value = { ShardNodes };
 
     ghost view = { λ s. record {
-        ranges = s.ranges.items; primary = s.primary; replicas = s.replicas.items } };
+      ranges = s.ranges.items;
+      primary = s.primary;
+      replicas = s.replicas.items;
+    } };
 }
 
 impl Shard {
@@ -64,8 +67,10 @@ impl Shard {
     pub fn push_range(&mut self, start: u16, end: u16) -> Result<(), AllocError>
         ensures unchanged { OnErr result (self.new ≡ self.old) }
         ensures added { OnOk result (self.new ≡ record {
-            ranges = self.old.ranges ++ (start, end) ∷ [];
-            primary = self.old.primary; replicas = self.old.replicas }) }
+          ranges = self.old.ranges ++ (start, end) ∷ [];
+          primary = self.old.primary;
+          replicas = self.old.replicas;
+        }) }
     {
         self.ranges.push((start, end))?;
         Ok(())
@@ -80,7 +85,10 @@ impl Shard {
         replicas: &Vec<NodeAddress>,
     ) -> Result<Self, AllocError>
         ensures { IfOk result (λ s. s ≡ record {
-            ranges = (start, end) ∷ []; primary = primary.now; replicas = replicas.now.items }) }
+          ranges = (start, end) ∷ [];
+          primary = primary.now;
+          replicas = replicas.now.items;
+        }) }
     {
         let mut ranges = Vec::new(alloc);
         ranges.push((start, end))?;

@@ -50,7 +50,7 @@ fn add_inside<'a>(
     ensures different { IfOk result (λ alike. IsFalse alike → ¬ (view a.now ≡ view b.now)) }
     ensures fewer { IfOk result (λ alike. IsTrue alike
         → steps_waiting waiting.new.items
-            < steps_waiting waiting.old.items + steps_in (view a.now)) }
+        < steps_waiting waiting.old.items + steps_in (view a.now)) }
 {
     match (a, b) {
         (Value::Array(xs), Value::Array(ys)) => add_items(waiting, xs, ys),
@@ -66,12 +66,12 @@ fn add_items<'a>(
 ) -> Result<bool, AllocError>
     ensures same { IfOk result (λ alike. IsTrue alike
         → AreSame waiting.new.items
-            ↔ (AreSame waiting.old.items × (map view xs.now ≡ map view ys.now))) }
+        ↔ (AreSame waiting.old.items × (map view xs.now ≡ map view ys.now))) }
     ensures different { IfOk result (λ alike. IsFalse alike
         → ¬ (map view xs.now ≡ map view ys.now)) }
     ensures fewer { IfOk result (λ alike. IsTrue alike
         → steps_waiting waiting.new.items
-            ≤ steps_waiting waiting.old.items + steps_in_items (replies_of (map view xs.now))) }
+        ≤ steps_waiting waiting.old.items + steps_in_items (replies_of (map view xs.now))) }
 {
     if xs.len() != ys.len() {
         return Ok(false);
@@ -91,12 +91,12 @@ fn add_pairs<'a>(
 ) -> Result<bool, AllocError>
     ensures same { IfOk result (λ alike. IsTrue alike
         → AreSame waiting.new.items
-            ↔ (AreSame waiting.old.items × (map view_pair xs.now ≡ map view_pair ys.now))) }
+        ↔ (AreSame waiting.old.items × (map view_pair xs.now ≡ map view_pair ys.now))) }
     ensures different { IfOk result (λ alike. IsFalse alike
         → ¬ (map view_pair xs.now ≡ map view_pair ys.now)) }
     ensures fewer { IfOk result (λ alike. IsTrue alike
         → steps_waiting waiting.new.items
-            ≤ steps_waiting waiting.old.items + steps_in_pairs (pairs_of (map view_pair xs.now))) }
+        ≤ steps_waiting waiting.old.items + steps_in_pairs (pairs_of (map view_pair xs.now))) }
 {
     if xs.len() != ys.len() {
         return Ok(false);
@@ -120,7 +120,7 @@ fn add<'a>(
     ensures different { IfOk result (λ alike. IsFalse alike → ¬ (view a.now ≡ view b.now)) }
     ensures fewer { IfOk result (λ alike. IsTrue alike
         → steps_waiting waiting.new.items
-            ≤ steps_waiting waiting.old.items + steps_in_value (view a.now)) }
+        ≤ steps_waiting waiting.old.items + steps_in_value (view a.now)) }
 {
     match (a, b) {
         (Value::Array(_), Value::Array(_)) | (Value::Map(_), Value::Map(_)) => {

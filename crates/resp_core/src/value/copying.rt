@@ -80,7 +80,7 @@ fn add_pairs<'a>(
 ) -> Result<(), AllocError>
     ensures { OnOk result (map (λ v. view v.now) waiting.new.items
         ≡ map (λ v. view v.now) waiting.old.items
-            ++ inside_pairs (pairs_of (map view_pair items.now.items))) }
+        ++ inside_pairs (pairs_of (map view_pair items.now.items))) }
 {
     let mut left = items.len();
     while left > 0 {
@@ -122,7 +122,7 @@ fn take_pairs(
         ≡ map view_pair items.now.items) }
     ensures rest { OnOk result ((rest : List Reply)
         → map view copies.old.items
-            ≡ rest ++ inside_pairs (pairs_of (map view_pair items.now.items))
+        ≡ rest ++ inside_pairs (pairs_of (map view_pair items.now.items))
         → map view copies.new.items ≡ rest) }
 {
     let mut pairs = Vec::with_capacity(*items.allocator(), items.len())?;

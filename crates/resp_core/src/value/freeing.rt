@@ -35,7 +35,7 @@ impl Value {
     /// `above`.
     fn into_first(self, above: Value) -> (Option<Value>, Value)
         ensures smaller { IfSome result.0 (λ first. steps_in (view first)
-                + steps_above (view result.1)
+            + steps_above (view result.1)
             < steps_in (view self) + steps_above (view above)) }
         ensures flat { IfNone result.0 (result.1 ≡ above) }
     {
