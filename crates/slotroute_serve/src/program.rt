@@ -49,7 +49,8 @@ pub fn serve_streams<R: Source, O: Sink, E: Sink>(
     err: &mut E,
 ) -> u8
     ensures served { Serves (MayFailToRead R.fails) (MayFailToWrite O.fails)
-        (MayFailToWrite E.fails) (map string_bytes words.now) (R.remaining reader.old) (R.remaining reader.new)
+        (MayFailToWrite E.fails) (map string_bytes words.now)
+        (R.remaining reader.old) (R.remaining reader.new)
         (O.contents out.old) (O.contents out.new) (E.contents err.old) (E.contents err.new) result }
     ensures steady { ¬ (MayFailToRead R.fails) → ¬ (MayFailToWrite O.fails)
         → ¬ (MayFailToWrite E.fails)
