@@ -127,10 +127,7 @@ fn add(sums: &mut BTreeMap<Vec<u8>, i128>, key: Vec<u8>, n: i64) -> Result<(), A
 fn sum_at(sums: &BTreeMap<Vec<u8>, i128>, key: &Vec<u8>) -> i128
     ensures { result ≡ unwrap_or (number_at sums.now.entries key.now.items) (pos 0) }
 {
-    match sums.get(key) {
-        Some(total) => *total,
-        None => 0,
-    }
+    sums.get(key).copied().unwrap_or(0)
 }
 
 /// The totals as pairs of replies, if each fits in an i64.

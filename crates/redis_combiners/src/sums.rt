@@ -42,9 +42,7 @@ fn sum(values: &[Value]) -> Option<i64>
 {
     let mut total: i128 = 0;
     for value in values {
-        let Some(n) = value.as_int() else {
-            return None;
-        };
+        let n = value.as_int()?;
         total += i128::from(n);
     }
     i64::try_from(total).ok()
@@ -56,10 +54,7 @@ fn least(values: &[Value]) -> Option<i64>
 {
     let mut least = i64::MAX;
     for value in values {
-        let Some(n) = value.as_int() else {
-            return None;
-        };
-        least = least.min(n);
+        least = least.min(value.as_int()?);
     }
     Some(least)
 }

@@ -93,8 +93,5 @@ impl Routable for Value {
 fn is_candidate(arg: Option<&[u8]>, candidate: &[u8]) -> bool
     ensures { result ≡ is_word candidate.now (option_copied arg.entry) }
 {
-    match arg {
-        Some(arg) => arg.eq_ignore_ascii_case(candidate),
-        None => false,
-    }
+    arg.is_some_and(|arg| arg.eq_ignore_ascii_case(candidate))
 }

@@ -28,10 +28,7 @@ pub fn command_for_multi_slot_indices<R: Routable>(
         × (fault.kind ≡ Client))
         ⊎ (fault ≡ out_of_memory)) }
 {
-    match sub_command(alloc, original, NAME_WORDS, indices)? {
-        Some(command) => Ok(command),
-        None => Err(missing_argument()),
-    }
+    sub_command(alloc, original, NAME_WORDS, indices)?.ok_or_else(missing_argument)
 }
 
 /// The part of a command that has these arguments after a name of so many words, if none of them

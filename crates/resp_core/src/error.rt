@@ -62,10 +62,7 @@ impl RedisError {
     pub fn detail(&self) -> Option<&str>
         ensures { option_copied result ≡ self.now.detail }
     {
-        match &self.detail {
-            Some(detail) => Some(detail.as_str()),
-            None => None,
-        }
+        self.detail.as_deref()
     }
 }
 

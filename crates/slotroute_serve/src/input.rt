@@ -3,7 +3,6 @@ ghost use Rattle.std.specs.List.{AllZip};
 ghost use Rattle.std.specs.Io.BufRead.{DropsThrough, strip_last};
 ghost use Rattle.cluster_map.specs.Address.{Address};
 ghost use Rattle.cluster_map.specs.SlotNodes.{RangeNodes};
-ghost use Rattle.cluster_map.specs.Number.{number_in};
 ghost use Rattle.slotroute_serve.specs.Lines.{line_of, fields_of, leading_lines, after_map, StopsInLine};
 ghost use Rattle.slotroute_serve.specs.MapLines.{IsNodeField, IsMapLine, IsMap};
 ghost use Rattle.slotroute_serve.specs.Faults.{WhyNoMap, IsCaused, IsLeftAt};
@@ -13,6 +12,7 @@ use crate::fault::Fault;
 use crate::streams::Source;
 use cluster_map::node_address::split_node_address;
 use cluster_map::{NodeAddress, SlotRange};
+use cluster_slots::parse_u16;
 use std::alloc::{AllocError, Global};
 use std::io;
 
@@ -65,7 +65,7 @@ fn strip(line: &mut Vec<u8>, byte: u8)
     ensures { line.new.items ≡ strip_last byte line.old.items }
 {
     if line.last() == Some(&byte) {
-        line.truncate(line.len() - 1);
+        line.pop();
     }
 }
 
@@ -86,7 +86,7 @@ fn map_line(alloc: Global, fields: &[&[u8]]) -> Result<Option<SlotRange>, AllocE
     let [start, end, primary, replicas @ ..] = fields else {
         return Ok(None);
     };
-    let (Some(start), Some(end)) = (number_of(start), number_of(end)) else {
+    let (Some(start), Some(end)) = (parse_u16(start), parse_u16(end)) else {
         return Ok(None);
     };
     let Some(primary) = node_of(alloc, primary)? else {
@@ -96,18 +96,6 @@ fn map_line(alloc: Global, fields: &[&[u8]]) -> Result<Option<SlotRange>, AllocE
         return Ok(None);
     };
     Ok(Some(SlotRange::new(start, end, primary, replicas)))
-}
-
-fn number_of(field: &[u8]) -> Option<u16>
-    ensures { result ≡ number_in 16 field.now }
-{
-    let Ok(text) = str::from_utf8(field) else {
-        return None;
-    };
-    match text.parse() {
-        Ok(number) => Some(number),
-        Err(_) => None,
-    }
 }
 
 fn node_of(alloc: Global, field: &[u8]) -> Result<Option<NodeAddress>, AllocError>

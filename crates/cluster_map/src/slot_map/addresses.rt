@@ -70,9 +70,5 @@ pub(crate) fn members<'a>(
 ) -> Result<Vec<&'a NodeAddress>, AllocError>
     ensures { IfOk result (λ found. found.items ≡ seen.now.keys) }
 {
-    let mut found = Vec::new(alloc);
-    for address in seen.iter() {
-        found.push(*address)?;
-    }
-    Ok(found)
+    seen.iter().copied().collect(alloc)
 }
