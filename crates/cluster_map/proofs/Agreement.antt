@@ -159,7 +159,7 @@ same_cond : {X : Type 0} (b : Bool) (x : X) → cond b x x ≡ x
 same_cond true x = refl
 same_cond false x = refl
 
-abbrev with_primary : Entry SlotNodes → Entry (Option Address)
+abbrev pub with_primary : Entry SlotNodes → Entry (Option Address)
 with_primary r = with_value (λ n. Some n.primary) r
 
 -- at an end that r has
@@ -217,19 +217,24 @@ flat ss None (Some n) h = cc
 flat ss (Some i) None h = cc
 flat ss (Some i) (Some n) h = let k : slice_get (map primary_of ss) i ≡ Some n.primary = cc in sym (slice_get-map primary_of ss i) ∙ k
 
+-- the ranges of the shards are those of the map, each with its primary
+pub resolved : (rs : List (Entry SlotNodes)) → Ascends rs → map (with_value (slice_get (map primary_of (shards_of rs)))) (insert_steps [] (place_entries 0 (shards_of rs))) ≡ map with_primary rs
+resolved rs up =
+    let ss = shards_of rs in
+    let ps = map primary_of ss in
+    let looked : (e : ℕ) → find e (insert_steps [] (shard_entries ss)) ≡ find e (map with_primary rs) = λ e. ap (λ z. find e (insert_steps [] (shard_entries z))) (sym (primary_shards-are rs)) ∙ look rs up e in
+    with_value-insert_steps (slice_get ps) [] (place_entries 0 ss) ∙ ap (insert_steps []) (shard_entries_are [] ps 0 ss refl refl)
+    ∙ same_ranges _ _ (Ascends-insert_steps [] (shard_entries ss) tt) (Ascends-with_primary rs up) looked
+
 -- at each number the shard's primary is the map's, or there is neither
 same_answers : (rs : List (Entry SlotNodes)) → Ascends rs → (slot : ℕ) → option_map primary_of (option_and_then (slice_get (shards_of rs)) (answer (insert_entries [] (place_entries 0 (shards_of rs))) slot)) ≡ option_map (λ (n : SlotNodes). n.primary) (answer rs slot)
 same_answers rs up slot =
     let ss = shards_of rs in
     let ps = map primary_of ss in
     let ranges = insert_steps [] (place_entries 0 ss) in
-    let looked : (e : ℕ) → find e (insert_steps [] (shard_entries ss)) ≡ find e (map with_primary rs) = λ e. ap (λ z. find e (insert_steps [] (shard_entries z))) (sym (primary_shards-are rs)) ∙ look rs up e in
-    let resolved : map (with_value (slice_get ps)) ranges ≡ map with_primary rs =
-    with_value-insert_steps (slice_get ps) [] (place_entries 0 ss) ∙ ap (insert_steps []) (shard_entries_are [] ps 0 ss refl refl)
-    ∙ same_ranges _ _ (Ascends-insert_steps [] (shard_entries ss) tt) (Ascends-with_primary rs up) looked in
     ap (λ z. option_map primary_of (option_and_then (slice_get ss) (answer z slot))) (insert_steps-is [] (place_entries 0 ss) tt)
     ∙ flat ss (answer ranges slot) (answer rs slot)
-    (sym (with_value-answer (slice_get ps) ranges slot) ∙ ap (λ z. answer z slot) resolved ∙ with_value-answer (λ n. Some n.primary) rs slot)
+    (sym (with_value-answer (slice_get ps) ranges slot) ∙ ap (λ z. answer z slot) (resolved rs up) ∙ with_value-answer (λ n. Some n.primary) rs slot)
 
 pub agrees : (rs : List (Entry SlotNodes)) → Ascends rs → Agrees rs (topology_of (shards_of rs))
 agrees rs up slot address =

@@ -141,7 +141,7 @@ shard_new : (k : Address) (rs : List (Entry SlotNodes)) (r : Entry SlotNodes) �
 shard_new k rs r h a = ap (shard_with k) (sym (filter_last k rs r h ∙ ap (λ z. z ++ r ∷ []) (filter_none (has_primary k) rs a)))
 
 -- the primaries are apart, each has a range, and no range has another
-abbrev Distinct : List Address → Type 0
+abbrev pub Distinct : List Address → Type 0
 Distinct [] = Unit {0}
 Distinct (k ∷ ks) = (list_any (same_address k) ks ≡ false) × Distinct ks
 
@@ -247,6 +247,9 @@ good_from done (r ∷ rest) g =
 
 pub primaries_cover : (rs : List (Entry SlotNodes)) (p : Address) → list_any (same_address p) (primaries rs) ≡ false → list_any (has_primary p) rs ≡ false
 primaries_cover rs = let g = good_from [] rs (record { distinct = tt; have = tt; covers = λ p h. refl }) in g.covers
+
+pub primaries-distinct : (rs : List (Entry SlotNodes)) → Distinct (primaries rs)
+primaries-distinct rs = let g = good_from [] rs (record { distinct = tt; have = tt; covers = λ p h. refl }) in g.distinct
 
 -- one entry more
 pub add_range-is : (es : List (Entry SlotNodes)) (e : Entry SlotNodes) → add_range (shards_of es) e ≡ shards_of (es ++ e ∷ [])

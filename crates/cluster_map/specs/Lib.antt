@@ -5,6 +5,7 @@ pub use Rattle.cluster_slots.specs.HashTag
 pub use Rattle.cluster_slots.specs.KeySlot
 pub use Rattle.cluster_slots.specs.Number
 pub use Rattle.cluster_slots.specs.SlotRoute
+pub use Rattle.read_strategies.specs.CandidatePlaces
 pub use Rattle.read_strategies.specs.Candidates
 pub use Rattle.read_strategies.specs.EachOnce
 pub use Rattle.read_strategies.specs.ReadCandidates

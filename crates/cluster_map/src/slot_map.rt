@@ -14,7 +14,7 @@ ghost use Rattle.cluster_map.specs.Fallback.{fallback, IsFallback};
 ghost use Rattle.cluster_map.specs.Targets.{targets};
 ghost use Rattle.read_strategies.specs.RouteNode.{IsNodeFor, IsNodeOfRoute, IsPicked, IsPickedNode};
 ghost use Rattle.cluster_map.specs.ReplyNode.{IsFound, IsFoundByReply, entries_in};
-ghost use Rattle.read_strategies.specs.Topology.{shards_of, topology_of, Agrees};
+ghost use Rattle.read_strategies.specs.Topology.{shards_of, shards_left, topology_of, Agrees};
 
 use addresses::{insert_all, members};
 use cluster_slots::{NodeAddress, Route, SlotAddr};
@@ -287,6 +287,7 @@ impl SlotMap {
     /// The nodes of each range, by ascending end.
     pub fn values(&self) -> Values<'_, SlotAddrs>
         ensures all { result ≡ map value_of self.now }
+        ensures order { Ascends self.now }
     {
         self.slots.values()
     }
@@ -298,6 +299,7 @@ impl SlotMap {
     ) -> Result<Vec<&NodeAddress>, AllocError>
         ensures all { IfOk result (λ found. targets found.items
             ≡ each_once (map (λ (e : Entry SlotNodes). (value_of e).primary) self.now)) }
+        ensures order { Ascends self.now }
     {
         let mut seen = IndexSet::new(alloc);
         for addrs in self.values() {
@@ -310,6 +312,7 @@ impl SlotMap {
     pub fn addresses_for_all_nodes(&self, alloc: Global) -> Result<Vec<&NodeAddress>, AllocError>
         ensures all { IfOk result (λ found. targets found.items
             ≡ each_once (flat_map (λ (e : Entry SlotNodes). nodes_in (value_of e)) self.now)) }
+        ensures order { Ascends self.now }
     {
         let mut seen = IndexSet::new(alloc);
         for addrs in self.values() {
@@ -321,6 +324,8 @@ impl SlotMap {
     /// The shards of this map, one for each primary.
     pub fn topology(&self, alloc: Global) -> Result<ClusterTopology, AllocError>
         ensures shards { IfOk result (λ topology. topology ≡ topology_of (shards_of self.now)) }
+        // So its `shards` lists just these.
+        ensures listed { IfOk result (λ topology. shards_left topology ≡ shards_of self.now) }
         // It agrees with the map on every slot.
         ensures agrees { IfOk result (λ topology. Agrees self.now topology) }
         ensures order { Ascends self.now }

@@ -1,35 +1,11 @@
-ghost use Rattle.std.specs.Prelude.{◌≡◌, Some, slice_get};
-ghost use Rattle.std.proofs.Common.{inr};
-ghost use Rattle.std.proofs.lemmas.Option.{slice_get_within, get_or_from_slice_get};
-
 use cluster_map::{
     ClusterTopology, DefaultFactory, NodeAddress, ReadCandidates, ReadRoutingStrategy,
     ReadRoutingStrategyFactory, Replicas, Shard,
 };
+use example_strategies::FirstReplica;
 use resp_core::RedisResult;
 use std::alloc::{AllocError, Global};
 use std::test::Fail;
-
-/// Picks the first replica.
-#[derive(Default, Drop)]
-pub struct FirstReplica;
-
-impl ReadRoutingStrategy for FirstReplica {
-    ghost picks = { λ s c address. slice_get c.replicas 0 ≡ Some address };
-
-    ghost picks_candidates = { λ s c address h. inr (
-      0,
-      slice_get_within c.replicas 0 address h,
-      get_or_from_slice_get c.replicas 0 address address h,
-    ) };
-
-    fn route_read<'a>(&self, candidates: &ReadCandidates<'a>) -> &'a NodeAddress {
-        match candidates {
-            ReadCandidates::AnyNode(candidates) => candidates.replicas().first(),
-            ReadCandidates::ReplicasOnly(candidates) => candidates.replicas().first(),
-        }
-    }
-}
 
 pub fn nodes_of(alloc: Global, texts: &[&str]) -> RedisResult<Vec<NodeAddress>> {
     let mut nodes = Vec::new(alloc);

@@ -1,5 +1,6 @@
-use crate::read_routing::{FirstReplica, primaries_of};
-use cluster_map::{NodeAddress, Route, SlotAddr, SlotMap, SlotRange};
+use crate::read_routing::primaries_of;
+use cluster_map::{NodeAddress, ReadRoutingStrategy, Route, SlotAddr, SlotMap, SlotRange};
+use example_strategies::{FirstReplica, PickIndex, ShardAware};
 use resp_core::RedisResult;
 use std::alloc::{AllocError, Global};
 use std::test::Fail;
@@ -238,6 +239,44 @@ fn a_lent_strategy_is_asked_for_reads_where_there_are_replicas(
                 .is_none(),
             "no range"
         );
+    }
+    Ok(())
+}
+
+#[test]
+fn an_index_counts_round_the_candidates(rt: HostRuntime) -> Result<(), Fail> {
+    let alloc = rt.alloc();
+    let map = map_of(alloc, &[(1, 1000, "p:1", &["r:1", "r:2", "r:3"])])?;
+    let table = [
+        (SlotAddr::ReplicaOptional, 4, ("p", 1)),
+        (SlotAddr::ReplicaOptional, 5, ("r", 1)),
+        (SlotAddr::ReplicaRequired, 5, ("r", 3)),
+    ];
+    for (addr, index, wanted) in table {
+        let strategy = PickIndex::new(index);
+        let node = map.slot_addr_for_route(Route::new(500, addr), Some(&strategy), 0);
+        assert_eq!(rt;
+            node.map(|n| (n.host(), n.port())),
+            Some(wanted),
+            "{addr:?}, index {index}"
+        );
+    }
+    Ok(())
+}
+
+#[test]
+fn a_boxed_strategy_goes_by_the_topology_that_it_is_told(rt: HostRuntime) -> Result<(), Fail> {
+    let alloc = rt.alloc();
+    let map = three_shards(alloc)?;
+    let mut strategy: Box<dyn ReadRoutingStrategy> = Box::new(alloc, ShardAware::new())?;
+    let route = Route::new(1500, SlotAddr::ReplicaOptional);
+    let node = map.slot_addr_for_route(route, Some(&*strategy), 0);
+    assert_eq!(rt; node.map(|n| n.host()), Some("replica2"), "not told");
+    strategy.on_topology_changed(map.topology(alloc)?);
+    for (slot, wanted) in [(500, "replica1"), (1500, "replica3"), (2500, "replica4")] {
+        let route = Route::new(slot, SlotAddr::ReplicaOptional);
+        let node = map.slot_addr_for_route(route, Some(&*strategy), 0);
+        assert_eq!(rt; node.map(|n| n.host()), Some(wanted), "slot {slot}");
     }
     Ok(())
 }

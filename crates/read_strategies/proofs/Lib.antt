@@ -1,3 +1,4 @@
 pub mod Elements
 pub mod Filling
 pub mod Members
+pub mod OneShard

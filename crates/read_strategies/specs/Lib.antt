@@ -1,6 +1,7 @@
 pub use Rattle.cluster_slots.specs.Address
 pub use Rattle.slot_ranges.specs.RangeMap
 pub use Rattle.slot_ranges.specs.SlotNodes
+pub mod CandidatePlaces
 pub mod Candidates
 pub mod EachOnce
 pub mod ReadCandidates

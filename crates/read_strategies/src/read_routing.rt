@@ -41,7 +41,12 @@ pub trait ReadRoutingStrategy: Drop {
 pub trait ReadRoutingStrategyFactory {
     type Strategy: ReadRoutingStrategy;
 
-    fn create_strategy(&self) -> Self::Strategy;
+    /// The strategies that it may make: any, where an implementation does not say it.
+    ghost creates: { Self → Self.Strategy → Type 0 } = { λ factory strategy. Unit {0} };
+
+    /// A strategy, as one is made for each connection to a cluster.
+    fn create_strategy(&self) -> Self::Strategy
+        ensures made { creates self.now result };
 }
 
 /// Makes strategies by their `Default`.
@@ -51,7 +56,7 @@ pub struct DefaultFactory<T> {
 }
 
 impl<T> DefaultFactory<T> {
-    /// A factory of `T::default()`.
+    /// A factory of default strategies.
     pub fn new() -> Self {
         DefaultFactory {
             strategy: PhantomData,
@@ -61,6 +66,8 @@ impl<T> DefaultFactory<T> {
 
 impl<T: ReadRoutingStrategy + Default> ReadRoutingStrategyFactory for DefaultFactory<T> {
     type Strategy = T;
+
+    ghost creates = { λ factory strategy. T.is_default strategy };
 
     fn create_strategy(&self) -> T {
         T::default()

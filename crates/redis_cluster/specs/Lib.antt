@@ -31,3 +31,16 @@ pub use Rattle.redis_routing.specs.Routing
 pub use Rattle.redis_routing.specs.RoutingInfo
 pub use Rattle.redis_routing.specs.Split
 pub use Rattle.redis_routing.specs.SubCommand
+pub use Rattle.redis_driver.specs.Driven
+pub use Rattle.redis_driver.specs.Ended
+pub use Rattle.redis_driver.specs.Faults
+pub use Rattle.redis_driver.specs.Joined
+pub use Rattle.redis_driver.specs.Plan
+pub use Rattle.redis_driver.specs.Ready
+pub use Rattle.redis_driver.specs.Sends
+pub use Rattle.redis_nodes.specs.MultiKey
+pub use Rattle.redis_nodes.specs.Orders
+pub use Rattle.redis_nodes.specs.Sent
+pub use Rattle.redis_nodes.specs.SlotResults
+pub use Rattle.redis_nodes.specs.Trace
+pub use Rattle.redis_nodes.specs.Unsplit

@@ -30,15 +30,15 @@ alike q x y h =
     let same : x.items ≡ y.items = (bytes_eq-Decides x.items y.items).0 (sym (is_eq-slice_cmp x.items y.items) ∙ ap is_eq h) in
     ap (λ b. is_eq (slice_cmp nat_cmp q b)) same
 
-inserted : (q : List ℕ) (k : Vec ℕ Global) (ks : List (Vec ℕ Global)) → list_any (at q) (insert_key by_items ks k) ≡ (at q k || list_any (at q) ks)
-inserted q k [] = refl
-inserted q k (x ∷ xs) = by_order (by_items k x)
+list_any-insert_key : (q : List ℕ) (k : Vec ℕ Global) (ks : List (Vec ℕ Global)) → list_any (at q) (insert_key by_items ks k) ≡ (at q k || list_any (at q) ks)
+list_any-insert_key q k [] = refl
+list_any-insert_key q k (x ∷ xs) = by_order (by_items k x)
     (λ less. rw less refl)
     (λ equal. rw equal (rw (alike q k x equal) (or_twice (at q x) (list_any (at q) xs))))
-    (λ greater. rw greater (ap (λ b. at q x || b) (inserted q k xs) ∙ or_swap (at q x) (at q k) (list_any (at q) xs)))
+    (λ greater. rw greater (ap (λ b. at q x || b) (list_any-insert_key q k xs) ∙ or_swap (at q x) (at q k) (list_any (at q) xs)))
 
 pub is_in-insert : (q : List ℕ) (k : Vec ℕ Global) (ks : List (Vec ℕ Global)) → list_any (at q) (insert_key by_items ks k) ≡ (bytes_eq q k.items || list_any (at q) ks)
-is_in-insert q k ks = inserted q k ks ∙ ap (λ b. b || list_any (at q) ks) (is_eq-slice_cmp q k.items)
+is_in-insert q k ks = list_any-insert_key q k ks ∙ ap (λ b. b || list_any (at q) ks) (is_eq-slice_cmp q k.items)
 
 -- a look-up by the order of bytes is one by `==`
 pub among_keys : (q : List ℕ) (ks : List (Vec ℕ Global)) → list_any (at q) ks ≡ is_among (map (λ k. k.items) ks) q

@@ -1,1 +1,13 @@
+pub mod Sending
+pub mod SplitTuples
+pub mod JoinedCounts
+pub mod PlacesOfKeys
+pub mod JoinedLists
+pub mod Joined
 pub mod Zips
+pub mod Told
+pub mod Planned
+pub mod Ended
+pub mod Headline
+pub mod Covered
+pub mod Telling

@@ -34,6 +34,15 @@ IsPlanFault entries only_reads args (plan.NotCovered slot) =
     (routes : List SlotRoute) × (routes_by only_reads args ≡ Some routes) × IsFirstUncovered entries routes slot
 IsPlanFault entries only_reads args plan.Memory = Unit {0}
 
+-- why nothing of a request is sent
+abbrev pub IsEarly : Request → DriveFault → Type 0
+IsEarly r NotMultiKey = IsPlanFault r.map r.only_reads r.arguments plan.NotMultiKey
+IsEarly r (NotCovered slot) = IsPlanFault r.map r.only_reads r.arguments (plan.NotCovered slot)
+IsEarly r BadOrder = (routes : List SlotRoute) × (command : MultiKey) × IsCoveredCommand r routes command × (NamesOnce (length routes) r.order → ⊥)
+IsEarly r Memory = Unit {0}
+IsEarly r (Node error) = ⊥
+IsEarly r (Reply error) = ⊥
+
 module _ {C : Type 0} (IsNode : SlotRoute → Address → Type 0) (step : Step C) (r : Request) (old new : State C) where
   -- nothing was sent
   pub record IsUntouched (count : ℕ) : Type 0 where
@@ -42,8 +51,7 @@ module _ {C : Type 0} (IsNode : SlotRoute → Address → Type 0) (step : Step C
     pub trace : new.trace ≡ old.trace
 
   -- the parts of the first routes of the order, so many, were answered, and no other
-  pub record IsStopped (routes : List SlotRoute) (count : ℕ) (trace : List Entry) : Type 0 where
-    pub command : MultiKey
+  pub record IsStopped (routes : List SlotRoute) (command : MultiKey) (count : ℕ) (trace : List Entry) : Type 0 where
     pub drivable : IsDrivable r routes command
     pub within : count ≤ length routes
     pub answered : AreAnswered IsNode step r old new command (take count (in_order routes r.order)) trace
@@ -51,8 +59,9 @@ module _ {C : Type 0} (IsNode : SlotRoute → Address → Type 0) (step : Step C
   -- the node of the next route refused its part with the error
   pub record IsNodeFault (may_refuse : ℕ → Ending → Type 0) (error : ErrorParts) (count : ℕ) : Type 0 where
     pub routes : List SlotRoute
+    pub command : MultiKey
     pub before : List Entry
-    pub stopped : IsStopped routes count before
+    pub stopped : IsStopped routes command count before
     pub route : SlotRoute
     pub next : slice_get (in_order routes r.order) count ≡ Some route
     pub last : Entry
@@ -63,17 +72,16 @@ module _ {C : Type 0} (IsNode : SlotRoute → Address → Type 0) (step : Step C
   -- memory ran out after an answer: at a node, which the mark tells, or in combining all replies to a list
   pub record IsLateMemory (count : ℕ) : Type 0 where
     pub routes : List SlotRoute
+    pub command : MultiKey
     pub some : 0 < count
-    pub stopped : IsStopped routes count new.trace
-    pub cause : (new.mark ≡ true) ⊎ ((stopped.command.form ≡ list) × (count ≡ length routes))
+    pub stopped : IsStopped routes command count new.trace
+    pub cause : (new.mark ≡ true) ⊎ ((command.form ≡ list) × (count ≡ length routes))
 
   -- the fault has its cause, and so many parts took effect
   abbrev pub IsFault : (may_refuse : ℕ → Ending → Type 0) → DriveFault → ℕ → Type 0
-  IsFault may_refuse NotMultiKey count = IsPlanFault r.map r.only_reads r.arguments plan.NotMultiKey × IsUntouched count × (new.mark ≡ old.mark)
-  IsFault may_refuse (NotCovered slot) count = IsPlanFault r.map r.only_reads r.arguments (plan.NotCovered slot) × IsUntouched count × (new.mark ≡ old.mark)
-  IsFault may_refuse BadOrder count =
-      ((routes : List SlotRoute) × (command : MultiKey) × IsCoveredCommand r routes command × (NamesOnce (length routes) r.order → ⊥))
-      × IsUntouched count × (new.mark ≡ old.mark)
+  IsFault may_refuse NotMultiKey count = IsEarly r NotMultiKey × IsUntouched count × (new.mark ≡ old.mark)
+  IsFault may_refuse (NotCovered slot) count = IsEarly r (NotCovered slot) × IsUntouched count × (new.mark ≡ old.mark)
+  IsFault may_refuse BadOrder count = IsEarly r BadOrder × IsUntouched count × (new.mark ≡ old.mark)
   IsFault may_refuse Memory count = IsUntouched count ⊎ IsLateMemory count
   IsFault may_refuse (Node error) count = IsNodeFault may_refuse error count
   -- the replies to the parts of a command always fit

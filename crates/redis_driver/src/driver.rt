@@ -1,11 +1,17 @@
-ghost use Rattle.std.specs.Prelude.{◌≡◌, ◌↔◌, ℕ, MatchOption, IfOk, IfErr};
+ghost use Rattle.std.specs.Prelude.{◌≡◌, ◌<◌, ◌↔◌, ◌++◌, ℕ, None, map, length, MatchOption, IfOk, OnOk, IfErr};
 ghost use Rattle.resp_core.specs.ErrorParts.{out_of_memory};
 ghost use Rattle.resp_core.specs.View.{view};
 ghost use Rattle.read_strategies.specs.RouteNode.{IsNodeOfRoute, IsPickedNode};
 ghost use Rattle.redis_commands.specs.ReadOnly.{is_among};
-ghost use Rattle.redis_nodes.specs.Trace.{Ending};
+ghost use Rattle.redis_nodes.specs.MultiKey.{MultiKey};
+ghost use Rattle.redis_nodes.specs.Orders.{NamesOnce, in_order};
+ghost use Rattle.redis_nodes.specs.Trace.{Ending, answered};
+ghost use Rattle.redis_nodes.specs.Unsplit.{keyspace_after, reply_to};
 ghost use Rattle.redis_driver.specs.Driven.{request, state, IsDriven, IsHeadline};
-ghost use Rattle.redis_driver.specs.Faults.{IsFault};
+ghost use Rattle.redis_driver.specs.Faults.{IsEarly, IsFault};
+ghost use Rattle.redis_driver.specs.Ready.{IsReady};
+ghost use Rattle.redis_driver.specs.Ended.{AreEndedEarly};
+ghost use Rattle.redis_driver.specs.Sends.{targets, target_entry, IsPlanOf};
 
 use crate::fault::{DriveError, DriveFault};
 use crate::order::names_once;
@@ -61,14 +67,59 @@ pub fn drive<R: Routable, N: Nodes>(
     // What nodes may refuse stays the same.
     ensures may_refuse { (count : ℕ) (ending : Ending) → N.may_refuse nodes.new count ending ↔ N.may_refuse nodes.old count ending }
 {
-    let mut plan = SplitPlan::new(alloc, command, read_only, slot_map, strategy, pick)?;
-    if !names_once(alloc, plan.len(), order)? {
-        return Err(DriveError {
-            fault: DriveFault::BadOrder,
-            answered: 0,
-        });
+    match plan_in_order(alloc, command, read_only, slot_map, strategy, pick, order) {
+        Ok(plan) => drive_plan(alloc, plan, order, nodes),
+        Err(fault) => Err(DriveError { fault, answered: 0 }),
     }
-    send_all(&mut plan, order, nodes)?;
+}
+
+/// The plan of a command, where the order names its routes.
+fn plan_in_order<'a, R: Routable>(
+    alloc: Global,
+    command: &'a R,
+    read_only: &ReadOnlyNames,
+    slot_map: &'a SlotMap,
+    strategy: Option<&dyn ReadRoutingStrategy>,
+    pick: usize,
+    order: &[usize],
+) -> Result<SplitPlan<'a, R>, DriveFault>
+    ensures ready { IfOk result (λ plan. (c : MultiKey) × IsReady (λ route address. MatchOption strategy.entry (IsNodeOfRoute slot_map.now route pick address) (λ s. IsPickedNode (picks s.now) slot_map.now route address))
+        (request (R.args command.now) (is_among read_only.now) slot_map.now order.now) plan c) }
+    ensures untold { IfOk result (λ plan. plan.replies ≡ map (λ route. None) plan.split.routes) }
+    ensures order { IfOk result (λ plan. NamesOnce (length plan.split.routes) order.now) }
+    ensures some { IfOk result (λ plan. 0 < length plan.split.routes) }
+    ensures early { IfErr result (λ fault. IsEarly (request (R.args command.now) (is_among read_only.now) slot_map.now order.now) fault) }
+{
+    let plan = match SplitPlan::new(alloc, command, read_only, slot_map, strategy, pick) {
+        Ok(plan) => plan,
+        Err(fault) => return Err(DriveFault::from(fault)),
+    };
+    match names_once(alloc, plan.len(), order) {
+        Ok(true) => Ok(plan),
+        Ok(false) => Err(DriveFault::BadOrder),
+        Err(_) => Err(DriveFault::Memory),
+    }
+}
+
+/// Sends the parts of a plan, and combines the replies.
+fn drive_plan<R: Routable, N: Nodes>(
+    alloc: Global,
+    mut plan: SplitPlan<'_, R>,
+    order: &[usize],
+    nodes: &mut N,
+) -> Result<Value, DriveError>
+    requires command { (c : MultiKey) × IsPlanOf c plan }
+    requires untold { plan.replies ≡ map (λ route. None) plan.split.routes }
+    requires order { NamesOnce (length plan.split.routes) order.now }
+    ensures trace { OnOk result (N.trace nodes.new ≡ N.trace nodes.old ++ map (target_entry answered) (in_order (targets plan.entry) order.now)) }
+    ensures keyspace { OnOk result ((c : MultiKey) → IsPlanOf c plan.entry → N.keyspace nodes.new ≡ keyspace_after N.step c (N.keyspace nodes.old)) }
+    ensures reply { IfOk result (λ value. (c : MultiKey) → IsPlanOf c plan.entry → view value ≡ reply_to N.step c (N.keyspace nodes.old)) }
+    ensures stopped { IfErr result (λ e. AreEndedEarly N.step (N.may_refuse nodes.old) plan.entry order.now (N.keyspace nodes.old) (N.keyspace nodes.new) (N.trace nodes.old) (N.trace nodes.new) (N.mark nodes.new) e.fault e.answered) }
+    ensures may_refuse { (count : ℕ) (ending : Ending) → N.may_refuse nodes.new count ending ↔ N.may_refuse nodes.old count ending }
+{
+    if let Err(stop) = send_all(&mut plan, order, nodes) {
+        return Err(stop);
+    }
     let answered = plan.len();
     match plan.combine(alloc) {
         Ok(reply) => Ok(reply),

@@ -2,7 +2,7 @@ ghost use Rattle.std.specs.Prelude.{◌≡◌};
 
 use redis_nodes::SendError;
 use resp_core::RedisError;
-use std::alloc::AllocError;
+use std::alloc::{AllocError, AllocFailed};
 
 /// Why a command has no plan.
 #[derive(Drop)]
@@ -16,9 +16,21 @@ pub enum PlanFault {
 }
 
 impl From<AllocError> for PlanFault {
-    fn from(_: AllocError) -> Self
-        ensures { result ≡ PlanFault.Memory }
-    {
+    ghost use Rattle.redis_driver.specs.declared.fault.PlanFault.TheVariants as plan;
+
+    ghost from_gives = { λ _ fault. fault ≡ plan.Memory };
+
+    fn from(_: AllocError) -> Self {
+        PlanFault::Memory
+    }
+}
+
+impl<T: Drop> From<AllocFailed<T>> for PlanFault {
+    ghost use Rattle.redis_driver.specs.declared.fault.PlanFault.TheVariants as plan;
+
+    ghost from_gives = { λ _ fault. fault ≡ plan.Memory };
+
+    fn from(_: AllocFailed<T>) -> Self {
         PlanFault::Memory
     }
 }
@@ -48,29 +60,17 @@ pub struct DriveError {
     pub answered: usize,
 }
 
-impl From<AllocError> for DriveError {
-    fn from(_: AllocError) -> Self
-        ensures { result ≡ record { fault = DriveFault.Memory; answered = 0 } }
-    {
-        DriveError {
-            fault: DriveFault::Memory,
-            answered: 0,
-        }
-    }
-}
-
-impl From<PlanFault> for DriveError {
+impl From<PlanFault> for DriveFault {
     ghost use Rattle.redis_driver.specs.Faults.{fault_of_plan};
 
     fn from(fault: PlanFault) -> Self
-        ensures { result ≡ record { fault = fault_of_plan fault; answered = 0 } }
+        ensures { result ≡ fault_of_plan fault }
     {
-        let fault = match fault {
+        match fault {
             PlanFault::NotMultiKey => DriveFault::NotMultiKey,
             PlanFault::NotCovered(slot) => DriveFault::NotCovered(slot),
             PlanFault::Memory => DriveFault::Memory,
-        };
-        DriveError { fault, answered: 0 }
+        }
     }
 }
 

@@ -10,8 +10,7 @@ pub(super) fn names_once(alloc: Global, count: usize, order: &[usize]) -> Result
     if order.len() != count {
         return Ok(false);
     }
-    let mut named = Vec::with_capacity(alloc, count)?;
-    named.resize(count, false)?;
+    let mut named = vec![in alloc; false; count]?;
     for number in order {
         if *number >= count || named[*number] {
             return Ok(false);

@@ -1,8 +1,11 @@
-ghost use Rattle.std.specs.Prelude.{◌≡◌, ◌<◌, ◌⊎◌, ℕ, List, true, Option, Some, None, is_none, MatchOption, MatchResult, IfOk, OnOk, IfErr, length, map, option_map, slice_get, slice_set};
-ghost use Rattle.std.specs.List.{AllZip, list_any};
+ghost use Rattle.std.specs.Prelude.{◌≡◌, ◌<◌, ◌⊎◌, ℕ, List, true, Option, Some, None, is_none, Ok, Err, MatchOption, MatchResult, IfOk, OnOk, IfErr, length, map, option_map, slice_get, slice_set};
+ghost use Rattle.std.specs.List.{All, AllZip, list_all, list_any};
+ghost use Rattle.std.specs.Result.{IsErrAnd};
 ghost use Rattle.resp_core.specs.ErrorParts.{out_of_memory};
+ghost use Rattle.resp_core.specs.declared.value.Value.{Value};
 ghost use Rattle.resp_core.specs.View.{view};
 ghost use Rattle.resp_core.specs.declared.error.ErrorKind.TheVariants.{Client};
+ghost use Rattle.cluster_map.specs.ReplyNode.{IsCovered};
 ghost use Rattle.read_strategies.specs.RouteNode.{IsNodeOfRoute, IsPickedNode};
 ghost use Rattle.redis_commands.specs.Command.{command_of};
 ghost use Rattle.redis_commands.specs.ReadOnly.{is_among};
@@ -14,13 +17,14 @@ ghost use Rattle.redis_nodes.specs.Unsplit.{reply_by};
 ghost use Rattle.redis_nodes.specs.Unsplit.{TupleResult};
 ghost use Rattle.redis_driver.specs.Driven.{IsFirstUncovered};
 ghost use Rattle.redis_driver.specs.Faults.{IsPlanFault};
-ghost use Rattle.redis_driver.specs.Plan.{IsPlan, ArePartReplies, ArePartsAnswered, slots_of};
+ghost use Rattle.redis_driver.specs.Joined.{joined};
+ghost use Rattle.redis_driver.specs.Plan.{IsPlan, ArePartReplies, slots_of};
 
 use crate::fault::PlanFault;
 use cluster_map::{ReadRoutingStrategy, SlotMap};
 use cluster_slots::{NodeAddress, Route};
-use redis_commands::{AggregateOp, ReadOnlyNames, ResponsePolicy, Routable};
 use redis_combiners::{aggregate, combine_and_sort_array_results};
+use redis_commands::{ReadOnlyNames, ResponsePolicy, Routable};
 use redis_routing::SplitCommand;
 use resp_core::{Cmd, ErrorKind, RedisError, RedisResult, Value};
 use std::alloc::{AllocError, Global};
@@ -77,6 +81,8 @@ impl<'a, R: Routable> SplitPlan<'a, R> {
         ensures pattern { IfOk result (λ plan. Some plan.split.pattern ≡ pattern_by_name (command_of (R.args command.now))) }
         ensures policy { IfOk result (λ plan. Some plan.split.policy ≡ policy_by_name (command_of (R.args command.now))) }
         ensures nodes { IfOk result (λ plan. AllZip (λ route address. MatchOption strategy.entry (IsNodeOfRoute slot_map.now route.0 pick address) (λ s. IsPickedNode (picks s.now) slot_map.now route.0 address)) plan.split.routes plan.nodes) }
+        // So each route's slot has a node.
+        ensures covered { IfOk result (λ plan. All (λ route. IsCovered slot_map.now route.0.slot) plan.split.routes) }
         ensures untold { IfOk result (λ plan. plan.replies ≡ map (λ route. None) plan.split.routes) }
         ensures fault { IfErr result (λ fault. IsPlanFault slot_map.now (is_among read_only.now) (R.args command.now) fault) }
     {
@@ -87,8 +93,7 @@ impl<'a, R: Routable> SplitPlan<'a, R> {
         let parts = parts_of(alloc, &split)?;
         let count = split.len();
         let replies = no_replies(alloc, count)?;
-        let mut answered = Vec::with_capacity(alloc, count)?;
-        answered.resize(count, false)?;
+        let answered = vec![in alloc; false; count]?;
         Ok(SplitPlan {
             split,
             nodes,
@@ -110,6 +115,7 @@ impl<'a, R: Routable> SplitPlan<'a, R> {
     pub fn len(&self) -> usize
         ensures len { result ≡ length self.now.split.routes }
         ensures some { 0 < result }
+        ensures plan { IsPlan self.now }
     {
         self.split.len()
     }
@@ -138,14 +144,12 @@ impl<'a, R: Routable> SplitPlan<'a, R> {
         ensures told { OnOk result ((slice_get self.old.replies number ≡ Some None) × (self.new ≡ record { split = self.old.split; nodes = self.old.nodes; parts = self.old.parts; replies = slice_set self.old.replies number (Some reply) })) }
         ensures refused { IfErr result (λ back. (back ≡ reply) × (self.new ≡ self.old) × (slice_get self.old.replies number ≡ Some None → ⊥)) }
     {
-        match self.answered.get(number) {
-            Some(false) => {
-                self.answered[number] = true;
-                self.replies[number] = reply;
-                Ok(())
-            }
-            _ => Err(reply),
+        if number >= self.answered.len() || self.answered[number] {
+            return Err(reply);
         }
+        self.answered[number] = true;
+        self.replies[number] = reply;
+        Ok(())
     }
 
     /// The one reply of the command, once each reply was told. Counts are added up, lists are put in
@@ -159,7 +163,10 @@ impl<'a, R: Routable> SplitPlan<'a, R> {
         ensures unsplit { (form : ReplyForm) (results : List TupleResult) → ArePartReplies self.entry form results → MatchResult result
             (λ value. view value ≡ reply_by form results)
             (λ error. (error ≡ out_of_memory) × (form ≡ list)) }
-        ensures untold { list_any is_none self.entry.replies ≡ true → IfErr result (λ error. error.kind ≡ Client) }
+        ensures joined { (replies : List Value) → self.entry.replies ≡ map Some replies → MatchResult result
+            (λ value. joined self.entry.split (map view replies) ≡ Ok (view value))
+            (λ error. ((error ≡ out_of_memory) × (self.entry.split.policy ≡ ResponsePolicy.CombineArrays)) ⊎ (joined self.entry.split (map view replies) ≡ Err error.kind)) }
+        ensures untold { list_any is_none self.entry.replies ≡ true → IsErrAnd result (λ error. error.kind ≡ Client) }
     {
         let SplitPlan {
             split,
@@ -168,14 +175,18 @@ impl<'a, R: Routable> SplitPlan<'a, R> {
             replies,
             answered,
         } = self;
-        if !answered.iter().all(|is_told| *is_told) {
-            return Err(RedisError::from((
-                ErrorKind::Client,
-                "a part has no reply",
-            )));
+        if !all_set(&answered) {
+            return Err(RedisError::from((ErrorKind::Client, "a part has no reply")));
         }
         join(alloc, &split, replies)
     }
+}
+
+/// Whether all flags are set.
+fn all_set(flags: &[bool]) -> bool
+    ensures { result ≡ list_all (λ flag. flag) flags.now }
+{
+    flags.iter().all(|flag| *flag)
 }
 
 /// The one reply to a split command, by those to its parts.
@@ -184,20 +195,28 @@ fn join<R: Routable>(
     split: &SplitCommand<'_, R>,
     replies: Vec<Value>,
 ) -> RedisResult<Value>
-    requires each { length replies.items ≡ length split.now.routes }
-    ensures unsplit { (form : ReplyForm) (results : List TupleResult) → ArePartsAnswered split.now form results (map view replies.items) → MatchResult result
-        (λ value. view value ≡ reply_by form results)
-        (λ error. (error ≡ out_of_memory) × (form ≡ list)) }
+    requires some { 0 < length replies.items }
+    ensures joined { MatchResult result
+        (λ value. joined split.now (map view replies.items) ≡ Ok (view value))
+        (λ error. ((error ≡ out_of_memory) × (split.now.policy ≡ ResponsePolicy.CombineArrays)) ⊎ (joined split.now (map view replies.items) ≡ Err error.kind)) }
 {
     match split.policy() {
-        ResponsePolicy::Aggregate(AggregateOp::Sum) => aggregate(replies, AggregateOp::Sum),
         ResponsePolicy::CombineArrays => {
             combine_and_sort_array_results(alloc, replies, split.routes(), &split.pattern())
         }
-        _ => match replies.into_iter().next() {
-            Some(first) => Ok(first),
-            None => unreachable!(),
-        },
+        ResponsePolicy::Aggregate(op) => aggregate(replies, op),
+        _ => Ok(first_of(replies)),
+    }
+}
+
+/// The first of some replies.
+fn first_of(replies: Vec<Value>) -> Value
+    requires some { 0 < length replies.items }
+    ensures { Some (view result) ≡ slice_get (map view replies.items) 0 }
+{
+    match replies.into_iter().next() {
+        Some(first) => first,
+        None => unreachable!(),
     }
 }
 
@@ -217,16 +236,13 @@ fn nodes_of<'a>(
         let Some(node) = slot_map.slot_addr_for_route(*route, strategy, pick) else {
             return Err(PlanFault::NotCovered(route.slot()));
         };
-        nodes.push(node).map_err(AllocError::from)?;
+        nodes.push(node)?;
     }
     Ok(nodes)
 }
 
 /// The part of each route.
-fn parts_of<R: Routable>(
-    alloc: Global,
-    split: &SplitCommand<'_, R>,
-) -> Result<Vec<Cmd>, AllocError>
+fn parts_of<R: Routable>(alloc: Global, split: &SplitCommand<'_, R>) -> Result<Vec<Cmd>, AllocError>
     ensures { IfOk result (λ parts. map (map Some) parts.items ≡ map (split_part split.now) (slots_of split.now.routes)) }
 {
     let mut parts = Vec::with_capacity(alloc, split.len())?;

@@ -1,4 +1,4 @@
-ghost use Rattle.std.specs.Prelude.{◌≡◌, ◌<◌, ◌++◌, ◌∷◌, ◌↔◌, [], ℕ, List, Some, None, map, length, slice_get, IfOk, OnOk, IfErr, IsSome};
+ghost use Rattle.std.specs.Prelude.{◌≡◌, ◌<◌, ◌++◌, ◌∷◌, ◌↔◌, [], ℕ, List, Some, None, map, length, slice_get, slice_set, IfOk, OnOk, IfErr, IsSome};
 ghost use Rattle.resp_core.specs.View.{view};
 ghost use Rattle.cluster_slots.specs.Address.{Address};
 ghost use Rattle.redis_nodes.specs.MultiKey.{MultiKey, multi_key};
@@ -37,11 +37,7 @@ pub(super) fn send_all<R: Routable, N: Nodes>(
     let mut answered = 0;
     for number in order {
         match send_part(plan, *number, nodes) {
-            Ok(reply) => {
-                if plan.tell(*number, reply).is_err() {
-                    unreachable!()
-                }
-            }
+            Ok(reply) => tell_first(plan, *number, reply),
             Err(error) => {
                 return Err(DriveError {
                     fault: DriveFault::from(error),
@@ -74,4 +70,15 @@ fn send_part<R: Routable, N: Nodes>(
         unreachable!()
     };
     nodes.send(node, part)
+}
+
+/// Tells the reply to a part that has none yet.
+fn tell_first<R: Routable>(plan: &mut SplitPlan<'_, R>, number: usize, reply: Value)
+    requires { slice_get plan.old.replies number ≡ Some None }
+    ensures { plan.new ≡ record { split = plan.old.split; nodes = plan.old.nodes; parts = plan.old.parts; replies = slice_set plan.old.replies number (Some reply) } }
+{
+    match plan.tell(number, reply) {
+        Ok(()) => {}
+        Err(_) => unreachable!(),
+    }
 }

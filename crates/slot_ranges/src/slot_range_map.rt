@@ -88,6 +88,7 @@ impl<V> SlotRangeMap<V> {
     /// The values, by ascending end of their ranges.
     pub fn values(&self) -> Values<'_, V>
         ensures all { result ≡ map value_of self.now }
+        ensures order { Ascends self.now }
     {
         let ranges = self.ranges.iter();
         Values { ranges }

@@ -1,4 +1,4 @@
-ghost use Rattle.std.specs.Prelude.{◌≡◌, ◌<◌, ◌%◌, ◌↔◌, length, Some, slice_get, IsNone, IfSome, option_copied};
+ghost use Rattle.std.specs.Prelude.{◌≡◌, ◌<◌, ◌%◌, ◌^◌, ◌↔◌, length, Some, slice_get, IsNone, IfSome, option_copied};
 ghost use Rattle.std.specs.Slice.Iter.{iter_rest};
 
 use cluster_slots::NodeAddress;
@@ -30,6 +30,8 @@ impl<'a> Replicas<'a> {
     pub fn len(&self) -> usize
         ensures value { result ≡ length (addresses_of self.now) }
         ensures some { 0 < result }
+        // So the nodes of a slot, the primary among them, can be counted too.
+        ensures below { result < 2 ^ 63 }
     {
         self.nodes.len()
     }

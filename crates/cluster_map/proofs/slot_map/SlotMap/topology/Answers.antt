@@ -1,8 +1,17 @@
 use Rattle.std.proofs.Common.{◌≡◌, ◌∙◌, ap, subst, sym}
 use Rattle.slot_ranges.specs.RangeMap.{Ascends}
-use Rattle.read_strategies.specs.Topology.{shards_of, topology_of, Agrees}
+use Rattle.read_strategies.specs.Topology.{shards_of, topology_of, shards_left, Agrees}
 use Rattle.cluster_map.proofs.Agreement.{agrees}
+use Rattle.cluster_map.proofs.Listed.{listed}
 use Rattle.cluster_map.proofs.slot_map.SlotMap.topology.Goals as goal
+
+pub returns-clause-listed : goal.returns-clause-listed
+returns-clause-listed c =
+    let entries = c.args.self.now in
+    let up : Ascends entries = rw (← c.self.view_is) c.shards_of.ensures.order in
+    let is : c.in_ok-topology.topology ≡ topology_of (shards_of entries) =
+    c.in_ok-topology.ensures.put ∙ ap topology_of (c.in_ok-shards.ensures.shards ∙ ap shards_of c.self.view_is) in
+    ap shards_left is ∙ listed entries up
 
 pub returns-clause-agrees : goal.returns-clause-agrees
 returns-clause-agrees c =

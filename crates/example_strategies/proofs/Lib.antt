@@ -1,0 +1,2 @@
+pub mod KnownShards
+pub mod Indices

@@ -1,0 +1,29 @@
+-- What stands at a key, and the trees that keep it.
+use Rattle.std.specs.Prelude.{ℕ, List, Option, None, Some, option_map}
+use Rattle.std.specs.Ordering.{nat_cmp}
+use Rattle.std.specs.Cmp.Lexicographic.{slice_cmp}
+use Rattle.std.specs.BTreeMap.{BTreeMap, get_by}
+use Rattle.std.specs.declared.vec.Vec.{Vec}
+use Rattle.std.specs.declared.alloc.Global.{Global}
+use Rattle.redis_nodes.specs.Unsplit.{Keyspace}
+
+-- the value at each path; no step leaves a key with no value at any, so such a key is absent
+abbrev pub Cell : Type 0
+Cell = List ℕ → Option (List ℕ)
+
+-- the value at a path, where the key is there
+abbrev pub value_at : Option Cell → List ℕ → Option (List ℕ)
+value_at None path = None
+value_at (Some cell) path = cell path
+
+-- what a tree has at some bytes
+abbrev pub found : {X : Type 0} → BTreeMap (Vec ℕ Global) X → List ℕ → Option X
+found tree bytes = get_by (λ key. slice_cmp nat_cmp bytes key.items) tree
+
+-- the cell that a tree from paths to values keeps
+abbrev pub cell_of : BTreeMap (Vec ℕ Global) (Vec ℕ Global) → Cell
+cell_of values path = option_map (λ value. value.items) (found values path)
+
+-- the keyspace that a tree of such trees keeps
+abbrev pub keyspace_of : BTreeMap (Vec ℕ Global) (BTreeMap (Vec ℕ Global) (Vec ℕ Global)) → Keyspace Cell
+keyspace_of cells key = option_map cell_of (found cells key)

@@ -1,0 +1,31 @@
+-- A command over many keys as it is taken apart.
+use Rattle.std.specs.Prelude.{ℕ, List, Option, map, option_map, slice_get}
+use Rattle.std.specs.declared.vec.Vec.{Vec}
+use Rattle.std.specs.declared.alloc.Global.{Global}
+use Rattle.redis_commands.specs.Tuples.{tuples_from}
+use Rattle.redis_commands.specs.declared.route_by.MultiSlotArgPattern.{MultiSlotArgPattern}
+use Rattle.redis_nodes.specs.MultiKey.{KeyTuple, MultiKey, ReplyForm, unplaced, form_by_policy}
+use Rattle.redis_nodes.specs.Unsplit.{Act}
+use Rattle.memory_nodes.specs.Cells.{Cell}
+use Rattle.memory_nodes.specs.Steps.{step}
+use Rattle.memory_nodes.specs.declared.whole_command.WholeCommand.{WholeCommand}
+
+-- arguments as their bytes
+abbrev pub words : List (Vec ℕ Global) → List (List ℕ)
+words args = map (λ arg. arg.items) args
+
+-- the tuples of arguments of which none is shared
+abbrev pub key_tuples : MultiSlotArgPattern → List (List ℕ) → List KeyTuple
+key_tuples pattern args = map unplaced (tuples_from pattern 0 args)
+
+-- the command that was taken apart, with a form of the reply
+abbrev pub with_form : WholeCommand → ReplyForm → MultiKey
+with_form whole form = record { name = whole.name.items; shared = slice_get (words whole.shared.now) 0; tuples = key_tuples whole.pattern (words whole.tuples.now); form = form }
+
+-- and with the form of its policy
+abbrev pub command_by : WholeCommand → Option MultiKey
+command_by whole = option_map (with_form whole) (form_by_policy whole.policy)
+
+-- what each of its tuples does
+abbrev pub act_on : WholeCommand → Act Cell
+act_on whole = λ t. step whole.name.items (slice_get (words whole.shared.now) 0) t.key t.extras

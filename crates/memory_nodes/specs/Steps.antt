@@ -1,0 +1,64 @@
+-- What each command over many keys does to the cell of a key and adds to the reply.
+use Rattle.std.specs.Prelude.{ℕ, List, [], ◌∷◌, Bool, false, Option, None, Some, is_some, codes, slice_index_or}
+use Rattle.std.specs.Option.{unwrap_or}
+use Rattle.redis_commands.specs.Lookup.{lookup}
+use Rattle.resp_core.specs.Reply.{Reply, nil, bulk}
+use Rattle.redis_nodes.specs.Unsplit.{Outcome, Step, put}
+use Rattle.memory_nodes.specs.Cells.{Cell, value_at}
+use Rattle.memory_nodes.specs.declared.action.Action.{Action}
+use Rattle.memory_nodes.specs.declared.action.Action.TheVariants.{Read, ReadAtShared, Count, Remove, Leave, Write, WriteAtPath}
+
+-- what each name does with a key
+abbrev pub actions : List (List ℕ × Action)
+actions =
+    (codes "MGET", Read) ∷
+    (codes "JSON.MGET", ReadAtShared) ∷
+    (codes "EXISTS", Count) ∷
+    (codes "TOUCH", Count) ∷
+    (codes "DEL", Remove) ∷
+    (codes "UNLINK", Remove) ∷
+    (codes "WATCH", Leave) ∷
+    (codes "MSET", Write) ∷
+    (codes "JSON.MSET", WriteAtPath) ∷ []
+
+-- any other name does nothing
+abbrev pub action_of : List ℕ → Action
+action_of name = unwrap_or (lookup actions name) Leave
+
+-- the value at a path as a reply
+abbrev pub shown : Option (List ℕ) → Reply
+shown None = nil
+shown (Some value) = bulk value
+
+-- one value at the empty path, and no other
+abbrev pub alone : List ℕ → Cell
+alone value = put [] (Some value) (λ path. None)
+
+-- one value at a path, and at other paths what was there
+abbrev pub written : List ℕ → List ℕ → Option Cell → Cell
+written path value cell = put path (Some value) (value_at cell)
+
+-- what is left in the cell, with a value, or with whether the key counts
+abbrev pub gives : Option Cell → Reply → Outcome Cell
+gives cell value = record { cell = cell; result = record { value = value; counts = false } }
+
+abbrev pub counted : Option Cell → Bool → Outcome Cell
+counted cell counts = record { cell = cell; result = record { value = nil; counts = counts } }
+
+-- an argument that goes with the key, by its place among them
+abbrev pub extra : List (List ℕ) → ℕ → List ℕ
+extra extras place = slice_index_or extras place []
+
+-- what an action does to the cell of a key
+abbrev pub act : Action → Option (List ℕ) → List (List ℕ) → Option Cell → Outcome Cell
+act Read shared extras cell = gives cell (shown (value_at cell []))
+act ReadAtShared shared extras cell = gives cell (shown (value_at cell (unwrap_or shared [])))
+act Count shared extras cell = counted cell (is_some cell)
+act Remove shared extras cell = counted None (is_some cell)
+act Leave shared extras cell = counted cell false
+act Write shared extras cell = counted (Some (alone (extra extras 0))) false
+act WriteAtPath shared extras cell = counted (Some (written (extra extras 0) (extra extras 1) cell)) false
+
+-- what a key of a command does, by the command's name
+abbrev pub step : Step Cell
+step name shared key extras cell = act (action_of name) shared extras cell

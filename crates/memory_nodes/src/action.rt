@@ -1,0 +1,40 @@
+ghost use Rattle.std.specs.Prelude.{◌≡◌};
+ghost use Rattle.memory_nodes.specs.Steps.{action_of};
+
+/// What a command does with each of its keys.
+#[derive(Clone, Copy)]
+pub(super) enum Action {
+    /// Reads the value at the empty path.
+    Read,
+    /// Reads the value at the path that all keys share.
+    ReadAtShared,
+    /// Counts the key where it is there.
+    Count,
+    /// Removes the key, and counts it where it was there.
+    Remove,
+    /// Does nothing.
+    Leave,
+    /// Writes a value at the empty path, and keeps no other.
+    Write,
+    /// Writes a value at a path, and keeps those at other paths.
+    WriteAtPath,
+}
+
+impl Action {
+    /// What a command does by its name, given in upper case.
+    pub(super) fn of_name(name: &[u8]) -> Action
+        ensures { result ≡ action_of name.now }
+    {
+        match name {
+            b"MGET" => Action::Read,
+            b"JSON.MGET" => Action::ReadAtShared,
+            b"EXISTS" => Action::Count,
+            b"TOUCH" => Action::Count,
+            b"DEL" => Action::Remove,
+            b"UNLINK" => Action::Remove,
+            b"MSET" => Action::Write,
+            b"JSON.MSET" => Action::WriteAtPath,
+            _ => Action::Leave,
+        }
+    }
+}

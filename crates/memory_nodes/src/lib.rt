@@ -1,0 +1,13 @@
+//! Nodes that keep their keys in memory, for tests of programs that send commands to nodes.
+#![tactic(auto)]
+
+mod action;
+mod cells;
+mod nodes;
+mod results;
+mod trace_entry;
+mod tuples;
+mod whole_command;
+
+pub use nodes::MemoryNodes;
+pub use trace_entry::TraceEntry;

@@ -1,0 +1,137 @@
+-- One part more is sent and its reply told, and the replies are all there in the end.
+use Rattle.std.proofs.Common.{◌≡◌, ◌≢◌, ◌<◌, ◌↔◌, ℕ, zero, suc, ◌+◌, List, [], ◌∷◌, ◌++◌, Bool, true, false, cond, Option, Some, None, refl, sym, ap, ◌∙◌, arith, length, map, take, get_or, subst}
+use Rattle.std.specs.Prelude.{nat_eq, slice_get, slice_set}
+use Rattle.std.specs.List.{AllZip, zip}
+use Rattle.std.proofs.lemmas.Bool.{eqb-true}
+use Rattle.std.proofs.lemmas.Bool.Decides.{nat_tests}
+use Rattle.cluster_slots.specs.Address.{Address}
+use Rattle.resp_core.proofs.Cases.{by_test}
+use Rattle.resp_core.specs.Reply.{Reply}
+use Rattle.resp_core.specs.View.{view}
+use Rattle.resp_core.specs.declared.value.Value.{Value}
+use Rattle.redis_nodes.specs.MultiKey.{MultiKey, multi_key, part_of}
+use Rattle.redis_nodes.specs.Orders.{times, NamesOnce}
+use Rattle.redis_nodes.specs.Sent.{IsUnanswered}
+use Rattle.redis_nodes.specs.Trace.{Entry, Ending}
+use Rattle.redis_nodes.specs.Unsplit.{Keyspace}
+use Rattle.redis_nodes.proofs.Counts.{same_number}
+use Rattle.redis_nodes.proofs.Once.{times_more, times-take, names_once-apart}
+use Rattle.redis_driver.specs.Plan.{slots_of}
+use Rattle.redis_driver.specs.Sends.{Target, targets, IsLast}
+
+-- the slot of a route, and where its part goes, which is that of the slot
+pub record RouteTarget (command : MultiKey) (slots : List ℕ) (nodes : List Address) (parts : List (List (List ℕ))) (number : ℕ) : Type 0 where
+  pub slot : ℕ
+  pub target : Target
+  pub slot_at : slice_get slots number ≡ Some slot
+  pub target_at : slice_get (zip nodes parts) number ≡ Some target
+  pub part : multi_key (map Some target.1) ≡ Some (part_of command slot)
+
+-- each route has them
+pub route_target : (command : MultiKey) (slots : List ℕ) (nodes : List Address) (parts : List (List (List ℕ))) (number : ℕ) → length nodes ≡ length slots
+    → AllZip (λ slot part. multi_key (map Some part) ≡ Some (part_of command slot)) slots parts → number < length slots → RouteTarget command slots nodes parts number
+route_target command [] nodes parts number many each within = absurd (omega arith)
+route_target command (s ∷ slots) [] parts number many each within = absurd (omega arith)
+route_target command (s ∷ slots) (n ∷ nodes) [] number many each within = absurd each
+route_target command (s ∷ slots) (n ∷ nodes) (p ∷ parts) zero many each within = record { slot = s; target = (n, p); slot_at = refl; target_at = refl; part = each.0 }
+route_target command (s ∷ slots) (n ∷ nodes) (p ∷ parts) (suc number) many each within =
+    let rest = route_target command slots nodes parts number (omega arith) each.1 (omega arith) in
+    record { slot = rest.slot; target = rest.target; slot_at = rest.slot_at; target_at = rest.target_at; part = rest.part }
+
+-- what is put at a place stands there, and elsewhere nothing changes
+pub set_here : {X : Type 0} (xs : List X) (k : ℕ) (x : X) → k < length xs → slice_get (slice_set xs k x) k ≡ Some x
+set_here [] k x within = absurd (omega arith)
+set_here (y ∷ xs) zero x within = refl
+set_here (y ∷ xs) (suc k) x within = set_here xs k x (omega arith)
+
+pub set_there : {X : Type 0} (xs : List X) (k j : ℕ) (x : X) → nat_eq j k ≡ false → slice_get (slice_set xs k x) j ≡ slice_get xs j
+set_there [] k j x apart = refl
+set_there (y ∷ xs) zero zero x apart = absurd (cc apart)
+set_there (y ∷ xs) zero (suc j) x apart = refl
+set_there (y ∷ xs) (suc k) zero x apart = refl
+set_there (y ∷ xs) (suc k) (suc j) x apart = set_there xs k j x (grind (arith, nat_tests))
+
+-- no reply yet
+abbrev untold : {X : Type 0} → X → Option Value
+untold x = None
+
+-- before the first answer no reply is told
+pub none_at : {X : Type 0} (xs : List X) (k : ℕ) → k < length xs → slice_get (map untold xs) k ≡ Some None
+none_at [] k within = absurd (omega arith)
+none_at (x ∷ xs) zero within = refl
+none_at (x ∷ xs) (suc k) within = none_at xs k (omega arith)
+
+-- a route was not sent before its turn
+pub not_yet : (routes : ℕ) (order : List ℕ) (count : ℕ) → NamesOnce routes order → count < length order → times (get_or order count 0) (take count order) ≡ 0
+not_yet routes order count names within =
+    let k : ℕ = get_or order count 0 in
+    let more : times k (take (count + 1) order) ≡ times k (take count order) + 1 = times_more k order count 0 within ∙ ap (λ b. times k (take count order) + cond b 1 0) (same_number k) in
+    omega (arith, more, times-take k order (count + 1), names_once-apart routes order names k)
+
+-- the reply to a route was told, and is this one
+abbrev pub IsTold : List (Option Value) → ℕ → Reply → Type 0
+IsTold replies number reply = (value : Value) × (slice_get replies number ≡ Some (Some value)) × (view value ≡ reply)
+
+-- the replies of the first routes of an order were told
+abbrev pub AreTold : List (Option Value) → List ℕ → List ℕ → ℕ → (ℕ → Reply) → Type 0
+AreTold replies slots order count reply_of = (number slot : ℕ) → slice_get slots number ≡ Some slot → 0 < times number (take count order) → IsTold replies number (reply_of slot)
+
+-- and no other
+abbrev pub AreUntold : List (Option Value) → List ℕ → ℕ → ℕ → Type 0
+AreUntold replies order count routes = (number : ℕ) → number < routes → times number (take count order) ≡ 0 → slice_get replies number ≡ Some None
+
+same_some : {A : Type 0} (x y : A) → Some x ≡ Some y → x ≡ y
+same_some x y h = cc
+
+module _ (replies : List (Option Value)) (slots order : List ℕ) (count number : ℕ) (within : count < length order) (is : number ≡ get_or order count 0) (room : number < length replies) where
+  more_at : (other : ℕ) → times other (take (count + 1) order) ≡ times other (take count order) + cond (nat_eq other number) 1 0
+  more_at other = times_more other order count 0 within ∙ ap (λ k. times other (take count order) + cond (nat_eq other k) 1 0) (sym is)
+
+  pub told_more : (reply_of : ℕ → Reply) (slot : ℕ) (value : Value) → slice_get slots number ≡ Some slot → view value ≡ reply_of slot
+      → AreTold replies slots order count reply_of → AreTold (slice_set replies number (Some value)) slots order (count + 1) reply_of
+  told_more reply_of slot value at says before other own own_at named =
+      by_test (nat_eq other number)
+      (λ same.
+      let e : other ≡ number = eqb-true other number same in
+      let own_is : slot ≡ own = same_some slot own (sym at ∙ ap (slice_get slots) (sym e) ∙ own_at) in
+      (value, ap (slice_get (slice_set replies number (Some value))) e ∙ set_here replies number (Some value) room, says ∙ ap reply_of own_is))
+      (λ apart.
+      let as_often : times other (take (count + 1) order) ≡ times other (take count order) + 0 = more_at other ∙ ap (λ b. times other (take count order) + cond b 1 0) apart in
+      let was : IsTold replies other (reply_of own) = before other own own_at (omega arith) in
+      (was.0, set_there replies number other (Some value) apart ∙ was.1, was.2))
+
+  pub untold_less : (routes : ℕ) (value : Value) → AreUntold replies order count routes → AreUntold (slice_set replies number (Some value)) order (count + 1) routes
+  untold_less routes value before other inside none =
+      by_test (nat_eq other number)
+      (λ same. absurd (let more : times other (take (count + 1) order) ≡ times other (take count order) + 1 = more_at other ∙ ap (λ b. times other (take count order) + cond b 1 0) same in omega arith))
+      (λ apart.
+      let as_often : times other (take (count + 1) order) ≡ times other (take count order) + 0 = more_at other ∙ ap (λ b. times other (take count order) + cond b 1 0) apart in
+      set_there replies number other (Some value) apart ∙ before other inside (omega arith))
+
+-- where each reply was told, they are a list of replies
+pub all_told : (replies : List (Option Value)) (slots : List ℕ) (reply_of : ℕ → Reply) → length replies ≡ length slots
+    → ((number slot : ℕ) → slice_get slots number ≡ Some slot → IsTold replies number (reply_of slot))
+    → (values : List Value) × (replies ≡ map Some values) × (map view values ≡ map reply_of slots)
+all_told [] [] reply_of many each = ([], refl, refl)
+all_told [] (s ∷ slots) reply_of many each = absurd (omega arith)
+all_told (r ∷ replies) [] reply_of many each = absurd (omega arith)
+all_told (r ∷ replies) (s ∷ slots) reply_of many each =
+    let first : IsTold (r ∷ replies) 0 (reply_of s) = each 0 s refl in
+    let rest = all_told replies slots reply_of (omega arith) (λ number slot at. each (suc number) slot at) in
+    let first_is : r ≡ Some first.0 = same_some r (Some first.0) first.1 in
+    (first.0 ∷ rest.0, ap (λ o. o ∷ replies) first_is ∙ ap (λ os. Some first.0 ∷ os) rest.1, ap (λ v. v ∷ map view rest.0) first.2 ∙ ap (λ vs. reply_of s ∷ vs) rest.2)
+
+-- what a send that was not answered leaves is how the sends end
+pub last_is : {C : Type 0} (may now_may : ℕ → Ending → Type 0) (old_keys new_keys : Keyspace C) (old new : List Entry) (mark : Bool) (target : Target) (found : Option Target) (ending : Option Ending)
+    → ((count : ℕ) (e : Ending) → now_may count e ↔ may count e) → found ≡ Some target
+    → IsUnanswered now_may old_keys new_keys old new mark target.0 target.1 ending → IsLast may old new mark found ending
+last_is may now_may old_keys new_keys old new mark target found (Some ending) same at h =
+    subst (λ (o : Option Target). IsLast may old new mark o (Some ending)) (sym at) (h.2, (same (length old) ending).0 h.0)
+last_is may now_may old_keys new_keys old new mark target found None same at h =
+    subst (λ (o : Option Target). IsLast may old new mark o None) (sym at) (h.1, h.2)
+
+-- and the keyspace is the old one
+pub same_keys : {C : Type 0} (may : ℕ → Ending → Type 0) (old_keys new_keys : Keyspace C) (old new : List Entry) (mark : Bool) (target : Target) (ending : Option Ending)
+    → IsUnanswered may old_keys new_keys old new mark target.0 target.1 ending → new_keys ≡ old_keys
+same_keys may old_keys new_keys old new mark target (Some ending) h = h.1
+same_keys may old_keys new_keys old new mark target None h = h.0

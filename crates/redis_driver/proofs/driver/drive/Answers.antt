@@ -1,0 +1,61 @@
+use Rattle.std.proofs.Common.{◌≡◌, ℕ, map, Result, Ok, Err, IfOk}
+use Rattle.std.specs.Prelude.{OnOk}
+use Rattle.std.proofs.lemmas.Result.{IfErr-weaker}
+use Rattle.cluster_slots.specs.Address.{Address}
+use Rattle.cluster_slots.specs.SlotRoute.{SlotRoute}
+use Rattle.redis_commands.specs.ReadOnly.{is_among}
+use Rattle.redis_driver.specs.Driven.{request, state}
+use Rattle.redis_driver.proofs.Ended.{drivable, sent_all, ended_fault, early_fault}
+use Rattle.redis_driver.proofs.Headline.{headline_fault}
+use Rattle.redis_driver.proofs.driver.drive.Goals as goal
+
+-- what three clauses say of an answer
+all_three : {T E : Type 0} {A B : Type 0} (P Q : T → Type 0) (r : Result T E) → ((x : T) → A → B → P x → Q x) → OnOk r A → OnOk r B → IfOk r P → IfOk r Q
+all_three P Q (Ok x) f a b p = f x a b p
+all_three P Q (Err e) f a b p = tt
+
+pub returns-in-Ok-clause-driven : goal.returns-in-Ok-clause-driven
+returns-in-Ok-clause-driven g c =
+    let plan = c.in-Ok.plan in
+    let command = c.in-Ok.ensures.ready.0 in
+    let is = c.in-Ok.ensures.ready.1 in
+    let asked = request (g.R.Routable.args c.args.command.now) (is_among c.args.read_only.now) c.args.slot_map.now c.args.order.now in
+    let old = state (g.N.Nodes.keyspace c.args.nodes.now) (g.N.Nodes.trace c.args.nodes.now) (g.N.Nodes.mark c.args.nodes.now) in
+    let new = state (g.N.Nodes.keyspace c.drive_plan.new.nodes) (g.N.Nodes.trace c.drive_plan.new.nodes) (g.N.Nodes.mark c.drive_plan.new.nodes) in
+    all_three _ _ c.drive_plan.result
+    (λ value trace keyspace reply. record {
+      routes = map (λ t. t.0) plan.split.routes;
+      command = command;
+      drivable = drivable _ g.N.Nodes.step asked old new plan command is c.in-Ok.ensures.order;
+      trace = sent_all _ g.N.Nodes.step asked old new plan command is c.in-Ok.ensures.order trace;
+      keyspace = keyspace command is.plan_is;
+      reply = reply command is.plan_is;
+    })
+    c.drive_plan.ensures.trace c.drive_plan.ensures.keyspace c.drive_plan.ensures.reply
+
+pub returns-in-Ok-clause-fault : goal.returns-in-Ok-clause-fault
+returns-in-Ok-clause-fault g c =
+    let plan = c.in-Ok.plan in
+    let asked = request (g.R.Routable.args c.args.command.now) (is_among c.args.read_only.now) c.args.slot_map.now c.args.order.now in
+    let old = state (g.N.Nodes.keyspace c.args.nodes.now) (g.N.Nodes.trace c.args.nodes.now) (g.N.Nodes.mark c.args.nodes.now) in
+    let new = state (g.N.Nodes.keyspace c.drive_plan.new.nodes) (g.N.Nodes.trace c.drive_plan.new.nodes) (g.N.Nodes.mark c.drive_plan.new.nodes) in
+    IfErr-weaker c.drive_plan.result _ _
+    (λ e ended. ended_fault _ g.N.Nodes.step asked old new plan c.in-Ok.ensures.ready.0 c.in-Ok.ensures.ready.1 c.in-Ok.ensures.order (g.N.Nodes.may_refuse c.args.nodes.now) e.fault e.answered c.in-Ok.ensures.some ended)
+    c.drive_plan.ensures.stopped
+
+pub returns-in-Ok-clause-headline : goal.returns-in-Ok-clause-headline
+returns-in-Ok-clause-headline g c =
+    let asked = request (g.R.Routable.args c.args.command.now) (is_among c.args.read_only.now) c.args.slot_map.now c.args.order.now in
+    let old = state (g.N.Nodes.keyspace c.args.nodes.now) (g.N.Nodes.trace c.args.nodes.now) (g.N.Nodes.mark c.args.nodes.now) in
+    let new = state (g.N.Nodes.keyspace c.drive_plan.new.nodes) (g.N.Nodes.trace c.drive_plan.new.nodes) (g.N.Nodes.mark c.drive_plan.new.nodes) in
+    λ headline. IfErr-weaker c.drive_plan.result _ _
+    (λ e fault. headline_fault _ g.N.Nodes.step asked old new (g.N.Nodes.may_refuse c.args.nodes.now) headline e.fault e.answered fault)
+    (returns-in-Ok-clause-fault g c)
+
+pub returns-in-Err-clause-headline : goal.returns-in-Err-clause-headline
+returns-in-Err-clause-headline g c =
+    let asked = request (g.R.Routable.args c.args.command.now) (is_among c.args.read_only.now) c.args.slot_map.now c.args.order.now in
+    let old = state (g.N.Nodes.keyspace c.args.nodes.now) (g.N.Nodes.trace c.args.nodes.now) (g.N.Nodes.mark c.args.nodes.now) in
+    let IsNode : SlotRoute → Address → Type 0 = λ route address. Unit {0} in
+    λ headline. headline_fault IsNode g.N.Nodes.step asked old old (g.N.Nodes.may_refuse c.args.nodes.now) headline c.in-Err.fault 0
+    (early_fault IsNode g.N.Nodes.step asked old (g.N.Nodes.may_refuse c.args.nodes.now) c.in-Err.fault c.in-Err.ensures.early)

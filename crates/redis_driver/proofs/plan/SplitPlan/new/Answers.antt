@@ -1,0 +1,77 @@
+use Rattle.std.proofs.Common.{◌≡◌, ◌⊎◌, ℕ, Bool, List, Some, Result, Ok, Err, IsErrAnd, IfErr, inl, inr, ap, sym, subst, ◌∙◌, false, length, map, option_map, replicate}
+use Rattle.std.specs.List.{AllZip}
+use Rattle.std.specs.declared.alloc.Global.{Global}
+use Rattle.std.specs.declared.vec.Vec.{Vec}
+use Rattle.cluster_slots.specs.SlotRoute.{SlotRoute}
+use Rattle.slot_ranges.specs.SlotNodes.{SlotNodes}
+use Rattle.slot_ranges.specs.RangeMap.{Entry}
+use Rattle.redis_commands.specs.Command.{Arguments}
+use Rattle.redis_commands.specs.ReadOnly.{is_among}
+use Rattle.redis_routing.specs.Complete.{multi_slot_routes}
+use Rattle.redis_routing.specs.RoutingInfo.{route_lists}
+use Rattle.redis_driver.specs.Driven.{IsFirstUncovered}
+use Rattle.redis_driver.specs.Faults.{IsPlanFault}
+use Rattle.redis_driver.specs.declared.fault.PlanFault.{PlanFault}
+use Rattle.redis_driver.specs.declared.fault.PlanFault.TheVariants.{Memory, NotCovered}
+use Rattle.std.proofs.lemmas.List.{length-replicate}
+use Rattle.std.proofs.lemmas.Slice.Zip.{AllZip-long}
+use Rattle.redis_driver.proofs.Covered.{IsNode, covered_by_nodes, firsts-route_lists}
+use Rattle.redis_driver.proofs.Telling.{length-told, none_told}
+use Rattle.redis_driver.proofs.plan.SplitPlan.new.Goals as goal
+
+-- why there are no nodes for the routes of a command
+fault_of_nodes : (entries : List (Entry SlotNodes)) (only_reads : List ℕ → Bool) (args : Arguments) (routes : List (SlotRoute × Vec ℕ Global)) →
+    Some (route_lists routes) ≡ multi_slot_routes only_reads args → (fault : PlanFault) →
+    (fault ≡ Memory) ⊎ ((slot : ℕ) × (fault ≡ NotCovered slot) × IsFirstUncovered entries (map (λ r. r.0) routes) slot) →
+    IsPlanFault entries only_reads args fault
+fault_of_nodes entries only_reads args routes of_command fault (inl e) = subst (IsPlanFault entries only_reads args) (sym e) tt
+fault_of_nodes entries only_reads args routes of_command fault (inr cause) =
+    subst (IsPlanFault entries only_reads args) (sym cause.1)
+    (map (λ r. r.0) routes, ap (option_map (map (λ r. r.0))) (sym of_command) ∙ ap Some (firsts-route_lists routes), cause.2)
+
+-- what holds of the error of a result that is one
+err_from : {T E : Type 0} (P Q : E → Type 0) (r : Result T E) → IsErrAnd r P → ((e : E) → P e → Q e) → IfErr r Q
+err_from P Q (Ok x) is gives = tt
+err_from P Q (Err e) is gives = gives e is
+
+pub returns-in_err-nodes-clause-fault : goal.returns-in_err-nodes-clause-fault
+returns-in_err-nodes-clause-fault g c =
+    let entries = c.args.slot_map.now in
+    let only_reads = is_among c.args.read_only.now in
+    let args = g.R.Routable.args c.args.command.now in
+    let of_command : Some (route_lists c.routes.result.now) ≡ multi_slot_routes only_reads args =
+    ap Some c.routes.ensures.routes ∙ sym (ap (option_map (λ s. s.routes)) c.in-Some.is) ∙ c.in_ok-split.ensures.routes
+    in
+    err_from _ _ c.from_residual-in_err-nodes.result c.from_residual-in_err-nodes.ensures.1
+    (λ fault is. subst (IsPlanFault entries only_reads args) (sym is)
+    (fault_of_nodes entries only_reads args c.routes.result.now of_command c.in_err-nodes.field-0.0 c.in_err-nodes.ensures.fault))
+
+pub invariant_of-result : goal.invariant_of-result
+invariant_of-result g c =
+    let is_node = IsNode c.args.strategy (λ s. (goal.ReadRoutingStrategy-dyn g s.now).picks s.now.1) c.args.slot_map.now c.args.pick in
+    let nodes = map (λ n. n.now) c.in_ok-nodes.nodes.items in
+    let marks = c.in_ok-answered.answered.items in
+    let replies = c.in_ok-replies.replies.items in
+    let unmarked : marks ≡ replicate c.len-count.result false = c.in_ok-answered.ensures.items_if_clones_equal (λ y is. is) in
+    let long : length marks ≡ length replies = ap length unmarked ∙ length-replicate c.len-count.result false ∙ sym c.in_ok-replies.ensures in (
+      record {
+        split = c.routes.ensures.split;
+        nodes = AllZip-long is_node c.in-Some.split.routes nodes (subst (λ routes. AllZip is_node routes nodes) c.routes.ensures.routes c.in_ok-nodes.ensures.nodes);
+        parts = c.in_ok-parts.ensures;
+        replies = length-told marks replies long ∙ c.in_ok-replies.ensures ∙ c.len-count.ensures.len;
+      },
+      long,
+    )
+
+pub returns-clause-covered : goal.returns-clause-covered
+returns-clause-covered g c =
+    let entries = c.args.slot_map.now in
+    let is_node = IsNode c.args.strategy (λ s. (goal.ReadRoutingStrategy-dyn g s.now).picks s.now.1) entries c.args.pick in
+    let nodes = map (λ n. n.now) c.in_ok-nodes.nodes.items in
+    covered_by_nodes c.args.strategy (λ s. (goal.ReadRoutingStrategy-dyn g s.now).picks s.now.1) entries c.args.pick c.in-Some.split.routes nodes
+    (subst (λ routes. AllZip is_node routes nodes) c.routes.ensures.routes c.in_ok-nodes.ensures.nodes)
+
+pub returns-clause-untold : goal.returns-clause-untold
+returns-clause-untold g c =
+    let unmarked : c.in_ok-answered.answered.items ≡ replicate c.len-count.result false = c.in_ok-answered.ensures.items_if_clones_equal (λ y is. is) in
+    rw unmarked (none_told c.len-count.result c.in_ok-replies.replies.items c.in-Some.split.routes c.in_ok-replies.ensures (sym c.len-count.ensures.len))

@@ -1,0 +1,195 @@
+use Rattle.std.proofs.Common.{◌≡◌, ◌<◌, ◌≤◌, ℕ, ◌+◌, List, [], ◌∷◌, ◌++◌, Option, Some, None, All, refl, sym, ap, ◌∙◌, arith, subst, length, map, take, get_or}
+use Rattle.std.specs.Prelude.{IsSome, slice_get, slice_set, option_and_then}
+use Rattle.std.specs.List.{zip}
+use Rattle.std.proofs.lemmas.Slice.Zip.{AllZip-long}
+use Rattle.std.proofs.lemmas.List.{append-nil, length-map, map_push, length-set}
+use Rattle.std.proofs.lemmas.Option.{slice_get-get_or, slice_get-map, slice_get_within}
+use Rattle.std.proofs.Common.{append_assoc, take_all}
+use Rattle.resp_core.specs.Reply.{Reply}
+use Rattle.resp_core.specs.View.{view}
+use Rattle.redis_nodes.specs.MultiKey.{MultiKey, multi_key, part_of, tuples_of_slot, form_by_policy}
+use Rattle.redis_nodes.specs.Orders.{times, in_order, NamesOnce}
+use Rattle.redis_nodes.specs.SlotResults.{results_of_slot}
+use Rattle.redis_nodes.specs.Sent.{ending_of}
+use Rattle.redis_nodes.specs.Trace.{answered}
+use Rattle.redis_nodes.specs.Unsplit.{act_of, after, reply_by, results, results_of, keyspace_after, reply_to}
+use Rattle.redis_nodes.proofs.Fold.{joined}
+use Rattle.redis_nodes.proofs.Once.{names_once-apart, stands}
+use Rattle.redis_nodes.proofs.Orders.{in_order_more, get-in_order}
+use Rattle.redis_nodes.proofs.Whole.{keyspace_of_all, keyspace_at_stop, keyspace_more, results_more, names_slots_from}
+use Rattle.redis_nodes.proofs.Parts.{length-results}
+use Rattle.redis_driver.specs.Plan.{Plan, slots_of, tuples_in_split}
+use Rattle.redis_driver.specs.Sends.{Target, targets, target_entry, IsPlanOf, AreStopped}
+use Rattle.redis_routing.specs.Split.{Split}
+use Rattle.redis_driver.proofs.Zips.{zip_long}
+use Rattle.redis_driver.proofs.Sending.{RouteTarget, route_target, none_at, not_yet, AreTold, AreUntold, told_more, untold_less, all_told, last_is, same_keys}
+use Rattle.redis_driver.proofs.send.send_all.Goals as goal
+
+-- the routes have as many slots
+many : (plan : Plan) → length (slots_of plan.split.routes) ≡ length plan.split.routes
+many plan = length-map plan.split.routes (λ r. r.0.slot)
+
+-- there are as many targets as slots
+targets_many : (command : MultiKey) (plan : Plan) → IsPlanOf command plan → length (targets plan) ≡ length (slots_of plan.split.routes)
+targets_many command plan is = zip_long plan.nodes plan.parts (length (slots_of plan.split.routes)) (is.nodes ∙ sym (many plan)) (AllZip-long (λ slot part. multi_key (map Some part) ≡ Some (part_of command slot)) (slots_of plan.split.routes) plan.parts is.parts)
+
+-- what stands next in an order
+next_in_order : {X : Type 0} (xs : List X) (order : List ℕ) (i : ℕ) (x : X) → All (λ k. k < length xs) order → i < length order → slice_get xs (get_or order i 0) ≡ Some x → slice_get (in_order xs order) i ≡ Some x
+next_in_order xs order i x within inside at = get-in_order xs order within i ∙ ap (option_and_then (λ k. slice_get xs k)) (slice_get-get_or order i 0 inside) ∙ at
+
+pub loop-number-init : goal.loop-number-init
+loop-number-init g c =
+    let plan = c.args.plan.now in
+    record {
+      split = refl;
+      same_targets = refl;
+      room = ap length c.requires.untold ∙ length-map plan.split.routes (λ r. None) ∙ sym (many plan);
+      told = λ command is number slot at some. absurd (omega (arith, some));
+      untold = λ number inside none. ap (λ rs. slice_get rs number) c.requires.untold ∙ none_at plan.split.routes number (omega (arith, inside, many plan));
+      trace = sym (append-nil (g.N.Nodes.trace c.args.nodes.now));
+      keyspace = λ command is. refl;
+      may_refuse = λ count ending. (λ may. may, λ may. may);
+      answered = refl;
+    }
+
+pub send_part-requires : goal.send_part-requires
+send_part-requires g c =
+    let plan = c.args.plan.now in
+    let k = get_or c.args.order.now c.loop-number.number-index 0 in
+    let command = c.requires.command.0 in
+    let is = c.requires.command.1 in
+    let below : k < length plan.split.routes = c.requires.order.below c.loop-number.number-index 0 c.loop-number-test.true in
+    let t = route_target command (slots_of plan.split.routes) plan.nodes plan.parts k (is.nodes ∙ sym (many plan)) is.parts (omega (arith, below, many plan)) in
+    record { there = (t.target, ap (λ ts. slice_get ts k) c.loop-number.invariant.same_targets ∙ t.target_at, subst IsSome (sym t.part) refl) }
+
+pub tell_first-requires : goal.tell_first-requires
+tell_first-requires g c =
+    let plan = c.args.plan.now in
+    let order = c.args.order.now in
+    let i = c.loop-number.number-index in
+    let k = get_or order i 0 in
+    let below : k < length plan.split.routes = c.requires.order.below i 0 c.loop-number-test.true in
+    c.loop-number.invariant.untold k (omega (arith, below, many plan)) (not_yet (length plan.split.routes) order i c.requires.order c.loop-number-test.true)
+
+pub loop-number-preserved : goal.loop-number-preserved
+loop-number-preserved g c =
+    let nodes = g.N.Nodes in
+    let plan = c.args.plan.now in
+    let order = c.args.order.now in
+    let slots = slots_of plan.split.routes in
+    let old = nodes.keyspace c.args.nodes.now in
+    let i = c.loop-number.number-index in
+    let k = get_or order i 0 in
+    let inv = c.loop-number.invariant in
+    let inside : i < length order = c.loop-number-test.true in
+    let below : k < length plan.split.routes = c.requires.order.below i 0 inside in
+    let within : k < length slots = omega (arith, below, many plan) in
+    let names : NamesOnce (length slots) order = subst (λ n. NamesOnce n order) (sym (many plan)) c.requires.order in
+    let there : (command : MultiKey) → IsPlanOf command plan → RouteTarget command slots plan.nodes plan.parts k =
+      λ command is. route_target command slots plan.nodes plan.parts k (is.nodes ∙ sym (many plan)) is.parts within in
+    let at : (target : Target) → slice_get (targets plan) k ≡ Some target → slice_get (targets c.loop-number.plan) k ≡ Some target =
+      λ target is. ap (λ ts. slice_get ts k) inv.same_targets ∙ is in
+    let t = there c.requires.command.0 c.requires.command.1 in
+    let replies_are : c.tell_first.new.plan.replies ≡ slice_set c.loop-number.plan.replies k (Some c.in-Ok.reply) = ap (λ (p : Plan). p.replies) c.tell_first.ensures in
+    let room : k < length c.loop-number.plan.replies = omega (arith, within, inv.room) in
+    record {
+      split = ap (λ (p : Plan). p.split) c.tell_first.ensures ∙ inv.split;
+      same_targets = ap targets c.tell_first.ensures ∙ inv.same_targets;
+      room = ap length replies_are ∙ length-set c.loop-number.plan.replies k (Some c.in-Ok.reply) ∙ inv.room;
+      told = λ command is.
+        let own = there command is in
+        let reply_of : ℕ → Reply = λ slot. reply_by command.form (results_of_slot slot command.tuples (results_of nodes.step command old)) in
+        let says : view c.in-Ok.reply ≡ reply_of own.slot =
+          c.in-Ok.ensures.reply own.target (part_of command own.slot) (at own.target own.target_at) own.part
+          ∙ ap (λ ks. reply_by command.form (results (act_of nodes.step command) (tuples_of_slot own.slot command.tuples) ks)) (inv.keyspace command is)
+          ∙ ap (reply_by command.form) (results_more (act_of nodes.step command) slots order command.tuples old i k own.slot names is.at_most_once inside refl own.slot_at) in
+        subst (λ rs. AreTold rs slots order (i + 1) reply_of) (sym replies_are)
+        (told_more c.loop-number.plan.replies slots order i k inside refl room reply_of own.slot c.in-Ok.reply own.slot_at says (inv.told command is));
+      untold = subst (λ rs. AreUntold rs order (i + 1) (length slots)) (sym replies_are)
+        (untold_less c.loop-number.plan.replies slots order i k inside refl room (length slots) c.in-Ok.reply inv.untold);
+      trace = c.in-Ok.ensures.trace t.target (at t.target t.target_at) ∙ ap (λ tr. tr ++ target_entry answered t.target ∷ []) inv.trace
+        ∙ append_assoc (nodes.trace c.args.nodes.now) (map (target_entry answered) (in_order (targets plan) (take i order))) (target_entry answered t.target ∷ [])
+        ∙ ap (λ es. nodes.trace c.args.nodes.now ++ es)
+          (sym (ap (map (target_entry answered)) (in_order_more (targets plan) order i k t.target inside refl t.target_at) ∙ map_push (target_entry answered) (in_order (targets plan) (take i order)) t.target));
+      keyspace = λ command is.
+        let own = there command is in
+        c.in-Ok.ensures.keyspace own.target (part_of command own.slot) (at own.target own.target_at) own.part
+        ∙ ap (λ ks. after (act_of nodes.step command) (tuples_of_slot own.slot command.tuples) ks) (inv.keyspace command is)
+        ∙ keyspace_more (act_of nodes.step command) slots order command.tuples old i k own.slot inside refl own.slot_at;
+      may_refuse = λ count ending.
+        let now = c.send_part.ensures.may_refuse count ending in
+        let before = inv.may_refuse count ending in
+        (λ may. before.0 (now.0 may), λ may. now.1 (before.1 may));
+      answered = omega (arith, inv.answered);
+    }
+
+pub returns-in-Err-clause-stopped : goal.returns-in-Err-clause-stopped
+returns-in-Err-clause-stopped g c =
+    let nodes = g.N.Nodes in
+    let plan = c.args.plan.now in
+    let order = c.args.order.now in
+    let slots = slots_of plan.split.routes in
+    let old = nodes.keyspace c.args.nodes.now in
+    let i = c.loop-number.number-index in
+    let k = get_or order i 0 in
+    let inv = c.loop-number.invariant in
+    let inside : i < length order = c.loop-number-test.true in
+    let below : k < length plan.split.routes = c.requires.order.below i 0 inside in
+    let within : k < length slots = omega (arith, below, many plan) in
+    let names : NamesOnce (length slots) order = subst (λ n. NamesOnce n order) (sym (many plan)) c.requires.order in
+    let ending = ending_of c.in-Err.error in
+    (c.in-Err.error, c.from.ensures, λ command is.
+    let t = route_target command slots plan.nodes plan.parts k (is.nodes ∙ sym (many plan)) is.parts within in
+    let unanswered = c.in-Err.ensures.unanswered t.target (ap (λ ts. slice_get ts k) inv.same_targets ∙ t.target_at) in
+    let next : slice_get (in_order (targets plan) order) i ≡ Some t.target =
+      next_in_order (targets plan) order i t.target (subst (λ n. All (λ j. j < n) order) (sym (targets_many command plan is)) names.below) inside t.target_at in
+    let stopped : AreStopped nodes.step (nodes.may_refuse c.args.nodes.now) command plan order i old (nodes.keyspace c.send_part.new.nodes) (nodes.trace c.args.nodes.now) (nodes.trace c.send_part.new.nodes) (nodes.mark c.send_part.new.nodes) ending =
+      record {
+        before = nodes.trace c.loop-number.nodes;
+        trace = inv.trace;
+        keyspace = same_keys (nodes.may_refuse c.loop-number.nodes) (nodes.keyspace c.loop-number.nodes) (nodes.keyspace c.send_part.new.nodes) (nodes.trace c.loop-number.nodes) (nodes.trace c.send_part.new.nodes) (nodes.mark c.send_part.new.nodes) t.target ending unanswered
+          ∙ inv.keyspace command is ∙ keyspace_at_stop (act_of nodes.step command) slots order command.tuples old i names is.at_most_once;
+        last = last_is (nodes.may_refuse c.args.nodes.now) (nodes.may_refuse c.loop-number.nodes) (nodes.keyspace c.loop-number.nodes) (nodes.keyspace c.send_part.new.nodes) (nodes.trace c.loop-number.nodes) (nodes.trace c.send_part.new.nodes) (nodes.mark c.send_part.new.nodes) t.target (slice_get (in_order (targets plan) order) i) ending inv.may_refuse next unanswered;
+      } in
+    subst (λ n. AreStopped nodes.step (nodes.may_refuse c.args.nodes.now) command plan order n old (nodes.keyspace c.send_part.new.nodes) (nodes.trace c.args.nodes.now) (nodes.trace c.send_part.new.nodes) (nodes.mark c.send_part.new.nodes) ending) (sym inv.answered) stopped)
+
+pub returns-clause-replies : goal.returns-clause-replies
+returns-clause-replies g c =
+    let nodes = g.N.Nodes in
+    let plan = c.args.plan.now in
+    let order = c.args.order.now in
+    let slots = slots_of plan.split.routes in
+    let inv = c.loop-number.invariant in
+    let i = c.loop-number.number-index in
+    let whole : take i order ≡ order = take_all i order (omega (arith, c.loop-number-test.false)) in
+    λ command is.
+    let rs = results_of nodes.step command (nodes.keyspace c.args.nodes.now) in
+    let reply_of : ℕ → Reply = λ slot. reply_by command.form (results_of_slot slot command.tuples rs) in
+    let all = all_told c.loop-number.plan.replies slots reply_of inv.room
+      (λ number slot at. inv.told command is number slot at
+        (let inside : number < length slots = slice_get_within slots number slot at in
+         let once : times number (take i order) ≡ 1 = ap (times number) whole ∙ c.requires.order.once number (omega (arith, inside, many plan)) in omega (arith, once))) in
+    record {
+      replies = all.0;
+      all_told = all.1;
+      answered = record {
+        form_is = ap (λ (s : Split). form_by_policy s.policy) inv.split ∙ is.form;
+        each = length-results (act_of nodes.step command) command.tuples (nodes.keyspace c.args.nodes.now) ∙ ap length is.tuples ∙ ap (λ (s : Split). length (tuples_in_split s)) (sym inv.split);
+        replies_are = all.2 ∙ ap (λ ts. map (λ slot. reply_by command.form (results_of_slot slot ts rs)) slots) is.tuples
+          ∙ ap (λ (s : Split). map (λ slot. reply_by command.form (results_of_slot slot (tuples_in_split s) rs)) (slots_of s.routes)) (sym inv.split);
+      };
+    }
+
+pub returns-clause-keyspace : goal.returns-clause-keyspace
+returns-clause-keyspace g c =
+    let nodes = g.N.Nodes in
+    let plan = c.args.plan.now in
+    let order = c.args.order.now in
+    let slots = slots_of plan.split.routes in
+    let old = nodes.keyspace c.args.nodes.now in
+    let i = c.loop-number.number-index in
+    let whole : take i order ≡ order = take_all i order (omega (arith, c.loop-number-test.false)) in
+    let names : NamesOnce (length slots) order = subst (λ n. NamesOnce n order) (sym (many plan)) c.requires.order in
+    λ command is. c.loop-number.invariant.keyspace command is
+    ∙ ap (λ o. after (act_of nodes.step command) (joined (in_order slots o) command.tuples) old) whole
+    ∙ keyspace_of_all (act_of nodes.step command) slots order command.tuples old names (names_slots_from slots command.tuples is.once)

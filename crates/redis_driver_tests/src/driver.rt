@@ -1,0 +1,1 @@
+//! Commands sent part by part.
