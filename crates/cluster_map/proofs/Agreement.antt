@@ -5,21 +5,23 @@ use Rattle.std.proofs.lemmas.Bool.Decides.{nat_tests}
 use Rattle.std.proofs.lemmas.List.Elements.{filter-append}
 use Rattle.std.proofs.lemmas.Option.{slice_get-map}
 use Rattle.std.specs.List.{list_any}
+use Rattle.std.specs.Prelude.{option_to_list}
 use Rattle.cluster_slots.specs.Address.{Address, same_address}
+use Rattle.cluster_slots.proofs.Orders.{same_from_address}
 use Rattle.slot_ranges.specs.SlotNodes.{SlotNodes}
 use Rattle.slot_ranges.specs.RangeMap.{Entry, EndsAfter, Ascends}
 use Rattle.read_strategies.specs.Shards.{ShardNodes}
-use Rattle.read_strategies.specs.Topology.{primary_of, entry_primary, has_primary, ends_of, shard_of, shards_of, placed, placed_from, inserted, topology_of, Agrees}
-use Rattle.cluster_map.proofs.Groups.{primaries, primary_shards, primary_shards-are, primaries_cover, same_true, same_refl, same_sym}
-use Rattle.cluster_map.proofs.Inserts.{insert_step, step, stepped, stepped-is, Ascends-inserted, answer, answer-some, answer-is, by_option, with_value, with_value-stepped, with_value-answer}
+use Rattle.read_strategies.specs.Topology.{primary_of, entry_primary, has_primary, ends_of, shard_of, shards_of, place_entry, place_entries, insert_entries, topology_of, Agrees}
+use Rattle.cluster_map.proofs.Groups.{primaries, primary_shards, primary_shards-are, primaries_cover, same_refl, same_sym}
+use Rattle.cluster_map.proofs.Inserts.{insert_step, step, insert_steps, insert_steps-is, Ascends-insert_entries, answer, answer-some, answer-is, by_option, with_value, with_value-insert_steps, with_value-answer}
 use Rattle.resp_core.proofs.Cases.{by_test}
 use Rattle.slot_ranges.proofs.Ranges.{EndsAfter-smaller}
 
 by_order : {A : Type 0} (a b : ℕ) → (a < b → A) → (a ≡ b → A) → (b < a → A) → A
 by_order a b f g h = elim (cases_lt a b) [ inl l ↦ f l | inr l ↦ elim (cases_lt b a) [ inl m ↦ h m | inr m ↦ g (omega arith) ] ]
 
-Ascends-stepped : {V : Type 0} (es more : List (Entry V)) → Ascends es → Ascends (stepped es more)
-Ascends-stepped es more ascends = rw (← stepped-is es more ascends) (Ascends-inserted es more ascends)
+Ascends-insert_steps : {V : Type 0} (es more : List (Entry V)) → Ascends es → Ascends (insert_steps es more)
+Ascends-insert_steps es more ascends = rw (← insert_steps-is es more ascends) (Ascends-insert_entries es more ascends)
 
 -- the range with an end
 abbrev pub find : {V : Type 0} → ℕ → List (Entry V) → Option (Entry V)
@@ -48,10 +50,10 @@ find_insert e (r ∷ rs) s k v = by_order k r.1
     (λ m. rw (a, h, m) refl)
     (λ m. rw (a, h, m) (find_insert e rs s k v ∙ rw h refl))))
 
-pub find_inserted : {V : Type 0} (e : ℕ) (m xs : List (Entry V)) → find e (stepped m xs) ≡ last_of (find e m) (filter (ends_with e) xs)
-find_inserted e m [] = refl
-find_inserted e m (x ∷ xs) =
-    find_inserted e (step m x) xs ∙ ap (λ o. last_of o (filter (ends_with e) xs)) (find_insert e m x.0 x.1 x.2)
+pub find-insert_steps : {V : Type 0} (e : ℕ) (m xs : List (Entry V)) → find e (insert_steps m xs) ≡ last_of (find e m) (filter (ends_with e) xs)
+find-insert_steps e m [] = refl
+find-insert_steps e m (x ∷ xs) =
+    find-insert_steps e (step m x) xs ∙ ap (λ o. last_of o (filter (ends_with e) xs)) (find_insert e m x.0 x.1 x.2)
     ∙ by_test (nat_eq x.1 e) (λ h. rw (h) refl) (λ h. rw (h) refl)
 
 -- rising lists with equal look-ups are equal
@@ -91,15 +93,15 @@ same_ranges (x ∷ xs) (y ∷ ys) u w h =
 abbrev with_key : Address → ℕ × ℕ → Entry (Option Address)
 with_key p b = (b.0, b.1, Some p)
 
-abbrev parts : List ShardNodes → List (Entry (Option Address))
-parts [] = []
-parts (s ∷ ss) = map (with_key s.primary) s.ranges ++ parts ss
+abbrev shard_entries : List ShardNodes → List (Entry (Option Address))
+shard_entries [] = []
+shard_entries (s ∷ ss) = map (with_key s.primary) s.ranges ++ shard_entries ss
 
 got_there : {X : Type 0} (pre : List X) (x : X) (xs : List X) → slice_get (pre ++ x ∷ xs) (length pre) ≡ Some x
 got_there [] x xs = refl
 got_there (p ∷ ps) x xs = got_there ps x xs
 
-tags_are : (g : ℕ → Option Address) (n : ℕ) (p : Address) (bs : List (ℕ × ℕ)) → g n ≡ Some p → map (with_value g) (map (placed n) bs) ≡ map (with_key p) bs
+tags_are : (g : ℕ → Option Address) (n : ℕ) (p : Address) (bs : List (ℕ × ℕ)) → g n ≡ Some p → map (with_value g) (map (place_entry n) bs) ≡ map (with_key p) bs
 tags_are g n p [] h = refl
 tags_are g n p (b ∷ bs) h = rw (h, tags_are g n p bs h) refl
 
@@ -111,15 +113,15 @@ length_last : {X : Type 0} (xs : List X) (x : X) → length (xs ++ x ∷ []) ≡
 length_last [] x = refl
 length_last (y ∷ ys) x = let h = length_last ys x in omega arith
 
-parts_are : (pre ps : List Address) (n : ℕ) (ss : List ShardNodes) → n ≡ length pre → ps ≡ pre ++ map primary_of ss → map (with_value (slice_get ps)) (placed_from n ss) ≡ parts ss
-parts_are pre ps n [] e q = refl
-parts_are pre ps n (s ∷ ss) e q =
+shard_entries_are : (pre ps : List Address) (n : ℕ) (ss : List ShardNodes) → n ≡ length pre → ps ≡ pre ++ map primary_of ss → map (with_value (slice_get ps)) (place_entries n ss) ≡ shard_entries ss
+shard_entries_are pre ps n [] e q = refl
+shard_entries_are pre ps n (s ∷ ss) e q =
     let at : slice_get ps n ≡ Some s.primary = ap (λ z. slice_get z n) q ∙ ap (slice_get (pre ++ s.primary ∷ map primary_of ss)) e ∙ got_there pre s.primary (map primary_of ss) in
     let m : suc n ≡ length (pre ++ s.primary ∷ []) = omega (arith, length_last pre s.primary) in
     let w : ps ≡ (pre ++ s.primary ∷ []) ++ map primary_of ss = q ∙ sym (append_assoc pre (s.primary ∷ []) (map primary_of ss)) in
-    map-both (with_value (slice_get ps)) (map (placed n) s.ranges) (placed_from (suc n) ss)
-    ∙ ap (λ z. z ++ map (with_value (slice_get ps)) (placed_from (suc n) ss)) (tags_are (slice_get ps) n s.primary s.ranges at)
-    ∙ ap (λ z. map (with_key s.primary) s.ranges ++ z) (parts_are (pre ++ s.primary ∷ []) ps (suc n) ss m w)
+    map-both (with_value (slice_get ps)) (map (place_entry n) s.ranges) (place_entries (suc n) ss)
+    ∙ ap (λ z. z ++ map (with_value (slice_get ps)) (place_entries (suc n) ss)) (tags_are (slice_get ps) n s.primary s.ranges at)
+    ∙ ap (λ z. map (with_key s.primary) s.ranges ++ z) (shard_entries_are (pre ++ s.primary ∷ []) ps (suc n) ss m w)
 
 -- at an end, the ranges of one primary
 abbrev part : Address → List (Entry SlotNodes) → List (Entry (Option Address))
@@ -131,15 +133,11 @@ part_ends e k (r ∷ rs) = by_test (has_primary k r)
     (λ h. rw h (by_test (nat_eq r.1 e) (λ t. rw (t, h) (ap (λ z. (r.0, r.1, Some k) ∷ z) (part_ends e k rs))) (λ t. rw t (part_ends e k rs))))
     (λ h. rw h (by_test (nat_eq r.1 e) (λ t. rw (t, h) (part_ends e k rs)) (λ t. rw t (part_ends e k rs))))
 
-abbrev listed_option : {X : Type 0} → Option X → List X
-listed_option None = []
-listed_option (Some x) = x ∷ []
-
 none_ends : {V : Type 0} (e : ℕ) (rs : List (Entry V)) → EndsAfter e rs → Ascends rs → filter (ends_with e) rs ≡ []
 none_ends e [] s up = refl
 none_ends e (r ∷ rs) s up = let m : nat_eq r.1 e ≡ false = grind (arith, nat_tests) in rw m (none_ends e rs (EndsAfter-smaller e r.1 rs s up.0) up.1)
 
-one_ends : {V : Type 0} (e : ℕ) (rs : List (Entry V)) → Ascends rs → filter (ends_with e) rs ≡ listed_option (find e rs)
+one_ends : {V : Type 0} (e : ℕ) (rs : List (Entry V)) → Ascends rs → filter (ends_with e) rs ≡ option_to_list (find e rs)
 one_ends e [] up = refl
 one_ends e (r ∷ rs) up = by_test (nat_eq r.1 e)
     (λ h. let k : r.1 ≡ e = grind (arith, nat_tests) in rw h (ap (λ z. r ∷ z) (none_ends e rs (subst (λ z. EndsAfter z rs) k up.0) up.1)))
@@ -150,37 +148,37 @@ last_of-append o [] ys = refl
 last_of-append o (x ∷ xs) ys = last_of-append (Some x) xs ys
 
 -- at an end that no range has
-last_none : (e : ℕ) (rs : List (Entry SlotNodes)) → filter (ends_with e) rs ≡ [] → (ks : List Address) (o : Option (Entry (Option Address))) → last_of o (filter (ends_with e) (parts (map (shard_of rs) ks))) ≡ o
+last_none : (e : ℕ) (rs : List (Entry SlotNodes)) → filter (ends_with e) rs ≡ [] → (ks : List Address) (o : Option (Entry (Option Address))) → last_of o (filter (ends_with e) (shard_entries (map (shard_of rs) ks))) ≡ o
 last_none e rs h [] o = refl
 last_none e rs h (k ∷ ks) o =
-    ap (last_of o) (filter-append (ends_with e) (part k rs) (parts (map (shard_of rs) ks)))
-    ∙ ap (λ z. last_of o (z ++ filter (ends_with e) (parts (map (shard_of rs) ks)))) (part_ends e k rs ∙ ap (part k) h)
+    ap (last_of o) (filter-append (ends_with e) (part k rs) (shard_entries (map (shard_of rs) ks)))
+    ∙ ap (λ z. last_of o (z ++ filter (ends_with e) (shard_entries (map (shard_of rs) ks)))) (part_ends e k rs ∙ ap (part k) h)
     ∙ last_none e rs h ks o
 
 same_cond : {X : Type 0} (b : Bool) (x : X) → cond b x x ≡ x
 same_cond true x = refl
 same_cond false x = refl
 
-abbrev pub keyed : Entry SlotNodes → Entry (Option Address)
-keyed r = with_value (λ n. Some n.primary) r
+abbrev pub with_primary : Entry SlotNodes → Entry (Option Address)
+with_primary r = with_value (λ n. Some n.primary) r
 
 -- at an end that r has
-last_one : (e : ℕ) (rs : List (Entry SlotNodes)) (r : Entry SlotNodes) → filter (ends_with e) rs ≡ r ∷ [] → (ks : List Address) (o : Option (Entry (Option Address))) → last_of o (filter (ends_with e) (parts (map (shard_of rs) ks))) ≡ cond (list_any (same_address (entry_primary r)) ks) (Some (keyed r)) o
+last_one : (e : ℕ) (rs : List (Entry SlotNodes)) (r : Entry SlotNodes) → filter (ends_with e) rs ≡ r ∷ [] → (ks : List Address) (o : Option (Entry (Option Address))) → last_of o (filter (ends_with e) (shard_entries (map (shard_of rs) ks))) ≡ cond (list_any (same_address (entry_primary r)) ks) (Some (with_primary r)) o
 last_one e rs r h [] o = refl
 last_one e rs r h (k ∷ ks) o =
-    ap (last_of o) (filter-append (ends_with e) (part k rs) (parts (map (shard_of rs) ks)))
-    ∙ ap (λ z. last_of o (z ++ filter (ends_with e) (parts (map (shard_of rs) ks)))) (part_ends e k rs ∙ ap (part k) h)
-    ∙ last_of-append o (part k (r ∷ [])) (filter (ends_with e) (parts (map (shard_of rs) ks)))
+    ap (last_of o) (filter-append (ends_with e) (part k rs) (shard_entries (map (shard_of rs) ks)))
+    ∙ ap (λ z. last_of o (z ++ filter (ends_with e) (shard_entries (map (shard_of rs) ks)))) (part_ends e k rs ∙ ap (part k) h)
+    ∙ last_of-append o (part k (r ∷ [])) (filter (ends_with e) (shard_entries (map (shard_of rs) ks)))
     ∙ last_one e rs r h ks (last_of o (part k (r ∷ [])))
     ∙ by_test (same_address (entry_primary r) k)
     (λ t. let q : same_address k (entry_primary r) ≡ true = same_sym k (entry_primary r) ∙ t in
-    let w : Some (r.0, r.1, Some k) ≡ Some (keyed r) = ap (λ z. Some (r.0, r.1, Some z)) (sym (same_true (entry_primary r) k t)) in
-    rw (t, q) (ap (λ z. cond (list_any (same_address (entry_primary r)) ks) (Some (keyed r)) z) w ∙ same_cond (list_any (same_address (entry_primary r)) ks) (Some (keyed r))))
+    let w : Some (r.0, r.1, Some k) ≡ Some (with_primary r) = ap (λ z. Some (r.0, r.1, Some z)) (sym (same_from_address (entry_primary r) k t)) in
+    rw (t, q) (ap (λ z. cond (list_any (same_address (entry_primary r)) ks) (Some (with_primary r)) z) w ∙ same_cond (list_any (same_address (entry_primary r)) ks) (Some (with_primary r))))
     (λ t. let q : same_address k (entry_primary r) ≡ false = same_sym k (entry_primary r) ∙ t in rw (t, q) refl)
 
-find_keyed : (e : ℕ) (rs : List (Entry SlotNodes)) → find e (map keyed rs) ≡ option_map keyed (find e rs)
-find_keyed e [] = refl
-find_keyed e (r ∷ rs) = by_test (nat_eq r.1 e) (λ h. rw h refl) (λ h. rw h (find_keyed e rs))
+find-with_primary : (e : ℕ) (rs : List (Entry SlotNodes)) → find e (map with_primary rs) ≡ option_map with_primary (find e rs)
+find-with_primary e [] = refl
+find-with_primary e (r ∷ rs) = by_test (nat_eq r.1 e) (λ h. rw h refl) (λ h. rw h (find-with_primary e rs))
 
 there : (e : ℕ) (rs : List (Entry SlotNodes)) (r : Entry SlotNodes) (q : Entry SlotNodes → Bool) → find e rs ≡ Some r → list_any q rs ≡ false → q r ≡ false
 there e [] r q = λ h k. cc
@@ -190,27 +188,27 @@ there e (x ∷ xs) r q = by_test (q x)
     (λ s. rw s (λ h k. let i : x ≡ r = cc in ap q (sym i) ∙ t))
     (λ s. rw s (λ h k. there e xs r q h k))))
 
-listed_primary : (e : ℕ) (rs : List (Entry SlotNodes)) (r : Entry SlotNodes) → find e rs ≡ Some r → list_any (same_address (entry_primary r)) (primaries rs) ≡ true
-listed_primary e rs r h = by_test (list_any (same_address (entry_primary r)) (primaries rs)) (λ t. t)
+primary_is_listed : (e : ℕ) (rs : List (Entry SlotNodes)) (r : Entry SlotNodes) → find e rs ≡ Some r → list_any (same_address (entry_primary r)) (primaries rs) ≡ true
+primary_is_listed e rs r h = by_test (list_any (same_address (entry_primary r)) (primaries rs)) (λ t. t)
     (λ t. let f : has_primary (entry_primary r) r ≡ false = there e rs r (has_primary (entry_primary r)) h (primaries_cover rs (entry_primary r) t) in
     let k : true ≡ false = sym (same_refl (entry_primary r)) ∙ f in cc)
 
-look : (rs : List (Entry SlotNodes)) → Ascends rs → (e : ℕ) → find e (stepped [] (parts (primary_shards rs))) ≡ find e (map keyed rs)
+look : (rs : List (Entry SlotNodes)) → Ascends rs → (e : ℕ) → find e (insert_steps [] (shard_entries (primary_shards rs))) ≡ find e (map with_primary rs)
 look rs up e =
-    find_inserted e [] (parts (primary_shards rs))
+    find-insert_steps e [] (shard_entries (primary_shards rs))
     ∙ by_option (find e rs)
-    (λ h. last_none e rs (one_ends e rs up ∙ ap listed_option h) (primaries rs) None ∙ sym (find_keyed e rs ∙ ap (option_map keyed) h))
-    (λ r h. last_one e rs r (one_ends e rs up ∙ ap listed_option h) (primaries rs) None
-    ∙ ap (λ b. cond b (Some (keyed r)) None) (listed_primary e rs r h)
-    ∙ sym (find_keyed e rs ∙ ap (option_map keyed) h))
+    (λ h. last_none e rs (one_ends e rs up ∙ ap option_to_list h) (primaries rs) None ∙ sym (find-with_primary e rs ∙ ap (option_map with_primary) h))
+    (λ r h. last_one e rs r (one_ends e rs up ∙ ap option_to_list h) (primaries rs) None
+    ∙ ap (λ b. cond b (Some (with_primary r)) None) (primary_is_listed e rs r h)
+    ∙ sym (find-with_primary e rs ∙ ap (option_map with_primary) h))
 
-above_keyed : (e : ℕ) (rs : List (Entry SlotNodes)) → EndsAfter e rs → EndsAfter e (map keyed rs)
-above_keyed e [] h = tt
-above_keyed e (r ∷ rs) h = h
+EndsAfter-with_primary : (e : ℕ) (rs : List (Entry SlotNodes)) → EndsAfter e rs → EndsAfter e (map with_primary rs)
+EndsAfter-with_primary e [] h = tt
+EndsAfter-with_primary e (r ∷ rs) h = h
 
-rises_keyed : (rs : List (Entry SlotNodes)) → Ascends rs → Ascends (map keyed rs)
-rises_keyed [] up = tt
-rises_keyed (r ∷ rs) up = (above_keyed r.1 rs up.0, rises_keyed rs up.1)
+Ascends-with_primary : (rs : List (Entry SlotNodes)) → Ascends rs → Ascends (map with_primary rs)
+Ascends-with_primary [] up = tt
+Ascends-with_primary (r ∷ rs) up = (EndsAfter-with_primary r.1 rs up.0, Ascends-with_primary rs up.1)
 
 -- the primary of an element by its place
 flat : (ss : List ShardNodes) (a : Option ℕ) (b : Option SlotNodes) → option_map (slice_get (map primary_of ss)) a ≡ option_map (λ n. Some n.primary) b → option_map primary_of (option_and_then (slice_get ss) a) ≡ option_map (λ n. n.primary) b
@@ -220,29 +218,29 @@ flat ss (Some i) None h = cc
 flat ss (Some i) (Some n) h = let k : slice_get (map primary_of ss) i ≡ Some n.primary = cc in sym (slice_get-map primary_of ss i) ∙ k
 
 -- the ranges of the shards are those of the map, each with its primary
-pub resolved : (rs : List (Entry SlotNodes)) → Ascends rs → map (with_value (slice_get (map primary_of (shards_of rs)))) (stepped [] (placed_from 0 (shards_of rs))) ≡ map keyed rs
+pub resolved : (rs : List (Entry SlotNodes)) → Ascends rs → map (with_value (slice_get (map primary_of (shards_of rs)))) (insert_steps [] (place_entries 0 (shards_of rs))) ≡ map with_primary rs
 resolved rs up =
     let ss = shards_of rs in
     let ps = map primary_of ss in
-    let looked : (e : ℕ) → find e (stepped [] (parts ss)) ≡ find e (map keyed rs) = λ e. ap (λ z. find e (stepped [] (parts z))) (sym (primary_shards-are rs)) ∙ look rs up e in
-    with_value-stepped (slice_get ps) [] (placed_from 0 ss) ∙ ap (stepped []) (parts_are [] ps 0 ss refl refl)
-    ∙ same_ranges _ _ (Ascends-stepped [] (parts ss) tt) (rises_keyed rs up) looked
+    let looked : (e : ℕ) → find e (insert_steps [] (shard_entries ss)) ≡ find e (map with_primary rs) = λ e. ap (λ z. find e (insert_steps [] (shard_entries z))) (sym (primary_shards-are rs)) ∙ look rs up e in
+    with_value-insert_steps (slice_get ps) [] (place_entries 0 ss) ∙ ap (insert_steps []) (shard_entries_are [] ps 0 ss refl refl)
+    ∙ same_ranges _ _ (Ascends-insert_steps [] (shard_entries ss) tt) (Ascends-with_primary rs up) looked
 
 -- at each number the shard's primary is the map's, or there is neither
-same_answers : (rs : List (Entry SlotNodes)) → Ascends rs → (slot : ℕ) → option_map primary_of (option_and_then (slice_get (shards_of rs)) (answer (inserted [] (placed_from 0 (shards_of rs))) slot)) ≡ option_map (λ (n : SlotNodes). n.primary) (answer rs slot)
+same_answers : (rs : List (Entry SlotNodes)) → Ascends rs → (slot : ℕ) → option_map primary_of (option_and_then (slice_get (shards_of rs)) (answer (insert_entries [] (place_entries 0 (shards_of rs))) slot)) ≡ option_map (λ (n : SlotNodes). n.primary) (answer rs slot)
 same_answers rs up slot =
     let ss = shards_of rs in
     let ps = map primary_of ss in
-    let ranges = stepped [] (placed_from 0 ss) in
-    ap (λ z. option_map primary_of (option_and_then (slice_get ss) (answer z slot))) (stepped-is [] (placed_from 0 ss) tt)
+    let ranges = insert_steps [] (place_entries 0 ss) in
+    ap (λ z. option_map primary_of (option_and_then (slice_get ss) (answer z slot))) (insert_steps-is [] (place_entries 0 ss) tt)
     ∙ flat ss (answer ranges slot) (answer rs slot)
     (sym (with_value-answer (slice_get ps) ranges slot) ∙ ap (λ z. answer z slot) (resolved rs up) ∙ with_value-answer (λ n. Some n.primary) rs slot)
 
 pub agrees : (rs : List (Entry SlotNodes)) → Ascends rs → Agrees rs (topology_of (shards_of rs))
 agrees rs up slot address =
     let ss = shards_of rs in
-    let ranges = inserted [] (placed_from 0 ss) in
-    let rising : Ascends ranges = Ascends-inserted [] (placed_from 0 ss) tt in
+    let ranges = insert_entries [] (place_entries 0 ss) in
+    let rising : Ascends ranges = Ascends-insert_entries [] (place_entries 0 ss) tt in
     let same = same_answers rs up slot in (
       (λ (nodes, answers, is).
           let found = answer-is rs slot nodes up answers in

@@ -7,13 +7,13 @@ use Rattle.slot_ranges.specs.SlotNodes.{SlotNodes, RangeNodes, nodes_of, range_e
 use Rattle.slot_ranges.proofs.Ranges.{Contains-cons_cases, Contains-cons_head, Contains-cons_tail, Contains-nil, EndsAfter-contains, insert_entry-front, insert_entry-place, insert_entry-later, Ascends-insert_entry}
 
 -- after an insert there is the new entry
-Contains-inserted : {V : Type 0} (es : List (Entry V)) (start end : ℕ) (value : V) → Ascends es → Contains (insert_entry es start end value) (start, end, value)
-Contains-inserted [] start end value ascends = Contains-cons_head (start, end, value) []
-Contains-inserted (r ∷ rs) start end value ascends = elim (cases_order end (end_of r)) [
+Contains-insert_entry : {V : Type 0} (es : List (Entry V)) (start end : ℕ) (value : V) → Ascends es → Contains (insert_entry es start end value) (start, end, value)
+Contains-insert_entry [] start end value ascends = Contains-cons_head (start, end, value) []
+Contains-insert_entry (r ∷ rs) start end value ascends = elim (cases_order end (end_of r)) [
   | inl same ↦ rw (insert_entry-place r rs start end value ascends same) (Contains-cons_head (start, end, value) rs)
   | inr apart ↦ elim apart [
     | inl before ↦ rw (insert_entry-front r rs start end value ascends before) (Contains-cons_head (start, end, value) (r ∷ rs))
-    | inr later ↦ rw (insert_entry-later r rs start end value later) (Contains-cons_tail r _ (start, end, value) (Contains-inserted rs start end value ascends.1))
+    | inr later ↦ rw (insert_entry-later r rs start end value later) (Contains-cons_tail r _ (start, end, value) (Contains-insert_entry rs start end value ascends.1))
   ]
 ]
 
@@ -42,7 +42,7 @@ Contains-insert_kept : {V : Type 0} (es : List (Entry V)) (start end : ℕ) (val
 Contains-insert_kept [] start end value e ascends same_end there = absurd (Contains-nil e there)
 Contains-insert_kept (r ∷ rs) start end value e ascends same_end there = elim (cases_order end (end_of r)) [
   | inl same ↦ elim (Contains-cons_cases r rs e there) [
-    | inl first ↦ rw (← same_end (same ∙ ap end_of first)) (Contains-inserted (r ∷ rs) start end value ascends)
+    | inl first ↦ rw (← same_end (same ∙ ap end_of first)) (Contains-insert_entry (r ∷ rs) start end value ascends)
     | inr rest ↦ rw (insert_entry-place r rs start end value ascends same) (Contains-cons_tail (start, end, value) rs e rest)
   ]
   | inr apart ↦ elim apart [
@@ -92,20 +92,20 @@ same_entries (e ∷ es) (f ∷ fs) up_es up_fs into back =
     ap (λ z. z ∷ es) heads ∙ ap (λ z. f ∷ z) rest
 
 -- the entries with that of a range put in
-abbrev with_range : List (Entry SlotNodes) → RangeNodes → List (Entry SlotNodes)
-with_range es r = insert_entry es r.start r.end (nodes_of r)
+abbrev insert_range : List (Entry SlotNodes) → RangeNodes → List (Entry SlotNodes)
+insert_range es r = insert_entry es r.start r.end (nodes_of r)
 
-with_range-ascends : (es : List (Entry SlotNodes)) (r : RangeNodes) → Ascends es → Ascends (with_range es r)
-with_range-ascends es r up = Ascends-insert_entry es r.start r.end (nodes_of r) up
+insert_range-ascends : (es : List (Entry SlotNodes)) (r : RangeNodes) → Ascends es → Ascends (insert_range es r)
+insert_range-ascends es r up = Ascends-insert_entry es r.start r.end (nodes_of r) up
 
 insert_ranges-ascends : (es : List (Entry SlotNodes)) (rs : List RangeNodes) → Ascends es → Ascends (insert_ranges es rs)
 insert_ranges-ascends es [] up = up
-insert_ranges-ascends es (r ∷ rs) up = insert_ranges-ascends (with_range es r) rs (with_range-ascends es r up)
+insert_ranges-ascends es (r ∷ rs) up = insert_ranges-ascends (insert_range es r) rs (insert_range-ascends es r up)
 
 -- each entry was there before, or is that of a range
 insert_ranges-cases : (es : List (Entry SlotNodes)) (rs : List RangeNodes) (e : Entry SlotNodes) → Ascends es → Contains (insert_ranges es rs) e → Contains es e ⊎ Contains (map range_entry rs) e
 insert_ranges-cases es [] e up there = inl there
-insert_ranges-cases es (r ∷ rs) e up there = elim (insert_ranges-cases (with_range es r) rs e (with_range-ascends es r up) there) [
+insert_ranges-cases es (r ∷ rs) e up there = elim (insert_ranges-cases (insert_range es r) rs e (insert_range-ascends es r up) there) [
   | inl now ↦ elim (Contains-insert_cases es r.start r.end (nodes_of r) e up now) [
     | inl new ↦ inr (rw (← new) (Contains-cons_head (range_entry r) (map range_entry rs)))
     | inr old ↦ inl old
@@ -129,7 +129,7 @@ insert_ranges-keeps : (all es : List (Entry SlotNodes)) (rs : List RangeNodes) (
 insert_ranges-keeps all es [] e own up among mine there = there
 insert_ranges-keeps all es (r ∷ rs) e own up among mine there =
     let head = among (range_entry r) (Contains-cons_head (range_entry r) (map range_entry rs)) in
-    insert_ranges-keeps all (with_range es r) rs e own (with_range-ascends es r up) (among_later r rs all among) mine
+    insert_ranges-keeps all (insert_range es r) rs e own (insert_range-ascends es r up) (among_later r rs all among) mine
     (Contains-insert_kept es r.start r.end (nodes_of r) e up (λ ends. own (range_entry r) e head mine ends) there)
 
 -- each range is there
@@ -137,10 +137,10 @@ insert_ranges-has : (all es : List (Entry SlotNodes)) (rs : List RangeNodes) (e 
 insert_ranges-has all es [] e own up among there = absurd (Contains-nil e there)
 insert_ranges-has all es (r ∷ rs) e own up among there =
     let later = among_later r rs all among in
-    let next = with_range-ascends es r up in
+    let next = insert_range-ascends es r up in
     elim (Contains-cons_cases (range_entry r) (map range_entry rs) e there) [
-      | inl first ↦ insert_ranges-keeps all (with_range es r) rs e own next later (among e there) (rw (← first) (Contains-inserted es r.start r.end (nodes_of r) up))
-      | inr rest ↦ insert_ranges-has all (with_range es r) rs e own next later rest
+      | inl first ↦ insert_ranges-keeps all (insert_range es r) rs e own next later (among e there) (rw (← first) (Contains-insert_entry es r.start r.end (nodes_of r) up))
+      | inr rest ↦ insert_ranges-has all (insert_range es r) rs e own next later rest
     ]
 
 disjoint_own_ends : (es : List (Entry SlotNodes)) → AreDisjoint es → HaveOwnEnds es
@@ -157,8 +157,8 @@ insert_ranges-only rs e there = elim (insert_ranges-cases [] rs e tt there) [
 ]
 
 -- the map of disjoint ranges has the entries of the ranges
-pub kept : (rs : List RangeNodes) (e : Entry SlotNodes) → AreDisjoint (map range_entry rs) → Contains (insert_ranges [] rs) e ↔ Contains (map range_entry rs) e
-kept rs e disjoint = (insert_ranges-only rs e, insert_ranges-has (map range_entry rs) [] rs e (disjoint_own_ends (map range_entry rs) disjoint) tt (λ f there. there))
+pub disjoint_ranges_stay : (rs : List RangeNodes) (e : Entry SlotNodes) → AreDisjoint (map range_entry rs) → Contains (insert_ranges [] rs) e ↔ Contains (map range_entry rs) e
+disjoint_ranges_stay rs e disjoint = (insert_ranges-only rs e, insert_ranges-has (map range_entry rs) [] rs e (disjoint_own_ends (map range_entry rs) disjoint) tt (λ f there. there))
 
 -- and is the same for every order of them
 pub any_order : (rs others : List RangeNodes) → IsPermutation rs others → AreDisjoint (map range_entry rs) → insert_ranges [] rs ≡ insert_ranges [] others
@@ -169,4 +169,4 @@ any_order rs others same disjoint =
     let own = disjoint_own_ends all disjoint in
     same_entries (insert_ranges [] rs) (insert_ranges [] others) (insert_ranges-ascends [] rs tt) (insert_ranges-ascends [] others tt)
     (λ e there. insert_ranges-has all [] others e own tt among (Contains-permutation all (map range_entry others) e moved (insert_ranges-only rs e there)))
-    (λ e there. (kept rs e disjoint).1 (among e (insert_ranges-only others e there)))
+    (λ e there. (disjoint_ranges_stay rs e disjoint).1 (among e (insert_ranges-only others e there)))

@@ -11,8 +11,8 @@ use Rattle.slot_ranges.specs.RangeMap.{Entry}
 use Rattle.read_strategies.specs.Shards.{ShardNodes}
 use Rattle.cluster_map.specs.Targets.{targets}
 use Rattle.read_strategies.specs.Topology.{primary_of, entry_primary, has_primary, ends_of, first_replicas, shard_with, shard_of, shards_of}
-use Rattle.read_strategies.proofs.Members.{add_new, added_once}
-use Rattle.resp_core.proofs.Cases.{by_test}
+use Rattle.read_strategies.proofs.Members.{add_new, added_once, list_any-last}
+use Rattle.resp_core.proofs.Cases.{by_test, or_second}
 use Rattle.cluster_map.proofs.TargetSets.{same_target}
 
 -- a shard with a range more
@@ -24,8 +24,8 @@ abbrev pub add_range : List ShardNodes → Entry SlotNodes → List ShardNodes
 add_range [] r = shard_with (entry_primary r) (r ∷ []) ∷ []
 add_range (s ∷ ss) r = cond (same_address (entry_primary r) s.primary) (with_range s r ∷ ss) (s ∷ add_range ss r)
 
-abbrev pub grouped : List (Entry SlotNodes) → List ShardNodes
-grouped es = fold add_range [] es
+abbrev pub add_ranges : List (Entry SlotNodes) → List ShardNodes
+add_ranges es = fold add_range [] es
 
 -- each primary once, put in one at a time
 abbrev pub primaries : List (Entry SlotNodes) → List Address
@@ -37,16 +37,13 @@ primary_shards es = map (shard_of es) (primaries es)
 pub primary_shards-are : (es : List (Entry SlotNodes)) → primary_shards es ≡ shards_of es
 primary_shards-are es = ap (map (shard_of es)) (added_once (map entry_primary es))
 
-pub same_true : (a b : Address) → same_address a b ≡ true → a ≡ b
-same_true a b h = same_from_address a b h
-
 pub same_refl : (a : Address) → same_address a a ≡ true
 same_refl a = (address_decides a a).1 refl
 
 pub same_sym : (a b : Address) → same_address a b ≡ same_address b a
 same_sym a b = by_test (same_address a b)
-    (λ h. let e = same_true a b h in ap (λ z. same_address z b) e ∙ ap (same_address b) (sym e))
-    (λ h. by_test (same_address b a) (λ k. let e = same_true b a k in ap (λ z. same_address z b) (sym e) ∙ ap (same_address b) e) (λ k. h ∙ sym k))
+    (λ h. let e = same_from_address a b h in ap (λ z. same_address z b) e ∙ ap (same_address b) (sym e))
+    (λ h. by_test (same_address b a) (λ k. let e = same_from_address b a k in ap (λ z. same_address z b) (sym e) ∙ ap (same_address b) e) (λ k. h ∙ sym k))
 
 pub add_to_none : (ss : List ShardNodes) (r : Entry SlotNodes) → list_any (same_address (entry_primary r)) (map primary_of ss) ≡ false → ss ++ shard_with (entry_primary r) (r ∷ []) ∷ [] ≡ add_range ss r
 add_to_none [] r = λ h. refl
@@ -115,10 +112,6 @@ map-append-one : {X Y : Type 0} (f : X → Y) (xs : List X) (x : X) → map f (x
 map-append-one f [] x = refl
 map-append-one f (y ∷ ys) x = ap (λ z. f y ∷ z) (map-append-one f ys x)
 
-any-append-one : {X : Type 0} (p : X → Bool) (xs : List X) (x : X) → list_any p (xs ++ x ∷ []) ≡ (list_any p xs || p x)
-any-append-one p [] x = by_test (p x) (λ h. rw h refl) (λ h. rw h refl)
-any-append-one p (y ∷ ys) x = by_test (p y) (λ h. rw h refl) (λ h. rw h (any-append-one p ys x))
-
 filter_none : {X : Type 0} (p : X → Bool) (xs : List X) → list_any p xs ≡ false → filter p xs ≡ []
 filter_none p [] = λ h. refl
 filter_none p (x ∷ xs) = by_test (p x) (λ k. rw k (λ h. cc)) (λ k. rw k (λ h. filter_none p xs h))
@@ -175,7 +168,7 @@ step_at : (ks : List Address) (rs : List (Entry SlotNodes)) (r : Entry SlotNodes
 step_at [] rs r d a = λ v. ap (λ z. z ∷ []) (shard_new (entry_primary r) rs r (same_refl (entry_primary r)) (v refl))
 step_at (k ∷ ks) rs r d a = by_test (same_address (entry_primary r) k)
     (λ t. rw t (λ v.
-    let e : (entry_primary r) ≡ k = same_true (entry_primary r) k t in
+    let e : (entry_primary r) ≡ k = same_from_address (entry_primary r) k t in
     let apart : list_any (same_address (entry_primary r)) ks ≡ false = ap (λ z. list_any (same_address z) ks) e ∙ d.0 in
     ap (λ z. z ∷ map (shard_of rs) ks) (shard_more k rs r (same_sym k (entry_primary r) ∙ t) a.0) ∙ ap (λ z. shard_of (rs ++ r ∷ []) k ∷ z) (others_stay ks rs r apart)))
     (λ t. rw t (λ v.
@@ -188,7 +181,7 @@ both_false true b h k = cc
 both_false false b h k = k
 
 apart_last : (ks : List Address) (k p : Address) → list_any (same_address k) ks ≡ false → same_address k p ≡ false → list_any (same_address k) (ks ++ p ∷ []) ≡ false
-apart_last ks k p a h = any-append-one (same_address k) ks p ∙ both_false _ _ a h
+apart_last ks k p a h = list_any-last (same_address k) ks p ∙ both_false _ _ a h
 
 distinct_cond : (b : Bool) (k p : Address) (ks : List Address) → Distinct (k ∷ ks) → same_address k p ≡ false → Distinct (cond b ks (ks ++ p ∷ [])) → Distinct (cond b (k ∷ ks) (k ∷ (ks ++ p ∷ [])))
 distinct_cond true k p ks d h e = d
@@ -202,19 +195,15 @@ distinct_new (k ∷ ks) p d = by_test (same_address p k)
 
 have_more : (ks : List Address) (rs : List (Entry SlotNodes)) (r : Entry SlotNodes) → AllHave rs ks → AllHave (rs ++ r ∷ []) ks
 have_more [] rs r a = tt
-have_more (k ∷ ks) rs r a = ((any-append-one (has_primary k) rs r ∙ ap (λ b. b || has_primary k r) a.0), have_more ks rs r a.1)
+have_more (k ∷ ks) rs r a = ((list_any-last (has_primary k) rs r ∙ ap (λ b. b || has_primary k r) a.0), have_more ks rs r a.1)
 
 have_last : (ks : List Address) (rs : List (Entry SlotNodes)) (p : Address) → AllHave rs ks → list_any (has_primary p) rs ≡ true → AllHave rs (ks ++ p ∷ [])
 have_last [] rs p a h = (h, tt)
 have_last (k ∷ ks) rs p a h = (a.0, have_last ks rs p a.1 h)
 
-or_true : (b c : Bool) → c ≡ true → (b || c) ≡ true
-or_true true c h = refl
-or_true false c h = h
-
 have_cond : (b : Bool) (ks : List Address) (rs : List (Entry SlotNodes)) (r : Entry SlotNodes) → AllHave rs ks → AllHave (rs ++ r ∷ []) (cond b ks (ks ++ (entry_primary r) ∷ []))
 have_cond true ks rs r a = have_more ks rs r a
-have_cond false ks rs r a = have_last ks (rs ++ r ∷ []) (entry_primary r) (have_more ks rs r a) (any-append-one (has_primary (entry_primary r)) rs r ∙ or_true _ _ (same_refl (entry_primary r)))
+have_cond false ks rs r a = have_last ks (rs ++ r ∷ []) (entry_primary r) (have_more ks rs r a) (list_any-last (has_primary (entry_primary r)) rs r ∙ or_second _ _ (same_refl (entry_primary r)))
 
 none_left : (a b : Bool) → (a || b) ≡ false → a ≡ false
 none_left true b h = cc
@@ -226,11 +215,11 @@ none_right false b h = h
 
 covers_new : (ks : List Address) (rs : List (Entry SlotNodes)) (r : Entry SlotNodes) → ((p : Address) → list_any (same_address p) ks ≡ false → list_any (has_primary p) rs ≡ false) → (p : Address) → list_any (same_address p) (add_new ks (entry_primary r)) ≡ false → list_any (has_primary p) (rs ++ r ∷ []) ≡ false
 covers_new ks rs r v p = by_test (list_any (same_address (entry_primary r)) ks)
-    (λ t. rw t (λ h. any-append-one (has_primary p) rs r ∙ both_false _ _ (v p h)
-    (by_test (same_address p (entry_primary r)) (λ s. let e = same_true p (entry_primary r) s in let q : true ≡ false = sym t ∙ ap (λ z. list_any (same_address z) ks) (sym e) ∙ h in cc) (λ s. s))))
+    (λ t. rw t (λ h. list_any-last (has_primary p) rs r ∙ both_false _ _ (v p h)
+    (by_test (same_address p (entry_primary r)) (λ s. let e = same_from_address p (entry_primary r) s in let q : true ≡ false = sym t ∙ ap (λ z. list_any (same_address z) ks) (sym e) ∙ h in cc) (λ s. s))))
     (λ t. rw t (λ h.
-    let s : (list_any (same_address p) ks || same_address p (entry_primary r)) ≡ false = sym (any-append-one (same_address p) ks (entry_primary r)) ∙ h in
-    any-append-one (has_primary p) rs r ∙ both_false _ _ (v p (none_left _ _ s)) (none_right _ _ s)))
+    let s : (list_any (same_address p) ks || same_address p (entry_primary r)) ≡ false = sym (list_any-last (same_address p) ks (entry_primary r)) ∙ h in
+    list_any-last (has_primary p) rs r ∙ both_false _ _ (v p (none_left _ _ s)) (none_right _ _ s)))
 
 good_more : (rs : List (Entry SlotNodes)) (r : Entry SlotNodes) (ks : List Address) → Good rs ks → Good (rs ++ r ∷ []) (add_new ks (entry_primary r))
 good_more rs r ks g = record { distinct = distinct_new ks (entry_primary r) g.distinct; have = have_cond (list_any (same_address (entry_primary r)) ks) ks rs r g.have; covers = covers_new ks rs r g.covers }
@@ -247,7 +236,7 @@ grouped_from done (r ∷ rest) g =
     ∙ grouped_from (done ++ r ∷ []) rest (rw more (good_more done r (primaries done) g))
     ∙ ap primary_shards (append_assoc done (r ∷ []) rest)
 
-pub grouped_is : (rs : List (Entry SlotNodes)) → grouped rs ≡ shards_of rs
+pub grouped_is : (rs : List (Entry SlotNodes)) → add_ranges rs ≡ shards_of rs
 grouped_is rs = grouped_from [] rs (record { distinct = tt; have = tt; covers = λ p h. refl }) ∙ primary_shards-are rs
 
 good_from : (done rest : List (Entry SlotNodes)) → Good done (primaries done) → Good (done ++ rest) (primaries (done ++ rest))

@@ -4,9 +4,9 @@ use Rattle.std.specs.Ordering.{match_ordering}
 use Rattle.std.proofs.lemmas.Bool.{cases_order}
 use Rattle.std.proofs.lemmas.Bool.Decides.{nat_tests}
 use Rattle.slot_ranges.specs.RangeMap.{Entry, value_of, Ascends, IsAnswerAt, IsUncovered, insert_entry}
-use Rattle.read_strategies.specs.Topology.{inserted}
+use Rattle.read_strategies.specs.Topology.{insert_entries}
 use Rattle.resp_core.proofs.Cases.{by_test}
-use Rattle.slot_ranges.proofs.Ranges.{ending_from, EndsFirstFrom-unique, EndsFirstFrom-answer, EndsFirstFrom-head, IsAnswerAt-first, IsUncovered-first, IsUncovered-none, insert_entry-front, insert_entry-place, insert_entry-later, Ascends-insert_entry}
+use Rattle.slot_ranges.proofs.Ranges.{ending_from, EndsFirstFrom-unique, EndsFirstFrom-answer, EndsFirstFrom-head, IsAnswerAt-first, IsAnswerAt-unique, IsUncovered-first, IsUncovered-none, insert_entry-front, insert_entry-place, insert_entry-later, Ascends-insert_entry}
 
 abbrev pub insert_step : {V : Type 0} → List (Entry V) → ℕ → ℕ → V → List (Entry V)
 insert_step [] start end value = (start, end, value) ∷ []
@@ -31,43 +31,43 @@ insert_step-is (r ∷ rs) start end value ascends = elim (cases_order end r.1) [
 abbrev pub step : {V : Type 0} → List (Entry V) → Entry V → List (Entry V)
 step es e = insert_step es e.0 e.1 e.2
 
-abbrev pub stepped : {V : Type 0} → List (Entry V) → List (Entry V) → List (Entry V)
-stepped es more = fold step es more
+abbrev pub insert_steps : {V : Type 0} → List (Entry V) → List (Entry V) → List (Entry V)
+insert_steps es more = fold step es more
 
-pub Ascends-inserted : {V : Type 0} (es more : List (Entry V)) → Ascends es → Ascends (inserted es more)
-Ascends-inserted es [] ascends = ascends
-Ascends-inserted es (x ∷ xs) ascends = Ascends-inserted (insert_entry es x.0 x.1 x.2) xs (Ascends-insert_entry es x.0 x.1 x.2 ascends)
+pub Ascends-insert_entries : {V : Type 0} (es more : List (Entry V)) → Ascends es → Ascends (insert_entries es more)
+Ascends-insert_entries es [] ascends = ascends
+Ascends-insert_entries es (x ∷ xs) ascends = Ascends-insert_entries (insert_entry es x.0 x.1 x.2) xs (Ascends-insert_entry es x.0 x.1 x.2 ascends)
 
-pub stepped-is : {V : Type 0} (es more : List (Entry V)) → Ascends es → inserted es more ≡ stepped es more
-stepped-is es [] ascends = refl
-stepped-is es (x ∷ xs) ascends =
-    stepped-is (insert_entry es x.0 x.1 x.2) xs (Ascends-insert_entry es x.0 x.1 x.2 ascends)
-    ∙ ap (λ z. stepped z xs) (insert_step-is es x.0 x.1 x.2 ascends)
+pub insert_steps-is : {V : Type 0} (es more : List (Entry V)) → Ascends es → insert_entries es more ≡ insert_steps es more
+insert_steps-is es [] ascends = refl
+insert_steps-is es (x ∷ xs) ascends =
+    insert_steps-is (insert_entry es x.0 x.1 x.2) xs (Ascends-insert_entry es x.0 x.1 x.2 ascends)
+    ∙ ap (λ z. insert_steps z xs) (insert_step-is es x.0 x.1 x.2 ascends)
 
-abbrev pub first_given : {V : Type 0} → ℕ → List (Entry V) → Option V
-first_given slot [] = None
-first_given slot (e ∷ es) = cond (nat_le e.0 slot) (Some e.2) None
+abbrev pub first_value_at : {V : Type 0} → ℕ → List (Entry V) → Option V
+first_value_at slot [] = None
+first_value_at slot (e ∷ es) = cond (nat_le e.0 slot) (Some e.2) None
 
 abbrev pub answer : {V : Type 0} → List (Entry V) → ℕ → Option V
-answer es slot = first_given slot (ending_from slot es)
+answer es slot = first_value_at slot (ending_from slot es)
 
-given_case : {V : Type 0} (es : List (Entry V)) (slot : ℕ) (value : V) (rest : List (Entry V)) → Ascends es → ending_from slot es ≡ rest → first_given slot rest ≡ Some value → IsAnswerAt es slot value
-given_case es slot value [] ascends is given = cc
-given_case es slot value (e ∷ rest) ascends is given = by_test (nat_le e.0 slot)
+some_case : {V : Type 0} (es : List (Entry V)) (slot : ℕ) (value : V) (rest : List (Entry V)) → Ascends es → ending_from slot es ≡ rest → first_value_at slot rest ≡ Some value → IsAnswerAt es slot value
+some_case es slot value [] ascends is value_is = cc
+some_case es slot value (e ∷ rest) ascends is value_is = by_test (nat_le e.0 slot)
     (λ t.
-    let there : Some e.2 ≡ Some value = sym (rw t refl) ∙ given in
+    let there : Some e.2 ≡ Some value = sym (rw t refl) ∙ value_is in
     let same : e.2 ≡ value = cc in
     let starts : e.0 ≤ slot = grind (arith, nat_tests) in
     subst (λ v. IsAnswerAt es slot v) same (IsAnswerAt-first es slot e (EndsFirstFrom-head es slot e rest ascends is) starts))
-    (λ t. let there : None ≡ Some value = sym (rw t refl) ∙ given in cc)
+    (λ t. let there : None ≡ Some value = sym (rw t refl) ∙ value_is in cc)
 
 pub answer-some : {V : Type 0} (es : List (Entry V)) (slot : ℕ) (value : V) → Ascends es → answer es slot ≡ Some value → IsAnswerAt es slot value
-answer-some es slot value ascends is = given_case es slot value (ending_from slot es) ascends refl is
+answer-some es slot value ascends is = some_case es slot value (ending_from slot es) ascends refl is
 
-none_case : {V : Type 0} (es : List (Entry V)) (slot : ℕ) (rest : List (Entry V)) → Ascends es → ending_from slot es ≡ rest → first_given slot rest ≡ None → IsUncovered es slot
-none_case es slot [] ascends is given = IsUncovered-none es slot is
-none_case es slot (e ∷ rest) ascends is given = by_test (nat_le e.0 slot)
-    (λ t. let there : Some e.2 ≡ None = sym (rw t refl) ∙ given in cc)
+none_case : {V : Type 0} (es : List (Entry V)) (slot : ℕ) (rest : List (Entry V)) → Ascends es → ending_from slot es ≡ rest → first_value_at slot rest ≡ None → IsUncovered es slot
+none_case es slot [] ascends is value_is = IsUncovered-none es slot is
+none_case es slot (e ∷ rest) ascends is value_is = by_test (nat_le e.0 slot)
+    (λ t. let there : Some e.2 ≡ None = sym (rw t refl) ∙ value_is in cc)
     (λ t.
     let after : slot < e.0 = grind (arith, nat_tests) in
     IsUncovered-first es slot e ascends (EndsFirstFrom-head es slot e rest ascends is) after)
@@ -75,10 +75,6 @@ none_case es slot (e ∷ rest) ascends is given = by_test (nat_le e.0 slot)
 pub by_option : {X A : Type 0} (o : Option X) → (o ≡ None → A) → ((x : X) → o ≡ Some x → A) → A
 by_option None f g = f refl
 by_option (Some x) f g = g x refl
-
-pub IsAnswerAt-unique : {V : Type 0} (es : List (Entry V)) (slot : ℕ) (v w : V) → Ascends es → IsAnswerAt es slot v → IsAnswerAt es slot w → v ≡ w
-IsAnswerAt-unique es slot v w ascends a b =
-    ap value_of (EndsFirstFrom-unique es slot (a.start, a.end, v) (b.start, b.end, w) ascends (EndsFirstFrom-answer es slot v a) (EndsFirstFrom-answer es slot w b))
 
 pub answer-is : {V : Type 0} (es : List (Entry V)) (slot : ℕ) (value : V) → Ascends es → IsAnswerAt es slot value → answer es slot ≡ Some value
 answer-is es slot value ascends a = by_option (answer es slot)
@@ -99,17 +95,17 @@ with_value-step g (r ∷ rs) start end value = elim (cases_order end r.1) [
   ]
 ]
 
-pub with_value-stepped : {A B : Type 0} (g : A → B) (es more : List (Entry A)) → map (with_value g) (stepped es more) ≡ stepped (map (with_value g) es) (map (with_value g) more)
-with_value-stepped g es [] = refl
-with_value-stepped g es (x ∷ xs) = with_value-stepped g (step es x) xs ∙ ap (λ z. stepped z (map (with_value g) xs)) (with_value-step g es x.0 x.1 x.2)
+pub with_value-insert_steps : {A B : Type 0} (g : A → B) (es more : List (Entry A)) → map (with_value g) (insert_steps es more) ≡ insert_steps (map (with_value g) es) (map (with_value g) more)
+with_value-insert_steps g es [] = refl
+with_value-insert_steps g es (x ∷ xs) = with_value-insert_steps g (step es x) xs ∙ ap (λ z. insert_steps z (map (with_value g) xs)) (with_value-step g es x.0 x.1 x.2)
 
 with_value-from : {A B : Type 0} (g : A → B) (slot : ℕ) (es : List (Entry A)) → ending_from slot (map (with_value g) es) ≡ map (with_value g) (ending_from slot es)
 with_value-from g slot [] = refl
 with_value-from g slot (e ∷ es) = by_test (nat_le slot e.1) (λ t. rw t (ap (λ z. with_value g e ∷ z) (with_value-from g slot es))) (λ t. rw t (with_value-from g slot es))
 
-with_value-given : {A B : Type 0} (g : A → B) (slot : ℕ) (es : List (Entry A)) → first_given slot (map (with_value g) es) ≡ option_map g (first_given slot es)
-with_value-given g slot [] = refl
-with_value-given g slot (e ∷ es) = by_test (nat_le e.0 slot) (λ t. rw t refl) (λ t. rw t refl)
+with_value-first_value_at : {A B : Type 0} (g : A → B) (slot : ℕ) (es : List (Entry A)) → first_value_at slot (map (with_value g) es) ≡ option_map g (first_value_at slot es)
+with_value-first_value_at g slot [] = refl
+with_value-first_value_at g slot (e ∷ es) = by_test (nat_le e.0 slot) (λ t. rw t refl) (λ t. rw t refl)
 
 pub with_value-answer : {A B : Type 0} (g : A → B) (es : List (Entry A)) (slot : ℕ) → answer (map (with_value g) es) slot ≡ option_map g (answer es slot)
-with_value-answer g es slot = ap (first_given slot) (with_value-from g slot es) ∙ with_value-given g slot (ending_from slot es)
+with_value-answer g es slot = ap (first_value_at slot) (with_value-from g slot es) ∙ with_value-first_value_at g slot (ending_from slot es)

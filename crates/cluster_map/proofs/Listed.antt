@@ -4,16 +4,17 @@ use Rattle.std.specs.List.{list_any}
 use Rattle.std.proofs.lemmas.Bool.{eqb-true}
 use Rattle.std.proofs.lemmas.Bool.Decides.{nat_tests}
 use Rattle.std.proofs.lemmas.Option.{slice_get-map}
+use Rattle.cluster_slots.proofs.Orders.{same_from_address}
 use Rattle.cluster_slots.specs.Address.{Address, same_address}
 use Rattle.resp_core.proofs.Cases.{by_test}
 use Rattle.slot_ranges.specs.SlotNodes.{SlotNodes}
 use Rattle.slot_ranges.specs.RangeMap.{Entry, value_of, Ascends}
 use Rattle.read_strategies.specs.EachOnce.{once_by, each_once}
-use Rattle.read_strategies.specs.Topology.{primary_of, entry_primary, shard_of, shards_of, placed_from, inserted, topology_of, at_places, then_rest, shards_left}
+use Rattle.read_strategies.specs.Topology.{primary_of, entry_primary, shard_of, shards_of, place_entries, insert_entries, topology_of, at_places, then_rest, shards_left}
 use Rattle.read_strategies.proofs.Members.{added_once}
-use Rattle.cluster_map.proofs.Groups.{Distinct, primaries-distinct, same_true, same_refl}
-use Rattle.cluster_map.proofs.Inserts.{stepped, stepped-is, by_option, with_value}
-use Rattle.cluster_map.proofs.Agreement.{keyed, resolved}
+use Rattle.cluster_map.proofs.Groups.{Distinct, primaries-distinct, same_refl}
+use Rattle.cluster_map.proofs.Inserts.{insert_steps, insert_steps-is, by_option, with_value}
+use Rattle.cluster_map.proofs.Agreement.{with_primary, resolved}
 
 any_at : {X : Type 0} (p : X → Bool) (xs : List X) (place : ℕ) (x : X) → slice_get xs place ≡ Some x → p x ≡ true → list_any p xs ≡ true
 any_at p [] place x at is = cc
@@ -51,7 +52,7 @@ without_place ps distinct place a at (q ∷ places) =
     (λ none. rw (other, none) rest)
     (λ b there. by_test (same_address b a)
     (λ one.
-    let is : q ≡ place = place_unique ps distinct q place a (there ∙ ap Some (same_true b a one)) at in
+    let is : q ≡ place = place_unique ps distinct q place a (there ∙ ap Some (same_from_address b a one)) at in
     let here : nat_eq q place ≡ true = grind (arith, nat_tests) in
     let no : true ≡ false = sym here ∙ other in cc)
     (λ apart. rw (other, there, apart) (ap (λ z. b ∷ z) rest))))
@@ -79,9 +80,9 @@ values_with : {A B : Type 0} (g : A → B) (es : List (Entry A)) → map value_o
 values_with g [] = refl
 values_with g (e ∷ es) = ap (λ z. g (value_of e) ∷ z) (values_with g es)
 
-values_keyed : (es : List (Entry SlotNodes)) → map value_of (map keyed es) ≡ map Some (map entry_primary es)
-values_keyed [] = refl
-values_keyed (e ∷ es) = ap (λ z. Some (entry_primary e) ∷ z) (values_keyed es)
+values-with_primary : (es : List (Entry SlotNodes)) → map value_of (map with_primary es) ≡ map Some (map entry_primary es)
+values-with_primary [] = refl
+values-with_primary (e ∷ es) = ap (λ z. Some (entry_primary e) ∷ z) (values-with_primary es)
 
 primaries_of_shards : (es : List (Entry SlotNodes)) (ks : List Address) → map primary_of (map (shard_of es) ks) ≡ ks
 primaries_of_shards es [] = refl
@@ -92,16 +93,16 @@ listed es up =
     let keys = map entry_primary es in
     let ps = each_once keys in
     let ss = shards_of es in
-    let stepped_ranges = stepped [] (placed_from 0 ss) in
-    let ranges = inserted [] (placed_from 0 ss) in
+    let ranges_by_steps = insert_steps [] (place_entries 0 ss) in
+    let ranges = insert_entries [] (place_entries 0 ss) in
     let places = map value_of ranges in
     let got = slice_get (map primary_of ss) in
     let own : map primary_of ss ≡ ps = primaries_of_shards es ps in
     let distinct : Distinct ps = subst Distinct (added_once keys) (primaries-distinct es) in
     let is : map (slice_get ps) places ≡ map Some keys =
     ap (λ z. map (slice_get z) places) (sym own)
-    ∙ ap (λ z. map got (map value_of z)) (stepped-is [] (placed_from 0 ss) tt)
-    ∙ sym (values_with got stepped_ranges)
+    ∙ ap (λ z. map got (map value_of z)) (insert_steps-is [] (place_entries 0 ss) tt)
+    ∙ sym (values_with got ranges_by_steps)
     ∙ ap (map value_of) (resolved es up)
-    ∙ values_keyed es in
+    ∙ values-with_primary es in
     at_places-map (shard_of es) ps (once_by nat_eq places) ∙ ap (map (shard_of es)) (once_places ps distinct places keys is)

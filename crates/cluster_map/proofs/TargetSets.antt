@@ -27,13 +27,13 @@ targets-cond false rs ss = refl
 pub targets-insert : (rs : List (Bor Address)) (r : Bor Address) → targets (insert_key same_target rs r) ≡ add_new (targets rs) r.now
 targets-insert rs r = targets-cond (list_any (same_target r) rs) rs (rs ++ r ∷ []) ∙ rw (list_any-targets r rs, targets-append rs r) refl
 
-abbrev pub primary_of : SlotNodes → Address
-primary_of n = n.primary
+abbrev pub range_primary : SlotNodes → Address
+range_primary n = n.primary
 
-pub primaries_last : (ns : List SlotNodes) (n : SlotNodes) → map primary_of (ns ++ n ∷ []) ≡ map primary_of ns ++ n.primary ∷ []
+pub primaries_last : (ns : List SlotNodes) (n : SlotNodes) → map range_primary (ns ++ n ∷ []) ≡ map range_primary ns ++ n.primary ∷ []
 primaries_last [] n = refl
 primaries_last (m ∷ ms) n = ap (λ z. m.primary ∷ z) (primaries_last ms n)
 
-pub primaries_in : (es : List (Entry SlotNodes)) → map primary_of (map value_of es) ≡ map (λ (e : Entry SlotNodes). (value_of e).primary) es
+pub primaries_in : (es : List (Entry SlotNodes)) → map range_primary (map value_of es) ≡ map (λ (e : Entry SlotNodes). (value_of e).primary) es
 primaries_in [] = refl
 primaries_in (e ∷ es) = ap (λ z. (value_of e).primary ∷ z) (primaries_in es)

@@ -7,7 +7,8 @@ use Rattle.cluster_slots.specs.declared.slot.SlotAddr.TheVariants.{Master, Repli
 use Rattle.slot_ranges.specs.SlotNodes.{SlotNodes}
 use Rattle.slot_ranges.specs.RangeMap.{Entry, IsAnswerAt, IsUncovered}
 
--- what is asked for at the primary can go nowhere else; other reads can go to the replicas, and where they need not go to a replica, to the primary at last
+-- what is asked for at the primary can go nowhere else; other reads can go to the replicas, and
+-- where they need not go to a replica, to the primary at last
 abbrev pub fallback : SlotNodes → SlotAddr → List Address
 fallback nodes Master = []
 fallback nodes ReplicaOptional = nodes.replicas ++ nodes.primary ∷ []
@@ -16,4 +17,6 @@ fallback nodes ReplicaRequired = nodes.replicas
 -- the fallback of the entry that answers for the route's slot, or nothing where none does
 abbrev pub IsFallback : List (Entry SlotNodes) → SlotRoute → List Address → Type 0
 IsFallback entries route addresses =
-    (IsUncovered entries route.slot × (addresses ≡ [])) ⊎ ((nodes : SlotNodes) × IsAnswerAt entries route.slot nodes × (addresses ≡ fallback nodes route.addr))
+    (IsUncovered entries route.slot × (addresses ≡ []))
+    ⊎ ((nodes : SlotNodes) × IsAnswerAt entries route.slot nodes
+    × (addresses ≡ fallback nodes route.addr))

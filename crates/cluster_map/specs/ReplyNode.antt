@@ -10,7 +10,8 @@ use Rattle.slot_ranges.specs.SlotsReply.{ranges_in}
 
 -- what `slot_addr_for_route` finds for a route in a map of these entries
 abbrev pub IsFound : List (Entry SlotNodes) → SlotRoute → ℕ → Option Address → Type 0
-IsFound entries route pick found = MatchOption found (IsUncovered entries route.slot) (IsNodeOfRoute entries route pick)
+IsFound entries route pick found =
+    MatchOption found (IsUncovered entries route.slot) (IsNodeOfRoute entries route pick)
 
 -- an entry answers for the slot
 abbrev pub IsCovered : List (Entry SlotNodes) → ℕ → Type 0
@@ -20,7 +21,9 @@ IsCovered entries slot = (nodes : SlotNodes) × IsAnswerAt entries slot nodes
 abbrev pub entries_in : List ℕ → Reply → List (Entry SlotNodes)
 entries_in answering reply = insert_ranges [] (ranges_in answering reply)
 
--- an address is found exactly where an entry of the reply answers for the route's slot, and it is the one that the route asks for there
-pub record IsFoundByReply (answering : List ℕ) (reply : Reply) (route : SlotRoute) (pick : ℕ) (found : Option Address) : Type 0 where
+-- an address is found exactly where an entry of the reply answers for the route's slot, and it is
+-- the one that the route asks for there
+pub record IsFoundByReply (answering : List ℕ) (reply : Reply) (route : SlotRoute) (pick : ℕ)
+    (found : Option Address) : Type 0 where
   pub there : IsSome found ↔ IsCovered (entries_in answering reply) route.slot
   pub node : IfSome found (IsNodeOfRoute (entries_in answering reply) route pick)

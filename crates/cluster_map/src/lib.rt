@@ -1,5 +1,5 @@
-//! Addresses of nodes, slots of keys, the map from slots to nodes, the reply that tells it, and where
-//! reads go.
+//! Addresses of nodes, slots of keys, the map from slots to nodes, the reply that tells it, and
+//! where reads go.
 #![tactic(auto)]
 
 pub mod slot_map;

@@ -168,7 +168,8 @@ impl SlotMap {
     /// If memory runs out for a range, those before it stay in the map.
     pub fn fill_slots(&mut self, slots: Vec<SlotRange>) -> Result<(), AllocError>
         ensures put { OnOk result (self.new ≡ insert_ranges self.old slots.items) }
-        ensures before { OnErr result ((count : ℕ) × (count < length slots.items) × (self.new ≡ insert_ranges self.old (take count slots.items))) }
+        ensures before { OnErr result ((count : ℕ) × (count < length slots.items)
+            × (self.new ≡ insert_ranges self.old (take count slots.items))) }
     {
         for slot in slots {
             let (start, end) = (slot.start, slot.end);
@@ -183,9 +184,13 @@ impl SlotMap {
     pub fn from_slots(alloc: Global, slots: Vec<SlotRange>) -> Result<Self, AllocError>
         ensures put { IfOk result (λ map. map ≡ insert_ranges [] slots.items) }
         // Where no two of the ranges meet and none is reversed, each has its entry,
-        ensures kept { AreDisjoint (map range_entry slots.items) → IfOk result (λ m. (e : Entry SlotNodes) → Contains m e ↔ Contains (map range_entry slots.items) e) }
+        ensures kept { AreDisjoint (map range_entry slots.items)
+            → IfOk result (λ m. (e : Entry SlotNodes)
+            → Contains m e ↔ Contains (map range_entry slots.items) e) }
         // and their order does not count.
-        ensures any_order { (others : List RangeNodes) → IsPermutation slots.items others → AreDisjoint (map range_entry slots.items) → IfOk result (λ m. m ≡ insert_ranges [] others) }
+        ensures any_order { (others : List RangeNodes) → IsPermutation slots.items others
+            → AreDisjoint (map range_entry slots.items)
+            → IfOk result (λ m. m ≡ insert_ranges [] others) }
     {
         let mut map = SlotMap::new(alloc);
         map.fill_slots(slots)?;
@@ -200,7 +205,9 @@ impl SlotMap {
     pub fn from_reply(alloc: Global, reply: &Value, answering: &str) -> RedisResult<Self>
         ensures entries { IfOk result (λ map. map ≡ entries_in answering.now (view reply.now)) }
         // So what a route then finds is what the reply says.
-        ensures node { IfOk result (λ map. (route : SlotRoute) (pick : ℕ) (found : Option Address) → IsFound map route pick found → IsFoundByReply answering.now (view reply.now) route pick found) }
+        ensures node { IfOk result (λ map. (route : SlotRoute) (pick : ℕ) (found : Option Address)
+            → IsFound map route pick found
+            → IsFoundByReply answering.now (view reply.now) route pick found) }
         ensures memory { IfErr result (λ e. e ≡ out_of_memory) }
     {
         let slots = parse_slots(alloc, reply, answering)?;
@@ -214,12 +221,13 @@ impl SlotMap {
         strategy: Option<&dyn ReadRoutingStrategy>,
         pick: usize,
     ) -> Option<&NodeAddress>
-        ensures node { MatchOption result (IsUncovered self.now route.slot) (λ address. MatchOption strategy.entry
-            (IsNodeOfRoute self.now route pick address.now)
+        ensures node { MatchOption result (IsUncovered self.now route.slot)
+            (λ address. MatchOption strategy.entry (IsNodeOfRoute self.now route pick address.now)
             (λ s. IsPickedNode (picks s.now) self.now route address.now)) }
         // In the map of a reply it is the node that the reply says.
-        ensures reply { (answering : List ℕ) (reply : Reply) → self.now ≡ entries_in answering reply →
-            MatchOption result (IsUncovered (entries_in answering reply) route.slot) (λ address. MatchOption strategy.entry
+        ensures reply { (answering : List ℕ) (reply : Reply) → self.now ≡ entries_in answering reply
+            → MatchOption result (IsUncovered (entries_in answering reply) route.slot)
+            (λ address. MatchOption strategy.entry
             (IsNodeOfRoute (entries_in answering reply) route pick address.now)
             (λ s. IsPickedNode (picks s.now) (entries_in answering reply) route address.now)) }
         // So one range at most answers for a slot.
@@ -229,8 +237,8 @@ impl SlotMap {
         Some(addrs.slot_addr(route.slot(), route.slot_addr(), strategy, pick))
     }
 
-    /// The node of each route, in order. The strategy is asked in this order, and `pick` is the same
-    /// for all.
+    /// The node of each route, in order. The strategy is asked in this order, and `pick` is the
+    /// same for all.
     pub fn addresses_for_multi_slot(
         &self,
         alloc: Global,
@@ -238,9 +246,12 @@ impl SlotMap {
         strategy: Option<&dyn ReadRoutingStrategy>,
         pick: usize,
     ) -> Result<Vec<Option<&NodeAddress>>, AllocError>
-        ensures each { IfOk result (λ found. AllZip (λ route node. MatchOption node (IsUncovered self.now route.0.slot) (λ address. MatchOption strategy.entry
+        ensures each { IfOk result (λ found. AllZip
+            (λ route node. MatchOption node (IsUncovered self.now route.0.slot)
+            (λ address. MatchOption strategy.entry
             (IsNodeOfRoute self.now route.0 pick address.now)
-            (λ s. IsPickedNode (picks s.now) self.now route.0 address.now))) routes.now found.items) }
+            (λ s. IsPickedNode (picks s.now) self.now route.0 address.now)))
+            routes.now found.items) }
     {
         let mut found = Vec::with_capacity(alloc, routes.len())?;
         for (route, _) in routes {
@@ -250,8 +261,8 @@ impl SlotMap {
     }
 
     /// The nodes that a read may go to where the one of its route fails: the replicas, and after
-    /// them the primary where no replica is required. There is none for a primary's route, nor where
-    /// no range answers for the slot.
+    /// them the primary where no replica is required. There is none for a primary's route, nor
+    /// where no range answers for the slot.
     pub fn shard_fallback_addrs(
         &self,
         alloc: Global,
@@ -286,7 +297,8 @@ impl SlotMap {
         &self,
         alloc: Global,
     ) -> Result<Vec<&NodeAddress>, AllocError>
-        ensures all { IfOk result (λ found. targets found.items ≡ each_once (map (λ (e : Entry SlotNodes). (value_of e).primary) self.now)) }
+        ensures all { IfOk result (λ found. targets found.items
+            ≡ each_once (map (λ (e : Entry SlotNodes). (value_of e).primary) self.now)) }
         ensures order { Ascends self.now }
     {
         let mut seen = IndexSet::new(alloc);
@@ -298,7 +310,8 @@ impl SlotMap {
 
     /// Each node once, by its first range and, within a range, the primary first.
     pub fn addresses_for_all_nodes(&self, alloc: Global) -> Result<Vec<&NodeAddress>, AllocError>
-        ensures all { IfOk result (λ found. targets found.items ≡ each_once (flat_map (λ (e : Entry SlotNodes). nodes_in (value_of e)) self.now)) }
+        ensures all { IfOk result (λ found. targets found.items
+            ≡ each_once (flat_map (λ (e : Entry SlotNodes). nodes_in (value_of e)) self.now)) }
         ensures order { Ascends self.now }
     {
         let mut seen = IndexSet::new(alloc);

@@ -5,14 +5,16 @@ use Rattle.resp_core.specs.declared.error.ErrorKind.TheVariants.{InvalidClientCo
 use Rattle.cluster_slots.specs.Number.{number_in}
 use Rattle.cluster_slots.specs.Bytes.{colon, open_bracket, close_bracket}
 
--- the text is the host with some opening brackets before it and some closing ones after it, all that there are
+-- the text is the host with some opening brackets before it and some closing ones after it, all
+-- that there are
 pub record IsBracketed (text host : List ℕ) (opens closes : ℕ) : Type 0 where
   pub whole : text ≡ replicate opens open_bracket ++ host ++ replicate closes close_bracket
   pub some : host ≢ []
   pub start : (rest : List ℕ) → host ≢ open_bracket ∷ rest
   pub end : (front : List ℕ) → host ≢ front ++ close_bracket ∷ []
 
--- the text is cut at its last colon into left and right; left is the host in brackets or not, right is the port
+-- the text is cut at its last colon into left and right; left is the host in brackets or not, right
+-- is the port
 pub record ReadsAs (text left right host : List ℕ) (port : ℕ) : Type 0 where
   pub cut : text ≡ left ++ colon ∷ right
   pub last : ¬ (Contains right colon)
@@ -21,7 +23,8 @@ pub record ReadsAs (text left right host : List ℕ) (port : ℕ) : Type 0 where
 
 -- the text stands for the host and the port
 abbrev pub IsAddressText : List ℕ → List ℕ → ℕ → Type 0
-IsAddressText text host port = (left : List ℕ) × (right : List ℕ) × ReadsAs text left right host port
+IsAddressText text host port =
+    (left : List ℕ) × (right : List ℕ) × ReadsAs text left right host port
 
 -- the text stands for no address
 abbrev pub IsNoAddress : List ℕ → Type 0
@@ -35,4 +38,5 @@ pub record IsPlainHost (host : List ℕ) : Type 0 where
 
 -- the refusal of a text that stands for no address
 abbrev pub invalid_node_string : ErrorParts
-invalid_node_string = record { kind = InvalidClientConfig; desc = codes "Invalid node string"; detail = None }
+invalid_node_string =
+    record { kind = InvalidClientConfig; desc = codes "Invalid node string"; detail = None }

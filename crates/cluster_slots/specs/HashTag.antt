@@ -22,9 +22,13 @@ HasNoTag key = (t : List ℕ) → ¬ (HasTag key t)
 abbrev pub IsHashTag : List ℕ → List ℕ → Type 0
 IsHashTag key t = HasTag key t ⊎ ((t ≡ key) × HasNoTag key)
 
--- the tag as a value: what stands between the first opening brace and the first closing one after it, or else the key
+-- the tag as a value: what stands between the first opening brace and the first closing one after
+-- it, or else the key
 abbrev pub tag_in : List ℕ → List ℕ → List ℕ
-tag_in key rest = cond (list_any (nat_eq close_brace) rest && nat_lt 0 (length (before_first (nat_eq close_brace) rest))) (before_first (nat_eq close_brace) rest) key
+tag_in key rest =
+    cond (list_any (nat_eq close_brace) rest
+    && nat_lt 0 (length (before_first (nat_eq close_brace) rest)))
+    (before_first (nat_eq close_brace) rest) key
 
 abbrev pub hash_tag : List ℕ → List ℕ
 hash_tag key = tag_in key (after_first (nat_eq open_brace) key)

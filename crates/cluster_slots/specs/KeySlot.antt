@@ -3,7 +3,8 @@ use Rattle.std.specs.Prelude.{◌≡◌, ℕ, zero, suc, ◌+◌, ◌*◌, ◌-�
 use Rattle.std.specs.Int.{bit_at}
 use Rattle.cluster_slots.specs.HashTag.{IsHashTag, hash_tag}
 
--- Long division of bits by x^16 + x^12 + x^5 + 1: the remainder with one more bit brought down. The divisor is 65536 + 0x1021.
+-- Long division of bits by x^16 + x^12 + x^5 + 1: the remainder with one more bit brought down. The
+-- divisor is 65536 + 0x1021.
 abbrev pub bring_down : ℕ → ℕ → ℕ
 bring_down r b = cond (nat_le 65536 (2 * r + b)) (bit_xor (2 * r + b - 65536) 0x1021) (2 * r + b)
 

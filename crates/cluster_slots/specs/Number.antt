@@ -7,6 +7,7 @@ use Rattle.std.specs.Str.Parse.{without_leading_plus, digits_value}
 unfoldable pub number_in : ℕ → List ℕ → Option ℕ
 number_in bits text =
     if nat_lt 0 (length (without_leading_plus text))
-    && (all_ascii_digits (without_leading_plus text) && nat_lt (digits_value 10 (without_leading_plus text)) (2 ^ bits))
+    && (all_ascii_digits (without_leading_plus text)
+    && nat_lt (digits_value 10 (without_leading_plus text)) (2 ^ bits))
     then Some (digits_value 10 (without_leading_plus text))
     else None

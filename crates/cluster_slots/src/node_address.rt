@@ -70,7 +70,8 @@ impl NodeAddress {
     /// kind `OutOfMemory` if memory runs out for the host.
     pub fn try_from(alloc: Global, text: &str) -> RedisResult<Self>
         ensures read { IfOk result (λ a. IsAddressText text.now a.host a.port) }
-        ensures refused { IfErr result (λ e. ((e ≡ invalid_node_string) × IsNoAddress text.now) ⊎ (e ≡ out_of_memory)) }
+        ensures refused { IfErr result (λ e. ((e ≡ invalid_node_string) × IsNoAddress text.now)
+            ⊎ (e ≡ out_of_memory)) }
         ensures invalid { IsNoAddress text.now → IfErr result (λ e. e ≡ invalid_node_string) }
     {
         let (host, port) = split_node_address(text)?;
@@ -153,7 +154,8 @@ impl Eq for NodeAddress {
 impl PartialOrd for NodeAddress {
     ghost partial_cmp = { as_partial_cmp address_cmp };
 
-    ghost laws = { partial_order_from_own_ties (Prim.search (comparing, rules)) (Prim.search (comparing, rules)) };
+    ghost laws = { partial_order_from_own_ties
+        (Prim.search (comparing, rules)) (Prim.search (comparing, rules)) };
 
     fn partial_cmp(&self, other: &Self) -> Option<Ordering> {
         Some(self.cmp(other))
@@ -200,14 +202,16 @@ pub fn split_node_address(text: &str) -> RedisResult<(&str, u16)>
     ensures read { IfOk result (λ named. IsAddressText text.now named.0.now named.1) }
     ensures refused { IfErr result (λ e. (e ≡ invalid_node_string) × IsNoAddress text.now) }
     // The printed form of an address names it exactly where its host is a plain one.
-    ensures printed { (a : Address) → a.port < 2 ^ 16 → text.now ≡ display_text a → (IsAddressText text.now a.host a.port ↔ IsPlainHost a.host) }
+    ensures printed { (a : Address) → a.port < 2 ^ 16 → text.now ≡ display_text a
+        → (IsAddressText text.now a.host a.port ↔ IsPlainHost a.host) }
 {
     let invalid = (ErrorKind::InvalidClientConfig, "Invalid node string");
     host_and_port(text).ok_or(RedisError::from(invalid))
 }
 
 fn host_and_port(text: &str) -> Option<(&str, u16)>
-    ensures { MatchOption result (IsNoAddress text.now) (λ named. IsAddressText text.now named.0.now named.1) }
+    ensures { MatchOption result (IsNoAddress text.now)
+        (λ named. IsAddressText text.now named.0.now named.1) }
 {
     let (left, right) = text.rsplit_once(':')?;
     let host = left.trim_start_matches('[').trim_end_matches(']');

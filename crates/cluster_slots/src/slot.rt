@@ -51,7 +51,8 @@ impl Slot {
         ensures slot { IsKeySlot key.now result }
         ensures value { result ≡ key_slot key.now }
         // Keys with one hash tag have one slot.
-        ensures tag { (other tag : List ℕ) (slot : ℕ) → IsHashTag key.now tag → IsHashTag other tag → IsKeySlot other slot → result ≡ slot }
+        ensures tag { (other tag : List ℕ) (slot : ℕ) → IsHashTag key.now tag → IsHashTag other tag
+            → IsKeySlot other slot → result ≡ slot }
         ensures below { result < 16384 }
     {
         let tag = get_hashtag(key).unwrap_or(key);
@@ -138,7 +139,8 @@ impl Route {
 
 /// The parts before and after the first such byte.
 fn cut_at(bytes: &[u8], byte: u8) -> Option<(&[u8], &[u8])>
-    ensures { MatchOption result (¬ (Contains bytes.now byte)) (λ parts. (bytes.now ≡ parts.0.now ++ byte ∷ parts.1.now) × ¬ (Contains parts.0.now byte)) }
+    ensures { MatchOption result (¬ (Contains bytes.now byte))
+        (λ parts. (bytes.now ≡ parts.0.now ++ byte ∷ parts.1.now) × ¬ (Contains parts.0.now byte)) }
 {
     let at = bytes.iter().position(|b| *b == byte)?;
     Some((&bytes[..at], &bytes[at + 1..]))

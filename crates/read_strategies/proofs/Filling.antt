@@ -6,27 +6,27 @@ use Rattle.std.specs.List.{Contains}
 use Rattle.read_strategies.specs.EachOnce.{once_by}
 use Rattle.slot_ranges.specs.RangeMap.{Entry, end_of, value_of, insert_entry}
 use Rattle.read_strategies.specs.Shards.{ShardNodes}
-use Rattle.read_strategies.specs.Topology.{inserted, placed, placed_from, places_left}
+use Rattle.read_strategies.specs.Topology.{insert_entries, place_entry, place_entries, places_left}
 use Rattle.resp_core.proofs.Cases.{by_test}
 use Rattle.slot_ranges.proofs.Ranges.{Contains-cons_cases, Contains-nil}
 
 abbrev put : List (Entry ℕ) → Entry ℕ → List (Entry ℕ)
 put es e = insert_entry es e.0 e.1 (value_of e)
 
-placed_from-last : (place : ℕ) (ss : List ShardNodes) (s : ShardNodes) → placed_from place (ss ++ s ∷ []) ≡ placed_from place ss ++ map (placed (place + length ss)) s.ranges
-placed_from-last place [] s = append-nil (map (placed place) s.ranges) ∙ ap (λ k. map (placed k) s.ranges) (omega arith)
-placed_from-last place (x ∷ xs) s =
-    ap (λ z. map (placed place) x.ranges ++ z) (placed_from-last (suc place) xs s ∙ ap (λ k. placed_from (suc place) xs ++ map (placed k) s.ranges) (omega arith))
-    ∙ sym (append_assoc (map (placed place) x.ranges) (placed_from (suc place) xs) (map (placed (place + length (x ∷ xs))) s.ranges))
+place_entries-last : (place : ℕ) (ss : List ShardNodes) (s : ShardNodes) → place_entries place (ss ++ s ∷ []) ≡ place_entries place ss ++ map (place_entry (place + length ss)) s.ranges
+place_entries-last place [] s = append-nil (map (place_entry place) s.ranges) ∙ ap (λ k. map (place_entry k) s.ranges) (omega arith)
+place_entries-last place (x ∷ xs) s =
+    ap (λ z. map (place_entry place) x.ranges ++ z) (place_entries-last (suc place) xs s ∙ ap (λ k. place_entries (suc place) xs ++ map (place_entry k) s.ranges) (omega arith))
+    ∙ sym (append_assoc (map (place_entry place) x.ranges) (place_entries (suc place) xs) (map (place_entry (place + length (x ∷ xs))) s.ranges))
 
 -- the ranges of one shard more
-pub inserted-more : (ss : List ShardNodes) (i : ℕ) (s : ShardNodes) → i < length ss → s ≡ get_or ss i s → inserted (inserted [] (placed_from 0 (take i ss))) (map (placed i) s.ranges) ≡ inserted [] (placed_from 0 (take (i + 1) ss))
-inserted-more ss i s within is =
+pub insert_entries-more : (ss : List ShardNodes) (i : ℕ) (s : ShardNodes) → i < length ss → s ≡ get_or ss i s → insert_entries (insert_entries [] (place_entries 0 (take i ss))) (map (place_entry i) s.ranges) ≡ insert_entries [] (place_entries 0 (take (i + 1) ss))
+insert_entries-more ss i s within is =
     let t : take (i + 1) ss ≡ take i ss ++ s ∷ [] = take_more ss i s within ∙ ap (λ z. take i ss ++ z ∷ []) (sym is) in
     let m : length (take i ss) ≡ i = length-take-le i ss (omega arith) in
     let n : 0 + length (take i ss) ≡ i = omega arith in
-    sym (fold-append put [] (placed_from 0 (take i ss)) (map (placed i) s.ranges))
-    ∙ ap (inserted []) (ap (λ k. placed_from 0 (take i ss) ++ map (placed k) s.ranges) (sym n) ∙ sym (placed_from-last 0 (take i ss) s) ∙ ap (placed_from 0) (sym t))
+    sym (fold-append put [] (place_entries 0 (take i ss)) (map (place_entry i) s.ranges))
+    ∙ ap (insert_entries []) (ap (λ k. place_entries 0 (take i ss) ++ map (place_entry k) s.ranges) (sym n) ∙ sym (place_entries-last 0 (take i ss) s) ∙ ap (place_entries 0) (sym t))
 
 -- each place is below a number
 abbrev pub AllPlaces : ℕ → List (Entry ℕ) → Type 0
@@ -47,20 +47,20 @@ places-insert n es e below all =
     (places-filter n (λ r. nat_lt (end_of r) e.1) es all)
     (below, places-filter n (λ r. nat_lt e.1 (end_of r)) es all)
 
-places-inserted : (n : ℕ) (es more : List (Entry ℕ)) → AllPlaces n es → AllPlaces n more → AllPlaces n (inserted es more)
-places-inserted n es [] a b = a
-places-inserted n es (x ∷ xs) a b = places-inserted n (put es x) xs (places-insert n es x b.0 a) b.1
+places-insert_entries : (n : ℕ) (es more : List (Entry ℕ)) → AllPlaces n es → AllPlaces n more → AllPlaces n (insert_entries es more)
+places-insert_entries n es [] a b = a
+places-insert_entries n es (x ∷ xs) a b = places-insert_entries n (put es x) xs (places-insert n es x b.0 a) b.1
 
-places-placed : (n place : ℕ) (ranges : List (ℕ × ℕ)) → place < n → AllPlaces n (map (placed place) ranges)
-places-placed n place [] below = tt
-places-placed n place (r ∷ rs) below = (below, places-placed n place rs below)
+places-place_entry : (n place : ℕ) (ranges : List (ℕ × ℕ)) → place < n → AllPlaces n (map (place_entry place) ranges)
+places-place_entry n place [] below = tt
+places-place_entry n place (r ∷ rs) below = (below, places-place_entry n place rs below)
 
-places-from : (n place : ℕ) (ss : List ShardNodes) → place + length ss ≤ n → AllPlaces n (placed_from place ss)
+places-from : (n place : ℕ) (ss : List ShardNodes) → place + length ss ≤ n → AllPlaces n (place_entries place ss)
 places-from n place [] below = tt
-places-from n place (s ∷ ss) below = places-append n (map (placed place) s.ranges) (placed_from (suc place) ss) (places-placed n place s.ranges (omega arith)) (places-from n (suc place) ss (omega arith))
+places-from n place (s ∷ ss) below = places-append n (map (place_entry place) s.ranges) (place_entries (suc place) ss) (places-place_entry n place s.ranges (omega arith)) (places-from n (suc place) ss (omega arith))
 
-pub all_places : (ss : List ShardNodes) → AllPlaces (length ss) (inserted [] (placed_from 0 ss))
-all_places ss = places-inserted (length ss) [] (placed_from 0 ss) tt (places-from (length ss) 0 ss (omega arith))
+pub all_places : (ss : List ShardNodes) → AllPlaces (length ss) (insert_entries [] (place_entries 0 ss))
+all_places ss = places-insert_entries (length ss) [] (place_entries 0 ss) tt (places-from (length ss) 0 ss (omega arith))
 
 pub place_below : (n : ℕ) (es : List (Entry ℕ)) → AllPlaces n es → (e : Entry ℕ) → Contains es e → value_of e < n
 place_below n [] all e there = absurd (Contains-nil e there)

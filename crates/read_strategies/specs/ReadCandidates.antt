@@ -12,7 +12,8 @@ abbrev pub addresses_of : Replicas → List Address
 addresses_of r = r.nodes.now
 
 abbrev pub any_node_of : AnyNodeCandidates → Candidates
-any_node_of c = record { slot = c.slot; primary = Some c.primary.now; replicas = addresses_of c.replicas }
+any_node_of c =
+    record { slot = c.slot; primary = Some c.primary.now; replicas = addresses_of c.replicas }
 
 abbrev pub replicas_only_of : ReplicasOnlyCandidates → Candidates
 replicas_only_of c = record { slot = c.slot; primary = None; replicas = addresses_of c.replicas }

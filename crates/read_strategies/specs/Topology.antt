@@ -28,9 +28,11 @@ first_replicas [] = []
 first_replicas (e ∷ es) = (value_of e).replicas
 
 abbrev pub shard_with : Address → List (Entry SlotNodes) → ShardNodes
-shard_with primary es = record { ranges = map ends_of es; primary = primary; replicas = first_replicas es }
+shard_with primary es =
+    record { ranges = map ends_of es; primary = primary; replicas = first_replicas es }
 
--- the shard of a primary: its entries' ranges by ascending end, and the replicas of the first of them
+-- the shard of a primary: its entries' ranges by ascending end, and the replicas of the first of
+-- them
 abbrev pub shard_of : List (Entry SlotNodes) → Address → ShardNodes
 shard_of es primary = shard_with primary (filter (has_primary primary) es)
 
@@ -44,25 +46,26 @@ pub record Topology : Type 0 where
   pub ranges : List (Entry ℕ)
 
 -- the entries after more are put in, in order
-abbrev pub inserted : {V : Type 0} → List (Entry V) → List (Entry V) → List (Entry V)
-inserted es more = fold (λ es e. insert_entry es e.0 e.1 (value_of e)) es more
+abbrev pub insert_entries : {V : Type 0} → List (Entry V) → List (Entry V) → List (Entry V)
+insert_entries es more = fold (λ es e. insert_entry es e.0 e.1 (value_of e)) es more
 
 -- a range with a place
-abbrev pub placed : ℕ → ℕ × ℕ → Entry ℕ
-placed place range = (range.0, range.1, place)
+abbrev pub place_entry : ℕ → ℕ × ℕ → Entry ℕ
+place_entry place range = (range.0, range.1, place)
 
 -- the ranges of the shards, in order, with the shards' places, which count from this one
-abbrev pub placed_from : ℕ → List ShardNodes → List (Entry ℕ)
-placed_from place [] = []
-placed_from place (s ∷ ss) = map (placed place) s.ranges ++ placed_from (suc place) ss
+abbrev pub place_entries : ℕ → List ShardNodes → List (Entry ℕ)
+place_entries place [] = []
+place_entries place (s ∷ ss) = map (place_entry place) s.ranges ++ place_entries (suc place) ss
 
 -- the ranges of the shards are put in, in order
 abbrev pub topology_of : List ShardNodes → Topology
-topology_of ss = record { shards = ss; ranges = inserted [] (placed_from 0 ss) }
+topology_of ss = record { shards = ss; ranges = insert_entries [] (place_entries 0 ss) }
 
 -- the shard whose place is the answer for the slot
 abbrev pub IsShardAt : Topology → ℕ → ShardNodes → Type 0
-IsShardAt t slot shard = (place : ℕ) × IsAnswerAt t.ranges slot place × (slice_get t.shards place ≡ Some shard)
+IsShardAt t slot shard =
+    (place : ℕ) × IsAnswerAt t.ranges slot place × (slice_get t.shards place ≡ Some shard)
 
 -- the places that still have a range, each once, by the first of its ranges
 abbrev pub places_left : List (Entry ℕ) → List ℕ
@@ -84,4 +87,6 @@ shards_left t = at_places t.shards (places_left t.ranges)
 -- every number has a shard with a primary exactly where a route to the primary has this node
 abbrev pub Agrees : List (Entry SlotNodes) → Topology → Type 0
 Agrees es t =
-    (slot : ℕ) (address : Address) → IsNodeOfRoute es (record { slot = slot; addr = Master }) 0 address ↔ ((shard : ShardNodes) × IsShardAt t slot shard × (shard.primary ≡ address))
+    (slot : ℕ) (address : Address)
+    → IsNodeOfRoute es (record { slot = slot; addr = Master }) 0 address
+    ↔ ((shard : ShardNodes) × IsShardAt t slot shard × (shard.primary ≡ address))

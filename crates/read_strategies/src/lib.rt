@@ -1,5 +1,5 @@
-//! Which node a read goes to: candidates, the strategies that pick among them, and the shards that a
-//! strategy is told of.
+//! Which node a read goes to: candidates, the strategies that pick among them, and the shards that
+//! a strategy is told of.
 #![tactic(auto)]
 
 pub mod read_routing;

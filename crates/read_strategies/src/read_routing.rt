@@ -33,7 +33,8 @@ pub trait ReadRoutingStrategy: Drop {
         ensures candidate { IsCandidate (candidates_of candidates.now) result.now };
 
     /// It is one of the candidates.
-    ghost picks_candidates: { (s : Self) (c : Candidates) (address : Address) → picks s c address → IsCandidate c address };
+    ghost picks_candidates: { (s : Self) (c : Candidates) (address : Address) → picks s c address
+        → IsCandidate c address };
 }
 
 /// What makes strategies.

@@ -1,5 +1,5 @@
-use crate::given;
-use crate::given::{read_only_names, to_any, to_specific_node, words_of};
+use crate::helpers;
+use crate::helpers::{read_only_names, to_any, to_specific_node, words_of};
 use cluster_map::{Route, SlotAddr};
 use redis_cluster::routing::{
     AggregateOp, MultipleNodeRoutingInfo, ReadOnlyNames, ResponsePolicy, RoutingInfo,
@@ -13,7 +13,7 @@ fn read_only(alloc: Global) -> Result<ReadOnlyNames, AllocError> {
 }
 
 fn goes(alloc: Global, words: &[&[u8]], want: Option<RoutingInfo>) -> Result<bool, Fail> {
-    given::goes(alloc, words, &read_only(alloc)?, want)
+    helpers::goes(alloc, words, &read_only(alloc)?, want)
 }
 
 #[test]

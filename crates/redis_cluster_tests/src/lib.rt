@@ -4,7 +4,7 @@
 #[cfg(test)]
 mod for_routable;
 #[cfg(test)]
-mod given;
+mod helpers;
 #[cfg(test)]
 mod info;
 #[cfg(test)]

@@ -1,4 +1,4 @@
-use crate::given;
+use crate::helpers;
 use redis_cluster::routing::{ResponsePolicy, Routable};
 use resp_core::{Cmd, Value};
 use std::alloc::{AllocError, Global};
@@ -6,12 +6,12 @@ use std::test::Fail;
 
 // The words as a command.
 fn cmd_of(alloc: Global, words: &[&str]) -> Result<Cmd, AllocError> {
-    given::cmd_of(alloc, &bytes_of(alloc, words)?)
+    helpers::cmd_of(alloc, &bytes_of(alloc, words)?)
 }
 
 // The words as a reply, of which each `#` is a gap.
 fn value_of(alloc: Global, words: &[&str]) -> Result<Value, AllocError> {
-    given::value_of(alloc, &bytes_of(alloc, words)?)
+    helpers::value_of(alloc, &bytes_of(alloc, words)?)
 }
 
 fn bytes_of<'a>(alloc: Global, words: &[&'a str]) -> Result<Vec<&'a [u8]>, AllocError> {

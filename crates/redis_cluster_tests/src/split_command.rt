@@ -1,4 +1,4 @@
-use crate::given;
+use crate::helpers;
 use cluster_map::{Route, SlotAddr};
 use redis_cluster::routing::{
     AggregateOp, MultiSlotArgPattern, ReadOnlyNames, ResponsePolicy, Routable, SplitCommand,
@@ -9,7 +9,7 @@ use std::test::Fail;
 
 // The command of the words of a text.
 fn cmd_of(alloc: Global, text: &str) -> Result<Cmd, AllocError> {
-    given::cmd_of(alloc, &given::words_of(alloc, text)?)
+    helpers::cmd_of(alloc, &helpers::words_of(alloc, text)?)
 }
 
 // Whether a command is split into these parts, each with its slot.

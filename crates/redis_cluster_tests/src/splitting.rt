@@ -1,5 +1,5 @@
-use crate::given;
-use crate::given::{cmd_of, read_only_names, to_specific_node, value_of, words_of};
+use crate::helpers;
+use crate::helpers::{cmd_of, read_only_names, to_specific_node, value_of, words_of};
 use cluster_map::{Route, SlotAddr};
 use redis_cluster::routing::{
     AggregateOp, MultiSlotArgPattern, MultipleNodeRoutingInfo, ReadOnlyNames, ResponsePolicy,
@@ -14,7 +14,7 @@ fn read_only(alloc: Global) -> Result<ReadOnlyNames, AllocError> {
 }
 
 fn goes(alloc: Global, words: &[&[u8]], want: Option<RoutingInfo>) -> Result<bool, Fail> {
-    given::goes(alloc, words, &read_only(alloc)?, want)
+    helpers::goes(alloc, words, &read_only(alloc)?, want)
 }
 
 fn to_one(slot: u16, nodes: SlotAddr) -> RoutingInfo {

@@ -1,4 +1,4 @@
-use crate::given::{cmd_of, words_of};
+use crate::helpers::{cmd_of, words_of};
 use redis_cluster::routing::{Routable, command_for_multi_slot_indices};
 use resp_core::{Cmd, ErrorKind, Value};
 use std::alloc::Global;

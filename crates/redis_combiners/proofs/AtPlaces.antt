@@ -15,6 +15,7 @@ use Rattle.redis_combiners.specs.Misfits.{first_misfit}
 use Rattle.redis_combiners.specs.SortedArrays.{array_or_refusal, array_by_places, sorted_arrays}
 use Rattle.redis_commands.specs.declared.route_by.MultiSlotArgPattern.{MultiSlotArgPattern}
 use Rattle.resp_core.proofs.Cases.{by_test}
+use Rattle.resp_core.proofs.Views.{items_in-replies_of}
 use Rattle.redis_combiners.proofs.Lists.{FirstAndOthers, first_and_others}
 use Rattle.redis_combiners.proofs.Misfits.{Fits, fits, items_length}
 use Rattle.redis_combiners.proofs.OwnPlaces.{at_own_place, own_place_within}
@@ -73,11 +74,11 @@ stands pattern (r0 ∷ rs) (list0 ∷ lists) pss xs e f g (suc i) j r list place
     later_stands c.first c.others pss t.first t.others xs place (item_at r j) c.is t.is t.long (stands pattern rs lists c.others t.others c.others_are t.others_fit t.others_are i j r list place a b h)
 
 -- what the whole is made of
-record IsWhole (o : Option (List (List ℕ))) (rs : List Reply) (whole : Reply) : Type 0 where
+record WholeArray (o : Option (List (List ℕ))) (rs : List Reply) (whole : Reply) : Type 0 where
   pss : List (List ℕ)
   xs : List Reply
   out : List Reply
-  found : o ≡ Some pss
+  places_are : o ≡ Some pss
   count : length rs ≡ length pss
   fit : first_misfit rs (map length pss) ≡ None
   items : all_items rs ≡ Some xs
@@ -87,42 +88,38 @@ record IsWhole (o : Option (List (List ℕ))) (rs : List Reply) (whole : Reply) 
 abbrev items_by_places : List (List ℕ) → List Reply → Option (List Reply)
 items_by_places pss rs = option_and_then (by_places (flatten pss)) (all_items rs)
 
-is_whole : (o : Option (List (List ℕ))) (rs : List Reply) (whole : Reply) → array_by_places o rs ≡ Ok whole → IsWhole o rs whole
-is_whole None rs whole e = absurd (cc)
-is_whole (Some pss) rs whole e = by_test (eqb (length rs) (length pss))
+whole_array : (o : Option (List (List ℕ))) (rs : List Reply) (whole : Reply) → array_by_places o rs ≡ Ok whole → WholeArray o rs whole
+whole_array None rs whole e = absurd (cc)
+whole_array (Some pss) rs whole e = by_test (eqb (length rs) (length pss))
     (λ t. fitted (first_misfit rs (map length pss)) refl (eqb-true (length rs) (length pss) t) (sym (ap (λ b. cond b (array_or_refusal (first_misfit rs (map length pss)) (items_by_places pss rs)) (Err Client)) t) ∙ e))
     (λ f. absurd (refused (sym (ap (λ b. cond b (array_or_refusal (first_misfit rs (map length pss)) (items_by_places pss rs)) (Err Client)) f) ∙ e)))
   where
     refused : Err Client ≡ Ok whole → ⊥
     refused h = cc
 
-    ended : (xs : List Reply) (a : Option (List Reply)) → all_items rs ≡ Some xs → by_places (flatten pss) xs ≡ a → length rs ≡ length pss → first_misfit rs (map length pss) ≡ None → array_or_refusal None a ≡ Ok whole → IsWhole (Some pss) rs whole
+    ended : (xs : List Reply) (a : Option (List Reply)) → all_items rs ≡ Some xs → by_places (flatten pss) xs ≡ a → length rs ≡ length pss → first_misfit rs (map length pss) ≡ None → array_or_refusal None a ≡ Ok whole → WholeArray (Some pss) rs whole
     ended xs None g h n m e = absurd (cc)
-    ended xs (Some out) g h n m e = record { pss = pss; xs = xs; out = out; found = refl; count = n; fit = m; items = g; sorted = h; is = cc }
+    ended xs (Some out) g h n m e = record { pss = pss; xs = xs; out = out; places_are = refl; count = n; fit = m; items = g; sorted = h; is = cc }
 
-    gone : (a : Option (List Reply)) → all_items rs ≡ a → length rs ≡ length pss → first_misfit rs (map length pss) ≡ None → array_or_refusal None (option_and_then (by_places (flatten pss)) a) ≡ Ok whole → IsWhole (Some pss) rs whole
+    gone : (a : Option (List Reply)) → all_items rs ≡ a → length rs ≡ length pss → first_misfit rs (map length pss) ≡ None → array_or_refusal None (option_and_then (by_places (flatten pss)) a) ≡ Ok whole → WholeArray (Some pss) rs whole
     gone None g n m h = absurd (cc)
     gone (Some xs) g n m h = ended xs (by_places (flatten pss) xs) g refl n m h
 
-    fitted : (k : Option ErrorKind) → first_misfit rs (map length pss) ≡ k → length rs ≡ length pss → array_or_refusal k (items_by_places pss rs) ≡ Ok whole → IsWhole (Some pss) rs whole
+    fitted : (k : Option ErrorKind) → first_misfit rs (map length pss) ≡ k → length rs ≡ length pss → array_or_refusal k (items_by_places pss rs) ≡ Ok whole → WholeArray (Some pss) rs whole
     fitted (Some k) m n h = absurd (cc)
     fitted None m n h = gone (all_items rs) refl n m h
 
-items_back : (rs : List Reply) → items_in (replies_of rs) ≡ rs
-items_back [] = refl
-items_back (r ∷ rs) = ap (λ ts. r ∷ ts) (items_back rs)
-
-pub at_places : (pattern : MultiSlotArgPattern) (rs : List Reply) (lists : List (List ℕ)) (whole : Reply) → sorted_arrays pattern rs lists ≡ Ok whole → AreAtPlaces pattern rs lists whole
-at_places pattern rs lists whole e i j r list place a b h =
-    let m : IsWhole (all_places pattern lists) rs whole = is_whole (all_places pattern lists) rs whole e in
-    let s : Stands m.pss m.xs place (item_at r j) = stands pattern rs lists m.pss m.xs m.found m.fit m.items i j r list place a b h in
+pub items_stand_at_places : (pattern : MultiSlotArgPattern) (rs : List Reply) (lists : List (List ℕ)) (whole : Reply) → sorted_arrays pattern rs lists ≡ Ok whole → AreAtPlaces pattern rs lists whole
+items_stand_at_places pattern rs lists whole e i j r list place a b h =
+    let m : WholeArray (all_places pattern lists) rs whole = whole_array (all_places pattern lists) rs whole e in
+    let s : Stands m.pss m.xs place (item_at r j) = stands pattern rs lists m.pss m.xs m.places_are m.fit m.items i j r list place a b h in
     let long : length m.xs ≡ length (flatten m.pss) = items_length rs m.pss m.xs m.count m.fit m.items in
     let within : s.at < length (flatten m.pss) = slice_get_within (flatten m.pss) s.at place s.place_is in
     let here : get_or (flatten m.pss) s.at 0 ≡ place = get_or_from_slice_get (flatten m.pss) s.at place 0 s.place_is in
     let below : place < length m.out = subst (λ p. p < length m.out) here (own_place_within (flatten m.pss) m.xs m.out m.sorted s.at within) in
     let same : get_or m.out place nil ≡ get_or m.xs s.at nil = sym (ap (λ p. get_or m.out p nil) here) ∙ at_own_place (flatten m.pss) m.xs m.out nil long m.sorted s.at within in
     sym (ap (λ w. item_at w place) m.is)
-    ∙ ap (λ ys. slice_get ys place) (items_back m.out)
+    ∙ ap (λ ys. slice_get ys place) (items_in-replies_of m.out)
     ∙ slice_get-get_or m.out place nil below
     ∙ ap Some same
     ∙ sym (slice_get-get_or m.xs s.at nil (omega (arith, long, within)))

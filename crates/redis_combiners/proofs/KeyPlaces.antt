@@ -10,7 +10,7 @@ use Rattle.std.proofs.lemmas.Simd.{map-map}
 use Rattle.redis_combiners.specs.KeyPlaces.{every_nth, tuple_places, own_arguments, places}
 use Rattle.redis_commands.specs.Tuples.{width_of}
 use Rattle.redis_commands.specs.declared.route_by.MultiSlotArgPattern.{MultiSlotArgPattern}
-use Rattle.redis_commands.specs.declared.route_by.MultiSlotArgPattern.TheVariants.{KeysOnly, KeyValuePairs, KeysAndLastArg, KeyWithTwoArgTriples}
+use Rattle.redis_commands.proofs.Patterns.{some_width}
 
 -- every width-th number, where the first stands at a place of a longer list
 abbrev every_nth_from : ℕ → ℕ → List ℕ → List ℕ
@@ -54,12 +54,6 @@ every_nth_is w a (suc n) (x ∷ xs) some long =
 
     later : (i : ℕ) → w * (1 + i) ≡ suc (w - 1 + w * (0 + i))
     later i = omega (arith, some)
-
-pub some_width : (pattern : MultiSlotArgPattern) → 0 < width_of pattern
-some_width KeysOnly = omega arith
-some_width KeyValuePairs = omega arith
-some_width KeysAndLastArg = omega arith
-some_width KeyWithTwoArgTriples = omega arith
 
 -- the places of a list, by how many tuples it has
 abbrev pub heads : ℕ → List ℕ → ℕ → List ℕ

@@ -16,21 +16,21 @@ use Rattle.redis_commands.specs.declared.policy.AggregateOp.{AggregateOp}
 use Rattle.redis_commands.specs.declared.policy.AggregateOp.TheVariants.{Min, Sum}
 use Rattle.redis_combiners.proofs.Lists.{all_some_is}
 
-abbrev missing : Reply → Bool
-missing reply = is_none (int_of reply)
+abbrev is_no_number : Reply → Bool
+is_no_number reply = is_none (int_of reply)
 
 abbrev number : Reply → ℤ
 number reply = unwrap_or (int_of reply) (pos 0)
 
-numbers_are : (rs : List Reply) → numbers rs ≡ cond (list_any missing rs) None (Some (map number rs))
+numbers_are : (rs : List Reply) → numbers rs ≡ cond (list_any is_no_number rs) None (Some (map number rs))
 numbers_are rs = all_some_is int_of (pos 0) rs
 
 -- what is made of the numbers, where their order does not count
 same_of : (f : List ℤ → Option ℤ) → ((xs ys : List ℤ) → IsPermutation xs ys → f ys ≡ f xs) → (rs others : List Reply) → IsPermutation rs others → option_and_then f (numbers others) ≡ option_and_then f (numbers rs)
 same_of f same rs others h =
     ap (option_and_then f) (numbers_are others)
-    ∙ ap (λ b. option_and_then f (cond b None (Some (map number others)))) (sym (list_any-IsPermutation missing rs others h))
-    ∙ by_cases (list_any missing rs)
+    ∙ ap (λ b. option_and_then f (cond b None (Some (map number others)))) (sym (list_any-IsPermutation is_no_number rs others h))
+    ∙ by_cases (list_any is_no_number rs)
     ∙ sym (ap (option_and_then f) (numbers_are rs))
   where
     by_cases : (b : Bool) → option_and_then f (cond b None (Some (map number others))) ≡ option_and_then f (cond b None (Some (map number rs)))

@@ -21,27 +21,27 @@ use Rattle.redis_combiners.proofs.Totals.{or_zero, sum_at, sum_has, same_totals}
 abbrev own_pairs : Reply → Option (List KeyNumber)
 own_pairs reply = option_and_then pairs_among (array_of reply)
 
-abbrev missing : Reply → Bool
-missing reply = is_none (own_pairs reply)
+abbrev has_no_pairs : Reply → Bool
+has_no_pairs reply = is_none (own_pairs reply)
 
-abbrev got : Reply → List KeyNumber
-got reply = unwrap_or (own_pairs reply) []
+abbrev pairs_of_reply : Reply → List KeyNumber
+pairs_of_reply reply = unwrap_or (own_pairs reply) []
 
--- the pairs of all replies, if none is missing
-all_are : (rs : List Reply) → all_pairs rs ≡ cond (list_any missing rs) None (Some (flat_map got rs))
-all_are rs = ap (option_map flatten) (all_some_is own_pairs [] rs) ∙ flat (list_any missing rs)
+-- the pairs of all replies, if each has some
+all_are : (rs : List Reply) → all_pairs rs ≡ cond (list_any has_no_pairs rs) None (Some (flat_map pairs_of_reply rs))
+all_are rs = ap (option_map flatten) (all_some_is own_pairs [] rs) ∙ flat (list_any has_no_pairs rs)
   where
-    flat : (b : Bool) → option_map flatten (cond b None (Some (map got rs))) ≡ cond b None (Some (flat_map got rs))
+    flat : (b : Bool) → option_map flatten (cond b None (Some (map pairs_of_reply rs))) ≡ cond b None (Some (flat_map pairs_of_reply rs))
     flat true = refl
-    flat false = ap Some (flat_map-map (λ ps. ps) got rs)
+    flat false = ap Some (flat_map-map (λ ps. ps) pairs_of_reply rs)
 
-any_flat : (t : (List ℕ × ℤ) → Bool) (rs : List Reply) → list_any t (flat_map got rs) ≡ list_any (λ r. list_any t (got r)) rs
+any_flat : (t : (List ℕ × ℤ) → Bool) (rs : List Reply) → list_any t (flat_map pairs_of_reply rs) ≡ list_any (λ r. list_any t (pairs_of_reply r)) rs
 any_flat t [] = refl
-any_flat t (r ∷ rs) = list_any-append t (got r) (flat_map got rs) ∙ ap (λ b. list_any t (got r) || b) (any_flat t rs)
+any_flat t (r ∷ rs) = list_any-append t (pairs_of_reply r) (flat_map pairs_of_reply rs) ∙ ap (λ b. list_any t (pairs_of_reply r) || b) (any_flat t rs)
 
-sum_flat : (g : (List ℕ × ℤ) → ℕ) (rs : List Reply) → sum_by g (flat_map got rs) ≡ sum_by (λ r. sum_by g (got r)) rs
+sum_flat : (g : (List ℕ × ℤ) → ℕ) (rs : List Reply) → sum_by g (flat_map pairs_of_reply rs) ≡ sum_by (λ r. sum_by g (pairs_of_reply r)) rs
 sum_flat g [] = refl
-sum_flat g (r ∷ rs) = sum_by-append g (got r) (flat_map got rs) ∙ ap (λ n. sum_by g (got r) + n) (sum_flat g rs) ∙ sym (sum_by-cons (λ s. sum_by g (got s)) r rs)
+sum_flat g (r ∷ rs) = sum_by-append g (pairs_of_reply r) (flat_map pairs_of_reply rs) ∙ ap (λ n. sum_by g (pairs_of_reply r) + n) (sum_flat g rs) ∙ sym (sum_by-cons (λ s. sum_by g (pairs_of_reply s)) r rs)
 
 -- a total is what goes up less what goes down
 abbrev ups : List ℕ → (List ℕ × ℤ) → ℕ
@@ -78,36 +78,36 @@ same_option (Some x) (Some y) e f = ap Some f
 from_parts : (s t : ℤ) (d u e v : ℕ) → s +ℤ pos d ≡ pos u → t +ℤ pos e ≡ pos v → d ≡ e → u ≡ v → s ≡ t
 from_parts s t d u e v p q h k = omega (arith, ints)
 
-total_same : (q : List ℕ) (rs others : List Reply) → IsPermutation rs others → sum_at q (flat_map got others) ≡ sum_at q (flat_map got rs)
+total_same : (q : List ℕ) (rs others : List Reply) → IsPermutation rs others → sum_at q (flat_map pairs_of_reply others) ≡ sum_at q (flat_map pairs_of_reply rs)
 total_same q rs others h =
-    let here = flat_map got rs in
-    let there = flat_map got others in
+    let here = flat_map pairs_of_reply rs in
+    let there = flat_map pairs_of_reply others in
     let t : (List ℕ × ℤ) → Bool = λ p. bytes_eq p.0 q in
-    let has : list_any t there ≡ list_any t here = any_flat t others ∙ sym (list_any-IsPermutation (λ r. list_any t (got r)) rs others h) ∙ sym (any_flat t rs) in
-    let d : sum_by (downs q) there ≡ sum_by (downs q) here = sum_flat (downs q) others ∙ sum_by-IsPermutation (λ r. sum_by (downs q) (got r)) rs others h ∙ sym (sum_flat (downs q) rs) in
-    let u : sum_by (ups q) there ≡ sum_by (ups q) here = sum_flat (ups q) others ∙ sum_by-IsPermutation (λ r. sum_by (ups q) (got r)) rs others h ∙ sym (sum_flat (ups q) rs) in
+    let has : list_any t there ≡ list_any t here = any_flat t others ∙ sym (list_any-IsPermutation (λ r. list_any t (pairs_of_reply r)) rs others h) ∙ sym (any_flat t rs) in
+    let d : sum_by (downs q) there ≡ sum_by (downs q) here = sum_flat (downs q) others ∙ sum_by-IsPermutation (λ r. sum_by (downs q) (pairs_of_reply r)) rs others h ∙ sym (sum_flat (downs q) rs) in
+    let u : sum_by (ups q) there ≡ sum_by (ups q) here = sum_flat (ups q) others ∙ sum_by-IsPermutation (λ r. sum_by (ups q) (pairs_of_reply r)) rs others h ∙ sym (sum_flat (ups q) rs) in
     same_option (sum_at q there) (sum_at q here) (sum_has q there ∙ has ∙ sym (sum_has q here))
     (from_parts (or_zero (sum_at q there)) (or_zero (sum_at q here)) (sum_by (downs q) there) (sum_by (ups q) there) (sum_by (downs q) here) (sum_by (ups q) here) (total_parts q there) (total_parts q here) d u)
 
-length_same : (rs others : List Reply) → IsPermutation rs others → length (flat_map got others) ≡ length (flat_map got rs)
-length_same rs others h = length-flat_map got others ∙ sum_by-IsPermutation (λ r. length (got r)) rs others h ∙ sym (length-flat_map got rs)
+length_same : (rs others : List Reply) → IsPermutation rs others → length (flat_map pairs_of_reply others) ≡ length (flat_map pairs_of_reply rs)
+length_same rs others h = length-flat_map pairs_of_reply others ∙ sum_by-IsPermutation (λ r. length (pairs_of_reply r)) rs others h ∙ sym (length-flat_map pairs_of_reply rs)
 
 -- the map of these totals of so many pairs
 abbrev map_with : ℕ → List KeyNumber → Option Reply
 map_with n sums = cond (nat_lt n (2 ^ 63)) (map_of sums) None
 
-map_same : (rs others : List Reply) → IsPermutation rs others → map_of_totals (flat_map got others) ≡ map_of_totals (flat_map got rs)
+map_same : (rs others : List Reply) → IsPermutation rs others → map_of_totals (flat_map pairs_of_reply others) ≡ map_of_totals (flat_map pairs_of_reply rs)
 map_same rs others h =
-    ap (λ n. map_with n (totals (flat_map got others))) (length_same rs others h)
-    ∙ ap (map_with (length (flat_map got rs))) (same_totals (flat_map got others) (flat_map got rs) (λ q. total_same q rs others h))
+    ap (λ n. map_with n (totals (flat_map pairs_of_reply others))) (length_same rs others h)
+    ∙ ap (map_with (length (flat_map pairs_of_reply rs))) (same_totals (flat_map pairs_of_reply others) (flat_map pairs_of_reply rs) (λ q. total_same q rs others h))
 
 pub any_order : (rs others : List Reply) → IsPermutation rs others → combined_map others ≡ combined_map rs
 any_order rs others h =
     ap (option_and_then map_of_totals) (all_are others)
-    ∙ ap (λ b. option_and_then map_of_totals (cond b None (Some (flat_map got others)))) (sym (list_any-IsPermutation missing rs others h))
-    ∙ by_cases (list_any missing rs)
+    ∙ ap (λ b. option_and_then map_of_totals (cond b None (Some (flat_map pairs_of_reply others)))) (sym (list_any-IsPermutation has_no_pairs rs others h))
+    ∙ by_cases (list_any has_no_pairs rs)
     ∙ sym (ap (option_and_then map_of_totals) (all_are rs))
   where
-    by_cases : (b : Bool) → option_and_then map_of_totals (cond b None (Some (flat_map got others))) ≡ option_and_then map_of_totals (cond b None (Some (flat_map got rs)))
+    by_cases : (b : Bool) → option_and_then map_of_totals (cond b None (Some (flat_map pairs_of_reply others))) ≡ option_and_then map_of_totals (cond b None (Some (flat_map pairs_of_reply rs)))
     by_cases true = refl
     by_cases false = map_same rs others h

@@ -14,4 +14,7 @@ place_at pattern list j = option_and_then (λ all. slice_get all j) (places patt
 
 -- item j of reply i stands in the whole at place j of list i
 abbrev pub AreAtPlaces : MultiSlotArgPattern → List Reply → List (List ℕ) → Reply → Type 0
-AreAtPlaces pattern replies lists whole = (i j : ℕ) (reply : Reply) (list : List ℕ) (place : ℕ) → slice_get replies i ≡ Some reply → slice_get lists i ≡ Some list → place_at pattern list j ≡ Some place → item_at whole place ≡ item_at reply j
+AreAtPlaces pattern replies lists whole =
+    (i j : ℕ) (reply : Reply) (list : List ℕ) (place : ℕ) → slice_get replies i ≡ Some reply
+    → slice_get lists i ≡ Some list → place_at pattern list j ≡ Some place
+    → item_at whole place ≡ item_at reply j

@@ -14,6 +14,10 @@ single [] = None
 single (x ∷ []) = Some x
 single (x ∷ (y ∷ xs)) = None
 
--- the items in the order of their places, if these are the numbers from 0 to their count less 1, each once
+-- the items in the order of their places, if these are the numbers from 0 to their count less 1,
+-- each once
 abbrev pub by_places : List ℕ → List Reply → Option (List Reply)
-by_places places items = if list_all (λ place. nat_lt place (length places)) places then all_some (map (λ k. single (items_at k places items)) (range_with_len 0 (length places))) else None
+by_places places items =
+    if list_all (λ place. nat_lt place (length places)) places
+    then all_some (map (λ k. single (items_at k places items)) (range_with_len 0 (length places)))
+    else None

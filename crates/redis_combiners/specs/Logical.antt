@@ -9,7 +9,9 @@ use Rattle.redis_commands.specs.declared.policy.LogicalAggregateOp.TheVariants.{
 -- the length of the rows, if all have the same; without rows it is 0
 abbrev pub common_length : List (List Bool) → Option ℕ
 common_length [] = Some 0
-common_length (first ∷ others) = if list_all (λ row. length row == length first) others then Some (length first) else None
+common_length (first ∷ others) =
+    if list_all (λ row. length row == length first) others then Some (length first)
+    else None
 
 -- the bits of all rows at a place
 abbrev pub column : List (List Bool) → ℕ → List Bool
@@ -26,8 +28,11 @@ as_int false = int (pos 0)
 
 -- the bits that the rows make at their first places
 abbrev pub combined_bits : LogicalAggregateOp → List (List Bool) → ℕ → List Reply
-combined_bits op rows width = map (λ place. as_int (combined_bit op (column rows place))) (range_with_len 0 width)
+combined_bits op rows width =
+    map (λ place. as_int (combined_bit op (column rows place))) (range_with_len 0 width)
 
 -- the items of the one array, if the replies are arrays of 0 and 1, all of one length
 abbrev pub logical_items : LogicalAggregateOp → List Reply → Option (List Reply)
-logical_items op replies = option_and_then (λ rows. option_map (combined_bits op rows) (common_length rows)) (all_rows replies)
+logical_items op replies =
+    option_and_then (λ rows. option_map (combined_bits op rows) (common_length rows))
+    (all_rows replies)

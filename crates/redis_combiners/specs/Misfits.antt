@@ -10,7 +10,8 @@ abbrev pub misfit_of : Option (List Reply) → ℕ → Option ErrorKind
 misfit_of None count = Some UnexpectedReturnType
 misfit_of (Some items) count = if length items == count then None else Some Client
 
--- why a reply does not fit its count, if it does not: it is not an array, or does not have as many items
+-- why a reply does not fit its count, if it does not: it is not an array, or does not have as many
+-- items
 abbrev pub misfit : Reply × ℕ → Option ErrorKind
 misfit pair = misfit_of (array_of pair.0) pair.1
 

@@ -19,7 +19,8 @@ fn empty_slots(alloc: Global, n: usize) -> Result<Vec<Option<Value>>, AllocError
 
 /// The values in the slots, if no slot is empty.
 fn all_values(alloc: Global, slots: Vec<Option<Value>>) -> Result<Option<Vec<Value>>, AllocError>
-    ensures { IfOk result (λ o. option_map (λ v. map view v.items) o ≡ all_some (map (λ slot. option_map view slot) slots.items)) }
+    ensures { IfOk result (λ o. option_map (λ v. map view v.items) o
+        ≡ all_some (map (λ slot. option_map view slot) slots.items)) }
 {
     let mut values = Vec::with_capacity(alloc, slots.len())?;
     for slot in slots {
@@ -38,7 +39,8 @@ pub(super) fn arrange(
     places: &[usize],
 ) -> Result<Option<Vec<Value>>, AllocError>
     requires { length items.items ≡ length places.now }
-    ensures { IfOk result (λ o. option_map (λ v. map view v.items) o ≡ by_places places.now (map view items.items)) }
+    ensures { IfOk result (λ o. option_map (λ v. map view v.items) o
+        ≡ by_places places.now (map view items.items)) }
 {
     let mut slots = empty_slots(alloc, places.len())?;
     while let Some(item) = items.pop() {

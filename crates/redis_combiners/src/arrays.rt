@@ -15,8 +15,10 @@ use std::alloc::{AllocError, Global};
 /// `UnexpectedReturnType` where a reply is not an array, or out of memory.
 pub fn combine_array_results(alloc: Global, values: Vec<Value>) -> RedisResult<Value>
     ensures { MatchResult result
-        (λ value. option_map (λ items. array (replies_of items)) (all_items (map view values.items)) ≡ Some (view value))
-        (λ fault. (fault ≡ out_of_memory) ⊎ ((all_items (map view values.items) ≡ None) × (fault.kind ≡ UnexpectedReturnType))) }
+        (λ value. option_map (λ items. array (replies_of items)) (all_items (map view values.items))
+        ≡ Some (view value))
+        (λ fault. (fault ≡ out_of_memory)
+        ⊎ ((all_items (map view values.items) ≡ None) × (fault.kind ≡ UnexpectedReturnType))) }
 {
     match collect_items(alloc, values)? {
         Some(items) => Ok(Value::Array(items)),
@@ -26,7 +28,8 @@ pub fn combine_array_results(alloc: Global, values: Vec<Value>) -> RedisResult<V
 
 /// The items of all replies, if each is an array.
 fn collect_items(alloc: Global, values: Vec<Value>) -> Result<Option<Vec<Value>>, AllocError>
-    ensures { IfOk result (λ items. option_map (λ v. map view v.items) items ≡ all_items (map view values.items)) }
+    ensures { IfOk result (λ items. option_map (λ v. map view v.items) items
+        ≡ all_items (map view values.items)) }
 {
     let mut all = Vec::new(alloc);
     for value in values {

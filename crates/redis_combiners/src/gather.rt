@@ -12,8 +12,10 @@ use std::alloc::Global;
 pub(super) fn gather(alloc: Global, values: Vec<Value>, counts: &[usize]) -> RedisResult<Vec<Value>>
     requires { length values.items ≡ length counts.now }
     ensures { MatchResult result
-        (λ items. (first_misfit (map view values.items) counts.now ≡ None) × (all_items (map view values.items) ≡ Some (map view items.items)))
-        (λ fault. (fault ≡ out_of_memory) ⊎ (first_misfit (map view values.items) counts.now ≡ Some fault.kind)) }
+        (λ items. (first_misfit (map view values.items) counts.now ≡ None)
+        × (all_items (map view values.items) ≡ Some (map view items.items)))
+        (λ fault. (fault ≡ out_of_memory)
+        ⊎ (first_misfit (map view values.items) counts.now ≡ Some fault.kind)) }
 {
     let mut all = Vec::new(alloc);
     let mut k = 0;

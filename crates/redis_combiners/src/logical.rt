@@ -16,16 +16,20 @@ use std::alloc::{AllocError, Global};
 ///
 /// # Errors
 ///
-/// `UnexpectedReturnType` where a reply is not an array of 0 and 1, or its length is not that of the
-/// first, or out of memory.
+/// `UnexpectedReturnType` where a reply is not an array of 0 and 1, or its length is not that of
+/// the first, or out of memory.
 pub fn logical_aggregate(
     alloc: Global,
     values: Vec<Value>,
     op: LogicalAggregateOp,
 ) -> RedisResult<Value>
     ensures { MatchResult result
-        (λ value. option_map (λ items. array (replies_of items)) (logical_items op (map view values.items)) ≡ Some (view value))
-        (λ fault. (fault ≡ out_of_memory) ⊎ ((logical_items op (map view values.items) ≡ None) × (fault.kind ≡ UnexpectedReturnType))) }
+        (λ value. option_map (λ items. array (replies_of items))
+        (logical_items op (map view values.items))
+        ≡ Some (view value))
+        (λ fault. (fault ≡ out_of_memory)
+        ⊎ ((logical_items op (map view values.items) ≡ None)
+        × (fault.kind ≡ UnexpectedReturnType))) }
 {
     match items(alloc, &values, op)? {
         Some(items) => Ok(Value::Array(items)),
@@ -42,7 +46,8 @@ fn items(
     values: &[Value],
     op: LogicalAggregateOp,
 ) -> Result<Option<Vec<Value>>, AllocError>
-    ensures { IfOk result (λ items. option_map (λ v. map view v.items) items ≡ logical_items op (map view values.now)) }
+    ensures { IfOk result (λ items. option_map (λ v. map view v.items) items
+        ≡ logical_items op (map view values.now)) }
 {
     let Some(rows) = rows(alloc, values)? else {
         return Ok(None);
@@ -55,7 +60,8 @@ fn items(
 
 /// The bits of each reply, if each is an array of 0 and 1.
 fn rows(alloc: Global, values: &[Value]) -> Result<Option<Vec<Vec<bool>>>, AllocError>
-    ensures { IfOk result (λ rows. option_map (λ v. map (λ row. row.items) v.items) rows ≡ all_rows (map view values.now)) }
+    ensures { IfOk result (λ rows. option_map (λ v. map (λ row. row.items) v.items) rows
+        ≡ all_rows (map view values.now)) }
 {
     let mut all = Vec::with_capacity(alloc, values.len())?;
     for value in values {
@@ -72,7 +78,8 @@ fn rows(alloc: Global, values: &[Value]) -> Result<Option<Vec<Vec<bool>>>, Alloc
 
 /// The bits of the items of one reply, if each item is 0 or 1.
 fn bits(alloc: Global, items: &[Value]) -> Result<Option<Vec<bool>>, AllocError>
-    ensures { IfOk result (λ bits. option_map (λ v. v.items) bits ≡ bits_among (map view items.now)) }
+    ensures { IfOk result (λ bits. option_map (λ v. v.items) bits
+        ≡ bits_among (map view items.now)) }
 {
     let mut row = Vec::with_capacity(alloc, items.len())?;
     for item in items {
@@ -128,7 +135,8 @@ fn fold_columns(
     width: usize,
     op: LogicalAggregateOp,
 ) -> Result<Vec<Value>, AllocError>
-    ensures { IfOk result (λ items. map view items.items ≡ combined_bits op (map (λ row. row.items) rows.now) width) }
+    ensures { IfOk result (λ items. map view items.items
+        ≡ combined_bits op (map (λ row. row.items) rows.now) width) }
 {
     let mut items = Vec::with_capacity(alloc, width)?;
     for place in 0..width {

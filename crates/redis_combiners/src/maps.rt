@@ -17,22 +17,25 @@ use resp_core::{ErrorKind, RedisError, RedisResult, Value};
 use std::alloc::{AllocError, Global};
 use std::collections::BTreeMap;
 
-/// One map for replies that are arrays of keys and numbers in turn: each key that occurs, by ascending
-/// bytes, with the sum of its numbers over all replies. No replies make an empty map. The order of the
-/// replies does not matter.
+/// One map for replies that are arrays of keys and numbers in turn: each key that occurs, by
+/// ascending bytes, with the sum of its numbers over all replies. No replies make an empty map. The
+/// order of the replies does not matter.
 ///
 /// # Errors
 ///
-/// `UnexpectedReturnType` where a reply is not an array of bulk strings and numbers in turn, or where
-/// the sum of a key does not fit in an i64; a running sum may leave the i64, since it is taken in 128
-/// bits. Or out of memory, as 2^63 pairs always are.
+/// `UnexpectedReturnType` where a reply is not an array of bulk strings and numbers in turn, or
+/// where the sum of a key does not fit in an i64; a running sum may leave the i64, since it is taken
+/// in 128 bits. Or out of memory, as 2^63 pairs always are.
 #[tactic(auto, using(crate::proofs::TotalOrders::any_order))]
 pub fn combine_map_results(alloc: Global, values: Vec<Value>) -> RedisResult<Value>
     ensures answer { MatchResult result
         (λ value. combined_map (map view values.items) ≡ Some (view value))
-        (λ fault. (fault ≡ out_of_memory) ⊎ ((combined_map (map view values.items) ≡ None) × (fault.kind ≡ UnexpectedReturnType))) }
+        (λ fault. (fault ≡ out_of_memory)
+        ⊎ ((combined_map (map view values.items) ≡ None)
+        × (fault.kind ≡ UnexpectedReturnType))) }
     ensures listing { (all : List KeyNumber) → IsListing all (totals all) }
-    ensures any_order { (others : List Reply) → IsPermutation (map view values.items) others → combined_map others ≡ combined_map (map view values.items) }
+    ensures any_order { (others : List Reply) → IsPermutation (map view values.items) others
+        → combined_map others ≡ combined_map (map view values.items) }
 {
     let Some(pairs) = collect_pairs(alloc, values)? else {
         return Err(RedisError::from((
@@ -55,7 +58,8 @@ fn collect_pairs(
     alloc: Global,
     values: Vec<Value>,
 ) -> Result<Option<Vec<(Vec<u8>, i64)>>, AllocError>
-    ensures { IfOk result (λ pairs. option_map (λ v. plain_pairs v.items) pairs ≡ all_pairs (map view values.items)) }
+    ensures { IfOk result (λ pairs. option_map (λ v. plain_pairs v.items) pairs
+        ≡ all_pairs (map view values.items)) }
 {
     let mut pairs = Vec::new(alloc);
     for value in values {
@@ -71,7 +75,9 @@ fn collect_pairs(
 
 /// Adds the pairs of the items, if these are bulk strings and numbers in turn.
 fn add_pairs(pairs: &mut Vec<(Vec<u8>, i64)>, items: Vec<Value>) -> Result<bool, AllocError>
-    ensures { IfOk result (λ ok. option_map (λ ps. plain_pairs pairs.old.items ++ ps) (pairs_among (map view items.items)) ≡ (if ok then Some (plain_pairs pairs.new.items) else None)) }
+    ensures { IfOk result (λ ok. option_map (λ ps. plain_pairs pairs.old.items ++ ps)
+        (pairs_among (map view items.items))
+        ≡ (if ok then Some (plain_pairs pairs.new.items) else None)) }
 {
     let mut rest = items.into_iter();
     while let Some(key) = rest.next() {
@@ -94,7 +100,8 @@ fn sums_by_key(
     alloc: Global,
     pairs: Vec<(Vec<u8>, i64)>,
 ) -> Result<BTreeMap<Vec<u8>, i128>, AllocError>
-    ensures { IfOk result (λ sums. (q : List ℕ) → number_at sums.entries q ≡ total_at q (plain_pairs pairs.items)) }
+    ensures { IfOk result (λ sums. (q : List ℕ)
+        → number_at sums.entries q ≡ total_at q (plain_pairs pairs.items)) }
 {
     let mut sums = BTreeMap::new(alloc);
     for (key, n) in pairs {
@@ -106,7 +113,11 @@ fn sums_by_key(
 /// Adds a number to the total of its key.
 fn add(sums: &mut BTreeMap<Vec<u8>, i128>, key: Vec<u8>, n: i64) -> Result<(), AllocError>
     requires { FitsSigned w128 (unwrap_or (number_at sums.old.entries key.items) (pos 0) +ℤ n) }
-    ensures { OnOk result ((q : List ℕ) → number_at sums.new.entries q ≡ cond (bytes_eq key.items q) (Some (unwrap_or (number_at sums.old.entries key.items) (pos 0) +ℤ n)) (number_at sums.old.entries q)) }
+    ensures { OnOk result ((q : List ℕ)
+        → number_at sums.new.entries q
+        ≡ cond (bytes_eq key.items q)
+        (Some (unwrap_or (number_at sums.old.entries key.items) (pos 0) +ℤ n))
+        (number_at sums.old.entries q)) }
 {
     let total = sum_at(sums, &key) + i128::from(n);
     sums.insert(key, total)?;
@@ -116,10 +127,7 @@ fn add(sums: &mut BTreeMap<Vec<u8>, i128>, key: Vec<u8>, n: i64) -> Result<(), A
 fn sum_at(sums: &BTreeMap<Vec<u8>, i128>, key: &Vec<u8>) -> i128
     ensures { result ≡ unwrap_or (number_at sums.now.entries key.now.items) (pos 0) }
 {
-    match sums.get(key) {
-        Some(total) => *total,
-        None => 0,
-    }
+    sums.get(key).copied().unwrap_or(0)
 }
 
 /// The totals as pairs of replies, if each fits in an i64.
@@ -128,8 +136,10 @@ fn to_entries(
     alloc: Global,
     sums: BTreeMap<Vec<u8>, i128>,
 ) -> Result<Option<Vec<(Value, Value)>>, AllocError>
-    ensures list { IfOk result (λ list. option_map (λ v. map view_pair v.items) list ≡ all_some (map reply_pair (plain_pairs sums.entries))) }
-    ensures ascending { IsStrictlySortedBy (slice_cmp nat_cmp) (map (λ e. e.0) (plain_pairs sums.entries)) }
+    ensures list { IfOk result (λ list. option_map (λ v. map view_pair v.items) list
+        ≡ all_some (map reply_pair (plain_pairs sums.entries))) }
+    ensures ascending { IsStrictlySortedBy (slice_cmp nat_cmp)
+        (map (λ e. e.0) (plain_pairs sums.entries)) }
 {
     let mut list = Vec::with_capacity(alloc, sums.len())?;
     for (key, total) in sums {

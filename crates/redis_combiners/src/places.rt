@@ -6,8 +6,8 @@ use cluster_slots::Route;
 use redis_commands::MultiSlotArgPattern;
 use std::alloc::{AllocError, Global};
 
-/// The places of the keys of some lists of arguments, one list after the other, and how many there are
-/// of each list.
+/// The places of the keys of some lists of arguments, one list after the other, and how many there
+/// are of each list.
 #[derive(Drop)]
 pub(super) struct KeyPlaces {
     pub(super) all: Vec<usize>,
@@ -20,8 +20,10 @@ pub(super) fn key_places(
     lists: &[(Route, Vec<usize>)],
     pattern: MultiSlotArgPattern,
 ) -> Result<Option<KeyPlaces>, AllocError>
-    ensures all { IfOk result (λ o. option_map (λ p. p.all.items) o ≡ option_map flatten (all_places pattern (map (λ l. l.1.items) lists.now))) }
-    ensures counts { IfOk result (λ o. option_map (λ p. p.counts.items) o ≡ option_map (map length) (all_places pattern (map (λ l. l.1.items) lists.now))) }
+    ensures all { IfOk result (λ o. option_map (λ p. p.all.items) o
+        ≡ option_map flatten (all_places pattern (map (λ l. l.1.items) lists.now))) }
+    ensures counts { IfOk result (λ o. option_map (λ p. p.counts.items) o
+        ≡ option_map (map length) (all_places pattern (map (λ l. l.1.items) lists.now))) }
 {
     let mut all = Vec::new(alloc);
     let mut counts = Vec::with_capacity(alloc, lists.len())?;
@@ -41,7 +43,8 @@ fn add_places(
     pattern: MultiSlotArgPattern,
 ) -> Result<Option<usize>, AllocError>
     ensures count { IfOk result (λ count. count ≡ option_map length (places pattern list.now)) }
-    ensures added { IfOk result (λ count. option_map (λ _. all.new.items) count ≡ option_map (λ found. all.old.items ++ found) (places pattern list.now)) }
+    ensures added { IfOk result (λ count. option_map (λ _. all.new.items) count
+        ≡ option_map (λ found. all.old.items ++ found) (places pattern list.now)) }
 {
     let Some(own) = own_part(list, pattern) else {
         return Ok(None);

@@ -13,16 +13,17 @@ use redis_commands::MultiSlotArgPattern;
 use resp_core::{ErrorKind, RedisError, RedisResult, Value};
 use std::alloc::Global;
 
-/// One array of the items of all replies, each at the place that its key had in the command: element
-/// j of reply i stands where place j of list i says. The lists are those of the routes of a split.
+/// One array of the items of all replies, each at the place that its key had in the command:
+/// element j of reply i stands where place j of list i says. The lists are those of the routes of a
+/// split.
 ///
 /// # Errors
 ///
-/// In this order: `Client` where a list is not of whole tuples, or is empty though it should end in a
-/// shared place; `Client` where there are not as many replies as lists; for the first reply that does
-/// not fit, `UnexpectedReturnType` where it is not an array, and `Client` where it does not have as
-/// many items as its list has places; `Client` where the places are not the numbers from 0 on, each
-/// once. Out of memory may come in place of any of these.
+/// In this order: `Client` where a list is not of whole tuples, or is empty though it should end in
+/// a shared place; `Client` where there are not as many replies as lists; for the first reply that
+/// does not fit, `UnexpectedReturnType` where it is not an array, and `Client` where it does not
+/// have as many items as its list has places; `Client` where the places are not the numbers from 0
+/// on, each once. Out of memory may come in place of any of these.
 pub fn combine_and_sort_array_results(
     alloc: Global,
     values: Vec<Value>,
@@ -30,9 +31,15 @@ pub fn combine_and_sort_array_results(
     pattern: &MultiSlotArgPattern,
 ) -> RedisResult<Value>
     ensures answer { MatchResult result
-        (λ value. sorted_arrays pattern.now (map view values.items) (map (λ route. route.1.items) sorting_order.now) ≡ Ok (view value))
-        (λ fault. (fault ≡ out_of_memory) ⊎ (sorted_arrays pattern.now (map view values.items) (map (λ route. route.1.items) sorting_order.now) ≡ Err fault.kind)) }
-    ensures at_place { IfOk result (λ value. AreAtPlaces pattern.now (map view values.items) (map (λ route. route.1.items) sorting_order.now) (view value)) }
+        (λ value. sorted_arrays pattern.now (map view values.items)
+        (map (λ route. route.1.items) sorting_order.now)
+        ≡ Ok (view value))
+        (λ fault. (fault ≡ out_of_memory)
+        ⊎ (sorted_arrays pattern.now (map view values.items)
+        (map (λ route. route.1.items) sorting_order.now)
+        ≡ Err fault.kind)) }
+    ensures at_place { IfOk result (λ value. AreAtPlaces pattern.now (map view values.items)
+        (map (λ route. route.1.items) sorting_order.now) (view value)) }
 {
     let Some(places) = key_places(alloc, sorting_order, *pattern)? else {
         return Err(RedisError::from((

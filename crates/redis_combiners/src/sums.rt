@@ -18,8 +18,10 @@ use resp_core::{ErrorKind, RedisError, RedisResult, Value};
 pub fn aggregate(values: Vec<Value>, op: AggregateOp) -> RedisResult<Value>
     ensures answer { MatchResult result
         (λ value. aggregate_of op (map view values.items) ≡ Some (view value))
-        (λ fault. (aggregate_of op (map view values.items) ≡ None) × (fault.kind ≡ UnexpectedReturnType)) }
-    ensures any_order { (others : List Reply) → IsPermutation (map view values.items) others → aggregate_of op others ≡ aggregate_of op (map view values.items) }
+        (λ fault. (aggregate_of op (map view values.items) ≡ None)
+        × (fault.kind ≡ UnexpectedReturnType)) }
+    ensures any_order { (others : List Reply) → IsPermutation (map view values.items) others
+        → aggregate_of op others ≡ aggregate_of op (map view values.items) }
 {
     let number = match op {
         AggregateOp::Sum => sum(&values),
@@ -40,9 +42,7 @@ fn sum(values: &[Value]) -> Option<i64>
 {
     let mut total: i128 = 0;
     for value in values {
-        let Some(n) = value.as_int() else {
-            return None;
-        };
+        let n = value.as_int()?;
         total += i128::from(n);
     }
     i64::try_from(total).ok()
@@ -54,10 +54,7 @@ fn least(values: &[Value]) -> Option<i64>
 {
     let mut least = i64::MAX;
     for value in values {
-        let Some(n) = value.as_int() else {
-            return None;
-        };
-        least = least.min(n);
+        least = least.min(value.as_int()?);
     }
     Some(least)
 }

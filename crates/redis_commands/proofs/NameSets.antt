@@ -8,6 +8,7 @@ use Rattle.std.specs.BTreeSet.{insert_key}
 use Rattle.std.proofs.lemmas.Map.Text.{is_eq-slice_cmp}
 use Rattle.std.proofs.lemmas.Slice.Eq.{bytes_eq-Decides}
 use Rattle.redis_commands.specs.ReadOnly.{is_among}
+use Rattle.resp_core.proofs.Cases.{or_swap}
 
 by_order : {P : Type 0} (o : Ordering) → (o ≡ Ordering.Less → P) → (o ≡ Ordering.Equal → P) → (o ≡ Ordering.Greater → P) → P
 by_order Ordering.Less f g h = f refl
@@ -17,12 +18,6 @@ by_order Ordering.Greater f g h = h refl
 or_twice : (a b : Bool) → (a || b) ≡ (a || (a || b))
 or_twice true b = refl
 or_twice false b = refl
-
-or_swap : (a b c : Bool) → (a || (b || c)) ≡ (b || (a || c))
-or_swap true true c = refl
-or_swap true false c = refl
-or_swap false true c = refl
-or_swap false false c = refl
 
 abbrev pub at : List ℕ → Vec ℕ Global → Bool
 at q k = is_eq (slice_cmp nat_cmp q k.items)
@@ -35,15 +30,15 @@ alike q x y h =
     let same : x.items ≡ y.items = (bytes_eq-Decides x.items y.items).0 (sym (is_eq-slice_cmp x.items y.items) ∙ ap is_eq h) in
     ap (λ b. is_eq (slice_cmp nat_cmp q b)) same
 
-inserted : (q : List ℕ) (k : Vec ℕ Global) (ks : List (Vec ℕ Global)) → list_any (at q) (insert_key by_items ks k) ≡ (at q k || list_any (at q) ks)
-inserted q k [] = refl
-inserted q k (x ∷ xs) = by_order (by_items k x)
+list_any-insert_key : (q : List ℕ) (k : Vec ℕ Global) (ks : List (Vec ℕ Global)) → list_any (at q) (insert_key by_items ks k) ≡ (at q k || list_any (at q) ks)
+list_any-insert_key q k [] = refl
+list_any-insert_key q k (x ∷ xs) = by_order (by_items k x)
     (λ less. rw less refl)
     (λ equal. rw equal (rw (alike q k x equal) (or_twice (at q x) (list_any (at q) xs))))
-    (λ greater. rw greater (ap (λ b. at q x || b) (inserted q k xs) ∙ or_swap (at q x) (at q k) (list_any (at q) xs)))
+    (λ greater. rw greater (ap (λ b. at q x || b) (list_any-insert_key q k xs) ∙ or_swap (at q x) (at q k) (list_any (at q) xs)))
 
 pub is_in-insert : (q : List ℕ) (k : Vec ℕ Global) (ks : List (Vec ℕ Global)) → list_any (at q) (insert_key by_items ks k) ≡ (bytes_eq q k.items || list_any (at q) ks)
-is_in-insert q k ks = inserted q k ks ∙ ap (λ b. b || list_any (at q) ks) (is_eq-slice_cmp q k.items)
+is_in-insert q k ks = list_any-insert_key q k ks ∙ ap (λ b. b || list_any (at q) ks) (is_eq-slice_cmp q k.items)
 
 -- a look-up by the order of bytes is one by `==`
 pub among_keys : (q : List ℕ) (ks : List (Vec ℕ Global)) → list_any (at q) ks ≡ is_among (map (λ k. k.items) ks) q

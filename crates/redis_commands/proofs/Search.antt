@@ -9,6 +9,7 @@ use Rattle.std.proofs.lemmas.Cmp.{nat_list_cmp_total}
 use Rattle.std.proofs.lemmas.List.Sorted.{searchable_from_sorted}
 use Rattle.std.proofs.lemmas.Map.Text.{is_eq-slice_cmp}
 use Rattle.redis_commands.specs.Lookup.{lookup, has_name, ascends, ascends_from}
+use Rattle.resp_core.proofs.Cases.{and_first, and_second, or_second}
 
 abbrev order : List ℕ → List ℕ → Ordering
 order = slice_cmp nat_cmp
@@ -17,14 +18,6 @@ is_less : (o : Ordering) → is_lt o ≡ true → o ≡ Ordering.Less
 is_less Ordering.Less h = refl
 is_less Ordering.Equal h = cc
 is_less Ordering.Greater h = cc
-
-and_first : (a b : Bool) → (a && b) ≡ true → a ≡ true
-and_first true b h = refl
-and_first false b h = h
-
-and_second : (a b : Bool) → (a && b) ≡ true → b ≡ true
-and_second true b h = h
-and_second false b h = cc
 
 turned : (a b : List ℕ) (o : Ordering) → order a b ≡ o → order b a ≡ ordering_reverse o
 turned a b o h = nat_list_cmp_total.antisymm b a ∙ ap ordering_reverse h
@@ -87,11 +80,7 @@ module _ {X : Type 0} (key : X → List ℕ) where
   pub found_name : (xs : List X) (n : List ℕ) (i : ℕ) (d : X) → i < length xs → order (key (get_or xs i d)) n ≡ Ordering.Equal → has_name (map key xs) n ≡ true
   found_name [] n i d inside same = absurd (omega arith)
   found_name (x ∷ xs) n zero d inside same = rw (tested (key x) n Ordering.Equal same) refl
-  found_name (x ∷ xs) n (suc i) d inside same = either_way (bytes_eq (key x) n) (has_name (map key xs) n) (found_name xs n i d (omega arith) same)
-    where
-      either_way : (a b : Bool) → b ≡ true → (a || b) ≡ true
-      either_way true b h = refl
-      either_way false b h = h
+  found_name (x ∷ xs) n (suc i) d inside same = or_second (bytes_eq (key x) n) (has_name (map key xs) n) (found_name xs n i d (omega arith) same)
 
   missing_name : (xs : List X) (n : List ℕ) → ((k : ℕ) (d : X) → k < length xs → bytes_eq (key (get_or xs k d)) n ≡ false) → has_name (map key xs) n ≡ false
   missing_name [] n apart = refl

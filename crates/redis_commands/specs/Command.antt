@@ -18,7 +18,8 @@ abbrev pub with_second : List ℕ → Option (List ℕ) → List ℕ
 with_second first None = first
 with_second first (Some second) = first ++ 32 ∷ second
 
--- a name by its first word in upper case: a second word belongs to it where the table of two-word names has the first
+-- a name by its first word in upper case: a second word belongs to it where the table of two-word
+-- names has the first
 abbrev pub name_by : List ℕ → Option (List ℕ) → List ℕ
 name_by first second = with_second first (if takes_second first then second else None)
 
@@ -42,7 +43,8 @@ pub record HasWords (words : ℕ) (args : Arguments) : Type 0 where
 
 -- the same command, but for the ASCII case of its first word
 abbrev pub IsRespelt : Arguments → Arguments → Type 0
-IsRespelt (Some first ∷ rest) other = (spelt : List ℕ) × (upper spelt ≡ upper first) × (other ≡ Some spelt ∷ rest)
+IsRespelt (Some first ∷ rest) other =
+    (spelt : List ℕ) × (upper spelt ≡ upper first) × (other ≡ Some spelt ∷ rest)
 IsRespelt args other = other ≡ args
 
 -- whether the argument is this word, in any ASCII case
@@ -50,7 +52,8 @@ abbrev pub is_word : List ℕ → Option (List ℕ) → Bool
 is_word word None = false
 is_word word (Some bytes) = bytes_eq (map to_ascii_lowercase bytes) (map to_ascii_lowercase word)
 
--- the arguments that the items of a reply are, where it is an array: those that are not bulk strings are gaps
+-- the arguments that the items of a reply are, where it is an array: those that are not bulk
+-- strings are gaps
 abbrev pub arguments_in : Option Arguments → Arguments
 arguments_in None = []
 arguments_in (Some args) = args

@@ -1,4 +1,5 @@
--- The policies of names: how the replies of several nodes make one (the project's table of policies).
+-- The policies of names: how the replies of several nodes make one (the project's table of
+-- policies).
 use Rattle.std.specs.Prelude.{ℕ, List, [], ◌∷◌, ◌++◌, Option, codes}
 use Rattle.redis_commands.specs.Lookup.{lookup, rows_with}
 use Rattle.redis_commands.specs.declared.policy.LogicalAggregateOp.TheVariants.{And}
@@ -14,8 +15,8 @@ aggregate_logical_and =
 -- the sum of the replies
 abbrev pub aggregate_sum : List (List ℕ)
 aggregate_sum =
-    codes "DBSIZE" ∷ codes "DEL" ∷ codes "EXISTS" ∷ codes "SLOWLOG LEN" ∷ codes "TOUCH" ∷ codes "UNLINK" ∷
-    codes "LATENCY RESET" ∷ codes "PUBSUB NUMPAT" ∷ []
+    codes "DBSIZE" ∷ codes "DEL" ∷ codes "EXISTS" ∷ codes "SLOWLOG LEN" ∷ codes "TOUCH" ∷
+    codes "UNLINK" ∷ codes "LATENCY RESET" ∷ codes "PUBSUB NUMPAT" ∷ []
 
 -- the least of the replies
 abbrev pub aggregate_min : List (List ℕ)
@@ -26,11 +27,11 @@ aggregate_min =
 abbrev pub all_succeeded : List (List ℕ)
 all_succeeded =
     codes "ACL SETUSER" ∷ codes "ACL DELUSER" ∷ codes "ACL SAVE" ∷ codes "CLIENT SETNAME" ∷
-    codes "CLIENT SETINFO" ∷ codes "CONFIG SET" ∷ codes "CONFIG RESETSTAT" ∷ codes "CONFIG REWRITE" ∷
-    codes "FLUSHALL" ∷ codes "FLUSHDB" ∷ codes "FUNCTION DELETE" ∷ codes "FUNCTION FLUSH" ∷
-    codes "FUNCTION LOAD" ∷ codes "FUNCTION RESTORE" ∷ codes "MEMORY PURGE" ∷ codes "MSET" ∷
-    codes "JSON.MSET" ∷ codes "PING" ∷ codes "SCRIPT FLUSH" ∷ codes "SCRIPT LOAD" ∷ codes "SLOWLOG RESET" ∷
-    codes "UNWATCH" ∷ codes "WATCH" ∷ []
+    codes "CLIENT SETINFO" ∷ codes "CONFIG SET" ∷ codes "CONFIG RESETSTAT" ∷
+    codes "CONFIG REWRITE" ∷ codes "FLUSHALL" ∷ codes "FLUSHDB" ∷ codes "FUNCTION DELETE" ∷
+    codes "FUNCTION FLUSH" ∷ codes "FUNCTION LOAD" ∷ codes "FUNCTION RESTORE" ∷
+    codes "MEMORY PURGE" ∷ codes "MSET" ∷ codes "JSON.MSET" ∷ codes "PING" ∷ codes "SCRIPT FLUSH" ∷
+    codes "SCRIPT LOAD" ∷ codes "SLOWLOG RESET" ∷ codes "UNWATCH" ∷ codes "WATCH" ∷ []
 
 -- the replies as one array
 abbrev pub combine_arrays : List (List ℕ)
@@ -56,9 +57,9 @@ first_succeeded_non_empty =
 -- left to the caller
 abbrev pub special : List (List ℕ)
 special =
-    codes "LATENCY GRAPH" ∷ codes "LATENCY HISTOGRAM" ∷ codes "LATENCY HISTORY" ∷ codes "LATENCY DOCTOR" ∷
-    codes "LATENCY LATEST" ∷ codes "FUNCTION STATS" ∷ codes "MEMORY MALLOC-STATS" ∷ codes "MEMORY DOCTOR" ∷
-    codes "MEMORY STATS" ∷ codes "INFO" ∷ []
+    codes "LATENCY GRAPH" ∷ codes "LATENCY HISTOGRAM" ∷ codes "LATENCY HISTORY" ∷
+    codes "LATENCY DOCTOR" ∷ codes "LATENCY LATEST" ∷ codes "FUNCTION STATS" ∷
+    codes "MEMORY MALLOC-STATS" ∷ codes "MEMORY DOCTOR" ∷ codes "MEMORY STATS" ∷ codes "INFO" ∷ []
 
 abbrev pub policies : List (List ℕ × ResponsePolicy)
 policies =

@@ -12,9 +12,10 @@ to_all_nodes =
     codes "CLIENT SETINFO" ∷ codes "SLOWLOG GET" ∷ codes "SLOWLOG LEN" ∷ codes "SLOWLOG RESET" ∷
     codes "CONFIG SET" ∷ codes "CONFIG RESETSTAT" ∷ codes "CONFIG REWRITE" ∷ codes "SCRIPT FLUSH" ∷
     codes "SCRIPT LOAD" ∷ codes "SCRIPT KILL" ∷ codes "LATENCY RESET" ∷ codes "LATENCY GRAPH" ∷
-    codes "LATENCY HISTOGRAM" ∷ codes "LATENCY HISTORY" ∷ codes "LATENCY DOCTOR" ∷ codes "LATENCY LATEST" ∷
-    codes "PUBSUB NUMPAT" ∷ codes "PUBSUB CHANNELS" ∷ codes "PUBSUB NUMSUB" ∷ codes "PUBSUB SHARDCHANNELS" ∷
-    codes "PUBSUB SHARDNUMSUB" ∷ codes "FUNCTION KILL" ∷ codes "FUNCTION STATS" ∷ []
+    codes "LATENCY HISTOGRAM" ∷ codes "LATENCY HISTORY" ∷ codes "LATENCY DOCTOR" ∷
+    codes "LATENCY LATEST" ∷ codes "PUBSUB NUMPAT" ∷ codes "PUBSUB CHANNELS" ∷
+    codes "PUBSUB NUMSUB" ∷ codes "PUBSUB SHARDCHANNELS" ∷ codes "PUBSUB SHARDNUMSUB" ∷
+    codes "FUNCTION KILL" ∷ codes "FUNCTION STATS" ∷ []
 
 -- to each primary
 abbrev pub to_all_masters : List (List ℕ)
@@ -23,12 +24,14 @@ to_all_masters =
     codes "FT._LIST" ∷ codes "FUNCTION DELETE" ∷ codes "FUNCTION FLUSH" ∷ codes "FUNCTION LOAD" ∷
     codes "FUNCTION RESTORE" ∷ codes "INFO" ∷ codes "KEYS" ∷ codes "MEMORY DOCTOR" ∷
     codes "MEMORY MALLOC-STATS" ∷ codes "MEMORY PURGE" ∷ codes "MEMORY STATS" ∷ codes "PING" ∷
-    codes "SCRIPT EXISTS" ∷ codes "UNWATCH" ∷ codes "WAIT" ∷ codes "RANDOMKEY" ∷ codes "WAITAOF" ∷ []
+    codes "SCRIPT EXISTS" ∷ codes "UNWATCH" ∷ codes "WAIT" ∷ codes "RANDOMKEY" ∷ codes "WAITAOF" ∷
+    []
 
 -- split by slot: every argument is a key
 abbrev pub keys_only : List (List ℕ)
 keys_only =
-    codes "MGET" ∷ codes "DEL" ∷ codes "EXISTS" ∷ codes "UNLINK" ∷ codes "TOUCH" ∷ codes "WATCH" ∷ []
+    codes "MGET" ∷ codes "DEL" ∷ codes "EXISTS" ∷ codes "UNLINK" ∷ codes "TOUCH" ∷ codes "WATCH" ∷
+    []
 
 -- split by slot: keys and values in turn
 abbrev pub key_value_pairs : List (List ℕ)
@@ -53,8 +56,8 @@ to_no_node =
 -- how many keys there are is argument 2, and the first key is argument 3
 abbrev pub count_at_2 : List (List ℕ)
 count_at_2 =
-    codes "BLMPOP" ∷ codes "BZMPOP" ∷ codes "EVAL" ∷ codes "EVALSHA" ∷ codes "EVALSHA_RO" ∷ codes "EVAL_RO" ∷
-    codes "FCALL" ∷ codes "FCALL_RO" ∷ []
+    codes "BLMPOP" ∷ codes "BZMPOP" ∷ codes "EVAL" ∷ codes "EVALSHA" ∷ codes "EVALSHA_RO" ∷
+    codes "EVAL_RO" ∷ codes "FCALL" ∷ codes "FCALL_RO" ∷ []
 
 -- the key is argument 2
 abbrev pub key_at_2 : List (List ℕ)
@@ -62,14 +65,14 @@ key_at_2 =
     codes "BITOP" ∷ codes "MEMORY USAGE" ∷ codes "PFDEBUG" ∷ codes "XGROUP CREATE" ∷
     codes "XGROUP CREATECONSUMER" ∷ codes "XGROUP DELCONSUMER" ∷ codes "XGROUP DESTROY" ∷
     codes "XGROUP SETID" ∷ codes "XINFO CONSUMERS" ∷ codes "XINFO GROUPS" ∷ codes "XINFO STREAM" ∷
-    codes "OBJECT ENCODING" ∷ codes "OBJECT FREQ" ∷ codes "OBJECT IDLETIME" ∷ codes "OBJECT REFCOUNT" ∷
-    codes "JSON.DEBUG" ∷ []
+    codes "OBJECT ENCODING" ∷ codes "OBJECT FREQ" ∷ codes "OBJECT IDLETIME" ∷
+    codes "OBJECT REFCOUNT" ∷ codes "JSON.DEBUG" ∷ []
 
 -- how many keys there are is argument 1, and the first key is argument 2
 abbrev pub count_at_1 : List (List ℕ)
 count_at_1 =
-    codes "LMPOP" ∷ codes "SINTERCARD" ∷ codes "ZDIFF" ∷ codes "ZINTER" ∷ codes "ZINTERCARD" ∷ codes "ZMPOP" ∷
-    codes "ZUNION" ∷ []
+    codes "LMPOP" ∷ codes "SINTERCARD" ∷ codes "ZDIFF" ∷ codes "ZINTER" ∷ codes "ZINTERCARD" ∷
+    codes "ZMPOP" ∷ codes "ZUNION" ∷ []
 
 -- the key follows the argument STREAMS
 abbrev pub key_after_streams : List (List ℕ)
@@ -79,16 +82,17 @@ key_after_streams =
 -- to any node
 abbrev pub to_any_node : List (List ℕ)
 to_any_node =
-    codes "ACL DRYRUN" ∷ codes "ACL GENPASS" ∷ codes "ACL GETUSER" ∷ codes "ACL HELP" ∷ codes "ACL LIST" ∷
-    codes "ACL LOG" ∷ codes "ACL USERS" ∷ codes "ACL WHOAMI" ∷ codes "AUTH" ∷ codes "BGSAVE" ∷
-    codes "CLIENT GETNAME" ∷ codes "CLIENT GETREDIR" ∷ codes "CLIENT ID" ∷ codes "CLIENT INFO" ∷
-    codes "CLIENT KILL" ∷ codes "CLIENT PAUSE" ∷ codes "CLIENT REPLY" ∷ codes "CLIENT TRACKINGINFO" ∷
-    codes "CLIENT UNBLOCK" ∷ codes "CLIENT UNPAUSE" ∷ codes "CLUSTER COUNT-FAILURE-REPORTS" ∷
-    codes "CLUSTER INFO" ∷ codes "CLUSTER KEYSLOT" ∷ codes "CLUSTER MEET" ∷ codes "CLUSTER MYSHARDID" ∷
-    codes "CLUSTER NODES" ∷ codes "CLUSTER REPLICAS" ∷ codes "CLUSTER RESET" ∷
-    codes "CLUSTER SET-CONFIG-EPOCH" ∷ codes "CLUSTER SHARDS" ∷ codes "CLUSTER SLOTS" ∷ codes "COMMAND" ∷
-    codes "COMMAND COUNT" ∷ codes "COMMAND GETKEYS" ∷ codes "COMMAND LIST" ∷ codes "CONFIG GET" ∷
-    codes "ECHO" ∷ codes "FUNCTION LIST" ∷ codes "LASTSAVE" ∷ codes "LOLWUT" ∷ codes "MODULE LIST" ∷
+    codes "ACL DRYRUN" ∷ codes "ACL GENPASS" ∷ codes "ACL GETUSER" ∷ codes "ACL HELP" ∷
+    codes "ACL LIST" ∷ codes "ACL LOG" ∷ codes "ACL USERS" ∷ codes "ACL WHOAMI" ∷ codes "AUTH" ∷
+    codes "BGSAVE" ∷ codes "CLIENT GETNAME" ∷ codes "CLIENT GETREDIR" ∷ codes "CLIENT ID" ∷
+    codes "CLIENT INFO" ∷ codes "CLIENT KILL" ∷ codes "CLIENT PAUSE" ∷ codes "CLIENT REPLY" ∷
+    codes "CLIENT TRACKINGINFO" ∷ codes "CLIENT UNBLOCK" ∷ codes "CLIENT UNPAUSE" ∷
+    codes "CLUSTER COUNT-FAILURE-REPORTS" ∷ codes "CLUSTER INFO" ∷ codes "CLUSTER KEYSLOT" ∷
+    codes "CLUSTER MEET" ∷ codes "CLUSTER MYSHARDID" ∷ codes "CLUSTER NODES" ∷
+    codes "CLUSTER REPLICAS" ∷ codes "CLUSTER RESET" ∷ codes "CLUSTER SET-CONFIG-EPOCH" ∷
+    codes "CLUSTER SHARDS" ∷ codes "CLUSTER SLOTS" ∷ codes "COMMAND" ∷ codes "COMMAND COUNT" ∷
+    codes "COMMAND GETKEYS" ∷ codes "COMMAND LIST" ∷ codes "CONFIG GET" ∷ codes "ECHO" ∷
+    codes "FUNCTION LIST" ∷ codes "LASTSAVE" ∷ codes "LOLWUT" ∷ codes "MODULE LIST" ∷
     codes "MODULE LOAD" ∷ codes "MODULE LOADEX" ∷ codes "MODULE UNLOAD" ∷ codes "READONLY" ∷
     codes "READWRITE" ∷ codes "SAVE" ∷ codes "SCRIPT SHOW" ∷ codes "TFCALL" ∷ codes "TFCALLASYNC" ∷
     codes "TFUNCTION DELETE" ∷ codes "TFUNCTION LIST" ∷ codes "TFUNCTION LOAD" ∷ codes "TIME" ∷ []

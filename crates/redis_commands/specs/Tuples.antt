@@ -1,4 +1,5 @@
--- The tuples that the present arguments of a command over many keys make: a key each, and the arguments that go with it. Places count them from 0.
+-- The tuples that the present arguments of a command over many keys make: a key each, and the
+-- arguments that go with it. Places count them from 0.
 use Rattle.std.specs.Prelude.{ℕ, ◌+◌, ◌-◌, ◌%◌, Bool, ◌&&◌, cond, nat_eq, nat_lt, List, [], ◌∷◌, length, take, drop}
 use Rattle.std.specs.List.{range_with_len}
 use Rattle.redis_commands.specs.declared.route_by.MultiSlotArgPattern.{MultiSlotArgPattern}
@@ -13,20 +14,23 @@ pub record Tuple : Type 0 where
 -- from a place on, each argument is a key
 abbrev pub keys_alone : ℕ → List (List ℕ) → List Tuple
 keys_alone place [] = []
-keys_alone place (key ∷ present) = record { place = place; key = key; extras = [] } ∷ keys_alone (place + 1) present
+keys_alone place (key ∷ present) =
+    record { place = place; key = key; extras = [] } ∷ keys_alone (place + 1) present
 
 -- from a place on, keys and values stand in turn
 abbrev pub keys_and_values : ℕ → List (List ℕ) → List Tuple
 keys_and_values place [] = []
 keys_and_values place (key ∷ []) = []
-keys_and_values place (key ∷ value ∷ present) = record { place = place; key = key; extras = value ∷ [] } ∷ keys_and_values (place + 2) present
+keys_and_values place (key ∷ value ∷ present) =
+    record { place = place; key = key; extras = value ∷ [] } ∷ keys_and_values (place + 2) present
 
 -- from a place on, a key and two more arguments stand in turn
 abbrev pub keys_and_two : ℕ → List (List ℕ) → List Tuple
 keys_and_two place [] = []
 keys_and_two place (key ∷ []) = []
 keys_and_two place (key ∷ a ∷ []) = []
-keys_and_two place (key ∷ a ∷ b ∷ present) = record { place = place; key = key; extras = a ∷ b ∷ [] } ∷ keys_and_two (place + 3) present
+keys_and_two place (key ∷ a ∷ b ∷ present) =
+    record { place = place; key = key; extras = a ∷ b ∷ [] } ∷ keys_and_two (place + 3) present
 
 -- whether so many arguments make whole tuples, and at least one
 abbrev pub fits : MultiSlotArgPattern → ℕ → Bool
@@ -35,7 +39,8 @@ fits KeyValuePairs m = nat_lt 0 m && nat_eq (m % 2) 0
 fits KeysAndLastArg m = nat_lt 0 m
 fits KeyWithTwoArgTriples m = nat_lt 0 m && nat_eq (m % 3) 0
 
--- whether so many arguments are complete: they make whole tuples, and where keys share a last argument, it is there
+-- whether so many arguments are complete: they make whole tuples, and where keys share a last
+-- argument, it is there
 abbrev pub is_complete : MultiSlotArgPattern → ℕ → Bool
 is_complete KeysOnly m = fits KeysOnly m
 is_complete KeyValuePairs m = fits KeyValuePairs m
@@ -65,7 +70,8 @@ tuples_from KeyWithTwoArgTriples place present = keys_and_two place present
 
 -- the tuples of the present arguments
 abbrev pub tuples_in : MultiSlotArgPattern → List (List ℕ) → List Tuple
-tuples_in pattern present = tuples_from pattern 0 (take (own_count pattern (length present)) present)
+tuples_in pattern present =
+    tuples_from pattern 0 (take (own_count pattern (length present)) present)
 
 -- the present arguments that all tuples share: the last one or none
 abbrev pub shared_in : MultiSlotArgPattern → List (List ℕ) → List (List ℕ)

@@ -5,9 +5,9 @@ use Rattle.redis_commands.specs.Lookup.{has_name}
 -- the words that a second one belongs to
 abbrev pub two_word_names : List (List ℕ)
 two_word_names =
-    codes "XGROUP" ∷ codes "OBJECT" ∷ codes "SLOWLOG" ∷ codes "FUNCTION" ∷ codes "MODULE" ∷ codes "COMMAND" ∷
-    codes "PUBSUB" ∷ codes "CONFIG" ∷ codes "MEMORY" ∷ codes "XINFO" ∷ codes "CLIENT" ∷ codes "ACL" ∷
-    codes "SCRIPT" ∷ codes "CLUSTER" ∷ codes "LATENCY" ∷ []
+    codes "XGROUP" ∷ codes "OBJECT" ∷ codes "SLOWLOG" ∷ codes "FUNCTION" ∷ codes "MODULE" ∷
+    codes "COMMAND" ∷ codes "PUBSUB" ∷ codes "CONFIG" ∷ codes "MEMORY" ∷ codes "XINFO" ∷
+    codes "CLIENT" ∷ codes "ACL" ∷ codes "SCRIPT" ∷ codes "CLUSTER" ∷ codes "LATENCY" ∷ []
 
 -- whether a second word belongs to the name
 unfoldable pub takes_second : List ℕ → Bool

@@ -40,7 +40,8 @@ impl ReadOnlyNames {
     ///
     /// If memory runs out, the set stays as it was.
     pub fn insert(&mut self, alloc: Global, name: &[u8]) -> Result<(), AllocError>
-        ensures inserted { OnOk result ((q : List ℕ) → is_among self.new q ≡ (bytes_eq q (upper name.now) || is_among self.old q)) }
+        ensures inserted { OnOk result ((q : List ℕ)
+            → is_among self.new q ≡ (bytes_eq q (upper name.now) || is_among self.old q)) }
         ensures unchanged { OnErr result (self.new ≡ self.old) }
     {
         self.names.insert(to_upper_case(alloc, name)?)?;

@@ -18,7 +18,8 @@ pub trait Routable {
     /// The name in upper case, with its second word where names with this first word have one.
     /// There is none where the first argument is missing or a gap.
     fn command(&self, alloc: Global) -> Result<Option<Vec<u8>>, AllocError>
-        ensures { IfOk result (λ name. option_map (λ v. v.items) name ≡ command_of (args self.now)) }
+        ensures { IfOk result (λ name. option_map (λ v. v.items) name
+            ≡ command_of (args self.now)) }
     {
         let Some(first) = self.arg_idx(0) else {
             return Ok(None);
@@ -66,7 +67,8 @@ impl Routable for Cmd {
 /// The items of an array, of which those that are not bulk strings are gaps. Any other value is a
 /// command with no argument.
 impl Routable for Value {
-    ghost args = { λ value. arguments_in (option_map (λ items. map bulk_string_of items) (array_of (view value))) };
+    ghost args = { λ value. arguments_in
+        (option_map (λ items. map bulk_string_of items) (array_of (view value))) };
 
     fn arg_idx(&self, index: usize) -> Option<&[u8]> {
         let items = self.as_array()?;
@@ -91,8 +93,5 @@ impl Routable for Value {
 fn is_candidate(arg: Option<&[u8]>, candidate: &[u8]) -> bool
     ensures { result ≡ is_word candidate.now (option_copied arg.entry) }
 {
-    match arg {
-        Some(arg) => arg.eq_ignore_ascii_case(candidate),
-        None => false,
-    }
+    arg.is_some_and(|arg| arg.eq_ignore_ascii_case(candidate))
 }

@@ -5,7 +5,8 @@ use Rattle.std.proofs.lemmas.Bool.{ne_eqb}
 use Rattle.std.proofs.lemmas.List.{append-nil, get_or_append_left, get_or-append-add, length-append, length_push, same_lists, take_at}
 use Rattle.std.proofs.lemmas.List.FromFn.{get_or-range_with_len, get_or-map-range_with_len, length-range_with_len}
 use Rattle.redis_combiners.specs.KeyPlaces.{own_arguments, places}
-use Rattle.redis_combiners.proofs.KeyPlaces.{heads, length-heads, places_are, some_width}
+use Rattle.redis_combiners.proofs.KeyPlaces.{heads, length-heads, places_are}
+use Rattle.redis_commands.proofs.Patterns.{some_width}
 use Rattle.redis_commands.specs.Tuples.{width_of}
 use Rattle.redis_commands.specs.declared.route_by.MultiSlotArgPattern.{MultiSlotArgPattern}
 use Rattle.redis_commands.specs.declared.route_by.MultiSlotArgPattern.TheVariants.{KeysOnly, KeyValuePairs, KeysAndLastArg, KeyWithTwoArgTriples}

@@ -25,7 +25,8 @@ use Rattle.redis_routing.specs.Routing.{route_of_slot, routes_of}
 use Rattle.redis_routing.specs.Split.{policy_by_name_with}
 use Rattle.redis_routing.proofs.Cover.{count_firsts}
 use Rattle.redis_routing.proofs.Picks.{complete_fits, has_first}
-use Rattle.redis_routing.proofs.SelfRouting.{All-first_appearances, all_there, complete_again, first_names, fits_some, present_arguments-part, same_contents, shared_again, tuples_again}
+use Rattle.redis_commands.proofs.Patterns.{fits_some}
+use Rattle.redis_routing.proofs.SelfRouting.{All-first_appearances, all_there, complete_again, first_names, present_arguments-part, same_contents, shared_again, tuples_again}
 use Rattle.redis_routing.proofs.SomeRoutes.{some_route}
 use Rattle.redis_nodes.specs.MultiKey.{MultiKey, ReplyForm, command_with, form_of_policy, multi_key_with, multi_key, part_of, tuples_of, tuples_of_slot, unplaced}
 use Rattle.resp_core.proofs.Cases.{by_test}

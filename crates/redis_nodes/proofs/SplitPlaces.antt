@@ -15,7 +15,8 @@ use Rattle.redis_commands.specs.declared.route_by.MultiSlotArgPattern.TheVariant
 use Rattle.redis_routing.specs.Complete.{pattern_of, pattern_by_name_with, pattern_by_name, multi_slot_routes_with, multi_slot_routes}
 use Rattle.redis_routing.specs.Parts.{first_appearances, slot_of, tuples_in_slot}
 use Rattle.redis_routing.specs.Routing.{route_of_slot, routes_of}
-use Rattle.redis_routing.proofs.Cover.{length_own, own_small, own_whole}
+use Rattle.redis_commands.proofs.Patterns.{length-own, own_few}
+use Rattle.redis_routing.proofs.Cover.{own_whole}
 use Rattle.redis_routing.proofs.Picks.{complete_fits}
 use Rattle.redis_routing.proofs.SelfRouting.{before_gap_short}
 use Rattle.redis_nodes.specs.MultiKey.{KeyTuple, MultiKey, multi_key_with, multi_key, unplaced}
@@ -110,13 +111,13 @@ module _ (words : ℕ) (tables : NameTables) (args : Arguments) (pattern : Multi
   own_is : own_count pattern (length run) ≡ length command.tuples * width_of pattern
   own_is =
       let whole = own_whole pattern (length run) (complete_fits pattern (length run) made.complete) in
-      let count = tuples_count pattern (take (own_count pattern (length run)) run) (ap (λ m. m % width_of pattern) (length_own pattern run) ∙ whole) in
-      sym (ap (λ ts. length ts * width_of pattern) made.tuples ∙ ap (λ n. n * width_of pattern) (length-map (tuples_in pattern run) unplaced) ∙ count ∙ length_own pattern run)
+      let count = tuples_count pattern (take (own_count pattern (length run)) run) (ap (λ m. m % width_of pattern) (length-own pattern run) ∙ whole) in
+      sym (ap (λ ts. length ts * width_of pattern) made.tuples ∙ ap (λ n. n * width_of pattern) (length-map (tuples_in pattern run) unplaced) ∙ count ∙ length-own pattern run)
 
   -- there are no more tuples than arguments
   pub tuples_few_with : length command.tuples ≤ length args
   tuples_few_with =
-      let own : own_count pattern (length run) ≤ length run = own_small pattern (length run) in
+      let own : own_count pattern (length run) ≤ length run = own_few pattern (length run) in
       let few : length run ≤ length args - words = omega (arith, before_gap_short (drop words args), length-drop words args) in
       let count : length command.tuples ≤ length command.tuples * width_of pattern = le_times pattern (length command.tuples) in
       omega (arith, own_is)

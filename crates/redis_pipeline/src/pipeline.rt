@@ -82,8 +82,10 @@ impl ClusterPipeline {
     ///
     /// If memory runs out, the pipeline stays as it was: this is `push_cmd`, which says so.
     pub fn cmd(&mut self, alloc: Global, name: &[u8]) -> Result<&mut Self, AllocError>
-        ensures same_reference { IfOk result (λ pipeline. pipeline.ghost_name ≡ self.entry.ghost_name) }
-        ensures added { IfOk result (λ pipeline. pipeline.now ≡ self.old ++ command_named name.now ∷ []) }
+        ensures same_reference { IfOk result (λ pipeline. pipeline.ghost_name
+            ≡ self.entry.ghost_name) }
+        ensures added { IfOk result (λ pipeline. pipeline.now
+            ≡ self.old ++ command_named name.now ∷ []) }
     {
         self.push_cmd(alloc, name)?;
         Ok(self)
@@ -113,7 +115,8 @@ impl ClusterPipeline {
     /// Of kind `Client` where there is no command yet, and else if memory runs out. The
     /// pipeline stays as it was: this is `write_arg`, which says so.
     pub fn arg(&mut self, arg: &[u8]) -> RedisResult<&mut Self>
-        ensures same_reference { IfOk result (λ pipeline. pipeline.ghost_name ≡ self.entry.ghost_name) }
+        ensures same_reference { IfOk result (λ pipeline. pipeline.ghost_name
+            ≡ self.entry.ghost_name) }
         ensures not_empty { OnOk result (0 < length self.old) }
         ensures added { IfOk result (λ pipeline. pipeline.now ≡ with_argument self.old arg.now) }
         ensures refused { IfErr result (λ fault. IsArgumentRefusal self.old fault) }
@@ -149,7 +152,8 @@ impl ClusterPipeline {
     /// Of kind `Client` where there is no command yet. The pipeline stays as it was: this is
     /// `mark_ignored`, which says so.
     pub fn ignore(&mut self) -> RedisResult<&mut Self>
-        ensures same_reference { IfOk result (λ pipeline. pipeline.ghost_name ≡ self.entry.ghost_name) }
+        ensures same_reference { IfOk result (λ pipeline. pipeline.ghost_name
+            ≡ self.entry.ghost_name) }
         ensures not_empty { OnOk result (0 < length self.old) }
         ensures marked { IfOk result (λ pipeline. pipeline.now ≡ with_last_ignored self.old) }
         ensures refused { IfErr result (λ fault. (self.old ≡ []) × (fault ≡ no_command)) }
@@ -176,7 +180,8 @@ impl ClusterPipeline {
         Ok(())
     }
 
-    /// Whether the reply to the command at a place, counted from 0, is ignored. Past the end none is.
+    /// Whether the reply to the command at a place, counted from 0, is ignored. Past the end none
+    /// is.
     pub fn ignored(&self, index: usize) -> bool
         ensures { result ≡ is_ignored self.now index }
     {
@@ -193,14 +198,16 @@ impl ClusterPipeline {
     ///
     /// # Errors
     ///
-    /// Of kind `Client`: `UNROUTABLE_ERROR`, whose detail tells the first refused name, and where no
-    /// name is refused, `empty command` for a pipeline without commands. Memory is taken only to
+    /// Of kind `Client`: `UNROUTABLE_ERROR`, whose detail tells the first refused name, and where
+    /// no name is refused, `empty command` for a pipeline without commands. Memory is taken only to
     /// tell of a refused name.
     pub fn check(&self, alloc: Global) -> RedisResult<()>
-        ensures passed { OnOk result ((first_refused (commands_of self.now) ≡ None) × (0 < length self.now)) }
+        ensures passed { OnOk result
+            ((first_refused (commands_of self.now) ≡ None) × (0 < length self.now)) }
         ensures refused { IfErr result (λ fault. IsRefusal self.now fault) }
         ensures kind { UNROUTABLE_ERROR.0 ≡ Client }
-        ensures text { UNROUTABLE_ERROR.1.now ≡ codes "This command cannot be safely routed in cluster mode" }
+        ensures text { UNROUTABLE_ERROR.1.now
+            ≡ codes "This command cannot be safely routed in cluster mode" }
     {
         if let Some(name) = first_refused(&self.commands) {
             let (kind, desc) = UNROUTABLE_ERROR;

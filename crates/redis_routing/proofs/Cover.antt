@@ -18,14 +18,11 @@ use Rattle.redis_routing.specs.Routing.{route_of_slot, routes_of}
 use Rattle.redis_commands.specs.Tuples.{Tuple, keys_alone, keys_and_values, keys_and_two, fits, own_count, width_of, tuples_from, tuples_in, shared_in, places_of, arguments_of}
 use Rattle.redis_commands.specs.declared.route_by.MultiSlotArgPattern.{MultiSlotArgPattern}
 use Rattle.redis_commands.specs.declared.route_by.MultiSlotArgPattern.TheVariants.{KeysOnly, KeyValuePairs, KeysAndLastArg, KeyWithTwoArgTriples}
-use Rattle.resp_core.proofs.Cases.{by_test}
+use Rattle.redis_commands.proofs.Patterns.{own_few, length-own}
+use Rattle.resp_core.proofs.Cases.{by_test, and_second}
 
 self : (n : ℕ) → nat_eq n n ≡ true
 self n = grind (arith, nat_tests)
-
-and_second : (a b : Bool) → (a && b) ≡ true → b ≡ true
-and_second true b h = h
-and_second false b h = cc
 
 module _ {X : Type 0} (p : X → Bool) where
   count-cons : (x : X) (xs : List X) → count_by p (x ∷ xs) ≡ cond (p x) 1 0 + count_by p xs
@@ -177,16 +174,6 @@ tiles_from KeyValuePairs low present even = tiles_pairs low present even
 tiles_from KeysAndLastArg low present even = tiles_alone low present
 tiles_from KeyWithTwoArgTriples low present even = tiles_triples low present even
 
--- no more arguments make tuples than there are
-pub own_small : (pattern : MultiSlotArgPattern) (m : ℕ) → own_count pattern m ≤ m
-own_small KeysOnly m = omega arith
-own_small KeyValuePairs m = omega arith
-own_small KeysAndLastArg m = by_test (nat_lt 1 m) (λ many. rw many (omega arith)) (λ one. rw one (omega arith))
-own_small KeyWithTwoArgTriples m = omega arith
-
-pub length_own : (pattern : MultiSlotArgPattern) (present : List (List ℕ)) → length (take (own_count pattern (length present)) present) ≡ own_count pattern (length present)
-length_own pattern present = length-take-le (own_count pattern (length present)) present (own_small pattern (length present))
-
 -- the arguments that make tuples come out even
 pub own_whole : (pattern : MultiSlotArgPattern) (m : ℕ) → fits pattern m ≡ true → own_count pattern m % width_of pattern ≡ 0
 own_whole KeysOnly m h = omega arith
@@ -198,24 +185,24 @@ own_whole KeyWithTwoArgTriples m h = eqb-true (m % 3) 0 (and_second (nat_lt 0 m)
 pub tiles_present : (pattern : MultiSlotArgPattern) (present : List (List ℕ)) → fits pattern (length present) ≡ true → Tiles 0 (own_count pattern (length present)) (tuples_in pattern present)
 tiles_present pattern present whole =
     let own = own_count pattern (length present) in
-    let e : 0 + length (take own present) ≡ own = omega (arith, length_own pattern present) in
-    rw e at (tiles_from pattern 0 (take own present) (ap (λ m. m % width_of pattern) (length_own pattern present) ∙ own_whole pattern (length present) whole))
+    let e : 0 + length (take own present) ≡ own = omega (arith, length-own pattern present) in
+    rw e at (tiles_from pattern 0 (take own present) (ap (λ m. m % width_of pattern) (length-own pattern present) ∙ own_whole pattern (length present) whole))
 
 -- the places of a slot's tuples
-abbrev tuple_places : ℕ → List Tuple → List ℕ
-tuple_places s ts = flat_map places_of (tuples_in_slot s ts)
+abbrev slot_tuple_places : ℕ → List Tuple → List ℕ
+slot_tuple_places s ts = flat_map places_of (tuples_in_slot s ts)
 
 -- the places of the tuples of a slot ascend
-part_between : (low high s : ℕ) (ts : List Tuple) → Tiles low high ts → Between low high (tuple_places s ts)
+part_between : (low high s : ℕ) (ts : List Tuple) → Tiles low high ts → Between low high (slot_tuple_places s ts)
 part_between low high s [] h = omega arith
 part_between low high s (t ∷ ts) h =
-    let rest : Between (next low t) high (tuple_places s ts) = part_between (next low t) high s ts h.1 in
+    let rest : Between (next low t) high (slot_tuple_places s ts) = part_between (next low t) high s ts h.1 in
     by_test (nat_eq (slot_of t) s)
-    (λ here. rw here (rw h.0 (between-append low (next low t) high (range_with_len low (1 + length t.extras)) (tuple_places s ts) (range_between low (1 + length t.extras)) rest)))
-    (λ there. rw there (lower (next low t) low high (tuple_places s ts) (omega arith) rest))
+    (λ here. rw here (rw h.0 (between-append low (next low t) high (range_with_len low (1 + length t.extras)) (slot_tuple_places s ts) (range_between low (1 + length t.extras)) rest)))
+    (λ there. rw there (lower (next low t) low high (slot_tuple_places s ts) (omega arith) rest))
 
 -- a place that the tuples cover stands in the part of one slot alone, and that is the slot of a key
-owner : (p low high : ℕ) (ts : List Tuple) → Tiles low high ts → low ≤ p → p < high → (own : ℕ) × (list_any (nat_eq own) (map slot_of ts) ≡ true) × ((s : ℕ) → list_any (nat_eq p) (tuple_places s ts) ≡ nat_eq own s)
+owner : (p low high : ℕ) (ts : List Tuple) → Tiles low high ts → low ≤ p → p < high → (own : ℕ) × (list_any (nat_eq own) (map slot_of ts) ≡ true) × ((s : ℕ) → list_any (nat_eq p) (slot_tuple_places s ts) ≡ nat_eq own s)
 owner p low high [] h from to = absurd (omega arith)
 owner p low high (t ∷ ts) h from to = elim (cases_lt p (next low t)) [
   | inl here ↦
@@ -224,8 +211,8 @@ owner p low high (t ∷ ts) h from to = elim (cases_lt p (next low t)) [
         ap (λ b. b || list_any (nat_eq (slot_of t)) (map slot_of ts)) (self (slot_of t)),
         λ s.
             by_test (nat_eq (slot_of t) s)
-            (λ same. rw same (list_any-append (nat_eq p) (places_of t) (tuple_places s ts) ∙ ap (λ b. b || list_any (nat_eq p) (tuple_places s ts)) held))
-            (λ other. rw other (not_below p (next low t) high (tuple_places s ts) here (part_between (next low t) high s ts h.1))),
+            (λ same. rw same (list_any-append (nat_eq p) (places_of t) (slot_tuple_places s ts) ∙ ap (λ b. b || list_any (nat_eq p) (slot_tuple_places s ts)) held))
+            (λ other. rw other (not_below p (next low t) high (slot_tuple_places s ts) here (part_between (next low t) high s ts h.1))),
       )
   | inr later ↦
       let behind : list_any (nat_eq p) (places_of t) ≡ false = rw h.0 (not_past p low (next low t) (range_with_len low (1 + length t.extras)) later (range_between low (1 + length t.extras))) in
@@ -234,7 +221,7 @@ owner p low high (t ∷ ts) h from to = elim (cases_lt p (next low t)) [
         ap (λ b. nat_eq rest.0 (slot_of t) || b) rest.1 ∙ or-true (nat_eq rest.0 (slot_of t)),
         λ s.
             by_test (nat_eq (slot_of t) s)
-            (λ same. rw same (list_any-append (nat_eq p) (places_of t) (tuple_places s ts) ∙ ap (λ b. b || list_any (nat_eq p) (tuple_places s ts)) behind ∙ rest.2 s))
+            (λ same. rw same (list_any-append (nat_eq p) (places_of t) (slot_tuple_places s ts) ∙ ap (λ b. b || list_any (nat_eq p) (slot_tuple_places s ts)) behind ∙ rest.2 s))
             (λ other. rw other (rest.2 s)),
       )
 ]
@@ -246,51 +233,51 @@ module _ (pattern : MultiSlotArgPattern) (present : List (List ℕ)) where
   abbrev tuples : List Tuple
   tuples = tuples_in pattern present
 
-  abbrev last : List ℕ
-  last = range_with_len own (length present - own)
+  abbrev shared_places : List ℕ
+  shared_places = range_with_len own (length present - own)
 
-  last_between : Between own (length present) last
+  last_between : Between own (length present) shared_places
   last_between =
-      let e : own + (length present - own) ≡ length present = omega (arith, own_small pattern (length present)) in
+      let e : own + (length present - own) ≡ length present = omega (arith, own_few pattern (length present)) in
       rw e at (range_between own (length present - own))
 
   -- the places of a part ascend and are of present arguments
   pub part_in_present : (slot : ℕ) → fits pattern (length present) ≡ true → Between 0 (length present) (places_in_slot pattern present slot)
-  part_in_present slot whole = between-append 0 own (length present) (tuple_places slot tuples) last (part_between 0 own slot tuples (tiles_present pattern present whole)) last_between
+  part_in_present slot whole = between-append 0 own (length present) (slot_tuple_places slot tuples) shared_places (part_between 0 own slot tuples (tiles_present pattern present whole)) last_between
 
   -- the slots of the keys
-  abbrev slots : List ℕ
-  slots = map slot_of tuples
+  abbrev key_slots : List ℕ
+  key_slots = map slot_of tuples
 
   -- whether the place is in the list of the slot's route
-  abbrev has : ℕ → ℕ → Bool
-  has p s = list_any (nat_eq p) (places_in_slot pattern present s)
+  abbrev has_place : ℕ → ℕ → Bool
+  has_place p s = list_any (nat_eq p) (places_in_slot pattern present s)
 
-  either : (p s : ℕ) → has p s ≡ (list_any (nat_eq p) (tuple_places s tuples) || list_any (nat_eq p) last)
-  either p s = list_any-append (nat_eq p) (tuple_places s tuples) last
+  either : (p s : ℕ) → has_place p s ≡ (list_any (nat_eq p) (slot_tuple_places s tuples) || list_any (nat_eq p) shared_places)
+  either p s = list_any-append (nat_eq p) (slot_tuple_places s tuples) shared_places
 
-  has_own : (p s : ℕ) → p < own → has p s ≡ list_any (nat_eq p) (tuple_places s tuples)
+  has_own : (p s : ℕ) → p < own → has_place p s ≡ list_any (nat_eq p) (slot_tuple_places s tuples)
   has_own p s to =
-      let none : list_any (nat_eq p) last ≡ false = not_below p own (length present) last to last_between in
-      either p s ∙ ap (λ b. list_any (nat_eq p) (tuple_places s tuples) || b) none ∙ or-false (list_any (nat_eq p) (tuple_places s tuples))
+      let none : list_any (nat_eq p) shared_places ≡ false = not_below p own (length present) shared_places to last_between in
+      either p s ∙ ap (λ b. list_any (nat_eq p) (slot_tuple_places s tuples) || b) none ∙ or-false (list_any (nat_eq p) (slot_tuple_places s tuples))
 
-  has_shared : (p s : ℕ) → own ≤ p → p < length present → has p s ≡ true
+  has_shared : (p s : ℕ) → own ≤ p → p < length present → has_place p s ≡ true
   has_shared p s from to =
-      let held : list_any (nat_eq p) last ≡ true = range_has own (length present - own) p from (omega arith) in
-      either p s ∙ ap (λ b. list_any (nat_eq p) (tuple_places s tuples) || b) held ∙ or-true (list_any (nat_eq p) (tuple_places s tuples))
+      let held : list_any (nat_eq p) shared_places ≡ true = range_has own (length present - own) p from (omega arith) in
+      either p s ∙ ap (λ b. list_any (nat_eq p) (slot_tuple_places s tuples) || b) held ∙ or-true (list_any (nat_eq p) (slot_tuple_places s tuples))
 
   module _ (reads : Bool) where
     -- the lists with a place, counted by slots
-    by_slots : (p : ℕ) → lists_with p (routes_of reads pattern present) ≡ count_by (has p) (first_appearances slots)
-    by_slots p = count-map (λ r. list_any (nat_eq p) r.1) (route_of_slot reads pattern present) (first_appearances slots)
+    by_slots : (p : ℕ) → lists_with p (routes_of reads pattern present) ≡ count_by (has_place p) (first_appearances key_slots)
+    by_slots p = count-map (λ r. list_any (nat_eq p) r.1) (route_of_slot reads pattern present) (first_appearances key_slots)
 
     in_each : (p : ℕ) → own ≤ p → p < length present → lists_with p (routes_of reads pattern present) ≡ length (routes_of reads pattern present)
-    in_each p from to = by_slots p ∙ count_all (has p) (first_appearances slots) (λ s. has_shared p s from to) ∙ sym (simp length-map)
+    in_each p from to = by_slots p ∙ count_all (has_place p) (first_appearances key_slots) (λ s. has_shared p s from to) ∙ sym (simp length-map)
 
     one_route : (slot : ℕ) → count_by (λ r. nat_eq slot r.0.slot) (routes_of reads pattern present) ≤ 1
     one_route slot =
-        let e = count-map (λ r. nat_eq slot r.0.slot) (route_of_slot reads pattern present) (first_appearances slots) ∙ count_firsts slot slots in
-        rw e (by_test (list_any (nat_eq slot) slots) (λ yes. rw yes (omega arith)) (λ none. rw none (omega arith)))
+        let e = count-map (λ r. nat_eq slot r.0.slot) (route_of_slot reads pattern present) (first_appearances key_slots) ∙ count_firsts slot key_slots in
+        rw e (by_test (list_any (nat_eq slot) key_slots) (λ yes. rw yes (omega arith)) (λ none. rw none (omega arith)))
 
     module _ (whole : fits pattern (length present) ≡ true) where
       places_between : (s : ℕ) → Between 0 (length present) (places_in_slot pattern present s)
@@ -299,16 +286,16 @@ module _ (pattern : MultiSlotArgPattern) (present : List (List ℕ)) where
       lists_ascend : All (λ r. IsStrictlySortedBy nat_cmp r.1) (routes_of reads pattern present)
       lists_ascend =
           let ascends : (s : ℕ) → IsStrictlySortedBy nat_cmp (places_in_slot pattern present s) = λ s. ascending 0 (length present) (places_in_slot pattern present s) (places_between s) in
-          All-map (λ r. IsStrictlySortedBy nat_cmp r.1) (route_of_slot reads pattern present) (first_appearances slots) (λ k d h. ascends (get_or (first_appearances slots) k d))
+          All-map (λ r. IsStrictlySortedBy nat_cmp r.1) (route_of_slot reads pattern present) (first_appearances key_slots) (λ k d h. ascends (get_or (first_appearances key_slots) k d))
 
       in_one : (p : ℕ) → p < own → lists_with p (routes_of reads pattern present) ≡ 1
       in_one p to =
           let o = owner p 0 own tuples (tiles_present pattern present whole) (omega arith) to in
-          let same : has p ≡ nat_eq o.0 = fun_ext (λ s. has_own p s to ∙ o.2 s) in
-          by_slots p ∙ ap (λ f. count_by f (first_appearances slots)) same ∙ count_firsts o.0 slots ∙ ap (λ b. cond b 1 0) o.1
+          let same : has_place p ≡ nat_eq o.0 = fun_ext (λ s. has_own p s to ∙ o.2 s) in
+          by_slots p ∙ ap (λ f. count_by f (first_appearances key_slots)) same ∙ count_firsts o.0 key_slots ∙ ap (λ b. cond b 1 0) o.1
 
       in_none : (p : ℕ) → length present ≤ p → lists_with p (routes_of reads pattern present) ≡ 0
-      in_none p past = by_slots p ∙ count_none (has p) (first_appearances slots) (λ s. not_past p 0 (length present) (places_in_slot pattern present s) past (places_between s))
+      in_none p past = by_slots p ∙ count_none (has_place p) (first_appearances key_slots) (λ s. not_past p 0 (length present) (places_in_slot pattern present s) past (places_between s))
 
 -- the cover law of the routes of a split
 pub covers : (reads : Bool) (pattern : MultiSlotArgPattern) (present : List (List ℕ)) → fits pattern (length present) ≡ true → Covers pattern present (routes_of reads pattern present)
@@ -367,11 +354,11 @@ module _ (at : ℕ → List ℕ) where
   read_tuples KeyWithTwoArgTriples low present h = read_triples low present h
 
   -- what is read at the places of a part's tuples is their arguments
-  read_part : (s : ℕ) (ts : List Tuple) → AreRead at ts → map at (tuple_places s ts) ≡ flat_map arguments_of (tuples_in_slot s ts)
+  read_part : (s : ℕ) (ts : List Tuple) → AreRead at ts → map at (slot_tuple_places s ts) ≡ flat_map arguments_of (tuples_in_slot s ts)
   read_part s [] h = refl
   read_part s (t ∷ ts) h =
       by_test (nat_eq (slot_of t) s)
-      (λ here. rw here (map-append at (places_of t) (tuple_places s ts) ∙ ap (λ ws. ws ++ map at (tuple_places s ts)) h.0 ∙ ap (λ ws. arguments_of t ++ ws) (read_part s ts h.1)))
+      (λ here. rw here (map-append at (places_of t) (slot_tuple_places s ts) ∙ ap (λ ws. ws ++ map at (slot_tuple_places s ts)) h.0 ∙ ap (λ ws. arguments_of t ++ ws) (read_part s ts h.1)))
       (λ there. rw there (read_part s ts h.1))
 
 -- the arguments from a place to the end
@@ -385,18 +372,18 @@ module _ (pattern : MultiSlotArgPattern) (present : List (List ℕ)) where
 
   own_read : IsReadFrom argument_at 0 (take (own pattern present) present)
   own_read k inside =
-      let under : k < own pattern present = omega (arith, length_own pattern present) in
+      let under : k < own pattern present = omega (arith, length-own pattern present) in
       ap argument_at (zero-add k) ∙ sym (get_or-take (own pattern present) present k [] under)
 
-  tuples_read : (slot : ℕ) → map argument_at (tuple_places slot (tuples pattern present)) ≡ flat_map arguments_of (tuples_in_slot slot (tuples pattern present))
+  tuples_read : (slot : ℕ) → map argument_at (slot_tuple_places slot (tuples pattern present)) ≡ flat_map arguments_of (tuples_in_slot slot (tuples pattern present))
   tuples_read slot = read_part argument_at slot (tuples pattern present) (read_tuples argument_at pattern 0 (take (own pattern present) present) own_read)
 
-  last_read : map argument_at (last pattern present) ≡ shared_in pattern present
-  last_read = read_range present (own pattern present) (length present - own pattern present) (omega (arith, own_small pattern (length present)))
+  last_read : map argument_at (shared_places pattern present) ≡ shared_in pattern present
+  last_read = read_range present (own pattern present) (length present - own pattern present) (omega (arith, own_few pattern (length present)))
 
 -- the arguments at the places of a part are the part's
 pub arguments_at_places : (pattern : MultiSlotArgPattern) (present : List (List ℕ)) (slot : ℕ) → map (λ p. get_or present p []) (places_in_slot pattern present slot) ≡ arguments_in_slot pattern present slot
 arguments_at_places pattern present slot =
-    map-append (argument_at pattern present) (tuple_places slot (tuples pattern present)) (last pattern present)
-    ∙ ap (λ ws. ws ++ map (argument_at pattern present) (last pattern present)) (tuples_read pattern present slot)
+    map-append (argument_at pattern present) (slot_tuple_places slot (tuples pattern present)) (shared_places pattern present)
+    ∙ ap (λ ws. ws ++ map (argument_at pattern present) (shared_places pattern present)) (tuples_read pattern present slot)
     ∙ ap (λ ws. flat_map arguments_of (tuples_in_slot slot (tuples pattern present)) ++ ws) (last_read pattern present)

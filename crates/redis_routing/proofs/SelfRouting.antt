@@ -27,12 +27,9 @@ use Rattle.redis_commands.specs.declared.route_by.MultiSlotArgPattern.TheVariant
 use Rattle.redis_commands.specs.declared.route_by.RouteBy.{RouteBy}
 use Rattle.redis_commands.specs.declared.route_by.RouteBy.TheVariants as route_by
 use Rattle.redis_commands.proofs.CommandNames.{one_word}
+use Rattle.redis_commands.proofs.Patterns.{fits_some}
 use Rattle.redis_commands.proofs.Rows.{each_row}
-use Rattle.resp_core.proofs.Cases.{by_test}
-
-or_true : (a b : Bool) → b ≡ true → (a || b) ≡ true
-or_true true b h = refl
-or_true false b h = h
+use Rattle.resp_core.proofs.Cases.{by_test, or_second}
 
 -- a name of one word, to which no second one belongs
 abbrev is_plain : List ℕ → Bool
@@ -48,11 +45,11 @@ each_plain name = each_row plain_if_split (λ n. refl) base_routings refl name
 
 space_between : (first second : List ℕ) → list_any (nat_eq 32) (first ++ 32 ∷ second) ≡ true
 space_between [] second = refl
-space_between (c ∷ first) second = or_true (nat_eq 32 c) _ (space_between first second)
+space_between (c ∷ first) second = or_second (nat_eq 32 c) _ (space_between first second)
 
 not_plain : (first : List ℕ) (second : Option (List ℕ)) → takes_second first ≡ true → is_plain (with_second first second) ≡ false
 not_plain first None takes = rw takes refl
-not_plain first (Some second) takes = ap not (or_true (takes_second (first ++ 32 ∷ second)) _ (space_between first second))
+not_plain first (Some second) takes = ap not (or_second (takes_second (first ++ 32 ∷ second)) _ (space_between first second))
 
 -- no second word belongs to the first one of a plain name
 takes_none : (first : List ℕ) (second : Option (List ℕ)) → is_plain (name_by first second) ≡ true → takes_second first ≡ false
@@ -221,20 +218,11 @@ module _ (pattern : MultiSlotArgPattern) (present : List (List ℕ)) (slot : ℕ
 pub all_there : {X : Type 0} (number : X → ℕ) (xs : List X) → All (λ x. list_any (λ y. nat_eq (number y) (number x)) xs ≡ true) xs
 all_there number [] k d inside = absurd (omega arith)
 all_there number (x ∷ xs) zero d inside = rw (eq-eqb (number x) (number x) refl) refl
-all_there number (x ∷ xs) (suc k) d inside = or_true (nat_eq (number x) (number (get_or xs k d))) _ (all_there number xs k d (omega arith))
+all_there number (x ∷ xs) (suc k) d inside = or_second (nat_eq (number x) (number (get_or xs k d))) _ (all_there number xs k d (omega arith))
 
 pub All-first_appearances : (P : ℕ → Type 0) (ns : List ℕ) → All P ns → All P (first_appearances ns)
 All-first_appearances P [] all = all
 All-first_appearances P (n ∷ ns) all = All-cons P n _ (All-head P n ns all) (All-filter (λ k. not (nat_eq n k)) P (first_appearances ns) (All-first_appearances P ns (All-tail P n ns all)))
-
--- where tuples are whole, there is an argument
-pub fits_some : (pattern : MultiSlotArgPattern) (m : ℕ) → fits pattern m ≡ true → 0 < m
-fits_some KeysOnly m h = grind (arith, nat_tests)
-fits_some KeyValuePairs zero h = absurd (cc h)
-fits_some KeyValuePairs (suc m) h = omega arith
-fits_some KeysAndLastArg m h = grind (arith, nat_tests)
-fits_some KeyWithTwoArgTriples zero h = absurd (cc h)
-fits_some KeyWithTwoArgTriples (suc m) h = omega arith
 
 pub before_gap_short : (args : Arguments) → length (arguments_before_gap args) ≤ length args
 before_gap_short [] = omega arith

@@ -16,16 +16,10 @@ use Rattle.redis_routing.specs.Parts.{first_appearances, slot_of, tuples_in_slot
 use Rattle.redis_routing.specs.Routing.{nodes_for, routes_of}
 use Rattle.redis_commands.specs.Tuples.{Tuple, tuples_in, own_count, places_of}
 use Rattle.redis_commands.specs.declared.route_by.MultiSlotArgPattern.{MultiSlotArgPattern}
-use Rattle.resp_core.proofs.Cases.{by_test}
+use Rattle.resp_core.proofs.Cases.{by_test, or_swap}
 
 swap : (a b : ℕ) → nat_eq a b ≡ nat_eq b a
 swap a b = grind (arith, nat_tests)
-
-or_swap : (a b c : Bool) → (a || (b || c)) ≡ (b || (a || c))
-or_swap true true c = refl
-or_swap true false c = refl
-or_swap false true c = refl
-or_swap false false c = refl
 
 pub numbers_equal : IsEquivalence nat_eq
 numbers_equal = record { refl = λ x. grind (arith, nat_tests); symm = swap; congr = same_tests }

@@ -1,22 +1,12 @@
 -- A complete command has a route.
 use Rattle.std.proofs.Common.{◌≡◌, ℕ, zero, suc, ◌<◌, List, [], ◌∷◌, Bool, true, length, map, arith}
-use Rattle.std.proofs.lemmas.Bool.Decides.{nat_tests}
 use Rattle.std.proofs.lemmas.List.{length-map}
 use Rattle.redis_routing.specs.Parts.{first_appearances, slot_of}
 use Rattle.redis_routing.specs.Routing.{route_of_slot, routes_of}
 use Rattle.redis_commands.specs.Tuples.{Tuple, fits, own_count, tuples_in}
 use Rattle.redis_commands.specs.declared.route_by.MultiSlotArgPattern.{MultiSlotArgPattern}
-use Rattle.redis_commands.specs.declared.route_by.MultiSlotArgPattern.TheVariants.{KeysOnly, KeyValuePairs, KeysAndLastArg, KeyWithTwoArgTriples}
+use Rattle.redis_commands.proofs.Patterns.{some_own}
 use Rattle.redis_routing.proofs.Cover.{Tiles, tiles_present}
-
--- where tuples are whole, some arguments make them
-some_own : (pattern : MultiSlotArgPattern) (m : ℕ) → fits pattern m ≡ true → 0 < own_count pattern m
-some_own KeysOnly m h = grind (arith, nat_tests)
-some_own KeyValuePairs zero h = absurd (cc h)
-some_own KeyValuePairs (suc m) h = omega arith
-some_own KeysAndLastArg m h = grind (arith, nat_tests)
-some_own KeyWithTwoArgTriples zero h = absurd (cc h)
-some_own KeyWithTwoArgTriples (suc m) h = omega arith
 
 some_tuple : (high : ℕ) (ts : List Tuple) → Tiles 0 high ts → 0 < high → 0 < length ts
 some_tuple high [] tiles some = absurd (omega (arith, tiles, some))

@@ -7,6 +7,7 @@ use Rattle.redis_commands.specs.PresentArguments.{arguments_before_gap, present_
 use Rattle.redis_commands.specs.Tuples.{Tuple, keys_alone, keys_and_values, keys_and_two, tuples_from, tuples_in, width_of, own_count, places_of}
 use Rattle.redis_commands.specs.declared.route_by.MultiSlotArgPattern.{MultiSlotArgPattern}
 use Rattle.redis_commands.specs.declared.route_by.MultiSlotArgPattern.TheVariants.{KeysOnly, KeyValuePairs, KeysAndLastArg, KeyWithTwoArgTriples}
+use Rattle.redis_commands.proofs.Patterns.{some_width, own_few, length-own}
 
 -- the next key
 alone_next : (p n : ℕ) (xs : List (List ℕ)) (i : ℕ) → n ≡ p + i → i < length xs → take (suc i) (keys_alone p xs) ≡ take i (keys_alone p xs) ++ record { place = n; key = get_or xs i []; extras = [] } ∷ []
@@ -64,17 +65,6 @@ before_gap_item (Some arg ∷ args) (suc i) h = before_gap_item args i (omega (a
 pub present_item : (words : ℕ) (args : Arguments) (i : ℕ) → i < length (present_arguments_after words args) → argument args (i + words) ≡ Some (get_or (present_arguments_after words args) i [])
 present_item words args i h = ap (argument args) (omega arith) ∙ sym (get_or-drop words args i None) ∙ before_gap_item (drop words args) i h
 
--- fewer arguments make tuples than there are, and more than one tuple's for each
-own_few : (pattern : MultiSlotArgPattern) (m : ℕ) → own_count pattern m ≤ m
-own_few KeysOnly m = omega arith
-own_few KeyValuePairs m = omega arith
-own_few KeysAndLastArg m = less (nat_lt 1 m)
-  where
-    less : (b : Bool) → cond b (m - 1) m ≤ m
-    less true = omega arith
-    less false = omega arith
-own_few KeyWithTwoArgTriples m = omega arith
-
 pub tuple_within : (pattern : MultiSlotArgPattern) (own i : ℕ) → i < own / width_of pattern → i * width_of pattern + width_of pattern ≤ own
 tuple_within KeysOnly own i h = omega (arith, h)
 tuple_within KeyValuePairs own i h = omega (arith, h)
@@ -102,14 +92,11 @@ tuples_few KeyValuePairs p xs = omega (arith, pairs_few p xs)
 tuples_few KeysAndLastArg p xs = omega (arith, alone_few p xs)
 tuples_few KeyWithTwoArgTriples p xs = omega (arith, triples_few p xs)
 
-own_length : (pattern : MultiSlotArgPattern) (present : List (List ℕ)) → length (take (own_count pattern (length present)) present) ≡ own_count pattern (length present)
-own_length pattern present = length-take-le (own_count pattern (length present)) present (own_few pattern (length present))
-
 -- past the last tuple none is left
 pub tuples_end : (pattern : MultiSlotArgPattern) (present : List (List ℕ)) (n : ℕ) → own_count pattern (length present) / width_of pattern ≤ n → take n (tuples_in pattern present) ≡ tuples_in pattern present
 tuples_end pattern present n h =
     let few : length (tuples_in pattern present) ≤ length (take (own_count pattern (length present)) present) / width_of pattern = tuples_few pattern 0 (take (own_count pattern (length present)) present) in
-    let same : length (take (own_count pattern (length present)) present) / width_of pattern ≡ own_count pattern (length present) / width_of pattern = ap (λ k. k / width_of pattern) (own_length pattern present) in
+    let same : length (take (own_count pattern (length present)) present) / width_of pattern ≡ own_count pattern (length present) / width_of pattern = ap (λ k. k / width_of pattern) (length-own pattern present) in
     take_all n (tuples_in pattern present) (omega (arith, few, same, h))
 
 -- the tuple of a number in a command: its key is an argument after the name
@@ -123,9 +110,9 @@ next_tuple words pattern args i h =
     let present = present_arguments_after words args in
     let own = own_count pattern (length present) in
     let inside : i * width_of pattern + width_of pattern ≤ own = tuple_within pattern own i h in
-    let some : 0 < width_of pattern = wide pattern in
+    let some : 0 < width_of pattern = some_width pattern in
     let few : own ≤ length present = own_few pattern (length present) in
-    let next = next_in pattern (take own present) i (rw (own_length pattern present) inside) in (
+    let next = next_in pattern (take own present) i (rw (length-own pattern present) inside) in (
       next.0,
       record {
         key = present_item words args (i * width_of pattern) (omega (arith, inside, some, few)) ∙ ap Some (sym (next.1.key ∙ get_or-take own present (i * width_of pattern) [] (omega (arith, inside, some))));
@@ -133,9 +120,3 @@ next_tuple words pattern args i h =
         taken = next.1.taken;
       },
     )
-  where
-    wide : (pattern : MultiSlotArgPattern) → 0 < width_of pattern
-    wide KeysOnly = omega arith
-    wide KeyValuePairs = omega arith
-    wide KeysAndLastArg = omega arith
-    wide KeyWithTwoArgTriples = omega arith

@@ -31,33 +31,46 @@ abbrev pub part_by_pattern : ℕ → Option MultiSlotArgPattern → Arguments �
 part_by_pattern words None args slot = []
 part_by_pattern words (Some pattern) args slot = part_of_slot_after words pattern args slot
 
--- the part of a slot of a command over many keys, whose name has so many words, as a command of its own
+-- the part of a slot of a command over many keys, whose name has so many words, as a command of its
+-- own
 abbrev pub part_by_name_with : ℕ → NameTables → Arguments → ℕ → Arguments
-part_by_name_with words tables args slot = part_by_pattern words (pattern_by_name_with tables (command_of args)) args slot
+part_by_name_with words tables args slot =
+    part_by_pattern words (pattern_by_name_with tables (command_of args)) args slot
 
 abbrev pub part_by_name : Arguments → ℕ → Arguments
 part_by_name args slot = part_by_name_with 1 own_tables args slot
 
--- the routes of a complete command whose name has so many words and is routed so, if it is split by slot
+-- the routes of a complete command whose name has so many words and is routed so, if it is split by
+-- slot
 abbrev pub routes_by : ℕ → Bool → Arguments → Option RouteBy → Option (List (SlotRoute × List ℕ))
 routes_by words reads args None = None
-routes_by words reads args (Some (route_by.MultiSlot pattern)) = cond (is_complete pattern (length (present_arguments_after words args))) (Some (routes_of reads pattern (present_arguments_after words args))) None
+routes_by words reads args (Some (route_by.MultiSlot pattern)) =
+    cond (is_complete pattern (length (present_arguments_after words args)))
+    (Some (routes_of reads pattern (present_arguments_after words args))) None
 routes_by words reads args (Some _) = None
 
-abbrev pub routes_by_name : ℕ → NameTables → (List ℕ → Bool) → Arguments → Option (List ℕ) → Option (List (SlotRoute × List ℕ))
+abbrev pub routes_by_name : ℕ → NameTables → (List ℕ → Bool) → Arguments → Option (List ℕ)
+    → Option (List (SlotRoute × List ℕ))
 routes_by_name words tables only_reads args None = None
-routes_by_name words tables only_reads args (Some name) = routes_by words (only_reads name) args (tables.route_by name)
+routes_by_name words tables only_reads args (Some name) =
+    routes_by words (only_reads name) args (tables.route_by name)
 
 -- the routes of a complete command, with the places of their parts
-abbrev pub multi_slot_routes_with : ℕ → NameTables → (List ℕ → Bool) → Arguments → Option (List (SlotRoute × List ℕ))
-multi_slot_routes_with words tables only_reads args = routes_by_name words tables only_reads args (command_of args)
+abbrev pub multi_slot_routes_with : ℕ → NameTables → (List ℕ → Bool) → Arguments
+    → Option (List (SlotRoute × List ℕ))
+multi_slot_routes_with words tables only_reads args =
+    routes_by_name words tables only_reads args (command_of args)
 
 abbrev pub multi_slot_routes : (List ℕ → Bool) → Arguments → Option (List (SlotRoute × List ℕ))
 multi_slot_routes only_reads args = multi_slot_routes_with 1 own_tables only_reads args
 
 -- The sub-command of the places of each route is the part of its slot.
 abbrev pub AreSubCommandsWith : ℕ → NameTables → Arguments → List (SlotRoute × List ℕ) → Type 0
-AreSubCommandsWith words tables args routes = All (λ r. option_map (map Some) (sub_command_after words args r.1) ≡ Some (part_by_name_with words tables args r.0.slot)) routes
+AreSubCommandsWith words tables args routes =
+    All
+    (λ r. option_map (map Some) (sub_command_after words args r.1)
+    ≡ Some (part_by_name_with words tables args r.0.slot))
+    routes
 
 abbrev pub AreSubCommands : Arguments → List (SlotRoute × List ℕ) → Type 0
 AreSubCommands args routes = AreSubCommandsWith 1 own_tables args routes

@@ -14,7 +14,8 @@ Group = ℕ × List ℕ
 
 -- the groups of some tuples
 abbrev pub groups_of : List Tuple → List Group
-groups_of ts = map (λ s. (s, flat_map places_of (tuples_in_slot s ts))) (first_appearances (map slot_of ts))
+groups_of ts =
+    map (λ s. (s, flat_map places_of (tuples_in_slot s ts))) (first_appearances (map slot_of ts))
 
 -- the list of a slot, or the empty one
 abbrev pub list_or_empty : Option (Vec ℕ Global) → List ℕ

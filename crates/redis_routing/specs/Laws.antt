@@ -17,35 +17,52 @@ use Rattle.redis_commands.specs.declared.route_by.MultiSlotArgPattern.{MultiSlot
 abbrev pub lists_with : ℕ → List (SlotRoute × List ℕ) → ℕ
 lists_with place routes = count_by (λ r. list_any (nat_eq place) r.1) routes
 
--- The cover law: each slot has one route, and the lists of the routes ascend and share out the places of the present arguments, of which a shared one stands in each.
-pub record Covers (pattern : MultiSlotArgPattern) (present : List (List ℕ)) (routes : List (SlotRoute × List ℕ)) : Type 0 where
+-- The cover law: each slot has one route, and the lists of the routes ascend and share out the
+-- places of the present arguments, of which a shared one stands in each.
+pub record Covers (pattern : MultiSlotArgPattern) (present : List (List ℕ))
+    (routes : List (SlotRoute × List ℕ)) : Type 0 where
   pub slots : (slot : ℕ) → count_by (λ r. nat_eq slot r.0.slot) routes ≤ 1
   pub ascending : All (λ r. IsStrictlySortedBy nat_cmp r.1) routes
   pub once : (place : ℕ) → place < own_count pattern (length present) → lists_with place routes ≡ 1
-  pub shared : (place : ℕ) → own_count pattern (length present) ≤ place → place < length present → lists_with place routes ≡ length routes
+  pub shared : (place : ℕ) → own_count pattern (length present) ≤ place → place < length present
+      → lists_with place routes ≡ length routes
   pub within : (place : ℕ) → length present ≤ place → lists_with place routes ≡ 0
 
 -- The self-routing law: the part of each route, as a command of its own, goes to that very route.
-abbrev pub ArePartsRoutedWith : ℕ → NameTables → (List ℕ → Bool) → Arguments → MultiSlotArgPattern → List (SlotRoute × List ℕ) → Type 0
-ArePartsRoutedWith words tables only_reads args pattern routes = All (λ r. routing_with words tables only_reads (part_of_slot_after words pattern args r.0.slot) ≡ Some (single_node (specific_node r.0))) routes
+abbrev pub ArePartsRoutedWith : ℕ → NameTables → (List ℕ → Bool) → Arguments → MultiSlotArgPattern
+    → List (SlotRoute × List ℕ) → Type 0
+ArePartsRoutedWith words tables only_reads args pattern routes =
+    All
+    (λ r. routing_with words tables only_reads (part_of_slot_after words pattern args r.0.slot)
+    ≡ Some (single_node (specific_node r.0)))
+    routes
 
-abbrev pub ArePartsRouted : (List ℕ → Bool) → Arguments → MultiSlotArgPattern → List (SlotRoute × List ℕ) → Type 0
-ArePartsRouted only_reads args pattern routes = ArePartsRoutedWith 1 own_tables only_reads args pattern routes
+abbrev pub ArePartsRouted : (List ℕ → Bool) → Arguments → MultiSlotArgPattern
+    → List (SlotRoute × List ℕ) → Type 0
+ArePartsRouted only_reads args pattern routes =
+    ArePartsRoutedWith 1 own_tables only_reads args pattern routes
 
 -- The sub-command of the places of each route is the part of its slot.
-abbrev pub ArePartsPickedAfter : ℕ → Arguments → MultiSlotArgPattern → List (SlotRoute × List ℕ) → Type 0
-ArePartsPickedAfter words args pattern routes = All (λ r. option_map (map Some) (sub_command_after words args r.1) ≡ Some (part_of_slot_after words pattern args r.0.slot)) routes
+abbrev pub ArePartsPickedAfter : ℕ → Arguments → MultiSlotArgPattern → List (SlotRoute × List ℕ)
+    → Type 0
+ArePartsPickedAfter words args pattern routes =
+    All
+    (λ r. option_map (map Some) (sub_command_after words args r.1)
+    ≡ Some (part_of_slot_after words pattern args r.0.slot))
+    routes
 
 abbrev pub ArePartsPicked : Arguments → MultiSlotArgPattern → List (SlotRoute × List ℕ) → Type 0
 ArePartsPicked args pattern routes = ArePartsPickedAfter 1 args pattern routes
 
 -- what holds of the routes of a split, if it is one
-abbrev pub IfSplitTo : (MultiSlotArgPattern → List (SlotRoute × List ℕ) → Type 0) → MultipleNodeRouting → Type 0
+abbrev pub IfSplitTo : (MultiSlotArgPattern → List (SlotRoute × List ℕ) → Type 0)
+    → MultipleNodeRouting → Type 0
 IfSplitTo P all_nodes = Unit {0}
 IfSplitTo P all_masters = Unit {0}
 IfSplitTo P (multi_slot routes pattern) = P pattern routes
 
-abbrev pub IfSplit : (MultiSlotArgPattern → List (SlotRoute × List ℕ) → Type 0) → Option Routing → Type 0
+abbrev pub IfSplit : (MultiSlotArgPattern → List (SlotRoute × List ℕ) → Type 0) → Option Routing
+    → Type 0
 IfSplit P None = Unit {0}
 IfSplit P (Some (single_node to)) = Unit {0}
 IfSplit P (Some (multi_node to policy)) = IfSplitTo P to

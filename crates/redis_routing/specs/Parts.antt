@@ -24,15 +24,21 @@ tuples_in_slot slot ts = filter (λ t. nat_eq (slot_of t) slot) ts
 abbrev pub places_in_slot : MultiSlotArgPattern → List (List ℕ) → ℕ → List ℕ
 places_in_slot pattern present slot =
     flat_map places_of (tuples_in_slot slot (tuples_in pattern present))
-    ++ range_with_len (own_count pattern (length present)) (length present - own_count pattern (length present))
+    ++ range_with_len (own_count pattern (length present))
+    (length present - own_count pattern (length present))
 
 -- the arguments of a slot's tuples, and then the shared one
 abbrev pub arguments_in_slot : MultiSlotArgPattern → List (List ℕ) → ℕ → List (List ℕ)
-arguments_in_slot pattern present slot = flat_map arguments_of (tuples_in_slot slot (tuples_in pattern present)) ++ shared_in pattern present
+arguments_in_slot pattern present slot =
+    flat_map arguments_of (tuples_in_slot slot (tuples_in pattern present))
+    ++ shared_in pattern present
 
--- the part of a slot as a command of its own: the words of the name as they are spelt, and the slot's arguments
+-- the part of a slot as a command of its own: the words of the name as they are spelt, and the
+-- slot's arguments
 abbrev pub part_of_slot_after : ℕ → MultiSlotArgPattern → Arguments → ℕ → Arguments
-part_of_slot_after words pattern args slot = take words args ++ map Some (arguments_in_slot pattern (present_arguments_after words args) slot)
+part_of_slot_after words pattern args slot =
+    take words args
+    ++ map Some (arguments_in_slot pattern (present_arguments_after words args) slot)
 
 -- where the name has one word
 abbrev pub part_of_slot : MultiSlotArgPattern → Arguments → ℕ → Arguments

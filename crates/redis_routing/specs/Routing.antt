@@ -22,7 +22,9 @@ nodes_for reads = cond reads ReplicaOptional Master
 
 -- to the slot of the key, if the key is there
 abbrev pub to_key : Bool → Option (List ℕ) → Option Routing
-to_key reads key = option_map (λ k. single_node (specific_node (record { slot = key_slot k; addr = nodes_for reads }))) key
+to_key reads key =
+    option_map
+    (λ k. single_node (specific_node (record { slot = key_slot k; addr = nodes_for reads }))) key
 
 -- by the count of keys and the key after it: no key, any node
 abbrev pub by_count : Bool → Option ℕ → Option (List ℕ) → Option Routing
@@ -43,7 +45,9 @@ to_key_after reads args (Some place) = to_key reads (argument args (place + 1))
 -- to the primary of the slot of this number, if it is a slot's
 abbrev pub to_slot : Option ℕ → Option Routing
 to_slot None = None
-to_slot (Some n) = cond (nat_lt n 16384) (Some (single_node (specific_node (record { slot = n; addr = Master })))) None
+to_slot (Some n) =
+    cond (nat_lt n 16384) (Some (single_node (specific_node (record { slot = n; addr = Master }))))
+    None
 
 -- the number of so many bits that an argument writes
 abbrev pub argument_number : ℕ → Option (List ℕ) → Option ℕ
@@ -52,42 +56,62 @@ argument_number bits (Some text) = number_in bits text
 
 -- the route of a slot, and the places of its part
 abbrev pub route_of_slot : Bool → MultiSlotArgPattern → List (List ℕ) → ℕ → SlotRoute × List ℕ
-route_of_slot reads pattern present slot = (record { slot = slot; addr = nodes_for reads }, places_in_slot pattern present slot)
+route_of_slot reads pattern present slot =
+    (record { slot = slot; addr = nodes_for reads }, places_in_slot pattern present slot)
 
 -- one route for each slot of a key, by the first key of each
 abbrev pub routes_of : Bool → MultiSlotArgPattern → List (List ℕ) → List (SlotRoute × List ℕ)
-routes_of reads pattern present = map (route_of_slot reads pattern present) (first_appearances (map slot_of (tuples_in pattern present)))
+routes_of reads pattern present =
+    map (route_of_slot reads pattern present)
+    (first_appearances (map slot_of (tuples_in pattern present)))
 
 -- to one node, where all keys have one slot, or else to a node of each slot
-abbrev pub routing_of_routes : MultiSlotArgPattern → Option ResponsePolicy → List (SlotRoute × List ℕ) → Routing
+abbrev pub routing_of_routes : MultiSlotArgPattern → Option ResponsePolicy
+    → List (SlotRoute × List ℕ) → Routing
 routing_of_routes pattern policy [] = multi_node (multi_slot [] pattern) policy
 routing_of_routes pattern policy (only ∷ []) = single_node (specific_node only.0)
-routing_of_routes pattern policy (route ∷ other ∷ routes) = multi_node (multi_slot (route ∷ other ∷ routes) pattern) policy
+routing_of_routes pattern policy (route ∷ other ∷ routes) =
+    multi_node (multi_slot (route ∷ other ∷ routes) pattern) policy
 
 -- to the slots of the keys, if the present arguments make whole tuples
-abbrev pub to_slots : Bool → Option ResponsePolicy → MultiSlotArgPattern → List (List ℕ) → Option Routing
-to_slots reads policy pattern present = cond (fits pattern (length present)) (Some (routing_of_routes pattern policy (routes_of reads pattern present))) None
+abbrev pub to_slots : Bool → Option ResponsePolicy → MultiSlotArgPattern → List (List ℕ)
+    → Option Routing
+to_slots reads policy pattern present =
+    cond (fits pattern (length present))
+    (Some (routing_of_routes pattern policy (routes_of reads pattern present))) None
 
--- where a command goes by how its name is routed, which has so many words, under some tables of names
-abbrev pub routing_by_with : ℕ → NameTables → Bool → List ℕ → Arguments → Option RouteBy → Option Routing
+-- where a command goes by how its name is routed, which has so many words, under some tables of
+-- names
+abbrev pub routing_by_with : ℕ → NameTables → Bool → List ℕ → Arguments → Option RouteBy
+    → Option Routing
 routing_by_with words tables reads name args None = to_key_or_any reads (argument args 1)
-routing_by_with words tables reads name args (Some route_by.AllNodes) = Some (multi_node all_nodes (tables.policy name))
-routing_by_with words tables reads name args (Some route_by.AllMasters) = Some (multi_node all_masters (tables.policy name))
-routing_by_with words tables reads name args (Some (route_by.MultiSlot pattern)) = to_slots reads (tables.policy name) pattern (present_arguments_after words args)
+routing_by_with words tables reads name args (Some route_by.AllNodes) =
+    Some (multi_node all_nodes (tables.policy name))
+routing_by_with words tables reads name args (Some route_by.AllMasters) =
+    Some (multi_node all_masters (tables.policy name))
+routing_by_with words tables reads name args (Some (route_by.MultiSlot pattern)) =
+    to_slots reads (tables.policy name) pattern (present_arguments_after words args)
 routing_by_with words tables reads name args (Some route_by.Undefined) = None
-routing_by_with words tables reads name args (Some (route_by.CountAt n)) = by_count reads (argument_number 64 (argument args n)) (argument args (n + 1))
-routing_by_with words tables reads name args (Some (route_by.KeyAt n)) = to_key reads (argument args n)
-routing_by_with words tables reads name args (Some route_by.KeyAfterStreams) = to_key_after reads args (position (is_word (codes "STREAMS")) args)
+routing_by_with words tables reads name args (Some (route_by.CountAt n)) =
+    by_count reads (argument_number 64 (argument args n)) (argument args (n + 1))
+routing_by_with words tables reads name args (Some (route_by.KeyAt n)) =
+    to_key reads (argument args n)
+routing_by_with words tables reads name args (Some route_by.KeyAfterStreams) =
+    to_key_after reads args (position (is_word (codes "STREAMS")) args)
 routing_by_with words tables reads name args (Some route_by.Random) = Some (single_node random)
-routing_by_with words tables reads name args (Some (route_by.SlotAt n)) = to_slot (argument_number 16 (argument args n))
+routing_by_with words tables reads name args (Some (route_by.SlotAt n)) =
+    to_slot (argument_number 16 (argument args n))
 
 -- where a command of this name goes, under a set of names that only read
-abbrev pub routing_by_name_with : ℕ → NameTables → (List ℕ → Bool) → Arguments → Option (List ℕ) → Option Routing
+abbrev pub routing_by_name_with : ℕ → NameTables → (List ℕ → Bool) → Arguments → Option (List ℕ)
+    → Option Routing
 routing_by_name_with words tables only_reads args None = None
-routing_by_name_with words tables only_reads args (Some name) = routing_by_with words tables (only_reads name) name args (tables.route_by name)
+routing_by_name_with words tables only_reads args (Some name) =
+    routing_by_with words tables (only_reads name) name args (tables.route_by name)
 
 abbrev pub routing_with : ℕ → NameTables → (List ℕ → Bool) → Arguments → Option Routing
-routing_with words tables only_reads args = routing_by_name_with words tables only_reads args (command_of args)
+routing_with words tables only_reads args =
+    routing_by_name_with words tables only_reads args (command_of args)
 
 -- under the project's own tables, in which each name that is split has one word
 abbrev pub routing_by : Bool → List ℕ → Arguments → Option RouteBy → Option Routing

@@ -12,7 +12,8 @@ use Rattle.redis_commands.specs.declared.policy.ResponsePolicy.{ResponsePolicy}
 use Rattle.redis_commands.specs.declared.policy.ResponsePolicy.TheVariants.{AllSucceeded, Aggregate, CombineArrays}
 use Rattle.redis_commands.specs.declared.route_by.MultiSlotArgPattern.{MultiSlotArgPattern}
 
--- the arguments of the command, how many of them are its name, its routes with the places of their parts, how its arguments make tuples, and how the replies to its parts make one
+-- the arguments of the command, how many of them are its name, its routes with the places of their
+-- parts, how its arguments make tuples, and how the replies to its parts make one
 pub record Split : Type 0 where
   pub arguments : Arguments
   pub words : ℕ
@@ -26,7 +27,8 @@ split_part split slot = part_of_slot_after split.words split.pattern split.argum
 
 -- the part of the route of this number
 abbrev pub route_part : Split → ℕ → Option Arguments
-route_part split number = option_map (λ r. split_part split r.0.slot) (slice_get split.routes number)
+route_part split number =
+    option_map (λ r. split_part split r.0.slot) (slice_get split.routes number)
 
 -- the policy of a command's name under some tables of names
 abbrev pub policy_by_name_with : NameTables → Option (List ℕ) → Option ResponsePolicy
@@ -37,18 +39,23 @@ policy_by_name_with tables (Some name) = tables.policy name
 abbrev pub policy_by_name : Option (List ℕ) → Option ResponsePolicy
 policy_by_name name = policy_by_name_with own_tables name
 
--- whether the replies to the parts of a command can make one by this policy: any of them, their sum, or one array
+-- whether the replies to the parts of a command can make one by this policy: any of them, their
+-- sum, or one array
 abbrev pub joins_parts : ResponsePolicy → Bool
 joins_parts AllSucceeded = true
 joins_parts (Aggregate Sum) = true
 joins_parts CombineArrays = true
 joins_parts _ = false
 
--- The routes are those of the command, which has a name, is complete and has fewer than 2^63 arguments, and the policy joins the replies to its parts.
+-- The routes are those of the command, which has a name, is complete and has fewer than 2^63
+-- arguments, and the policy joins the replies to its parts.
 pub record IsSplit (split : Split) : Type 0 where
   pub few : length split.arguments < 2 ^ 63
   pub name : HasWords split.words split.arguments
-  pub complete : is_complete split.pattern (length (present_arguments_after split.words split.arguments)) ≡ true
+  pub complete :
+      is_complete split.pattern (length (present_arguments_after split.words split.arguments))
+      ≡ true
   pub only_reads : Bool
-  pub routes : split.routes ≡ routes_of only_reads split.pattern (present_arguments_after split.words split.arguments)
+  pub routes : split.routes
+      ≡ routes_of only_reads split.pattern (present_arguments_after split.words split.arguments)
   pub policy : joins_parts split.policy ≡ true

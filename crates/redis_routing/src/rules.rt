@@ -15,13 +15,15 @@ use redis_commands::{ReadOnlyNames, ResponsePolicy, Routable, RouteBy, base_rout
 use std::alloc::{AllocError, Global};
 
 impl RoutingInfo {
-    /// Where a command goes. `None` where it has no name, where the argument that it is routed by is
-    /// missing or no number, where its tuples are not whole, or where commands of its name go nowhere.
-    /// A name that no table has goes to the slot of argument 1, or without one to any node.
+    /// Where a command goes. `None` where it has no name, where the argument that it is routed by
+    /// is missing or no number, where its tuples are not whole, or where commands of its name go
+    /// nowhere. A name that no table has goes to the slot of argument 1, or without one to any
+    /// node.
     ///
     /// A command over many keys goes to one node where all keys have one slot, and else has a route
     /// for each slot of a key, by the first key of each, with the places of its part as
-    /// `command_for_multi_slot_indices` takes them. The ASCII case of the first word changes nothing.
+    /// `command_for_multi_slot_indices` takes them. The ASCII case of the first word changes
+    /// nothing.
     ///
     /// # Errors
     ///
@@ -31,11 +33,21 @@ impl RoutingInfo {
         command: &R,
         read_only: &ReadOnlyNames,
     ) -> Result<Option<RoutingInfo>, AllocError>
-        ensures routed { IfOk result (λ info. option_map as_routing info ≡ routing (is_among read_only.now) (R.args command.now)) }
-        ensures case { (other : Arguments) → IsRespelt (R.args command.now) other → routing (is_among read_only.now) other ≡ routing (is_among read_only.now) (R.args command.now) }
-        ensures cover { IfOk result (λ info. IfSplit (λ pattern routes. Covers pattern (present_arguments (R.args command.now)) routes) (option_map as_routing info)) }
-        ensures picked { IfOk result (λ info. IfSplit (λ pattern routes. ArePartsPicked (R.args command.now) pattern routes) (option_map as_routing info)) }
-        ensures parts { IfOk result (λ info. IfSplit (λ pattern routes. ArePartsRouted (is_among read_only.now) (R.args command.now) pattern routes) (option_map as_routing info)) }
+        ensures routed { IfOk result (λ info. option_map as_routing info
+            ≡ routing (is_among read_only.now) (R.args command.now)) }
+        ensures case { (other : Arguments) → IsRespelt (R.args command.now) other
+            → routing (is_among read_only.now) other
+            ≡ routing (is_among read_only.now) (R.args command.now) }
+        ensures cover { IfOk result (λ info. IfSplit
+            (λ pattern routes. Covers pattern (present_arguments (R.args command.now)) routes)
+            (option_map as_routing info)) }
+        ensures picked { IfOk result (λ info. IfSplit
+            (λ pattern routes. ArePartsPicked (R.args command.now) pattern routes)
+            (option_map as_routing info)) }
+        ensures parts { IfOk result (λ info. IfSplit
+            (λ pattern routes. ArePartsRouted (is_among read_only.now) (R.args command.now) pattern
+            routes)
+            (option_map as_routing info)) }
     {
         let Some(name) = command.command(alloc)? else {
             return Ok(None);
@@ -52,7 +64,8 @@ fn for_name<R: Routable>(
     name: &[u8],
     reads: bool,
 ) -> Result<Option<RoutingInfo>, AllocError>
-    ensures { IfOk result (λ info. option_map as_routing info ≡ routing_by reads name.now (R.args command.now) (base_routing name.now)) }
+    ensures { IfOk result (λ info. option_map as_routing info
+        ≡ routing_by reads name.now (R.args command.now) (base_routing name.now)) }
 {
     let Some(route_by) = base_routing(name) else {
         return Ok(to_key_or_any(command.arg_idx(1), reads));
@@ -107,7 +120,9 @@ fn to_key_or_any(key: Option<&[u8]>, reads: bool) -> Option<RoutingInfo>
 /// By the count of keys at a place and the first key after it.
 fn by_count<R: Routable>(command: &R, place: usize, reads: bool) -> Option<RoutingInfo>
     requires { place < 2 ^ 16 }
-    ensures { option_map as_routing result ≡ by_count reads (argument_number 64 (argument (R.args command.now) place)) (argument (R.args command.now) (place + 1)) }
+    ensures { option_map as_routing result
+        ≡ by_count reads (argument_number 64 (argument (R.args command.now) place))
+        (argument (R.args command.now) (place + 1)) }
 {
     let count = parse_u64(command.arg_idx(place)?)?;
     if count == 0 {
@@ -117,7 +132,9 @@ fn by_count<R: Routable>(command: &R, place: usize, reads: bool) -> Option<Routi
 }
 
 fn after_streams<R: Routable>(command: &R, reads: bool) -> Option<RoutingInfo>
-    ensures { option_map as_routing result ≡ to_key_after reads (R.args command.now) (position (is_word (codes "STREAMS")) (R.args command.now)) }
+    ensures { option_map as_routing result
+        ≡ to_key_after reads (R.args command.now)
+        (position (is_word (codes "STREAMS")) (R.args command.now)) }
 {
     let place = command.position(b"STREAMS")?;
     to_key(command.arg_idx(place + 1), reads)
@@ -125,7 +142,8 @@ fn after_streams<R: Routable>(command: &R, reads: bool) -> Option<RoutingInfo>
 
 /// To the primary of the slot that the argument writes.
 fn to_slot(number: Option<&[u8]>) -> Option<RoutingInfo>
-    ensures { option_map as_routing result ≡ to_slot (argument_number 16 (option_copied number.entry)) }
+    ensures { option_map as_routing result
+        ≡ to_slot (argument_number 16 (option_copied number.entry)) }
 {
     let slot = Slot::new(parse_u16(number?)?)?;
     Some(to_specific_node(Route::with_slot(slot, SlotAddr::Master)))

@@ -37,9 +37,21 @@ impl<'a, R: Routable> Model for SplitCommand<'a, R> {
 
     ghost Value = { Split };
 
-    ghost view = { λ s. record { arguments = R.args s.command.now; words = s.words; routes = route_lists s.routes.items; pattern = s.pattern; policy = s.policy } };
+    ghost view = { λ s. record {
+      arguments = R.args s.command.now;
+      words = s.words;
+      routes = route_lists s.routes.items;
+      pattern = s.pattern;
+      policy = s.policy;
+    } };
 
-    ghost invariant = { λ s. IsSplit (record { arguments = R.args s.command.now; words = s.words; routes = route_lists s.routes.items; pattern = s.pattern; policy = s.policy }) };
+    ghost invariant = { λ s. IsSplit (record {
+      arguments = R.args s.command.now;
+      words = s.words;
+      routes = route_lists s.routes.items;
+      pattern = s.pattern;
+      policy = s.policy;
+    }) };
 }
 
 impl<'a, R: Routable> SplitCommand<'a, R> {
@@ -55,11 +67,15 @@ impl<'a, R: Routable> SplitCommand<'a, R> {
         command: &'a R,
         read_only: &ReadOnlyNames,
     ) -> Result<Option<Self>, AllocError>
-        ensures routes { IfOk result (λ split. option_map (λ s. s.routes) split ≡ multi_slot_routes (is_among read_only.now) (R.args command.now)) }
-        ensures arguments { IfOk result (λ split. IfSome split (λ s. s.arguments ≡ R.args command.now)) }
+        ensures routes { IfOk result (λ split. option_map (λ s. s.routes) split
+            ≡ multi_slot_routes (is_among read_only.now) (R.args command.now)) }
+        ensures arguments { IfOk result (λ split. IfSome split (λ s. s.arguments
+            ≡ R.args command.now)) }
         ensures words { IfOk result (λ split. IfSome split (λ s. s.words ≡ 1)) }
-        ensures pattern { IfOk result (λ split. IfSome split (λ s. Some s.pattern ≡ pattern_by_name (command_of (R.args command.now)))) }
-        ensures policy { IfOk result (λ split. IfSome split (λ s. Some s.policy ≡ policy_by_name (command_of (R.args command.now)))) }
+        ensures pattern { IfOk result (λ split. IfSome split (λ s. Some s.pattern
+            ≡ pattern_by_name (command_of (R.args command.now)))) }
+        ensures policy { IfOk result (λ split. IfSome split (λ s. Some s.policy
+            ≡ policy_by_name (command_of (R.args command.now)))) }
     {
         let Some(name) = command.command(alloc)? else {
             return Ok(None);
@@ -82,8 +98,8 @@ impl<'a, R: Routable> SplitCommand<'a, R> {
         }))
     }
 
-    /// The routes: one for each slot of a key, by the first key of each, with the places of its part
-    /// as `command_for_multi_slot_indices` takes them.
+    /// The routes: one for each slot of a key, by the first key of each, with the places of its
+    /// part as `command_for_multi_slot_indices` takes them.
     pub fn routes(&self) -> &[(Route, Vec<usize>)]
         ensures routes { route_lists result.now ≡ self.now.routes }
         ensures split { IsSplit self.now }
@@ -164,8 +180,10 @@ pub fn multi_slot_routes<R: Routable>(
     command: &R,
     read_only: &ReadOnlyNames,
 ) -> Result<Option<Vec<(Route, Vec<usize>)>>, AllocError>
-    ensures routes { IfOk result (λ routes. option_map (λ r. route_lists r.items) routes ≡ multi_slot_routes (is_among read_only.now) (R.args command.now)) }
-    ensures picked { IfOk result (λ routes. IfSome routes (λ routes. AreSubCommands (R.args command.now) (route_lists routes.items))) }
+    ensures routes { IfOk result (λ routes. option_map (λ r. route_lists r.items) routes
+        ≡ multi_slot_routes (is_among read_only.now) (R.args command.now)) }
+    ensures picked { IfOk result (λ routes. IfSome routes (λ routes. AreSubCommands
+        (R.args command.now) (route_lists routes.items))) }
 {
     match SplitCommand::new(alloc, command, read_only)? {
         Some(split) => Ok(Some(split.routes)),

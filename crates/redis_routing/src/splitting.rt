@@ -27,7 +27,8 @@ pub(super) fn by_slots<R: Routable>(
     pattern: MultiSlotArgPattern,
     reads: bool,
 ) -> Result<Option<RoutingInfo>, AllocError>
-    ensures { IfOk result (λ info. option_map as_routing info ≡ to_slots reads (policy_of name.now) pattern (present_arguments (R.args command.now))) }
+    ensures { IfOk result (λ info. option_map as_routing info
+        ≡ to_slots reads (policy_of name.now) pattern (present_arguments (R.args command.now))) }
 {
     let count = present_len(command, NAME_WORDS);
     if !pattern.fits(count) {
@@ -48,7 +49,8 @@ pub(super) fn routes_by_slot<R: Routable>(
 ) -> Result<Vec<(Route, Vec<usize>)>, AllocError>
     requires few { count + words < 2 ^ 64 }
     requires count { count ≡ length (present_arguments_after words (R.args command.now)) }
-    ensures { IfOk result (λ routes. route_lists routes.items ≡ routes_of reads pattern (present_arguments_after words (R.args command.now))) }
+    ensures { IfOk result (λ routes. route_lists routes.items
+        ≡ routes_of reads pattern (present_arguments_after words (R.args command.now))) }
 {
     let own = pattern.own_len(count);
     let groups = group_by_slot(alloc, command, words, pattern, own)?;
@@ -78,9 +80,15 @@ fn group_by_slot<R: Routable>(
     own: usize,
 ) -> Result<IndexMap<u16, Vec<usize>>, AllocError>
     requires few { own + words < 2 ^ 64 }
-    requires own { own ≡ own_count pattern (length (present_arguments_after words (R.args command.now))) }
-    ensures order { IfOk result (λ groups. keys groups ≡ first_appearances (map slot_of (tuples_in pattern (present_arguments_after words (R.args command.now))))) }
-    ensures places { IfOk result (λ groups. (s : ℕ) → list_or_empty (get nat_eq groups s) ≡ flat_map places_of (tuples_in_slot s (tuples_in pattern (present_arguments_after words (R.args command.now))))) }
+    requires own { own
+        ≡ own_count pattern (length (present_arguments_after words (R.args command.now))) }
+    ensures order { IfOk result (λ groups. keys groups
+        ≡ first_appearances (map slot_of
+        (tuples_in pattern (present_arguments_after words (R.args command.now))))) }
+    ensures places { IfOk result (λ groups. (s : ℕ)
+        → list_or_empty (get nat_eq groups s)
+        ≡ flat_map places_of (tuples_in_slot s
+        (tuples_in pattern (present_arguments_after words (R.args command.now))))) }
 {
     let width = pattern.width();
     let mut groups: IndexMap<u16, Vec<usize>> = IndexMap::new(alloc);
@@ -109,9 +117,17 @@ fn add(
     width: usize,
 ) -> Result<(), AllocError>
     requires { place + width < 2 ^ 64 }
-    ensures places { OnOk result ((s : ℕ) → list_or_empty (get nat_eq groups.new s) ≡ (if nat_eq slot s then list_or_empty (get nat_eq groups.old s) ++ range_with_len place width else list_or_empty (get nat_eq groups.old s))) }
-    ensures found { OnOk result ((s : ℕ) → is_some (get nat_eq groups.new s) ≡ (nat_eq slot s || is_some (get nat_eq groups.old s))) }
-    ensures order { OnOk result (keys groups.new ≡ (if is_some (get nat_eq groups.old slot) then keys groups.old else keys groups.old ++ slot ∷ [])) }
+    ensures places { OnOk result ((s : ℕ)
+        → list_or_empty (get nat_eq groups.new s)
+        ≡ (if nat_eq slot s
+        then list_or_empty (get nat_eq groups.old s) ++ range_with_len place width
+        else list_or_empty (get nat_eq groups.old s))) }
+    ensures found { OnOk result ((s : ℕ)
+        → is_some (get nat_eq groups.new s)
+        ≡ (nat_eq slot s || is_some (get nat_eq groups.old s))) }
+    ensures order { OnOk result (keys groups.new
+        ≡ (if is_some (get nat_eq groups.old slot) then keys groups.old
+        else keys groups.old ++ slot ∷ [])) }
 {
     match groups.get_mut(&slot) {
         Some(places) => push_places(places, place, place + width),
@@ -126,7 +142,8 @@ fn add(
 
 /// Puts the places from one up to another at the end.
 fn push_places(places: &mut Vec<usize>, start: usize, end: usize) -> Result<(), AllocError>
-    ensures { OnOk result (places.new.items ≡ places.old.items ++ range_with_len start (end - start)) }
+    ensures { OnOk result
+        (places.new.items ≡ places.old.items ++ range_with_len start (end - start)) }
 {
     places.extend(start..end)
 }
@@ -139,7 +156,9 @@ fn routes_of_groups(
     own: usize,
     count: usize,
 ) -> Result<Vec<(Route, Vec<usize>)>, AllocError>
-    ensures routes { IfOk result (λ routes. route_lists routes.items ≡ map (route_of_group nodes (range_with_len own (count - own))) (entry_groups groups.entries)) }
+    ensures routes { IfOk result (λ routes. route_lists routes.items
+        ≡ map (route_of_group nodes (range_with_len own (count - own)))
+        (entry_groups groups.entries)) }
     ensures unique { OnOk result (IsUnique nat_eq groups) }
 {
     let mut routes = Vec::with_capacity(alloc, groups.len())?;

@@ -24,12 +24,11 @@ pub fn command_for_multi_slot_indices<R: Routable>(
     indices: &[usize],
 ) -> RedisResult<Cmd>
     ensures made { IfOk result (λ cmd. sub_command (R.args original.now) indices.now ≡ Some cmd) }
-    ensures refused { IfErr result (λ fault. ((sub_command (R.args original.now) indices.now ≡ None) × (fault.kind ≡ Client)) ⊎ (fault ≡ out_of_memory)) }
+    ensures refused { IfErr result (λ fault. ((sub_command (R.args original.now) indices.now ≡ None)
+        × (fault.kind ≡ Client))
+        ⊎ (fault ≡ out_of_memory)) }
 {
-    match sub_command(alloc, original, NAME_WORDS, indices)? {
-        Some(command) => Ok(command),
-        None => Err(missing_argument()),
-    }
+    sub_command(alloc, original, NAME_WORDS, indices)?.ok_or_else(missing_argument)
 }
 
 /// The part of a command that has these arguments after a name of so many words, if none of them
@@ -62,7 +61,8 @@ fn name_of<R: Routable>(
     words: usize,
     room: usize,
 ) -> Result<Option<Cmd>, AllocError>
-    ensures { IfOk result (λ cmd. cmd ≡ all_some (map (λ place. argument (R.args original.now) place) (range_with_len 0 words))) }
+    ensures { IfOk result (λ cmd. cmd
+        ≡ all_some (map (λ place. argument (R.args original.now) place) (range_with_len 0 words))) }
 {
     let mut command = Cmd::with_capacity(alloc, room)?;
     for place in 0..words {

@@ -1,4 +1,5 @@
--- The order in which the replies in a reply are gone over, and copies made of them, without recursion.
+-- The order in which the replies in a reply are gone over, and copies made of them, without
+-- recursion.
 use Rattle.std.specs.Prelude.{◌≡◌, ℕ, ◌+◌, List, [], ◌∷◌, ◌++◌, ⊤}
 use Rattle.resp_core.specs.Reply.{Reply, Replies, Pairs, nil, int, bulk, array, simple, okay, pairs, no_replies, reply, no_pairs, pair, items_in}
 
@@ -27,11 +28,12 @@ IsFlat (simple text) = ⊤
 IsFlat okay = ⊤
 IsFlat (pairs items) = ⊥
 
--- `waiting` is left of the root, once each of `gone`, the latest first, was taken from the end of what waited, and what
--- is inside it put there
+-- `waiting` is left of the root, once each of `gone`, the latest first, was taken from the end of
+-- what waited, and what is inside it put there
 abbrev pub IsWalk : Reply → List Reply → List Reply → Type 0
 IsWalk root [] waiting = waiting ≡ root ∷ []
-IsWalk root (r ∷ gone) waiting = (rest : List Reply) × IsWalk root gone (rest ++ r ∷ []) × (waiting ≡ rest ++ inside r)
+IsWalk root (r ∷ gone) waiting =
+    (rest : List Reply) × IsWalk root gone (rest ++ r ∷ []) × (waiting ≡ rest ++ inside r)
 
 abbrev pub EndsWith : List Reply → List Reply → Type 0
 EndsWith end rs = (rest : List Reply) × (rs ≡ rest ++ end)

@@ -27,4 +27,5 @@ kind_place OutOfMemory = 3
 abbrev pub same_error : ErrorParts → ErrorParts → Bool
 same_error =
     eq_of_both (on (λ e. kind_place e.kind) nat_eq)
-    (eq_of_both (on (λ e. e.desc) (pointwise nat_eq)) (on (λ e. e.detail) (option_eq (pointwise nat_eq))))
+    (eq_of_both (on (λ e. e.desc) (pointwise nat_eq))
+    (on (λ e. e.detail) (option_eq (pointwise nat_eq))))

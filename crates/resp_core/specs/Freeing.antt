@@ -1,5 +1,5 @@
--- How many steps there are left in freeing a reply, where on the way down the first place of each array and each map
--- holds what is above it.
+-- How many steps there are left in freeing a reply, where on the way down the first place of each
+-- array and each map holds what is above it.
 use Rattle.std.specs.Prelude.{ℕ, ◌+◌}
 use Rattle.resp_core.specs.Reply.{Reply, Replies, Pairs, nil, int, bulk, array, simple, okay, pairs, no_replies, reply, no_pairs, pair}
 

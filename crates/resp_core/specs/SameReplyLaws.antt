@@ -23,7 +23,8 @@ mutual
 
   same_pairs-refl : (ps : Pairs) → same_pairs ps ps ≡ true
   same_pairs-refl no_pairs = refl
-  same_pairs-refl (pair k v ps) = λ i. same_reply-refl k i && same_reply-refl v i && same_pairs-refl ps i
+  same_pairs-refl (pair k v ps) =
+      λ i. same_reply-refl k i && same_reply-refl v i && same_pairs-refl ps i
 
 and-first : (b c : Bool) → (b && c) ≡ true → b ≡ true
 and-first true c h = refl
@@ -47,18 +48,22 @@ mutual
   same_replies-tells : (a b : Replies) → same_replies a b ≡ true → a ≡ b
   same_replies-tells no_replies no_replies h = refl
   same_replies-tells (reply x xs) (reply y ys) h =
-      λ i. reply (same_reply-tells x y (and-first _ _ h) i) (same_replies-tells xs ys (and-second (same_reply x y) _ h) i)
+      λ i. reply (same_reply-tells x y (and-first _ _ h) i)
+      (same_replies-tells xs ys (and-second (same_reply x y) _ h) i)
   same_replies-tells a b h = absurd (false≢true h)
 
   same_pairs-tells : (a b : Pairs) → same_pairs a b ≡ true → a ≡ b
   same_pairs-tells no_pairs no_pairs h = refl
   same_pairs-tells (pair k v ps) (pair l w qs) h =
       let keys_and_values = and-first (same_reply k l && same_reply v w) _ h in
-      λ i. pair (same_reply-tells k l (and-first _ _ keys_and_values) i) (same_reply-tells v w (and-second (same_reply k l) _ keys_and_values) i) (same_pairs-tells ps qs (and-second (same_reply k l && same_reply v w) _ h) i)
+      λ i. pair (same_reply-tells k l (and-first _ _ keys_and_values) i)
+      (same_reply-tells v w (and-second (same_reply k l) _ keys_and_values) i)
+      (same_pairs-tells ps qs (and-second (same_reply k l && same_reply v w) _ h) i)
   same_pairs-tells a b h = absurd (false≢true h)
 
 pub same_reply-Decides : (a b : Reply) → Decides (same_reply a b) (a ≡ b)
-same_reply-Decides a b = (same_reply-tells a b, λ e. subst (λ r. same_reply a r ≡ true) e (same_reply-refl a))
+same_reply-Decides a b =
+    (same_reply-tells a b, λ e. subst (λ r. same_reply a r ≡ true) e (same_reply-refl a))
 
 pub same_reply-equivalence : IsEquivalence same_reply
 same_reply-equivalence = decided same_reply same_reply-Decides

@@ -33,7 +33,11 @@ impl Model for RedisError {
 
     ghost Value = { ErrorParts };
 
-    ghost view = { λ e. record { kind = e.kind; desc = e.desc.now; detail = option_map string_bytes e.detail } };
+    ghost view = { λ e. record {
+      kind = e.kind;
+      desc = e.desc.now;
+      detail = option_map string_bytes e.detail;
+    } };
 }
 
 /// An answer of the layer, or why there is none.
@@ -58,10 +62,7 @@ impl RedisError {
     pub fn detail(&self) -> Option<&str>
         ensures { option_copied result ≡ self.now.detail }
     {
-        match &self.detail {
-            Some(detail) => Some(detail.as_str()),
-            None => None,
-        }
+        self.detail.as_deref()
     }
 }
 
@@ -104,7 +105,8 @@ impl<T: Drop> From<AllocFailed<T>> for RedisError {
 }
 
 impl From<(ErrorKind, &'static str)> for RedisError {
-    ghost from_gives = { λ parts e. e ≡ record { kind = parts.0; desc = parts.1.now; detail = None } };
+    ghost from_gives = { λ parts e. e
+        ≡ record { kind = parts.0; desc = parts.1.now; detail = None } };
 
     fn from((kind, desc): (ErrorKind, &'static str)) -> Self {
         RedisError {
@@ -116,7 +118,8 @@ impl From<(ErrorKind, &'static str)> for RedisError {
 }
 
 impl From<(ErrorKind, &'static str, String)> for RedisError {
-    ghost from_gives = { λ parts e. e ≡ record { kind = parts.0; desc = parts.1.now; detail = Some (string_bytes parts.2) } };
+    ghost from_gives = { λ parts e. e
+        ≡ record { kind = parts.0; desc = parts.1.now; detail = Some (string_bytes parts.2) } };
 
     fn from((kind, desc, detail): (ErrorKind, &'static str, String)) -> Self {
         RedisError {

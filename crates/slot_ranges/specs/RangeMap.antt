@@ -23,7 +23,8 @@ Ascends (e ∷ es) = EndsAfter (end_of e) es × Ascends es
 -- the entries with one more: it stands in the place of the entry with its end, if there is one
 abbrev pub insert_entry : {V : Type 0} → List (Entry V) → ℕ → ℕ → V → List (Entry V)
 insert_entry es start end value =
-    filter (λ e. nat_lt (end_of e) end) es ++ (start, end, value) ∷ filter (λ e. nat_lt end (end_of e)) es
+    filter (λ e. nat_lt (end_of e) end) es ++ (start, end, value)
+    ∷ filter (λ e. nat_lt end (end_of e)) es
 
 -- the entry holds the slot, and none ends between the slot and the end of this one
 pub record IsAnswerAt {V : Type 0} (es : List (Entry V)) (slot : ℕ) (value : V) : Type 0 where
@@ -45,7 +46,8 @@ Holds e slot = (e.0 ≤ slot) × (slot ≤ end_of e)
 -- no entry is reversed, and no two hold one slot
 pub record AreDisjoint {V : Type 0} (es : List (Entry V)) : Type 0 where
   pub straight : (e : Entry V) → Contains es e → e.0 ≤ end_of e
-  pub apart : (e f : Entry V) (slot : ℕ) → Contains es e → Contains es f → Holds e slot → Holds f slot → e ≡ f
+  pub apart : (e f : Entry V) (slot : ℕ) → Contains es e → Contains es f → Holds e slot
+      → Holds f slot → e ≡ f
 
 -- no entry holds the slot
 abbrev pub IsHeldByNone : {V : Type 0} → List (Entry V) → ℕ → Type 0

@@ -32,8 +32,10 @@ range_entry r = (r.start, r.end, nodes_of r)
 abbrev pub same_range : RangeNodes → RangeNodes → Bool
 same_range =
     eq_of_both (on (λ r. r.start) ◌==◌)
-    (eq_of_both (on (λ r. r.end) ◌==◌) (eq_of_both (on (λ r. r.master) same_address) (on (λ r. r.replicas) (pointwise same_address))))
+    (eq_of_both (on (λ r. r.end) ◌==◌) (eq_of_both (on (λ r. r.master) same_address)
+    (on (λ r. r.replicas) (pointwise same_address))))
 
 -- the entries after the ranges are put in, in order
 abbrev pub insert_ranges : List (Entry SlotNodes) → List RangeNodes → List (Entry SlotNodes)
-insert_ranges entries ranges = fold (λ es r. insert_entry es r.start r.end (nodes_of r)) entries ranges
+insert_ranges entries ranges =
+    fold (λ es r. insert_entry es r.start r.end (nodes_of r)) entries ranges

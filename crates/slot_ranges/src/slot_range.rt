@@ -21,13 +21,19 @@ impl Model for SlotRange {
 
     ghost Value = { RangeNodes };
 
-    ghost view = { λ r. record { start = r.start; end = r.end; master = r.master; replicas = r.replicas.items } };
+    ghost view = { λ r. record {
+      start = r.start;
+      end = r.end;
+      master = r.master;
+      replicas = r.replicas.items;
+    } };
 }
 
 impl SlotRange {
     /// The slots from `start` to `end`, both included, and the nodes that serve them.
     pub fn new(start: u16, end: u16, master: NodeAddress, replicas: Vec<NodeAddress>) -> Self
-        ensures { result ≡ record { start = start; end = end; master = master; replicas = replicas.items } }
+        ensures { result
+            ≡ record { start = start; end = end; master = master; replicas = replicas.items } }
     {
         SlotRange {
             start,

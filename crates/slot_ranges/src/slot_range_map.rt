@@ -62,10 +62,13 @@ impl<V> SlotRangeMap<V> {
 
     /// The value that answers for the slot. O(log n).
     pub fn get(&self, slot: u16) -> Option<&V>
-        ensures least { MatchOption result (IsUncovered self.now slot) (λ value. IsAnswerAt self.now slot value.now) }
-        // Where no two ranges meet and none is reversed, it is the value of the one that contains the
-        // slot.
-        ensures disjoint { AreDisjoint self.now → MatchOption result (IsHeldByNone self.now slot) (λ value. IsHeldWith self.now slot value.now) }
+        ensures least { MatchOption result (IsUncovered self.now slot) (λ value. IsAnswerAt self.now
+            slot value.now) }
+        // Where no two ranges meet and none is reversed, it is the value of the one that contains
+        // the slot.
+        ensures disjoint { AreDisjoint self.now
+            → MatchOption result (IsHeldByNone self.now slot) (λ value. IsHeldWith self.now slot
+            value.now) }
         ensures order { Ascends self.now }
     {
         let (_, (start, value)) = self.ranges.range(slot..).next()?;

@@ -52,7 +52,8 @@ fn read_ranges(
     items: &[Value],
     answering: &str,
 ) -> Result<Vec<SlotRange>, AllocError>
-    ensures { IfOk result (λ ranges. ranges.items ≡ filter_map (range_in answering.now) (leading_arrays (map view items.now))) }
+    ensures { IfOk result (λ ranges. ranges.items
+        ≡ filter_map (range_in answering.now) (leading_arrays (map view items.now))) }
 {
     let mut ranges = Vec::new(alloc);
     for item in items {
@@ -100,7 +101,8 @@ fn read_nodes(
     nodes: &[Value],
     answering: &str,
 ) -> Result<Vec<NodeAddress>, AllocError>
-    ensures { IfOk result (λ found. found.items ≡ filter_map (node_in answering.now) (map view nodes.now)) }
+    ensures { IfOk result (λ found. found.items
+        ≡ filter_map (node_in answering.now) (map view nodes.now)) }
 {
     let mut found = Vec::new(alloc);
     for node in nodes {

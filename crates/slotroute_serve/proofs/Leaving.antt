@@ -5,7 +5,7 @@ use Rattle.std.proofs.lemmas.Bool.Decides.{nat_tests}
 use Rattle.std.specs.Io.{StopsAt}
 use Rattle.std.specs.Io.BufRead.{take_through, drop_through}
 use Rattle.std.specs.Io.KnownBytes.{Consumes}
-use Rattle.slotroute_serve.specs.Lines.{after_lines, after_map, leading, StopsInLine, StopsInMap}
+use Rattle.slotroute_serve.specs.Lines.{after_lines, after_map, leading_lines, StopsInLine, StopsInMap}
 use Rattle.slotroute_serve.specs.Streams.{Leaves}
 
 -- an input is its first line and what follows it
@@ -62,9 +62,9 @@ line_read xs = record { read = take_through 10 xs; more = []; begun = through xs
 -- after the map the reading stopped right after the line that ends it
 pub stops_after_map : (input : List ℕ) → StopsInMap input (after_map input)
 stops_after_map input = record {
-  count = length (leading input);
+  count = length (leading_lines input);
   within = omega arith;
-  stops = rw (after_lines-more (length (leading input)) input) (line_read (after_lines (length (leading input)) input));
+  stops = rw (after_lines-more (length (leading_lines input)) input) (line_read (after_lines (length (leading_lines input)) input));
 }
 
 pub left_after_map : (input left : Option (List ℕ)) → Leaves input left (λ bytes rest. rest ≡ after_map bytes) → Leaves input left StopsInMap

@@ -9,8 +9,8 @@ use Rattle.std.proofs.lemmas.List.{append-nil, length_push, take_more, take_rest
 use Rattle.std.proofs.lemmas.Slice.Zip.{AllZip-long}
 use Rattle.cluster_map.specs.Address.{Address}
 use Rattle.cluster_map.specs.SlotNodes.{RangeNodes}
-use Rattle.slotroute_serve.specs.Lines.{onto_first_line, raw_lines, lines_of, line_of, fields_of, until_blank, leading, after_lines, after_map, StopsInLine, StopsInMap}
-use Rattle.slotroute_serve.specs.MapLines.{IsNodeField, IsMapLine, IsMap, IsFirstBad}
+use Rattle.slotroute_serve.specs.Lines.{onto_first_line, raw_lines, lines_of, line_of, fields_of, until_blank, leading_lines, after_lines, after_map, StopsInLine, StopsInMap}
+use Rattle.slotroute_serve.specs.MapLines.{IsNodeField, IsMapLine, IsMap, IsFirstBadLine}
 use Rattle.slotroute_serve.specs.Faults.{IsLeftAt}
 use Rattle.slotroute_serve.specs.Streams.{Leaves}
 use Rattle.slotroute_serve.specs.declared.fault.Fault.{Fault}
@@ -64,12 +64,12 @@ lines_of-first : (x : ℕ) (xs : List ℕ) → lines_of (x ∷ xs) ≡ line_of (
 lines_of-first x xs = ap (map (strip_last 13)) (raw_lines-first x xs) ∙ ap (λ p. strip_last 13 p ∷ lines_of (drop_through 10 (x ∷ xs))) (sym (first_piece-before (x ∷ xs)))
 
 -- the leading lines go on after a first line with fields, and end at one with none
-leading-more : (x : ℕ) (xs : List ℕ) (f : List ℕ) (fs : List (List ℕ)) → f ∷ fs ≡ fields_of (line_of (x ∷ xs)) → leading (x ∷ xs) ≡ (f ∷ fs) ∷ leading (drop_through 10 (x ∷ xs))
-leading-more x xs f fs e =
+leading_lines-more : (x : ℕ) (xs : List ℕ) (f : List ℕ) (fs : List (List ℕ)) → f ∷ fs ≡ fields_of (line_of (x ∷ xs)) → leading_lines (x ∷ xs) ≡ (f ∷ fs) ∷ leading_lines (drop_through 10 (x ∷ xs))
+leading_lines-more x xs f fs e =
     ap (λ ls. until_blank (map fields_of ls)) (lines_of-first x xs) ∙ ap (λ g. until_blank (g ∷ map fields_of (lines_of (drop_through 10 (x ∷ xs))))) (sym e)
 
-leading-none : (x : ℕ) (xs : List ℕ) → [] ≡ fields_of (line_of (x ∷ xs)) → leading (x ∷ xs) ≡ []
-leading-none x xs e =
+leading_lines-none : (x : ℕ) (xs : List ℕ) → [] ≡ fields_of (line_of (x ∷ xs)) → leading_lines (x ∷ xs) ≡ []
+leading_lines-none x xs e =
     ap (λ ls. until_blank (map fields_of ls)) (lines_of-first x xs) ∙ ap (λ g. until_blank (g ∷ map fields_of (lines_of (drop_through 10 (x ∷ xs))))) (sym e)
 
 -- what is left of a known input, after lines that are the map lines of these ranges
@@ -77,7 +77,7 @@ abbrev pub StillReads : Option (List ℕ) → Option (List ℕ) → List RangeNo
 StillReads None left ranges = ⊤
 StillReads (Some input) None ranges = ⊥
 StillReads (Some input) (Some rest) ranges =
-    (front : List (List (List ℕ))) × (leading input ≡ front ++ leading rest) × IsMap front ranges × (rest ≡ after_lines (length front) input)
+    (front : List (List (List ℕ))) × (leading_lines input ≡ front ++ leading_lines rest) × IsMap front ranges × (rest ≡ after_lines (length front) input)
 
 -- what `next_line` says of what was left before it
 pub record HasLine (left : Option (List ℕ)) (line : List ℕ) : Type 0 where
@@ -85,9 +85,9 @@ pub record HasLine (left : Option (List ℕ)) (line : List ℕ) : Type 0 where
   pub text : IfSome left (λ xs. line ≡ line_of xs)
 
 -- the lines so far are all where nothing more leads
-ended : (input : List ℕ) (front rest : List (List (List ℕ))) (ranges : List RangeNodes) → leading input ≡ front ++ rest → rest ≡ [] → IsMap front ranges → IsMap (leading input) ranges
+ended : (input : List ℕ) (front rest : List (List (List ℕ))) (ranges : List RangeNodes) → leading_lines input ≡ front ++ rest → rest ≡ [] → IsMap front ranges → IsMap (leading_lines input) ranges
 ended input front rest ranges e n m =
-    let whole : leading input ≡ front = e ∙ ap (λ r. front ++ r) n ∙ append-nil front in
+    let whole : leading_lines input ≡ front = e ∙ ap (λ r. front ++ r) n ∙ append-nil front in
     let P : List (List (List ℕ)) → Type 0 = λ ls. IsMap ls ranges in
     subst P (sym whole) m
 
@@ -95,13 +95,13 @@ true≢false : true ≢ false
 true≢false = search rules
 
 -- what follows the map, where the lines so far are all that lead
-map_read : (input rest : List ℕ) (front more : List (List (List ℕ))) → leading input ≡ front ++ more → more ≡ [] → rest ≡ after_lines (length front) input → drop_through 10 rest ≡ after_map input
+map_read : (input rest : List ℕ) (front more : List (List (List ℕ))) → leading_lines input ≡ front ++ more → more ≡ [] → rest ≡ after_lines (length front) input → drop_through 10 rest ≡ after_map input
 map_read input rest front more e n r =
-    let whole : leading input ≡ front = e ∙ ap (λ m. front ++ m) n ∙ append-nil front in
+    let whole : leading_lines input ≡ front = e ∙ ap (λ m. front ++ m) n ∙ append-nil front in
     ap (drop_through 10) r ∙ sym (after_lines-more (length front) input) ∙ ap (λ lines. after_lines (length lines + 1) input) (sym whole)
 
 -- at the end of the input
-pub at_end : (old left : Option (List ℕ)) (ranges : List RangeNodes) → StillReads old left ranges → IfSome left (λ xs. false ≡ nat_lt 0 (length xs)) → IfSome old (λ input. IsMap (leading input) ranges)
+pub at_end : (old left : Option (List ℕ)) (ranges : List RangeNodes) → StillReads old left ranges → IfSome left (λ xs. false ≡ nat_lt 0 (length xs)) → IfSome old (λ input. IsMap (leading_lines input) ranges)
 at_end None left ranges s e = tt
 at_end (Some input) None ranges s e = absurd s
 at_end (Some input) (Some []) ranges (front, split, m, r) e = ended input front [] ranges split refl m
@@ -115,12 +115,12 @@ left_at_end (Some input) (Some (x ∷ xs)) new ranges s e d = absurd (true≢fal
 
 -- at a line with no field
 pub at_blank : (old left : Option (List ℕ)) (ranges : List RangeNodes) (line : List ℕ) (fields : List (List ℕ)) → StillReads old left ranges → HasLine left line → fields ≡ fields_of line → fields ≡ []
-    → IfSome old (λ input. IsMap (leading input) ranges)
+    → IfSome old (λ input. IsMap (leading_lines input) ranges)
 at_blank None left ranges line fields s h e b = tt
 at_blank (Some input) None ranges line fields s h e b = absurd s
 at_blank (Some input) (Some []) ranges line fields s h e b = absurd (true≢false h.there)
 at_blank (Some input) (Some (x ∷ xs)) ranges line fields (front, split, m, r) h e b =
-    ended input front (leading (x ∷ xs)) ranges split (leading-none x xs (sym b ∙ e ∙ ap fields_of h.text)) m
+    ended input front (leading_lines (x ∷ xs)) ranges split (leading_lines-none x xs (sym b ∙ e ∙ ap fields_of h.text)) m
 
 pub left_at_blank : (old left new : Option (List ℕ)) (ranges : List RangeNodes) (line : List ℕ) (fields : List (List ℕ)) → StillReads old left ranges → HasLine left line → fields ≡ fields_of line → fields ≡ []
     → DropsThrough left new 10 → Leaves old new (λ input rest. rest ≡ after_map input)
@@ -128,19 +128,19 @@ left_at_blank None left new ranges line fields s h e b d = tt
 left_at_blank (Some input) None new ranges line fields s h e b d = absurd s
 left_at_blank (Some input) (Some []) new ranges line fields s h e b d = absurd (true≢false h.there)
 left_at_blank (Some input) (Some (x ∷ xs)) new ranges line fields (front, split, m, r) h e b d =
-    rw d (map_read input (x ∷ xs) front (leading (x ∷ xs)) split (leading-none x xs (sym b ∙ e ∙ ap fields_of h.text)) r)
+    rw d (map_read input (x ∷ xs) front (leading_lines (x ∷ xs)) split (leading_lines-none x xs (sym b ∙ e ∙ ap fields_of h.text)) r)
 
 -- at a line with fields, of which the leading lines have the fields and go on
-split_at_line : (input : List ℕ) (x : ℕ) (xs : List ℕ) (front : List (List (List ℕ))) (line f : List ℕ) (fs : List (List ℕ)) → leading input ≡ front ++ leading (x ∷ xs) → line ≡ line_of (x ∷ xs) → f ∷ fs ≡ fields_of line
-    → leading input ≡ front ++ (f ∷ fs) ∷ leading (drop_through 10 (x ∷ xs))
-split_at_line input x xs front line f fs split text e = split ∙ ap (λ ls. front ++ ls) (leading-more x xs f fs (e ∙ ap fields_of text))
+split_at_line : (input : List ℕ) (x : ℕ) (xs : List ℕ) (front : List (List (List ℕ))) (line f : List ℕ) (fs : List (List ℕ)) → leading_lines input ≡ front ++ leading_lines (x ∷ xs) → line ≡ line_of (x ∷ xs) → f ∷ fs ≡ fields_of line
+    → leading_lines input ≡ front ++ (f ∷ fs) ∷ leading_lines (drop_through 10 (x ∷ xs))
+split_at_line input x xs front line f fs split text e = split ∙ ap (λ ls. front ++ ls) (leading_lines-more x xs f fs (e ∙ ap fields_of text))
 
 -- a map has a range for each line
 counts : (front : List (List (List ℕ))) (ranges : List RangeNodes) → IsMap front ranges → length ranges + 1 ≡ length front + 1
 counts front ranges m = ap (λ n. n + 1) (AllZip-long IsMapLine front ranges m)
 
 pub at_bad : (old left : Option (List ℕ)) (ranges : List RangeNodes) (line : List ℕ) (fields : List (List ℕ)) → StillReads old left ranges → HasLine left line → fields ≡ fields_of line → fields ≢ []
-    → ((range : RangeNodes) → ¬ (IsMapLine fields range)) → IfSome old (λ input. IsFirstBad (leading input) (length ranges + 1))
+    → ((range : RangeNodes) → ¬ (IsMapLine fields range)) → IfSome old (λ input. IsFirstBadLine (leading_lines input) (length ranges + 1))
 at_bad None left ranges line fields s h e b lacks = tt
 at_bad (Some input) None ranges line fields s h e b lacks = absurd s
 at_bad (Some input) (Some []) ranges line fields s h e b lacks = absurd (true≢false h.there)
@@ -148,7 +148,7 @@ at_bad (Some input) (Some (x ∷ xs)) ranges line [] s h e b lacks = absurd (b r
 at_bad (Some input) (Some (x ∷ xs)) ranges line (f ∷ fs) (front, split, m, r) h e b lacks = record {
   good = front;
   bad = f ∷ fs;
-  later = leading (drop_through 10 (x ∷ xs));
+  later = leading_lines (drop_through 10 (x ∷ xs));
   split = split_at_line input x xs front line f fs split h.text e;
   before = (ranges, m);
   there = lacks;
@@ -162,7 +162,7 @@ left_at_bad (Some input) (Some xs) new ranges (front, split, m, r) d =
     rw (d, counts front ranges m) (ap (drop_through 10) r ∙ sym (after_lines-more (length front) input))
 
 -- where the reading stopped in a line, or after it
-within : (input : List ℕ) (front more : List (List (List ℕ))) → leading input ≡ front ++ more → length front ≤ length (leading input)
+within : (input : List ℕ) (front more : List (List (List ℕ))) → leading_lines input ≡ front ++ more → length front ≤ length (leading_lines input)
 within input front more e = rw (e, length-append) (omega arith)
 
 pub left_in_line : (old left new : Option (List ℕ)) (ranges : List RangeNodes) → StillReads old left ranges → Leaves left new StopsInLine → Leaves old new StopsInMap
@@ -170,7 +170,7 @@ left_in_line None left new ranges s h = tt
 left_in_line (Some input) None new ranges s h = absurd s
 left_in_line (Some input) (Some xs) None ranges s h = absurd h
 left_in_line (Some input) (Some xs) (Some ys) ranges (front, split, m, r) h =
-    record { count = length front; within = within input front (leading xs) split; stops = subst (λ zs. StopsInLine zs ys) r h }
+    record { count = length front; within = within input front (leading_lines xs) split; stops = subst (λ zs. StopsInLine zs ys) r h }
 
 pub left_after_line : (old left new : Option (List ℕ)) (ranges : List RangeNodes) → StillReads old left ranges → DropsThrough left new 10 → Leaves old new StopsInMap
 left_after_line None left new ranges s d = tt
@@ -199,7 +199,7 @@ at_good (Some input) (Some (x ∷ xs)) new ranges line [] range s h e b g d = ab
 at_good (Some input) (Some (x ∷ xs)) new ranges line (f ∷ fs) range (front, split, m, r) h e b g d =
     rw d (
       front ++ (f ∷ fs) ∷ [],
-      split_at_line input x xs front line f fs split h.text e ∙ sym (append_assoc front ((f ∷ fs) ∷ []) (leading (drop_through 10 (x ∷ xs)))),
+      split_at_line input x xs front line f fs split h.text e ∙ sym (append_assoc front ((f ∷ fs) ∷ []) (leading_lines (drop_through 10 (x ∷ xs)))),
       AllZip-more IsMapLine front ranges (f ∷ fs) range m g,
       rw (length_push front (f ∷ fs)) (ap (drop_through 10) r ∙ sym (after_lines-more (length front) input)),
     )

@@ -11,13 +11,13 @@ use Rattle.cluster_map.specs.RouteNode.{IsNodeFor, IsNodeOfRoute}
 use Rattle.cluster_map.specs.SlotRoute.{SlotRoute}
 use Rattle.cluster_slots.specs.declared.slot.SlotAddr.{SlotAddr}
 use Rattle.cluster_slots.specs.declared.slot.SlotAddr.TheVariants.{Master}
-use Rattle.slotroute_serve.specs.Lines.{leading, after_map}
+use Rattle.slotroute_serve.specs.Lines.{leading_lines, after_map}
 use Rattle.slotroute_serve.specs.MapLines.{IsMap}
-use Rattle.slotroute_serve.specs.Faults.{fault_line, IsNoMap, IsNoSplit, IsCaused, IsLeftAt}
+use Rattle.slotroute_serve.specs.Faults.{fault_line, WhyNoMap, WhyNoSplit, IsCaused, IsLeftAt}
 use Rattle.slotroute_serve.specs.Output.{Output, IsAnswer, IsNodeAnswer, IsRequest, split_words, slot_line, usage_line, bad_map_line, not_multi_key_line, usage, bad_map, not_multi_key, answer, served, unserved, node_request, split_request, node_answer, split_answer}
-use Rattle.slotroute_serve.specs.Requests.{Asks, IsNoAnswer}
+use Rattle.slotroute_serve.specs.Requests.{Asks, WhyNoAnswer}
 use Rattle.slotroute_serve.specs.Split.{IsSplitAnswer}
-use Rattle.slotroute_serve.specs.Serves.{Answers, Answered, RanOutOfMemory, Explains, IsBadMapLine, IsTold, TellsOf, Reports, Serves}
+use Rattle.slotroute_serve.specs.Serves.{HasAnswer, HasOutput, RanOutOfMemory, Explains, IsBadMapLine, IsTold, TellsOf, Reports, Serves}
 use Rattle.slotroute_serve.specs.Streams.{Leaves}
 use Rattle.slotroute_serve.proofs.Leaving.{left_after_map}
 use Rattle.slotroute_serve.specs.declared.fault.Fault.{Fault}
@@ -44,7 +44,7 @@ pub answers_node : (entries : List (Entry SlotNodes)) (asked : Request) (key : B
 answers_node entries asked key text line status is t h words a = let b : Asks words (Node key) = subst (Asks words) is a in rw (b, t) (node_answer key.now line status h)
 
 pub answers_split : (entries : List (Entry SlotNodes)) (asked : Request) (command : Bor (List (String Global))) (r : Result (Vec ℕ Global × ℕ) Fault) → asked ≡ Split command
-    → MatchResult r (λ a. IsSplitAnswer entries (map string_bytes command.now) a.0.items a.1) (IsNoSplit (map string_bytes command.now)) → MatchResult r (λ a. (words : List (List ℕ)) → Asks words asked → IsAnswer entries words a.0.items a.1) (IsNoAnswer asked)
+    → MatchResult r (λ a. IsSplitAnswer entries (map string_bytes command.now) a.0.items a.1) (WhyNoSplit (map string_bytes command.now)) → MatchResult r (λ a. (words : List (List ℕ)) → Asks words asked → IsAnswer entries words a.0.items a.1) (WhyNoAnswer asked)
 answers_split entries asked command (Ok x) is h = λ words a. let b : Asks words (Split command) = subst (Asks words) is a in rw b.0 (split_answer (map string_bytes command.now) x.0.items x.1 h)
 answers_split entries asked command (Err e) is h = rw is h
 
@@ -66,7 +66,7 @@ is_request words (Split command) (a, some) = rw a (split_request (map string_byt
 pub touched : {S : Type 0} (words : List (List ℕ)) (old new : S) → IsRequest words → ¬ (IsRequest words) → new ≡ old
 touched words old new w other = absurd (other w)
 
-no_map_of : (words : List (List ℕ)) (input left out : Option (List ℕ)) (e : Fault) → IsRequest words → IfSome input (λ bytes. IsNoMap (leading bytes) e) → Leaves input left (λ bytes rest. IsLeftAt bytes rest e) → Explains words input left out out e
+no_map_of : (words : List (List ℕ)) (input left out : Option (List ℕ)) (e : Fault) → IsRequest words → IfSome input (λ bytes. WhyNoMap (leading_lines bytes) e) → Leaves input left (λ bytes rest. IsLeftAt bytes rest e) → Explains words input left out out e
 no_map_of words input left out fault.Memory w h l = (nothing out, w, l)
 no_map_of words input left out fault.Input w h l = (nothing out, w, l)
 no_map_of words None left out (fault.BadMapLine n) w h l = (nothing out, tt)
@@ -79,8 +79,8 @@ no_map_of words (Some bytes) left out fault.NotMultiKey w h l = absurd h
 no_map_of words None left out fault.Output w h l = ([], nothing out, tt)
 no_map_of words (Some bytes) left out fault.Output w h l = absurd h
 
-pub no_map : (words : List (List ℕ)) (input left out : Option (List ℕ)) (e : Fault) (r : Result ℕ Fault) → IsRequest words → IfSome input (λ bytes. IsNoMap (leading bytes) e) → Leaves input left (λ bytes rest. IsLeftAt bytes rest e)
-    → IsErrAnd r (λ x. x ≡ e) → MatchResult r (Answers words input left out out) (Explains words input left out out)
+pub no_map : (words : List (List ℕ)) (input left out : Option (List ℕ)) (e : Fault) (r : Result ℕ Fault) → IsRequest words → IfSome input (λ bytes. WhyNoMap (leading_lines bytes) e) → Leaves input left (λ bytes rest. IsLeftAt bytes rest e)
+    → IsErrAnd r (λ x. x ≡ e) → MatchResult r (HasAnswer words input left out out) (Explains words input left out out)
 no_map words input left out e (Ok x) w h l is = absurd is
 no_map words input left out e (Err x) w h l is = rw is (no_map_of words input left out e w h l)
 
@@ -98,12 +98,12 @@ caused_by_map reads writes e (Ok x) h is = absurd is
 caused_by_map reads writes e (Err x) h is = rw is (cause_of reads writes e h)
 
 pub no_memory : (words : List (List ℕ)) (input left out : Option (List ℕ)) (r : Result ℕ Fault) → IsRequest words → Leaves input left (λ bytes rest. rest ≡ after_map bytes) → IsErrAnd r (λ x. x ≡ fault.Memory)
-    → MatchResult r (Answers words input left out out) (Explains words input left out out)
+    → MatchResult r (HasAnswer words input left out out) (Explains words input left out out)
 no_memory words input left out (Ok x) w l is = absurd is
 no_memory words input left out (Err x) w l is = rw is (nothing out, w, left_after_map input left l)
 
 -- what explains that a command has no lines
-no_split_of : (command : List (List ℕ)) (input left out : Option (List ℕ)) (ranges : List RangeNodes) (e : Fault) → command ≢ [] → IfSome input (λ bytes. IsMap (leading bytes) ranges) → Leaves input left (λ bytes rest. rest ≡ after_map bytes) → IsNoSplit command e
+no_split_of : (command : List (List ℕ)) (input left out : Option (List ℕ)) (ranges : List RangeNodes) (e : Fault) → command ≢ [] → IfSome input (λ bytes. IsMap (leading_lines bytes) ranges) → Leaves input left (λ bytes rest. rest ≡ after_map bytes) → WhyNoSplit command e
     → Explains (split_words command) input left out out e
 no_split_of command input left out ranges fault.Memory some m l h = (nothing out, split_request command some, left_after_map input left l)
 no_split_of command None left out ranges fault.NotMultiKey some m l h = (nothing out, tt)
@@ -114,18 +114,18 @@ no_split_of command input left out ranges (fault.BadMapLine n) some m l h = absu
 no_split_of command input left out ranges fault.Input some m l h = absurd h
 no_split_of command input left out ranges fault.Output some m l h = absurd h
 
-no_answer_of : (words : List (List ℕ)) (asked : Request) (input left out : Option (List ℕ)) (ranges : List RangeNodes) (e : Fault) → Asks words asked → IfSome input (λ bytes. IsMap (leading bytes) ranges) → Leaves input left (λ bytes rest. rest ≡ after_map bytes) → IsNoAnswer asked e
+no_answer_of : (words : List (List ℕ)) (asked : Request) (input left out : Option (List ℕ)) (ranges : List RangeNodes) (e : Fault) → Asks words asked → IfSome input (λ bytes. IsMap (leading_lines bytes) ranges) → Leaves input left (λ bytes rest. rest ≡ after_map bytes) → WhyNoAnswer asked e
     → Explains words input left out out e
 no_answer_of words (Node key) input left out ranges e a m l h = rw (a, h) (nothing out, node_request key.now, left_after_map input left l)
 no_answer_of words (Split command) input left out ranges e (a, some) m l h = rw a (no_split_of (map string_bytes command.now) input left out ranges e some m l h)
 
-pub no_answer : (words : List (List ℕ)) (asked : Request) (input left out : Option (List ℕ)) (ranges : List RangeNodes) (e : Fault) (r : Result ℕ Fault) → Asks words asked → IfSome input (λ bytes. IsMap (leading bytes) ranges) → Leaves input left (λ bytes rest. rest ≡ after_map bytes) → IsNoAnswer asked e
-    → IsErrAnd r (λ x. x ≡ e) → MatchResult r (Answers words input left out out) (Explains words input left out out)
+pub no_answer : (words : List (List ℕ)) (asked : Request) (input left out : Option (List ℕ)) (ranges : List RangeNodes) (e : Fault) (r : Result ℕ Fault) → Asks words asked → IfSome input (λ bytes. IsMap (leading_lines bytes) ranges) → Leaves input left (λ bytes rest. rest ≡ after_map bytes) → WhyNoAnswer asked e
+    → IsErrAnd r (λ x. x ≡ e) → MatchResult r (HasAnswer words input left out out) (Explains words input left out out)
 no_answer words asked input left out ranges e (Ok x) a m l h is = absurd is
 no_answer words asked input left out ranges e (Err x) a m l h is = rw is (no_answer_of words asked input left out ranges e a m l h)
 
 -- a want of lines is not that of a stream
-cause_of_split : (reads writes : Type 0) (command : List (List ℕ)) (e : Fault) → IsNoSplit command e → IsCaused reads writes e
+cause_of_split : (reads writes : Type 0) (command : List (List ℕ)) (e : Fault) → WhyNoSplit command e → IsCaused reads writes e
 cause_of_split reads writes command fault.Usage h = tt
 cause_of_split reads writes command (fault.BadMapLine n) h = tt
 cause_of_split reads writes command fault.NotMultiKey h = tt
@@ -133,30 +133,30 @@ cause_of_split reads writes command fault.Memory h = tt
 cause_of_split reads writes command fault.Input h = absurd h
 cause_of_split reads writes command fault.Output h = absurd h
 
-cause_of_answer : (reads writes : Type 0) (asked : Request) (e : Fault) → IsNoAnswer asked e → IsCaused reads writes e
+cause_of_answer : (reads writes : Type 0) (asked : Request) (e : Fault) → WhyNoAnswer asked e → IsCaused reads writes e
 cause_of_answer reads writes (Node key) e h = rw h tt
 cause_of_answer reads writes (Split command) e h = cause_of_split reads writes (map string_bytes command.now) e h
 
-pub caused_by_answer : (reads writes : Type 0) (asked : Request) (e : Fault) (r : Result ℕ Fault) → IsNoAnswer asked e → IsErrAnd r (λ x. x ≡ e) → IfErr r (IsCaused reads writes)
+pub caused_by_answer : (reads writes : Type 0) (asked : Request) (e : Fault) (r : Result ℕ Fault) → WhyNoAnswer asked e → IsErrAnd r (λ x. x ≡ e) → IfErr r (IsCaused reads writes)
 caused_by_answer reads writes asked e (Ok x) h is = absurd is
 caused_by_answer reads writes asked e (Err x) h is = rw is (cause_of_answer reads writes asked e h)
 
-pub answered : (words : List (List ℕ)) (input left out new : Option (List ℕ)) (ranges : List RangeNodes) (text : List ℕ) (status : ℕ) → IfSome input (λ bytes. IsMap (leading bytes) ranges) → Leaves input left (λ bytes rest. rest ≡ after_map bytes)
-    → IsAnswer (insert_ranges [] ranges) words text status → Appends out new text → Answers words input left out new status
+pub answered : (words : List (List ℕ)) (input left out new : Option (List ℕ)) (ranges : List RangeNodes) (text : List ℕ) (status : ℕ) → IfSome input (λ bytes. IsMap (leading_lines bytes) ranges) → Leaves input left (λ bytes rest. rest ≡ after_map bytes)
+    → IsAnswer (insert_ranges [] ranges) words text status → Appends out new text → HasAnswer words input left out new status
 answered words None left out new ranges text status m l a t = (text, t, tt)
 answered words (Some bytes) None out new ranges text status m l a t = absurd l
 answered words (Some bytes) (Some rest) out new ranges text status m l a t = (text, t, rw l (answer words bytes text status ranges m a))
 
 -- a beginning of the answer was written
-begun : (words : List (List ℕ)) (input left out new : Option (List ℕ)) (ranges : List RangeNodes) (text : List ℕ) (status k : ℕ) → IfSome input (λ bytes. IsMap (leading bytes) ranges) → Leaves input left (λ bytes rest. rest ≡ after_map bytes)
+begun : (words : List (List ℕ)) (input left out new : Option (List ℕ)) (ranges : List RangeNodes) (text : List ℕ) (status k : ℕ) → IfSome input (λ bytes. IsMap (leading_lines bytes) ranges) → Leaves input left (λ bytes rest. rest ≡ after_map bytes)
     → IsAnswer (insert_ranges [] ranges) words text status → Appends out new (take k text) → Explains words input left out new fault.Output
 begun words None left out new ranges text status k m l a t = (take k text, t, tt)
 begun words (Some bytes) None out new ranges text status k m l a t = absurd l
 begun words (Some bytes) (Some rest) out new ranges text status k m l a t =
     (take k text, t, rw l record { whole = text; status = status; called_for = answer words bytes text status ranges m a; count = k; begins = refl })
 
-pub not_written : (words : List (List ℕ)) (input left out new : Option (List ℕ)) (ranges : List RangeNodes) (text : List ℕ) (status k : ℕ) (e : Fault) (r : Result ℕ Fault) → IfSome input (λ bytes. IsMap (leading bytes) ranges)
-    → Leaves input left (λ bytes rest. rest ≡ after_map bytes) → IsAnswer (insert_ranges [] ranges) words text status → Appends out new (take k text) → e ≡ fault.Output → IsErrAnd r (λ x. x ≡ e) → MatchResult r (Answers words input left out new) (Explains words input left out new)
+pub not_written : (words : List (List ℕ)) (input left out new : Option (List ℕ)) (ranges : List RangeNodes) (text : List ℕ) (status k : ℕ) (e : Fault) (r : Result ℕ Fault) → IfSome input (λ bytes. IsMap (leading_lines bytes) ranges)
+    → Leaves input left (λ bytes rest. rest ≡ after_map bytes) → IsAnswer (insert_ranges [] ranges) words text status → Appends out new (take k text) → e ≡ fault.Output → IsErrAnd r (λ x. x ≡ e) → MatchResult r (HasAnswer words input left out new) (Explains words input left out new)
 not_written words input left out new ranges text status k e (Ok x) m l a t f is = absurd is
 not_written words input left out new ranges text status k e (Err x) m l a t f is = rw (is, f) (begun words input left out new ranges text status k m l a t)
 
@@ -185,7 +185,7 @@ called_as words None left errs line e h = tt
 called_as words (Some bytes) None errs line e h = absurd h
 called_as words (Some bytes) (Some rest) errs line e h = rw e h
 
-pub served_answer : (reads writes tells : Type 0) (words : List (List ℕ)) (input left out new err : Option (List ℕ)) (status : ℕ) → Answers words input left out new status → Serves reads writes tells words input left out new err err status
+pub served_answer : (reads writes tells : Type 0) (words : List (List ℕ)) (input left out new err : Option (List ℕ)) (status : ℕ) → HasAnswer words input left out new status → Serves reads writes tells words input left out new err err status
 served_answer reads writes tells words input left out new err status (outs, written, called_for) = inl record { outs = outs; errs = []; written = written; told = nothing err; called_for = called_for }
 
 pub served_fault : (reads writes tells : Type 0) (words : List (List ℕ)) (input left out new err told : Option (List ℕ)) (e : Fault) → Explains words input left out new e → IsCaused reads writes e → Reports tells err told e → Serves reads writes tells words input left out new err told 2
@@ -206,7 +206,7 @@ ran_out : (out new err told : Option (List ℕ)) (errs : List ℕ) (status : ℕ
 ran_out out new err told errs status w a same failed = record { written = w; told = rw same at a; failed = failed }
 
 steady_fault : (reads writes tells : Type 0) (words : List (List ℕ)) (input left out new err told : Option (List ℕ)) (status : ℕ) (e : Fault) (errs : List ℕ) → ¬ reads → ¬ writes → ¬ tells → Explains words input left out new e → IsCaused reads writes e → Appends err told errs → TellsOf tells errs e → status ≡ 2
-    → Answered words input left out new err told status ⊎ RanOutOfMemory out new err told status
+    → HasOutput words input left out new err told status ⊎ RanOutOfMemory out new err told status
 steady_fault reads writes tells words input left out new err told status fault.Usage errs r w t x c a (inl line) failed =
     inl record { outs = []; errs = errs; written = x.0; told = a; called_for = rw failed (called_as words input left errs usage_line (told_whole tells errs usage_line t line) x.1) }
 steady_fault reads writes tells words input left out new err told status (fault.BadMapLine n) errs r w t x c a (inl line) failed =
@@ -223,7 +223,7 @@ steady_fault reads writes tells words input left out new err told status fault.N
 steady_fault reads writes tells words input left out new err told status fault.Memory errs r w t x c a (inr (b, line)) failed = absurd b
 
 pub served_steadily : (reads writes tells : Type 0) (words : List (List ℕ)) (input left out new err told : Option (List ℕ)) (status : ℕ) → Serves reads writes tells words input left out new err told status → ¬ reads → ¬ writes → ¬ tells
-    → Answered words input left out new err told status ⊎ RanOutOfMemory out new err told status
+    → HasOutput words input left out new err told status ⊎ RanOutOfMemory out new err told status
 served_steadily reads writes tells words input left out new err told status (inl a) r w t = inl a
 served_steadily reads writes tells words input left out new err told status (inr f) r w t = steady_fault reads writes tells words input left out new err told status f.fault f.errs r w t f.explained f.caused f.told f.text f.failed
 

@@ -17,7 +17,7 @@ use Rattle.redis_cluster.specs.ReadOnly.{is_among}
 use Rattle.redis_cluster.specs.Split.{Split, route_part, split_part}
 use Rattle.redis_cluster.specs.RoutingInfo.{route_list, route_lists}
 use Rattle.redis_commands.specs.declared.route_by.MultiSlotArgPattern.{MultiSlotArgPattern}
-use Rattle.slotroute_serve.specs.Split.{Part, IsPart, AreLines, IsSplitAnswer, only_reads, part_line}
+use Rattle.slotroute_serve.specs.Split.{RoutedPart, IsRoutedPart, ArePartLines, IsSplitAnswer, only_reads, part_line}
 use Rattle.slotroute_serve.proofs.Reading.{AllZip-more}
 
 -- A node that is lent, as the value it lends.
@@ -52,27 +52,27 @@ status_more false true status e = e
 status_more false false status e = e
 
 -- One more line.
-pub one_more : (entries : List (Entry SlotNodes)) (parts_by_slot : ℕ → Arguments) (routes : List (SlotRoute × Vec ℕ Global)) (i : ℕ) (route : SlotRoute × Vec ℕ Global) (lines line : List ℕ) (old status : ℕ) (part : Part) → i < length routes
-    → AreLines entries parts_by_slot (route_lists (take i routes)) lines old → route ≡ get_or routes i route → IsPart entries parts_by_slot route.0 part → line ≡ part_line part → status ≡ cond (is_none part.node) 1 old
-    → AreLines entries parts_by_slot (route_lists (take (i + 1) routes)) (lines ++ line) status
+pub one_more : (entries : List (Entry SlotNodes)) (parts_by_slot : ℕ → Arguments) (routes : List (SlotRoute × Vec ℕ Global)) (i : ℕ) (route : SlotRoute × Vec ℕ Global) (lines line : List ℕ) (old status : ℕ) (part : RoutedPart) → i < length routes
+    → ArePartLines entries parts_by_slot (route_lists (take i routes)) lines old → route ≡ get_or routes i route → IsRoutedPart entries parts_by_slot route.0 part → line ≡ part_line part → status ≡ cond (is_none part.node) 1 old
+    → ArePartLines entries parts_by_slot (route_lists (take (i + 1) routes)) (lines ++ line) status
 one_more entries parts_by_slot routes i route lines line old status part l a is p e s =
-    let here : IsPart entries parts_by_slot (get_or routes i route).0 part = subst (λ (r : SlotRoute × Vec ℕ Global). IsPart entries parts_by_slot r.0 part) is p in
+    let here : IsRoutedPart entries parts_by_slot (get_or routes i route).0 part = subst (λ (r : SlotRoute × Vec ℕ Global). IsRoutedPart entries parts_by_slot r.0 part) is p in
     record {
       parts = a.parts ++ part ∷ [];
-      each = rw (take_more routes i route l, map-append) (AllZip-more (λ r. IsPart entries parts_by_slot r.0) (route_lists (take i routes)) a.parts ((get_or routes i route).0, (get_or routes i route).1.items) part a.each here);
+      each = rw (take_more routes i route l, map-append) (AllZip-more (λ r. IsRoutedPart entries parts_by_slot r.0) (route_lists (take i routes)) a.parts ((get_or routes i route).0, (get_or routes i route).1.items) part a.each here);
       lines = ap (λ t. t ++ line) a.lines ∙ ap (λ t. flat_map part_line a.parts ++ t) e ∙ flat_map_more part_line [] a.parts part;
-      ended = rw (list_any-append (λ (q : Part). is_none q.node) a.parts (part ∷ [])) (status_more (list_any (λ (q : Part). is_none q.node) a.parts) (is_none part.node) status (s ∙ ap (cond (is_none part.node) 1) a.ended));
+      ended = rw (list_any-append (λ (q : RoutedPart). is_none q.node) a.parts (part ∷ [])) (status_more (list_any (λ (q : RoutedPart). is_none q.node) a.parts) (is_none part.node) status (s ∙ ap (cond (is_none part.node) 1) a.ended));
     }
 
 -- The lines of a split of the words answer for them.
 pub answers : (entries : List (Entry SlotNodes)) (words command : List (List ℕ)) (names : List (List ℕ)) (split : Split) (text : List ℕ) (status : ℕ) → command ≡ words → ((name : List ℕ) → is_among names name ≡ only_reads name)
     → Some split.routes ≡ multi_slot_routes (is_among names) (map Some command) → split.arguments ≡ map Some command → split.words ≡ 1 → Some split.pattern ≡ pattern_by_name (command_of (map Some command))
-    → AreLines entries (split_part split) split.routes text status → IsSplitAnswer entries words text status
+    → ArePartLines entries (split_part split) split.routes text status → IsSplitAnswer entries words text status
 answers entries words command names split text status same reads routes arguments one pattern lines =
     let whole : split_part split ≡ part_by_name (map Some words) =
     ap (λ n. part_of_slot_after n split.pattern split.arguments) one ∙ ap (part_of_slot_after 1 split.pattern) arguments ∙ same_parts (map Some command) split.pattern pattern ∙ ap (λ ws. part_by_name (map Some ws)) same in
     record {
       routes = split.routes;
       split = ap (λ ws. multi_slot_routes only_reads (map Some ws)) (sym same) ∙ ap (λ f. multi_slot_routes f (map Some command)) (sym (fun_ext reads)) ∙ sym routes;
-      answered = subst (λ parts. AreLines entries parts split.routes text status) whole lines;
+      answered = subst (λ parts. ArePartLines entries parts split.routes text status) whole lines;
     }

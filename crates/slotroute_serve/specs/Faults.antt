@@ -3,7 +3,7 @@ use Rattle.std.specs.Prelude.{◌≡◌, ◌≢◌, ℕ, List, None, codes, ⊤}
 use Rattle.std.specs.declared.io.ErrorKind.{ErrorKind}
 use Rattle.std.specs.declared.io.ErrorKind.TheVariants.{OutOfMemory}
 use Rattle.slotroute_serve.specs.Lines.{after_lines, after_map, StopsInMap}
-use Rattle.slotroute_serve.specs.MapLines.{IsFirstBad}
+use Rattle.slotroute_serve.specs.MapLines.{IsFirstBadLine}
 use Rattle.slotroute_serve.specs.Output.{usage_line, bad_map_line, not_multi_key_line}
 use Rattle.slotroute_serve.specs.Split.{split_routes}
 use Rattle.slotroute_serve.specs.declared.fault.Fault.{Fault}
@@ -24,15 +24,16 @@ pub record IsReaderFault (kind : ErrorKind) (fault : Fault) : Type 0 where
   pub input : kind ≢ OutOfMemory → fault ≡ Input
 
 -- why there is no map of these leading lines: one of them is bad, or there was trouble
-abbrev pub IsNoMap : List (List (List ℕ)) → Fault → Type 0
-IsNoMap lines Usage = ⊥
-IsNoMap lines (BadMapLine number) = IsFirstBad lines number
-IsNoMap lines NotMultiKey = ⊥
-IsNoMap lines Memory = ⊤
-IsNoMap lines Input = ⊤
-IsNoMap lines OutputFailed = ⊥
+abbrev pub WhyNoMap : List (List (List ℕ)) → Fault → Type 0
+WhyNoMap lines Usage = ⊥
+WhyNoMap lines (BadMapLine number) = IsFirstBadLine lines number
+WhyNoMap lines NotMultiKey = ⊥
+WhyNoMap lines Memory = ⊤
+WhyNoMap lines Input = ⊤
+WhyNoMap lines OutputFailed = ⊥
 
--- what calls for a fault besides the input: a read that may fail for that of the input, a write that may for that of the output
+-- what calls for a fault besides the input: a read that may fail for that of the input, a write
+-- that may for that of the output
 abbrev pub IsCaused : Type 0 → Type 0 → Fault → Type 0
 IsCaused reading writing Usage = ⊤
 IsCaused reading writing (BadMapLine number) = ⊤
@@ -50,11 +51,12 @@ IsLeftAt input left Memory = StopsInMap input left
 IsLeftAt input left Input = StopsInMap input left
 IsLeftAt input left OutputFailed = left ≡ after_map input
 
--- why there are no lines for a command: it is not a complete one over many keys, or memory was refused
-abbrev pub IsNoSplit : List (List ℕ) → Fault → Type 0
-IsNoSplit command Usage = ⊥
-IsNoSplit command (BadMapLine number) = ⊥
-IsNoSplit command NotMultiKey = split_routes command ≡ None
-IsNoSplit command Memory = ⊤
-IsNoSplit command Input = ⊥
-IsNoSplit command OutputFailed = ⊥
+-- why there are no lines for a command: it is not a complete one over many keys, or memory was
+-- refused
+abbrev pub WhyNoSplit : List (List ℕ) → Fault → Type 0
+WhyNoSplit command Usage = ⊥
+WhyNoSplit command (BadMapLine number) = ⊥
+WhyNoSplit command NotMultiKey = split_routes command ≡ None
+WhyNoSplit command Memory = ⊤
+WhyNoSplit command Input = ⊥
+WhyNoSplit command OutputFailed = ⊥

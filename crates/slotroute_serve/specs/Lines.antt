@@ -41,8 +41,8 @@ until_blank ([] ∷ lines) = []
 until_blank ((field ∷ fields) ∷ lines) = (field ∷ fields) ∷ until_blank lines
 
 -- the leading lines of the input, as their fields
-abbrev pub leading : List ℕ → List (List (List ℕ))
-leading input = until_blank (map fields_of (lines_of input))
+abbrev pub leading_lines : List ℕ → List (List (List ℕ))
+leading_lines input = until_blank (map fields_of (lines_of input))
 
 -- what follows the first lines, this many of them
 abbrev pub after_lines : ℕ → List ℕ → List ℕ
@@ -51,7 +51,7 @@ after_lines (suc count) input = after_lines count (drop_through line_feed input)
 
 -- what follows the map: the leading lines, and the line with no field that ends them
 abbrev pub after_map : List ℕ → List ℕ
-after_map input = after_lines (length (leading input) + 1) input
+after_map input = after_lines (length (leading_lines input) + 1) input
 
 -- what is left begins in the first line, or right after it
 pub record StopsInLine (input left : List ℕ) : Type 0 where
@@ -63,5 +63,5 @@ pub record StopsInLine (input left : List ℕ) : Type 0 where
 -- what is left begins in a leading line or in the one that ends them, or right after it
 pub record StopsInMap (input left : List ℕ) : Type 0 where
   pub count : ℕ
-  pub within : count ≤ length (leading input)
+  pub within : count ≤ length (leading_lines input)
   pub stops : StopsInLine (after_lines count input) left

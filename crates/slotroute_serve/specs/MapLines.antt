@@ -17,14 +17,15 @@ IsMapLine [] range = ⊥
 IsMapLine (start ∷ []) range = ⊥
 IsMapLine (start ∷ end ∷ []) range = ⊥
 IsMapLine (start ∷ end ∷ primary ∷ replicas) range =
-    (number_in 16 start ≡ Some range.start) × (number_in 16 end ≡ Some range.end) × IsNodeField primary range.master × AllZip IsNodeField replicas range.replicas
+    (number_in 16 start ≡ Some range.start) × (number_in 16 end ≡ Some range.end)
+    × IsNodeField primary range.master × AllZip IsNodeField replicas range.replicas
 
 -- the lines are map lines, and these are their ranges
 abbrev pub IsMap : List (List (List ℕ)) → List RangeNodes → Type 0
 IsMap lines ranges = AllZip IsMapLine lines ranges
 
 -- the line of this number, from 1 on, is the first that is not a map line
-pub record IsFirstBad (lines : List (List (List ℕ))) (number : ℕ) : Type 0 where
+pub record IsFirstBadLine (lines : List (List (List ℕ))) (number : ℕ) : Type 0 where
   pub good : List (List (List ℕ))
   pub bad : List (List ℕ)
   pub later : List (List (List ℕ))

@@ -6,8 +6,8 @@ use Rattle.cluster_map.specs.SlotNodes.{SlotNodes, RangeNodes, insert_ranges}
 use Rattle.cluster_map.specs.RangeMap.{Entry, IsUncovered}
 use Rattle.cluster_map.specs.RouteNode.{IsNodeOfRoute}
 use Rattle.cluster_slots.specs.declared.slot.SlotAddr.TheVariants.{Master}
-use Rattle.slotroute_serve.specs.Lines.{line_feed, space, leading, after_lines, after_map}
-use Rattle.slotroute_serve.specs.MapLines.{IsMap, IsFirstBad}
+use Rattle.slotroute_serve.specs.Lines.{line_feed, space, leading_lines, after_lines, after_map}
+use Rattle.slotroute_serve.specs.MapLines.{IsMap, IsFirstBadLine}
 use Rattle.slotroute_serve.specs.Split.{IsSplitAnswer, split_routes}
 
 -- the words `node KEY`
@@ -27,7 +27,8 @@ abbrev pub slot_line : ℕ → List ℕ → List ℕ
 slot_line slot node = codes "slot " ++ decimal slot ++ space ∷ node ++ line_feed ∷ []
 
 abbrev pub usage_line : List ℕ
-usage_line = codes "usage: slotroute node KEY | split WORD .. | run forward|reverse [first|pick=N|shard]\n"
+usage_line =
+    codes "usage: slotroute node KEY | split WORD .. | run forward|reverse [first|pick=N|shard]\n"
 
 abbrev pub bad_map_line : ℕ → List ℕ
 bad_map_line number = codes "slotroute: bad map line " ++ decimal number ++ line_feed ∷ []
@@ -35,19 +36,34 @@ bad_map_line number = codes "slotroute: bad map line " ++ decimal number ++ line
 abbrev pub not_multi_key_line : List ℕ
 not_multi_key_line = codes "slotroute: not a multi-key command\n"
 
--- the line and the status that answer for a key: its slot, and the primary of the range that answers for the slot
+-- the line and the status that answer for a key: its slot, and the primary of the range that
+-- answers for the slot
 pub data IsNodeAnswer (entries : List (Entry SlotNodes)) (key : List ℕ) : List ℕ → ℕ → Type 0 where
-  served : (slot pick : ℕ) (address : Address) → IsKeySlot key slot → IsNodeOfRoute entries (record { slot = slot; addr = Master }) pick address → IsNodeAnswer entries key (slot_line slot (display_text address)) 0
-  unserved : (slot : ℕ) → IsKeySlot key slot → IsUncovered entries slot → IsNodeAnswer entries key (slot_line slot (codes "none")) 1
+  served : (slot pick : ℕ) (address : Address) → IsKeySlot key slot
+      → IsNodeOfRoute entries (record { slot = slot; addr = Master }) pick address
+      → IsNodeAnswer entries key (slot_line slot (display_text address)) 0
+  unserved : (slot : ℕ) → IsKeySlot key slot → IsUncovered entries slot
+      → IsNodeAnswer entries key (slot_line slot (codes "none")) 1
 
--- what answers for the words on the entries of a map: for those of `node` the line of the key, for those of `split` the lines of the command
+-- what answers for the words on the entries of a map: for those of `node` the line of the key, for
+-- those of `split` the lines of the command
 pub data IsAnswer (entries : List (Entry SlotNodes)) : List (List ℕ) → List ℕ → ℕ → Type 0 where
-  node_answer : (key line : List ℕ) (status : ℕ) → IsNodeAnswer entries key line status → IsAnswer entries (node_words key) line status
-  split_answer : (command : List (List ℕ)) (lines : List ℕ) (status : ℕ) → IsSplitAnswer entries command lines status → IsAnswer entries (split_words command) lines status
+  node_answer : (key line : List ℕ) (status : ℕ) → IsNodeAnswer entries key line status
+      → IsAnswer entries (node_words key) line status
+  split_answer : (command : List (List ℕ)) (lines : List ℕ) (status : ℕ)
+      → IsSplitAnswer entries command lines status
+      → IsAnswer entries (split_words command) lines status
 
 -- what is left of the input, what goes to the output and to the error stream, and the status
 pub data Output : List (List ℕ) → List ℕ → List ℕ → List ℕ → List ℕ → ℕ → Type 0 where
-  usage : (words : List (List ℕ)) (input : List ℕ) → ¬ (IsRequest words) → Output words input input [] usage_line 2
-  bad_map : (words : List (List ℕ)) (input : List ℕ) (number : ℕ) → IsRequest words → IsFirstBad (leading input) number → Output words input (after_lines number input) [] (bad_map_line number) 2
-  not_multi_key : (command : List (List ℕ)) (input : List ℕ) (ranges : List RangeNodes) → command ≢ [] → IsMap (leading input) ranges → split_routes command ≡ None → Output (split_words command) input (after_map input) [] not_multi_key_line 2
-  answer : (words : List (List ℕ)) (input text : List ℕ) (status : ℕ) (ranges : List RangeNodes) → IsMap (leading input) ranges → IsAnswer (insert_ranges [] ranges) words text status → Output words input (after_map input) text [] status
+  usage : (words : List (List ℕ)) (input : List ℕ) → ¬ (IsRequest words)
+      → Output words input input [] usage_line 2
+  bad_map : (words : List (List ℕ)) (input : List ℕ) (number : ℕ) → IsRequest words
+      → IsFirstBadLine (leading_lines input) number
+      → Output words input (after_lines number input) [] (bad_map_line number) 2
+  not_multi_key : (command : List (List ℕ)) (input : List ℕ) (ranges : List RangeNodes)
+      → command ≢ [] → IsMap (leading_lines input) ranges → split_routes command ≡ None
+      → Output (split_words command) input (after_map input) [] not_multi_key_line 2
+  answer : (words : List (List ℕ)) (input text : List ℕ) (status : ℕ) (ranges : List RangeNodes)
+      → IsMap (leading_lines input) ranges → IsAnswer (insert_ranges [] ranges) words text status
+      → Output words input (after_map input) text [] status

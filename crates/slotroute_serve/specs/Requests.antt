@@ -1,6 +1,6 @@
 -- What the words ask for, as the code holds it.
 use Rattle.std.specs.Prelude.{◌≡◌, ◌≢◌, ℕ, List, [], map, string_bytes}
-use Rattle.slotroute_serve.specs.Faults.{IsNoSplit}
+use Rattle.slotroute_serve.specs.Faults.{WhyNoSplit}
 use Rattle.slotroute_serve.specs.Output.{node_words, split_words}
 use Rattle.slotroute_serve.specs.declared.fault.Fault.{Fault}
 use Rattle.slotroute_serve.specs.declared.fault.Fault.TheVariants.{Memory}
@@ -10,9 +10,10 @@ use Rattle.slotroute_serve.specs.declared.request.Request.TheVariants.{Node, Spl
 -- the words are those of the request
 abbrev pub Asks : List (List ℕ) → Request → Type 0
 Asks words (Node key) = words ≡ node_words key.now
-Asks words (Split command) = (words ≡ split_words (map string_bytes command.now)) × (map string_bytes command.now ≢ [])
+Asks words (Split command) =
+    (words ≡ split_words (map string_bytes command.now)) × (map string_bytes command.now ≢ [])
 
 -- why a request has no answer on a map
-abbrev pub IsNoAnswer : Request → Fault → Type 0
-IsNoAnswer (Node key) fault = fault ≡ Memory
-IsNoAnswer (Split command) fault = IsNoSplit (map string_bytes command.now) fault
+abbrev pub WhyNoAnswer : Request → Fault → Type 0
+WhyNoAnswer (Node key) fault = fault ≡ Memory
+WhyNoAnswer (Split command) fault = WhyNoSplit (map string_bytes command.now) fault

@@ -16,8 +16,10 @@ pub record BeginsOutput (words : List (List ℕ)) (input left text : List ℕ) :
   pub count : ℕ
   pub begins : text ≡ take count whole
 
--- the words and the input call for what is left, for what went to the two writers, and for the status
-pub record Answered (words : List (List ℕ)) (input left out_old out_new err_old err_new : Option (List ℕ)) (status : ℕ) : Type 0 where
+-- the words and the input call for what is left, for what went to the two writers, and for the
+-- status
+pub record HasOutput (words : List (List ℕ))
+    (input left out_old out_new err_old err_new : Option (List ℕ)) (status : ℕ) : Type 0 where
   pub outs : List ℕ
   pub errs : List ℕ
   pub written : Appends out_old out_new outs
@@ -39,19 +41,34 @@ IsTold tells text line = (text ≡ line) ⊎ (tells × ((k : ℕ) × (text ≡ t
 
 -- text is the fault's line, or in the place of a bad map line's the one that tells of memory
 abbrev pub TellsOf : Type 0 → List ℕ → Fault → Type 0
-TellsOf tells text fault = IsTold tells text (fault_line fault) ⊎ (IsBadMapLine fault × IsTold tells text (fault_line Memory))
+TellsOf tells text fault =
+    IsTold tells text (fault_line fault)
+    ⊎ (IsBadMapLine fault × IsTold tells text (fault_line Memory))
 
 -- what was written and read before a fault, and what calls for it
-abbrev pub Explains : List (List ℕ) → Option (List ℕ) → Option (List ℕ) → Option (List ℕ) → Option (List ℕ) → Fault → Type 0
-Explains words input left out_old out_new Usage = Appends out_old out_new [] × Leaves input left (λ bytes rest. Output words bytes rest [] usage_line 2)
-Explains words input left out_old out_new (BadMapLine number) = Appends out_old out_new [] × Leaves input left (λ bytes rest. Output words bytes rest [] (bad_map_line number) 2)
-Explains words input left out_old out_new NotMultiKey = Appends out_old out_new [] × Leaves input left (λ bytes rest. Output words bytes rest [] not_multi_key_line 2)
-Explains words input left out_old out_new Memory = Appends out_old out_new [] × IsRequest words × Leaves input left StopsInMap
-Explains words input left out_old out_new Input = Appends out_old out_new [] × IsRequest words × Leaves input left StopsInMap
-Explains words input left out_old out_new OutputFailed = (outs : List ℕ) × Appends out_old out_new outs × Leaves input left (λ bytes rest. BeginsOutput words bytes rest outs)
+abbrev pub Explains : List (List ℕ) → Option (List ℕ) → Option (List ℕ) → Option (List ℕ)
+    → Option (List ℕ) → Fault → Type 0
+Explains words input left out_old out_new Usage =
+    Appends out_old out_new []
+    × Leaves input left (λ bytes rest. Output words bytes rest [] usage_line 2)
+Explains words input left out_old out_new (BadMapLine number) =
+    Appends out_old out_new []
+    × Leaves input left (λ bytes rest. Output words bytes rest [] (bad_map_line number) 2)
+Explains words input left out_old out_new NotMultiKey =
+    Appends out_old out_new []
+    × Leaves input left (λ bytes rest. Output words bytes rest [] not_multi_key_line 2)
+Explains words input left out_old out_new Memory =
+    Appends out_old out_new [] × IsRequest words × Leaves input left StopsInMap
+Explains words input left out_old out_new Input =
+    Appends out_old out_new [] × IsRequest words × Leaves input left StopsInMap
+Explains words input left out_old out_new OutputFailed =
+    (outs : List ℕ) × Appends out_old out_new outs
+    × Leaves input left (λ bytes rest. BeginsOutput words bytes rest outs)
 
--- memory was refused or a stream failed, where calls that read, write or tell may fail: what was read and written till then, and what was told of it
-pub record Troubled (reads writes tells : Type 0) (words : List (List ℕ)) (input left out_old out_new err_old err_new : Option (List ℕ)) (status : ℕ) : Type 0 where
+-- memory was refused or a stream failed, where calls that read, write or tell may fail: what was
+-- read and written till then, and what was told of it
+pub record HasFault (reads writes tells : Type 0) (words : List (List ℕ))
+    (input left out_old out_new err_old err_new : Option (List ℕ)) (status : ℕ) : Type 0 where
   pub fault : Fault
   pub explained : Explains words input left out_old out_new fault
   pub caused : IsCaused reads writes fault
@@ -60,20 +77,27 @@ pub record Troubled (reads writes tells : Type 0) (words : List (List ℕ)) (inp
   pub text : TellsOf tells errs fault
   pub failed : status ≡ 2
 
-abbrev pub Serves : Type 0 → Type 0 → Type 0 → List (List ℕ) → Option (List ℕ) → Option (List ℕ) → Option (List ℕ) → Option (List ℕ) → Option (List ℕ) → Option (List ℕ) → ℕ → Type 0
+abbrev pub Serves : Type 0 → Type 0 → Type 0 → List (List ℕ) → Option (List ℕ) → Option (List ℕ)
+    → Option (List ℕ) → Option (List ℕ) → Option (List ℕ) → Option (List ℕ) → ℕ → Type 0
 Serves reads writes tells words input left out_old out_new err_old err_new status =
-    Answered words input left out_old out_new err_old err_new status ⊎ Troubled reads writes tells words input left out_old out_new err_old err_new status
+    HasOutput words input left out_old out_new err_old err_new status
+    ⊎ HasFault reads writes tells words input left out_old out_new err_old err_new status
 
 -- memory was refused, of which the whole line was told
-pub record RanOutOfMemory (out_old out_new err_old err_new : Option (List ℕ)) (status : ℕ) : Type 0 where
+pub record RanOutOfMemory (out_old out_new err_old err_new : Option (List ℕ)) (status : ℕ)
+    : Type 0 where
   pub written : Appends out_old out_new []
   pub told : Appends err_old err_new (fault_line Memory)
   pub failed : status ≡ 2
 
 -- an answer without a fault
-abbrev pub Answers : List (List ℕ) → Option (List ℕ) → Option (List ℕ) → Option (List ℕ) → Option (List ℕ) → ℕ → Type 0
-Answers words input left out_old out_new status = (outs : List ℕ) × Appends out_old out_new outs × Leaves input left (λ bytes rest. Output words bytes rest outs [] status)
+abbrev pub HasAnswer : List (List ℕ) → Option (List ℕ) → Option (List ℕ) → Option (List ℕ)
+    → Option (List ℕ) → ℕ → Type 0
+HasAnswer words input left out_old out_new status =
+    (outs : List ℕ) × Appends out_old out_new outs
+    × Leaves input left (λ bytes rest. Output words bytes rest outs [] status)
 
 -- the error stream grew by what tells of the fault
 abbrev pub Reports : Type 0 → Option (List ℕ) → Option (List ℕ) → Fault → Type 0
-Reports tells err_old err_new fault = (errs : List ℕ) × Appends err_old err_new errs × TellsOf tells errs fault
+Reports tells err_old err_new fault =
+    (errs : List ℕ) × Appends err_old err_new errs × TellsOf tells errs fault

@@ -20,7 +20,7 @@ abbrev pub split_routes : List (List ℕ) → Option (List (SlotRoute × List �
 split_routes words = multi_slot_routes only_reads (map Some words)
 
 -- what a line tells of a part: its slot, its node, if there is one, and its words
-pub record Part : Type 0 where
+pub record RoutedPart : Type 0 where
   pub slot : ℕ
   pub node : Option Address
   pub words : List (List ℕ)
@@ -31,29 +31,34 @@ node_text None = codes "none"
 node_text (Some address) = display_text address
 
 -- the line: the slot, the node, and the words, each after one space
-abbrev pub part_line : Part → List ℕ
+abbrev pub part_line : RoutedPart → List ℕ
 part_line part =
-    decimal part.slot ++ space ∷ node_text part.node ++ flat_map (λ word. space ∷ word) part.words ++ line_feed ∷ []
+    decimal part.slot ++ space ∷ node_text part.node
+    ++ flat_map (λ word. space ∷ word) part.words ++ line_feed ∷ []
 
--- the part of a command that a route is for, by the parts of slots, and the node of the route, which is none where no range answers for its slot
-pub record IsPart (entries : List (Entry SlotNodes)) (parts_by_slot : ℕ → Arguments) (route : SlotRoute) (part : Part) : Type 0 where
+-- the part of a command that a route is for, by the parts of slots, and the node of the route,
+-- which is none where no range answers for its slot
+pub record IsRoutedPart (entries : List (Entry SlotNodes)) (parts_by_slot : ℕ → Arguments)
+    (route : SlotRoute) (part : RoutedPart) : Type 0 where
   pub slot : part.slot ≡ route.slot
   pub node : MatchOption part.node (IsUncovered entries route.slot) (IsNodeOfRoute entries route 0)
   pub words : map Some part.words ≡ parts_by_slot route.slot
 
 -- 1 where a part has no node
-abbrev pub split_status : List Part → ℕ
+abbrev pub split_status : List RoutedPart → ℕ
 split_status parts = if list_any (λ part. is_none part.node) parts then 1 else 0
 
 -- the text has a line for the part of each route, in order
-pub record AreLines (entries : List (Entry SlotNodes)) (parts_by_slot : ℕ → Arguments) (routes : List (SlotRoute × List ℕ)) (text : List ℕ) (status : ℕ) : Type 0 where
-  pub parts : List Part
-  pub each : AllZip (λ route. IsPart entries parts_by_slot route.0) routes parts
+pub record ArePartLines (entries : List (Entry SlotNodes)) (parts_by_slot : ℕ → Arguments)
+    (routes : List (SlotRoute × List ℕ)) (text : List ℕ) (status : ℕ) : Type 0 where
+  pub parts : List RoutedPart
+  pub each : AllZip (λ route. IsRoutedPart entries parts_by_slot route.0) routes parts
   pub lines : text ≡ flat_map part_line parts
   pub ended : status ≡ split_status parts
 
 -- the lines and the status that answer for a command: one line for the part of each of its routes
-pub record IsSplitAnswer (entries : List (Entry SlotNodes)) (command : List (List ℕ)) (text : List ℕ) (status : ℕ) : Type 0 where
+pub record IsSplitAnswer (entries : List (Entry SlotNodes)) (command : List (List ℕ))
+    (text : List ℕ) (status : ℕ) : Type 0 where
   pub routes : List (SlotRoute × List ℕ)
   pub split : split_routes command ≡ Some routes
-  pub answered : AreLines entries (part_by_name (map Some command)) routes text status
+  pub answered : ArePartLines entries (part_by_name (map Some command)) routes text status

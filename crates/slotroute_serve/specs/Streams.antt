@@ -6,7 +6,8 @@ use Rattle.std.specs.declared.io.ErrorKind.TheVariants.{OutOfMemory}
 
 -- some read may fail, and not for lack of memory
 abbrev pub MayFailToRead : {S : Type 0} → (S → Error → Type 0) → Type 0
-MayFailToRead {S} fails = (at : S) × (error : Error) × fails at error × (error_kind error ≢ OutOfMemory)
+MayFailToRead {S} fails =
+    (at : S) × (error : Error) × fails at error × (error_kind error ≢ OutOfMemory)
 
 -- some write may fail
 abbrev pub MayFailToWrite : {S : Type 0} → (S → Error → Type 0) → Type 0

@@ -3,24 +3,24 @@ ghost use Rattle.std.specs.List.{AllZip};
 ghost use Rattle.std.specs.Io.BufRead.{DropsThrough, strip_last};
 ghost use Rattle.cluster_map.specs.Address.{Address};
 ghost use Rattle.cluster_map.specs.SlotNodes.{RangeNodes};
-ghost use Rattle.cluster_map.specs.Number.{number_in};
-ghost use Rattle.slotroute_serve.specs.Lines.{line_of, fields_of, leading, after_map, StopsInLine};
+ghost use Rattle.slotroute_serve.specs.Lines.{line_of, fields_of, leading_lines, after_map, StopsInLine};
 ghost use Rattle.slotroute_serve.specs.MapLines.{IsNodeField, IsMapLine, IsMap};
-ghost use Rattle.slotroute_serve.specs.Faults.{IsNoMap, IsCaused, IsLeftAt};
+ghost use Rattle.slotroute_serve.specs.Faults.{WhyNoMap, IsCaused, IsLeftAt};
 ghost use Rattle.slotroute_serve.specs.Streams.{MayFailToRead, Leaves};
 
 use crate::fault::Fault;
 use crate::streams::Source;
 use cluster_map::node_address::split_node_address;
 use cluster_map::{NodeAddress, SlotRange};
+use cluster_slots::parse_u16;
 use std::alloc::{AllocError, Global};
 use std::io;
 
 /// Reads the ranges of the leading lines, and the line with no field that ends them.
 pub fn read_map<S: Source>(alloc: Global, source: &mut S) -> Result<Vec<SlotRange>, Fault>
     ensures map { IfSome (S.remaining source.old) (λ input. MatchResult result
-        (λ ranges. IsMap (leading input) ranges.items)
-        (IsNoMap (leading input))) }
+        (λ ranges. IsMap (leading_lines input) ranges.items)
+        (WhyNoMap (leading_lines input))) }
     ensures cause { IfErr result (IsCaused (MayFailToRead S.fails) ⊥) }
     ensures rest { Leaves (S.remaining source.old) (S.remaining source.new) (λ input left.
         MatchResult result (λ _. left ≡ after_map input) (IsLeftAt input left)) }
@@ -42,10 +42,13 @@ pub fn read_map<S: Source>(alloc: Global, source: &mut S) -> Result<Vec<SlotRang
 
 /// Reads one line in place of what `line` held, or answers that the input is at its end.
 fn next_line<S: Source>(source: &mut S, line: &mut Vec<u8>) -> io::Result<bool>
-    ensures text { OnOk result (IfSome (S.remaining source.old) (λ input. line.new.items ≡ line_of input)) }
-    ensures there { IfOk result (λ there. IfSome (S.remaining source.old) (λ input. there ≡ nat_lt 0 (length input))) }
+    ensures text { OnOk result
+        (IfSome (S.remaining source.old) (λ input. line.new.items ≡ line_of input)) }
+    ensures there { IfOk result (λ there. IfSome (S.remaining source.old)
+        (λ input. there ≡ nat_lt 0 (length input))) }
     ensures rest { OnOk result (DropsThrough (S.remaining source.old) (S.remaining source.new) 10) }
-    ensures stops { OnErr result (Leaves (S.remaining source.old) (S.remaining source.new) StopsInLine) }
+    ensures stops { OnErr result
+        (Leaves (S.remaining source.old) (S.remaining source.new) StopsInLine) }
     ensures failed { IfErr result (S.fails source.old) }
 {
     line.clear();
@@ -62,7 +65,7 @@ fn strip(line: &mut Vec<u8>, byte: u8)
     ensures { line.new.items ≡ strip_last byte line.old.items }
 {
     if line.last() == Some(&byte) {
-        line.truncate(line.len() - 1);
+        line.pop();
     }
 }
 
@@ -83,7 +86,7 @@ fn map_line(alloc: Global, fields: &[&[u8]]) -> Result<Option<SlotRange>, AllocE
     let [start, end, primary, replicas @ ..] = fields else {
         return Ok(None);
     };
-    let (Some(start), Some(end)) = (number_of(start), number_of(end)) else {
+    let (Some(start), Some(end)) = (parse_u16(start), parse_u16(end)) else {
         return Ok(None);
     };
     let Some(primary) = node_of(alloc, primary)? else {
@@ -93,18 +96,6 @@ fn map_line(alloc: Global, fields: &[&[u8]]) -> Result<Option<SlotRange>, AllocE
         return Ok(None);
     };
     Ok(Some(SlotRange::new(start, end, primary, replicas)))
-}
-
-fn number_of(field: &[u8]) -> Option<u16>
-    ensures { result ≡ number_in 16 field.now }
-{
-    let Ok(text) = str::from_utf8(field) else {
-        return None;
-    };
-    match text.parse() {
-        Ok(number) => Some(number),
-        Err(_) => None,
-    }
 }
 
 fn node_of(alloc: Global, field: &[u8]) -> Result<Option<NodeAddress>, AllocError>
@@ -123,7 +114,8 @@ fn node_of(alloc: Global, field: &[u8]) -> Result<Option<NodeAddress>, AllocErro
 
 fn nodes_of(alloc: Global, fields: &[&[u8]]) -> Result<Option<Vec<NodeAddress>>, AllocError>
     ensures { IfOk result (λ nodes. MatchOption nodes
-        ((addresses : List Address) → ¬ (AllZip IsNodeField (map (λ field. field.now) fields.now) addresses))
+        ((addresses : List Address)
+        → ¬ (AllZip IsNodeField (map (λ field. field.now) fields.now) addresses))
         (λ nodes. AllZip IsNodeField (map (λ field. field.now) fields.now) nodes.items)) }
 {
     let mut nodes = Vec::with_capacity(alloc, fields.len())?;

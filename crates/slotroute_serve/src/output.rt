@@ -12,7 +12,8 @@ pub fn emit<W: Sink>(writer: &mut W, text: &[u8]) -> Result<(), Fault>
     ensures ok { OnOk result (Appends (W.contents writer.old) (W.contents writer.new) text.now) }
     ensures fault { IfErr result (λ fault. fault ≡ Fault.Output) }
     ensures failed { OnErr result (MayFailToWrite W.fails) }
-    ensures begun { OnErr result ((k : ℕ) × Appends (W.contents writer.old) (W.contents writer.new) (take k text.now)) }
+    ensures begun { OnErr result
+        ((k : ℕ) × Appends (W.contents writer.old) (W.contents writer.new) (take k text.now)) }
 {
     put(writer, text).map_err(|_| Fault::Output)
 }
@@ -21,7 +22,8 @@ pub fn emit<W: Sink>(writer: &mut W, text: &[u8]) -> Result<(), Fault>
 fn put<W: Sink>(writer: &mut W, text: &[u8]) -> io::Result<()>
     ensures ok { OnOk result (Appends (W.contents writer.old) (W.contents writer.new) text.now) }
     ensures failed { OnErr result (MayFailToWrite W.fails) }
-    ensures begun { OnErr result ((k : ℕ) × Appends (W.contents writer.old) (W.contents writer.new) (take k text.now)) }
+    ensures begun { OnErr result
+        ((k : ℕ) × Appends (W.contents writer.old) (W.contents writer.new) (take k text.now)) }
 {
     let mut done = 0;
     while done < text.len() {

@@ -2,8 +2,8 @@ ghost use Rattle.std.specs.Prelude.{◌≡◌, ◌⊎◌, ℕ, List, ⊤, map, s
 ghost use Rattle.std.specs.Cow.{cow_str_bytes};
 ghost use Rattle.slotroute_serve.specs.Output.{IsRequest, IsAnswer, IsNodeAnswer};
 ghost use Rattle.slotroute_serve.specs.Faults.{fault_line, IsCaused};
-ghost use Rattle.slotroute_serve.specs.Requests.{Asks, IsNoAnswer};
-ghost use Rattle.slotroute_serve.specs.Serves.{Serves, Answered, RanOutOfMemory, Answers, Explains, Reports, IsBadMapLine};
+ghost use Rattle.slotroute_serve.specs.Requests.{Asks, WhyNoAnswer};
+ghost use Rattle.slotroute_serve.specs.Serves.{Serves, HasOutput, RanOutOfMemory, HasAnswer, Explains, Reports, IsBadMapLine};
 ghost use Rattle.slotroute_serve.specs.Streams.{MayFailToRead, MayFailToWrite};
 
 use crate::fault::Fault;
@@ -48,13 +48,16 @@ pub fn serve_streams<R: Source, O: Sink, E: Sink>(
     out: &mut O,
     err: &mut E,
 ) -> u8
-    ensures served { Serves (MayFailToRead R.fails) (MayFailToWrite O.fails) (MayFailToWrite E.fails)
-        (map string_bytes words.now) (R.remaining reader.old) (R.remaining reader.new)
+    ensures served { Serves (MayFailToRead R.fails) (MayFailToWrite O.fails)
+        (MayFailToWrite E.fails) (map string_bytes words.now)
+        (R.remaining reader.old) (R.remaining reader.new)
         (O.contents out.old) (O.contents out.new) (E.contents err.old) (E.contents err.new) result }
-    ensures steady { ¬ (MayFailToRead R.fails) → ¬ (MayFailToWrite O.fails) → ¬ (MayFailToWrite E.fails)
-        → Answered (map string_bytes words.now) (R.remaining reader.old) (R.remaining reader.new)
+    ensures steady { ¬ (MayFailToRead R.fails) → ¬ (MayFailToWrite O.fails)
+        → ¬ (MayFailToWrite E.fails)
+        → HasOutput (map string_bytes words.now) (R.remaining reader.old) (R.remaining reader.new)
         (O.contents out.old) (O.contents out.new) (E.contents err.old) (E.contents err.new) result
-        ⊎ RanOutOfMemory (O.contents out.old) (O.contents out.new) (E.contents err.old) (E.contents err.new) result }
+        ⊎ RanOutOfMemory (O.contents out.old) (O.contents out.new) (E.contents err.old)
+        (E.contents err.new) result }
     ensures untouched { ¬ (IsRequest (map string_bytes words.now)) → reader.new ≡ reader.old }
 {
     match run(alloc, words, reader, out) {
@@ -73,7 +76,7 @@ fn run<R: Source, O: Sink>(
     out: &mut O,
 ) -> Result<u8, Fault>
     ensures answer { MatchResult result
-        (Answers (map string_bytes words.now) (R.remaining reader.old) (R.remaining reader.new)
+        (HasAnswer (map string_bytes words.now) (R.remaining reader.old) (R.remaining reader.new)
         (O.contents out.old) (O.contents out.new))
         (Explains (map string_bytes words.now) (R.remaining reader.old) (R.remaining reader.new)
         (O.contents out.old) (O.contents out.new)) }
@@ -93,8 +96,9 @@ fn run<R: Source, O: Sink>(
 /// The text and the status that answer for a request.
 fn answer(alloc: Global, map: &SlotMap, request: &Request) -> Result<(Vec<u8>, u8), Fault>
     ensures { MatchResult result
-        (λ answer. (words : List (List ℕ)) → Asks words request.now → IsAnswer map.now words answer.0.items answer.1)
-        (IsNoAnswer request.now) }
+        (λ answer. (words : List (List ℕ)) → Asks words request.now
+        → IsAnswer map.now words answer.0.items answer.1)
+        (WhyNoAnswer request.now) }
 {
     match request {
         Request::Node(key) => {
@@ -107,7 +111,8 @@ fn answer(alloc: Global, map: &SlotMap, request: &Request) -> Result<(Vec<u8>, u
 
 /// The line and the status that answer for a key.
 fn node_answer(alloc: Global, map: &SlotMap, key: &[u8]) -> Result<(String, u8), AllocError>
-    ensures { IfOk result (λ answer. IsNodeAnswer map.now key.now (string_bytes answer.0) answer.1) }
+    ensures { IfOk result (λ answer. IsNodeAnswer map.now key.now (string_bytes answer.0)
+        answer.1) }
 {
     let route = Route::with_key(key, SlotAddr::Master);
     let slot = route.slot();

@@ -2,9 +2,9 @@ ghost use Rattle.std.specs.Prelude.{◌≡◌, ℕ, List, Some, ◌∷◌, ◌++
 ghost use Rattle.std.specs.List.{flat_map};
 ghost use Rattle.redis_cluster.specs.ReadOnly.{is_among};
 ghost use Rattle.redis_cluster.specs.Split.{split_part};
-ghost use Rattle.slotroute_serve.specs.Faults.{IsNoSplit};
+ghost use Rattle.slotroute_serve.specs.Faults.{WhyNoSplit};
 ghost use Rattle.slotroute_serve.specs.Lines.{space};
-ghost use Rattle.slotroute_serve.specs.Split.{only_reads, part_line, AreLines, IsSplitAnswer};
+ghost use Rattle.slotroute_serve.specs.Split.{only_reads, part_line, ArePartLines, IsSplitAnswer};
 
 use crate::fault::Fault;
 use cluster_map::{NodeAddress, SlotMap};
@@ -20,7 +20,7 @@ pub fn split_answer(
 ) -> Result<(Vec<u8>, u8), Fault>
     ensures { MatchResult result
         (λ answer. IsSplitAnswer slot_map.now (map string_bytes words.now) answer.0.items answer.1)
-        (IsNoSplit (map string_bytes words.now)) }
+        (WhyNoSplit (map string_bytes words.now)) }
 {
     let command = command_of(alloc, words)?;
     let read_only = read_only_names(alloc)?;
@@ -57,7 +57,8 @@ fn lines_of(
     slot_map: &SlotMap,
     split: &SplitCommand<Cmd>,
 ) -> Result<(Vec<u8>, u8), AllocError>
-    ensures { IfOk result (λ answer. AreLines slot_map.now (split_part split.now) split.now.routes answer.0.items answer.1) }
+    ensures { IfOk result (λ answer. ArePartLines slot_map.now (split_part split.now)
+        split.now.routes answer.0.items answer.1) }
 {
     let mut lines = Vec::new(alloc);
     let mut status = 0;
@@ -80,7 +81,8 @@ fn line_of(
     node: Option<&NodeAddress>,
     part: &Cmd,
 ) -> Result<Vec<u8>, AllocError>
-    ensures { IfOk result (λ line. line.items ≡ part_line record { slot = slot; node = option_copied node.entry; words = part.now }) }
+    ensures { IfOk result (λ line. line.items
+        ≡ part_line record { slot = slot; node = option_copied node.entry; words = part.now }) }
 {
     let place = match node {
         Some(node) => format!(in alloc; "{slot} {node}")?,
@@ -94,7 +96,8 @@ fn line_of(
 
 /// Adds the words at the end, each after a space.
 fn push_words(line: &mut Vec<u8>, words: &Cmd) -> Result<(), AllocError>
-    ensures { OnOk result (line.new.items ≡ line.old.items ++ flat_map (λ word. space ∷ word) words.now) }
+    ensures { OnOk result
+        (line.new.items ≡ line.old.items ++ flat_map (λ word. space ∷ word) words.now) }
 {
     for word in words.args() {
         line.push(b' ')?;

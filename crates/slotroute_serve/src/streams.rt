@@ -24,7 +24,8 @@ pub trait Source {
             (λ input. line.new.items ≡ line.old.items ++ take_through 10 input)) }
         ensures rest { OnOk result (DropsThrough (remaining self.old) (remaining self.new) 10) }
         ensures end { IfOk result (λ n. n ≡ 0 → IsAtEnd (remaining self.old)) }
-        ensures stops { OnErr result (Leaves (remaining self.old) (remaining self.new) StopsInLine) }
+        ensures stops { OnErr result
+            (Leaves (remaining self.old) (remaining self.new) StopsInLine) }
         ensures failed { IfErr result (fails self.old) };
 }
 

@@ -35,7 +35,8 @@ pub fn two_nodes(alloc: Global) -> RedisResult<SlotMap> {
 pub fn primary_of<'a>(map: &'a SlotMap, key: &[u8]) -> Option<&'a NodeAddress>
     ensures { MatchOption result
         (IsUncovered map.now (key_slot key.now))
-        (λ node. IsNodeOfRoute map.now (record { slot = key_slot key.now; addr = Master }) 0 node.now) }
+        (λ node. IsNodeOfRoute map.now (record { slot = key_slot key.now; addr = Master }) 0
+        node.now) }
 {
     map.slot_addr_for_route(Route::with_key(key, SlotAddr::Master), None, 0)
 }
@@ -57,7 +58,8 @@ pub fn where_to_read(
 pub fn deleted(replies: Vec<Value>) -> RedisResult<Value>
     ensures { MatchResult result
         (λ count. aggregate_of Sum (map view replies.items) ≡ Some (view count))
-        (λ error. (aggregate_of Sum (map view replies.items) ≡ None) × (error.kind ≡ UnexpectedReturnType)) }
+        (λ error. (aggregate_of Sum (map view replies.items) ≡ None)
+        × (error.kind ≡ UnexpectedReturnType)) }
 {
     aggregate(replies, AggregateOp::Sum)
 }

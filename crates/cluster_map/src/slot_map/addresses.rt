@@ -54,7 +54,8 @@ pub(crate) fn insert_all<'a>(
     seen: &mut IndexSet<&'a NodeAddress>,
     addrs: &'a SlotAddrs,
 ) -> Result<(), AllocError>
-    ensures { OnOk result ((before : List Address) → targets seen.old.keys ≡ each_once before → targets seen.new.keys ≡ each_once (before ++ nodes_in addrs.now)) }
+    ensures { OnOk result ((before : List Address) → targets seen.old.keys ≡ each_once before
+        → targets seen.new.keys ≡ each_once (before ++ nodes_in addrs.now)) }
 {
     for address in addrs {
         seen.insert(address)?;
@@ -69,9 +70,5 @@ pub(crate) fn members<'a>(
 ) -> Result<Vec<&'a NodeAddress>, AllocError>
     ensures { IfOk result (λ found. found.items ≡ seen.now.keys) }
 {
-    let mut found = Vec::new(alloc);
-    for address in seen.iter() {
-        found.push(*address)?;
-    }
-    Ok(found)
+    seen.iter().copied().collect(alloc)
 }

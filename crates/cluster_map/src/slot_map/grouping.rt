@@ -39,7 +39,8 @@ fn add_range<'a>(
 ) -> Result<(), AllocError>
     requires { targets seen.old.keys ≡ map primary_of shards.old.items }
     ensures keys { OnOk result (targets seen.new.keys ≡ map primary_of shards.new.items) }
-    ensures shards { OnOk result ((es : List (Entry SlotNodes)) → shards.old.items ≡ shards_of es → shards.new.items ≡ shards_of (es ++ (start, end, addrs.now) ∷ [])) }
+    ensures shards { OnOk result ((es : List (Entry SlotNodes)) → shards.old.items ≡ shards_of es
+        → shards.new.items ≡ shards_of (es ++ (start, end, addrs.now) ∷ [])) }
 {
     let (place, is_new) = seen.insert_full(addrs.primary())?;
     if is_new {

@@ -83,7 +83,11 @@ impl<'a> ReadCandidates<'a> {
 
     /// Candidates of a read that the primary may answer too.
     pub fn any_node(slot: u16, primary: &'a NodeAddress, replicas: Replicas<'a>) -> Self
-        ensures { candidates_of result ≡ record { slot = slot; primary = Some primary.now; replicas = addresses_of replicas.entry } }
+        ensures { candidates_of result ≡ record {
+          slot = slot;
+          primary = Some primary.now;
+          replicas = addresses_of replicas.entry;
+        } }
     {
         ReadCandidates::AnyNode(AnyNodeCandidates {
             slot,
@@ -94,7 +98,8 @@ impl<'a> ReadCandidates<'a> {
 
     /// Candidates of a read that a replica must answer.
     pub fn replicas_only(slot: u16, replicas: Replicas<'a>) -> Self
-        ensures { candidates_of result ≡ record { slot = slot; primary = None; replicas = addresses_of replicas.entry } }
+        ensures { candidates_of result
+            ≡ record { slot = slot; primary = None; replicas = addresses_of replicas.entry } }
     {
         ReadCandidates::ReplicasOnly(ReplicasOnlyCandidates { slot, replicas })
     }

@@ -1,7 +1,7 @@
 ghost use Rattle.std.specs.Prelude.{◌≡◌, map, IfOk, OnOk, MatchOption};
 ghost use Rattle.slot_ranges.specs.RangeMap.{Ascends, IsUncovered};
 ghost use Rattle.read_strategies.specs.ShardsToGive.{shards_to_give};
-ghost use Rattle.read_strategies.specs.Topology.{inserted, placed, topology_of, places_left, shards_left, IsShardAt};
+ghost use Rattle.read_strategies.specs.Topology.{insert_entries, place_entry, topology_of, places_left, shards_left, IsShardAt};
 
 use crate::read_routing::shard::Shard;
 use crate::read_routing::shards::Shards;
@@ -35,8 +35,8 @@ impl Model for ClusterTopology {
 }
 
 impl ClusterTopology {
-    /// The topology of these shards. Their ranges are put in, one after the other: a range takes the
-    /// place of an earlier one that has the same end.
+    /// The topology of these shards. Their ranges are put in, one after the other: a range takes
+    /// the place of an earlier one that has the same end.
     pub fn from_shards(alloc: Global, shards: Vec<Shard>) -> Result<Self, AllocError>
         ensures put { IfOk result (λ topology. topology ≡ topology_of shards.items) }
     {
@@ -55,7 +55,8 @@ impl ClusterTopology {
 
     /// The shard that serves the slot, where a range answers for it. O(log n).
     pub fn shard_for_slot(&self, slot: u16) -> Option<&Shard>
-        ensures shard { MatchOption result (IsUncovered self.now.ranges slot) (λ shard. IsShardAt self.now slot shard.now) }
+        ensures shard { MatchOption result (IsUncovered self.now.ranges slot)
+            (λ shard. IsShardAt self.now slot shard.now) }
         ensures order { Ascends self.now.ranges }
     {
         let place = self.ranges.get(slot)?;
@@ -103,7 +104,8 @@ fn insert_ranges(
     shard_ranges: &[(u16, u16)],
     place: usize,
 ) -> Result<(), AllocError>
-    ensures { OnOk result (ranges.new ≡ inserted ranges.old (map (placed place) shard_ranges.now)) }
+    ensures { OnOk result
+        (ranges.new ≡ insert_entries ranges.old (map (place_entry place) shard_ranges.now)) }
 {
     for range in shard_ranges {
         ranges.insert(range.0, range.1, place)?;

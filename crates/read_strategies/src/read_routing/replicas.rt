@@ -52,7 +52,8 @@ impl<'a> Replicas<'a> {
 
     /// The replica at `pick` modulo their number, for a `pick` that the caller draws.
     pub fn choose_random(&self, pick: usize) -> &'a NodeAddress
-        ensures { slice_get (addresses_of self.now) (pick % length (addresses_of self.now)) ≡ Some result.now }
+        ensures { slice_get (addresses_of self.now) (pick % length (addresses_of self.now))
+            ≡ Some result.now }
     {
         &self.nodes[pick % self.len()]
     }

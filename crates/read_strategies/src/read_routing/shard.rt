@@ -18,13 +18,18 @@ impl Model for Shard {
 
     ghost Value = { ShardNodes };
 
-    ghost view = { λ s. record { ranges = s.ranges.items; primary = s.primary; replicas = s.replicas.items } };
+    ghost view = { λ s. record {
+      ranges = s.ranges.items;
+      primary = s.primary;
+      replicas = s.replicas.items;
+    } };
 }
 
 impl Shard {
     /// A shard of these ranges, both ends of each included, and these nodes.
     pub fn new(ranges: Vec<(u16, u16)>, primary: NodeAddress, replicas: Vec<NodeAddress>) -> Self
-        ensures { result ≡ record { ranges = ranges.items; primary = primary; replicas = replicas.items } }
+        ensures { result
+            ≡ record { ranges = ranges.items; primary = primary; replicas = replicas.items } }
     {
         Shard {
             ranges,
@@ -61,7 +66,11 @@ impl Shard {
     /// If memory runs out, the shard stays as it was.
     pub fn push_range(&mut self, start: u16, end: u16) -> Result<(), AllocError>
         ensures unchanged { OnErr result (self.new ≡ self.old) }
-        ensures added { OnOk result (self.new ≡ record { ranges = self.old.ranges ++ (start, end) ∷ []; primary = self.old.primary; replicas = self.old.replicas }) }
+        ensures added { OnOk result (self.new ≡ record {
+          ranges = self.old.ranges ++ (start, end) ∷ [];
+          primary = self.old.primary;
+          replicas = self.old.replicas;
+        }) }
     {
         self.ranges.push((start, end))?;
         Ok(())
@@ -75,7 +84,11 @@ impl Shard {
         primary: &NodeAddress,
         replicas: &Vec<NodeAddress>,
     ) -> Result<Self, AllocError>
-        ensures { IfOk result (λ s. s ≡ record { ranges = (start, end) ∷ []; primary = primary.now; replicas = replicas.now.items }) }
+        ensures { IfOk result (λ s. s ≡ record {
+          ranges = (start, end) ∷ [];
+          primary = primary.now;
+          replicas = replicas.now.items;
+        }) }
     {
         let mut ranges = Vec::new(alloc);
         ranges.push((start, end))?;

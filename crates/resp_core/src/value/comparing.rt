@@ -45,9 +45,12 @@ fn add_inside<'a>(
     a: &'a Value,
     b: &'a Value,
 ) -> Result<bool, AllocError>
-    ensures same { IfOk result (λ alike. IsTrue alike → AreSame waiting.new.items ↔ (AreSame waiting.old.items × (view a.now ≡ view b.now))) }
+    ensures same { IfOk result (λ alike. IsTrue alike
+        → AreSame waiting.new.items ↔ (AreSame waiting.old.items × (view a.now ≡ view b.now))) }
     ensures different { IfOk result (λ alike. IsFalse alike → ¬ (view a.now ≡ view b.now)) }
-    ensures fewer { IfOk result (λ alike. IsTrue alike → steps_waiting waiting.new.items < steps_waiting waiting.old.items + steps_in (view a.now)) }
+    ensures fewer { IfOk result (λ alike. IsTrue alike
+        → steps_waiting waiting.new.items
+        < steps_waiting waiting.old.items + steps_in (view a.now)) }
 {
     match (a, b) {
         (Value::Array(xs), Value::Array(ys)) => add_items(waiting, xs, ys),
@@ -61,9 +64,14 @@ fn add_items<'a>(
     xs: &'a [Value],
     ys: &'a [Value],
 ) -> Result<bool, AllocError>
-    ensures same { IfOk result (λ alike. IsTrue alike → AreSame waiting.new.items ↔ (AreSame waiting.old.items × (map view xs.now ≡ map view ys.now))) }
-    ensures different { IfOk result (λ alike. IsFalse alike → ¬ (map view xs.now ≡ map view ys.now)) }
-    ensures fewer { IfOk result (λ alike. IsTrue alike → steps_waiting waiting.new.items ≤ steps_waiting waiting.old.items + steps_in_items (replies_of (map view xs.now))) }
+    ensures same { IfOk result (λ alike. IsTrue alike
+        → AreSame waiting.new.items
+        ↔ (AreSame waiting.old.items × (map view xs.now ≡ map view ys.now))) }
+    ensures different { IfOk result (λ alike. IsFalse alike
+        → ¬ (map view xs.now ≡ map view ys.now)) }
+    ensures fewer { IfOk result (λ alike. IsTrue alike
+        → steps_waiting waiting.new.items
+        ≤ steps_waiting waiting.old.items + steps_in_items (replies_of (map view xs.now))) }
 {
     if xs.len() != ys.len() {
         return Ok(false);
@@ -81,9 +89,14 @@ fn add_pairs<'a>(
     xs: &'a [(Value, Value)],
     ys: &'a [(Value, Value)],
 ) -> Result<bool, AllocError>
-    ensures same { IfOk result (λ alike. IsTrue alike → AreSame waiting.new.items ↔ (AreSame waiting.old.items × (map view_pair xs.now ≡ map view_pair ys.now))) }
-    ensures different { IfOk result (λ alike. IsFalse alike → ¬ (map view_pair xs.now ≡ map view_pair ys.now)) }
-    ensures fewer { IfOk result (λ alike. IsTrue alike → steps_waiting waiting.new.items ≤ steps_waiting waiting.old.items + steps_in_pairs (pairs_of (map view_pair xs.now))) }
+    ensures same { IfOk result (λ alike. IsTrue alike
+        → AreSame waiting.new.items
+        ↔ (AreSame waiting.old.items × (map view_pair xs.now ≡ map view_pair ys.now))) }
+    ensures different { IfOk result (λ alike. IsFalse alike
+        → ¬ (map view_pair xs.now ≡ map view_pair ys.now)) }
+    ensures fewer { IfOk result (λ alike. IsTrue alike
+        → steps_waiting waiting.new.items
+        ≤ steps_waiting waiting.old.items + steps_in_pairs (pairs_of (map view_pair xs.now))) }
 {
     if xs.len() != ys.len() {
         return Ok(false);
@@ -102,9 +115,12 @@ fn add<'a>(
     a: &'a Value,
     b: &'a Value,
 ) -> Result<bool, AllocError>
-    ensures same { IfOk result (λ alike. IsTrue alike → AreSame waiting.new.items ↔ (AreSame waiting.old.items × (view a.now ≡ view b.now))) }
+    ensures same { IfOk result (λ alike. IsTrue alike
+        → AreSame waiting.new.items ↔ (AreSame waiting.old.items × (view a.now ≡ view b.now))) }
     ensures different { IfOk result (λ alike. IsFalse alike → ¬ (view a.now ≡ view b.now)) }
-    ensures fewer { IfOk result (λ alike. IsTrue alike → steps_waiting waiting.new.items ≤ steps_waiting waiting.old.items + steps_in_value (view a.now)) }
+    ensures fewer { IfOk result (λ alike. IsTrue alike
+        → steps_waiting waiting.new.items
+        ≤ steps_waiting waiting.old.items + steps_in_value (view a.now)) }
 {
     match (a, b) {
         (Value::Array(_), Value::Array(_)) | (Value::Map(_), Value::Map(_)) => {

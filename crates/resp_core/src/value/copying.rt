@@ -1,5 +1,5 @@
-//! Copying values without recursion: the values in a value are put in order, each before those inside
-//! it, and the copies are made from the last to the first.
+//! Copying values without recursion: the values in a value are put in order, each before those
+//! inside it, and the copies are made from the last to the first.
 ghost use Rattle.std.specs.Prelude.{◌≡◌, ◌++◌, [], IfOk, OnOk, List, map, reverse};
 ghost use Rattle.resp_core.specs.View.{view, view_pair};
 ghost use Rattle.resp_core.specs.Reply.{Reply, pairs_of};
@@ -39,7 +39,8 @@ pub(super) fn copy_flat(value: &Value) -> Result<Value, AllocError>
 
 /// A value and all values in it, each before those inside it.
 fn in_order(alloc: Global, value: &Value) -> Result<Vec<&Value>, AllocError>
-    ensures { IfOk result (λ order. IsWalk (view value.now) (reverse (map (λ v. view v.now) order.items)) []) }
+    ensures { IfOk result (λ order. IsWalk (view value.now)
+        (reverse (map (λ v. view v.now) order.items)) []) }
 {
     let mut order = Vec::new(alloc);
     let mut waiting = Vec::new(alloc);
@@ -52,7 +53,8 @@ fn in_order(alloc: Global, value: &Value) -> Result<Vec<&Value>, AllocError>
 }
 
 fn add_inside<'a>(waiting: &mut Vec<&'a Value>, value: &'a Value) -> Result<(), AllocError>
-    ensures { OnOk result (map (λ v. view v.now) waiting.new.items ≡ map (λ v. view v.now) waiting.old.items ++ inside (view value.now)) }
+    ensures { OnOk result (map (λ v. view v.now) waiting.new.items
+        ≡ map (λ v. view v.now) waiting.old.items ++ inside (view value.now)) }
 {
     match value {
         Value::Array(items) => add_items(waiting, items),
@@ -63,7 +65,8 @@ fn add_inside<'a>(waiting: &mut Vec<&'a Value>, value: &'a Value) -> Result<(), 
 }
 
 fn add_items<'a>(waiting: &mut Vec<&'a Value>, items: &'a Vec<Value>) -> Result<(), AllocError>
-    ensures { OnOk result (map (λ v. view v.now) waiting.new.items ≡ map (λ v. view v.now) waiting.old.items ++ map view items.now.items) }
+    ensures { OnOk result (map (λ v. view v.now) waiting.new.items
+        ≡ map (λ v. view v.now) waiting.old.items ++ map view items.now.items) }
 {
     for item in items {
         waiting.push(item)?;
@@ -75,7 +78,9 @@ fn add_pairs<'a>(
     waiting: &mut Vec<&'a Value>,
     items: &'a Vec<(Value, Value)>,
 ) -> Result<(), AllocError>
-    ensures { OnOk result (map (λ v. view v.now) waiting.new.items ≡ map (λ v. view v.now) waiting.old.items ++ inside_pairs (pairs_of (map view_pair items.now.items))) }
+    ensures { OnOk result (map (λ v. view v.now) waiting.new.items
+        ≡ map (λ v. view v.now) waiting.old.items
+        ++ inside_pairs (pairs_of (map view_pair items.now.items))) }
 {
     let mut left = items.len();
     while left > 0 {
@@ -91,7 +96,9 @@ fn add_pairs<'a>(
 fn copy_over(value: &Value, copies: &mut Vec<Value>) -> Result<Value, AllocError>
     requires { EndsWith (inside (view value.now)) (map view copies.old.items) }
     ensures copied { IfOk result (λ copy. view copy ≡ view value.now) }
-    ensures rest { OnOk result ((rest : List Reply) → map view copies.old.items ≡ rest ++ inside (view value.now) → map view copies.new.items ≡ rest) }
+    ensures rest { OnOk result ((rest : List Reply)
+        → map view copies.old.items ≡ rest ++ inside (view value.now)
+        → map view copies.new.items ≡ rest) }
 {
     match value {
         Value::Array(items) => {
@@ -109,9 +116,14 @@ fn take_pairs(
     items: &Vec<(Value, Value)>,
     copies: &mut Vec<Value>,
 ) -> Result<Vec<(Value, Value)>, AllocError>
-    requires { EndsWith (inside_pairs (pairs_of (map view_pair items.now.items))) (map view copies.old.items) }
-    ensures copied { IfOk result (λ pairs. map view_pair pairs.items ≡ map view_pair items.now.items) }
-    ensures rest { OnOk result ((rest : List Reply) → map view copies.old.items ≡ rest ++ inside_pairs (pairs_of (map view_pair items.now.items)) → map view copies.new.items ≡ rest) }
+    requires { EndsWith (inside_pairs (pairs_of (map view_pair items.now.items)))
+        (map view copies.old.items) }
+    ensures copied { IfOk result (λ pairs. map view_pair pairs.items
+        ≡ map view_pair items.now.items) }
+    ensures rest { OnOk result ((rest : List Reply)
+        → map view copies.old.items
+        ≡ rest ++ inside_pairs (pairs_of (map view_pair items.now.items))
+        → map view copies.new.items ≡ rest) }
 {
     let mut pairs = Vec::with_capacity(*items.allocator(), items.len())?;
     for _item in items {

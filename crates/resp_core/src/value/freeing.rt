@@ -31,9 +31,12 @@ impl Value {
         }
     }
 
-    /// The first value inside, and the rest with `above` in its place. Where there is none, `above`.
+    /// The first value inside, and the rest with `above` in its place. Where there is none,
+    /// `above`.
     fn into_first(self, above: Value) -> (Option<Value>, Value)
-        ensures smaller { IfSome result.0 (λ first. steps_in (view first) + steps_above (view result.1) < steps_in (view self) + steps_above (view above)) }
+        ensures smaller { IfSome result.0 (λ first. steps_in (view first)
+            + steps_above (view result.1)
+            < steps_in (view self) + steps_above (view above)) }
         ensures flat { IfNone result.0 (result.1 ≡ above) }
     {
         match self {
@@ -63,7 +66,8 @@ impl Value {
 
     /// Of what is above: the next value, and what is then above. `None` at the top.
     fn into_next(self) -> Option<(Value, Value)>
-        ensures { IfSome result (λ next. steps_in (view next.0) + steps_above (view next.1) ≤ steps_above (view self)) }
+        ensures { IfSome result (λ next. steps_in (view next.0) + steps_above (view next.1)
+            ≤ steps_above (view self)) }
     {
         match self {
             Value::Array(items) => next_item(items),
@@ -95,7 +99,8 @@ impl Value {
     fn or_key(self, key: Value, mut items: Vec<(Value, Value)>) -> (Value, Value)
         requires room { vec_len items < vec_capacity items }
         requires not_empty { 0 < vec_len items }
-        ensures { steps_in (view result.0) + steps_above (view result.1) ≤ steps_above (pairs (pairs_of (map view_pair (items.items ++ (key, self) ∷ [])))) }
+        ensures { steps_in (view result.0) + steps_above (view result.1)
+            ≤ steps_above (pairs (pairs_of (map view_pair (items.items ++ (key, self) ∷ [])))) }
     {
         match self {
             Value::Nil => (key, Value::Map(items)),
@@ -108,7 +113,8 @@ impl Value {
 }
 
 fn next_item(mut items: Vec<Value>) -> Option<(Value, Value)>
-    ensures { IfSome result (λ next. steps_in (view next.0) + steps_above (view next.1) ≤ steps_above (array (replies_of (map view items.items)))) }
+    ensures { IfSome result (λ next. steps_in (view next.0) + steps_above (view next.1)
+        ≤ steps_above (array (replies_of (map view items.items)))) }
 {
     while let Some(last) = items.pop() {
         if items.is_empty() {
@@ -124,7 +130,8 @@ fn next_item(mut items: Vec<Value>) -> Option<(Value, Value)>
 }
 
 fn next_in_pairs(mut items: Vec<(Value, Value)>) -> Option<(Value, Value)>
-    ensures { IfSome result (λ next. steps_in (view next.0) + steps_above (view next.1) ≤ steps_above (pairs (pairs_of (map view_pair items.items)))) }
+    ensures { IfSome result (λ next. steps_in (view next.0) + steps_above (view next.1)
+        ≤ steps_above (pairs (pairs_of (map view_pair items.items)))) }
 {
     let Some((key, value)) = items.pop() else {
         items.destroy_empty();

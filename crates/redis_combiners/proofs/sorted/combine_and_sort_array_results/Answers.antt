@@ -4,7 +4,7 @@ use Rattle.resp_core.specs.Reply.{Reply}
 use Rattle.resp_core.specs.View.{view}
 use Rattle.redis_combiners.specs.KeyPlaces.{all_places}
 use Rattle.redis_combiners.specs.SortedArrays.{array_or_refusal, sorted_arrays}
-use Rattle.redis_combiners.proofs.AtPlaces.{at_places}
+use Rattle.redis_combiners.proofs.AtPlaces.{items_stand_at_places}
 use Rattle.redis_combiners.proofs.Combining.{LastStep, places_of_lists, last_step}
 use Rattle.redis_combiners.proofs.sorted.combine_and_sort_array_results.Goals as goal
 
@@ -37,4 +37,4 @@ returns-clause-at_place c =
     let some = rw c.in-Some-2.is at c.in_ok-sorted.ensures in
     let sorted = rw c.deref-2.ensures.value at some in
     let whole : sorted_arrays c.args.pattern.now rs lists ≡ Ok (view c.as_array.result) = k.is ∙ ap (array_or_refusal None) (sym sorted) ∙ ap Ok (sym c.as_array.ensures) in
-    at_places c.args.pattern.now rs lists (view c.as_array.result) whole
+    items_stand_at_places c.args.pattern.now rs lists (view c.as_array.result) whole

@@ -1,6 +1,6 @@
 use Rattle.std.proofs.Common.{option_copied, ◌∙◌, sym, ap, ◌≡◌, cond, is_none}
 use Rattle.redis_cluster.specs.Split.{split_part}
-use Rattle.slotroute_serve.specs.Split.{Part, IsPart}
+use Rattle.slotroute_serve.specs.Split.{RoutedPart, IsRoutedPart}
 use Rattle.slotroute_serve.proofs.Splitting.{node_is, none_is, words_of_part, one_more}
 use Rattle.slotroute_serve.proofs.split.lines_of.Goals.{then-is_none, else-is_none}
 use Rattle.slotroute_serve.proofs.split.lines_of.Goals as goal
@@ -11,8 +11,8 @@ loop-number-preserved c =
     let routes = c.routes-routes.result.now in
     let route = c.index-routes-number.result in
     let i = c.loop-number.number in
-    let part : Part = record { slot = c.slot.result; node = option_copied c.slot_addr_for_route-node.result; words = c.in_ok-part.part } in
-    let is_part : IsPart c.args.slot_map.now (split_part split) route.0 part = record {
+    let part : RoutedPart = record { slot = c.slot.result; node = option_copied c.slot_addr_for_route-node.result; words = c.in_ok-part.part } in
+    let is_part : IsRoutedPart c.args.slot_map.now (split_part split) route.0 part = record {
       slot = c.slot.ensures;
       node = node_is _ _ c.slot_addr_for_route-node.result c.slot_addr_for_route-node.ensures.node;
       words = words_of_part split routes i route c.in_ok-part.part c.routes-routes.ensures.routes c.loop-number-test.true c.index-routes-number.is c.in_ok-part.ensures;

@@ -5,7 +5,7 @@ use Rattle.read_strategies.specs.EachOnce.{each_once}
 use Rattle.slot_ranges.specs.RangeMap.{value_of}
 use Rattle.cluster_map.specs.Targets.{targets}
 use Rattle.read_strategies.proofs.Members.{add_new, added_more}
-use Rattle.cluster_map.proofs.TargetSets.{primary_of, targets-insert, primaries_last, primaries_in}
+use Rattle.cluster_map.proofs.TargetSets.{range_primary, targets-insert, primaries_last, primaries_in}
 use Rattle.cluster_map.proofs.slot_map.SlotMap.addresses_for_all_primaries.Goals as goal
 
 pub loop-addrs-preserved : goal.loop-addrs-preserved
@@ -13,13 +13,13 @@ loop-addrs-preserved c =
     let done = c.loop-addrs.invariant.2.0 in
     let nodes = c.in-Some.addrs.now in
     let old = targets c.loop-addrs.seen.keys in
-    let keys = ap targets c.in_ok-insert.ensures.keys ∙ targets-insert c.loop-addrs.seen.keys _ ∙ ap (add_new old) (ap primary_of c.addrs.view_is) in (
+    let keys = ap targets c.in_ok-insert.ensures.keys ∙ targets-insert c.loop-addrs.seen.keys _ ∙ ap (add_new old) (ap range_primary c.addrs.view_is) in (
       tt,
       tt,
       (
         done ++ nodes ∷ [],
         append_assoc done (nodes ∷ []) c.next.new.self ∙ ap (λ z. done ++ z) (sym c.in-Some.ensures.steps) ∙ c.loop-addrs.invariant.2.1,
-        keys ∙ added_more (map primary_of done) (nodes.primary ∷ []) old c.loop-addrs.invariant.2.2 ∙ ap each_once (sym (primaries_last done nodes)),
+        keys ∙ added_more (map range_primary done) (nodes.primary ∷ []) old c.loop-addrs.invariant.2.2 ∙ ap each_once (sym (primaries_last done nodes)),
       ),
     )
 
@@ -27,5 +27,5 @@ pub returns : goal.returns
 returns c =
     let done = c.loop-addrs.invariant.2.0 in
     let all : done ≡ map value_of c.args.self.now = sym (append-nil done) ∙ ap (λ z. done ++ z) (sym c.in-None.ensures.steps.0) ∙ c.loop-addrs.invariant.2.1 in
-    let members = c.loop-addrs.invariant.2.2 ∙ ap (λ z. each_once (map primary_of z)) all ∙ ap each_once (primaries_in c.args.self.now) in
+    let members = c.loop-addrs.invariant.2.2 ∙ ap (λ z. each_once (map range_primary z)) all ∙ ap each_once (primaries_in c.args.self.now) in
     grind (arith, common_steps)
