@@ -2,4 +2,14 @@
 #![tactic(auto)]
 
 #[cfg(test)]
-mod driver;
+mod driving;
+#[cfg(test)]
+mod faults;
+#[cfg(test)]
+mod given;
+#[cfg(test)]
+mod json_paths;
+#[cfg(test)]
+mod replicas;
+#[cfg(test)]
+mod split_plan;

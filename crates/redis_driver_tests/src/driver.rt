@@ -1,1 +1,0 @@
-//! Commands sent part by part.
