@@ -1,6 +1,6 @@
 //! Streams that cannot fail, over which the program answers or runs out of memory.
 ghost use Rattle.std.specs.Prelude.{◌≡◌, ◌⊎◌, ℕ, List, [], None, Some, map, string_bytes};
-ghost use Rattle.slotroute_serve.specs.Serves.{Answered, RanOutOfMemory};
+ghost use Rattle.slotroute_serve.specs.Serves.{HasOutput, RanOutOfMemory};
 
 use crate::serve::{USAGE, words_of};
 use slotroute_serve::{Sink, Source, serve_streams};
@@ -44,7 +44,7 @@ impl Sink for Counter {
 }
 
 fn serve_steadily(alloc: Global, words: &[String], out: &mut Counter, err: &mut Counter) -> u8
-    ensures { Answered (map string_bytes words.now) (Some []) (Some []) None None None None result
+    ensures { HasOutput (map string_bytes words.now) (Some []) (Some []) None None None None result
         ⊎ RanOutOfMemory None None None None result }
 {
     serve_streams(alloc, words, &mut Nothing, out, err)
