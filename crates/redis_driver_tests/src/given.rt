@@ -126,7 +126,7 @@ pub fn value_of(alloc: Global, text: &str) -> Result<Value, AllocError> {
     Ok(Value::Array(items))
 }
 
-pub fn bulk(alloc: Global, text: &str) -> Result<Value, AllocError> {
+fn bulk(alloc: Global, text: &str) -> Result<Value, AllocError> {
     Ok(Value::BulkString(text.as_bytes().to_vec(alloc)?))
 }
 

@@ -1,9 +1,9 @@
-use crate::given::{TWO_NODES, bulk, cmd_of, map_of, read_only_names, reply_text};
+use crate::given::{TWO_NODES, cmd_of, map_of, read_only_names, reply_text, value_of};
 use cluster_map::SlotMap;
 use redis_cluster::driver::{PlanFault, SplitPlan};
 use redis_cluster::routing::ReadOnlyNames;
 use resp_core::{Cmd, ErrorKind, Value};
-use std::alloc::{AllocError, Global};
+use std::alloc::Global;
 use std::test::Fail;
 
 /// A map, and the names that only read.
@@ -35,15 +35,6 @@ fn fault_text(fault: &PlanFault) -> &'static str {
         PlanFault::NotCovered(_) => "a slot has no node",
         PlanFault::Memory => "no memory",
     }
-}
-
-// An array of the words of a text as bulk strings.
-fn list(alloc: Global, text: &str) -> Result<Value, AllocError> {
-    let mut items = Vec::new(alloc);
-    for word in text.split(' ') {
-        items.push(bulk(alloc, word)?)?;
-    }
-    Ok(Value::Array(items))
 }
 
 // The reply of a plan that is told these, each with the number of its route.
@@ -107,9 +98,9 @@ fn commands_without_a_plan(rt: HostRuntime) -> Result<(), Fail> {
 fn lists_come_together_in_the_order_of_the_keys(rt: HostRuntime) -> Result<(), Fail> {
     let alloc = rt.alloc();
     let replies = vec![in alloc;
-        (2, list(alloc, "5")?),
-        (0, list(alloc, "1 4")?),
-        (1, list(alloc, "2 3")?),
+        (2, value_of(alloc, "5")?),
+        (0, value_of(alloc, "1 4")?),
+        (1, value_of(alloc, "2 3")?),
     ]?;
     let reply = combined(alloc, "MGET a b x{b}y {a}b c", replies)?;
     assert_eq!(rt; reply.as_str(), "[1, 2, 3, 4, 5]");
@@ -182,17 +173,14 @@ fn a_reply_is_missing(rt: HostRuntime) -> Result<(), Fail> {
 fn replies_of_another_kind_are_refused(rt: HostRuntime) -> Result<(), Fail> {
     let alloc = rt.alloc();
     let given = Given::two_nodes(alloc)?;
-    for (text, kind) in [
-        ("DEL a b", ErrorKind::UnexpectedReturnType),
-        ("MGET a b", ErrorKind::UnexpectedReturnType),
-    ] {
+    for text in ["DEL a b", "MGET a b"] {
         let cmd = cmd_of(alloc, text)?;
         let mut plan = given.plan(alloc, &cmd)?;
         for number in 0..2 {
             assert!(rt; plan.tell(number, Value::Nil).is_ok(), "{text}");
         }
         let error = plan.combine(alloc).err().ok_or("no error")?;
-        assert_eq!(rt; error.kind(), kind, "{text}");
+        assert_eq!(rt; error.kind(), ErrorKind::UnexpectedReturnType, "{text}");
     }
     Ok(())
 }
