@@ -117,8 +117,8 @@ module _ {C : Type 0} (IsNode : SlotRoute → Address → Type 0) (step : Step C
     sent_first count trace grew =
         let entries = map (target_entry answered) (in_order (targets plan) (take count r.order)) in
         let each : AllZip (IsEntryOf IsNode r.arguments answered) (in_order routes (take count r.order)) entries =
-          entries_are IsNode r.arguments answered (in_order routes (take count r.order)) (in_order (targets plan) (take count r.order))
-          (both_in_order (IsTarget IsNode r.arguments) routes (targets plan) (take count r.order) is.targets_are) in
+        entries_are IsNode r.arguments answered (in_order routes (take count r.order)) (in_order (targets plan) (take count r.order))
+        (both_in_order (IsTarget IsNode r.arguments) routes (targets plan) (take count r.order) is.targets_are) in
         record {
           entries = entries;
           grew = grew;
@@ -162,10 +162,10 @@ module _ {C : Type 0} (IsNode : SlotRoute → Address → Type 0) (step : Step C
         let count = length plan.split.routes in
         let whole : take count r.order ≡ r.order = ap (λ n. take n r.order) (sym routes_many) ∙ all_order in
         let as_stopped : new.keyspace ≡ after (act_of step command) (tuples_of_slots (in_order slots (take count r.order)) command.tuples) old.keyspace =
-          keyspace
-          ∙ sym (keyspace_of_all (act_of step command) slots r.order command.tuples old.keyspace of_slots (names_slots_from slots command.tuples is.plan_is.once))
-          ∙ ap (λ o. after (act_of step command) (joined (in_order slots o) command.tuples) old.keyspace) (sym whole)
-          ∙ keyspace_at_stop (act_of step command) slots r.order command.tuples old.keyspace count of_slots is.plan_is.at_most_once in
+        keyspace
+        ∙ sym (keyspace_of_all (act_of step command) slots r.order command.tuples old.keyspace of_slots (names_slots_from slots command.tuples is.plan_is.once))
+        ∙ ap (λ o. after (act_of step command) (joined (in_order slots o) command.tuples) old.keyspace) (sym whole)
+        ∙ keyspace_at_stop (act_of step command) slots r.order command.tuples old.keyspace count of_slots is.plan_is.at_most_once in
         record {
           routes = routes;
           command = command;
@@ -182,7 +182,7 @@ module _ {C : Type 0} (IsNode : SlotRoute → Address → Type 0) (step : Step C
       node_fault error before stopped None at last = absurd last
       node_fault error before stopped (Some target) at last =
           let own = beside (IsTarget IsNode r.arguments) (in_order routes r.order) (in_order (targets plan) r.order) count target
-            (both_in_order (IsTarget IsNode r.arguments) routes (targets plan) r.order is.targets_are) at in
+          (both_in_order (IsTarget IsNode r.arguments) routes (targets plan) r.order is.targets_are) at in
           record {
             routes = routes;
             command = command;
@@ -205,7 +205,7 @@ module _ {C : Type 0} (IsNode : SlotRoute → Address → Type 0) (step : Step C
           inl (record {
             answered = n_is;
             keyspace = stopped.keyspace ∙ ap (λ m. after (act_of step command) (tuples_of_slots (in_order slots (take m r.order)) command.tuples) old.keyspace) n_is
-              ∙ ap (λ ts. after (act_of step command) ts old.keyspace) (no_tuples command.tuples);
+                ∙ ap (λ ts. after (act_of step command) ts old.keyspace) (no_tuples command.tuples);
             trace = last.0 ∙ grew ∙ ap (λ m. old.trace ++ map (target_entry answered) (in_order (targets plan) (take m r.order))) n_is ∙ append-nil old.trace;
           })
       memory_fault (suc n) n_is stopped (Some target) at before last grew =
@@ -231,7 +231,7 @@ module _ {C : Type 0} (IsNode : SlotRoute → Address → Type 0) (step : Step C
         subst (λ f. IsFault IsNode step r old new may_refuse f count) (sym ended.fault_is) (send_fault may_refuse count ended.within ended.error (ended.stopped command is.plan_is))
     ended_fault may_refuse fault count some (inr ended) =
         let late : IsLateMemory IsNode step r old new count =
-          subst (IsLateMemory IsNode step r old new) (sym ended.count_is) (combining_fault ended.trace (ended.keyspace command is.plan_is) (ended.form command is.plan_is) some) in
+        subst (IsLateMemory IsNode step r old new) (sym ended.count_is) (combining_fault ended.trace (ended.keyspace command is.plan_is) (ended.form command is.plan_is) some) in
         subst (λ f. IsFault IsNode step r old new may_refuse f count) (sym ended.fault_is) (inr late)
 
 -- a fault that comes before the first send leaves all as it was

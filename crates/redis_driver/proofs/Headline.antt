@@ -47,7 +47,7 @@ module _ {C : Type 0} (IsNode : SlotRoute → Address → Type 0) (step : Step C
   headline_fault (NotCovered slot) count f =
       let first = f.0.2 in
       let all : All (λ route. IsCovered r.map route.slot) (first.before ++ first.route ∷ first.rest) =
-        subst (All (λ (route : SlotRoute). IsCovered r.map route.slot)) (sym (routes_same f.0.0 f.0.1) ∙ first.routes_are) h.drivable.is_covered.covered in
+      subst (All (λ (route : SlotRoute). IsCovered r.map route.slot)) (sym (routes_same f.0.0 f.0.1) ∙ first.routes_are) h.drivable.is_covered.covered in
       let own = middle (λ (route : SlotRoute). IsCovered r.map route.slot) first.before first.route first.rest all in
       absurd (first.uncovered own.0 own.1)
   headline_fault BadOrder count f =

@@ -35,9 +35,10 @@ each_part : (command : MultiKey) (part_at : ℕ → Arguments) (slots : List ℕ
 each_part command part_at [] [] same each = tt
 each_part command part_at [] (p ∷ parts) same each = absurd (cc same)
 each_part command part_at (s ∷ slots) [] same each = absurd (cc same)
-each_part command part_at (s ∷ slots) (p ∷ parts) same each =
-    (ap multi_key (heads same) ∙ All-head (λ slot. multi_key (part_at slot) ≡ Some (part_of command slot)) s slots each,
-    each_part command part_at slots parts (tails same) (All-tail (λ slot. multi_key (part_at slot) ≡ Some (part_of command slot)) s slots each))
+each_part command part_at (s ∷ slots) (p ∷ parts) same each = (
+  ap multi_key (heads same) ∙ All-head (λ slot. multi_key (part_at slot) ≡ Some (part_of command slot)) s slots each,
+  each_part command part_at slots parts (tails same) (All-tail (λ slot. multi_key (part_at slot) ≡ Some (part_of command slot)) s slots each),
+)
 
 -- a part of the plan is that of its slot by the command's name
 pub part_is : (args : Arguments) (split : Split) (slot : ℕ) → split.arguments ≡ args → split.words ≡ 1 → Some split.pattern ≡ pattern_by_name (command_of args) → split_part split slot ≡ part_by_name args slot
@@ -56,18 +57,21 @@ module _ (only_reads : List ℕ → Bool) (args : Arguments) (plan : Plan) (argu
       let Meant : ℕ → Type 0 = λ slot. multi_key (split_part plan.split slot) ≡ Some (part_of command slot) in
       let Has : ℕ → Type 0 = λ slot. list_any (λ t. nat_eq (key_slot t.key) slot) command.tuples ≡ true in
       let meant : All Meant (slots_of plan.split.routes) =
-        All-map Meant (λ r. r.0.slot) plan.split.routes
-        (All-weaker (λ (r : SlotRoute × List ℕ). Has r.0.slot) (λ r. Meant r.0.slot) (λ r has. ap multi_key (part_is args plan.split r.0.slot arguments words pattern) ∙ part_means args command r.0.slot found.1 has) plan.split.routes found.2.of_keys) in
-      (command, found.1, record {
-        command_is = ap multi_key arguments ∙ found.1;
-        form = ap form_of_policy (policy ∙ ap policy_by_name made.1.name) ∙ made.1.form;
-        tuples = made.1.tuples ∙ ap (λ p. tuples_of p (present_arguments_after 1 args)) (sym pattern_is)
-          ∙ ap (λ a. tuples_of plan.split.pattern (present_arguments_after 1 a)) (sym arguments) ∙ ap (λ w. tuples_of plan.split.pattern (present_arguments_after w plan.split.arguments)) (sym words);
-        at_most_once = found.2.at_most_once;
-        once = found.2.once;
-        nodes = whole.nodes;
-        parts = each_part command (split_part plan.split) (slots_of plan.split.routes) plan.parts whole.parts meant;
-      })
+      All-map Meant (λ r. r.0.slot) plan.split.routes
+      (All-weaker (λ (r : SlotRoute × List ℕ). Has r.0.slot) (λ r. Meant r.0.slot) (λ r has. ap multi_key (part_is args plan.split r.0.slot arguments words pattern) ∙ part_means args command r.0.slot found.1 has) plan.split.routes found.2.of_keys) in (
+        command,
+        found.1,
+        record {
+          command_is = ap multi_key arguments ∙ found.1;
+          form = ap form_of_policy (policy ∙ ap policy_by_name made.1.name) ∙ made.1.form;
+          tuples = made.1.tuples ∙ ap (λ p. tuples_of p (present_arguments_after 1 args)) (sym pattern_is)
+              ∙ ap (λ a. tuples_of plan.split.pattern (present_arguments_after 1 a)) (sym arguments) ∙ ap (λ w. tuples_of plan.split.pattern (present_arguments_after w plan.split.arguments)) (sym words);
+          at_most_once = found.2.at_most_once;
+          once = found.2.once;
+          nodes = whole.nodes;
+          parts = each_part command (split_part plan.split) (slots_of plan.split.routes) plan.parts whole.parts meant;
+        },
+      )
 
 targets_by : (IsNode : SlotRoute → Address → Type 0) (args : Arguments) (part_at : ℕ → Arguments) (routes : List (SlotRoute × List ℕ)) (nodes : List Address) (parts : List (List (List ℕ)))
     → ((slot : ℕ) → part_at slot ≡ part_by_name args slot) → AllZip (λ r a. IsNode r.0 a) routes nodes → map (map Some) parts ≡ map part_at (slots_of routes)
@@ -83,11 +87,13 @@ pub ready : (IsNode : SlotRoute → Address → Type 0) (r : Request) (plan : Pl
     → Some plan.split.pattern ≡ pattern_by_name (command_of r.arguments) → Some plan.split.policy ≡ policy_by_name (command_of r.arguments) → IsPlan plan
     → AllZip (λ t a. IsNode t.0 a) plan.split.routes plan.nodes → All (λ t. IsCovered r.map t.0.slot) plan.split.routes → (command : MultiKey) × IsReady IsNode r plan command
 ready IsNode r plan arguments words routes pattern policy whole nodes covered =
-    let found = planned r.only_reads r.arguments plan arguments words routes pattern policy whole in
-    (found.0, record {
-      plan_is = found.2;
-      command_is = found.1;
-      routes_are = ap (λ o. option_map (map (λ t. t.0)) o) (sym routes);
-      covered = All-map (λ (route : SlotRoute). IsCovered r.map route.slot) (λ t. t.0) plan.split.routes covered;
-      targets_are = targets_by IsNode r.arguments (split_part plan.split) plan.split.routes plan.nodes plan.parts (λ slot. part_is r.arguments plan.split slot arguments words pattern) nodes whole.parts;
-    })
+    let found = planned r.only_reads r.arguments plan arguments words routes pattern policy whole in (
+      found.0,
+      record {
+        plan_is = found.2;
+        command_is = found.1;
+        routes_are = ap (λ o. option_map (map (λ t. t.0)) o) (sym routes);
+        covered = All-map (λ (route : SlotRoute). IsCovered r.map route.slot) (λ t. t.0) plan.split.routes covered;
+        targets_are = targets_by IsNode r.arguments (split_part plan.split) plan.split.routes plan.nodes plan.parts (λ slot. part_is r.arguments plan.split slot arguments words pattern) nodes whole.parts;
+      },
+    )

@@ -60,7 +60,7 @@ module _ (args : Arguments) where
   same_command =
       record {
         command = ap (λ name. command_with name (present_arguments (front args)) (pattern_by_name name) (form_of_policy (policy_by_name name))) (same_name args)
-          ∙ ap (λ present. command_with (command_of args) present (pattern_by_name (command_of args)) (form_of_policy (policy_by_name (command_of args)))) (same_present args);
+            ∙ ap (λ present. command_with (command_of args) present (pattern_by_name (command_of args)) (form_of_policy (policy_by_name (command_of args)))) (same_present args);
         routes = λ only_reads. ap (routes_by_name 1 own_tables only_reads (front args)) (same_name args) ∙ named_same only_reads (command_of args);
         part = λ slot. ap (λ name. part_by_pattern 1 (pattern_by_name name) (front args) slot) (same_name args) ∙ part_same slot (pattern_by_name (command_of args));
       }

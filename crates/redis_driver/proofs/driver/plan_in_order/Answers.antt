@@ -21,13 +21,16 @@ returns-in-Ok-false-clause-early g c =
     let plan = c.in-Ok.plan in
     let only_reads = is_among c.args.read_only.now in
     let found = planned only_reads (g.R.Routable.args c.args.command.now) plan new.arguments new.words new.routes new.pattern new.policy c.len.ensures.plan in
-    let many : length (map (λ (t : SlotRoute × List ℕ). t.0) plan.split.routes) ≡ length plan.split.routes = length-map plan.split.routes (λ t. t.0) in
-    (map (λ t. t.0) plan.split.routes, found.0, record {
-      routes_are = ap (λ o. option_map (map (λ t. t.0)) o) (sym new.routes);
-      command_is = found.1;
-      covered = All-map (λ (route : SlotRoute). IsCovered c.args.slot_map.now route.slot) (λ t. t.0) plan.split.routes new.covered;
-    },
-    λ names.
-    let here : NamesOnce c.len.result c.args.order.now = subst (λ n. NamesOnce n c.args.order.now) (many ∙ sym c.len.ensures.len) names in
-    let named : c.in-Ok-false.field-0 ≡ true = c.in-Ok-false.ensures.1 here in
-    absurd (cc (named, c.in-Ok-false.field-0-test)))
+    let many : length (map (λ (t : SlotRoute × List ℕ). t.0) plan.split.routes) ≡ length plan.split.routes = length-map plan.split.routes (λ t. t.0) in (
+      map (λ t. t.0) plan.split.routes,
+      found.0,
+      record {
+        routes_are = ap (λ o. option_map (map (λ t. t.0)) o) (sym new.routes);
+        command_is = found.1;
+        covered = All-map (λ (route : SlotRoute). IsCovered c.args.slot_map.now route.slot) (λ t. t.0) plan.split.routes new.covered;
+      },
+      λ names.
+          let here : NamesOnce c.len.result c.args.order.now = subst (λ n. NamesOnce n c.args.order.now) (many ∙ sym c.len.ensures.len) names in
+          let named : c.in-Ok-false.field-0 ≡ true = c.in-Ok-false.ensures.1 here in
+          absurd (cc (named, c.in-Ok-false.field-0-test)),
+    )

@@ -84,9 +84,9 @@ loop-number-preserved g c =
     let within : k < length slots = omega (arith, below, many plan) in
     let names : NamesOnce (length slots) order = subst (λ n. NamesOnce n order) (sym (many plan)) c.requires.order in
     let there : (command : MultiKey) → IsPlanOf command plan → RouteTarget command slots plan.nodes plan.parts k =
-      λ command is. route_target command slots plan.nodes plan.parts k (is.nodes ∙ sym (many plan)) is.parts within in
+    λ command is. route_target command slots plan.nodes plan.parts k (is.nodes ∙ sym (many plan)) is.parts within in
     let at : (target : Target) → slice_get (targets plan) k ≡ Some target → slice_get (targets c.loop-number.plan) k ≡ Some target =
-      λ target is. ap (λ ts. slice_get ts k) inv.same_targets ∙ is in
+    λ target is. ap (λ ts. slice_get ts k) inv.same_targets ∙ is in
     let t = there c.requires.command.0 c.requires.command.1 in
     let replies_are : c.tell_first.new.plan.replies ≡ slice_set c.loop-number.plan.replies k (Some c.in-Ok.reply) = ap (λ (p : Plan). p.replies) c.tell_first.ensures in
     let room : k < length c.loop-number.plan.replies = omega (arith, within, inv.room) in
@@ -95,29 +95,29 @@ loop-number-preserved g c =
       same_targets = ap targets c.tell_first.ensures ∙ inv.same_targets;
       room = ap length replies_are ∙ length-set c.loop-number.plan.replies k (Some c.in-Ok.reply) ∙ inv.room;
       told = λ command is.
-        let own = there command is in
-        let reply_of : ℕ → Reply = λ slot. reply_by command.form (results_of_slot slot command.tuples (results_of nodes.step command old)) in
-        let says : view c.in-Ok.reply ≡ reply_of own.slot =
+          let own = there command is in
+          let reply_of : ℕ → Reply = λ slot. reply_by command.form (results_of_slot slot command.tuples (results_of nodes.step command old)) in
+          let says : view c.in-Ok.reply ≡ reply_of own.slot =
           c.in-Ok.ensures.reply own.target (part_of command own.slot) (at own.target own.target_at) own.part
           ∙ ap (λ ks. reply_by command.form (results (act_of nodes.step command) (tuples_of_slot own.slot command.tuples) ks)) (inv.keyspace command is)
           ∙ ap (reply_by command.form) (results_more (act_of nodes.step command) slots order command.tuples old i k own.slot names is.at_most_once inside refl own.slot_at) in
-        subst (λ rs. AreTold rs slots order (i + 1) reply_of) (sym replies_are)
-        (told_more c.loop-number.plan.replies slots order i k inside refl room reply_of own.slot c.in-Ok.reply own.slot_at says (inv.told command is));
+          subst (λ rs. AreTold rs slots order (i + 1) reply_of) (sym replies_are)
+          (told_more c.loop-number.plan.replies slots order i k inside refl room reply_of own.slot c.in-Ok.reply own.slot_at says (inv.told command is));
       untold = subst (λ rs. AreUntold rs order (i + 1) (length slots)) (sym replies_are)
-        (untold_less c.loop-number.plan.replies slots order i k inside refl room (length slots) c.in-Ok.reply inv.untold);
+          (untold_less c.loop-number.plan.replies slots order i k inside refl room (length slots) c.in-Ok.reply inv.untold);
       trace = c.in-Ok.ensures.trace t.target (at t.target t.target_at) ∙ ap (λ tr. tr ++ target_entry answered t.target ∷ []) inv.trace
-        ∙ append_assoc (nodes.trace c.args.nodes.now) (map (target_entry answered) (in_order (targets plan) (take i order))) (target_entry answered t.target ∷ [])
-        ∙ ap (λ es. nodes.trace c.args.nodes.now ++ es)
+          ∙ append_assoc (nodes.trace c.args.nodes.now) (map (target_entry answered) (in_order (targets plan) (take i order))) (target_entry answered t.target ∷ [])
+          ∙ ap (λ es. nodes.trace c.args.nodes.now ++ es)
           (sym (ap (map (target_entry answered)) (in_order_more (targets plan) order i k t.target inside refl t.target_at) ∙ map_push (target_entry answered) (in_order (targets plan) (take i order)) t.target));
       keyspace = λ command is.
-        let own = there command is in
-        c.in-Ok.ensures.keyspace own.target (part_of command own.slot) (at own.target own.target_at) own.part
-        ∙ ap (λ ks. after (act_of nodes.step command) (tuples_of_slot own.slot command.tuples) ks) (inv.keyspace command is)
-        ∙ keyspace_more (act_of nodes.step command) slots order command.tuples old i k own.slot inside refl own.slot_at;
+          let own = there command is in
+          c.in-Ok.ensures.keyspace own.target (part_of command own.slot) (at own.target own.target_at) own.part
+          ∙ ap (λ ks. after (act_of nodes.step command) (tuples_of_slot own.slot command.tuples) ks) (inv.keyspace command is)
+          ∙ keyspace_more (act_of nodes.step command) slots order command.tuples old i k own.slot inside refl own.slot_at;
       may_refuse = λ count ending.
-        let now = c.send_part.ensures.may_refuse count ending in
-        let before = inv.may_refuse count ending in
-        (λ may. before.0 (now.0 may), λ may. now.1 (before.1 may));
+          let now = c.send_part.ensures.may_refuse count ending in
+          let before = inv.may_refuse count ending in
+          (λ may. before.0 (now.0 may), λ may. now.1 (before.1 may));
       answered = omega (arith, inv.answered);
     }
 
@@ -135,21 +135,24 @@ returns-in-Err-clause-stopped g c =
     let below : k < length plan.split.routes = c.requires.order.below i 0 inside in
     let within : k < length slots = omega (arith, below, many plan) in
     let names : NamesOnce (length slots) order = subst (λ n. NamesOnce n order) (sym (many plan)) c.requires.order in
-    let ending = ending_of c.in-Err.error in
-    (c.in-Err.error, c.from.ensures, λ command is.
-    let t = route_target command slots plan.nodes plan.parts k (is.nodes ∙ sym (many plan)) is.parts within in
-    let unanswered = c.in-Err.ensures.unanswered t.target (ap (λ ts. slice_get ts k) inv.same_targets ∙ t.target_at) in
-    let next : slice_get (in_order (targets plan) order) i ≡ Some t.target =
-      next_in_order (targets plan) order i t.target (subst (λ n. All (λ j. j < n) order) (sym (targets_many command plan is)) names.below) inside t.target_at in
-    let stopped : AreStopped nodes.step (nodes.may_refuse c.args.nodes.now) command plan order i old (nodes.keyspace c.send_part.new.nodes) (nodes.trace c.args.nodes.now) (nodes.trace c.send_part.new.nodes) (nodes.mark c.send_part.new.nodes) ending =
-      record {
-        before = nodes.trace c.loop-number.nodes;
-        trace = inv.trace;
-        keyspace = same_keys (nodes.may_refuse c.loop-number.nodes) (nodes.keyspace c.loop-number.nodes) (nodes.keyspace c.send_part.new.nodes) (nodes.trace c.loop-number.nodes) (nodes.trace c.send_part.new.nodes) (nodes.mark c.send_part.new.nodes) t.target ending unanswered
-          ∙ inv.keyspace command is ∙ keyspace_at_stop (act_of nodes.step command) slots order command.tuples old i names is.at_most_once;
-        last = last_is (nodes.may_refuse c.args.nodes.now) (nodes.may_refuse c.loop-number.nodes) (nodes.keyspace c.loop-number.nodes) (nodes.keyspace c.send_part.new.nodes) (nodes.trace c.loop-number.nodes) (nodes.trace c.send_part.new.nodes) (nodes.mark c.send_part.new.nodes) t.target (slice_get (in_order (targets plan) order) i) ending inv.may_refuse next unanswered;
-      } in
-    subst (λ n. AreStopped nodes.step (nodes.may_refuse c.args.nodes.now) command plan order n old (nodes.keyspace c.send_part.new.nodes) (nodes.trace c.args.nodes.now) (nodes.trace c.send_part.new.nodes) (nodes.mark c.send_part.new.nodes) ending) (sym inv.answered) stopped)
+    let ending = ending_of c.in-Err.error in (
+      c.in-Err.error,
+      c.from.ensures,
+      λ command is.
+          let t = route_target command slots plan.nodes plan.parts k (is.nodes ∙ sym (many plan)) is.parts within in
+          let unanswered = c.in-Err.ensures.unanswered t.target (ap (λ ts. slice_get ts k) inv.same_targets ∙ t.target_at) in
+          let next : slice_get (in_order (targets plan) order) i ≡ Some t.target =
+          next_in_order (targets plan) order i t.target (subst (λ n. All (λ j. j < n) order) (sym (targets_many command plan is)) names.below) inside t.target_at in
+          let stopped : AreStopped nodes.step (nodes.may_refuse c.args.nodes.now) command plan order i old (nodes.keyspace c.send_part.new.nodes) (nodes.trace c.args.nodes.now) (nodes.trace c.send_part.new.nodes) (nodes.mark c.send_part.new.nodes) ending =
+          record {
+            before = nodes.trace c.loop-number.nodes;
+            trace = inv.trace;
+            keyspace = same_keys (nodes.may_refuse c.loop-number.nodes) (nodes.keyspace c.loop-number.nodes) (nodes.keyspace c.send_part.new.nodes) (nodes.trace c.loop-number.nodes) (nodes.trace c.send_part.new.nodes) (nodes.mark c.send_part.new.nodes) t.target ending unanswered
+                ∙ inv.keyspace command is ∙ keyspace_at_stop (act_of nodes.step command) slots order command.tuples old i names is.at_most_once;
+            last = last_is (nodes.may_refuse c.args.nodes.now) (nodes.may_refuse c.loop-number.nodes) (nodes.keyspace c.loop-number.nodes) (nodes.keyspace c.send_part.new.nodes) (nodes.trace c.loop-number.nodes) (nodes.trace c.send_part.new.nodes) (nodes.mark c.send_part.new.nodes) t.target (slice_get (in_order (targets plan) order) i) ending inv.may_refuse next unanswered;
+          } in
+          subst (λ n. AreStopped nodes.step (nodes.may_refuse c.args.nodes.now) command plan order n old (nodes.keyspace c.send_part.new.nodes) (nodes.trace c.args.nodes.now) (nodes.trace c.send_part.new.nodes) (nodes.mark c.send_part.new.nodes) ending) (sym inv.answered) stopped,
+    )
 
 pub returns-clause-replies : goal.returns-clause-replies
 returns-clause-replies g c =
@@ -164,9 +167,9 @@ returns-clause-replies g c =
     let rs = results_of nodes.step command (nodes.keyspace c.args.nodes.now) in
     let reply_of : ℕ → Reply = λ slot. reply_by command.form (results_of_slot slot command.tuples rs) in
     let all = all_told c.loop-number.plan.replies slots reply_of inv.room
-      (λ number slot at. inv.told command is number slot at
-        (let inside : number < length slots = slice_get_within slots number slot at in
-         let once : times number (take i order) ≡ 1 = ap (times number) whole ∙ c.requires.order.once number (omega (arith, inside, many plan)) in omega (arith, once))) in
+    (λ number slot at. inv.told command is number slot at
+    (let inside : number < length slots = slice_get_within slots number slot at in
+    let once : times number (take i order) ≡ 1 = ap (times number) whole ∙ c.requires.order.once number (omega (arith, inside, many plan)) in omega (arith, once))) in
     record {
       replies = all.0;
       all_told = all.1;
@@ -174,7 +177,7 @@ returns-clause-replies g c =
         form_is = ap (λ (s : Split). form_by_policy s.policy) inv.split ∙ is.form;
         each = length-results (act_of nodes.step command) command.tuples (nodes.keyspace c.args.nodes.now) ∙ ap length is.tuples ∙ ap (λ (s : Split). length (tuples_in_split s)) (sym inv.split);
         replies_are = all.2 ∙ ap (λ ts. map (λ slot. reply_by command.form (results_of_slot slot ts rs)) slots) is.tuples
-          ∙ ap (λ (s : Split). map (λ slot. reply_by command.form (results_of_slot slot (tuples_in_split s) rs)) (slots_of s.routes)) (sym inv.split);
+            ∙ ap (λ (s : Split). map (λ slot. reply_by command.form (results_of_slot slot (tuples_in_split s) rs)) (slots_of s.routes)) (sym inv.split);
       };
     }
 
