@@ -58,14 +58,14 @@ pub fn drive<R: Routable, N: Nodes>(
     ensures driven { IfOk result (λ value. IsDriven (λ route address. MatchOption strategy.entry (IsNodeOfRoute slot_map.now route pick address) (λ s. IsPickedNode (picks s.now) slot_map.now route address))
         N.step (request (R.args command.now) (is_among read_only.now) slot_map.now order.now)
         (state (N.keyspace nodes.old) (N.trace nodes.old) (N.mark nodes.old)) (state (N.keyspace nodes.new) (N.trace nodes.new) (N.mark nodes.new)) (view value)) }
-    // It is so where the command can be driven and no node may refuse, unless memory runs out.
+    // There is a reply where the command can be driven and no node may refuse, unless memory runs out.
     ensures headline { IsHeadline (N.may_refuse nodes.old) (request (R.args command.now) (is_among read_only.now) slot_map.now order.now) (N.trace nodes.old) → IfErr result (λ e. e.fault ≡ DriveFault.Memory) }
-    // Each fault has its cause, and what was answered before stands.
+    // Each fault but a lack of memory before any answer has its cause, and what was answered stands.
     ensures fault { IfErr result (λ e. IsFault (λ route address. MatchOption strategy.entry (IsNodeOfRoute slot_map.now route pick address) (λ s. IsPickedNode (picks s.now) slot_map.now route address))
         N.step (request (R.args command.now) (is_among read_only.now) slot_map.now order.now)
         (state (N.keyspace nodes.old) (N.trace nodes.old) (N.mark nodes.old)) (state (N.keyspace nodes.new) (N.trace nodes.new) (N.mark nodes.new))
         (N.may_refuse nodes.old) e.fault e.answered) }
-    // A command with gaps is driven as its front.
+    // A command with gaps and its front have the same tuples, routes and parts.
     ensures gaps { IsSameCommand (R.args command.now) (front (R.args command.now)) }
     // What nodes may refuse stays the same.
     ensures may_refuse { (count : ℕ) (ending : Ending) → N.may_refuse nodes.new count ending ↔ N.may_refuse nodes.old count ending }
