@@ -8,7 +8,7 @@ pub fn parse_u64(arg: &[u8]) -> Option<u64>
     let Ok(text) = str::from_utf8(arg) else {
         return None;
     };
-    match text.parse() {
+    match text.parse::<u64>() {
         Ok(number) => Some(number),
         Err(_) => None,
     }
@@ -21,7 +21,7 @@ pub fn parse_u16(arg: &[u8]) -> Option<u16>
     let Ok(text) = str::from_utf8(arg) else {
         return None;
     };
-    match text.parse() {
+    match text.parse::<u16>() {
         Ok(number) => Some(number),
         Err(_) => None,
     }
