@@ -7,7 +7,7 @@ use Rattle.std.specs.declared.vec.Vec.{Vec}
 use Rattle.std.specs.declared.alloc.Global.{Global}
 use Rattle.redis_nodes.specs.Unsplit.{Keyspace}
 
--- the value at each path; no step leaves a key with no value at any, so such a key is absent
+-- the value at each path
 abbrev pub Cell : Type 0
 Cell = List ℕ → Option (List ℕ)
 
