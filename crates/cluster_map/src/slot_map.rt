@@ -12,7 +12,7 @@ ghost use Rattle.slot_ranges.specs.RangeMap.{Entry, Ascends, AreDisjoint, IsUnco
 ghost use Rattle.read_strategies.specs.EachOnce.{each_once};
 ghost use Rattle.cluster_map.specs.Fallback.{fallback, IsFallback};
 ghost use Rattle.cluster_map.specs.Targets.{targets};
-ghost use Rattle.read_strategies.specs.RouteNode.{IsNodeFor, IsNodeOfRoute, IsPicked, IsPickedNode};
+ghost use Rattle.read_strategies.specs.RouteNode.{IsNodeFor, IsPicked, IsRouteNode};
 ghost use Rattle.cluster_map.specs.ReplyNode.{IsFound, IsFoundByReply, entries_in};
 ghost use Rattle.read_strategies.specs.Topology.{shards_of, shards_left, topology_of, Agrees};
 
@@ -222,14 +222,12 @@ impl SlotMap {
         pick: usize,
     ) -> Option<&NodeAddress>
         ensures node { MatchOption result (IsUncovered self.now route.slot)
-            (λ address. MatchOption strategy.entry (IsNodeOfRoute self.now route pick address.now)
-            (λ s. IsPickedNode (picks s.now) self.now route address.now)) }
+            (λ address. IsRouteNode strategy.entry (λ s. picks s.now) self.now pick route address.now) }
         // In the map of a reply it is the node that the reply says.
         ensures reply { (answering : List ℕ) (reply : Reply) → self.now ≡ entries_in answering reply
             → MatchOption result (IsUncovered (entries_in answering reply) route.slot)
-            (λ address. MatchOption strategy.entry
-            (IsNodeOfRoute (entries_in answering reply) route pick address.now)
-            (λ s. IsPickedNode (picks s.now) (entries_in answering reply) route address.now)) }
+            (λ address. IsRouteNode strategy.entry (λ s. picks s.now)
+            (entries_in answering reply) pick route address.now) }
         // So one range at most answers for a slot.
         ensures order { Ascends self.now }
     {
@@ -248,9 +246,8 @@ impl SlotMap {
     ) -> Result<Vec<Option<&NodeAddress>>, AllocError>
         ensures each { IfOk result (λ found. AllZip
             (λ route node. MatchOption node (IsUncovered self.now route.0.slot)
-            (λ address. MatchOption strategy.entry
-            (IsNodeOfRoute self.now route.0 pick address.now)
-            (λ s. IsPickedNode (picks s.now) self.now route.0 address.now)))
+            (λ address. IsRouteNode strategy.entry (λ s. picks s.now) self.now pick route.0
+            address.now))
             routes.now found.items) }
     {
         let mut found = Vec::with_capacity(alloc, routes.len())?;

@@ -20,8 +20,12 @@ IsAtIndex index c address = slice_get (in_order c) (index % length (in_order c))
 -- the known topology has a shard for the slot, and this shard has two ranges or more
 abbrev pub HasManyRanges : Option Topology → ℕ → Type 0
 HasManyRanges None slot = ⊥
-HasManyRanges (Some topology) slot = (shard : ShardNodes) × IsShardAt topology slot shard × (2 ≤ length shard.ranges)
+HasManyRanges (Some topology) slot =
+    (shard : ShardNodes) × IsShardAt topology slot shard × (2 ≤ length shard.ranges)
 
--- the address is the last replica where the slot's shard is known to have two ranges or more, else the first
+-- the address is the last replica where the slot's shard is known to have two ranges or more,
+-- else the first
 abbrev pub IsShardPick : Option Topology → Candidates → Address → Type 0
-IsShardPick known c address = (HasManyRanges known c.slot × IsLastReplica c address) ⊎ (¬ (HasManyRanges known c.slot) × IsFirstReplica c address)
+IsShardPick known c address =
+    (HasManyRanges known c.slot × IsLastReplica c address)
+    ⊎ (¬ (HasManyRanges known c.slot) × IsFirstReplica c address)

@@ -15,7 +15,8 @@ pub(crate) fn replicas_of<'a>(candidates: &ReadCandidates<'a>) -> Replicas<'a>
 
 /// The last replica.
 pub(crate) fn last_of<'a>(replicas: Replicas<'a>) -> &'a NodeAddress
-    ensures { slice_get (addresses_of replicas.entry) (length (addresses_of replicas.entry) - 1) ≡ Some result.now }
+    ensures { let nodes = addresses_of replicas.entry in
+        slice_get nodes (length nodes - 1) ≡ Some result.now }
 {
     replicas.choose_random(replicas.len() - 1)
 }

@@ -23,7 +23,8 @@ impl PickIndex {
 impl ReadRoutingStrategy for PickIndex {
     ghost picks = { λ s c address. IsAtIndex s.0 c address };
 
-    ghost picks_candidates = { λ s c address there. IsCandidate-in_order c address (s.0 % length (in_order c)) there };
+    ghost picks_candidates = { λ s c address there.
+        IsCandidate-in_order c address (s.0 % length (in_order c)) there };
 
     /// Keeps its index, whatever the shards are.
     fn on_topology_changed(&mut self, topology: ClusterTopology)
@@ -44,7 +45,8 @@ impl ReadRoutingStrategy for PickIndex {
 
 /// The node at an index modulo the number of nodes: the primary is the first, the replicas follow.
 fn node_at<'a>(primary: &'a NodeAddress, replicas: Replicas<'a>, index: usize) -> &'a NodeAddress
-    ensures { let nodes = primary.now ∷ addresses_of replicas.entry in slice_get nodes (index % length nodes) ≡ Some result.now }
+    ensures { let nodes = primary.now ∷ addresses_of replicas.entry in
+        slice_get nodes (index % length nodes) ≡ Some result.now }
 {
     let place = index % (replicas.len() + 1);
     if place == 0 {

@@ -1,5 +1,5 @@
 -- The node of a route.
-use Rattle.std.specs.Prelude.{◌≡◌, ◌<◌, ℕ, ◌%◌, List, Some, None, MatchOption, length, slice_get}
+use Rattle.std.specs.Prelude.{◌≡◌, ◌<◌, ℕ, ◌%◌, List, Option, Some, None, MatchOption, length, slice_get}
 use Rattle.cluster_slots.specs.Address.{Address}
 use Rattle.cluster_slots.specs.SlotRoute.{SlotRoute}
 use Rattle.cluster_slots.specs.declared.slot.SlotAddr.{SlotAddr}
@@ -45,3 +45,10 @@ abbrev pub IsPickedNode : (Candidates → Address → Type 0) → List (Entry Sl
 IsPickedNode picks entries route address =
     (nodes : SlotNodes) × IsAnswerAt entries route.slot nodes
     × IsPicked picks nodes route.slot route.addr address
+
+-- the address that a route has: that of the strategy where one is lent, else the one by `pick`
+abbrev pub IsRouteNode : {S : Type 0} → Option S → (S → Candidates → Address → Type 0)
+    → List (Entry SlotNodes) → ℕ → SlotRoute → Address → Type 0
+IsRouteNode strategy picks_of entries pick route address =
+    MatchOption strategy (IsNodeOfRoute entries route pick address)
+    (λ s. IsPickedNode (picks_of s) entries route address)
