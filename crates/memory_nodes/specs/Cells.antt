@@ -25,5 +25,6 @@ abbrev pub cell_of : BTreeMap (Vec ℕ Global) (Vec ℕ Global) → Cell
 cell_of values path = option_map (λ value. value.items) (found values path)
 
 -- the keyspace that a tree of such trees keeps
-abbrev pub keyspace_of : BTreeMap (Vec ℕ Global) (BTreeMap (Vec ℕ Global) (Vec ℕ Global)) → Keyspace Cell
+abbrev pub keyspace_of : BTreeMap (Vec ℕ Global) (BTreeMap (Vec ℕ Global) (Vec ℕ Global))
+    → Keyspace Cell
 keyspace_of cells key = option_map cell_of (found cells key)

@@ -13,7 +13,8 @@ use Rattle.memory_nodes.specs.declared.trace_entry.TraceEntry.{TraceEntry}
 abbrev pub node_refused : ErrorParts
 node_refused = record { kind = Client; desc = codes "node refused"; detail = None }
 
--- Whether a fuse refuses the send that finds so many entries in the trace. A fuse of 3 lets two sends through; one of 1, as one of 0, lets none.
+-- Whether a fuse refuses the send that finds so many entries in the trace. A fuse of 3 lets two
+-- sends through; one of 1, as one of 0, lets none.
 abbrev pub IsFused : Option ℕ → ℕ → Type 0
 IsFused None count = ⊥
 IsFused (Some limit) count = limit ≤ count + 1

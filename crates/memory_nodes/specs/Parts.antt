@@ -20,7 +20,13 @@ key_tuples pattern args = map unplaced (tuples_from pattern 0 args)
 
 -- the command that was taken apart, with a form of the reply
 abbrev pub with_form : WholeCommand → ReplyForm → MultiKey
-with_form whole form = record { name = whole.name.items; shared = slice_get (words whole.shared.now) 0; tuples = key_tuples whole.pattern (words whole.tuples.now); form = form }
+with_form whole form =
+    record {
+      name = whole.name.items;
+      shared = slice_get (words whole.shared.now) 0;
+      tuples = key_tuples whole.pattern (words whole.tuples.now);
+      form = form;
+    }
 
 -- and with the form of its policy
 abbrev pub command_by : WholeCommand → Option MultiKey

@@ -57,7 +57,8 @@ act Count shared extras cell = counted cell (is_some cell)
 act Remove shared extras cell = counted None (is_some cell)
 act Leave shared extras cell = counted cell false
 act Write shared extras cell = counted (Some (alone (extra extras 0))) false
-act WriteAtPath shared extras cell = counted (Some (written (extra extras 0) (extra extras 1) cell)) false
+act WriteAtPath shared extras cell =
+    counted (Some (written (extra extras 0) (extra extras 1) cell)) false
 
 -- what a key of a command does, by the command's name
 abbrev pub step : Step Cell

@@ -43,7 +43,8 @@ pub(super) fn write(
     key: &[u8],
     value: &[u8],
 ) -> Result<(), AllocError>
-    ensures { OnOk result (keyspace_of cells.new ≡ put key.now (Some (alone value.now)) (keyspace_of cells.old)) }
+    ensures { OnOk result
+        (keyspace_of cells.new ≡ put key.now (Some (alone value.now)) (keyspace_of cells.old)) }
 {
     let mut values = Values::new(alloc);
     put_value(alloc, &mut values, b"", value)?;
@@ -59,7 +60,10 @@ pub(super) fn write_at_path(
     path: &[u8],
     value: &[u8],
 ) -> Result<(), AllocError>
-    ensures { OnOk result (keyspace_of cells.new ≡ put key.now (Some (written path.now value.now (keyspace_of cells.old key.now))) (keyspace_of cells.old)) }
+    ensures { OnOk result
+        (keyspace_of cells.new
+        ≡ put key.now (Some (written path.now value.now (keyspace_of cells.old key.now)))
+        (keyspace_of cells.old)) }
 {
     let mut values = take_values(alloc, cells, key);
     put_value(alloc, &mut values, path, value)?;
@@ -85,7 +89,8 @@ fn put_value(
     path: &[u8],
     value: &[u8],
 ) -> Result<(), AllocError>
-    ensures { OnOk result (cell_of values.new ≡ put path.now (Some value.now) (cell_of values.old)) }
+    ensures { OnOk result
+        (cell_of values.new ≡ put path.now (Some value.now) (cell_of values.old)) }
 {
     values.insert(path.to_vec(alloc)?, value.to_vec(alloc)?)?;
     Ok(())
@@ -98,7 +103,8 @@ fn put_values(
     key: &[u8],
     values: Values,
 ) -> Result<(), AllocError>
-    ensures { OnOk result (keyspace_of cells.new ≡ put key.now (Some (cell_of values)) (keyspace_of cells.old)) }
+    ensures { OnOk result
+        (keyspace_of cells.new ≡ put key.now (Some (cell_of values)) (keyspace_of cells.old)) }
 {
     cells.insert(key.to_vec(alloc)?, values)?;
     Ok(())

@@ -51,7 +51,8 @@ impl MemoryNodes {
         ensures keyspace { keyspace_in self.new ≡ keyspace_in self.old }
         ensures trace { trace_in self.new ≡ trace_in self.old }
         ensures mark { mark_in self.new ≡ mark_in self.old }
-        ensures may_refuse { (count : ℕ) (ending : Ending) → MayRefuse self.new count ending ↔ ((limit ≤ count + 1) × (ending ≡ refused node_refused)) }
+        ensures may_refuse { (count : ℕ) (ending : Ending) → MayRefuse self.new count ending
+            ↔ ((limit ≤ count + 1) × (ending ≡ refused node_refused)) }
     {
         self.fuse = Some(limit);
     }
@@ -83,10 +84,16 @@ impl MemoryNodes {
     /// Answers a command. Whatever memory it takes, it takes before it changes anything.
     fn answer(&mut self, node: &NodeAddress, cmd: &Cmd) -> Result<Value, AllocError>
         requires whole { IsSome (multi_key (map Some cmd.now)) }
-        ensures reply { IfOk result (λ value. IfSome (multi_key (map Some cmd.now)) (λ command. view value ≡ reply_to step command (keyspace_in self.old))) }
-        ensures keyspace { OnOk result (IfSome (multi_key (map Some cmd.now)) (λ command. keyspace_in self.new ≡ keyspace_after step command (keyspace_in self.old))) }
-        ensures trace { OnOk result (trace_in self.new ≡ trace_in self.old ++ entry node.now cmd.now answered ∷ []) }
-        ensures memory { OnErr result ((keyspace_in self.new ≡ keyspace_in self.old) × (trace_in self.new ≡ trace_in self.old)) }
+        ensures reply { IfOk result
+            (λ value. IfSome (multi_key (map Some cmd.now))
+            (λ command. view value ≡ reply_to step command (keyspace_in self.old))) }
+        ensures keyspace { OnOk result (IfSome (multi_key (map Some cmd.now))
+            (λ command. keyspace_in self.new ≡ keyspace_after step command
+            (keyspace_in self.old))) }
+        ensures trace { OnOk result
+            (trace_in self.new ≡ trace_in self.old ++ entry node.now cmd.now answered ∷ []) }
+        ensures memory { OnErr result ((keyspace_in self.new ≡ keyspace_in self.old)
+            × (trace_in self.new ≡ trace_in self.old)) }
         ensures fuse { self.new.fuse ≡ self.old.fuse }
     {
         let entry = TraceEntry::new(self.alloc, node, cmd, true)?;
@@ -100,7 +107,9 @@ impl MemoryNodes {
     /// Refuses a command, with the one error of a refusal.
     fn refuse(&mut self, node: &NodeAddress, cmd: &Cmd) -> Result<RedisError, AllocError>
         ensures error { IfOk result (λ error. error ≡ node_refused) }
-        ensures trace { OnOk result (trace_in self.new ≡ trace_in self.old ++ entry node.now cmd.now (refused node_refused) ∷ []) }
+        ensures trace { OnOk result
+            (trace_in self.new ≡ trace_in self.old ++ entry node.now cmd.now
+            (refused node_refused) ∷ []) }
         ensures memory { OnErr result (trace_in self.new ≡ trace_in self.old) }
         ensures keyspace { keyspace_in self.new ≡ keyspace_in self.old }
         ensures fuse { self.new.fuse ≡ self.old.fuse }
@@ -127,13 +136,23 @@ impl Nodes for MemoryNodes {
     /// Refuses where the fuse says so, and answers elsewhere.
     fn send(&mut self, node: &NodeAddress, cmd: &Cmd) -> Result<Value, SendError>
         requires whole { IsSome (multi_key (map Some cmd.now)) }
-        ensures reply { IfOk result (λ value. IfSome (multi_key (map Some cmd.now)) (λ command. view value ≡ reply_to step command (keyspace_in self.old))) }
-        ensures keyspace { OnOk result (IfSome (multi_key (map Some cmd.now)) (λ command. keyspace_in self.new ≡ keyspace_after step command (keyspace_in self.old))) }
-        ensures trace { OnOk result (trace_in self.new ≡ trace_in self.old ++ entry node.now cmd.now answered ∷ []) }
+        ensures reply { IfOk result
+            (λ value. IfSome (multi_key (map Some cmd.now))
+            (λ command. view value ≡ reply_to step command (keyspace_in self.old))) }
+        ensures keyspace { OnOk result (IfSome (multi_key (map Some cmd.now))
+            (λ command. keyspace_in self.new ≡ keyspace_after step command
+            (keyspace_in self.old))) }
+        ensures trace { OnOk result
+            (trace_in self.new ≡ trace_in self.old ++ entry node.now cmd.now answered ∷ []) }
         ensures mark { OnOk result (mark_in self.new ≡ false) }
-        ensures unanswered { IfErr result (λ error. IsUnanswered (MayRefuse self.old) (keyspace_in self.old) (keyspace_in self.new) (trace_in self.old) (trace_in self.new) (mark_in self.new) node.now cmd.now (ending_of error)) }
-        ensures may_refuse { (count : ℕ) (ending : Ending) → MayRefuse self.new count ending ↔ MayRefuse self.old count ending }
-        ensures not_refused { OnOk result (¬ (MayRefuse self.old (length (trace_in self.old)) (refused node_refused))) }
+        ensures unanswered { IfErr result
+            (λ error. IsUnanswered (MayRefuse self.old) (keyspace_in self.old)
+            (keyspace_in self.new) (trace_in self.old) (trace_in self.new) (mark_in self.new)
+            node.now cmd.now (ending_of error)) }
+        ensures may_refuse { (count : ℕ) (ending : Ending) → MayRefuse self.new count ending
+            ↔ MayRefuse self.old count ending }
+        ensures not_refused { OnOk result
+            (¬ (MayRefuse self.old (length (trace_in self.old)) (refused node_refused))) }
     {
         if self.is_fused() {
             let Ok(error) = self.refuse(node, cmd) else {

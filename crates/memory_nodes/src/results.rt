@@ -63,7 +63,9 @@ impl Results {
     /// Adds what the next tuple adds.
     pub(super) fn add(&mut self, added: KeyResult) -> Result<(), AllocError>
         requires { self.old.count + 1 < 2 ^ 64 }
-        ensures values { OnOk result (map view self.new.values.items ≡ map view self.old.values.items ++ view added.value ∷ []) }
+        ensures values { OnOk result
+            (map view self.new.values.items ≡ map view self.old.values.items
+            ++ view added.value ∷ []) }
         ensures count { self.new.count ≡ self.old.count + cond added.counts 1 0 }
     {
         self.count += usize::from(added.counts);
@@ -74,7 +76,8 @@ impl Results {
     /// The reply that a policy makes of them.
     pub(super) fn into_reply(self, policy: ResponsePolicy) -> Value
         requires { self.count < 2 ^ 63 }
-        ensures { (results : List TupleResult) → AreKept self results → IfSome (form_by_policy policy) (λ form. view result ≡ reply_by form results) }
+        ensures { (results : List TupleResult) → AreKept self results
+            → IfSome (form_by_policy policy) (λ form. view result ≡ reply_by form results) }
     {
         match policy {
             ResponsePolicy::CombineArrays => Value::Array(self.values),

@@ -23,8 +23,11 @@ pub(super) fn run(
 ) -> Result<Value, AllocError>
     requires args { words args.now ≡ cmd.now }
     requires whole { IsSome (multi_key (map Some cmd.now)) }
-    ensures reply { IfOk result (λ value. IfSome (multi_key (map Some cmd.now)) (λ command. view value ≡ reply_to step command (keyspace_of cells.old))) }
-    ensures cells { OnOk result (IfSome (multi_key (map Some cmd.now)) (λ command. keyspace_of cells.new ≡ keyspace_after step command (keyspace_of cells.old))) }
+    ensures reply { IfOk result
+        (λ value. IfSome (multi_key (map Some cmd.now))
+        (λ command. view value ≡ reply_to step command (keyspace_of cells.old))) }
+    ensures cells { OnOk result (IfSome (multi_key (map Some cmd.now))
+        (λ command. keyspace_of cells.new ≡ keyspace_after step command (keyspace_of cells.old))) }
 {
     let whole = WholeCommand::new(alloc, cmd, args)?;
     let results = run_tuples(alloc, cells, &whole)?;
@@ -38,8 +41,13 @@ fn run_tuples(
     whole: &WholeCommand<'_>,
 ) -> Result<Results, AllocError>
     requires few { length whole.now.tuples.now < 2 ^ 63 }
-    ensures cells { OnOk result (keyspace_of cells.new ≡ after (act_on whole.now) (key_tuples whole.now.pattern (words whole.now.tuples.now)) (keyspace_of cells.old)) }
-    ensures results { IfOk result (λ kept. AreKept kept (results (act_on whole.now) (key_tuples whole.now.pattern (words whole.now.tuples.now)) (keyspace_of cells.old))) }
+    ensures cells { OnOk result
+        (keyspace_of cells.new ≡ after (act_on whole.now)
+        (key_tuples whole.now.pattern (words whole.now.tuples.now)) (keyspace_of cells.old)) }
+    ensures results { IfOk result
+        (λ kept. AreKept kept
+        (results (act_on whole.now) (key_tuples whole.now.pattern (words whole.now.tuples.now))
+        (keyspace_of cells.old))) }
     ensures few { IfOk result (λ kept. kept.count < 2 ^ 63) }
 {
     let action = Action::of_name(&whole.name);
@@ -71,8 +79,15 @@ fn run_tuple(
     key: &[u8],
     extras: &[Vec<u8>],
 ) -> Result<KeyResult, AllocError>
-    ensures cells { OnOk result (keyspace_of cells.new ≡ put key.now (act action (slice_get (words shared.now) 0) (words extras.now) (keyspace_of cells.old key.now)).cell (keyspace_of cells.old)) }
-    ensures added { IfOk result (λ added. result_of added ≡ (act action (slice_get (words shared.now) 0) (words extras.now) (keyspace_of cells.old key.now)).result) }
+    ensures cells { OnOk result
+        (keyspace_of cells.new
+        ≡ put key.now
+        (act action (slice_get (words shared.now) 0) (words extras.now)
+        (keyspace_of cells.old key.now)).cell (keyspace_of cells.old)) }
+    ensures added { IfOk result
+        (λ added. result_of added
+        ≡ (act action (slice_get (words shared.now) 0) (words extras.now)
+        (keyspace_of cells.old key.now)).result) }
 {
     match action {
         Action::Read => read(alloc, cells, key, b""),
@@ -93,7 +108,9 @@ fn run_tuple(
 
 /// Reads the value at a path of a key.
 fn read(alloc: Global, cells: &Cells, key: &[u8], path: &[u8]) -> Result<KeyResult, AllocError>
-    ensures { IfOk result (λ read. result_of read ≡ record { value = shown (value_at (keyspace_of cells.now key.now) path.now); counts = false }) }
+    ensures { IfOk result
+        (λ read. result_of read ≡ record {
+        value = shown (value_at (keyspace_of cells.now key.now) path.now); counts = false }) }
 {
     match value_at(cells, key, path) {
         Some(value) => Ok(KeyResult::value(Value::BulkString(value.to_vec(alloc)?))),

@@ -74,7 +74,8 @@ pub fn delete<N: Nodes>(
     nodes: &mut N,
 ) -> Result<Value, DriveError>
     ensures unsplit { IfOk result (λ count. IfSome (multi_key (map Some command.now)) (λ whole.
-        (view count ≡ reply_to N.step whole (N.keyspace nodes.old)) × (N.keyspace nodes.new ≡ keyspace_after N.step whole (N.keyspace nodes.old)))) }
+        (view count ≡ reply_to N.step whole (N.keyspace nodes.old))
+        × (N.keyspace nodes.new ≡ keyspace_after N.step whole (N.keyspace nodes.old)))) }
 {
     let none_only_reads = ReadOnlyNames::new(alloc);
     drive(
