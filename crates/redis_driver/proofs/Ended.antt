@@ -25,11 +25,13 @@ use Rattle.redis_nodes.proofs.Whole.{keyspace_of_all, keyspace_at_stop, names_sl
 use Rattle.redis_driver.specs.Driven.{Request, State, IsCoveredCommand, IsDrivable, IsEntryOf, AreSent}
 use Rattle.redis_driver.specs.Ended.{AreEndedEarly}
 use Rattle.redis_driver.specs.Faults.{fault_of_send, IsUntouched, IsStopped, IsNodeFault, IsLateMemory, IsFault, IsEarly}
-use Rattle.redis_driver.specs.Plan.{Plan, slots_of}
+use Rattle.redis_driver.specs.Plan.{Plan}
+use Rattle.redis_routing.specs.Split.{slots_of}
 use Rattle.redis_driver.specs.Sends.{Target, targets, target_entry, IsLast, AreStopped}
 use Rattle.redis_driver.specs.declared.fault.DriveFault.{DriveFault}
 use Rattle.redis_driver.specs.declared.fault.DriveFault.TheVariants as early
 use Rattle.redis_driver.specs.Ready.{IsTarget, IsReady}
+use Rattle.redis_driver.proofs.Constructors.{same_some}
 
 module _ {A B : Type 0} (R : A → B → Type 0) where
   both_append : (xs us : List A) (ys vs : List B) → AllZip R xs ys → AllZip R us vs → AllZip R (xs ++ us) (ys ++ vs)
@@ -56,10 +58,7 @@ module _ {A B : Type 0} (R : A → B → Type 0) where
   beside [] [] k y each at = absurd (cc at)
   beside [] (v ∷ ys) k y each at = absurd each
   beside (x ∷ xs) [] k y each at = absurd each
-  beside (x ∷ xs) (v ∷ ys) zero y each at = (x, refl, subst (R x) (same_one v y at) each.0)
-    where
-      same_one : (a b : B) → Some a ≡ Some b → a ≡ b
-      same_one a b e = cc
+  beside (x ∷ xs) (v ∷ ys) zero y each at = (x, refl, subst (R x) (same_some v y at) each.0)
   beside (x ∷ xs) (v ∷ ys) (suc k) y each at = beside xs ys k y each.1 at
 
 -- the first of an order are those of the order's first

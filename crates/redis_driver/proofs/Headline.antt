@@ -17,9 +17,7 @@ use Rattle.redis_driver.specs.Driven.{Request, State, routes_by, IsEntryOf, IsHe
 use Rattle.redis_driver.specs.Faults.{IsFault, IsNodeFault}
 use Rattle.redis_driver.specs.declared.fault.DriveFault.{DriveFault}
 use Rattle.redis_driver.specs.declared.fault.DriveFault.TheVariants.{NotMultiKey, NotCovered, BadOrder, Memory, Node, Reply}
-
-same_some : {A : Type 0} {x y : A} → Some x ≡ Some y → x ≡ y
-same_some h = cc
+use Rattle.redis_driver.proofs.Constructors.{same_some}
 
 -- what holds of each holds of the one in the middle
 middle : {X : Type 0} (P : X → Type 0) (xs : List X) (y : X) (ys : List X) → All P (xs ++ y ∷ ys) → P y
@@ -28,7 +26,7 @@ middle P (x ∷ xs) y ys all = middle P xs y ys (All-tail P x (xs ++ y ∷ ys) a
 
 module _ {C : Type 0} (IsNode : SlotRoute → Address → Type 0) (step : Step C) (r : Request) (old new : State C) (may_refuse : ℕ → Ending → Type 0) (h : IsHeadline may_refuse r old.trace) where
   routes_same : (routes : List SlotRoute) → routes_by r.only_reads r.arguments ≡ Some routes → routes ≡ h.routes
-  routes_same routes is = same_some (sym is ∙ h.drivable.is_covered.routes_are)
+  routes_same routes is = same_some routes h.routes (sym is ∙ h.drivable.is_covered.routes_are)
 
   no_refusal : (error : ErrorParts) (count : ℕ) → IsNodeFault IsNode step r old new may_refuse error count → ⊥
   no_refusal error count f =

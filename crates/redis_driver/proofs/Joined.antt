@@ -14,13 +14,13 @@ use Rattle.redis_commands.specs.declared.policy.AggregateOp.TheVariants.{Min, Su
 use Rattle.redis_commands.specs.declared.policy.ResponsePolicy.{ResponsePolicy}
 use Rattle.redis_commands.specs.declared.policy.ResponsePolicy.TheVariants.{OneSucceeded, FirstSucceededNonEmptyOrAllEmpty, AllSucceeded, AggregateLogical, Aggregate, CombineArrays, Special, CombineMaps}
 use Rattle.redis_commands.specs.declared.route_by.MultiSlotArgPattern.{MultiSlotArgPattern}
-use Rattle.redis_routing.specs.Split.{Split, IsSplit}
+use Rattle.redis_routing.specs.Split.{Split, IsSplit, slots_of}
 use Rattle.redis_routing.specs.RoutingInfo.{route_lists}
 use Rattle.redis_nodes.specs.MultiKey.{ReplyForm, list, count, okay, form_by_policy}
 use Rattle.redis_nodes.specs.SlotResults.{results_of_slot}
 use Rattle.redis_nodes.specs.Unsplit.{TupleResult, reply_by}
 use Rattle.redis_driver.specs.Joined.{joined, joined_by, or_refused}
-use Rattle.redis_driver.specs.Plan.{ArePartsAnswered, slots_of, tuples_in_split}
+use Rattle.redis_driver.specs.Plan.{ArePartsAnswered, tuples_in_split}
 use Rattle.redis_driver.proofs.SplitTuples.{IsSplitTo, is_split_to}
 use Rattle.redis_driver.proofs.JoinedCounts.{counts_joined}
 use Rattle.redis_driver.proofs.JoinedLists.{lists_joined}

@@ -34,7 +34,7 @@ use Rattle.redis_nodes.proofs.Orders.{in_order-append, length-in_order}
 use Rattle.redis_nodes.proofs.Placed.{map-results_of_slot, numbers_share_out, numbers_within}
 use Rattle.redis_nodes.proofs.Places.{numbers_of_slot}
 use Rattle.redis_nodes.proofs.SplitPlaces.{places_of_part}
-use Rattle.redis_driver.specs.Plan.{slots_of}
+use Rattle.redis_routing.specs.Split.{slots_of}
 use Rattle.redis_driver.proofs.PlacesOfKeys.{places_of_keys}
 
 -- items taken in an order, and put back

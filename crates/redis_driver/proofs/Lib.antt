@@ -1,3 +1,4 @@
+pub mod Constructors
 pub mod Sending
 pub mod SplitTuples
 pub mod JoinedCounts

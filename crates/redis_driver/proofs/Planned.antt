@@ -12,22 +12,14 @@ use Rattle.redis_commands.specs.NameTables.{own_tables}
 use Rattle.redis_commands.specs.PresentArguments.{present_arguments_after}
 use Rattle.redis_routing.specs.Complete.{multi_slot_routes, part_by_name, part_by_pattern, pattern_by_name, pattern_of}
 use Rattle.redis_routing.specs.Parts.{part_of_slot_after}
-use Rattle.redis_routing.specs.Split.{Split, split_part, policy_by_name}
+use Rattle.redis_routing.specs.Split.{Split, split_part, policy_by_name, slots_of}
 use Rattle.redis_nodes.specs.MultiKey.{MultiKey, form_of_policy, multi_key, part_of, tuples_of}
 use Rattle.redis_nodes.proofs.SplitParts.{command_of_routes, is_made, part_means}
 use Rattle.redis_driver.specs.Driven.{Request}
-use Rattle.redis_driver.specs.Plan.{Plan, IsPlan, slots_of}
+use Rattle.redis_driver.specs.Plan.{Plan, IsPlan}
 use Rattle.redis_driver.specs.Sends.{IsPlanOf}
 use Rattle.redis_driver.specs.Ready.{IsTarget, IsReady}
-
-heads : {X : Type 0} {x y : X} {xs ys : List X} → x ∷ xs ≡ y ∷ ys → x ≡ y
-heads e = cc
-
-tails : {X : Type 0} {x y : X} {xs ys : List X} → x ∷ xs ≡ y ∷ ys → xs ≡ ys
-tails e = cc
-
-same_some : {A : Type 0} (x y : A) → Some x ≡ Some y → x ≡ y
-same_some x y h = cc
+use Rattle.redis_driver.proofs.Constructors.{same_some, same_head, same_tail}
 
 -- each part means its slot
 each_part : (command : MultiKey) (part_at : ℕ → Arguments) (slots : List ℕ) (parts : List (List (List ℕ))) → map (map Some) parts ≡ map part_at slots
@@ -36,8 +28,8 @@ each_part command part_at [] [] same each = tt
 each_part command part_at [] (p ∷ parts) same each = absurd (cc same)
 each_part command part_at (s ∷ slots) [] same each = absurd (cc same)
 each_part command part_at (s ∷ slots) (p ∷ parts) same each = (
-  ap multi_key (heads same) ∙ All-head (λ slot. multi_key (part_at slot) ≡ Some (part_of command slot)) s slots each,
-  each_part command part_at slots parts (tails same) (All-tail (λ slot. multi_key (part_at slot) ≡ Some (part_of command slot)) s slots each),
+  ap multi_key (same_head same) ∙ All-head (λ slot. multi_key (part_at slot) ≡ Some (part_of command slot)) s slots each,
+  each_part command part_at slots parts (same_tail same) (All-tail (λ slot. multi_key (part_at slot) ≡ Some (part_of command slot)) s slots each),
 )
 
 -- a part of the plan is that of its slot by the command's name
@@ -81,7 +73,7 @@ targets_by IsNode args part_at [] (n ∷ nodes) parts same each parts_are = absu
 targets_by IsNode args part_at (r ∷ routes) [] parts same each parts_are = absurd each
 targets_by IsNode args part_at (r ∷ routes) (n ∷ nodes) [] same each parts_are = absurd (cc parts_are)
 targets_by IsNode args part_at (r ∷ routes) (n ∷ nodes) (p ∷ parts) same each parts_are =
-    ((each.0, heads parts_are ∙ same r.0.slot), targets_by IsNode args part_at routes nodes parts same each.1 (tails parts_are))
+    ((each.0, same_head parts_are ∙ same r.0.slot), targets_by IsNode args part_at routes nodes parts same each.1 (same_tail parts_are))
 
 pub ready : (IsNode : SlotRoute → Address → Type 0) (r : Request) (plan : Plan) → plan.split.arguments ≡ r.arguments → plan.split.words ≡ 1 → Some plan.split.routes ≡ multi_slot_routes r.only_reads r.arguments
     → Some plan.split.pattern ≡ pattern_by_name (command_of r.arguments) → Some plan.split.policy ≡ policy_by_name (command_of r.arguments) → IsPlan plan

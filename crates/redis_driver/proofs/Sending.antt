@@ -17,6 +17,7 @@ use Rattle.redis_nodes.specs.Unsplit.{Keyspace}
 use Rattle.redis_nodes.proofs.Counts.{same_number}
 use Rattle.redis_nodes.proofs.Once.{times_more, times-take, names_once-apart}
 use Rattle.redis_driver.specs.Sends.{Target, IsLast}
+use Rattle.redis_driver.proofs.Constructors.{same_some}
 
 -- the slot of a route, and where its part goes, which is that of the slot
 pub record RouteTarget (command : MultiKey) (slots : List ℕ) (nodes : List Address) (parts : List (List (List ℕ))) (number : ℕ) : Type 0 where
@@ -78,9 +79,6 @@ AreTold replies slots order count reply_of = (number slot : ℕ) → slice_get s
 -- and no other
 abbrev pub AreUntold : List (Option Value) → List ℕ → ℕ → ℕ → Type 0
 AreUntold replies order count routes = (number : ℕ) → number < routes → times number (take count order) ≡ 0 → slice_get replies number ≡ Some None
-
-same_some : {A : Type 0} (x y : A) → Some x ≡ Some y → x ≡ y
-same_some x y h = cc
 
 module _ (replies : List (Option Value)) (slots order : List ℕ) (count number : ℕ) (within : count < length order) (is : number ≡ get_or order count 0) (room : number < length replies) where
   more_at : (other : ℕ) → times other (take (count + 1) order) ≡ times other (take count order) + cond (nat_eq other number) 1 0

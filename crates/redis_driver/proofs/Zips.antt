@@ -2,9 +2,7 @@
 use Rattle.std.proofs.Common.{◌≡◌, ℕ, zero, suc, arith, length, List, [], ◌∷◌, Some, ap}
 use Rattle.std.specs.Prelude.{slice_get}
 use Rattle.std.specs.List.{zip}
-
-same_some : {A : Type 0} (x y : A) → Some x ≡ Some y → x ≡ y
-same_some x y h = cc
+use Rattle.redis_driver.proofs.Constructors.{same_some}
 
 -- what stands at a place is what stands there in each of the two
 pub zip_at : {A B : Type 0} (xs : List A) (ys : List B) (k : ℕ) (t : A × B) → slice_get (zip xs ys) k ≡ Some t → (slice_get xs k ≡ Some t.0) × (slice_get ys k ≡ Some t.1)

@@ -16,7 +16,8 @@ use Rattle.redis_nodes.specs.Orders.{NamesOnce, in_order, tuples_of_slots}
 use Rattle.redis_nodes.specs.Trace.{Entry, Ending, answered, refused}
 use Rattle.redis_nodes.specs.Unsplit.{Step, Keyspace, act_of, after, keyspace_after, reply_to}
 
--- what is asked of the driver: a command's arguments, the names that only read, the entries of the map, and the order of the routes
+-- what is asked of the driver: a command's arguments, the names that only read, the entries of the
+-- map, and the order of the routes
 pub record Request : Type 0 where
   pub arguments : Arguments
   pub only_reads : List ℕ → Bool
@@ -24,7 +25,8 @@ pub record Request : Type 0 where
   pub order : List ℕ
 
 abbrev pub request : Arguments → (List ℕ → Bool) → List (ranges.Entry SlotNodes) → List ℕ → Request
-request args only_reads entries order = record { arguments = args; only_reads = only_reads; map = entries; order = order }
+request args only_reads entries order =
+    record { arguments = args; only_reads = only_reads; map = entries; order = order }
 
 -- what contracts see of nodes
 pub record State (C : Type 0) : Type 0 where
@@ -40,7 +42,8 @@ abbrev pub routes_by : (List ℕ → Bool) → Arguments → Option (List SlotRo
 routes_by only_reads args = option_map (map (λ r. r.0)) (multi_slot_routes only_reads args)
 
 -- the first of the routes that has no node has this slot
-pub record IsFirstUncovered (entries : List (ranges.Entry SlotNodes)) (routes : List SlotRoute) (slot : ℕ) : Type 0 where
+pub record IsFirstUncovered (entries : List (ranges.Entry SlotNodes)) (routes : List SlotRoute)
+    (slot : ℕ) : Type 0 where
   pub before : List SlotRoute
   pub route : SlotRoute
   pub rest : List SlotRoute
@@ -50,7 +53,8 @@ pub record IsFirstUncovered (entries : List (ranges.Entry SlotNodes)) (routes : 
   pub slot_is : slot ≡ route.slot
 
 -- The command is complete, with these routes, and each route's slot has a node.
-pub record IsCoveredCommand (r : Request) (routes : List SlotRoute) (command : MultiKey) : Type 0 where
+pub record IsCoveredCommand (r : Request) (routes : List SlotRoute) (command : MultiKey)
+    : Type 0 where
   pub routes_are : routes_by r.only_reads r.arguments ≡ Some routes
   pub command_is : multi_key r.arguments ≡ Some command
   pub covered : All (λ route. IsCovered r.map route.slot) routes
@@ -63,7 +67,8 @@ pub record IsDrivable (r : Request) (routes : List SlotRoute) (command : MultiKe
 module _ (IsNode : SlotRoute → Address → Type 0) (args : Arguments) where
   -- the entry of the part of a route's slot, sent to a node of the route
   abbrev pub IsEntryOf : Ending → SlotRoute → Entry → Type 0
-  IsEntryOf ending route e = IsNode route e.node × (map Some e.args ≡ part_by_name args route.slot) × (e.ending ≡ ending)
+  IsEntryOf ending route e =
+      IsNode route e.node × (map Some e.args ≡ part_by_name args route.slot) × (e.ending ≡ ending)
 
   -- the trace grew by an answered entry for each of these routes, in their order
   pub record AreSent (routes : List SlotRoute) (old new : List Entry) : Type 0 where
@@ -71,8 +76,10 @@ module _ (IsNode : SlotRoute → Address → Type 0) (args : Arguments) where
     pub grew : new ≡ old ++ entries
     pub each : AllZip (IsEntryOf answered) routes entries
 
-module _ {C : Type 0} (IsNode : SlotRoute → Address → Type 0) (step : Step C) (r : Request) (old new : State C) where
-  -- The command was driven to its end: each part was sent once, in the order given, to a node of its route, and the keyspace and the reply are those of the unsplit command.
+module _ {C : Type 0} (IsNode : SlotRoute → Address → Type 0) (step : Step C) (r : Request)
+    (old new : State C) where
+  -- The command was driven to its end: each part was sent once, in the order given, to a node of
+  -- its route, and the keyspace and the reply are those of the unsplit command.
   pub record IsDriven (value : Reply) : Type 0 where
     pub routes : List SlotRoute
     pub command : MultiKey
@@ -81,17 +88,24 @@ module _ {C : Type 0} (IsNode : SlotRoute → Address → Type 0) (step : Step C
     pub keyspace : new.keyspace ≡ keyspace_after step command old.keyspace
     pub reply : value ≡ reply_to step command old.keyspace
 
-  -- These routes of it, and no other, were answered: the trace has their entries, and the keyspace is that of the tuples of their slots, in the order of the arguments.
-  pub record AreAnswered (command : MultiKey) (routes : List SlotRoute) (trace : List Entry) : Type 0 where
+  -- These routes of it, and no other, were answered: the trace has their entries, and the keyspace
+  -- is that of the tuples of their slots, in the order of the arguments.
+  pub record AreAnswered (command : MultiKey) (routes : List SlotRoute) (trace : List Entry)
+      : Type 0 where
     pub sent : AreSent IsNode r.arguments routes old.trace trace
-    pub keyspace : new.keyspace ≡ after (act_of step command) (tuples_of_slots (map (λ route. route.slot) routes) command.tuples) old.keyspace
+    pub keyspace : new.keyspace ≡ after (act_of step command)
+        (tuples_of_slots (map (λ route. route.slot) routes) command.tuples) old.keyspace
 
 -- no send of those after so many entries may be refused
 abbrev pub AreWilling : (ℕ → Ending → Type 0) → ℕ → ℕ → Type 0
-AreWilling may_refuse entries sends = (number : ℕ) → entries ≤ number → number < entries + sends → (error : ErrorParts) → may_refuse number (refused error) → ⊥
+AreWilling may_refuse entries sends =
+    (number : ℕ) → entries ≤ number → number < entries + sends → (error : ErrorParts)
+    → may_refuse number (refused error) → ⊥
 
--- what is needed beside memory, so that a command is driven to its end: it can be driven, and no node refuses
-pub record IsHeadline (may_refuse : ℕ → Ending → Type 0) (r : Request) (trace : List Entry) : Type 0 where
+-- what is needed beside memory, so that a command is driven to its end: it can be driven, and no
+-- node refuses
+pub record IsHeadline (may_refuse : ℕ → Ending → Type 0) (r : Request) (trace : List Entry)
+    : Type 0 where
   pub routes : List SlotRoute
   pub command : MultiKey
   pub drivable : IsDrivable r routes command

@@ -12,20 +12,24 @@ use Rattle.redis_driver.specs.Sends.{targets, target_entry, IsPlanOf, AreStopped
 use Rattle.redis_driver.specs.declared.fault.DriveFault.{DriveFault}
 use Rattle.redis_driver.specs.declared.fault.DriveFault.TheVariants.{Memory}
 
-module _ {C : Type 0} (step : Step C) (may_refuse : ℕ → Ending → Type 0) (plan : Plan) (order : List ℕ) (old_keys new_keys : Keyspace C) (old new : List Entry) (mark : Bool) where
+module _ {C : Type 0} (step : Step C) (may_refuse : ℕ → Ending → Type 0) (plan : Plan)
+    (order : List ℕ) (old_keys new_keys : Keyspace C) (old new : List Entry) (mark : Bool) where
   -- a send was not answered
   pub record IsSendEnded (fault : DriveFault) (count : ℕ) : Type 0 where
     pub error : SendError
     pub fault_is : fault ≡ fault_of_send error
     pub within : count < length plan.split.routes
-    pub stopped : (command : MultiKey) → IsPlanOf command plan → AreStopped step may_refuse command plan order count old_keys new_keys old new mark (ending_of error)
+    pub stopped : (command : MultiKey) → IsPlanOf command plan
+        → AreStopped step may_refuse command plan order count old_keys new_keys old new mark
+        (ending_of error)
 
   -- all were answered, and memory ran out in making one list of the replies
   pub record IsListEnded (fault : DriveFault) (count : ℕ) : Type 0 where
     pub fault_is : fault ≡ Memory
     pub count_is : count ≡ length plan.split.routes
     pub trace : new ≡ old ++ map (target_entry answered) (in_order (targets plan) order)
-    pub keyspace : (command : MultiKey) → IsPlanOf command plan → new_keys ≡ keyspace_after step command old_keys
+    pub keyspace : (command : MultiKey) → IsPlanOf command plan
+        → new_keys ≡ keyspace_after step command old_keys
     pub form : (command : MultiKey) → IsPlanOf command plan → command.form ≡ list
 
   abbrev pub AreEndedEarly : DriveFault → ℕ → Type 0

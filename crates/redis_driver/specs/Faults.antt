@@ -28,22 +28,27 @@ fault_of_send (sent.Refused error) = Node error
 fault_of_send sent.Memory = Memory
 
 -- why a command has no plan, but for memory
-abbrev pub IsPlanFault : List (ranges.Entry SlotNodes) → (List ℕ → Bool) → Arguments → PlanFault → Type 0
+abbrev pub IsPlanFault : List (ranges.Entry SlotNodes) → (List ℕ → Bool) → Arguments → PlanFault
+    → Type 0
 IsPlanFault entries only_reads args plan.NotMultiKey = routes_by only_reads args ≡ None
 IsPlanFault entries only_reads args (plan.NotCovered slot) =
-    (routes : List SlotRoute) × (routes_by only_reads args ≡ Some routes) × IsFirstUncovered entries routes slot
+    (routes : List SlotRoute) × (routes_by only_reads args ≡ Some routes)
+        × IsFirstUncovered entries routes slot
 IsPlanFault entries only_reads args plan.Memory = Unit {0}
 
 -- why nothing of a request is sent
 abbrev pub IsEarly : Request → DriveFault → Type 0
 IsEarly r NotMultiKey = IsPlanFault r.map r.only_reads r.arguments plan.NotMultiKey
 IsEarly r (NotCovered slot) = IsPlanFault r.map r.only_reads r.arguments (plan.NotCovered slot)
-IsEarly r BadOrder = (routes : List SlotRoute) × (command : MultiKey) × IsCoveredCommand r routes command × (NamesOnce (length routes) r.order → ⊥)
+IsEarly r BadOrder =
+    (routes : List SlotRoute) × (command : MultiKey)
+    × IsCoveredCommand r routes command × (NamesOnce (length routes) r.order → ⊥)
 IsEarly r Memory = Unit {0}
 IsEarly r (Node error) = ⊥
 IsEarly r (Reply error) = ⊥
 
-module _ {C : Type 0} (IsNode : SlotRoute → Address → Type 0) (step : Step C) (r : Request) (old new : State C) where
+module _ {C : Type 0} (IsNode : SlotRoute → Address → Type 0) (step : Step C) (r : Request)
+    (old new : State C) where
   -- nothing was sent
   pub record IsUntouched (count : ℕ) : Type 0 where
     pub answered : count ≡ 0
@@ -51,13 +56,16 @@ module _ {C : Type 0} (IsNode : SlotRoute → Address → Type 0) (step : Step C
     pub trace : new.trace ≡ old.trace
 
   -- the parts of the first routes of the order, so many, were answered, and no other
-  pub record IsStopped (routes : List SlotRoute) (command : MultiKey) (count : ℕ) (trace : List Entry) : Type 0 where
+  pub record IsStopped (routes : List SlotRoute) (command : MultiKey) (count : ℕ)
+      (trace : List Entry) : Type 0 where
     pub drivable : IsDrivable r routes command
     pub within : count ≤ length routes
-    pub answered : AreAnswered IsNode step r old new command (take count (in_order routes r.order)) trace
+    pub answered : AreAnswered IsNode step r old new command (take count (in_order routes r.order))
+        trace
 
   -- the node of the next route refused its part with the error
-  pub record IsNodeFault (may_refuse : ℕ → Ending → Type 0) (error : ErrorParts) (count : ℕ) : Type 0 where
+  pub record IsNodeFault (may_refuse : ℕ → Ending → Type 0) (error : ErrorParts) (count : ℕ)
+      : Type 0 where
     pub routes : List SlotRoute
     pub command : MultiKey
     pub before : List Entry
@@ -69,7 +77,8 @@ module _ {C : Type 0} (IsNode : SlotRoute → Address → Type 0) (step : Step C
     pub trace : new.trace ≡ before ++ last ∷ []
     pub allowed : may_refuse (length before) (refused error)
 
-  -- memory ran out after an answer: at a node, which the mark tells, or in combining all replies to a list
+  -- memory ran out after an answer: at a node, which the mark tells, or in combining all replies to
+  -- a list
   pub record IsLateMemory (count : ℕ) : Type 0 where
     pub routes : List SlotRoute
     pub command : MultiKey
@@ -79,8 +88,10 @@ module _ {C : Type 0} (IsNode : SlotRoute → Address → Type 0) (step : Step C
 
   -- the fault has its cause, and so many parts took effect
   abbrev pub IsFault : (may_refuse : ℕ → Ending → Type 0) → DriveFault → ℕ → Type 0
-  IsFault may_refuse NotMultiKey count = IsEarly r NotMultiKey × IsUntouched count × (new.mark ≡ old.mark)
-  IsFault may_refuse (NotCovered slot) count = IsEarly r (NotCovered slot) × IsUntouched count × (new.mark ≡ old.mark)
+  IsFault may_refuse NotMultiKey count =
+      IsEarly r NotMultiKey × IsUntouched count × (new.mark ≡ old.mark)
+  IsFault may_refuse (NotCovered slot) count =
+      IsEarly r (NotCovered slot) × IsUntouched count × (new.mark ≡ old.mark)
   IsFault may_refuse BadOrder count = IsEarly r BadOrder × IsUntouched count × (new.mark ≡ old.mark)
   IsFault may_refuse Memory count = IsUntouched count ⊎ IsLateMemory count
   IsFault may_refuse (Node error) count = IsNodeFault may_refuse error count

@@ -16,9 +16,11 @@ or_refused kind None = Err kind
 or_refused kind (Some reply) = Ok reply
 
 -- the reply by the policy: one array in the order of the keys, one number, or the first reply
-abbrev pub joined_by : ResponsePolicy → MultiSlotArgPattern → List (List ℕ) → List Reply → Result Reply ErrorKind
+abbrev pub joined_by : ResponsePolicy → MultiSlotArgPattern → List (List ℕ) → List Reply
+    → Result Reply ErrorKind
 joined_by CombineArrays pattern lists replies = sorted_arrays pattern replies lists
-joined_by (Aggregate op) pattern lists replies = or_refused UnexpectedReturnType (aggregate_of op replies)
+joined_by (Aggregate op) pattern lists replies =
+    or_refused UnexpectedReturnType (aggregate_of op replies)
 joined_by _ pattern lists replies = or_refused Client (slice_get replies 0)
 
 -- the one reply to the command, by those to its parts, or the kind of the refusal

@@ -1,25 +1,23 @@
--- The plan of a command over many keys: a part for each of its routes, the node that it goes to, and the reply to it.
+-- The plan of a command over many keys: a part for each of its routes, the node that it goes to,
+-- and the reply to it.
 use Rattle.std.specs.Prelude.{◌≡◌, ℕ, Bool, cond, List, [], ◌∷◌, Option, None, Some, map, length}
 use Rattle.resp_core.specs.Reply.{Reply}
 use Rattle.resp_core.specs.View.{view}
 use Rattle.resp_core.specs.declared.value.Value.{Value}
 use Rattle.cluster_slots.specs.Address.{Address}
-use Rattle.cluster_slots.specs.SlotRoute.{SlotRoute}
 use Rattle.redis_commands.specs.PresentArguments.{present_arguments_after}
-use Rattle.redis_routing.specs.Split.{Split, IsSplit, split_part}
+use Rattle.redis_routing.specs.Split.{Split, IsSplit, slots_of, split_part}
 use Rattle.redis_nodes.specs.MultiKey.{KeyTuple, ReplyForm, tuples_of, form_by_policy}
 use Rattle.redis_nodes.specs.SlotResults.{results_of_slot}
 use Rattle.redis_nodes.specs.Unsplit.{TupleResult, reply_by}
 
--- the command with its routes, and for each route its node, its part, and its reply, if that was told
+-- the command with its routes, and for each route its node, its part, and its reply, if that was
+-- told
 pub record Plan : Type 0 where
   pub split : Split
   pub nodes : List Address
   pub parts : List (List (List ℕ))
   pub replies : List (Option Value)
-
-abbrev pub slots_of : List (SlotRoute × List ℕ) → List ℕ
-slots_of routes = map (λ r. r.0.slot) routes
 
 -- each route has a node, its own part, and room for a reply
 pub record IsPlan (plan : Plan) : Type 0 where
@@ -36,16 +34,21 @@ told (is_told ∷ rest) (reply ∷ replies) = cond is_told (Some reply) None ∷
 
 -- the tuples of the command
 abbrev pub tuples_in_split : Split → List KeyTuple
-tuples_in_split split = tuples_of split.pattern (present_arguments_after split.words split.arguments)
+tuples_in_split split =
+    tuples_of split.pattern (present_arguments_after split.words split.arguments)
 
 -- These are the replies to the parts, where the tuples of the unsplit command have these results.
-pub record ArePartsAnswered (split : Split) (form : ReplyForm) (results : List TupleResult) (replies : List Reply) : Type 0 where
+pub record ArePartsAnswered (split : Split) (form : ReplyForm) (results : List TupleResult)
+    (replies : List Reply) : Type 0 where
   pub form_is : form_by_policy split.policy ≡ Some form
   pub each : length results ≡ length (tuples_in_split split)
-  pub replies_are : replies ≡ map (λ slot. reply_by form (results_of_slot slot (tuples_in_split split) results)) (slots_of split.routes)
+  pub replies_are : replies ≡ map
+      (λ slot. reply_by form (results_of_slot slot (tuples_in_split split) results))
+      (slots_of split.routes)
 
 -- All replies of the plan were told, and these are they.
-pub record ArePartReplies (plan : Plan) (form : ReplyForm) (results : List TupleResult) : Type 0 where
+pub record ArePartReplies (plan : Plan) (form : ReplyForm) (results : List TupleResult)
+    : Type 0 where
   pub replies : List Value
   pub all_told : plan.replies ≡ map Some replies
   pub answered : ArePartsAnswered plan.split form results (map view replies)

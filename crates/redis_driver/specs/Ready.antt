@@ -13,12 +13,15 @@ use Rattle.redis_driver.specs.Sends.{Target, targets, IsPlanOf}
 
 -- a route's node, and its part
 abbrev pub IsTarget : (SlotRoute → Address → Type 0) → Arguments → SlotRoute → Target → Type 0
-IsTarget IsNode args route target = IsNode route target.0 × (map Some target.1 ≡ part_by_name args route.slot)
+IsTarget IsNode args route target =
+    IsNode route target.0 × (map Some target.1 ≡ part_by_name args route.slot)
 
 -- the plan is of the command that is asked for, and each of its routes has a node
-pub record IsReady (IsNode : SlotRoute → Address → Type 0) (r : Request) (plan : Plan) (command : MultiKey) : Type 0 where
+pub record IsReady (IsNode : SlotRoute → Address → Type 0) (r : Request) (plan : Plan)
+    (command : MultiKey) : Type 0 where
   pub plan_is : IsPlanOf command plan
   pub command_is : multi_key r.arguments ≡ Some command
   pub routes_are : routes_by r.only_reads r.arguments ≡ Some (map (λ t. t.0) plan.split.routes)
   pub covered : All (λ route. IsCovered r.map route.slot) (map (λ t. t.0) plan.split.routes)
-  pub targets_are : AllZip (IsTarget IsNode r.arguments) (map (λ t. t.0) plan.split.routes) (targets plan)
+  pub targets_are : AllZip (IsTarget IsNode r.arguments) (map (λ t. t.0) plan.split.routes)
+      (targets plan)

@@ -7,7 +7,8 @@ use Rattle.redis_nodes.specs.MultiKey.{MultiKey, multi_key, part_of, form_by_pol
 use Rattle.redis_nodes.specs.Orders.{times, in_order, tuples_of_slots}
 use Rattle.redis_nodes.specs.Trace.{Entry, Ending, answered, entry}
 use Rattle.redis_nodes.specs.Unsplit.{Step, Keyspace, act_of, after}
-use Rattle.redis_driver.specs.Plan.{Plan, slots_of, tuples_in_split}
+use Rattle.redis_driver.specs.Plan.{Plan, tuples_in_split}
+use Rattle.redis_routing.specs.Split.{slots_of}
 
 -- where a part goes, and the part
 abbrev pub Target : Type 0
@@ -28,17 +29,28 @@ pub record IsPlanOf (command : MultiKey) (plan : Plan) : Type 0 where
   pub at_most_once : (slot : ℕ) → times slot (slots_of plan.split.routes) ≤ 1
   pub once : All (λ t. times (key_slot t.key) (slots_of plan.split.routes) ≡ 1) command.tuples
   pub nodes : length plan.nodes ≡ length plan.split.routes
-  pub parts : AllZip (λ slot part. multi_key (map Some part) ≡ Some (part_of command slot)) (slots_of plan.split.routes) plan.parts
+  pub parts : AllZip (λ slot part. multi_key (map Some part) ≡ Some (part_of command slot))
+      (slots_of plan.split.routes) plan.parts
 
 -- the last send was refused, which its entry tells, or ran out of memory, which the mark tells
-abbrev pub IsLast : (ℕ → Ending → Type 0) → List Entry → List Entry → Bool → Option Target → Option Ending → Type 0
-IsLast may_refuse before new mark (Some target) (Some ending) = (new ≡ before ++ target_entry ending target ∷ []) × may_refuse (length before) ending
+abbrev pub IsLast : (ℕ → Ending → Type 0) → List Entry → List Entry → Bool → Option Target
+    → Option Ending → Type 0
+IsLast may_refuse before new mark (Some target) (Some ending) =
+    (new ≡ before ++ target_entry ending target ∷ []) × may_refuse (length before) ending
 IsLast may_refuse before new mark (Some target) None = (new ≡ before) × (mark ≡ true)
 IsLast may_refuse before new mark None ending = ⊥
 
--- the sends stopped after so many answers: the trace has an entry of each, and of the next one, if it was refused; the keyspace is that of the slots that were answered
-pub record AreStopped {C : Type 0} (step : Step C) (may_refuse : ℕ → Ending → Type 0) (command : MultiKey) (plan : Plan) (order : List ℕ) (count : ℕ) (old_keys new_keys : Keyspace C) (old new : List Entry) (mark : Bool) (ending : Option Ending) : Type 0 where
+-- the sends stopped after so many answers: the trace has an entry of each, and of the next one, if
+-- it was refused; the keyspace is that of the slots that were answered
+pub record AreStopped {C : Type 0} (step : Step C) (may_refuse : ℕ → Ending → Type 0)
+    (command : MultiKey) (plan : Plan) (order : List ℕ) (count : ℕ)
+    (old_keys new_keys : Keyspace C) (old new : List Entry) (mark : Bool)
+    (ending : Option Ending) : Type 0 where
   pub before : List Entry
-  pub trace : before ≡ old ++ map (target_entry answered) (in_order (targets plan) (take count order))
-  pub keyspace : new_keys ≡ after (act_of step command) (tuples_of_slots (in_order (slots_of plan.split.routes) (take count order)) command.tuples) old_keys
-  pub last : IsLast may_refuse before new mark (slice_get (in_order (targets plan) order) count) ending
+  pub trace : before ≡ old ++ map (target_entry answered)
+      (in_order (targets plan) (take count order))
+  pub keyspace : new_keys ≡ after (act_of step command)
+      (tuples_of_slots (in_order (slots_of plan.split.routes) (take count order)) command.tuples)
+      old_keys
+  pub last : IsLast may_refuse before new mark (slice_get (in_order (targets plan) order) count)
+      ending

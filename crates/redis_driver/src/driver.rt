@@ -1,7 +1,7 @@
 ghost use Rattle.std.specs.Prelude.{◌≡◌, ◌<◌, ◌↔◌, ◌++◌, ℕ, None, map, length, MatchOption, IfOk, OnOk, IfErr};
-ghost use Rattle.resp_core.specs.ErrorParts.{out_of_memory};
+ghost use Rattle.resp_core.specs.declared.error.ErrorKind.TheVariants.{OutOfMemory};
 ghost use Rattle.resp_core.specs.View.{view};
-ghost use Rattle.read_strategies.specs.RouteNode.{IsNodeOfRoute, IsPickedNode};
+ghost use Rattle.read_strategies.specs.RouteNode.{IsRouteNode};
 ghost use Rattle.redis_commands.specs.ReadOnly.{is_among};
 ghost use Rattle.redis_nodes.specs.Front.{IsSameCommand, front};
 ghost use Rattle.redis_nodes.specs.MultiKey.{MultiKey};
@@ -53,22 +53,32 @@ pub fn drive<R: Routable, N: Nodes>(
     order: &[usize],
     nodes: &mut N,
 ) -> Result<Value, DriveError>
-    // The headline: each part went once, in the order given, to a node of its route, and the keyspace
-    // and the reply are those of the unsplit command.
-    ensures driven { IfOk result (λ value. IsDriven (λ route address. MatchOption strategy.entry (IsNodeOfRoute slot_map.now route pick address) (λ s. IsPickedNode (picks s.now) slot_map.now route address))
-        N.step (request (R.args command.now) (is_among read_only.now) slot_map.now order.now)
-        (state (N.keyspace nodes.old) (N.trace nodes.old) (N.mark nodes.old)) (state (N.keyspace nodes.new) (N.trace nodes.new) (N.mark nodes.new)) (view value)) }
-    // There is a reply where the command can be driven and no node may refuse, unless memory runs out.
-    ensures headline { IsHeadline (N.may_refuse nodes.old) (request (R.args command.now) (is_among read_only.now) slot_map.now order.now) (N.trace nodes.old) → IfErr result (λ e. e.fault ≡ DriveFault.Memory) }
-    // Each fault but a lack of memory before any answer has its cause, and what was answered stands.
-    ensures fault { IfErr result (λ e. IsFault (λ route address. MatchOption strategy.entry (IsNodeOfRoute slot_map.now route pick address) (λ s. IsPickedNode (picks s.now) slot_map.now route address))
-        N.step (request (R.args command.now) (is_among read_only.now) slot_map.now order.now)
-        (state (N.keyspace nodes.old) (N.trace nodes.old) (N.mark nodes.old)) (state (N.keyspace nodes.new) (N.trace nodes.new) (N.mark nodes.new))
+    // The headline: each part went once, in the order given, to a node of its route, and the
+    // keyspace and the reply are those of the unsplit command.
+    ensures driven { IfOk result (λ value.
+        IsDriven (IsRouteNode strategy.entry (λ s. picks s.now) slot_map.now pick) N.step
+        (request (R.args command.now) (is_among read_only.now) slot_map.now order.now)
+        (state (N.keyspace nodes.old) (N.trace nodes.old) (N.mark nodes.old))
+        (state (N.keyspace nodes.new) (N.trace nodes.new) (N.mark nodes.new))
+        (view value)) }
+    // There is a reply where the command can be driven and no node may refuse, unless memory runs
+    // out.
+    ensures headline { IsHeadline (N.may_refuse nodes.old)
+        (request (R.args command.now) (is_among read_only.now) slot_map.now order.now)
+        (N.trace nodes.old) → IfErr result (λ e. e.fault ≡ DriveFault.Memory) }
+    // Each fault but a lack of memory before any answer has its cause, and what was answered
+    // stands.
+    ensures fault { IfErr result (λ e.
+        IsFault (IsRouteNode strategy.entry (λ s. picks s.now) slot_map.now pick) N.step
+        (request (R.args command.now) (is_among read_only.now) slot_map.now order.now)
+        (state (N.keyspace nodes.old) (N.trace nodes.old) (N.mark nodes.old))
+        (state (N.keyspace nodes.new) (N.trace nodes.new) (N.mark nodes.new))
         (N.may_refuse nodes.old) e.fault e.answered) }
     // A command with gaps and its front have the same tuples, routes and parts.
     ensures gaps { IsSameCommand (R.args command.now) (front (R.args command.now)) }
     // What nodes may refuse stays the same.
-    ensures may_refuse { (count : ℕ) (ending : Ending) → N.may_refuse nodes.new count ending ↔ N.may_refuse nodes.old count ending }
+    ensures may_refuse { (count : ℕ) (ending : Ending) → N.may_refuse nodes.new count ending
+        ↔ N.may_refuse nodes.old count ending }
 {
     match plan_in_order(alloc, command, read_only, slot_map, strategy, pick, order) {
         Ok(plan) => drive_plan(alloc, plan, order, nodes),
@@ -86,12 +96,16 @@ fn plan_in_order<'a, R: Routable>(
     pick: usize,
     order: &[usize],
 ) -> Result<SplitPlan<'a, R>, DriveFault>
-    ensures ready { IfOk result (λ plan. (c : MultiKey) × IsReady (λ route address. MatchOption strategy.entry (IsNodeOfRoute slot_map.now route pick address) (λ s. IsPickedNode (picks s.now) slot_map.now route address))
+    ensures ready { IfOk result
+        (λ plan. (c : MultiKey)
+        × IsReady (IsRouteNode strategy.entry (λ s. picks s.now) slot_map.now pick)
         (request (R.args command.now) (is_among read_only.now) slot_map.now order.now) plan c) }
     ensures untold { IfOk result (λ plan. plan.replies ≡ map (λ route. None) plan.split.routes) }
     ensures order { IfOk result (λ plan. NamesOnce (length plan.split.routes) order.now) }
     ensures some { IfOk result (λ plan. 0 < length plan.split.routes) }
-    ensures early { IfErr result (λ fault. IsEarly (request (R.args command.now) (is_among read_only.now) slot_map.now order.now) fault) }
+    ensures early { IfErr result
+        (λ fault. IsEarly (request (R.args command.now) (is_among read_only.now) slot_map.now
+        order.now) fault) }
 {
     let plan = match SplitPlan::new(alloc, command, read_only, slot_map, strategy, pick) {
         Ok(plan) => plan,
@@ -114,11 +128,20 @@ fn drive_plan<R: Routable, N: Nodes>(
     requires command { (c : MultiKey) × IsPlanOf c plan }
     requires untold { plan.replies ≡ map (λ route. None) plan.split.routes }
     requires order { NamesOnce (length plan.split.routes) order.now }
-    ensures trace { OnOk result (N.trace nodes.new ≡ N.trace nodes.old ++ map (target_entry answered) (in_order (targets plan.entry) order.now)) }
-    ensures keyspace { OnOk result ((c : MultiKey) → IsPlanOf c plan.entry → N.keyspace nodes.new ≡ keyspace_after N.step c (N.keyspace nodes.old)) }
-    ensures reply { IfOk result (λ value. (c : MultiKey) → IsPlanOf c plan.entry → view value ≡ reply_to N.step c (N.keyspace nodes.old)) }
-    ensures stopped { IfErr result (λ e. AreEndedEarly N.step (N.may_refuse nodes.old) plan.entry order.now (N.keyspace nodes.old) (N.keyspace nodes.new) (N.trace nodes.old) (N.trace nodes.new) (N.mark nodes.new) e.fault e.answered) }
-    ensures may_refuse { (count : ℕ) (ending : Ending) → N.may_refuse nodes.new count ending ↔ N.may_refuse nodes.old count ending }
+    ensures trace { OnOk result
+        (N.trace nodes.new ≡ N.trace nodes.old ++ map (target_entry answered)
+        (in_order (targets plan.entry) order.now)) }
+    ensures keyspace { OnOk result ((c : MultiKey) → IsPlanOf c plan.entry
+        → N.keyspace nodes.new ≡ keyspace_after N.step c (N.keyspace nodes.old)) }
+    ensures reply { IfOk result
+        (λ value. (c : MultiKey) → IsPlanOf c plan.entry
+        → view value ≡ reply_to N.step c (N.keyspace nodes.old)) }
+    ensures stopped { IfErr result
+        (λ e. AreEndedEarly N.step (N.may_refuse nodes.old) plan.entry order.now
+        (N.keyspace nodes.old) (N.keyspace nodes.new) (N.trace nodes.old) (N.trace nodes.new)
+        (N.mark nodes.new) e.fault e.answered) }
+    ensures may_refuse { (count : ℕ) (ending : Ending) → N.may_refuse nodes.new count ending
+        ↔ N.may_refuse nodes.old count ending }
 {
     if let Err(stop) = send_all(&mut plan, order, nodes) {
         return Err(stop);
@@ -135,7 +158,8 @@ fn drive_plan<R: Routable, N: Nodes>(
 
 /// The fault of replies that could not be combined.
 fn of_combining(error: RedisError) -> DriveFault
-    ensures { error ≡ out_of_memory → result ≡ DriveFault.Memory }
+    ensures memory { error.kind ≡ OutOfMemory → result ≡ DriveFault.Memory }
+    ensures refused { (error.kind ≡ OutOfMemory → ⊥) → result ≡ DriveFault.Reply error }
 {
     if error.kind() == ErrorKind::OutOfMemory {
         DriveFault::Memory

@@ -38,7 +38,8 @@ impl<T: Drop> From<AllocFailed<T>> for PlanFault {
 /// Why a command was not driven to its end.
 #[derive(Drop)]
 pub enum DriveFault {
-    /// The command is not one of those that are split by slot, or is not complete. Nothing was sent.
+    /// The command is not one of those that are split by slot, or is not complete. Nothing was
+    /// sent.
     NotMultiKey,
     /// No node serves this slot: that of the first route that has none. Nothing was sent.
     NotCovered(u16),
@@ -52,8 +53,8 @@ pub enum DriveFault {
     Reply(RedisError),
 }
 
-/// Why a command was not driven to its end, and how many of its parts took effect: the first ones of
-/// the order, and no other.
+/// Why a command was not driven to its end, and how many of its parts took effect: the first ones
+/// of the order, and no other.
 #[derive(Drop)]
 pub struct DriveError {
     pub fault: DriveFault,

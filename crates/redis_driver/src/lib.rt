@@ -1,5 +1,5 @@
-//! Sends a command over many keys slot by slot, so that the nodes' keyspace and the reply are those of the unsplit
-//! command.
+//! Sends a command over many keys slot by slot, so that the nodes' keyspace and the reply are those
+//! of the unsplit command.
 #![tactic(auto)]
 
 mod driver;

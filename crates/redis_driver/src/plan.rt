@@ -6,11 +6,11 @@ ghost use Rattle.resp_core.specs.declared.value.Value.{Value};
 ghost use Rattle.resp_core.specs.View.{view};
 ghost use Rattle.resp_core.specs.declared.error.ErrorKind.TheVariants.{Client};
 ghost use Rattle.cluster_map.specs.ReplyNode.{IsCovered};
-ghost use Rattle.read_strategies.specs.RouteNode.{IsNodeOfRoute, IsPickedNode};
+ghost use Rattle.read_strategies.specs.RouteNode.{IsRouteNode};
 ghost use Rattle.redis_commands.specs.Command.{command_of};
 ghost use Rattle.redis_commands.specs.ReadOnly.{is_among};
 ghost use Rattle.redis_routing.specs.Complete.{multi_slot_routes, pattern_by_name};
-ghost use Rattle.redis_routing.specs.Split.{policy_by_name, split_part};
+ghost use Rattle.redis_routing.specs.Split.{policy_by_name, split_part, slots_of};
 ghost use Rattle.redis_routing.specs.RoutingInfo.{route_lists};
 ghost use Rattle.redis_nodes.specs.MultiKey.{ReplyForm, list};
 ghost use Rattle.redis_nodes.specs.Unsplit.{reply_by};
@@ -18,7 +18,7 @@ ghost use Rattle.redis_nodes.specs.Unsplit.{TupleResult};
 ghost use Rattle.redis_driver.specs.Driven.{IsFirstUncovered};
 ghost use Rattle.redis_driver.specs.Faults.{IsPlanFault};
 ghost use Rattle.redis_driver.specs.Joined.{joined};
-ghost use Rattle.redis_driver.specs.Plan.{IsPlan, ArePartReplies, slots_of};
+ghost use Rattle.redis_driver.specs.Plan.{IsPlan, ArePartReplies};
 
 use crate::fault::PlanFault;
 use cluster_map::{ReadRoutingStrategy, SlotMap};
@@ -54,9 +54,14 @@ impl<'a, R: Routable> Model for SplitPlan<'a, R> {
 
     ghost coded = { Prim.hlevel (codes, value.the_row.coded) };
 
-    ghost view = { λ p. record { split = p.split; nodes = map (λ n. n.now) p.nodes.items; parts = p.parts.items; replies = told p.answered.items p.replies.items } };
+    ghost view = { λ p. record {
+        split = p.split; nodes = map (λ n. n.now) p.nodes.items; parts = p.parts.items;
+        replies = told p.answered.items p.replies.items } };
 
-    ghost invariant = { λ p. IsPlan (record { split = p.split; nodes = map (λ n. n.now) p.nodes.items; parts = p.parts.items; replies = told p.answered.items p.replies.items }) × (length p.answered.items ≡ length p.replies.items) };
+    ghost invariant = { λ p. IsPlan (record {
+        split = p.split; nodes = map (λ n. n.now) p.nodes.items; parts = p.parts.items;
+        replies = told p.answered.items p.replies.items })
+        × (length p.answered.items ≡ length p.replies.items) };
 }
 
 impl<'a, R: Routable> SplitPlan<'a, R> {
@@ -75,16 +80,27 @@ impl<'a, R: Routable> SplitPlan<'a, R> {
         strategy: Option<&dyn ReadRoutingStrategy>,
         pick: usize,
     ) -> Result<Self, PlanFault>
-        ensures routes { IfOk result (λ plan. Some plan.split.routes ≡ multi_slot_routes (is_among read_only.now) (R.args command.now)) }
+        ensures routes { IfOk result
+            (λ plan. Some plan.split.routes
+            ≡ multi_slot_routes (is_among read_only.now) (R.args command.now)) }
         ensures arguments { IfOk result (λ plan. plan.split.arguments ≡ R.args command.now) }
         ensures words { IfOk result (λ plan. plan.split.words ≡ 1) }
-        ensures pattern { IfOk result (λ plan. Some plan.split.pattern ≡ pattern_by_name (command_of (R.args command.now))) }
-        ensures policy { IfOk result (λ plan. Some plan.split.policy ≡ policy_by_name (command_of (R.args command.now))) }
-        ensures nodes { IfOk result (λ plan. AllZip (λ route address. MatchOption strategy.entry (IsNodeOfRoute slot_map.now route.0 pick address) (λ s. IsPickedNode (picks s.now) slot_map.now route.0 address)) plan.split.routes plan.nodes) }
+        ensures pattern { IfOk result
+            (λ plan. Some plan.split.pattern ≡ pattern_by_name (command_of (R.args command.now))) }
+        ensures policy { IfOk result
+            (λ plan. Some plan.split.policy ≡ policy_by_name (command_of (R.args command.now))) }
+        ensures nodes { IfOk result
+            (λ plan. AllZip (λ route address.
+            IsRouteNode strategy.entry (λ s. picks s.now) slot_map.now pick route.0 address)
+            plan.split.routes plan.nodes) }
         // So each route's slot has a node.
-        ensures covered { IfOk result (λ plan. All (λ route. IsCovered slot_map.now route.0.slot) plan.split.routes) }
-        ensures untold { IfOk result (λ plan. plan.replies ≡ map (λ route. None) plan.split.routes) }
-        ensures fault { IfErr result (λ fault. IsPlanFault slot_map.now (is_among read_only.now) (R.args command.now) fault) }
+        ensures covered { IfOk result
+            (λ plan. All (λ route. IsCovered slot_map.now route.0.slot) plan.split.routes) }
+        ensures untold { IfOk result
+            (λ plan. plan.replies ≡ map (λ route. None) plan.split.routes) }
+        ensures fault { IfErr result
+            (λ fault.
+            IsPlanFault slot_map.now (is_among read_only.now) (R.args command.now) fault) }
     {
         let Some(split) = SplitCommand::new(alloc, command, read_only)? else {
             return Err(PlanFault::NotMultiKey);
@@ -141,8 +157,13 @@ impl<'a, R: Routable> SplitPlan<'a, R> {
     ///
     /// Gives the reply back where there is no such route, or its reply was told before.
     pub fn tell(&mut self, number: usize, reply: Value) -> Result<(), Value>
-        ensures told { OnOk result ((slice_get self.old.replies number ≡ Some None) × (self.new ≡ record { split = self.old.split; nodes = self.old.nodes; parts = self.old.parts; replies = slice_set self.old.replies number (Some reply) })) }
-        ensures refused { IfErr result (λ back. (back ≡ reply) × (self.new ≡ self.old) × (slice_get self.old.replies number ≡ Some None → ⊥)) }
+        ensures told { OnOk result ((slice_get self.old.replies number ≡ Some None)
+            × (self.new ≡ record {
+            split = self.old.split; nodes = self.old.nodes; parts = self.old.parts;
+            replies = slice_set self.old.replies number (Some reply) })) }
+        ensures refused { IfErr result
+            (λ back. (back ≡ reply) × (self.new ≡ self.old)
+            × (slice_get self.old.replies number ≡ Some None → ⊥)) }
     {
         if number >= self.answered.len() || self.answered[number] {
             return Err(reply);
@@ -152,21 +173,27 @@ impl<'a, R: Routable> SplitPlan<'a, R> {
         Ok(())
     }
 
-    /// The one reply of the command, once each reply was told. Counts are added up, lists are put in
-    /// the order of the command's keys, and of commands that only succeed it is the reply of route 0.
+    /// The one reply of the command, once each reply was told. Counts are added up, lists are put
+    /// in the order of the command's keys, and of commands that only succeed it is the reply of
+    /// route 0.
     ///
     /// # Errors
     ///
     /// `Client` where a reply was not told. Else what the combiners refuse; where the replies are
     /// those to parts of one command they refuse nothing, and memory runs out for lists alone.
     pub fn combine(self, alloc: Global) -> RedisResult<Value>
-        ensures unsplit { (form : ReplyForm) (results : List TupleResult) → ArePartReplies self.entry form results → MatchResult result
+        ensures unsplit { (form : ReplyForm) (results : List TupleResult)
+            → ArePartReplies self.entry form results → MatchResult result
             (λ value. view value ≡ reply_by form results)
             (λ error. (error ≡ out_of_memory) × (form ≡ list)) }
-        ensures joined { (replies : List Value) → self.entry.replies ≡ map Some replies → MatchResult result
+        ensures joined { (replies : List Value) → self.entry.replies ≡ map Some replies
+            → MatchResult result
             (λ value. joined self.entry.split (map view replies) ≡ Ok (view value))
-            (λ error. ((error ≡ out_of_memory) × (self.entry.split.policy ≡ ResponsePolicy.CombineArrays)) ⊎ (joined self.entry.split (map view replies) ≡ Err error.kind)) }
-        ensures untold { list_any is_none self.entry.replies ≡ true → IsErrAnd result (λ error. error.kind ≡ Client) }
+            (λ error. ((error ≡ out_of_memory)
+            × (self.entry.split.policy ≡ ResponsePolicy.CombineArrays))
+            ⊎ (joined self.entry.split (map view replies) ≡ Err error.kind)) }
+        ensures untold { list_any is_none self.entry.replies ≡ true
+            → IsErrAnd result (λ error. error.kind ≡ Client) }
     {
         let SplitPlan {
             split,
@@ -198,7 +225,8 @@ fn join<R: Routable>(
     requires some { 0 < length replies.items }
     ensures joined { MatchResult result
         (λ value. joined split.now (map view replies.items) ≡ Ok (view value))
-        (λ error. ((error ≡ out_of_memory) × (split.now.policy ≡ ResponsePolicy.CombineArrays)) ⊎ (joined split.now (map view replies.items) ≡ Err error.kind)) }
+        (λ error. ((error ≡ out_of_memory) × (split.now.policy ≡ ResponsePolicy.CombineArrays))
+            ⊎ (joined split.now (map view replies.items) ≡ Err error.kind)) }
 {
     match split.policy() {
         ResponsePolicy::CombineArrays => {
@@ -228,8 +256,14 @@ fn nodes_of<'a>(
     strategy: Option<&dyn ReadRoutingStrategy>,
     pick: usize,
 ) -> Result<Vec<&'a NodeAddress>, PlanFault>
-    ensures nodes { IfOk result (λ nodes. AllZip (λ route address. MatchOption strategy.entry (IsNodeOfRoute slot_map.now route.0 pick address) (λ s. IsPickedNode (picks s.now) slot_map.now route.0 address)) (route_lists routes.now) (map (λ n. n.now) nodes.items)) }
-    ensures fault { IfErr result (λ fault. (fault ≡ PlanFault.Memory) ⊎ ((slot : ℕ) × (fault ≡ PlanFault.NotCovered slot) × IsFirstUncovered slot_map.now (map (λ r. r.0) routes.now) slot)) }
+    ensures nodes { IfOk result
+        (λ nodes. AllZip (λ route address.
+        IsRouteNode strategy.entry (λ s. picks s.now) slot_map.now pick route.0 address)
+        (route_lists routes.now) (map (λ n. n.now) nodes.items)) }
+    ensures fault { IfErr result
+        (λ fault. (fault ≡ PlanFault.Memory)
+        ⊎ ((slot : ℕ) × (fault ≡ PlanFault.NotCovered slot)
+        × IsFirstUncovered slot_map.now (map (λ r. r.0) routes.now) slot)) }
 {
     let mut nodes = Vec::with_capacity(alloc, routes.len())?;
     for (route, _) in routes {
@@ -243,7 +277,9 @@ fn nodes_of<'a>(
 
 /// The part of each route.
 fn parts_of<R: Routable>(alloc: Global, split: &SplitCommand<'_, R>) -> Result<Vec<Cmd>, AllocError>
-    ensures { IfOk result (λ parts. map (map Some) parts.items ≡ map (split_part split.now) (slots_of split.now.routes)) }
+    ensures { IfOk result
+        (λ parts. map (map Some) parts.items
+        ≡ map (split_part split.now) (slots_of split.now.routes)) }
 {
     let mut parts = Vec::with_capacity(alloc, split.len())?;
     for number in 0..split.len() {

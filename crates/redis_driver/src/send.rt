@@ -26,13 +26,22 @@ pub(super) fn send_all<R: Routable, N: Nodes>(
     requires untold { plan.old.replies ≡ map (λ route. None) plan.old.split.routes }
     requires order { NamesOnce (length plan.old.split.routes) order.now }
     ensures plan { OnOk result (plan.new.split ≡ plan.old.split) }
-    ensures replies { OnOk result ((command : MultiKey) → IsPlanOf command plan.old → ArePartReplies plan.new command.form (results_of N.step command (N.keyspace nodes.old))) }
-    ensures trace { OnOk result (N.trace nodes.new ≡ N.trace nodes.old ++ map (target_entry answered) (in_order (targets plan.old) order.now)) }
-    ensures keyspace { OnOk result ((command : MultiKey) → IsPlanOf command plan.old → N.keyspace nodes.new ≡ keyspace_after N.step command (N.keyspace nodes.old)) }
+    ensures replies { OnOk result ((command : MultiKey) → IsPlanOf command plan.old
+        → ArePartReplies plan.new command.form (results_of N.step command (N.keyspace nodes.old))) }
+    ensures trace { OnOk result
+        (N.trace nodes.new ≡ N.trace nodes.old ++ map (target_entry answered)
+        (in_order (targets plan.old) order.now)) }
+    ensures keyspace { OnOk result ((command : MultiKey) → IsPlanOf command plan.old
+        → N.keyspace nodes.new ≡ keyspace_after N.step command (N.keyspace nodes.old)) }
     ensures within { IfErr result (λ stop. stop.answered < length order.now) }
-    ensures stopped { IfErr result (λ stop. (error : SendError) × (stop.fault ≡ fault_of_send error) × ((command : MultiKey) → IsPlanOf command plan.old → AreStopped N.step (N.may_refuse nodes.old) command plan.old order.now stop.answered
-        (N.keyspace nodes.old) (N.keyspace nodes.new) (N.trace nodes.old) (N.trace nodes.new) (N.mark nodes.new) (ending_of error))) }
-    ensures may_refuse { (count : ℕ) (ending : Ending) → N.may_refuse nodes.new count ending ↔ N.may_refuse nodes.old count ending }
+    ensures stopped { IfErr result
+        (λ stop. (error : SendError) × (stop.fault ≡ fault_of_send error)
+        × ((command : MultiKey) → IsPlanOf command plan.old
+        → AreStopped N.step (N.may_refuse nodes.old) command plan.old order.now stop.answered
+        (N.keyspace nodes.old) (N.keyspace nodes.new) (N.trace nodes.old) (N.trace nodes.new)
+        (N.mark nodes.new) (ending_of error))) }
+    ensures may_refuse { (count : ℕ) (ending : Ending) → N.may_refuse nodes.new count ending
+        ↔ N.may_refuse nodes.old count ending }
 {
     let mut answered = 0;
     for number in order {
@@ -56,12 +65,27 @@ fn send_part<R: Routable, N: Nodes>(
     number: usize,
     nodes: &mut N,
 ) -> Result<Value, SendError>
-    requires there { (target : Target) × (slice_get (targets plan.now) number ≡ Some target) × IsSome (multi_key (map Some target.1)) }
-    ensures reply { IfOk result (λ value. (target : Target) (command : MultiKey) → slice_get (targets plan.now) number ≡ Some target → multi_key (map Some target.1) ≡ Some command → view value ≡ reply_to N.step command (N.keyspace nodes.old)) }
-    ensures keyspace { OnOk result ((target : Target) (command : MultiKey) → slice_get (targets plan.now) number ≡ Some target → multi_key (map Some target.1) ≡ Some command → N.keyspace nodes.new ≡ keyspace_after N.step command (N.keyspace nodes.old)) }
-    ensures trace { OnOk result ((target : Target) → slice_get (targets plan.now) number ≡ Some target → N.trace nodes.new ≡ N.trace nodes.old ++ target_entry answered target ∷ []) }
-    ensures unanswered { IfErr result (λ error. (target : Target) → slice_get (targets plan.now) number ≡ Some target → IsUnanswered (N.may_refuse nodes.old) (N.keyspace nodes.old) (N.keyspace nodes.new) (N.trace nodes.old) (N.trace nodes.new) (N.mark nodes.new) target.0 target.1 (ending_of error)) }
-    ensures may_refuse { (count : ℕ) (ending : Ending) → N.may_refuse nodes.new count ending ↔ N.may_refuse nodes.old count ending }
+    requires there { (target : Target) × (slice_get (targets plan.now) number ≡ Some target)
+        × IsSome (multi_key (map Some target.1)) }
+    ensures reply { IfOk result
+        (λ value. (target : Target) (command : MultiKey)
+        → slice_get (targets plan.now) number ≡ Some target
+        → multi_key (map Some target.1) ≡ Some command
+        → view value ≡ reply_to N.step command (N.keyspace nodes.old)) }
+    ensures keyspace { OnOk result ((target : Target) (command : MultiKey)
+        → slice_get (targets plan.now) number ≡ Some target
+        → multi_key (map Some target.1) ≡ Some command
+        → N.keyspace nodes.new ≡ keyspace_after N.step command (N.keyspace nodes.old)) }
+    ensures trace { OnOk result ((target : Target)
+        → slice_get (targets plan.now) number ≡ Some target
+        → N.trace nodes.new ≡ N.trace nodes.old ++ target_entry answered target ∷ []) }
+    ensures unanswered { IfErr result
+        (λ error. (target : Target) → slice_get (targets plan.now) number ≡ Some target
+        → IsUnanswered (N.may_refuse nodes.old) (N.keyspace nodes.old) (N.keyspace nodes.new)
+        (N.trace nodes.old) (N.trace nodes.new) (N.mark nodes.new) target.0 target.1
+        (ending_of error)) }
+    ensures may_refuse { (count : ℕ) (ending : Ending) → N.may_refuse nodes.new count ending
+        ↔ N.may_refuse nodes.old count ending }
 {
     let Some(node) = plan.node(number) else {
         unreachable!()
@@ -75,7 +99,9 @@ fn send_part<R: Routable, N: Nodes>(
 /// Tells the reply to a part that has none yet.
 fn tell_first<R: Routable>(plan: &mut SplitPlan<'_, R>, number: usize, reply: Value)
     requires { slice_get plan.old.replies number ≡ Some None }
-    ensures { plan.new ≡ record { split = plan.old.split; nodes = plan.old.nodes; parts = plan.old.parts; replies = slice_set plan.old.replies number (Some reply) } }
+    ensures { plan.new ≡ record {
+        split = plan.old.split; nodes = plan.old.nodes; parts = plan.old.parts;
+        replies = slice_set plan.old.replies number (Some reply) } }
 {
     match plan.tell(number, reply) {
         Ok(()) => {}

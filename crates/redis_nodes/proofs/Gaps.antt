@@ -7,16 +7,13 @@ use Rattle.redis_commands.specs.Tuples.{is_complete}
 use Rattle.redis_commands.specs.declared.route_by.MultiSlotArgPattern.{MultiSlotArgPattern}
 use Rattle.redis_commands.specs.declared.route_by.RouteBy.{RouteBy}
 use Rattle.redis_commands.specs.declared.route_by.RouteBy.TheVariants as route_by
-use Rattle.redis_routing.specs.Complete.{pattern_by_name, part_by_pattern, part_by_name, routes_by, routes_by_name}
+use Rattle.redis_routing.specs.Complete.{pattern_by_name, part_by_pattern, routes_by, routes_by_name}
 use Rattle.redis_routing.specs.Parts.{arguments_in_slot}
 use Rattle.redis_routing.specs.Routing.{routes_of}
 use Rattle.redis_routing.specs.Split.{policy_by_name}
+use Rattle.redis_routing.proofs.SelfRouting.{arguments_before_gap-map}
 use Rattle.redis_nodes.specs.Front.{front, IsSameCommand}
-use Rattle.redis_nodes.specs.MultiKey.{command_with, form_of_policy, multi_key}
-
-before_gap-map : (texts : List (List ℕ)) → arguments_before_gap (map Some texts) ≡ texts
-before_gap-map [] = refl
-before_gap-map (text ∷ texts) = ap (λ ts. text ∷ ts) (before_gap-map texts)
+use Rattle.redis_nodes.specs.MultiKey.{command_with, form_of_policy}
 
 same_name : (args : Arguments) → command_of (front args) ≡ command_of args
 same_name [] = refl
@@ -31,7 +28,7 @@ same_first (first ∷ rest) = refl
 
 same_present : (args : Arguments) → present_arguments (front args) ≡ present_arguments args
 same_present [] = refl
-same_present (first ∷ rest) = before_gap-map (arguments_before_gap rest)
+same_present (first ∷ rest) = arguments_before_gap-map (arguments_before_gap rest)
 
 module _ (args : Arguments) where
   routed_same : (reads : Bool) (way : Option RouteBy) → routes_by 1 reads (front args) way ≡ routes_by 1 reads args way

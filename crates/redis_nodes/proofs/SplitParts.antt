@@ -22,7 +22,7 @@ use Rattle.redis_commands.proofs.Rows.{each_row}
 use Rattle.redis_routing.specs.Complete.{pattern_of, pattern_by_name_with, part_by_pattern, part_by_name_with, part_by_name, routes_by, routes_by_name, multi_slot_routes_with, multi_slot_routes}
 use Rattle.redis_routing.specs.Parts.{first_appearances, part_of_slot_after, slot_of, tuples_in_slot, arguments_in_slot}
 use Rattle.redis_routing.specs.Routing.{route_of_slot, routes_of}
-use Rattle.redis_routing.specs.Split.{policy_by_name_with}
+use Rattle.redis_routing.specs.Split.{policy_by_name_with, slots_of}
 use Rattle.redis_routing.proofs.Cover.{count_firsts}
 use Rattle.redis_routing.proofs.Picks.{complete_fits, has_first}
 use Rattle.redis_commands.proofs.Patterns.{fits_some}
@@ -50,27 +50,27 @@ pub record IsMade (words : ℕ) (tables : NameTables) (args : Arguments) (patter
   pub tuples : command.tuples ≡ tuples_of pattern (present_arguments_after words args)
 
 module _ (words : ℕ) (tables : NameTables) (args : Arguments) where
-  abbrev run : List (List ℕ)
-  run = present_arguments_after words args
+  abbrev present : List (List ℕ)
+  present = present_arguments_after words args
 
   abbrev by_parts : List ℕ → MultiSlotArgPattern → ReplyForm → MultiKey
-  by_parts name pattern form = record { name = name; shared = slice_get (shared_in pattern run) 0; tuples = tuples_of pattern run; form = form }
+  by_parts name pattern form = record { name = name; shared = slice_get (shared_in pattern present) 0; tuples = tuples_of pattern present; form = form }
 
   of_length : (command : MultiKey) (name : List ℕ) (pattern : MultiSlotArgPattern) (form : ReplyForm)
       → command_of args ≡ Some name → tables.route_by name ≡ Some (route_by.MultiSlot pattern) → form_of_policy (tables.policy name) ≡ Some form
-      → (complete : Bool) → is_complete pattern (length run) ≡ complete → cond complete (Some (by_parts name pattern form)) None ≡ Some command → (pattern : MultiSlotArgPattern) × IsMade words tables args pattern command
+      → (complete : Bool) → is_complete pattern (length present) ≡ complete → cond complete (Some (by_parts name pattern form)) None ≡ Some command → (pattern : MultiSlotArgPattern) × IsMade words tables args pattern command
   of_length command name pattern form named split formed true complete is =
       let same : by_parts name pattern form ≡ command = cc is in
       (pattern, subst (IsMade words tables args pattern) same (record { name = named; split = split; form = formed; complete = complete; shared = refl; tuples = refl }))
   of_length command name pattern form named split formed false complete is = absurd (cc is)
 
   of_form : (command : MultiKey) (name : List ℕ) (pattern : MultiSlotArgPattern) → command_of args ≡ Some name → tables.route_by name ≡ Some (route_by.MultiSlot pattern)
-      → (form : Option ReplyForm) → form_of_policy (tables.policy name) ≡ form → command_with (Some name) run (Some pattern) form ≡ Some command → (pattern : MultiSlotArgPattern) × IsMade words tables args pattern command
+      → (form : Option ReplyForm) → form_of_policy (tables.policy name) ≡ form → command_with (Some name) present (Some pattern) form ≡ Some command → (pattern : MultiSlotArgPattern) × IsMade words tables args pattern command
   of_form command name pattern named split None formed is = absurd (cc is)
-  of_form command name pattern named split (Some form) formed is = of_length command name pattern form named split formed (is_complete pattern (length run)) refl is
+  of_form command name pattern named split (Some form) formed is = of_length command name pattern form named split formed (is_complete pattern (length present)) refl is
 
   of_route_by : (command : MultiKey) (name : List ℕ) → command_of args ≡ Some name
-      → (w : Option RouteBy) → tables.route_by name ≡ w → command_with (Some name) run (pattern_of w) (form_of_policy (tables.policy name)) ≡ Some command → (pattern : MultiSlotArgPattern) × IsMade words tables args pattern command
+      → (w : Option RouteBy) → tables.route_by name ≡ w → command_with (Some name) present (pattern_of w) (form_of_policy (tables.policy name)) ≡ Some command → (pattern : MultiSlotArgPattern) × IsMade words tables args pattern command
   of_route_by command name named None split is = absurd (cc is)
   of_route_by command name named (Some route_by.AllNodes) split is = absurd (cc is)
   of_route_by command name named (Some route_by.AllMasters) split is = absurd (cc is)
@@ -83,7 +83,7 @@ module _ (words : ℕ) (tables : NameTables) (args : Arguments) where
   of_route_by command name named (Some (route_by.SlotAt n)) split is = absurd (cc is)
 
   of_name : (command : MultiKey) (name : Option (List ℕ)) → command_of args ≡ name
-      → command_with name run (pattern_by_name_with tables name) (form_of_policy (policy_by_name_with tables name)) ≡ Some command → (pattern : MultiSlotArgPattern) × IsMade words tables args pattern command
+      → command_with name present (pattern_by_name_with tables name) (form_of_policy (policy_by_name_with tables name)) ≡ Some command → (pattern : MultiSlotArgPattern) × IsMade words tables args pattern command
   of_name command None named is = absurd (cc is)
   of_name command (Some name) named is = of_route_by command name named (tables.route_by name) refl is
 
@@ -94,11 +94,11 @@ module _ (words : ℕ) (tables : NameTables) (args : Arguments) where
   -- and what is made so is the command
   pub made_is : (pattern : MultiSlotArgPattern) (command : MultiKey) → IsMade words tables args pattern command → multi_key_with words tables args ≡ Some command
   made_is pattern command made =
-      ap (λ n. command_with n run (pattern_by_name_with tables n) (form_of_policy (policy_by_name_with tables n))) made.name
-      ∙ ap (λ w. command_with (Some command.name) run (pattern_of w) (form_of_policy (tables.policy command.name))) made.split
-      ∙ ap (command_with (Some command.name) run (Some pattern)) made.form
+      ap (λ n. command_with n present (pattern_by_name_with tables n) (form_of_policy (policy_by_name_with tables n))) made.name
+      ∙ ap (λ w. command_with (Some command.name) present (pattern_of w) (form_of_policy (tables.policy command.name))) made.split
+      ∙ ap (command_with (Some command.name) present (Some pattern)) made.form
       ∙ ap (λ complete. cond complete (Some (by_parts command.name pattern command.form)) None) made.complete
-      ∙ ap (λ s. Some (record { name = command.name; shared = s; tuples = tuples_of pattern run; form = command.form })) (sym made.shared)
+      ∙ ap (λ s. Some (record { name = command.name; shared = s; tuples = tuples_of pattern present; form = command.form })) (sym made.shared)
       ∙ ap (λ ts. Some (record { name = command.name; shared = command.shared; tuples = ts; form = command.form })) (sym made.tuples)
 
 -- the part of a slot that a key of the command has
@@ -159,15 +159,11 @@ part_texts args command slot is there =
     let made = is_made 1 own_tables args command is in
     part_texts_with 1 own_tables args made.0 command made.1 (named_again args made.0 command made.1) slot there (has_first args command.name (sym made.1.name))
 
--- the slots of routes
-abbrev pub route_slots : List (SlotRoute × List ℕ) → List ℕ
-route_slots routes = map (λ r. r.0.slot) routes
-
 -- The routes of the parts of a command: each slot of a key has one, and there are no others.
 pub record AreRoutesOf (command : MultiKey) (routes : List (SlotRoute × List ℕ)) : Type 0 where
-  pub slots : route_slots routes ≡ first_appearances (map (λ t. key_slot t.key) command.tuples)
-  pub at_most_once : (slot : ℕ) → count_by (nat_eq slot) (route_slots routes) ≤ 1
-  pub once : All (λ t. count_by (nat_eq (key_slot t.key)) (route_slots routes) ≡ 1) command.tuples
+  pub slots : slots_of routes ≡ first_appearances (map (λ t. key_slot t.key) command.tuples)
+  pub at_most_once : (slot : ℕ) → count_by (nat_eq slot) (slots_of routes) ≤ 1
+  pub once : All (λ t. count_by (nat_eq (key_slot t.key)) (slots_of routes) ≡ 1) command.tuples
   pub of_keys : All (λ r. list_any (λ t. nat_eq (key_slot t.key) r.0.slot) command.tuples ≡ true) routes
   pub some : 0 < length routes
 
@@ -200,12 +196,12 @@ module _ (words : ℕ) (tables : NameTables) (args : Arguments) (pattern : Multi
     abbrev routes : List (SlotRoute × List ℕ)
     routes = routes_of reads pattern (present_arguments_after words args)
 
-    slots_are : route_slots routes ≡ first_appearances numbers
+    slots_are : slots_of routes ≡ first_appearances numbers
     slots_are =
         let firsts = first_appearances (map slot_of (tuples_in pattern (present_arguments_after words args))) in
         map-map (λ r. r.0.slot) (route_of_slot reads pattern (present_arguments_after words args)) firsts ∙ map-id firsts ∙ ap first_appearances same_slots
 
-    counted : (slot : ℕ) → count_by (nat_eq slot) (route_slots routes) ≡ cond (list_any (nat_eq slot) numbers) 1 0
+    counted : (slot : ℕ) → count_by (nat_eq slot) (slots_of routes) ≡ cond (list_any (nat_eq slot) numbers) 1 0
     counted slot = ap (count_by (nat_eq slot)) slots_are ∙ count_firsts slot numbers
 
     keys_have : All (λ slot. list_any (λ t. nat_eq (key_slot t.key) slot) command.tuples ≡ true) (first_appearances (map slot_of (tuples_in pattern (present_arguments_after words args))))

@@ -44,26 +44,26 @@ abbrev AreWide : ℕ → ℕ → List Tuple → Type 0
 AreWide width place [] = Unit {0}
 AreWide width place (t ∷ ts) = (places_of t ≡ range_with_len place width) × AreWide width (place + width) ts
 
-wide_alone : (place : ℕ) (run : List (List ℕ)) → AreWide 1 place (keys_alone place run)
+wide_alone : (place : ℕ) (present : List (List ℕ)) → AreWide 1 place (keys_alone place present)
 wide_alone place [] = tt
-wide_alone place (key ∷ run) = (refl, wide_alone (place + 1) run)
+wide_alone place (key ∷ present) = (refl, wide_alone (place + 1) present)
 
-wide_pairs : (place : ℕ) (run : List (List ℕ)) → AreWide 2 place (keys_and_values place run)
+wide_pairs : (place : ℕ) (present : List (List ℕ)) → AreWide 2 place (keys_and_values place present)
 wide_pairs place [] = tt
 wide_pairs place (key ∷ []) = tt
-wide_pairs place (key ∷ value ∷ run) = (refl, wide_pairs (place + 2) run)
+wide_pairs place (key ∷ value ∷ present) = (refl, wide_pairs (place + 2) present)
 
-wide_triples : (place : ℕ) (run : List (List ℕ)) → AreWide 3 place (keys_and_two place run)
+wide_triples : (place : ℕ) (present : List (List ℕ)) → AreWide 3 place (keys_and_two place present)
 wide_triples place [] = tt
 wide_triples place (key ∷ []) = tt
 wide_triples place (key ∷ a ∷ []) = tt
-wide_triples place (key ∷ a ∷ b ∷ run) = (refl, wide_triples (place + 3) run)
+wide_triples place (key ∷ a ∷ b ∷ present) = (refl, wide_triples (place + 3) present)
 
-wide : (pattern : MultiSlotArgPattern) (place : ℕ) (run : List (List ℕ)) → AreWide (width_of pattern) place (tuples_from pattern place run)
-wide KeysOnly place run = wide_alone place run
-wide KeyValuePairs place run = wide_pairs place run
-wide KeysAndLastArg place run = wide_alone place run
-wide KeyWithTwoArgTriples place run = wide_triples place run
+wide : (pattern : MultiSlotArgPattern) (place : ℕ) (present : List (List ℕ)) → AreWide (width_of pattern) place (tuples_from pattern place present)
+wide KeysOnly place present = wide_alone place present
+wide KeyValuePairs place present = wide_pairs place present
+wide KeysAndLastArg place present = wide_alone place present
+wide KeyWithTwoArgTriples place present = wide_triples place present
 
 -- the places of a slot's tuples are those of their numbers
 places_by_number : (width slot number : ℕ) (ts : List Tuple) → AreWide width (number * width) ts → flat_map places_of (tuples_in_slot slot ts) ≡ flat_map (argument_places width) (numbers_from slot number (map unplaced ts))
@@ -75,29 +75,29 @@ places_by_number width slot number (t ∷ ts) h =
     (λ here. rw here (ap (λ ps. ps ++ flat_map places_of (tuples_in_slot slot ts)) h.0 ∙ ap (λ ps. argument_places width number ++ ps) rest))
     (λ other. rw other rest)
 
-count_alone : (place : ℕ) (run : List (List ℕ)) → length (keys_alone place run) * 1 ≡ length run
+count_alone : (place : ℕ) (present : List (List ℕ)) → length (keys_alone place present) * 1 ≡ length present
 count_alone place [] = refl
-count_alone place (key ∷ run) = omega (arith, count_alone (place + 1) run)
+count_alone place (key ∷ present) = omega (arith, count_alone (place + 1) present)
 
-count_pairs : (place : ℕ) (run : List (List ℕ)) → length run % 2 ≡ 0 → length (keys_and_values place run) * 2 ≡ length run
+count_pairs : (place : ℕ) (present : List (List ℕ)) → length present % 2 ≡ 0 → length (keys_and_values place present) * 2 ≡ length present
 count_pairs place [] even = refl
 count_pairs place (key ∷ []) even = absurd (omega arith)
-count_pairs place (key ∷ value ∷ run) even = let less : length run % 2 ≡ 0 = omega arith in omega (arith, count_pairs (place + 2) run less)
+count_pairs place (key ∷ value ∷ present) even = let less : length present % 2 ≡ 0 = omega arith in omega (arith, count_pairs (place + 2) present less)
 
-count_triples : (place : ℕ) (run : List (List ℕ)) → length run % 3 ≡ 0 → length (keys_and_two place run) * 3 ≡ length run
+count_triples : (place : ℕ) (present : List (List ℕ)) → length present % 3 ≡ 0 → length (keys_and_two place present) * 3 ≡ length present
 count_triples place [] even = refl
 count_triples place (key ∷ []) even = absurd (omega arith)
 count_triples place (key ∷ a ∷ []) even = absurd (omega arith)
-count_triples place (key ∷ a ∷ b ∷ run) even = let less : length run % 3 ≡ 0 = omega arith in omega (arith, count_triples (place + 3) run less)
+count_triples place (key ∷ a ∷ b ∷ present) even = let less : length present % 3 ≡ 0 = omega arith in omega (arith, count_triples (place + 3) present less)
 
 -- so many arguments make the tuples
-tuples_count : (pattern : MultiSlotArgPattern) (run : List (List ℕ)) → length run % width_of pattern ≡ 0 → length (tuples_from pattern 0 run) * width_of pattern ≡ length run
-tuples_count KeysOnly run even = count_alone 0 run
-tuples_count KeyValuePairs run even = count_pairs 0 run even
-tuples_count KeysAndLastArg run even = count_alone 0 run
-tuples_count KeyWithTwoArgTriples run even = count_triples 0 run even
+tuples_count : (pattern : MultiSlotArgPattern) (present : List (List ℕ)) → length present % width_of pattern ≡ 0 → length (tuples_from pattern 0 present) * width_of pattern ≡ length present
+tuples_count KeysOnly present even = count_alone 0 present
+tuples_count KeyValuePairs present even = count_pairs 0 present even
+tuples_count KeysAndLastArg present even = count_alone 0 present
+tuples_count KeyWithTwoArgTriples present even = count_triples 0 present even
 
--- the places after the tuples of a complete run
+-- the places after the tuples of complete arguments
 shared_after : (pattern : MultiSlotArgPattern) (m : ℕ) → is_complete pattern m ≡ true → range_with_len (own_count pattern m) (m - own_count pattern m) ≡ shared_places pattern (own_count pattern m)
 shared_after KeysOnly m complete = let none : m - m ≡ 0 = omega arith in ap (range_with_len m) none
 shared_after KeyValuePairs m complete = let none : m - m ≡ 0 = omega arith in ap (range_with_len m) none
@@ -105,20 +105,20 @@ shared_after KeysAndLastArg m complete = let one : m - own_count KeysAndLastArg 
 shared_after KeyWithTwoArgTriples m complete = let none : m - m ≡ 0 = omega arith in ap (range_with_len m) none
 
 module _ (words : ℕ) (tables : NameTables) (args : Arguments) (pattern : MultiSlotArgPattern) (command : MultiKey) (made : IsMade words tables args pattern command) where
-  abbrev run : List (List ℕ)
-  run = present_arguments_after words args
+  abbrev present : List (List ℕ)
+  present = present_arguments_after words args
 
-  own_is : own_count pattern (length run) ≡ length command.tuples * width_of pattern
+  own_is : own_count pattern (length present) ≡ length command.tuples * width_of pattern
   own_is =
-      let whole = own_whole pattern (length run) (complete_fits pattern (length run) made.complete) in
-      let count = tuples_count pattern (take (own_count pattern (length run)) run) (ap (λ m. m % width_of pattern) (length-own pattern run) ∙ whole) in
-      sym (ap (λ ts. length ts * width_of pattern) made.tuples ∙ ap (λ n. n * width_of pattern) (length-map (tuples_in pattern run) unplaced) ∙ count ∙ length-own pattern run)
+      let whole = own_whole pattern (length present) (complete_fits pattern (length present) made.complete) in
+      let count = tuples_count pattern (take (own_count pattern (length present)) present) (ap (λ m. m % width_of pattern) (length-own pattern present) ∙ whole) in
+      sym (ap (λ ts. length ts * width_of pattern) made.tuples ∙ ap (λ n. n * width_of pattern) (length-map (tuples_in pattern present) unplaced) ∙ count ∙ length-own pattern present)
 
   -- there are no more tuples than arguments
   pub tuples_few_with : length command.tuples ≤ length args
   tuples_few_with =
-      let own : own_count pattern (length run) ≤ length run = own_few pattern (length run) in
-      let few : length run ≤ length args - words = omega (arith, before_gap_short (drop words args), length-drop words args) in
+      let own : own_count pattern (length present) ≤ length present = own_few pattern (length present) in
+      let few : length present ≤ length args - words = omega (arith, before_gap_short (drop words args), length-drop words args) in
       let count : length command.tuples ≤ length command.tuples * width_of pattern = le_times pattern (length command.tuples) in
       omega (arith, own_is)
     where
@@ -128,17 +128,17 @@ module _ (words : ℕ) (tables : NameTables) (args : Arguments) (pattern : Multi
       le_times KeysAndLastArg n = omega arith
       le_times KeyWithTwoArgTriples n = omega arith
 
-  part_place : (reads : Bool) (slot : ℕ) → (route_of_slot reads pattern run slot).1 ≡ places_of_part pattern command.tuples slot
+  part_place : (reads : Bool) (slot : ℕ) → (route_of_slot reads pattern present slot).1 ≡ places_of_part pattern command.tuples slot
   part_place reads slot =
-      let own = own_count pattern (length run) in
-      let after = range_with_len own (length run - own) in
-      let first : AreWide (width_of pattern) (0 * width_of pattern) (tuples_in pattern run) =
-      subst (λ place. AreWide (width_of pattern) place (tuples_in pattern run)) (sym (zero-mul (width_of pattern))) (wide pattern 0 (take own run)) in
-      ap (λ ps. ps ++ after) (places_by_number (width_of pattern) slot 0 (tuples_in pattern run) first ∙ ap (λ ts. flat_map (argument_places (width_of pattern)) (numbers_from slot 0 ts)) (sym made.tuples))
-      ∙ ap (λ ps. flat_map (argument_places (width_of pattern)) (numbers_from slot 0 command.tuples) ++ ps) (shared_after pattern (length run) made.complete ∙ ap (shared_places pattern) own_is)
+      let own = own_count pattern (length present) in
+      let after = range_with_len own (length present - own) in
+      let first : AreWide (width_of pattern) (0 * width_of pattern) (tuples_in pattern present) =
+      subst (λ place. AreWide (width_of pattern) place (tuples_in pattern present)) (sym (zero-mul (width_of pattern))) (wide pattern 0 (take own present)) in
+      ap (λ ps. ps ++ after) (places_by_number (width_of pattern) slot 0 (tuples_in pattern present) first ∙ ap (λ ts. flat_map (argument_places (width_of pattern)) (numbers_from slot 0 ts)) (sym made.tuples))
+      ∙ ap (λ ps. flat_map (argument_places (width_of pattern)) (numbers_from slot 0 command.tuples) ++ ps) (shared_after pattern (length present) made.complete ∙ ap (shared_places pattern) own_is)
 
-  parts_placed : (reads : Bool) → All (λ r. r.1 ≡ places_of_part pattern command.tuples r.0.slot) (routes_of reads pattern run)
-  parts_placed reads = All-map (λ r. r.1 ≡ places_of_part pattern command.tuples r.0.slot) (route_of_slot reads pattern run) (first_appearances (map slot_of (tuples_in pattern run))) (λ k d inside. part_place reads _)
+  parts_placed : (reads : Bool) → All (λ r. r.1 ≡ places_of_part pattern command.tuples r.0.slot) (routes_of reads pattern present)
+  parts_placed reads = All-map (λ r. r.1 ≡ places_of_part pattern command.tuples r.0.slot) (route_of_slot reads pattern present) (first_appearances (map slot_of (tuples_in pattern present))) (λ k d inside. part_place reads _)
 
 -- the list of each route has the places of its part
 pub route_places_with : (words : ℕ) (tables : NameTables) (only_reads : List ℕ → Bool) (args : Arguments) (command : MultiKey) (pattern : MultiSlotArgPattern) (routes : List (SlotRoute × List ℕ))

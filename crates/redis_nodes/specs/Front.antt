@@ -12,5 +12,6 @@ front args = take 1 args ++ map Some (present_arguments args)
 -- two lists of arguments are one command: the same tuples, routes and parts
 pub record IsSameCommand (args other : Arguments) : Type 0 where
   pub command : multi_key other ≡ multi_key args
-  pub routes : (only_reads : List ℕ → Bool) → multi_slot_routes only_reads other ≡ multi_slot_routes only_reads args
+  pub routes : (only_reads : List ℕ → Bool)
+      → multi_slot_routes only_reads other ≡ multi_slot_routes only_reads args
   pub part : (slot : ℕ) → part_by_name other slot ≡ part_by_name args slot

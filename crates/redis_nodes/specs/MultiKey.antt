@@ -1,4 +1,5 @@
--- A command over many keys as what it means: its name, its keys with what goes with each, and what they share.
+-- A command over many keys as what it means: its name, its keys with what goes with each, and what
+-- they share.
 use Rattle.std.specs.Prelude.{ℕ, List, Option, None, Some, cond, map, filter, length, nat_eq, slice_get}
 use Rattle.cluster_slots.specs.KeySlot.{key_slot}
 use Rattle.redis_commands.specs.Command.{Arguments, command_of}
@@ -23,7 +24,8 @@ pub data ReplyForm : Type 0 where
   count : ReplyForm
   okay : ReplyForm
 
--- the name in upper case, the last argument where all keys share it, the tuples in order, and the form of the reply
+-- the name in upper case, the last argument where all keys share it, the tuples in order, and the
+-- form of the reply
 pub record MultiKey : Type 0 where
   pub name : List ℕ
   pub shared : Option (List ℕ)
@@ -42,23 +44,34 @@ abbrev pub unplaced : Tuple → KeyTuple
 unplaced t = record { key = t.key; extras = t.extras }
 
 abbrev pub tuples_of : MultiSlotArgPattern → List (List ℕ) → List KeyTuple
-tuples_of pattern run = map unplaced (tuples_in pattern run)
+tuples_of pattern present = map unplaced (tuples_in pattern present)
 
 -- the command of a name with these arguments, if they are complete
-abbrev pub command_with : Option (List ℕ) → List (List ℕ) → Option MultiSlotArgPattern → Option ReplyForm → Option MultiKey
-command_with (Some name) run (Some pattern) (Some form) = cond (is_complete pattern (length run))
-    (Some (record { name = name; shared = slice_get (shared_in pattern run) 0; tuples = tuples_of pattern run; form = form })) None
-command_with name run pattern form = None
+abbrev pub command_with : Option (List ℕ) → List (List ℕ) → Option MultiSlotArgPattern
+    → Option ReplyForm → Option MultiKey
+command_with (Some name) present (Some pattern) (Some form) =
+    cond (is_complete pattern (length present))
+    (Some (record {
+      name = name;
+      shared = slice_get (shared_in pattern present) 0;
+      tuples = tuples_of pattern present;
+      form = form;
+    })) None
+command_with name present pattern form = None
 
 -- what a policy that is there says
 abbrev pub form_of_policy : Option ResponsePolicy → Option ReplyForm
 form_of_policy None = None
 form_of_policy (Some policy) = form_by_policy policy
 
--- A complete command over many keys, whose name has so many words, by some tables of names. There is none where the name is not one of those that split by slot, where the arguments after it, up to the first gap, make no whole tuples, or where the argument that all keys share is missing.
+-- A complete command over many keys, whose name has so many words, by some tables of names. There
+-- is none where the name is not one of those that split by slot, where the arguments after it, up
+-- to the first gap, make no whole tuples, or where the argument that all keys share is missing.
 abbrev pub multi_key_with : ℕ → NameTables → Arguments → Option MultiKey
 multi_key_with words tables args =
-    command_with (command_of args) (present_arguments_after words args) (pattern_by_name_with tables (command_of args)) (form_of_policy (policy_by_name_with tables (command_of args)))
+    command_with (command_of args) (present_arguments_after words args)
+        (pattern_by_name_with tables (command_of args))
+        (form_of_policy (policy_by_name_with tables (command_of args)))
 
 -- by the project's own tables, in which each name has one word
 abbrev pub multi_key : Arguments → Option MultiKey
@@ -70,4 +83,10 @@ tuples_of_slot slot tuples = filter (λ t. nat_eq (key_slot t.key) slot) tuples
 
 -- the part of a slot: the same command with that slot's tuples alone
 abbrev pub part_of : MultiKey → ℕ → MultiKey
-part_of command slot = record { name = command.name; shared = command.shared; tuples = tuples_of_slot slot command.tuples; form = command.form }
+part_of command slot =
+    record {
+      name = command.name;
+      shared = command.shared;
+      tuples = tuples_of_slot slot command.tuples;
+      form = command.form;
+    }

@@ -20,4 +20,5 @@ in_order xs order = flat_map (λ place. option_to_list (slice_get xs place)) ord
 
 -- the tuples whose key has one of the slots, in their order
 abbrev pub tuples_of_slots : List ℕ → List KeyTuple → List KeyTuple
-tuples_of_slots slots tuples = filter (λ t. list_any (λ slot. nat_eq (key_slot t.key) slot) slots) tuples
+tuples_of_slots slots tuples =
+    filter (λ t. list_any (λ slot. nat_eq (key_slot t.key) slot) slots) tuples

@@ -11,8 +11,13 @@ abbrev pub ending_of : SendError → Option Ending
 ending_of (Refused error) = Some (refused error)
 ending_of Memory = None
 
--- The keyspace stays. A send that was refused was allowed to be, and the trace has its entry; one that ran out of memory sets the mark and changes nothing else.
-abbrev pub IsUnanswered : {C : Type 0} (may_refuse : ℕ → Ending → Type 0) (old_keys new_keys : Keyspace C) (old new : List Entry) (mark : Bool) → Address → List (List ℕ) → Option Ending → Type 0
+-- The keyspace stays. A send that was refused was allowed to be, and the trace has its entry; one
+-- that ran out of memory sets the mark and changes nothing else.
+abbrev pub IsUnanswered : {C : Type 0} (may_refuse : ℕ → Ending → Type 0)
+    (old_keys new_keys : Keyspace C) (old new : List Entry) (mark : Bool) → Address → List (List ℕ)
+    → Option Ending → Type 0
 IsUnanswered may_refuse old_keys new_keys old new mark node args (Some ending) =
-    may_refuse (length old) ending × (new_keys ≡ old_keys) × (new ≡ old ++ entry node args ending ∷ []) × (mark ≡ false)
-IsUnanswered may_refuse old_keys new_keys old new mark node args None = (new_keys ≡ old_keys) × (new ≡ old) × (mark ≡ true)
+    may_refuse (length old) ending × (new_keys ≡ old_keys)
+        × (new ≡ old ++ entry node args ending ∷ []) × (mark ≡ false)
+IsUnanswered may_refuse old_keys new_keys old new mark node args None =
+    (new_keys ≡ old_keys) × (new ≡ old) × (mark ≡ true)

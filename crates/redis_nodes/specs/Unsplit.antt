@@ -1,4 +1,5 @@
--- What a command over many keys does to a keyspace and answers where one server runs it whole: its tuples one after the other, each on the cell of its own key.
+-- What a command over many keys does to a keyspace and answers where one server runs it whole: its
+-- tuples one after the other, each on the cell of its own key.
 use Rattle.std.specs.Prelude.{ℕ, pos, List, [], ◌∷◌, map, cond, Bool, Option, count_by}
 use Rattle.std.specs.Str.{bytes_eq}
 use Rattle.resp_core.specs.Reply.{Reply, int, array, replies_of}
@@ -15,7 +16,8 @@ pub record Outcome (C : Type 0) : Type 0 where
   pub cell : Option C
   pub result : TupleResult
 
--- what a key of a command does, by the command's name, the argument that its keys share, the key, the arguments that go with it, and what stands at the key
+-- what a key of a command does, by the command's name, the argument that its keys share, the key,
+-- the arguments that go with it, and what stands at the key
 abbrev pub Step : Type 0 → Type 0
 Step C = List ℕ → Option (List ℕ) → List ℕ → List (List ℕ) → Option C → Outcome C
 
@@ -44,7 +46,9 @@ module _ {C : Type 0} (act : Act C) where
   -- what each adds to the reply, in order
   abbrev pub results : List KeyTuple → Keyspace C → List TupleResult
   results [] keyspace = []
-  results (t ∷ ts) keyspace = (act t (keyspace t.key)).result ∷ results ts (put t.key (act t (keyspace t.key)).cell keyspace)
+  results (t ∷ ts) keyspace =
+      (act t (keyspace t.key)).result ∷ results ts
+      (put t.key (act t (keyspace t.key)).cell keyspace)
 
 -- the reply: a list of the values, how many count, or `OK`
 abbrev pub reply_by : ReplyForm → List TupleResult → Reply

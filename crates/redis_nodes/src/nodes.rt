@@ -49,10 +49,17 @@ pub trait Nodes {
     /// out: nothing was sent.
     fn send(&mut self, node: &NodeAddress, cmd: &Cmd) -> Result<Value, SendError>
         requires whole { IsSome (multi_key (map Some cmd.now)) }
-        ensures reply { IfOk result (λ value. IfSome (multi_key (map Some cmd.now)) (λ command. view value ≡ reply_to step command (keyspace self.old))) }
-        ensures keyspace { OnOk result (IfSome (multi_key (map Some cmd.now)) (λ command. keyspace self.new ≡ keyspace_after step command (keyspace self.old))) }
-        ensures trace { OnOk result (trace self.new ≡ trace self.old ++ entry node.now cmd.now answered ∷ []) }
+        ensures reply { IfOk result
+            (λ value. IfSome (multi_key (map Some cmd.now))
+            (λ command. view value ≡ reply_to step command (keyspace self.old))) }
+        ensures keyspace { OnOk result (IfSome (multi_key (map Some cmd.now))
+            (λ command. keyspace self.new ≡ keyspace_after step command (keyspace self.old))) }
+        ensures trace { OnOk result
+            (trace self.new ≡ trace self.old ++ entry node.now cmd.now answered ∷ []) }
         ensures mark { OnOk result (mark self.new ≡ false) }
-        ensures unanswered { IfErr result (λ error. IsUnanswered (may_refuse self.old) (keyspace self.old) (keyspace self.new) (trace self.old) (trace self.new) (mark self.new) node.now cmd.now (ending_of error)) }
-        ensures may_refuse { (count : ℕ) (ending : Ending) → may_refuse self.new count ending ↔ may_refuse self.old count ending };
+        ensures unanswered { IfErr result
+            (λ error. IsUnanswered (may_refuse self.old) (keyspace self.old) (keyspace self.new)
+            (trace self.old) (trace self.new) (mark self.new) node.now cmd.now (ending_of error)) }
+        ensures may_refuse { (count : ℕ) (ending : Ending) → may_refuse self.new count ending
+            ↔ may_refuse self.old count ending };
 }

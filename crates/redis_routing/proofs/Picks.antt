@@ -124,7 +124,7 @@ pub route_sub_command : (split : Split) → IsSplit split → (routes : List (Sl
 route_sub_command split whole routes number route routes-are long is =
     let inside : number < length routes = omega (arith, long, ap length routes-are, length-map routes route_list) in
     let each : ArePartsPickedAfter split.words split.arguments split.pattern split.routes =
-    subst (ArePartsPickedAfter split.words split.arguments split.pattern) (sym whole.routes) (parts_picked split.words split.arguments whole.only_reads split.pattern whole.name (complete_fits split.pattern (length (present_arguments_after split.words split.arguments)) whole.complete)) in
+    subst (ArePartsPickedAfter split.words split.arguments split.pattern) (sym whole.routes) (parts_picked split.words split.arguments whole.is_read split.pattern whole.name (complete_fits split.pattern (length (present_arguments_after split.words split.arguments)) whole.complete)) in
     let there : slice_get split.routes number ≡ Some (route_list route) =
     ap (λ rs. slice_get rs number) (sym routes-are) ∙ slice_get-map route_list routes number ∙ ap (option_map route_list) (slice_get-get_or routes number route inside ∙ ap Some (sym is)) in
     let here : get_or split.routes number (route_list route) ≡ route_list route = get_or_from_slice_get split.routes number (route_list route) (route_list route) there in

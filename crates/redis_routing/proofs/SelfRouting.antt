@@ -69,7 +69,7 @@ first_names (Some first ∷ rest) name pattern named route_by_is other =
     let takes : takes_second (upper first) ≡ false = takes_none (upper first) second (sym (ap is_plain name_is) ∙ plain) in
     sym (named ∙ sym (one_word (Some first ∷ rest) first refl (sym takes)) ∙ one_word (Some first ∷ other) first refl (sym takes))
 
-arguments_before_gap-map : (words : List (List ℕ)) → arguments_before_gap (map Some words) ≡ words
+pub arguments_before_gap-map : (words : List (List ℕ)) → arguments_before_gap (map Some words) ≡ words
 arguments_before_gap-map [] = refl
 arguments_before_gap-map (word ∷ words) = ap (λ ws. word ∷ ws) (arguments_before_gap-map words)
 

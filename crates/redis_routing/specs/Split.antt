@@ -1,5 +1,5 @@
 -- A complete command over many keys, split by slot.
-use Rattle.std.specs.Prelude.{◌≡◌, ◌<◌, ◌^◌, ℕ, Bool, true, false, List, Option, None, Some, length, option_map, slice_get}
+use Rattle.std.specs.Prelude.{◌≡◌, ◌<◌, ◌^◌, ℕ, Bool, true, false, List, Option, None, Some, length, map, option_map, slice_get}
 use Rattle.cluster_slots.specs.SlotRoute.{SlotRoute}
 use Rattle.redis_commands.specs.Command.{Arguments, HasWords}
 use Rattle.redis_commands.specs.Tuples.{is_complete}
@@ -20,6 +20,10 @@ pub record Split : Type 0 where
   pub routes : List (SlotRoute × List ℕ)
   pub pattern : MultiSlotArgPattern
   pub policy : ResponsePolicy
+
+-- the slots of routes, in order
+abbrev pub slots_of : List (SlotRoute × List ℕ) → List ℕ
+slots_of routes = map (λ r. r.0.slot) routes
 
 -- the part of a slot, as a command of its own
 abbrev pub split_part : Split → ℕ → Arguments
@@ -55,7 +59,7 @@ pub record IsSplit (split : Split) : Type 0 where
   pub complete :
       is_complete split.pattern (length (present_arguments_after split.words split.arguments))
       ≡ true
-  pub only_reads : Bool
+  pub is_read : Bool
   pub routes : split.routes
-      ≡ routes_of only_reads split.pattern (present_arguments_after split.words split.arguments)
+      ≡ routes_of is_read split.pattern (present_arguments_after split.words split.arguments)
   pub policy : joins_parts split.policy ≡ true

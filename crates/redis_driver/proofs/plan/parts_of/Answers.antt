@@ -2,8 +2,7 @@ use Rattle.std.proofs.Common.{◌≡◌, ◌+◌, ◌<◌, ℕ, zero, suc, List,
 use Rattle.std.proofs.lemmas.List.{map_push, map_more, length-map, take_all}
 use Rattle.std.proofs.lemmas.Option.{none-some, same_Some}
 use Rattle.redis_commands.specs.Command.{Arguments}
-use Rattle.redis_routing.specs.Split.{split_part}
-use Rattle.redis_driver.specs.Plan.{slots_of}
+use Rattle.redis_routing.specs.Split.{split_part, slots_of}
 use Rattle.redis_driver.proofs.plan.parts_of.Goals as goal
 
 -- what is found by a slot is that of the slot of this number

@@ -1,6 +1,5 @@
 use Rattle.std.proofs.Common.{◌≡◌, Some, map, take}
-use Rattle.redis_routing.specs.Split.{split_part}
-use Rattle.redis_driver.specs.Plan.{slots_of}
+use Rattle.redis_routing.specs.Split.{split_part, slots_of}
 use Rattle.redis_driver.proofs.plan.parts_of.Given as goal
 
 -- the parts so far are those of the slots so far

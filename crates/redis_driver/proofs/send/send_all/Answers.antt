@@ -16,9 +16,9 @@ use Rattle.redis_nodes.proofs.Fold.{joined}
 use Rattle.redis_nodes.proofs.Orders.{in_order_more, get-in_order}
 use Rattle.redis_nodes.proofs.Whole.{keyspace_of_all, keyspace_at_stop, keyspace_more, results_more, names_slots_from}
 use Rattle.redis_nodes.proofs.Parts.{length-results}
-use Rattle.redis_driver.specs.Plan.{Plan, slots_of, tuples_in_split}
+use Rattle.redis_driver.specs.Plan.{Plan, tuples_in_split}
+use Rattle.redis_routing.specs.Split.{slots_of, Split}
 use Rattle.redis_driver.specs.Sends.{Target, targets, target_entry, IsPlanOf, AreStopped}
-use Rattle.redis_routing.specs.Split.{Split}
 use Rattle.redis_driver.proofs.Zips.{zip_long}
 use Rattle.redis_driver.proofs.Sending.{RouteTarget, route_target, none_at, not_yet, AreTold, AreUntold, told_more, untold_less, all_told, last_is, same_keys}
 use Rattle.redis_driver.proofs.send.send_all.Goals as goal

@@ -5,7 +5,7 @@ use Rattle.redis_nodes.specs.SlotResults.{results_of_slot}
 use Rattle.redis_nodes.specs.Trace.{Ending, answered}
 use Rattle.redis_nodes.specs.Unsplit.{act_of, after, reply_by, results_of}
 use Rattle.redis_nodes.proofs.Fold.{joined}
-use Rattle.redis_driver.specs.Plan.{slots_of}
+use Rattle.redis_routing.specs.Split.{slots_of}
 use Rattle.redis_driver.specs.Sends.{targets, target_entry, IsPlanOf}
 use Rattle.redis_driver.proofs.Sending.{AreTold, AreUntold}
 use Rattle.redis_driver.proofs.send.send_all.Given as goal

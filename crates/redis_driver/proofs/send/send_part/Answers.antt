@@ -9,20 +9,15 @@ use Rattle.redis_nodes.specs.Trace.{answered}
 use Rattle.redis_nodes.specs.Unsplit.{keyspace_after, reply_to}
 use Rattle.redis_driver.specs.Sends.{Target, target_entry}
 use Rattle.redis_driver.proofs.Zips.{zip_at}
+use Rattle.redis_driver.proofs.Constructors.{same_some, none_apart}
 use Rattle.redis_driver.proofs.send.send_part.Goals as goal
-
-nothing : {A : Type 0} (x : A) → None ≡ Some x → ⊥
-nothing x h = cc
-
-same_some : {A : Type 0} (x y : A) → Some x ≡ Some y → x ≡ y
-same_some x y h = cc
 
 -- what a plan has at a number is the target
 one_of : {A B : Type 0} (f : A → B) (r : Option A) (x : A) (o : Option B) (y : B) → option_map f r ≡ o → r ≡ Some x → o ≡ Some y → f x ≡ y
 one_of f r x o y told is at = same_some (f x) y (sym (ap (option_map f) is) ∙ told ∙ at)
 
 none_of : {A B : Type 0} (f : A → B) (r : Option A) (o : Option B) (y : B) → option_map f r ≡ o → r ≡ None → o ≡ Some y → ⊥
-none_of f r o y told is at = nothing y (sym (ap (option_map f) is) ∙ told ∙ at)
+none_of f r o y told is at = none_apart y (sym (ap (option_map f) is) ∙ told ∙ at)
 
 pub unreachable-requires : goal.unreachable-requires
 unreachable-requires g c =

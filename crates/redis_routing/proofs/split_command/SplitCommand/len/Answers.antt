@@ -10,5 +10,5 @@ pub returns-clause-some : goal.returns-clause-some
 returns-clause-some g c =
     let held = c.self.inside in
     let present = present_arguments_after held.words (g.R.Routable.args held.command.now) in
-    let some = some_route c.self.invariant.only_reads held.pattern present (complete_fits held.pattern (length present) c.self.invariant.complete) in
+    let some = some_route c.self.invariant.is_read held.pattern present (complete_fits held.pattern (length present) c.self.invariant.complete) in
     omega (arith, some, ap length c.self.invariant.routes, length-map held.routes.items route_list, c.len.ensures)
