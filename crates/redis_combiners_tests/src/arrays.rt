@@ -1,11 +1,7 @@
+use crate::given::bulk;
 use redis_cluster::routing::combine_array_results;
 use resp_core::{ErrorKind, Value};
-use std::alloc::{AllocError, Global};
 use std::test::Fail;
-
-fn bulk(alloc: Global, bytes: &[u8]) -> Result<Value, AllocError> {
-    Ok(Value::BulkString(bytes.to_vec(alloc)?))
-}
 
 #[test]
 fn the_items_stand_in_the_order_of_the_replies(rt: HostRuntime) -> Result<(), Fail> {
@@ -13,9 +9,9 @@ fn the_items_stand_in_the_order_of_the_replies(rt: HostRuntime) -> Result<(), Fa
     let replies = vec![in alloc;
         Value::Array(vec![in alloc; Value::Int(1), Value::Int(2)]?),
         Value::Array(Vec::new(alloc)),
-        Value::Array(vec![in alloc; bulk(alloc, b"x")?]?),
+        Value::Array(vec![in alloc; bulk(alloc, "x")?]?),
     ]?;
-    let want = Value::Array(vec![in alloc; Value::Int(1), Value::Int(2), bulk(alloc, b"x")?]?);
+    let want = Value::Array(vec![in alloc; Value::Int(1), Value::Int(2), bulk(alloc, "x")?]?);
     assert!(rt; combine_array_results(alloc, replies)? == want);
     let none = combine_array_results(alloc, Vec::new(alloc))?;
     assert!(rt; none == Value::Array(Vec::new(alloc)));

@@ -4,6 +4,8 @@
 #[cfg(test)]
 mod arrays;
 #[cfg(test)]
+mod given;
+#[cfg(test)]
 mod logical;
 #[cfg(test)]
 mod maps;

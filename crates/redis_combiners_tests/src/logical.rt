@@ -1,20 +1,17 @@
+use crate::given::numbers;
 use redis_cluster::routing::{LogicalAggregateOp, logical_aggregate};
 use resp_core::{ErrorKind, Value};
 use std::alloc::{AllocError, Global};
 use std::test::Fail;
 
-fn numbers(alloc: Global, numbers: &[i64]) -> Result<Value, AllocError> {
-    let mut items = Vec::with_capacity(alloc, numbers.len())?;
-    for number in numbers {
-        items.push(Value::Int(*number))?;
-    }
-    Ok(Value::Array(items))
+fn array(alloc: Global, items: &[i64]) -> Result<Value, AllocError> {
+    Ok(Value::Array(numbers(alloc, items)?))
 }
 
 fn arrays(alloc: Global, replies: &[&[i64]]) -> Result<Vec<Value>, AllocError> {
     let mut values = Vec::with_capacity(alloc, replies.len())?;
     for reply in replies {
-        values.push(numbers(alloc, reply)?)?;
+        values.push(array(alloc, reply)?)?;
     }
     Ok(values)
 }
@@ -30,7 +27,7 @@ fn a_place_is_set_where_all_are(rt: HostRuntime) -> Result<(), Fail> {
     ];
     for (replies, want) in table {
         let answer = logical_aggregate(alloc, arrays(alloc, replies)?, LogicalAggregateOp::And)?;
-        assert!(rt; answer == numbers(alloc, want)?, "{replies:?}");
+        assert!(rt; answer == array(alloc, want)?, "{replies:?}");
     }
     Ok(())
 }
@@ -61,7 +58,7 @@ fn other_numbers_and_other_lengths_are_refused(rt: HostRuntime) -> Result<(), Fa
 fn a_reply_that_is_no_array_of_numbers_is_refused(rt: HostRuntime) -> Result<(), Fail> {
     let alloc = rt.alloc();
     for reply in [Value::Int(1), Value::Array(vec![in alloc; Value::Nil]?)] {
-        let replies = vec![in alloc; numbers(alloc, &[1])?, reply]?;
+        let replies = vec![in alloc; array(alloc, &[1])?, reply]?;
         let refused = logical_aggregate(alloc, replies, LogicalAggregateOp::And);
         let error = refused.err().ok_or("no error")?;
         assert_eq!(rt; error.kind(), ErrorKind::UnexpectedReturnType);

@@ -1,17 +1,14 @@
+use crate::given::bulk;
 use redis_cluster::routing::combine_map_results;
 use resp_core::{ErrorKind, Value};
 use std::alloc::{AllocError, Global};
 use std::test::Fail;
 
-fn bulk_of(alloc: Global, text: &str) -> Result<Value, AllocError> {
-    Ok(Value::BulkString(text.as_bytes().to_vec(alloc)?))
-}
-
 // An array of keys and numbers in turn.
 fn array_of(alloc: Global, pairs: &[(&str, i64)]) -> Result<Value, AllocError> {
     let mut items = Vec::new(alloc);
     for (key, n) in pairs {
-        items.push(bulk_of(alloc, key)?)?;
+        items.push(bulk(alloc, key)?)?;
         items.push(Value::Int(*n))?;
     }
     Ok(Value::Array(items))
@@ -20,7 +17,7 @@ fn array_of(alloc: Global, pairs: &[(&str, i64)]) -> Result<Value, AllocError> {
 fn map_of(alloc: Global, pairs: &[(&str, i64)]) -> Result<Value, AllocError> {
     let mut items = Vec::new(alloc);
     for (key, n) in pairs {
-        items.push((bulk_of(alloc, key)?, Value::Int(*n)))?;
+        items.push((bulk(alloc, key)?, Value::Int(*n)))?;
     }
     Ok(Value::Map(items))
 }
@@ -120,10 +117,10 @@ fn other_replies_are_refused(rt: HostRuntime) -> Result<(), Fail> {
     let alloc = rt.alloc();
     let others = vec![in alloc;
         Value::Nil,
-        Value::Array(vec![in alloc; bulk_of(alloc, "k")?]?),
+        Value::Array(vec![in alloc; bulk(alloc, "k")?]?),
         Value::Array(vec![in alloc; Value::Int(1), Value::Int(1)]?),
-        Value::Array(vec![in alloc; Value::Int(1), bulk_of(alloc, "k")?]?),
-        Value::Array(vec![in alloc; bulk_of(alloc, "k")?, Value::Nil]?),
+        Value::Array(vec![in alloc; Value::Int(1), bulk(alloc, "k")?]?),
+        Value::Array(vec![in alloc; bulk(alloc, "k")?, Value::Nil]?),
         map_of(alloc, &[("k", 1)])?,
     ]?;
     for (place, other) in others.into_iter().enumerate() {

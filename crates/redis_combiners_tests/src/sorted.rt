@@ -1,3 +1,4 @@
+use crate::given::bulk;
 use MultiSlotArgPattern::{KeyValuePairs, KeyWithTwoArgTriples, KeysAndLastArg, KeysOnly};
 use cluster_map::{Route, SlotAddr};
 use redis_cluster::routing::{MultiSlotArgPattern, combine_and_sort_array_results};
@@ -12,7 +13,7 @@ fn item(alloc: Global, text: &str) -> Result<Value, AllocError> {
         "OK" => Ok(Value::Okay),
         "+2" => Ok(Value::SimpleString(String::from_str(alloc, "2")?)),
         ":3" => Ok(Value::Int(3)),
-        _ => Ok(Value::BulkString(text.as_bytes().to_vec(alloc)?)),
+        _ => bulk(alloc, text),
     }
 }
 

@@ -1,15 +1,7 @@
+use crate::given::numbers;
 use redis_cluster::routing::{AggregateOp, aggregate};
 use resp_core::{ErrorKind, Value};
-use std::alloc::{AllocError, Global};
 use std::test::Fail;
-
-fn numbers(alloc: Global, numbers: &[i64]) -> Result<Vec<Value>, AllocError> {
-    let mut values = Vec::with_capacity(alloc, numbers.len())?;
-    for number in numbers {
-        values.push(Value::Int(*number))?;
-    }
-    Ok(values)
-}
 
 #[test]
 fn numbers_make_one(rt: HostRuntime) -> Result<(), Fail> {
