@@ -137,7 +137,7 @@ impl<'a, R: Routable> SplitPlan<'a, R> {
     }
 
     /// The node that the part of this route goes to, where there is such a route.
-    pub fn node(&self, number: usize) -> Option<&NodeAddress>
+    pub fn node(&self, number: usize) -> Option<&'a NodeAddress>
         ensures { option_map (λ node. node.now) result ≡ slice_get self.now.nodes number }
     {
         let node = self.nodes.get(number)?;
