@@ -1,6 +1,7 @@
 -- The plan of a command over many keys: a part for each of its routes, the node that it goes to,
 -- and the reply to it.
-use Rattle.std.specs.Prelude.{◌≡◌, ℕ, Bool, cond, List, [], ◌∷◌, Option, None, Some, map, length}
+use Rattle.std.specs.Prelude.{◌≡◌, ℕ, Bool, cond, List, Option, None, Some, map, length}
+use Rattle.std.specs.List.{zip}
 use Rattle.resp_core.specs.Reply.{Reply}
 use Rattle.resp_core.specs.View.{view}
 use Rattle.resp_core.specs.declared.value.Value.{Value}
@@ -28,9 +29,7 @@ pub record IsPlan (plan : Plan) : Type 0 where
 
 -- the replies that were told
 abbrev pub told : List Bool → List Value → List (Option Value)
-told [] replies = []
-told (is_told ∷ rest) [] = []
-told (is_told ∷ rest) (reply ∷ replies) = cond is_told (Some reply) None ∷ told rest replies
+told are_told replies = map (λ p. cond p.0 (Some p.1) None) (zip are_told replies)
 
 -- the tuples of the command
 abbrev pub tuples_in_split : Split → List KeyTuple

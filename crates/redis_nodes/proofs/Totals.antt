@@ -1,7 +1,7 @@
 -- What the parts count is, in all, what the whole command counts.
-use Rattle.std.proofs.Common.{◌≡◌, ℕ, ◌+◌, ◌*◌, ◌≤◌, List, [], ◌∷◌, cond, sym, ap, ◌∙◌, arith, length, map, sum}
+use Rattle.std.proofs.Common.{◌≡◌, ℕ, ◌+◌, ◌*◌, ◌≤◌, List, [], ◌∷◌, cond, filter, sym, ap, ◌∙◌, arith, length, map, sum}
 use Rattle.std.specs.Prelude.{nat_eq, count_by}
-use Rattle.std.specs.List.{sum_by}
+use Rattle.std.specs.List.{sum_by, zip}
 use Rattle.std.proofs.lemmas.List.Sums.{sum_by-cons, sum-map, count_by-le-length}
 use Rattle.cluster_slots.specs.KeySlot.{key_slot}
 use Rattle.resp_core.proofs.Cases.{by_test}
@@ -18,9 +18,10 @@ both : (a b c d : ℕ) → a ≡ b → c ≡ d → a + c ≡ b + d
 both a b c d e f = omega arith
 
 -- one tuple more adds its result to the sum of its slot
-sum-results_of_slot-cons : (w : TupleResult → ℕ) (s slot : ℕ) (r : TupleResult) (rs others : List TupleResult)
-    → sum_by w (cond (nat_eq s slot) (r ∷ others) others) ≡ cond (nat_eq s slot) (w r) 0 + sum_by w others
-sum-results_of_slot-cons w s slot r rs others = by_test (nat_eq s slot) (λ here. rw here (sum_by-cons w r others)) (λ there. rw there (omega arith))
+sum-results_of_slot-cons : (w : TupleResult → ℕ) (slot : ℕ) (t : KeyTuple) (r : TupleResult) (others : List (KeyTuple × TupleResult))
+    → sum_by w (map (λ p. p.1) (cond (nat_eq (key_slot t.key) slot) ((t, r) ∷ others) others)) ≡ cond (nat_eq (key_slot t.key) slot) (w r) 0 + sum_by w (map (λ p. p.1) others)
+sum-results_of_slot-cons w slot t r others =
+    by_test (nat_eq (key_slot t.key) slot) (λ here. rw here (sum_by-cons w r (map (λ p. p.1) others))) (λ there. rw there (omega arith))
 
 -- a sum over all results is the sum of those over the results of each slot
 pub sum-results_of_slot : (w : TupleResult → ℕ) (slots : List ℕ) (ts : List KeyTuple) (rs : List TupleResult) → length rs ≡ length ts → NamesSlots slots ts
@@ -31,7 +32,7 @@ sum-results_of_slot w slots (t ∷ ts) [] l named = absurd (omega arith)
 sum-results_of_slot w slots (t ∷ ts) (r ∷ rs) l named =
     let s = key_slot t.key in
     sum_both (λ slot. cond (nat_eq s slot) (w r) 0) (λ slot. sum_by w (results_of_slot slot ts rs)) (λ slot. sum_by w (results_of_slot slot (t ∷ ts) (r ∷ rs)))
-    (λ slot. sum-results_of_slot-cons w s slot r rs (results_of_slot slot ts rs)) slots
+    (λ slot. sum-results_of_slot-cons w slot t r (filter (λ p. nat_eq (key_slot p.0.key) slot) (zip ts rs))) slots
     ∙ both _ (w r) _ (sum_by w rs) (sum_at s (w r) slots ∙ ap (λ n. n * w r) named.0 ∙ once_times (w r)) (sum-results_of_slot w slots ts rs (omega arith) named.1)
     ∙ sym (sum_by-cons w r rs)
 
