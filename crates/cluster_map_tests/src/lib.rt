@@ -4,4 +4,8 @@
 #[cfg(test)]
 mod read_routing;
 #[cfg(test)]
+mod refused_memory;
+#[cfg(test)]
 mod slot_map;
+#[cfg(test)]
+mod turns;

@@ -1,11 +1,14 @@
-use crate::read_routing::primaries_of;
-use cluster_map::{NodeAddress, ReadRoutingStrategy, Route, SlotAddr, SlotMap, SlotRange};
+use crate::read_routing::{nodes_of, primaries_of};
+use cluster_map::{
+    DefaultFactory, NodeAddress, ReadRoutingStrategy, ReadRoutingStrategyFactory, Route, SlotAddr,
+    SlotAddrs, SlotMap, SlotRange,
+};
 use example_strategies::{FirstReplica, PickIndex, ShardAware};
 use resp_core::RedisResult;
 use std::alloc::{AllocError, Global};
 use std::test::Fail;
 
-fn range_of(
+pub fn range_of(
     alloc: Global,
     start: u16,
     end: u16,
@@ -163,7 +166,7 @@ fn ranges_are_equal_where_their_ends_and_nodes_are(rt: HostRuntime) -> Result<()
     Ok(())
 }
 
-fn map_of(alloc: Global, ranges: &[(u16, u16, &str, &[&str])]) -> RedisResult<SlotMap> {
+pub fn map_of(alloc: Global, ranges: &[(u16, u16, &str, &[&str])]) -> RedisResult<SlotMap> {
     let mut slots = Vec::new(alloc);
     for (start, end, master, replicas) in ranges {
         slots
@@ -174,7 +177,7 @@ fn map_of(alloc: Global, ranges: &[(u16, u16, &str, &[&str])]) -> RedisResult<Sl
 }
 
 /// Three shards, of which the second has two ranges.
-fn three_shards(alloc: Global) -> RedisResult<SlotMap> {
+pub fn three_shards(alloc: Global) -> RedisResult<SlotMap> {
     map_of(
         alloc,
         &[
@@ -244,6 +247,57 @@ fn a_lent_strategy_is_asked_for_reads_where_there_are_replicas(
 }
 
 #[test]
+fn what_a_factory_makes_is_lent_to_a_map(rt: HostRuntime) -> Result<(), Fail> {
+    let alloc = rt.alloc();
+    let map = map_of(alloc, &[(1, 1000, "p:1", &["r:1", "r:2", "r:3"])])?;
+    let factory: DefaultFactory<FirstReplica> = DefaultFactory::new();
+    let strategy = factory.create_strategy();
+    let table = [
+        (SlotAddr::Master, ("p", 1)),
+        (SlotAddr::ReplicaOptional, ("r", 1)),
+        (SlotAddr::ReplicaRequired, ("r", 1)),
+    ];
+    for (addr, wanted) in table {
+        let node = map.slot_addr_for_route(Route::new(500, addr), Some(&strategy), 4);
+        assert_eq!(rt;
+            node.map(|n| (n.host(), n.port())),
+            Some(wanted),
+            "{addr:?}"
+        );
+    }
+    Ok(())
+}
+
+#[test]
+fn the_nodes_of_a_range_have_one_for_each_route(rt: HostRuntime) -> Result<(), Fail> {
+    let alloc = rt.alloc();
+    let replicas = ["r:1", "r:2", "r:3"];
+    let primary = NodeAddress::new(alloc, "p", 1)?;
+    let table = [
+        (
+            "new",
+            SlotAddrs::new(primary, nodes_of(alloc, replicas.as_slice())?),
+        ),
+        (
+            "of a range",
+            SlotAddrs::from_slot(range_of(alloc, 1, 1000, "p:1", replicas.as_slice())?),
+        ),
+    ];
+    for (what, addrs) in table {
+        let node = addrs.slot_addr(500, SlotAddr::ReplicaRequired, None, 4);
+        assert_eq!(rt; (node.host(), node.port()), ("r", 2), "{what}, by index");
+        let node = addrs.slot_addr(500, SlotAddr::ReplicaRequired, Some(&FirstReplica), 4);
+        assert_eq!(rt;
+            (node.host(), node.port()),
+            ("r", 1),
+            "{what}, by a strategy"
+        );
+        assert_eq!(rt; (&addrs).into_iter().count(), 4, "{what}, number of nodes");
+    }
+    Ok(())
+}
+
+#[test]
 fn an_index_counts_round_the_candidates(rt: HostRuntime) -> Result<(), Fail> {
     let alloc = rt.alloc();
     let map = map_of(alloc, &[(1, 1000, "p:1", &["r:1", "r:2", "r:3"])])?;
@@ -281,27 +335,45 @@ fn a_boxed_strategy_goes_by_the_topology_that_it_is_told(rt: HostRuntime) -> Res
     Ok(())
 }
 
+/// The fallback of a route, each node before a space.
+fn fallback_of(
+    alloc: Global,
+    map: &SlotMap,
+    slot: u16,
+    addr: SlotAddr,
+) -> Result<String, AllocError> {
+    let mut text = String::new(alloc);
+    for node in &map.shard_fallback_addrs(alloc, Route::new(slot, addr))? {
+        text.push_str(format!(in alloc; "{node} ")?.as_str())?;
+    }
+    Ok(text)
+}
+
 #[test]
 fn fallbacks_are_the_replicas_and_then_the_primary(rt: HostRuntime) -> Result<(), Fail> {
     let alloc = rt.alloc();
-    let map = three_shards(alloc)?;
+    let one = map_of(alloc, &[(1, 1000, "p:1", &["r:1", "r:2", "r:3"])])?;
+    let three = three_shards(alloc)?;
     let table = [
-        (1500, SlotAddr::ReplicaOptional, "replica2 replica3 node2 "),
-        (1500, SlotAddr::Master, ""),
+        (&one, 500, SlotAddr::ReplicaOptional, "r:1 r:2 r:3 p:1 "),
         (
+            &three,
+            1500,
+            SlotAddr::ReplicaOptional,
+            "replica2:6379 replica3:6379 node2:6379 ",
+        ),
+        (&three, 1500, SlotAddr::Master, ""),
+        (
+            &three,
             2500,
             SlotAddr::ReplicaRequired,
-            "replica4 replica5 replica6 ",
+            "replica4:6379 replica5:6379 replica6:6379 ",
         ),
-        (1001, SlotAddr::ReplicaOptional, ""),
+        (&three, 1001, SlotAddr::ReplicaOptional, ""),
     ];
-    for (slot, addr, wanted) in table {
-        let mut text = String::new(alloc);
-        for node in &map.shard_fallback_addrs(alloc, Route::new(slot, addr))? {
-            text.push_str(node.host())?;
-            text.push(' ')?;
-        }
-        assert_eq!(rt; text.as_str(), wanted, "slot {slot}, {addr:?}");
+    for (map, slot, addr, wanted) in table {
+        let found = fallback_of(alloc, map, slot, addr)?;
+        assert_eq!(rt; found.as_str(), wanted, "slot {slot}, {addr:?}");
     }
     Ok(())
 }
@@ -438,6 +510,50 @@ fn a_topology_has_a_shard_for_each_primary(rt: HostRuntime) -> Result<(), Fail> 
         assert_eq!(rt; shard.replicas().len(), replicas, "slot {slot}");
     }
     assert_eq!(rt; topology.shards().count(), 2, "two shards");
+    Ok(())
+}
+
+#[test]
+fn a_topology_and_its_map_agree_on_hidden_ranges_and_past_the_slots_of_keys(
+    rt: HostRuntime,
+) -> Result<(), Fail> {
+    let alloc = rt.alloc();
+    let map = map_of(
+        alloc,
+        &[
+            (0, 16383, "n1:1", &[]),
+            (0, 100, "n2:2", &[]),
+            (100, 0, "n3:3", &[]),
+            (16000, 40000, "n4:4", &[]),
+        ],
+    )?;
+    let topology = map.topology(alloc)?;
+    assert_eq!(rt;
+        primaries_of(alloc, &topology)?.as_str(),
+        "n3 n2 n1 n4 ",
+        "shards"
+    );
+    let table = [
+        (0, None),
+        (1, Some("n2")),
+        (100, Some("n2")),
+        (101, Some("n1")),
+        (16383, Some("n1")),
+        (16384, Some("n4")),
+        (40000, Some("n4")),
+        (40001, None),
+        (65535, None),
+    ];
+    for (slot, wanted) in table {
+        let node = map.slot_addr_for_route(Route::new(slot, SlotAddr::Master), None, 0);
+        assert_eq!(rt; node.map(|n| n.host()), wanted, "node of slot {slot}");
+        let shard = topology.shard_for_slot(slot);
+        assert_eq!(rt;
+            shard.map(|s| s.primary().host()),
+            wanted,
+            "shard of slot {slot}"
+        );
+    }
     Ok(())
 }
 
