@@ -497,19 +497,24 @@ fn a_topology_has_a_shard_for_each_primary(rt: HostRuntime) -> Result<(), Fail> 
         ],
     )?;
     let topology = map.topology(alloc)?;
+    assert_eq!(rt;
+        primaries_of(alloc, &topology)?.as_str(),
+        "node1 node2 ",
+        "two shards"
+    );
     let table = [
-        (5000, "node1", (0, 5000), 1),
-        (5001, "node2", (5001, 10000), 0),
+        (5000, "node1", (0, 5000), Some("replica1")),
+        (5001, "node2", (5001, 10000), None),
     ];
-    for (slot, primary, range, replicas) in table {
+    for (slot, primary, range, replica) in table {
         let Some(shard) = topology.shard_for_slot(slot) else {
             return Err(Fail::new("other candidates or none"));
         };
         assert_eq!(rt; shard.primary().host(), primary, "slot {slot}");
         assert_eq!(rt; shard.slot_ranges(), [range].as_slice(), "slot {slot}");
-        assert_eq!(rt; shard.replicas().len(), replicas, "slot {slot}");
+        let first = shard.replicas().first().map(|r| r.host());
+        assert_eq!(rt; first, replica, "first replica of slot {slot}");
     }
-    assert_eq!(rt; topology.shards().count(), 2, "two shards");
     Ok(())
 }
 
