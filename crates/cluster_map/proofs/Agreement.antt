@@ -1,17 +1,17 @@
 -- A map and its topology agree.
-use Rattle.std.proofs.Common.{◌≡◌, ◌<◌, ◌+◌, ℕ, suc, inl, inr, Bool, true, false, cond, nat_eq, List, [], ◌∷◌, ◌++◌, length, map, filter, slice_get, Option, Some, None, option_map, option_and_then, Less, Equal, Greater, refl, sym, ap, subst, ◌∙◌, append_assoc, arith, nat_cmp}
+use Rattle.std.proofs.Common.{◌≡◌, ◌<◌, ◌≤◌, ◌+◌, ℕ, suc, All, inl, inr, Bool, true, false, cond, nat_eq, List, [], ◌∷◌, ◌++◌, length, map, filter, slice_get, Option, Some, None, option_map, option_and_then, Less, Equal, Greater, refl, sym, ap, subst, ◌∙◌, append_assoc, arith, nat_cmp}
 use Rattle.std.proofs.lemmas.Bool.{eqb-true, cases_lt}
 use Rattle.std.proofs.lemmas.Bool.Decides.{nat_tests}
-use Rattle.std.proofs.lemmas.List.Elements.{filter-append}
+use Rattle.std.proofs.lemmas.List.Elements.{All-contains, filter-append}
 use Rattle.std.proofs.lemmas.Option.{slice_get-map}
 use Rattle.std.specs.List.{list_any}
 use Rattle.std.specs.Prelude.{option_to_list}
 use Rattle.cluster_slots.specs.Address.{Address, same_address}
 use Rattle.cluster_slots.proofs.Orders.{same_from_address}
 use Rattle.slot_ranges.specs.SlotNodes.{SlotNodes}
-use Rattle.slot_ranges.specs.RangeMap.{Entry, EndsAfter, Ascends}
+use Rattle.slot_ranges.specs.RangeMap.{Entry, EndsAfter, Ascends, IsUncovered, end_of}
 use Rattle.read_strategies.specs.Shards.{ShardNodes}
-use Rattle.read_strategies.specs.Topology.{primary_of, entry_primary, has_primary, ends_of, shard_of, shards_of, place_entry, place_entries, insert_entries, topology_of, Agrees}
+use Rattle.read_strategies.specs.Topology.{Topology, IsShardAt, primary_of, entry_primary, has_primary, ends_of, shard_of, shards_of, place_entry, place_entries, insert_entries, topology_of, Agrees}
 use Rattle.cluster_map.proofs.Groups.{primaries, primary_shards, primary_shards-are, primaries_cover, same_refl, same_sym}
 use Rattle.cluster_map.proofs.Inserts.{insert_step, step, insert_steps, insert_steps-is, Ascends-insert_entries, answer, answer-some, answer-is, by_option, with_value, with_value-insert_steps, with_value-answer}
 use Rattle.resp_core.proofs.Cases.{by_test}
@@ -262,3 +262,11 @@ agrees rs up slot address =
           let one : shard.primary ≡ nodes.primary = cc in
           (nodes, answer-some rs slot nodes up at, sym is ∙ one))),
     )
+
+-- past all ends, neither entries nor a topology that agrees with them have an answer
+pub none_past : (es : List (Entry SlotNodes)) → All (λ (e : Entry SlotNodes). end_of e < 65536) es → (t : Topology) → Agrees es t → (slot : ℕ) → 65536 ≤ slot → IsUncovered es slot × ((s : ShardNodes) → ¬ (IsShardAt t slot s))
+none_past es below t same slot past =
+    let uncovered : IsUncovered es slot = λ value answer.
+    let small : answer.end < 65536 = All-contains (λ (e : Entry SlotNodes). end_of e < 65536) es (answer.start, answer.end, value) below answer.there in
+    absurd (omega (arith, answer.before_end)) in
+    (uncovered, λ s there. let found = (same slot s.primary).1 (s, there, refl) in uncovered found.0 found.1)

@@ -1,4 +1,4 @@
-ghost use Rattle.std.specs.Prelude.{◌≡◌, ℕ, List, [], map, Option, IfOk, IfErr, IsTrue, ◌↔◌, MatchOption, Contains, IsPermutation, ◌<◌, ◌++◌, length, take, flat_map, fold, OnOk, OnErr};
+ghost use Rattle.std.specs.Prelude.{◌≡◌, ℕ, List, [], map, Option, IfOk, IfErr, IsTrue, ◌↔◌, MatchOption, Contains, IsPermutation, ◌<◌, ◌≤◌, ◌^◌, ◌++◌, length, take, flat_map, fold, OnOk, OnErr};
 ghost use Rattle.std.specs.List.{AllZip};
 ghost use Rattle.std.specs.Cmp.Rules.{comparing};
 ghost use Rattle.std.proofs.Common.{rules};
@@ -14,7 +14,8 @@ ghost use Rattle.cluster_map.specs.Fallback.{fallback, IsFallback};
 ghost use Rattle.cluster_map.specs.Targets.{targets};
 ghost use Rattle.read_strategies.specs.RouteNode.{IsNodeFor, IsPicked, IsRouteNode};
 ghost use Rattle.cluster_map.specs.ReplyNode.{IsFound, IsFoundByReply, entries_in};
-ghost use Rattle.read_strategies.specs.Topology.{shards_of, shards_left, topology_of, Agrees};
+ghost use Rattle.read_strategies.specs.Shards.{ShardNodes};
+ghost use Rattle.read_strategies.specs.Topology.{shards_of, shards_left, topology_of, Agrees, IsShardAt};
 
 use addresses::{insert_all, members};
 use cluster_slots::{NodeAddress, Route, SlotAddr};
@@ -325,6 +326,9 @@ impl SlotMap {
         ensures listed { IfOk result (λ topology. shards_left topology ≡ shards_of self.now) }
         // It agrees with the map on every slot.
         ensures agrees { IfOk result (λ topology. Agrees self.now topology) }
+        // Past what a `u16` holds neither has one.
+        ensures past { IfOk result (λ topology. (slot : ℕ) → 2 ^ 16 ≤ slot
+            → IsUncovered self.now slot × ((s : ShardNodes) → ¬ (IsShardAt topology slot s))) }
         ensures order { Ascends self.now }
     {
         let shards = shards_of(alloc, &self.slots)?;

@@ -1,6 +1,6 @@
-ghost use Rattle.std.specs.Prelude.{◌≡◌, ◌++◌, ◌∷◌, [], List, map, IfOk, OnOk};
+ghost use Rattle.std.specs.Prelude.{◌≡◌, ◌<◌, ◌^◌, ◌++◌, ◌∷◌, [], List, All, map, IfOk, OnOk};
 ghost use Rattle.slot_ranges.specs.SlotNodes.{SlotNodes};
-ghost use Rattle.slot_ranges.specs.RangeMap.{Entry, Ascends};
+ghost use Rattle.slot_ranges.specs.RangeMap.{Entry, Ascends, end_of};
 ghost use Rattle.cluster_map.specs.Targets.{targets};
 ghost use Rattle.read_strategies.specs.Topology.{primary_of, shards_of};
 
@@ -17,6 +17,7 @@ pub(crate) fn shards_of(
     ranges: &SlotRangeMap<SlotAddrs>,
 ) -> Result<Vec<Shard>, AllocError>
     ensures shards { IfOk result (λ shards. shards.items ≡ shards_of ranges.now) }
+    ensures ends { IfOk result (λ shards. All (λ e. end_of e < 2 ^ 16) ranges.now) }
     ensures order { Ascends ranges.now }
 {
     let mut seen: IndexSet<&NodeAddress> = IndexSet::new(alloc);
@@ -41,6 +42,7 @@ fn add_range<'a>(
     ensures keys { OnOk result (targets seen.new.keys ≡ map primary_of shards.new.items) }
     ensures shards { OnOk result ((es : List (Entry SlotNodes)) → shards.old.items ≡ shards_of es
         → shards.new.items ≡ shards_of (es ++ (start, end, addrs.now) ∷ [])) }
+    ensures end { end < 2 ^ 16 }
 {
     let (place, is_new) = seen.insert_full(addrs.primary())?;
     if is_new {

@@ -1,7 +1,8 @@
-use Rattle.std.proofs.Common.{◌≡◌, ◌∙◌, ap, subst, sym}
-use Rattle.slot_ranges.specs.RangeMap.{Ascends}
+use Rattle.std.proofs.Common.{◌≡◌, ◌∙◌, ◌<◌, All, ap, subst, sym}
+use Rattle.slot_ranges.specs.RangeMap.{Ascends, Entry, end_of}
+use Rattle.slot_ranges.specs.SlotNodes.{SlotNodes}
 use Rattle.read_strategies.specs.Topology.{shards_of, topology_of, shards_left, Agrees}
-use Rattle.cluster_map.proofs.Agreement.{agrees}
+use Rattle.cluster_map.proofs.Agreement.{agrees, none_past}
 use Rattle.cluster_map.proofs.Listed.{listed}
 use Rattle.cluster_map.proofs.slot_map.SlotMap.topology.Goals as goal
 
@@ -20,3 +21,13 @@ returns-clause-agrees c =
     let is : c.in_ok-topology.topology ≡ topology_of (shards_of entries) =
     c.in_ok-topology.ensures.put ∙ ap topology_of (c.in_ok-shards.ensures.shards ∙ ap shards_of c.self.view_is) in
     subst (Agrees entries) (sym is) (agrees entries up)
+
+pub returns-clause-past : goal.returns-clause-past
+returns-clause-past c =
+    let entries = c.args.self.now in
+    let up : Ascends entries = rw (← c.self.view_is) c.shards_of.ensures.order in
+    let is : c.in_ok-topology.topology ≡ topology_of (shards_of entries) =
+    c.in_ok-topology.ensures.put ∙ ap topology_of (c.in_ok-shards.ensures.shards ∙ ap shards_of c.self.view_is) in
+    let below : All (λ (e : Entry SlotNodes). end_of e < 65536) entries =
+    subst (All (λ (e : Entry SlotNodes). end_of e < 65536)) c.self.view_is c.in_ok-shards.ensures.ends in
+    none_past entries below c.in_ok-topology.topology (subst (Agrees entries) (sym is) (agrees entries up))

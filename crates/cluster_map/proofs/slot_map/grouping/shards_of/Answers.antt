@@ -1,9 +1,13 @@
-use Rattle.std.proofs.Common.{◌∙◌, ◌++◌, ◌∷◌, [], ap, sym, append_assoc}
+use Rattle.std.proofs.Common.{◌∙◌, ◌<◌, ◌++◌, ◌∷◌, [], All, ap, subst, sym, append_assoc}
 use Rattle.std.proofs.lemmas.List.{append-nil}
+use Rattle.std.proofs.lemmas.List.Elements.{All-append, All-cons, All-nil}
 use Rattle.slot_ranges.specs.SlotNodes.{SlotNodes}
-use Rattle.slot_ranges.specs.RangeMap.{Entry}
+use Rattle.slot_ranges.specs.RangeMap.{Entry, end_of}
 use Rattle.read_strategies.specs.Topology.{shards_of}
 use Rattle.cluster_map.proofs.slot_map.grouping.shards_of.Goals as goal
+
+abbrev Fits : Entry SlotNodes → Type 0
+Fits e = end_of e < 65536
 
 pub loop-start-preserved : goal.loop-start-preserved
 loop-start-preserved c =
@@ -16,6 +20,8 @@ loop-start-preserved c =
         done ++ e ∷ [],
         append_assoc done (e ∷ []) c.next.new.self ∙ ap (λ z. done ++ z) (sym c.in-Some.ensures.steps) ∙ c.loop-start.invariant.3.1,
         c.in_ok-add_range.ensures.shards done c.loop-start.invariant.3.2,
+        All-append Fits done (e ∷ []) c.loop-start.invariant.3.3
+            (All-cons Fits e [] c.add_range.ensures.end (All-nil Fits)),
       ),
     )
 
@@ -24,3 +30,10 @@ returns-clause-shards c =
     let done = c.loop-start.invariant.3.0 in
     c.loop-start.invariant.3.2
     ∙ ap shards_of (sym (append-nil done) ∙ ap (λ z. done ++ z) (sym c.in-None.ensures.steps.0) ∙ c.loop-start.invariant.3.1)
+
+pub returns-clause-ends : goal.returns-clause-ends
+returns-clause-ends c =
+    let done = c.loop-start.invariant.3.0 in
+    subst (All Fits)
+    (sym (append-nil done) ∙ ap (λ z. done ++ z) (sym c.in-None.ensures.steps.0) ∙ c.loop-start.invariant.3.1)
+    c.loop-start.invariant.3.3
