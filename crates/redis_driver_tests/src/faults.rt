@@ -8,7 +8,11 @@ fn parts_before_a_refusal_stand_and_no_later_one_is_sent(rt: HostRuntime) -> Res
     let mut cluster = Cluster::new(alloc, &TWO_NODES)?;
     cluster.nodes.fuse(2);
     let given = cluster.run(alloc, "MSET a 1 b 2 a 3", &[1, 0])?;
-    assert_eq!(rt; given.as_str(), "Node node refused after 1", "the fault");
+    assert_eq!(rt;
+        given.as_str(),
+        "Node Client 'node refused' after 1",
+        "the fault"
+    );
     assert_eq!(rt; cluster.value("b")?, "2", "b");
     assert_eq!(rt; cluster.value("a")?, "nil", "a");
     assert_eq!(rt;
@@ -25,25 +29,25 @@ fn a_fuse_stops_at_each_send_in_turn(rt: HostRuntime) -> Result<(), Fail> {
     let table: [(usize, &str, [&str; 3], &str); 5] = [
         (
             0,
-            "Node node refused after 0",
+            "Node Client 'node refused' after 0",
             ["nil", "nil", "nil"],
             "n1:1 MSET c 3 refused;",
         ),
         (
             1,
-            "Node node refused after 0",
+            "Node Client 'node refused' after 0",
             ["nil", "nil", "nil"],
             "n1:1 MSET c 3 refused;",
         ),
         (
             2,
-            "Node node refused after 1",
+            "Node Client 'node refused' after 1",
             ["nil", "nil", "3"],
             "n1:1 MSET c 3;n2:2 MSET a 1 refused;",
         ),
         (
             3,
-            "Node node refused after 2",
+            "Node Client 'node refused' after 2",
             ["1", "nil", "3"],
             "n1:1 MSET c 3;n2:2 MSET a 1;n1:1 MSET b 2 refused;",
         ),
@@ -119,6 +123,8 @@ fn a_slot_without_a_node_is_told(rt: HostRuntime) -> Result<(), Fail> {
 
 #[test]
 fn a_command_that_is_not_split_or_not_complete_is_told_first(rt: HostRuntime) -> Result<(), Fail> {
+    let given = refused(rt.alloc(), &TWO_NODES, "GET a", &[5])?;
+    assert_eq!(rt; given.as_str(), "NotMultiKey after 0", "over a map");
     for text in [
         "GET a",
         "JSON.MGET a",

@@ -17,12 +17,8 @@ fn each_path_of_a_key_has_its_value(rt: HostRuntime) -> Result<(), Fail> {
         let given = cluster.run(alloc, text, order)?;
         assert_eq!(rt; given.as_str(), want, "{text}");
     }
-    let (x, y) = (
-        cluster.nodes.get(b"a", b"$.x"),
-        cluster.nodes.get(b"a", b"$.y"),
-    );
-    assert_eq!(rt; x, Some(b"1".as_slice()), "a at x");
-    assert_eq!(rt; y, Some(b"3".as_slice()), "a at y");
+    assert_eq!(rt; cluster.value_at("a", "$.x")?, "1", "a at x");
+    assert_eq!(rt; cluster.value_at("a", "$.y")?, "3", "a at y");
     Ok(())
 }
 
@@ -37,5 +33,31 @@ fn each_part_has_the_shared_path(rt: HostRuntime) -> Result<(), Fail> {
         "n1:1 JSON.MGET b $.x;n2:2 JSON.MGET a {a}c $.x;",
         "what was sent"
     );
+    Ok(())
+}
+
+#[test]
+fn the_order_of_sends_changes_no_path(rt: HostRuntime) -> Result<(), Fail> {
+    let alloc = rt.alloc();
+    let orders: [&[usize]; 6] = [
+        &[0, 1, 2],
+        &[0, 2, 1],
+        &[1, 0, 2],
+        &[1, 2, 0],
+        &[2, 0, 1],
+        &[2, 1, 0],
+    ];
+    let table = [
+        ("JSON.MSET a $.x 1 b $.x 2 a $.y 3 c $.x 4 a $.x 5", "OK"),
+        ("JSON.MGET c a b a $.x", "[4, 5, 2, 5]"),
+        ("JSON.MGET c a b $.y", "[nil, 3, nil]"),
+    ];
+    for order in orders {
+        let mut cluster = Cluster::new(alloc, &TWO_NODES)?;
+        for (text, want) in table {
+            let given = cluster.run(alloc, text, order)?;
+            assert_eq!(rt; given.as_str(), want, "{text} in the order {order:?}");
+        }
+    }
     Ok(())
 }

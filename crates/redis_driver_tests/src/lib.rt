@@ -10,6 +10,12 @@ mod given;
 #[cfg(test)]
 mod json_paths;
 #[cfg(test)]
+mod nodes_in_memory;
+#[cfg(test)]
 mod replicas;
 #[cfg(test)]
+mod short_of_memory;
+#[cfg(test)]
 mod split_plan;
+#[cfg(test)]
+mod texts;

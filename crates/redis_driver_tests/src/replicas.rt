@@ -1,8 +1,6 @@
-use crate::given::{Cluster, Line, cmd_of};
+use crate::given::{Cluster, Line, ONE_REPLICA, cmd_of};
 use example_strategies::{FirstReplica, PickIndex};
 use std::test::Fail;
-
-const ONE_REPLICA: [Line<'static>; 2] = [(0, 8191, "n1:1", &["r1:1"]), (8192, 16383, "n2:2", &[])];
 
 #[test]
 fn reads_go_where_the_strategy_picks_and_writes_to_the_primary(

@@ -1,0 +1,59 @@
+use crate::given::{Cluster, TWO_NODES};
+use std::test::Fail;
+
+#[test]
+fn a_fuse_counts_the_sends_before_it_and_the_last_one_holds(rt: HostRuntime) -> Result<(), Fail> {
+    let alloc = rt.alloc();
+    let mut cluster = Cluster::new(alloc, &TWO_NODES)?;
+    let table: [(usize, &str, &[usize], &str); 6] = [
+        (9, "MSET a 1 b 2", &[0, 1], "OK"),
+        (4, "DEL a b", &[0, 1], "Node Client 'node refused' after 1"),
+        (6, "EXISTS b", &[0], "1"),
+        (6, "EXISTS b", &[0], "Node Client 'node refused' after 0"),
+        (0, "EXISTS b", &[0], "Node Client 'node refused' after 0"),
+        (10, "DEL b a", &[0, 1], "1"),
+    ];
+    for (limit, text, order, want) in table {
+        cluster.nodes.fuse(0);
+        cluster.nodes.fuse(limit);
+        let given = cluster.run(alloc, text, order)?;
+        assert_eq!(rt; given.as_str(), want, "{text} with a fuse of {limit}");
+    }
+    assert_eq!(rt;
+        cluster.nodes.trace().len(),
+        9,
+        "each send that was refused, too"
+    );
+    Ok(())
+}
+
+#[test]
+fn nothing_stands_at_another_key_or_path(rt: HostRuntime) -> Result<(), Fail> {
+    let alloc = rt.alloc();
+    let mut cluster = Cluster::new(alloc, &TWO_NODES)?;
+    cluster.run(alloc, "JSON.MSET a $.x 1", &[0])?;
+    cluster.run(alloc, "MSET b 2", &[0])?;
+    for (key, path, want) in [
+        ("a", "$.x", "1"),
+        ("a", "$.y", "nil"),
+        ("a", "", "nil"),
+        ("b", "", "2"),
+        ("b", "$.x", "nil"),
+        ("c", "", "nil"),
+        ("", "", "nil"),
+    ] {
+        assert_eq!(rt; cluster.value_at(key, path)?, want, "'{key}' at '{path}'");
+    }
+    Ok(())
+}
+
+#[test]
+fn a_value_at_the_empty_path_takes_the_place_of_all_others(rt: HostRuntime) -> Result<(), Fail> {
+    let alloc = rt.alloc();
+    let mut cluster = Cluster::new(alloc, &TWO_NODES)?;
+    cluster.run(alloc, "JSON.MSET a $.x 1", &[0])?;
+    cluster.run(alloc, "MSET a 2", &[0])?;
+    assert_eq!(rt; cluster.value_at("a", "$.x")?, "nil", "at the path");
+    assert_eq!(rt; cluster.value("a")?, "2", "at the empty path");
+    Ok(())
+}

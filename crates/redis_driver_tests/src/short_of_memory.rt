@@ -1,0 +1,82 @@
+//! Nodes that run out of memory at one send.
+ghost use Rattle.memory_nodes.specs.Cells.{Cell};
+ghost use Rattle.memory_nodes.specs.Nodes.{keyspace_in, trace_in, MayRefuse};
+ghost use Rattle.memory_nodes.specs.Steps.{step};
+
+use crate::given::{Given, TWO_NODES, cmd_of};
+use crate::texts::trace_text;
+use cluster_map::NodeAddress;
+use memory_nodes::MemoryNodes;
+use redis_cluster::driver::{Nodes, SendError};
+use resp_core::{Cmd, Value};
+use std::alloc::Global;
+use std::test::Fail;
+
+/// Nodes in memory that answer so many sends, and run out of memory at the next.
+#[derive(Drop)]
+struct ShortOfMemory {
+    nodes: MemoryNodes,
+    sends_left: usize,
+    mark: bool,
+}
+
+impl Nodes for ShortOfMemory {
+    ghost Cell = { Cell };
+
+    ghost step = { step };
+
+    ghost keyspace = { λ short. keyspace_in short.nodes };
+
+    ghost trace = { λ short. trace_in short.nodes };
+
+    ghost mark = { λ short. short.mark };
+
+    ghost may_refuse = { λ short. MayRefuse short.nodes };
+
+    fn send(&mut self, node: &NodeAddress, cmd: &Cmd) -> Result<Value, SendError> {
+        if self.sends_left == 0 {
+            self.mark = true;
+            return Err(SendError::Memory);
+        }
+        self.sends_left -= 1;
+        let given = self.nodes.send(node, cmd);
+        self.mark = matches!(given, Err(SendError::Memory));
+        given
+    }
+}
+
+// What comes of a command, and what was sent, where memory runs out after so many sends.
+fn driven(
+    alloc: Global,
+    sends: usize,
+    text: &str,
+    order: &[usize],
+) -> Result<(String, String), Fail> {
+    let mut nodes = ShortOfMemory {
+        nodes: MemoryNodes::new(alloc),
+        sends_left: sends,
+        mark: false,
+    };
+    let given = Given::new(alloc, &TWO_NODES)?;
+    let text = given.drive(alloc, &cmd_of(alloc, text)?, None, order, &mut nodes)?;
+    Ok((text, trace_text(alloc, nodes.nodes.trace())?))
+}
+
+#[test]
+fn a_send_without_memory_is_told_with_the_count_of_those_before(
+    rt: HostRuntime,
+) -> Result<(), Fail> {
+    let alloc = rt.alloc();
+    let table = [
+        (0, "Memory after 0", ""),
+        (1, "Memory after 1", "n1:1 MGET c;"),
+        (2, "Memory after 2", "n1:1 MGET c;n2:2 MGET a;"),
+        (3, "[nil, nil, nil]", "n1:1 MGET c;n2:2 MGET a;n1:1 MGET b;"),
+    ];
+    for (sends, want, want_sent) in table {
+        let (given, sent) = driven(alloc, sends, "MGET a b c", &[2, 0, 1])?;
+        assert_eq!(rt; given.as_str(), want, "{sends} sends");
+        assert_eq!(rt; sent.as_str(), want_sent, "sent of {sends}");
+    }
+    Ok(())
+}
