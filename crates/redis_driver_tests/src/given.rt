@@ -2,9 +2,9 @@
 use crate::texts::{driven_text, trace_text};
 use cluster_map::{NodeAddress, ReadRoutingStrategy, SlotMap, SlotRange};
 use memory_nodes::MemoryNodes;
-use redis_cluster::driver::{Nodes, drive};
+use redis_cluster::driver::{DriveError, Nodes, drive};
 use redis_cluster::routing::{ReadOnlyNames, Routable};
-use resp_core::{Cmd, Value};
+use resp_core::{Cmd, RedisResult, Value};
 use std::alloc::{AllocError, Global};
 use std::str;
 use std::test::Fail;
@@ -29,11 +29,32 @@ pub struct Given {
 }
 
 impl Given {
-    pub fn new(alloc: Global, lines: &[Line<'_>]) -> Result<Given, Fail> {
+    pub fn new(alloc: Global, lines: &[Line<'_>]) -> RedisResult<Given> {
         Ok(Given {
             map: map_of(alloc, lines)?,
             read_only: read_only_names(alloc)?,
         })
+    }
+
+    /// Drives a command over nodes.
+    pub fn give<R: Routable, N: Nodes>(
+        &self,
+        alloc: Global,
+        command: &R,
+        strategy: Option<&dyn ReadRoutingStrategy>,
+        order: &[usize],
+        nodes: &mut N,
+    ) -> Result<Value, DriveError> {
+        drive(
+            alloc,
+            command,
+            &self.read_only,
+            &self.map,
+            strategy,
+            0,
+            order,
+            nodes,
+        )
     }
 
     /// Drives a command over nodes, and answers what it gave as a text.
@@ -45,16 +66,7 @@ impl Given {
         order: &[usize],
         nodes: &mut N,
     ) -> Result<String, Fail> {
-        let given = drive(
-            alloc,
-            command,
-            &self.read_only,
-            &self.map,
-            strategy,
-            0,
-            order,
-            nodes,
-        );
+        let given = self.give(alloc, command, strategy, order, nodes);
         driven_text(alloc, &given)
     }
 }
@@ -67,7 +79,7 @@ pub struct Cluster {
 }
 
 impl Cluster {
-    pub fn new(alloc: Global, lines: &[Line<'_>]) -> Result<Cluster, Fail> {
+    pub fn new(alloc: Global, lines: &[Line<'_>]) -> RedisResult<Cluster> {
         Ok(Cluster {
             given: Given::new(alloc, lines)?,
             nodes: MemoryNodes::new(alloc),
@@ -110,7 +122,7 @@ impl Cluster {
     }
 }
 
-pub fn map_of(alloc: Global, lines: &[Line<'_>]) -> Result<SlotMap, Fail> {
+pub fn map_of(alloc: Global, lines: &[Line<'_>]) -> RedisResult<SlotMap> {
     let mut ranges = Vec::new(alloc);
     for (start, end, primary, replicas) in lines {
         let primary = NodeAddress::try_from(alloc, *primary)?;

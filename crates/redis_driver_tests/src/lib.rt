@@ -12,6 +12,8 @@ mod json_paths;
 #[cfg(test)]
 mod nodes_in_memory;
 #[cfg(test)]
+mod refusals;
+#[cfg(test)]
 mod replicas;
 #[cfg(test)]
 mod short_of_memory;
