@@ -4,7 +4,7 @@
 #[cfg(test)]
 mod read_routing;
 #[cfg(test)]
-mod refused_memory;
+mod refusals;
 #[cfg(test)]
 mod slot_map;
 #[cfg(test)]
