@@ -1,0 +1,200 @@
+//! Keys, ranges, commands and replies to call with.
+use cluster_map::{NodeAddress, SlotMap, SlotRange};
+use redis_cluster::routing::ReadOnlyNames;
+use resp_core::{Cmd, Value};
+use std::alloc::{AllocError, Global};
+
+/// How many nodes a map has at most, each with a replica.
+const NODES: usize = 1000;
+
+const SLOTS: usize = 16384;
+
+/// The key of a number.
+fn key(alloc: Global, number: usize) -> Result<Vec<u8>, AllocError> {
+    Ok(format!(in alloc; "key:{number}")?.into_bytes())
+}
+
+/// The key of a number, filled up to a length.
+fn long_key(alloc: Global, number: usize, length: usize) -> Result<Vec<u8>, AllocError> {
+    let mut key = format!(in alloc; "{number}")?.into_bytes();
+    for _ in key.len()..length {
+        key.push(b'k')?;
+    }
+    Ok(key)
+}
+
+/// So many keys of a length.
+pub fn keys(alloc: Global, count: usize, length: usize) -> Result<Vec<Vec<u8>>, AllocError> {
+    let mut keys = Vec::with_capacity(alloc, count)?;
+    for number in 0..count {
+        keys.push(long_key(alloc, number, length)?)?;
+    }
+    Ok(keys)
+}
+
+/// A command of so many keys, each with what goes with it.
+pub fn cmd(
+    alloc: Global,
+    name: &[u8],
+    count: usize,
+    value: Option<&[u8]>,
+) -> Result<Cmd, AllocError> {
+    let mut cmd = Cmd::new(alloc);
+    cmd.write_arg(name)?;
+    for number in 0..count {
+        cmd.write_arg(&key(alloc, number)?)?;
+        if let Some(value) = value {
+            cmd.write_arg(value)?;
+        }
+    }
+    Ok(cmd)
+}
+
+/// A command of one argument, which is a key of a length.
+pub fn one_key(alloc: Global, name: &[u8], length: usize) -> Result<Cmd, AllocError> {
+    let mut cmd = Cmd::new(alloc);
+    cmd.arg(name)?.arg(&long_key(alloc, 0, length)?)?;
+    Ok(cmd)
+}
+
+/// The names of some commands that only read.
+pub fn read_only(alloc: Global) -> Result<ReadOnlyNames, AllocError> {
+    let mut names = ReadOnlyNames::new(alloc);
+    for name in ["GET", "MGET", "EXISTS", "JSON.MGET", "XREAD"] {
+        names.insert(alloc, name.as_bytes())?;
+    }
+    Ok(names)
+}
+
+/// The first slot of a range, of so many that share all slots.
+fn first_slot(number: usize, count: usize) -> u16 {
+    let slot = number.saturating_mul(SLOTS) / count.max(1);
+    u16::try_from(slot).unwrap_or(u16::MAX)
+}
+
+/// The first slot of a range, of so many that share all slots, and the last.
+fn ends(number: usize, count: usize) -> (u16, u16) {
+    let after = first_slot(number.saturating_add(1), count);
+    (first_slot(number, count), after.saturating_sub(1))
+}
+
+/// The host of the node of a range.
+fn host(alloc: Global, number: usize) -> Result<String, AllocError> {
+    let node = number % NODES;
+    format!(in alloc; "10.0.{}.{}", node / 250, node % 250)
+}
+
+/// Ranges that share all slots, each with a primary and a replica.
+pub fn ranges(alloc: Global, count: usize) -> Result<Vec<SlotRange>, AllocError> {
+    let mut ranges = Vec::with_capacity(alloc, count)?;
+    for number in 0..count {
+        let (start, end) = ends(number, count);
+        let host = host(alloc, number)?;
+        let primary = NodeAddress::new(alloc, host.as_str(), 6379)?;
+        let replica = NodeAddress::new(alloc, host.as_str(), 6380)?;
+        let replicas = vec![in alloc; replica]?;
+        ranges.push(SlotRange::new(start, end, primary, replicas))?;
+    }
+    Ok(ranges)
+}
+
+/// The map of so many ranges.
+pub fn map(alloc: Global, count: usize) -> Result<SlotMap, AllocError> {
+    SlotMap::from_slots(alloc, ranges(alloc, count)?)
+}
+
+/// A node as a reply to `CLUSTER SLOTS` has it: host, port and identity.
+fn node_reply(alloc: Global, host: &str, port: i64) -> Result<Value, AllocError> {
+    let items = vec![in alloc;
+        bulk(alloc, host.as_bytes())?,
+        Value::Int(port),
+        bulk(alloc, b"0123456789012345678901234567890123456789")?,
+    ]?;
+    Ok(Value::Array(items))
+}
+
+/// A reply to `CLUSTER SLOTS` of so many ranges.
+pub fn slots_reply(alloc: Global, count: usize) -> Result<Value, AllocError> {
+    let mut items = Vec::with_capacity(alloc, count)?;
+    for number in 0..count {
+        let (start, end) = ends(number, count);
+        let host = host(alloc, number)?;
+        let range = vec![in alloc;
+            Value::Int(i64::from(start)),
+            Value::Int(i64::from(end)),
+            node_reply(alloc, host.as_str(), 6379)?,
+            node_reply(alloc, host.as_str(), 6380)?,
+        ]?;
+        items.push(Value::Array(range))?;
+    }
+    Ok(Value::Array(items))
+}
+
+fn bulk(alloc: Global, bytes: &[u8]) -> Result<Value, AllocError> {
+    Ok(Value::BulkString(bytes.to_vec(alloc)?))
+}
+
+/// A number as a reply has it.
+fn int(number: usize) -> Value {
+    Value::Int(i64::try_from(number).unwrap_or(i64::MAX))
+}
+
+/// So many numbers, each below a limit.
+pub fn ints(alloc: Global, count: usize, below: usize) -> Result<Vec<Value>, AllocError> {
+    let mut items = Vec::with_capacity(alloc, count)?;
+    for number in 0..count {
+        items.push(int(number % below.max(1)))?;
+    }
+    Ok(items)
+}
+
+/// So many pairs of a bulk string and a number, one after the other.
+pub fn counts(alloc: Global, count: usize) -> Result<Vec<Value>, AllocError> {
+    let mut items = Vec::new(alloc);
+    for number in 0..count {
+        items.push(Value::BulkString(key(alloc, number)?))?;
+        items.push(int(number))?;
+    }
+    Ok(items)
+}
+
+/// So many bulk strings.
+pub fn bulks(alloc: Global, count: usize) -> Result<Vec<Value>, AllocError> {
+    let mut items = Vec::with_capacity(alloc, count)?;
+    for number in 0..count {
+        items.push(Value::BulkString(key(alloc, number)?))?;
+    }
+    Ok(items)
+}
+
+/// An array in an array, so many times.
+pub fn nested(alloc: Global, depth: usize) -> Result<Value, AllocError> {
+    let mut value = Value::Nil;
+    for _ in 0..depth {
+        value = Value::Array(vec![in alloc; value]?);
+    }
+    Ok(value)
+}
+
+/// An array of these items, so many times.
+pub fn repeated(alloc: Global, count: usize, items: Vec<Value>) -> Result<Vec<Value>, AllocError> {
+    let array = Value::Array(items);
+    let mut all = Vec::with_capacity(alloc, count)?;
+    for _ in 0..count {
+        all.push(array.clone()?)?;
+    }
+    Ok(all)
+}
+
+/// So many copies of some values, each to be used up by a call.
+pub fn copies(
+    alloc: Global,
+    values: &Vec<Value>,
+    count: usize,
+) -> Result<Vec<Vec<Value>>, AllocError> {
+    let mut all = Vec::with_capacity(alloc, count)?;
+    for _ in 0..count {
+        all.push(values.clone()?)?;
+    }
+    Ok(all)
+}

@@ -1,0 +1,116 @@
+//! Times calls of the layer. No test: what it prints is of the machine that it runs on.
+//!
+//! `bench list` prints a line for each operation and size that can be timed. `bench time OPERATION
+//! SIZE` prints the nanoseconds that a call takes, and `bench once OPERATION SIZE` makes one call,
+//! between two readings of the clock. `bench each` makes one call of each operation, at its least
+//! size, and prints what came of it.
+#![tactic(auto)]
+
+mod combining;
+mod driving;
+mod fault;
+mod inputs;
+mod lookups;
+mod operation;
+mod routing;
+mod splitting;
+mod values;
+mod watch;
+
+use fault::Fault;
+use operation::{Operation, ROWS, call};
+use std::alloc::Global;
+use std::process::ExitCode;
+use std::time::CpuClock;
+use std::{env, io};
+use watch::Watch;
+
+const USAGE: &str = "usage: bench list | each | once OPERATION SIZE | time OPERATION SIZE";
+
+/// The nanoseconds that the rounds of a timed operation have together, and one round.
+const WHOLE_NANOS: usize = 500_000_000;
+
+const ROUND_NANOS: usize = 200_000;
+
+fn operation_of(wanted: &str) -> Result<Operation, Fault> {
+    for (operation, name, _, _) in &ROWS {
+        if *name == wanted {
+            return Ok(*operation);
+        }
+    }
+    Err(Fault::Words)
+}
+
+fn list(rt: &impl Print) -> Result<(), Fault> {
+    for (_, name, unit, sizes) in &ROWS {
+        for size in *sizes {
+            println!(rt; "{name} {size} {unit}")?;
+        }
+    }
+    Ok(())
+}
+
+fn each(rt: &(impl Print + CpuClock), alloc: Global) -> Result<(), Fault> {
+    for (operation, name, _, sizes) in &ROWS {
+        let size = sizes.first().copied().unwrap_or(0);
+        let mut watch = Watch::new(rt, 1, 1);
+        call(*operation, &mut watch, alloc, size)?;
+        println!(rt; "{name} {size} {}", watch.answers)?;
+    }
+    Ok(())
+}
+
+fn once(rt: &impl CpuClock, alloc: Global, name: &str, size: usize) -> Result<(), Fault> {
+    let mut watch = Watch::new(rt, 1, 1);
+    call(operation_of(name)?, &mut watch, alloc, size)
+}
+
+fn time(rt: &(impl Print + CpuClock), alloc: Global, name: &str, size: usize) -> Result<(), Fault> {
+    let operation = operation_of(name)?;
+    let mut first = Watch::new(rt, 1, 3);
+    call(operation, &mut first, alloc, size)?;
+    let nanos = first.least().max(1);
+    let calls = (ROUND_NANOS / nanos).clamp(1, 20_000);
+    let rounds = (WHOLE_NANOS / nanos.saturating_mul(calls).max(1)).clamp(5, 100);
+    let mut watch = Watch::new(rt, calls, rounds);
+    call(operation, &mut watch, alloc, size)?;
+    let tenths = watch.least().saturating_mul(10) / calls;
+    println!(rt; "{}.{}", tenths / 10, tenths % 10)?;
+    Ok(())
+}
+
+fn run(rt: &HostRuntime, alloc: Global) -> Result<(), Fault> {
+    let mut words = Vec::new(alloc);
+    for word in env::args(rt)?.skip(1) {
+        words.push(word)?;
+    }
+    let verb = words.get(0).map(|word| word.as_str()).ok_or(Fault::Words)?;
+    if verb == "list" {
+        return list(rt);
+    }
+    if verb == "each" {
+        return each(rt, alloc);
+    }
+    let name = words.get(1).map(|word| word.as_str()).ok_or(Fault::Words)?;
+    let size = words.get(2).map(|word| word.as_str()).ok_or(Fault::Words)?;
+    let size = size.parse::<usize>().map_err(|_| Fault::Words)?;
+    match verb {
+        "once" => once(rt, alloc, name, size),
+        "time" => time(rt, alloc, name, size),
+        _ => Err(Fault::Words),
+    }
+}
+
+fn main(rt: HostRuntime) -> ExitCode {
+    let Err(fault) = run(&rt, rt.alloc()) else {
+        return ExitCode::from(0);
+    };
+    let line = match fault {
+        Fault::Words => USAGE,
+        Fault::Memory => "bench: out of memory",
+        Fault::Stream => "bench: the clock or the output failed",
+        Fault::Refused => "bench: the operation was refused",
+    };
+    let _ = eprintln!(rt; "{line}");
+    ExitCode::from(2)
+}
