@@ -7,7 +7,7 @@ use std::time::CpuClock;
 
 /// Calls on slots of keys and maps of slots.
 #[derive(Clone, Copy)]
-pub enum LookUp {
+pub enum Lookups {
     KeySlot,
     Node,
     FromSlots,
@@ -18,18 +18,18 @@ pub enum LookUp {
 
 /// Makes the calls at a size.
 pub fn call<C: CpuClock>(
-    what: LookUp,
+    what: Lookups,
     watch: &mut Watch<'_, C>,
     alloc: Global,
     size: usize,
 ) -> Result<(), Fault> {
     match what {
-        LookUp::KeySlot => key_slot(watch, &keys(alloc, KEYS, size)?),
-        LookUp::Node => node_of_slot(watch, &map(alloc, size)?),
-        LookUp::FromSlots => from_slots(watch, alloc, size),
-        LookUp::FromReply => from_reply(watch, alloc, size),
-        LookUp::Topology => topology(watch, alloc, &map(alloc, size)?),
-        LookUp::Shard => shard_of_slot(watch, alloc, &map(alloc, size)?),
+        Lookups::KeySlot => key_slot(watch, &keys(alloc, KEYS, size)?),
+        Lookups::Node => node_of_slot(watch, &map(alloc, size)?),
+        Lookups::FromSlots => from_slots(watch, alloc, size),
+        Lookups::FromReply => from_reply(watch, alloc, size),
+        Lookups::Topology => topology(watch, alloc, &map(alloc, size)?),
+        Lookups::Shard => shard_of_slot(watch, alloc, &map(alloc, size)?),
     }
 }
 

@@ -1,9 +1,9 @@
-//! Times calls of the layer. No test: what it prints is of the machine that it runs on.
+//! Times calls of the layer, for `bench/run`. It tests nothing.
 //!
 //! `bench list` prints a line for each operation and size that can be timed. `bench time OPERATION
-//! SIZE` prints the nanoseconds that a call takes, and `bench once OPERATION SIZE` makes one call,
-//! between two readings of the clock. `bench each` makes one call of each operation, at its least
-//! size, and prints what came of it.
+//! SIZE` prints the nanoseconds that a call takes. `bench once OPERATION SIZE` makes one call, and
+//! reads the clock right before it and right after it. `bench each` makes one call of each
+//! operation, at its least size, and prints what came of it.
 #![tactic(auto)]
 
 mod combining;
@@ -33,7 +33,7 @@ const WHOLE_NANOS: usize = 500_000_000;
 const ROUND_NANOS: usize = 200_000;
 
 fn operation_of(wanted: &str) -> Result<Operation, Fault> {
-    for (operation, name, _, _) in &ROWS {
+    for (operation, name, _) in &ROWS {
         if *name == wanted {
             return Ok(*operation);
         }
@@ -42,7 +42,7 @@ fn operation_of(wanted: &str) -> Result<Operation, Fault> {
 }
 
 fn list(rt: &impl Print) -> Result<(), Fault> {
-    for (_, name, unit, sizes) in &ROWS {
+    for (_, name, (unit, sizes)) in &ROWS {
         for size in *sizes {
             println!(rt; "{name} {size} {unit}")?;
         }
@@ -51,7 +51,7 @@ fn list(rt: &impl Print) -> Result<(), Fault> {
 }
 
 fn each(rt: &(impl Print + CpuClock), alloc: Global) -> Result<(), Fault> {
-    for (operation, name, _, sizes) in &ROWS {
+    for (operation, name, (_, sizes)) in &ROWS {
         let size = sizes.first().copied().unwrap_or(0);
         let mut watch = Watch::new(rt, 1, 1);
         call(*operation, &mut watch, alloc, size)?;
@@ -75,7 +75,11 @@ fn time(rt: &(impl Print + CpuClock), alloc: Global, name: &str, size: usize) ->
     let mut watch = Watch::new(rt, calls, rounds);
     call(operation, &mut watch, alloc, size)?;
     let tenths = watch.least().saturating_mul(10) / calls;
-    println!(rt; "{}.{}", tenths / 10, tenths % 10)?;
+    if tenths < 1000 {
+        println!(rt; "{}.{}", tenths / 10, tenths % 10)?;
+    } else {
+        println!(rt; "{}", tenths / 10)?;
+    }
     Ok(())
 }
 
