@@ -71,7 +71,7 @@ fn time(rt: &(impl Print + CpuClock), alloc: Global, name: &str, size: usize) ->
     call(operation, &mut first, alloc, size)?;
     let nanos = first.least().max(1);
     let calls = (ROUND_NANOS / nanos).clamp(1, 20_000);
-    let rounds = (WHOLE_NANOS / nanos.saturating_mul(calls).max(1)).clamp(5, 100);
+    let rounds = (WHOLE_NANOS / nanos.saturating_mul(calls).max(1)).clamp(9, 1000);
     let mut watch = Watch::new(rt, calls, rounds);
     call(operation, &mut watch, alloc, size)?;
     let tenths = watch.least().saturating_mul(10) / calls;
