@@ -1,6 +1,6 @@
 use crate::fault::Fault;
-use crate::inputs::{keys, map, ranges, slots_reply};
 use crate::watch::Watch;
+use bench_inputs::{keys, map, ranges, slots_reply};
 use cluster_map::{Route, Slot, SlotAddr, SlotMap};
 use std::alloc::Global;
 use std::time::CpuClock;

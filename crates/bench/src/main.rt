@@ -9,7 +9,6 @@
 mod combining;
 mod driving;
 mod fault;
-mod inputs;
 mod lookups;
 mod operation;
 mod routing;
