@@ -8,7 +8,7 @@ use Rattle.std.proofs.Math.Pow.{split}
 use Rattle.std.proofs.Math.Nat.{pow-succ', le-mul_of_pos_right, mod-one}
 use Rattle.std.specs.Int.Bits.{xor_shifted, xor_assoc, xor_self, xor_zero_r, xor_zero_l}
 use Rattle.std.specs.Int.{bit_at}
-use Rattle.cluster_slots.specs.KeySlot.{bring_down, low_bits, bits_of, crc_of, zeros_down}
+use Rattle.cluster_slots.specs.KeySlot.{bring_down, rem, low_bits, bits_of, crc_of, zeros_down}
 
 -- a bring_down below the top, and one at the top
 pub bring_down_low : (r b : ℕ) → 2 * r + b < 65536 → bring_down r b ≡ 2 * r + b
@@ -199,10 +199,14 @@ rem_more r [] x = fold-append r (low_bits x 8) []
 rem_more r (y ∷ ys) x =
     fold-append r (low_bits y 8) (bits_of (ys ++ x ∷ [])) ∙ rem_more (fold bring_down r (low_bits y 8)) ys x ∙ ap (λ z. fold bring_down z (low_bits x 8)) (sym (fold-append r (low_bits y 8) (bits_of ys)))
 
+-- a byte at the top of the register, before 8 zeros, and at the bottom, before 16
+pub byte_at_top : (x : ℕ) → x < 2 ^ 8 → zeros_down 8 (x * 256) ≡ zeros_down 16 x
+byte_at_top x h = sym (ap (zeros_down 8) (zeros_down_small 8 x (omega arith)))
+
 -- the register after one byte more
 pub crc_more : (c x : ℕ) (xs : List ℕ) → x < 2 ^ 8 → c ≡ zeros_down 16 (fold bring_down 0 (bits_of xs)) → zeros_down 8 (bit_xor c (x * 256)) ≡ zeros_down 16 (fold bring_down 0 (bits_of (xs ++ x ∷ [])))
 crc_more c x xs h e =
-    let shift : zeros_down 16 x ≡ zeros_down 8 (x * 256) = ap (zeros_down 8) (zeros_down_small 8 x (omega arith)) in
+    let shift : zeros_down 16 x ≡ zeros_down 8 (x * 256) = sym (byte_at_top x h) in
     ap (λ y. zeros_down 8 (bit_xor y (x * 256))) e
     ∙ sym (byte_in 16 8 (fold bring_down 0 (bits_of xs)) x (x * 256) (lit≤ tt) (all_lt 0 xs (lit< tt)) h shift (omega arith))
     ∙ ap (zeros_down 16) (sym (rem_more 0 xs x))
@@ -211,5 +215,24 @@ pub crc_whole : (bs : List ℕ) → crc_of bs ≡ zeros_down 16 (fold bring_down
 unfolding crc_of
 crc_whole bs = fold-append 0 (bits_of bs) (replicate 16 0) ∙ zeros_down-replicate 16 (fold bring_down 0 (bits_of bs))
 
-pub zeros_down_less : (n i r : ℕ) → i < n → zeros_down (n - i) r ≡ zeros_down (n - (i + 1)) (bring_down r 0)
-zeros_down_less n i r h = let e : n - i ≡ suc (n - (i + 1)) = omega arith in ap (λ m. zeros_down m r) e
+-- the 8 bits of a byte and then 16 zeros
+pub byte_and_zeros : (b : ℕ) → b < 2 ^ 8 → rem (low_bits b 8 ++ replicate 16 0) ≡ zeros_down 16 b
+byte_and_zeros b h =
+    let bits : fold bring_down 0 (low_bits b 8) ≡ b = bits_in 8 0 b (lit≤ tt) (lit< tt) ∙ xor_zero_l (b % 256) ∙ omega arith in
+    fold-append 0 (low_bits b 8) (replicate 16 0) ∙ zeros_down-replicate 16 (fold bring_down 0 (low_bits b 8)) ∙ ap (zeros_down 16) bits
+
+-- a byte that comes in at the top meets the high byte of the register, and the low byte moves up
+pub byte_step : (c x : ℕ) → c < 2 ^ 16 → x < 2 ^ 8 → zeros_down 8 (bit_xor c (x * 256)) ≡ bit_xor (c * 256 % 65536) (zeros_down 16 (bit_xor (c / 256) x))
+byte_step c x h k =
+    let high = bit_xor (c / 256) x in
+    let low = c % 256 in
+    let high_lt : bit_xor (c / 256) x < 2 ^ 8 = xor_lt 8 (c / 256) x (omega arith) k in
+    let cut : c ≡ c / 256 * 2 ^ 8 + c % 256 = omega arith in
+    let come : x * 256 ≡ x * 2 ^ 8 + 0 = omega arith in
+    let moved : c % 256 * 256 ≡ c * 256 % 65536 = omega arith in
+    let met : bit_xor c (x * 256) ≡ bit_xor (high * 256) low =
+    ap (λ y. bit_xor y (x * 256)) cut ∙ ap (bit_xor (c / 256 * 2 ^ 8 + c % 256)) come ∙ xor_block 8 (c / 256) x (c % 256) 0 (omega arith) (lit< tt)
+    ∙ ap (λ y. high * 2 ^ 8 + y) (xor_zero_r low) ∙ sym (xor_shifted high 8 low (omega arith)) in
+    ap (zeros_down 8) met ∙ zeros_down-xor 8 (high * 256) low (omega (arith, high_lt)) (omega arith)
+    ∙ ap (λ y. bit_xor y (zeros_down 8 low)) (byte_at_top high high_lt) ∙ ap (bit_xor (zeros_down 16 high)) (zeros_down_small 8 low (omega arith) ∙ moved)
+    ∙ xor_comm (zeros_down 16 high) (c * 256 % 65536)

@@ -4,4 +4,5 @@ pub mod HashTags
 pub mod Lists
 pub mod Numerals
 pub mod Orders
+pub mod Remainders
 pub mod Tags

@@ -1,8 +1,10 @@
-use Rattle.std.proofs.Common.{◌-◌, ◌+◌, ap, sym, ◌∙◌}
-use Rattle.cluster_slots.specs.KeySlot.{zeros_down}
-use Rattle.cluster_slots.proofs.Crc.{zeros_down_less}
+use Rattle.std.proofs.Common.{◌<◌, ◌^◌, ◌*◌, ◌%◌, ◌/◌, bit_xor, ap, sym, ◌∙◌, arith}
+use Rattle.std.proofs.lemmas.Nat.{xor_lt}
+use Rattle.cluster_slots.proofs.Crc.{byte_and_zeros, byte_step}
 use Rattle.cluster_slots.proofs.slot.update.Goals as goal
 
-pub loop-bit-preserved : goal.loop-bit-preserved
-loop-bit-preserved c =
-    ap (zeros_down (8 - (c.loop-bit._bit + 1))) c.shift-crc.ensures ∙ sym (zeros_down_less 8 c.loop-bit._bit c.loop-bit.crc c.loop-bit-test.true) ∙ c.loop-bit.invariant
+pub returns : goal.returns
+returns c =
+    let high : bit_xor (c.args.crc / 256) c.args.byte < 2 ^ 8 = xor_lt 8 (c.args.crc / 256) c.args.byte (omega arith) c.ranges.byte.fits in
+    ap (bit_xor (c.args.crc * 256 % 65536)) (c.remainder.ensures ∙ byte_and_zeros (bit_xor (c.args.crc / 256) c.args.byte) high)
+    ∙ sym (byte_step c.args.crc c.args.byte c.ranges.crc.fits c.ranges.byte.fits)
