@@ -1,9 +1,10 @@
 -- Division is linear, so the bits may come in at the top.
-use Rattle.std.proofs.Common.{◌≡◌, ◌<◌, ◌≤◌, inl, inr, ℕ, zero, suc, ◌+◌, ◌*◌, ◌-◌, ◌%◌, ◌/◌, ◌^◌, List, [], ◌∷◌, ◌++◌, fold, replicate, bit_xor, refl, ap, sym, ◌∙◌, subst, arith, lit<, lit≤, zero-add}
+use Rattle.std.proofs.Common.{◌≡◌, ◌<◌, ◌≤◌, inl, inr, ℕ, zero, suc, ◌+◌, ◌*◌, ◌-◌, ◌%◌, ◌/◌, ◌^◌, List, [], ◌∷◌, ◌++◌, fold, replicate, get_or, bit_xor, refl, ap, sym, ◌∙◌, subst, arith, lit<, lit≤, zero-add}
 use Rattle.std.proofs.lemmas.Bool.{cases_lt}
 use Rattle.std.proofs.lemmas.Bool.Decides.{nat_tests}
 use Rattle.std.proofs.lemmas.Nat.{xor_block, xor_comm, xor_lt, mod_low}
 use Rattle.std.proofs.lemmas.Nat.Bits.{bit_at-lt}
+use Rattle.std.proofs.lemmas.List.{append-nil, append_assoc}
 use Rattle.std.proofs.Math.Pow.{split}
 use Rattle.std.proofs.Math.Nat.{pow-succ', le-mul_of_pos_right, mod-one}
 use Rattle.std.specs.Int.Bits.{xor_shifted, xor_assoc, xor_self, xor_zero_r, xor_zero_l}
@@ -199,12 +200,16 @@ rem_more r [] x = fold-append r (low_bits x 8) []
 rem_more r (y ∷ ys) x =
     fold-append r (low_bits y 8) (bits_of (ys ++ x ∷ [])) ∙ rem_more (fold bring_down r (low_bits y 8)) ys x ∙ ap (λ z. fold bring_down z (low_bits x 8)) (sym (fold-append r (low_bits y 8) (bits_of ys)))
 
+-- the register after a byte, which comes in at the top
+abbrev pub next_register : ℕ → ℕ → ℕ
+next_register r byte = zeros_down 8 (bit_xor r (byte * 256))
+
 -- a byte at the top of the register, before 8 zeros, and at the bottom, before 16
 pub byte_at_top : (x : ℕ) → x < 2 ^ 8 → zeros_down 8 (x * 256) ≡ zeros_down 16 x
 byte_at_top x h = sym (ap (zeros_down 8) (zeros_down_small 8 x (omega arith)))
 
 -- the register after one byte more
-pub crc_more : (c x : ℕ) (xs : List ℕ) → x < 2 ^ 8 → c ≡ zeros_down 16 (fold bring_down 0 (bits_of xs)) → zeros_down 8 (bit_xor c (x * 256)) ≡ zeros_down 16 (fold bring_down 0 (bits_of (xs ++ x ∷ [])))
+pub crc_more : (c x : ℕ) (xs : List ℕ) → x < 2 ^ 8 → c ≡ zeros_down 16 (fold bring_down 0 (bits_of xs)) → next_register c x ≡ zeros_down 16 (fold bring_down 0 (bits_of (xs ++ x ∷ [])))
 crc_more c x xs h e =
     let shift : zeros_down 16 x ≡ zeros_down 8 (x * 256) = sym (byte_at_top x h) in
     ap (λ y. zeros_down 8 (bit_xor y (x * 256))) e
@@ -215,14 +220,14 @@ pub crc_whole : (bs : List ℕ) → crc_of bs ≡ zeros_down 16 (fold bring_down
 unfolding crc_of
 crc_whole bs = fold-append 0 (bits_of bs) (replicate 16 0) ∙ zeros_down-replicate 16 (fold bring_down 0 (bits_of bs))
 
--- the 8 bits of a byte and then 16 zeros
-pub byte_and_zeros : (b : ℕ) → b < 2 ^ 8 → rem (low_bits b 8 ++ replicate 16 0) ≡ zeros_down 16 b
-byte_and_zeros b h =
+-- the 8 bits of a byte and then n zeros
+pub byte_and_zeros : (n b : ℕ) → b < 2 ^ 8 → rem (low_bits b 8 ++ replicate n 0) ≡ zeros_down n b
+byte_and_zeros n b h =
     let bits : fold bring_down 0 (low_bits b 8) ≡ b = bits_in 8 0 b (lit≤ tt) (lit< tt) ∙ xor_zero_l (b % 256) ∙ omega arith in
-    fold-append 0 (low_bits b 8) (replicate 16 0) ∙ zeros_down-replicate 16 (fold bring_down 0 (low_bits b 8)) ∙ ap (zeros_down 16) bits
+    fold-append 0 (low_bits b 8) (replicate n 0) ∙ zeros_down-replicate n (fold bring_down 0 (low_bits b 8)) ∙ ap (zeros_down n) bits
 
 -- a byte that comes in at the top meets the high byte of the register, and the low byte moves up
-pub byte_step : (c x : ℕ) → c < 2 ^ 16 → x < 2 ^ 8 → zeros_down 8 (bit_xor c (x * 256)) ≡ bit_xor (c * 256 % 65536) (zeros_down 16 (bit_xor (c / 256) x))
+pub byte_step : (c x : ℕ) → c < 2 ^ 16 → x < 2 ^ 8 → next_register c x ≡ bit_xor (c * 256 % 65536) (zeros_down 16 (bit_xor (c / 256) x))
 byte_step c x h k =
     let high = bit_xor (c / 256) x in
     let low = c % 256 in
@@ -236,3 +241,61 @@ byte_step c x h k =
     ap (zeros_down 8) met ∙ zeros_down-xor 8 (high * 256) low (omega (arith, high_lt)) (omega arith)
     ∙ ap (λ y. bit_xor y (zeros_down 8 low)) (byte_at_top high high_lt) ∙ ap (bit_xor (zeros_down 16 high)) (zeros_down_small 8 low (omega arith) ∙ moved)
     ∙ xor_comm (zeros_down 16 high) (c * 256 % 65536)
+
+zeros_down-more : (m n r : ℕ) → zeros_down n (zeros_down m r) ≡ zeros_down (m + n) r
+zeros_down-more zero n r = let e : n ≡ 0 + n = omega arith in ap (λ k. zeros_down k r) e
+zeros_down-more (suc m) n r = let e : suc (m + n) ≡ suc m + n = omega arith in zeros_down-more m n (bring_down r 0) ∙ ap (λ k. zeros_down k r) e
+
+-- a byte more, and n zeros
+byte_down : (n c x : ℕ) → c < 2 ^ 16 → x < 2 ^ 8 → zeros_down n (next_register c x) ≡ bit_xor (zeros_down (8 + n) c) (zeros_down (16 + n) x)
+byte_down n c x h k =
+    ap (zeros_down n) (zeros_down-xor 8 c (x * 256) h (omega arith) ∙ ap (bit_xor (zeros_down 8 c)) (byte_at_top x k))
+    ∙ zeros_down-xor n (zeros_down 8 c) (zeros_down 16 x) (zeros_down_lt 8 c h) (zeros_down_lt 16 x (omega arith))
+    ∙ ap (λ y. bit_xor y (zeros_down n (zeros_down 16 x))) (zeros_down-more 8 n c)
+    ∙ ap (bit_xor (zeros_down (8 + n) c)) (zeros_down-more 16 n x)
+
+-- the two bytes of the register, before n zeros more than 8
+register_down : (n c : ℕ) → c < 2 ^ 16 → zeros_down (8 + n) c ≡ bit_xor (zeros_down (16 + n) (c / 256 % 256)) (zeros_down (8 + n) (c % 256))
+register_down n c h =
+    let high = c / 256 % 256 in
+    let parted : c ≡ high * 2 ^ 8 + c % 256 = omega arith in
+    let cut : c ≡ bit_xor (c % 256) (high * 256) = parted ∙ sym (xor_shifted high 8 (c % 256) (omega arith)) ∙ xor_comm (high * 256) (c % 256) in
+    sym (zeros_down-more 8 n c) ∙ ap (λ y. zeros_down n (zeros_down 8 y)) cut ∙ byte_down n (c % 256) high (omega arith) (omega arith)
+    ∙ xor_comm (zeros_down (8 + n) (c % 256)) (zeros_down (16 + n) high)
+
+-- bytes that come in one after the other, each before the zeros that the later ones leave
+pub four_steps : (c x y z w : ℕ) → c < 2 ^ 16 → x < 2 ^ 8 → y < 2 ^ 8 → z < 2 ^ 8 → w < 2 ^ 8
+    → fold next_register c (x ∷ y ∷ z ∷ w ∷ [])
+    ≡ bit_xor (bit_xor (bit_xor (zeros_down 40 (bit_xor (c / 256 % 256) x)) (zeros_down 32 (bit_xor (c % 256) y))) (zeros_down 24 z)) (zeros_down 16 w)
+four_steps c x y z w hc hx hy hz hw =
+    let short : (r byte : ℕ) → r < 2 ^ 16 → byte < 2 ^ 8 → next_register r byte < 2 ^ 16 = λ r byte h k. zeros_down_lt 8 (bit_xor r (byte * 256)) (xor_lt 16 r (byte * 256) h (omega arith)) in
+    let c1 = next_register c x in
+    let c2 = next_register c1 y in
+    let c3 = next_register c2 z in
+    let h1 : c1 < 2 ^ 16 = short c x hc hx in
+    let h2 : c2 < 2 ^ 16 = short c1 y h1 hy in
+    let h3 : c3 < 2 ^ 16 = short c2 z h2 hz in
+    let high = c / 256 % 256 in
+    let low = c % 256 in
+    let e4 : next_register c3 w ≡ bit_xor (zeros_down 8 c3) (zeros_down 16 w) = byte_down 0 c3 w h3 hw in
+    let e3 : zeros_down 8 c3 ≡ bit_xor (zeros_down 16 c2) (zeros_down 24 z) = byte_down 8 c2 z h2 hz in
+    let e2 : zeros_down 16 c2 ≡ bit_xor (zeros_down 24 c1) (zeros_down 32 y) = byte_down 16 c1 y h1 hy in
+    let e1 : zeros_down 24 c1 ≡ bit_xor (zeros_down 32 c) (zeros_down 40 x) = byte_down 24 c x hc hx in
+    let e0 : zeros_down 32 c ≡ bit_xor (zeros_down 40 high) (zeros_down 32 low) = register_down 24 c hc in
+    let first : zeros_down 40 (bit_xor high x) ≡ bit_xor (zeros_down 40 high) (zeros_down 40 x) = zeros_down-xor 40 high x (omega arith) (omega arith) in
+    let second : zeros_down 32 (bit_xor low y) ≡ bit_xor (zeros_down 32 low) (zeros_down 32 y) = zeros_down-xor 32 low y (omega arith) (omega arith) in
+    let met : zeros_down 16 c2 ≡ bit_xor (zeros_down 40 (bit_xor high x)) (zeros_down 32 (bit_xor low y)) =
+    e2 ∙ ap (λ r. bit_xor r (zeros_down 32 y)) (e1 ∙ ap (λ r. bit_xor r (zeros_down 40 x)) e0 ∙ swap_right (zeros_down 40 high) (zeros_down 32 low) (zeros_down 40 x) ∙ ap (λ r. bit_xor r (zeros_down 32 low)) (sym first))
+    ∙ xor_assoc (zeros_down 40 (bit_xor high x)) (zeros_down 32 low) (zeros_down 32 y) ∙ ap (bit_xor (zeros_down 40 (bit_xor high x))) (sym second) in
+    e4 ∙ ap (λ r. bit_xor r (zeros_down 16 w)) (e3 ∙ ap (λ r. bit_xor r (zeros_down 24 z)) met)
+
+by_bytes : (front bytes : List ℕ) (c : ℕ) → ((i : ℕ) → get_or bytes i 0 < 2 ^ 8) → c ≡ zeros_down 16 (fold bring_down 0 (bits_of front))
+    → fold next_register c bytes ≡ zeros_down 16 (fold bring_down 0 (bits_of (front ++ bytes)))
+by_bytes front [] c h e = e ∙ ap (λ ys. zeros_down 16 (fold bring_down 0 (bits_of ys))) (sym (append-nil front))
+by_bytes front (x ∷ xs) c h e =
+    by_bytes (front ++ x ∷ []) xs (next_register c x) (λ i. h (suc i)) (crc_more c x front (h 0) e)
+    ∙ ap (λ ys. zeros_down 16 (fold bring_down 0 (bits_of ys))) (append_assoc front (x ∷ []) xs)
+
+-- the register after all bytes
+pub crc_by_bytes : (bytes : List ℕ) → ((i : ℕ) → get_or bytes i 0 < 2 ^ 8) → fold next_register 0 bytes ≡ crc_of bytes
+crc_by_bytes bytes h = by_bytes [] bytes 0 h refl ∙ sym (crc_whole bytes)

@@ -1,39 +1,15 @@
-ghost use Rattle.std.specs.Prelude.{◌≡◌, ◌<◌, ◌*◌, ◌↔◌, ◌∷◌, ◌++◌, ℕ, List, IsSome, IfSome, MatchOption, Contains, position, replicate, ◌==◌, bit_xor};
+ghost use Rattle.std.specs.Prelude.{◌≡◌, ◌<◌, ◌+◌, ◌*◌, ◌↔◌, [], ◌∷◌, ◌++◌, ℕ, List, IsSome, IfSome, MatchOption, Contains, position, fold, replicate, ◌==◌, bit_xor};
 ghost use Rattle.cluster_slots.specs.HashTag.{HasTag, HasNoTag, IsHashTag};
 ghost use Rattle.cluster_slots.specs.declared.slot.TheConstants.{SLOT_SIZE};
 ghost use Rattle.cluster_slots.specs.KeySlot.{rem, low_bits, zeros_down, crc_of, IsKeySlot, key_slot};
 
+mod remainders;
+
+use self::remainders::REMAINDERS;
 use std::marker::Model;
 
 /// How many slots a cluster has.
 pub const SLOT_SIZE: u16 = 16384;
-
-/// The remainders of bytes: entry i is that of the 8 bits of i followed by 16 zero bits, divided by
-/// the polynomial of CRC-16/XMODEM, x^16 + x^12 + x^5 + 1.
-const REMAINDERS: [u16; 256] = [
-    0x0000, 0x1021, 0x2042, 0x3063, 0x4084, 0x50A5, 0x60C6, 0x70E7, 0x8108, 0x9129, 0xA14A, 0xB16B,
-    0xC18C, 0xD1AD, 0xE1CE, 0xF1EF, 0x1231, 0x0210, 0x3273, 0x2252, 0x52B5, 0x4294, 0x72F7, 0x62D6,
-    0x9339, 0x8318, 0xB37B, 0xA35A, 0xD3BD, 0xC39C, 0xF3FF, 0xE3DE, 0x2462, 0x3443, 0x0420, 0x1401,
-    0x64E6, 0x74C7, 0x44A4, 0x5485, 0xA56A, 0xB54B, 0x8528, 0x9509, 0xE5EE, 0xF5CF, 0xC5AC, 0xD58D,
-    0x3653, 0x2672, 0x1611, 0x0630, 0x76D7, 0x66F6, 0x5695, 0x46B4, 0xB75B, 0xA77A, 0x9719, 0x8738,
-    0xF7DF, 0xE7FE, 0xD79D, 0xC7BC, 0x48C4, 0x58E5, 0x6886, 0x78A7, 0x0840, 0x1861, 0x2802, 0x3823,
-    0xC9CC, 0xD9ED, 0xE98E, 0xF9AF, 0x8948, 0x9969, 0xA90A, 0xB92B, 0x5AF5, 0x4AD4, 0x7AB7, 0x6A96,
-    0x1A71, 0x0A50, 0x3A33, 0x2A12, 0xDBFD, 0xCBDC, 0xFBBF, 0xEB9E, 0x9B79, 0x8B58, 0xBB3B, 0xAB1A,
-    0x6CA6, 0x7C87, 0x4CE4, 0x5CC5, 0x2C22, 0x3C03, 0x0C60, 0x1C41, 0xEDAE, 0xFD8F, 0xCDEC, 0xDDCD,
-    0xAD2A, 0xBD0B, 0x8D68, 0x9D49, 0x7E97, 0x6EB6, 0x5ED5, 0x4EF4, 0x3E13, 0x2E32, 0x1E51, 0x0E70,
-    0xFF9F, 0xEFBE, 0xDFDD, 0xCFFC, 0xBF1B, 0xAF3A, 0x9F59, 0x8F78, 0x9188, 0x81A9, 0xB1CA, 0xA1EB,
-    0xD10C, 0xC12D, 0xF14E, 0xE16F, 0x1080, 0x00A1, 0x30C2, 0x20E3, 0x5004, 0x4025, 0x7046, 0x6067,
-    0x83B9, 0x9398, 0xA3FB, 0xB3DA, 0xC33D, 0xD31C, 0xE37F, 0xF35E, 0x02B1, 0x1290, 0x22F3, 0x32D2,
-    0x4235, 0x5214, 0x6277, 0x7256, 0xB5EA, 0xA5CB, 0x95A8, 0x8589, 0xF56E, 0xE54F, 0xD52C, 0xC50D,
-    0x34E2, 0x24C3, 0x14A0, 0x0481, 0x7466, 0x6447, 0x5424, 0x4405, 0xA7DB, 0xB7FA, 0x8799, 0x97B8,
-    0xE75F, 0xF77E, 0xC71D, 0xD73C, 0x26D3, 0x36F2, 0x0691, 0x16B0, 0x6657, 0x7676, 0x4615, 0x5634,
-    0xD94C, 0xC96D, 0xF90E, 0xE92F, 0x99C8, 0x89E9, 0xB98A, 0xA9AB, 0x5844, 0x4865, 0x7806, 0x6827,
-    0x18C0, 0x08E1, 0x3882, 0x28A3, 0xCB7D, 0xDB5C, 0xEB3F, 0xFB1E, 0x8BF9, 0x9BD8, 0xABBB, 0xBB9A,
-    0x4A75, 0x5A54, 0x6A37, 0x7A16, 0x0AF1, 0x1AD0, 0x2AB3, 0x3A92, 0xFD2E, 0xED0F, 0xDD6C, 0xCD4D,
-    0xBDAA, 0xAD8B, 0x9DE8, 0x8DC9, 0x7C26, 0x6C07, 0x5C64, 0x4C45, 0x3CA2, 0x2C83, 0x1CE0, 0x0CC1,
-    0xEF1F, 0xFF3E, 0xCF5D, 0xDF7C, 0xAF9B, 0xBFBA, 0x8FD9, 0x9FF8, 0x6E17, 0x7E36, 0x4E55, 0x5E74,
-    0x2E93, 0x3EB2, 0x0ED1, 0x1EF0,
-];
 
 /// A slot number below `SLOT_SIZE`.
 #[derive(Clone, Copy, Debug, PartialEq, Eq, Hash)]
@@ -179,26 +155,41 @@ fn get_hashtag(key: &[u8]) -> Option<&[u8]>
     if tag.is_empty() { None } else { Some(tag) }
 }
 
-/// The remainder of the bits of a byte followed by 16 zero bits.
-fn remainder(byte: u8) -> u16
-    ensures { result ≡ rem (low_bits byte 8 ++ replicate 16 0) }
+/// The remainder of the bits of a byte followed by 16 zero bits, and 8 more for each byte after it.
+fn remainder(byte: u8, after: usize) -> u16
+    requires { after < 4 }
+    ensures { result ≡ rem (low_bits byte 8 ++ replicate (16 + 8 * after) 0) }
 {
-    REMAINDERS[usize::from(byte)]
+    REMAINDERS[after][usize::from(byte)]
 }
 
 /// The register after a byte.
 fn update(crc: u16, byte: u8) -> u16
     ensures { result ≡ zeros_down 8 (bit_xor crc (byte * 256)) }
 {
-    (crc << 8) ^ remainder((crc >> 8) as u8 ^ byte)
+    (crc << 8) ^ remainder((crc >> 8) as u8 ^ byte, 0)
 }
 
-/// CRC-16/XMODEM, a byte a step.
+/// The register after four bytes.
+fn update_by_four(crc: u16, a: u8, b: u8, c: u8, d: u8) -> u16
+    ensures { result ≡ fold (λ r byte. zeros_down 8 (bit_xor r (byte * 256))) crc
+        (a ∷ b ∷ c ∷ d ∷ []) }
+{
+    let [high, low] = crc.to_be_bytes();
+    remainder(high ^ a, 3) ^ remainder(low ^ b, 2) ^ remainder(c, 1) ^ remainder(d, 0)
+}
+
+/// CRC-16/XMODEM, four bytes a step.
 fn crc16(bytes: &[u8]) -> u16
     ensures { result ≡ crc_of bytes.now }
 {
     let mut crc = 0;
-    for byte in bytes {
+    let mut rest = bytes;
+    while let [a, b, c, d, after @ ..] = rest {
+        crc = update_by_four(crc, *a, *b, *c, *d);
+        rest = after;
+    }
+    for byte in rest {
         crc = update(crc, *byte);
     }
     crc
@@ -238,7 +229,7 @@ mod tests {
             (255, 0x1EF0),
         ];
         for (byte, remainder) in table {
-            assert_eq!(rt; REMAINDERS[byte], remainder, "remainder of {byte}");
+            assert_eq!(rt; REMAINDERS[0][byte], remainder, "remainder of {byte}");
         }
     }
 

@@ -1,16 +1,15 @@
-use Rattle.std.proofs.Common.{ap, sym, ◌∙◌, take, fold, get_or, arith}
-use Rattle.std.proofs.lemmas.List.{take_more, take_all}
-use Rattle.cluster_slots.specs.KeySlot.{zeros_down, bring_down, bits_of}
-use Rattle.cluster_slots.proofs.Crc.{crc_more, crc_whole}
+use Rattle.std.proofs.Common.{◌+◌, ap, sym, ◌∙◌, drop, fold}
+use Rattle.std.proofs.lemmas.List.{at_drop_more, at_drop_all}
+use Rattle.cluster_slots.proofs.Crc.{next_register, crc_by_bytes}
 use Rattle.cluster_slots.proofs.slot.crc16.Goals as goal
 
 pub loop-byte-preserved : goal.loop-byte-preserved
 loop-byte-preserved c =
-    let more = take_more c.args.bytes.now c.loop-byte.byte-index 0 c.loop-byte-test.true in
-    c.update-crc.ensures
-    ∙ crc_more c.loop-byte.crc (get_or c.args.bytes.now c.loop-byte.byte-index 0) (take c.loop-byte.byte-index c.args.bytes.now) (omega (arith, c.type_inv.bytes c.loop-byte.byte-index)) c.loop-byte.invariant
-    ∙ ap (λ ys. zeros_down 16 (fold bring_down 0 (bits_of ys))) (sym more)
+    ap (λ crc. fold next_register crc (drop (c.loop-byte.byte-index + 1) c.loop-rest.rest.now)) c.update-crc.ensures
+    ∙ sym (at_drop_more (fold next_register c.loop-byte.crc) c.loop-rest.rest.now c.loop-byte.byte-index 0 c.loop-byte-test.true)
+    ∙ c.loop-byte.invariant
 
 pub returns : goal.returns
 returns c =
-    c.loop-byte.invariant ∙ ap (λ ys. zeros_down 16 (fold bring_down 0 (bits_of ys))) (take_all c.loop-byte.byte-index c.args.bytes.now c.loop-byte-test.false) ∙ sym (crc_whole c.args.bytes.now)
+    sym (at_drop_all (fold next_register c.loop-byte.crc) c.loop-rest.rest.now c.loop-byte.byte-index c.loop-byte-test.false)
+    ∙ c.loop-byte.invariant ∙ crc_by_bytes c.args.bytes.now (λ i. (c.type_inv.bytes i).fits)

@@ -1,7 +1,13 @@
-use Rattle.std.proofs.Common.{◌≡◌, fold, take}
-use Rattle.cluster_slots.specs.KeySlot.{zeros_down, bring_down, bits_of}
+use Rattle.std.proofs.Common.{◌≡◌, fold, drop, length}
+use Rattle.cluster_slots.proofs.Crc.{next_register}
 use Rattle.cluster_slots.proofs.slot.crc16.Given as goal
 
--- the register is the remainder of the bytes so far, with 16 zero bits brought down
+-- the bytes that are left make of the register what all make of 0
+abbrev pub invariant-loop-rest : goal.invariant-loop-rest
+invariant-loop-rest l = fold next_register l.crc l.rest ≡ fold next_register 0 l.fn.bytes
+
+abbrev pub decreases-loop-rest : goal.decreases-loop-rest
+decreases-loop-rest l = length l.rest
+
 abbrev pub invariant-loop-byte : goal.invariant-loop-byte
-invariant-loop-byte l = l.crc ≡ zeros_down 16 (fold bring_down 0 (bits_of (take l.byte-index l.bytes)))
+invariant-loop-byte l = fold next_register l.crc (drop l.byte-index l.byte-items) ≡ fold next_register 0 l.fn.bytes
