@@ -3,6 +3,7 @@ pub mod Address
 pub mod AddressText
 pub mod Bytes
 pub mod HashTag
+pub mod HostText
 pub mod KeySlot
 pub mod Number
 pub mod SlotRoute

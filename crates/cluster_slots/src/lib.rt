@@ -1,6 +1,7 @@
 //! Addresses of nodes, slots of keys, and numbers as texts write them.
 #![tactic(auto)]
 
+mod host_text;
 pub mod node_address;
 mod numbers;
 pub mod slot;

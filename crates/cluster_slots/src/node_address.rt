@@ -10,6 +10,7 @@ ghost use Rattle.cluster_slots.specs.Address.{Address, display_text, same_addres
 ghost use Rattle.cluster_slots.specs.Number.{number_in};
 ghost use Rattle.cluster_slots.specs.AddressText.{IsAddressText, IsNoAddress, IsPlainHost, invalid_node_string};
 
+use crate::host_text::HostText;
 use resp_core::{ErrorKind, RedisError, RedisResult};
 use std::alloc::{AllocError, Global};
 use std::cmp::Ordering;
@@ -18,23 +19,23 @@ use std::hash::{Hash, Hasher};
 use std::marker::Model;
 use std::rc::RcStr;
 
-/// The address of a node: a host and a port. Clones share the host's text.
+/// The address of a node: a host and a port. A short host takes no memory, and clones share the
+/// text of a longer one.
 ///
 /// Addresses are ordered by the bytes of the host, then by port. `Display` and `Debug` print
 /// `host:port`.
 #[derive(Drop)]
 pub struct NodeAddress {
-    host: RcStr,
+    host: HostText,
     port: u16,
 }
 
 impl Model for NodeAddress {
-    ghost use Rattle.std.specs.Rc.{rc_str_bytes};
     ghost use Rattle.cluster_slots.specs.Address.{Address};
 
     ghost Value = { Address };
 
-    ghost view = { λ a. record { host = rc_str_bytes a.host; port = a.port } };
+    ghost view = { λ a. record { host = a.host; port = a.port } };
 }
 
 impl NodeAddress {
@@ -43,7 +44,7 @@ impl NodeAddress {
         ensures { IfOk result (λ a. a ≡ record { host = host.now; port = port }) }
     {
         Ok(NodeAddress {
-            host: RcStr::from_str(alloc, host)?,
+            host: HostText::new(alloc, host)?,
             port,
         })
     }
@@ -52,6 +53,7 @@ impl NodeAddress {
     pub fn from_parts(host: RcStr, port: u16) -> Self
         ensures { result ≡ record { host = rc_str_bytes host; port = port } }
     {
+        let host = HostText::shared(host);
         NodeAddress { host, port }
     }
 
@@ -143,7 +145,7 @@ impl PartialEq for NodeAddress {
         ensures value { result ≡ same_address self.now other.now }
         ensures same { IsTrue result ↔ (self.now ≡ other.now) }
     {
-        self.host == other.host && self.port == other.port
+        self.host() == other.host() && self.port == other.port
     }
 }
 
@@ -175,7 +177,8 @@ impl Ord for NodeAddress {
         ensures value { result ≡ address_cmp self.now other.now }
         ensures equal { (result ≡ Ordering.Equal) ↔ (self.now ≡ other.now) }
     {
-        self.host.cmp(&other.host).then(self.port.cmp(&other.port))
+        let hosts = self.host().cmp(other.host());
+        hosts.then(self.port.cmp(&other.port))
     }
 }
 
@@ -185,7 +188,7 @@ impl Hash for NodeAddress {
     ghost respects_eq = { Prim.search (hashing, rules) };
 
     fn hash<H: Hasher>(&self, state: &mut H) {
-        self.host.hash(state);
+        self.host().hash(state);
         self.port.hash(state);
     }
 }
