@@ -1,0 +1,4 @@
+pub mod Direction
+pub mod Printed
+pub mod Commands
+pub mod Refusals

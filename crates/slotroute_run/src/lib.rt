@@ -1,0 +1,11 @@
+//! Runs commands over many keys on nodes in memory, and prints what was sent and the reply.
+#![tactic(auto)]
+
+mod command;
+mod direction;
+mod printing;
+mod refusal;
+
+pub use command::{read_only_names, run_command};
+pub use direction::Direction;
+pub use refusal::{CommandFault, Refusal};
