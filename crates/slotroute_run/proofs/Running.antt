@@ -1,8 +1,8 @@
 -- What the driver says of a command, in the words of the program.
-use Rattle.std.proofs.Common.{◌≡◌, ◌≢◌, ◌<◌, ℕ, ◌+◌, Bool, true, false, List, [], ◌∷◌, ◌++◌, Option, None, Some, IfSome, MatchOption, refl, sym, ap, ◌∙◌, arith, subst, take, drop, length, map, is_some}
+use Rattle.std.proofs.Common.{◌≡◌, ℕ, ◌-◌, Bool, List, [], ◌∷◌, Option, None, Some, IfSome, MatchOption, refl, sym, ap, ◌∙◌, subst, take, drop, length, map, is_some}
 use Rattle.std.proofs.Math.Path.{fun_ext}
 use Rattle.std.proofs.Math.Seq.{drop-append_seam}
-use Rattle.std.proofs.lemmas.List.{drop-map}
+use Rattle.std.proofs.lemmas.List.{drop-map, take_rest, length-map}
 use Rattle.std.specs.List.{AllZip}
 use Rattle.cluster_map.specs.Address.{Address}
 use Rattle.cluster_map.specs.Candidates.{Candidates, IsCandidate}
@@ -14,12 +14,11 @@ use Rattle.cluster_slots.specs.declared.slot.SlotAddr.{SlotAddr}
 use Rattle.cluster_slots.specs.declared.slot.SlotAddr.TheVariants.{Master, ReplicaOptional, ReplicaRequired}
 use Rattle.memory_nodes.specs.Cells.{Cell}
 use Rattle.memory_nodes.specs.Steps.{step}
-use Rattle.redis_cluster.specs.Driven.{Request, State, request, state, routes_by, IsEntryOf, AreSent, IsDriven}
+use Rattle.redis_cluster.specs.Driven.{Request, State, request, routes_by, IsEntryOf, AreSent, IsDriven}
 use Rattle.redis_cluster.specs.Faults.{IsFault}
 use Rattle.redis_cluster.specs.Orders.{NamesOnce}
 use Rattle.redis_cluster.specs.ReadOnly.{is_among}
 use Rattle.redis_cluster.specs.Trace.{Entry, Ending, refused}
-use Rattle.redis_cluster.specs.Unsplit.{Keyspace}
 use Rattle.redis_driver.specs.declared.fault.DriveFault.{DriveFault}
 use Rattle.redis_driver.specs.declared.fault.DriveFault.TheVariants as drive
 use Rattle.resp_core.specs.Reply.{Reply}
@@ -117,3 +116,18 @@ command_run handed direction entries words old new order answer text ordered d l
   ordered = order_is direction words order d.routes ordered d.drivable.is_covered.routes_are;
   printed = lines ∙ ap (λ sent. command_lines sent answer) (ap (drop (length old.trace)) d.trace.grew ∙ drop-append_seam old.trace d.trace.entries);
 }
+
+-- What a trace got since is what follows its old entries.
+pub since : {X Y : Type 0} (f : X → Y) (old new : List X) (was is : List Y) → map f old ≡ was → map f new ≡ is → map f (take (length new - length old) (drop (length old) new)) ≡ drop (length was) is
+since f old new was is o n =
+    ap (map f) (take_rest new (length old)) ∙ sym (drop-map f (length old) new) ∙ ap (drop (length old)) n ∙ ap (λ k. drop k is) (sym (length-map old f) ∙ ap length o)
+
+-- A command as it was prepared was run.
+pub prepared_run : (handed : Bool) (direction : Direction) (entries : List (ranges.Entry SlotNodes)) (names words command : List (List ℕ)) (old new : State Cell) (order order' : List ℕ) (answer : Reply) (text : List ℕ) (sent : List Entry) → AreReadOnly names → command ≡ words → order' ≡ order
+    → IsOrderOf direction (is_among names) command order → IsDriven (IsRunNode handed entries) step (request (map Some command) only_reads entries order') old new answer → sent ≡ drop (length old.trace) new.trace → text ≡ command_lines sent answer
+    → IsCommandRun handed direction entries words old.keyspace new.keyspace text
+prepared_run handed direction entries names words command old new order order' answer text sent are same moved ordered d since-then lines =
+    let is_order : IsOrderOf direction only_reads command order = subst (λ (reads : List ℕ → Bool). IsOrderOf direction reads command order) (same_reads names are) ordered in
+    let is_driven : IsDriven (IsRunNode handed entries) step (request (map Some command) only_reads entries order) old new answer = subst (λ (o : List ℕ). IsDriven (IsRunNode handed entries) step (request (map Some command) only_reads entries o) old new answer) moved d in
+    subst (λ (ws : List (List ℕ)). IsCommandRun handed direction entries ws old.keyspace new.keyspace text) same
+    (command_run handed direction entries command old new order answer text is_order is_driven (lines ∙ ap (λ s. command_lines s answer) since-then))

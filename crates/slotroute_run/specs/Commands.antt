@@ -1,5 +1,5 @@
 -- What a command over many keys does on nodes in memory.
-use Rattle.std.specs.Prelude.{◌≡◌, ℕ, Bool, true, false, List, [], ◌∷◌, Option, None, Some, codes, map, length, ⊤}
+use Rattle.std.specs.Prelude.{◌≡◌, ℕ, Bool, true, false, List, [], ◌∷◌, None, Some, codes, map, length, ⊤}
 use Rattle.cluster_map.specs.Address.{Address}
 use Rattle.cluster_map.specs.Candidates.{IsCandidate}
 use Rattle.cluster_map.specs.RangeMap.{Entry}
@@ -10,7 +10,7 @@ use Rattle.memory_nodes.specs.Cells.{Cell}
 use Rattle.memory_nodes.specs.Nodes.{MayRefuse}
 use Rattle.memory_nodes.specs.Steps.{step}
 use Rattle.memory_nodes.specs.declared.nodes.MemoryNodes.{MemoryNodes}
-use Rattle.redis_cluster.specs.Driven.{Request, request, state, routes_by, IsDriven, IsFirstUncovered}
+use Rattle.redis_cluster.specs.Driven.{request, state, routes_by, IsDriven, IsFirstUncovered}
 use Rattle.redis_cluster.specs.ReadOnly.{is_among}
 use Rattle.redis_cluster.specs.Trace.{Ending}
 use Rattle.redis_cluster.specs.Trace as trace

@@ -56,7 +56,9 @@ pub fn run_command(
 {
     let (command, order) = prepare(alloc, direction, words, read_only)?;
     let before = nodes.trace().len();
-    let reply = drive_command(alloc, &command, read_only, slot_map, strategy, &order, nodes)?;
+    let reply = drive_command(
+        alloc, &command, read_only, slot_map, strategy, &order, nodes,
+    )?;
     Ok(command_lines(alloc, &nodes.trace()[before..], &reply)?)
 }
 
@@ -88,11 +90,7 @@ fn command_of(alloc: Global, words: &[&[u8]]) -> Result<Cmd, AllocError>
 }
 
 /// How many routes a command has, which are none where it is not a complete one over many keys.
-fn route_count(
-    alloc: Global,
-    command: &Cmd,
-    read_only: &ReadOnlyNames,
-) -> Result<usize, AllocError>
+fn route_count(alloc: Global, command: &Cmd, read_only: &ReadOnlyNames) -> Result<usize, AllocError>
     ensures { IfOk result (λ count. IfSome (routes_by (is_among read_only.now)
         (map Some command.now)) (λ routes. count ≡ length routes)) }
 {

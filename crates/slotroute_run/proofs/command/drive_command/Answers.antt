@@ -1,5 +1,3 @@
-use Rattle.std.specs.Prelude.{Result}
-use Rattle.std.proofs.lemmas.Result.{IfErr-weaker}
 use Rattle.memory_nodes.specs.Nodes.{keyspace_in, trace_in, mark_in, MayRefuse}
 use Rattle.redis_cluster.specs.Driven.{state}
 use Rattle.slotroute_run.proofs.Running.{driven_by, why_not_run, good_order}
