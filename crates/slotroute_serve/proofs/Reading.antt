@@ -22,7 +22,7 @@ abbrev before : List ℕ → List ℕ
 before [] = []
 before (x ∷ xs) = cond (x == 10) [] (x ∷ before xs)
 
-positive : (n : ℕ) → nat_lt 0 (suc n) ≡ true
+pub positive : (n : ℕ) → nat_lt 0 (suc n) ≡ true
 positive n = search (rules)
 
 -- where something was read, something was left to read
@@ -60,7 +60,7 @@ raw_lines-first x (y ∷ ys) =
     elim (x == 10) as (λ v. cond v ([] ∷ raw_lines (y ∷ ys)) (onto_first_line x (raw_lines (y ∷ ys))) ≡ cond v [] (x ∷ before (y ∷ ys)) ∷ raw_lines (cond v (y ∷ ys) (drop_through 10 (y ∷ ys)))) [ true ↦ refl | false ↦ ap (onto_first_line x) (raw_lines-first y ys) ]
 
 -- an input that is there has its first line, and then the lines of what follows it
-lines_of-first : (x : ℕ) (xs : List ℕ) → lines_of (x ∷ xs) ≡ line_of (x ∷ xs) ∷ lines_of (drop_through 10 (x ∷ xs))
+pub lines_of-first : (x : ℕ) (xs : List ℕ) → lines_of (x ∷ xs) ≡ line_of (x ∷ xs) ∷ lines_of (drop_through 10 (x ∷ xs))
 lines_of-first x xs = ap (map (strip_last 13)) (raw_lines-first x xs) ∙ ap (λ p. strip_last 13 p ∷ lines_of (drop_through 10 (x ∷ xs))) (sym (first_piece-before (x ∷ xs)))
 
 -- the leading lines go on after a first line with fields, and end at one with none
@@ -91,7 +91,7 @@ ended input front rest ranges e n m =
     let P : List (List (List ℕ)) → Type 0 = λ ls. IsMap ls ranges in
     subst P (sym whole) m
 
-true≢false : true ≢ false
+pub true≢false : true ≢ false
 true≢false = search rules
 
 -- what follows the map, where the lines so far are all that lead
@@ -136,7 +136,7 @@ split_at_line : (input : List ℕ) (x : ℕ) (xs : List ℕ) (front : List (List
 split_at_line input x xs front line f fs split text e = split ∙ ap (λ ls. front ++ ls) (leading_lines-more x xs f fs (e ∙ ap fields_of text))
 
 -- a map has a range for each line
-counts : (front : List (List (List ℕ))) (ranges : List RangeNodes) → IsMap front ranges → length ranges + 1 ≡ length front + 1
+pub counts : (front : List (List (List ℕ))) (ranges : List RangeNodes) → IsMap front ranges → length ranges + 1 ≡ length front + 1
 counts front ranges m = ap (λ n. n + 1) (AllZip-long IsMapLine front ranges m)
 
 pub at_bad : (old left : Option (List ℕ)) (ranges : List RangeNodes) (line : List ℕ) (fields : List (List ℕ)) → StillReads old left ranges → HasLine left line → fields ≡ fields_of line → fields ≢ []

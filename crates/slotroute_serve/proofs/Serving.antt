@@ -1,5 +1,5 @@
 -- What the words and the input call for.
-use Rattle.std.proofs.Common.{◌≡◌, ◌≢◌, ℕ, map, string_bytes, Bor, String, Global, Vec, append_assoc, decimal, List, [], ◌∷◌, ◌++◌, refl, subst, rules, take, inl, inr, ◌⊎◌}
+use Rattle.std.proofs.Common.{◌≡◌, ◌≢◌, ℕ, ◌+◌, Bool, sym, ◌∙◌, ap, length, map, string_bytes, Bor, String, Global, Vec, append_assoc, decimal, List, [], ◌∷◌, ◌++◌, refl, subst, rules, take, inl, inr, ◌⊎◌}
 use Rattle.std.specs.Prelude.{Option, Some, None, Result, Ok, Err, OnOk, OnErr, IfErr, IfSome, MatchResult, codes, ⊤}
 use Rattle.std.specs.Result.{IsErrAnd}
 use Rattle.std.specs.Io.KnownBytes.{Appends}
@@ -13,17 +13,23 @@ use Rattle.cluster_slots.specs.declared.slot.SlotAddr.{SlotAddr}
 use Rattle.cluster_slots.specs.declared.slot.SlotAddr.TheVariants.{Master}
 use Rattle.slotroute_serve.specs.Lines.{leading_lines, after_map}
 use Rattle.slotroute_serve.specs.MapLines.{IsMap}
-use Rattle.slotroute_serve.specs.Faults.{fault_line, WhyNoMap, WhyNoSplit, IsCaused, IsLeftAt}
-use Rattle.slotroute_serve.specs.Output.{Output, IsAnswer, IsNodeAnswer, IsRequest, split_words, slot_line, usage_line, bad_map_line, not_multi_key_line, usage, bad_map, not_multi_key, answer, served, unserved, node_request, split_request, node_answer, split_answer}
-use Rattle.slotroute_serve.specs.Requests.{Asks, WhyNoAnswer}
+use Rattle.slotroute_serve.specs.Faults.{fault_line, WhyNoMap, WhyNoSplit, IsMapFault, IsCaused, IsLeftAt}
+use Rattle.slotroute_serve.specs.Output.{Output, IsAnswer, IsNodeAnswer, IsRequest, split_words, slot_line, usage_line, bad_map_line, not_multi_key_line, IsRunWords, refused_line, first_after_map, usage, bad_map, not_multi_key, answer, run_to_end, run_refused, served, unserved, node_request, split_request, run_request, node_answer, split_answer}
+use Rattle.slotroute_serve.specs.Requests.{Asks, AsksFor, WhyNoAnswer}
+use Rattle.slotroute_serve.specs.RunFaults.{RunEnds, RunStops}
+use Rattle.slotroute_serve.specs.Runs.{AllRun, RefusedAt, StopsAfter, CutShort}
 use Rattle.slotroute_serve.specs.Split.{IsSplitAnswer}
-use Rattle.slotroute_serve.specs.Serves.{HasAnswer, HasOutput, RanOutOfMemory, Explains, IsBadMapLine, IsTold, TellsOf, Reports, Serves}
+use Rattle.slotroute_serve.specs.Serves.{BeginsRun, CutsRun, IsSoFar, IsUnfinished, HasAnswer, HasOutput, RanOutOfMemory, Explains, IsNumbered, IsTold, TellsOf, Reports, Serves}
 use Rattle.slotroute_serve.specs.Streams.{Leaves}
 use Rattle.slotroute_serve.proofs.Leaving.{left_after_map}
 use Rattle.slotroute_serve.specs.declared.fault.Fault.{Fault}
 use Rattle.slotroute_serve.specs.declared.fault.Fault.TheVariants as fault
+use Rattle.slotroute_serve.specs.declared.request.Question.{Question}
+use Rattle.slotroute_serve.specs.declared.request.Question.TheVariants.{Node, Split}
 use Rattle.slotroute_serve.specs.declared.request.Request.{Request}
-use Rattle.slotroute_serve.specs.declared.request.Request.TheVariants.{Node, Split}
+use Rattle.slotroute_serve.specs.declared.request.Request.TheVariants as request
+use Rattle.slotroute_run.specs.declared.direction.Direction.{Direction}
+use Rattle.slotroute_serve.proofs.Running.{after_the_map, begins_at_refused, first_line}
 
 -- The line of an answer, as it is written.
 pub slot_line_is : (slot : ℕ) (text : List ℕ) → codes "slot " ++ (decimal slot ++ (32 ∷ (text ++ (10 ∷ [])))) ≡ slot_line slot text
@@ -40,10 +46,10 @@ pub found_none : (entries : List (Entry SlotNodes)) (key line : List ℕ) (route
 found_none entries key line route slot s e uncovered text = rw (text, e) (unserved route.slot s uncovered)
 
 -- The answer of a request.
-pub answers_node : (entries : List (Entry SlotNodes)) (asked : Request) (key : Bor (List ℕ)) (text line : List ℕ) (status : ℕ) → asked ≡ Node key → text ≡ line → IsNodeAnswer entries key.now line status → (words : List (List ℕ)) → Asks words asked → IsAnswer entries words text status
+pub answers_node : (entries : List (Entry SlotNodes)) (asked : Question) (key : Bor (List ℕ)) (text line : List ℕ) (status : ℕ) → asked ≡ Node key → text ≡ line → IsNodeAnswer entries key.now line status → (words : List (List ℕ)) → Asks words asked → IsAnswer entries words text status
 answers_node entries asked key text line status is t h words a = let b : Asks words (Node key) = subst (Asks words) is a in rw (b, t) (node_answer key.now line status h)
 
-pub answers_split : (entries : List (Entry SlotNodes)) (asked : Request) (command : Bor (List (String Global))) (r : Result (Vec ℕ Global × ℕ) Fault) → asked ≡ Split command
+pub answers_split : (entries : List (Entry SlotNodes)) (asked : Question) (command : Bor (List (String Global))) (r : Result (Vec ℕ Global × ℕ) Fault) → asked ≡ Split command
     → MatchResult r (λ a. IsSplitAnswer entries (map string_bytes command.now) a.0.items a.1) (WhyNoSplit (map string_bytes command.now)) → MatchResult r (λ a. (words : List (List ℕ)) → Asks words asked → IsAnswer entries words a.0.items a.1) (WhyNoAnswer asked)
 answers_split entries asked command (Ok x) is h = λ words a. let b : Asks words (Split command) = subst (Asks words) is a in rw b.0 (split_answer (map string_bytes command.now) x.0.items x.1 h)
 answers_split entries asked command (Err e) is h = rw is h
@@ -52,117 +58,6 @@ answers_split entries asked command (Err e) is h = rw is h
 pub nothing : (out : Option (List ℕ)) → Appends out out []
 nothing None = tt
 nothing (Some x) = search rules
-
--- The faults and the answer of a run.
-pub usage_fault : (words : List (List ℕ)) (input out : Option (List ℕ)) → ¬ (IsRequest words) → Explains words input input out out fault.Usage
-usage_fault words None out h = (nothing out, tt)
-usage_fault words (Some bytes) out h = (nothing out, usage words bytes h)
-
-pub is_request : (words : List (List ℕ)) (r : Request) → Asks words r → IsRequest words
-is_request words (Node key) a = rw a (node_request key.now)
-is_request words (Split command) (a, some) = rw a (split_request (map string_bytes command.now) some)
-
--- a request reads, so nothing is said of a reader that is not touched
-pub touched : {S : Type 0} (words : List (List ℕ)) (old new : S) → IsRequest words → ¬ (IsRequest words) → new ≡ old
-touched words old new w other = absurd (other w)
-
-no_map_of : (words : List (List ℕ)) (input left out : Option (List ℕ)) (e : Fault) → IsRequest words → IfSome input (λ bytes. WhyNoMap (leading_lines bytes) e) → Leaves input left (λ bytes rest. IsLeftAt bytes rest e) → Explains words input left out out e
-no_map_of words input left out fault.Memory w h l = (nothing out, w, l)
-no_map_of words input left out fault.Input w h l = (nothing out, w, l)
-no_map_of words None left out (fault.BadMapLine n) w h l = (nothing out, tt)
-no_map_of words (Some bytes) None out (fault.BadMapLine n) w h l = absurd l
-no_map_of words (Some bytes) (Some rest) out (fault.BadMapLine n) w h l = (nothing out, rw l (bad_map words bytes n w h))
-no_map_of words None left out fault.Usage w h l = (nothing out, tt)
-no_map_of words (Some bytes) left out fault.Usage w h l = absurd h
-no_map_of words None left out fault.NotMultiKey w h l = (nothing out, tt)
-no_map_of words (Some bytes) left out fault.NotMultiKey w h l = absurd h
-no_map_of words None left out fault.Output w h l = ([], nothing out, tt)
-no_map_of words (Some bytes) left out fault.Output w h l = absurd h
-
-pub no_map : (words : List (List ℕ)) (input left out : Option (List ℕ)) (e : Fault) (r : Result ℕ Fault) → IsRequest words → IfSome input (λ bytes. WhyNoMap (leading_lines bytes) e) → Leaves input left (λ bytes rest. IsLeftAt bytes rest e)
-    → IsErrAnd r (λ x. x ≡ e) → MatchResult r (HasAnswer words input left out out) (Explains words input left out out)
-no_map words input left out e (Ok x) w h l is = absurd is
-no_map words input left out e (Err x) w h l is = rw is (no_map_of words input left out e w h l)
-
--- a fault of the map that is caused
-cause_of : (reads writes : Type 0) (e : Fault) → IsCaused reads ⊥ e → IsCaused reads writes e
-cause_of reads writes fault.Usage h = tt
-cause_of reads writes (fault.BadMapLine n) h = tt
-cause_of reads writes fault.NotMultiKey h = tt
-cause_of reads writes fault.Memory h = tt
-cause_of reads writes fault.Input h = h
-cause_of reads writes fault.Output h = absurd h
-
-pub caused_by_map : (reads writes : Type 0) (e : Fault) (r : Result ℕ Fault) → IsCaused reads ⊥ e → IsErrAnd r (λ x. x ≡ e) → IfErr r (IsCaused reads writes)
-caused_by_map reads writes e (Ok x) h is = absurd is
-caused_by_map reads writes e (Err x) h is = rw is (cause_of reads writes e h)
-
-pub no_memory : (words : List (List ℕ)) (input left out : Option (List ℕ)) (r : Result ℕ Fault) → IsRequest words → Leaves input left (λ bytes rest. rest ≡ after_map bytes) → IsErrAnd r (λ x. x ≡ fault.Memory)
-    → MatchResult r (HasAnswer words input left out out) (Explains words input left out out)
-no_memory words input left out (Ok x) w l is = absurd is
-no_memory words input left out (Err x) w l is = rw is (nothing out, w, left_after_map input left l)
-
--- what explains that a command has no lines
-no_split_of : (command : List (List ℕ)) (input left out : Option (List ℕ)) (ranges : List RangeNodes) (e : Fault) → command ≢ [] → IfSome input (λ bytes. IsMap (leading_lines bytes) ranges) → Leaves input left (λ bytes rest. rest ≡ after_map bytes) → WhyNoSplit command e
-    → Explains (split_words command) input left out out e
-no_split_of command input left out ranges fault.Memory some m l h = (nothing out, split_request command some, left_after_map input left l)
-no_split_of command None left out ranges fault.NotMultiKey some m l h = (nothing out, tt)
-no_split_of command (Some bytes) None out ranges fault.NotMultiKey some m l h = absurd l
-no_split_of command (Some bytes) (Some rest) out ranges fault.NotMultiKey some m l h = (nothing out, rw l (not_multi_key command bytes ranges some m h))
-no_split_of command input left out ranges fault.Usage some m l h = absurd h
-no_split_of command input left out ranges (fault.BadMapLine n) some m l h = absurd h
-no_split_of command input left out ranges fault.Input some m l h = absurd h
-no_split_of command input left out ranges fault.Output some m l h = absurd h
-
-no_answer_of : (words : List (List ℕ)) (asked : Request) (input left out : Option (List ℕ)) (ranges : List RangeNodes) (e : Fault) → Asks words asked → IfSome input (λ bytes. IsMap (leading_lines bytes) ranges) → Leaves input left (λ bytes rest. rest ≡ after_map bytes) → WhyNoAnswer asked e
-    → Explains words input left out out e
-no_answer_of words (Node key) input left out ranges e a m l h = rw (a, h) (nothing out, node_request key.now, left_after_map input left l)
-no_answer_of words (Split command) input left out ranges e (a, some) m l h = rw a (no_split_of (map string_bytes command.now) input left out ranges e some m l h)
-
-pub no_answer : (words : List (List ℕ)) (asked : Request) (input left out : Option (List ℕ)) (ranges : List RangeNodes) (e : Fault) (r : Result ℕ Fault) → Asks words asked → IfSome input (λ bytes. IsMap (leading_lines bytes) ranges) → Leaves input left (λ bytes rest. rest ≡ after_map bytes) → WhyNoAnswer asked e
-    → IsErrAnd r (λ x. x ≡ e) → MatchResult r (HasAnswer words input left out out) (Explains words input left out out)
-no_answer words asked input left out ranges e (Ok x) a m l h is = absurd is
-no_answer words asked input left out ranges e (Err x) a m l h is = rw is (no_answer_of words asked input left out ranges e a m l h)
-
--- a want of lines is not that of a stream
-cause_of_split : (reads writes : Type 0) (command : List (List ℕ)) (e : Fault) → WhyNoSplit command e → IsCaused reads writes e
-cause_of_split reads writes command fault.Usage h = tt
-cause_of_split reads writes command (fault.BadMapLine n) h = tt
-cause_of_split reads writes command fault.NotMultiKey h = tt
-cause_of_split reads writes command fault.Memory h = tt
-cause_of_split reads writes command fault.Input h = absurd h
-cause_of_split reads writes command fault.Output h = absurd h
-
-cause_of_answer : (reads writes : Type 0) (asked : Request) (e : Fault) → WhyNoAnswer asked e → IsCaused reads writes e
-cause_of_answer reads writes (Node key) e h = rw h tt
-cause_of_answer reads writes (Split command) e h = cause_of_split reads writes (map string_bytes command.now) e h
-
-pub caused_by_answer : (reads writes : Type 0) (asked : Request) (e : Fault) (r : Result ℕ Fault) → WhyNoAnswer asked e → IsErrAnd r (λ x. x ≡ e) → IfErr r (IsCaused reads writes)
-caused_by_answer reads writes asked e (Ok x) h is = absurd is
-caused_by_answer reads writes asked e (Err x) h is = rw is (cause_of_answer reads writes asked e h)
-
-pub answered : (words : List (List ℕ)) (input left out new : Option (List ℕ)) (ranges : List RangeNodes) (text : List ℕ) (status : ℕ) → IfSome input (λ bytes. IsMap (leading_lines bytes) ranges) → Leaves input left (λ bytes rest. rest ≡ after_map bytes)
-    → IsAnswer (insert_ranges [] ranges) words text status → Appends out new text → HasAnswer words input left out new status
-answered words None left out new ranges text status m l a t = (text, t, tt)
-answered words (Some bytes) None out new ranges text status m l a t = absurd l
-answered words (Some bytes) (Some rest) out new ranges text status m l a t = (text, t, rw l (answer words bytes text status ranges m a))
-
--- a beginning of the answer was written
-begun : (words : List (List ℕ)) (input left out new : Option (List ℕ)) (ranges : List RangeNodes) (text : List ℕ) (status k : ℕ) → IfSome input (λ bytes. IsMap (leading_lines bytes) ranges) → Leaves input left (λ bytes rest. rest ≡ after_map bytes)
-    → IsAnswer (insert_ranges [] ranges) words text status → Appends out new (take k text) → Explains words input left out new fault.Output
-begun words None left out new ranges text status k m l a t = (take k text, t, tt)
-begun words (Some bytes) None out new ranges text status k m l a t = absurd l
-begun words (Some bytes) (Some rest) out new ranges text status k m l a t =
-    (take k text, t, rw l record { whole = text; status = status; called_for = answer words bytes text status ranges m a; count = k; begins = refl })
-
-pub not_written : (words : List (List ℕ)) (input left out new : Option (List ℕ)) (ranges : List RangeNodes) (text : List ℕ) (status k : ℕ) (e : Fault) (r : Result ℕ Fault) → IfSome input (λ bytes. IsMap (leading_lines bytes) ranges)
-    → Leaves input left (λ bytes rest. rest ≡ after_map bytes) → IsAnswer (insert_ranges [] ranges) words text status → Appends out new (take k text) → e ≡ fault.Output → IsErrAnd r (λ x. x ≡ e) → MatchResult r (HasAnswer words input left out new) (Explains words input left out new)
-not_written words input left out new ranges text status k e (Ok x) m l a t f is = absurd is
-not_written words input left out new ranges text status k e (Err x) m l a t f is = rw (is, f) (begun words input left out new ranges text status k m l a t)
-
-pub caused_by_output : (reads writes : Type 0) (e : Fault) (r : Result ℕ Fault) → e ≡ fault.Output → writes → IsErrAnd r (λ x. x ≡ e) → IfErr r (IsCaused reads writes)
-caused_by_output reads writes e (Ok x) f h is = absurd is
-caused_by_output reads writes e (Err x) f h is = rw (is, f) h
 
 -- The report of a fault.
 -- a line was written, or a beginning of it
@@ -175,76 +70,236 @@ pub reported_line : (failed : Type 0) (old new : Option (List ℕ)) (e : Fault) 
 reported_line failed old new e text r t whole part f = let (errs, grown, is) = told failed old new text (fault_line e) r t whole part f in (errs, grown, inl is)
 
 -- out of memory was reported in the place of a bad map line
-pub reported_memory : (failed : Type 0) (old new : Option (List ℕ)) (e : Fault) (text : List ℕ) (r : Result (Unit {0}) Fault) → IsBadMapLine e → text ≡ fault_line fault.Memory → OnOk r (Appends old new text) → OnErr r ((k : ℕ) × Appends old new (take k text)) → OnErr r failed
+pub reported_memory : (failed : Type 0) (old new : Option (List ℕ)) (e : Fault) (text : List ℕ) (r : Result (Unit {0}) Fault) → IsNumbered e → text ≡ fault_line fault.Memory → OnOk r (Appends old new text) → OnErr r ((k : ℕ) × Appends old new (take k text)) → OnErr r failed
     → Reports failed old new e
 reported_memory failed old new e text r b t whole part f = let (errs, grown, is) = told failed old new text (fault_line fault.Memory) r t whole part f in (errs, grown, inr (b, is))
 
--- The run as a whole.
-called_as : (words : List (List ℕ)) (input left : Option (List ℕ)) (errs line : List ℕ) → errs ≡ line → Leaves input left (λ bytes rest. Output words bytes rest [] line 2) → Leaves input left (λ bytes rest. Output words bytes rest [] errs 2)
-called_as words None left errs line e h = tt
-called_as words (Some bytes) None errs line e h = absurd h
-called_as words (Some bytes) (Some rest) errs line e h = rw e h
+module _ (handed : Bool) where
+  -- The faults and the answer of a run.
+  pub usage_fault : (words : List (List ℕ)) (input out : Option (List ℕ)) → ¬ (IsRequest words) → Explains handed words input input out out fault.Usage
+  usage_fault words None out h = (nothing out, tt)
+  usage_fault words (Some bytes) out h = (nothing out, usage words bytes h)
 
-pub served_answer : (reads writes tells : Type 0) (words : List (List ℕ)) (input left out new err : Option (List ℕ)) (status : ℕ) → HasAnswer words input left out new status → Serves reads writes tells words input left out new err err status
-served_answer reads writes tells words input left out new err status (outs, written, called_for) = inl record { outs = outs; errs = []; written = written; told = nothing err; called_for = called_for }
+  pub is_request : (words : List (List ℕ)) (r : Request) → AsksFor words r → IsRequest words
+  is_request words (request.Answer (Node key)) a = rw a (node_request key.now)
+  is_request words (request.Answer (Split command)) (a, some) = rw a (split_request (map string_bytes command.now) some)
+  is_request words (request.Run direction) a = run_request direction words a
 
-pub served_fault : (reads writes tells : Type 0) (words : List (List ℕ)) (input left out new err told : Option (List ℕ)) (e : Fault) → Explains words input left out new e → IsCaused reads writes e → Reports tells err told e → Serves reads writes tells words input left out new err told 2
-served_fault reads writes tells words input left out new err told fault.Usage x c (errs, a, inl (inl same)) =
-    inl record { outs = []; errs = errs; written = x.0; told = a; called_for = called_as words input left errs usage_line same x.1 }
-served_fault reads writes tells words input left out new err told (fault.BadMapLine n) x c (errs, a, inl (inl same)) =
-    inl record { outs = []; errs = errs; written = x.0; told = a; called_for = called_as words input left errs (bad_map_line n) same x.1 }
-served_fault reads writes tells words input left out new err told fault.NotMultiKey x c (errs, a, inl (inl same)) =
-    inl record { outs = []; errs = errs; written = x.0; told = a; called_for = called_as words input left errs not_multi_key_line same x.1 }
-served_fault reads writes tells words input left out new err told e x c (errs, a, text) = inr record { fault = e; explained = x; caused = c; errs = errs; told = a; text = text; failed = refl }
+  -- a request reads, so nothing is said of a reader that is not touched
+  pub touched : {S : Type 0} (words : List (List ℕ)) (old new : S) → IsRequest words → ¬ (IsRequest words) → new ≡ old
+  touched words old new w other = absurd (other w)
 
--- Where no stream may fail, only memory can run out.
-told_whole : (tells : Type 0) (text line : List ℕ) → ¬ tells → IsTold tells text line → text ≡ line
-told_whole tells text line whole (inl same) = same
-told_whole tells text line whole (inr (may, part)) = absurd (whole may)
+  no_map_of : (reads : Type 0) (words : List (List ℕ)) (input left out : Option (List ℕ)) (e : Fault) → IsRequest words → IfSome input (λ bytes. WhyNoMap (leading_lines bytes) e) → Leaves input left (λ bytes rest. IsLeftAt bytes rest e) → IsMapFault reads e
+      → Explains handed words input left out out e
+  no_map_of reads words input left out fault.Memory w h l c = ([], nothing out, w, inl (refl, l))
+  no_map_of reads words input left out fault.Input w h l c = ([], nothing out, w, inl (refl, l))
+  no_map_of reads words None left out (fault.BadMapLine n) w h l c = (nothing out, tt)
+  no_map_of reads words (Some bytes) None out (fault.BadMapLine n) w h l c = absurd l
+  no_map_of reads words (Some bytes) (Some rest) out (fault.BadMapLine n) w h l c = (nothing out, rw l (bad_map words bytes n w h))
+  no_map_of reads words input left out fault.Usage w h l c = absurd c
+  no_map_of reads words input left out fault.NotMultiKey w h l c = absurd c
+  no_map_of reads words input left out (fault.Command n r) w h l c = absurd c
+  no_map_of reads words input left out fault.Output w h l c = absurd c
 
-ran_out : (out new err told : Option (List ℕ)) (errs : List ℕ) (status : ℕ) → Appends out new [] → Appends err told errs → errs ≡ fault_line fault.Memory → status ≡ 2 → RanOutOfMemory out new err told status
-ran_out out new err told errs status w a same failed = record { written = w; told = rw same at a; failed = failed }
+  pub no_map : (reads : Type 0) (words : List (List ℕ)) (input left out : Option (List ℕ)) (e : Fault) (r : Result ℕ Fault) → IsRequest words → IfSome input (λ bytes. WhyNoMap (leading_lines bytes) e) → Leaves input left (λ bytes rest. IsLeftAt bytes rest e) → IsMapFault reads e
+      → IsErrAnd r (λ x. x ≡ e) → MatchResult r (HasAnswer handed words input left out out) (Explains handed words input left out out)
+  no_map reads words input left out e (Ok x) w h l c is = absurd is
+  no_map reads words input left out e (Err x) w h l c is = rw is (no_map_of reads words input left out e w h l c)
 
-steady_fault : (reads writes tells : Type 0) (words : List (List ℕ)) (input left out new err told : Option (List ℕ)) (status : ℕ) (e : Fault) (errs : List ℕ) → ¬ reads → ¬ writes → ¬ tells → Explains words input left out new e → IsCaused reads writes e → Appends err told errs → TellsOf tells errs e → status ≡ 2
-    → HasOutput words input left out new err told status ⊎ RanOutOfMemory out new err told status
-steady_fault reads writes tells words input left out new err told status fault.Usage errs r w t x c a (inl line) failed =
-    inl record { outs = []; errs = errs; written = x.0; told = a; called_for = rw failed (called_as words input left errs usage_line (told_whole tells errs usage_line t line) x.1) }
-steady_fault reads writes tells words input left out new err told status (fault.BadMapLine n) errs r w t x c a (inl line) failed =
-    inl record { outs = []; errs = errs; written = x.0; told = a; called_for = rw failed (called_as words input left errs (bad_map_line n) (told_whole tells errs (bad_map_line n) t line) x.1) }
-steady_fault reads writes tells words input left out new err told status fault.NotMultiKey errs r w t x c a (inl line) failed =
-    inl record { outs = []; errs = errs; written = x.0; told = a; called_for = rw failed (called_as words input left errs not_multi_key_line (told_whole tells errs not_multi_key_line t line) x.1) }
-steady_fault reads writes tells words input left out new err told status fault.Memory errs r w t x c a (inl line) failed = inr (ran_out out new err told errs status x.0 a (told_whole tells errs (fault_line fault.Memory) t line) failed)
-steady_fault reads writes tells words input left out new err told status fault.Input errs r w t x c a text failed = absurd (r c)
-steady_fault reads writes tells words input left out new err told status fault.Output errs r w t x c a text failed = absurd (w c)
-steady_fault reads writes tells words input left out new err told status (fault.BadMapLine n) errs r w t x c a (inr (b, line)) failed =
-    inr (ran_out out new err told errs status x.0 a (told_whole tells errs (fault_line fault.Memory) t line) failed)
-steady_fault reads writes tells words input left out new err told status fault.Usage errs r w t x c a (inr (b, line)) failed = absurd b
-steady_fault reads writes tells words input left out new err told status fault.NotMultiKey errs r w t x c a (inr (b, line)) failed = absurd b
-steady_fault reads writes tells words input left out new err told status fault.Memory errs r w t x c a (inr (b, line)) failed = absurd b
+  -- a fault of the map that is caused
+  cause_of : (reads writes : Type 0) (e : Fault) → IsMapFault reads e → IsCaused reads writes e
+  cause_of reads writes fault.Usage h = tt
+  cause_of reads writes (fault.BadMapLine n) h = tt
+  cause_of reads writes fault.NotMultiKey h = tt
+  cause_of reads writes (fault.Command n r) h = tt
+  cause_of reads writes fault.Memory h = tt
+  cause_of reads writes fault.Input h = h
+  cause_of reads writes fault.Output h = absurd h
 
-pub served_steadily : (reads writes tells : Type 0) (words : List (List ℕ)) (input left out new err told : Option (List ℕ)) (status : ℕ) → Serves reads writes tells words input left out new err told status → ¬ reads → ¬ writes → ¬ tells
-    → HasOutput words input left out new err told status ⊎ RanOutOfMemory out new err told status
-served_steadily reads writes tells words input left out new err told status (inl a) r w t = inl a
-served_steadily reads writes tells words input left out new err told status (inr f) r w t = steady_fault reads writes tells words input left out new err told status f.fault f.errs r w t f.explained f.caused f.told f.text f.failed
+  pub caused_by_map : (reads writes : Type 0) (e : Fault) (r : Result ℕ Fault) → IsMapFault reads e → IsErrAnd r (λ x. x ≡ e) → IfErr r (IsCaused reads writes)
+  caused_by_map reads writes e (Ok x) h is = absurd is
+  caused_by_map reads writes e (Err x) h is = rw is (cause_of reads writes e h)
 
--- Where nothing is known of failures, each may have been.
-told_anyhow : (failed : Type 0) (text line : List ℕ) → IsTold failed text line → IsTold ⊤ text line
-told_anyhow failed text line (inl whole) = inl whole
-told_anyhow failed text line (inr (f, part)) = inr (tt, part)
+  pub no_memory : (words : List (List ℕ)) (input left out : Option (List ℕ)) (r : Result ℕ Fault) → IsRequest words → Leaves input left (λ bytes rest. rest ≡ after_map bytes) → IsErrAnd r (λ x. x ≡ fault.Memory)
+      → MatchResult r (HasAnswer handed words input left out out) (Explains handed words input left out out)
+  no_memory words input left out (Ok x) w l is = absurd is
+  no_memory words input left out (Err x) w l is = rw is ([], nothing out, w, inl (refl, left_after_map input left l))
 
-tells_anyhow : (failed : Type 0) (text : List ℕ) (e : Fault) → TellsOf failed text e → TellsOf ⊤ text e
-tells_anyhow failed text e (inl t) = inl (told_anyhow failed text (fault_line e) t)
-tells_anyhow failed text e (inr (b, t)) = inr (b, told_anyhow failed text (fault_line fault.Memory) t)
+  -- what explains that a command has no lines
+  no_split_of : (command : List (List ℕ)) (input left out : Option (List ℕ)) (ranges : List RangeNodes) (e : Fault) → command ≢ [] → IfSome input (λ bytes. IsMap (leading_lines bytes) ranges) → Leaves input left (λ bytes rest. rest ≡ after_map bytes) → WhyNoSplit command e
+      → Explains handed (split_words command) input left out out e
+  no_split_of command input left out ranges fault.Memory some m l h = ([], nothing out, split_request command some, inl (refl, left_after_map input left l))
+  no_split_of command None left out ranges fault.NotMultiKey some m l h = (nothing out, tt)
+  no_split_of command (Some bytes) None out ranges fault.NotMultiKey some m l h = absurd l
+  no_split_of command (Some bytes) (Some rest) out ranges fault.NotMultiKey some m l h = (nothing out, rw l (not_multi_key command bytes ranges some m h))
+  no_split_of command input left out ranges fault.Usage some m l h = absurd h
+  no_split_of command input left out ranges (fault.BadMapLine n) some m l h = absurd h
+  no_split_of command input left out ranges (fault.Command n r) some m l h = absurd h
+  no_split_of command input left out ranges fault.Input some m l h = absurd h
+  no_split_of command input left out ranges fault.Output some m l h = absurd h
 
-cause_anyhow : (e : Fault) → IsCaused ⊤ ⊤ e
-cause_anyhow fault.Usage = tt
-cause_anyhow (fault.BadMapLine n) = tt
-cause_anyhow fault.NotMultiKey = tt
-cause_anyhow fault.Memory = tt
-cause_anyhow fault.Input = tt
-cause_anyhow fault.Output = tt
+  no_answer_of : (words : List (List ℕ)) (asked : Question) (input left out : Option (List ℕ)) (ranges : List RangeNodes) (e : Fault) → Asks words asked → IfSome input (λ bytes. IsMap (leading_lines bytes) ranges) → Leaves input left (λ bytes rest. rest ≡ after_map bytes) → WhyNoAnswer asked e
+      → Explains handed words input left out out e
+  no_answer_of words (Node key) input left out ranges e a m l h = rw (a, h) ([], nothing out, node_request key.now, inl (refl, left_after_map input left l))
+  no_answer_of words (Split command) input left out ranges e (a, some) m l h = rw a (no_split_of (map string_bytes command.now) input left out ranges e some m l h)
 
-pub serves_anyhow : (reads writes tells : Type 0) (words : List (List ℕ)) (input left out new err told : Option (List ℕ)) (status : ℕ) → Serves reads writes tells words input left out new err told status → Serves ⊤ ⊤ ⊤ words input left out new err told status
-serves_anyhow reads writes tells words input left out new err told status (inl a) = inl a
-serves_anyhow reads writes tells words input left out new err told status (inr t) =
-    inr record { fault = t.fault; explained = t.explained; caused = cause_anyhow t.fault; errs = t.errs; told = t.told; text = tells_anyhow tells t.errs t.fault t.text; failed = t.failed }
+  pub no_answer : (words : List (List ℕ)) (asked : Question) (input left out : Option (List ℕ)) (ranges : List RangeNodes) (e : Fault) (r : Result ℕ Fault) → Asks words asked → IfSome input (λ bytes. IsMap (leading_lines bytes) ranges) → Leaves input left (λ bytes rest. rest ≡ after_map bytes) → WhyNoAnswer asked e
+      → IsErrAnd r (λ x. x ≡ e) → MatchResult r (HasAnswer handed words input left out out) (Explains handed words input left out out)
+  no_answer words asked input left out ranges e (Ok x) a m l h is = absurd is
+  no_answer words asked input left out ranges e (Err x) a m l h is = rw is (no_answer_of words asked input left out ranges e a m l h)
+
+  -- a want of lines is not that of a stream
+  cause_of_split : (reads writes : Type 0) (command : List (List ℕ)) (e : Fault) → WhyNoSplit command e → IsCaused reads writes e
+  cause_of_split reads writes command fault.Usage h = tt
+  cause_of_split reads writes command (fault.BadMapLine n) h = tt
+  cause_of_split reads writes command fault.NotMultiKey h = tt
+  cause_of_split reads writes command (fault.Command n r) h = tt
+  cause_of_split reads writes command fault.Memory h = tt
+  cause_of_split reads writes command fault.Input h = absurd h
+  cause_of_split reads writes command fault.Output h = absurd h
+
+  cause_of_answer : (reads writes : Type 0) (asked : Question) (e : Fault) → WhyNoAnswer asked e → IsCaused reads writes e
+  cause_of_answer reads writes (Node key) e h = rw h tt
+  cause_of_answer reads writes (Split command) e h = cause_of_split reads writes (map string_bytes command.now) e h
+
+  pub caused_by_answer : (reads writes : Type 0) (asked : Question) (e : Fault) (r : Result ℕ Fault) → WhyNoAnswer asked e → IsErrAnd r (λ x. x ≡ e) → IfErr r (IsCaused reads writes)
+  caused_by_answer reads writes asked e (Ok x) h is = absurd is
+  caused_by_answer reads writes asked e (Err x) h is = rw is (cause_of_answer reads writes asked e h)
+
+  pub answered : (words : List (List ℕ)) (input left out new : Option (List ℕ)) (ranges : List RangeNodes) (text : List ℕ) (status : ℕ) → IfSome input (λ bytes. IsMap (leading_lines bytes) ranges) → Leaves input left (λ bytes rest. rest ≡ after_map bytes)
+      → IsAnswer (insert_ranges [] ranges) words text status → Appends out new text → HasAnswer handed words input left out new status
+  answered words None left out new ranges text status m l a t = (text, t, tt)
+  answered words (Some bytes) None out new ranges text status m l a t = absurd l
+  answered words (Some bytes) (Some rest) out new ranges text status m l a t = (text, t, rw l (answer words bytes text status ranges m a))
+
+  -- a beginning of the answer was written
+  begun : (words : List (List ℕ)) (input left out new : Option (List ℕ)) (ranges : List RangeNodes) (text : List ℕ) (status k : ℕ) → IfSome input (λ bytes. IsMap (leading_lines bytes) ranges) → Leaves input left (λ bytes rest. rest ≡ after_map bytes)
+      → IsAnswer (insert_ranges [] ranges) words text status → Appends out new (take k text) → Explains handed words input left out new fault.Output
+  begun words None left out new ranges text status k m l a t = (take k text, t, inl tt)
+  begun words (Some bytes) None out new ranges text status k m l a t = absurd l
+  begun words (Some bytes) (Some rest) out new ranges text status k m l a t =
+      (take k text, t, inl (rw l record { whole = text; status = status; called_for = answer words bytes text status ranges m a; count = k; begins = refl }))
+
+  pub not_written : (words : List (List ℕ)) (input left out new : Option (List ℕ)) (ranges : List RangeNodes) (text : List ℕ) (status k : ℕ) (e : Fault) (r : Result ℕ Fault) → IfSome input (λ bytes. IsMap (leading_lines bytes) ranges)
+      → Leaves input left (λ bytes rest. rest ≡ after_map bytes) → IsAnswer (insert_ranges [] ranges) words text status → Appends out new (take k text) → e ≡ fault.Output → IsErrAnd r (λ x. x ≡ e) → MatchResult r (HasAnswer handed words input left out new) (Explains handed words input left out new)
+  not_written words input left out new ranges text status k e (Ok x) m l a t f is = absurd is
+  not_written words input left out new ranges text status k e (Err x) m l a t f is = rw (is, f) (begun words input left out new ranges text status k m l a t)
+
+  pub caused_by_output : (reads writes : Type 0) (e : Fault) (r : Result ℕ Fault) → e ≡ fault.Output → writes → IsErrAnd r (λ x. x ≡ e) → IfErr r (IsCaused reads writes)
+  caused_by_output reads writes e (Ok x) f h is = absurd is
+  caused_by_output reads writes e (Err x) f h is = rw (is, f) h
+
+  -- The run of commands.
+  pub ran_to_end : (words : List (List ℕ)) (direction : Direction) (input mid left out new : Option (List ℕ)) (ranges : List RangeNodes) → IsRunWords direction words → IfSome input (λ bytes. IsMap (leading_lines bytes) ranges) → Leaves input mid (λ bytes rest. rest ≡ after_map bytes)
+      → RunEnds handed direction (insert_ranges [] ranges) mid left out new → HasAnswer handed words input left out new 0
+  ran_to_end words direction input mid left out new ranges asked m l (text, written, all) =
+      (text, written, after_the_map _ _ _ input mid left m l all (λ bytes rest is_map run. run_to_end words direction bytes rest text ranges asked is_map run))
+
+  stopped_early : (words : List (List ℕ)) (direction : Direction) (first : ℕ) (input mid left out new : Option (List ℕ)) (ranges : List RangeNodes) (e : Fault) → IsRunWords direction words → first ≡ length ranges + 2 → IfSome input (λ bytes. IsMap (leading_lines bytes) ranges)
+      → Leaves input mid (λ bytes rest. rest ≡ after_map bytes) → RunStops handed direction (insert_ranges [] ranges) first mid left out new e → Explains handed words input left out new e
+  stopped_early words direction first input mid left out new ranges fault.Usage asked f m l (text, written, stopped) = absurd stopped
+  stopped_early words direction first input mid left out new ranges (fault.BadMapLine n) asked f m l (text, written, stopped) = absurd stopped
+  stopped_early words direction first input mid left out new ranges fault.NotMultiKey asked f m l (text, written, stopped) = absurd stopped
+  stopped_early words direction first input mid left out new ranges (fault.Command n r) asked f m l (text, written, stopped) = (
+    text,
+    written,
+    (direction, asked, after_the_map _ _ _ input mid left m l stopped (λ bytes rest is_map at. record { ranges = ranges; is_map = is_map; stops = begins_at_refused handed direction _ first _ rest text n r at })),
+    after_the_map _ _ _ input mid left m l stopped (λ bytes rest is_map at. run_refused words direction bytes rest text ranges n r asked is_map (subst (λ (number : ℕ). RefusedAt handed direction (insert_ranges [] ranges) number (after_map bytes) rest text n r) (first_line bytes ranges first f is_map) at)),
+  )
+  stopped_early words direction first input mid left out new ranges fault.Memory asked f m l (text, written, stopped) =
+      (text, written, run_request direction words asked, inr (direction, asked, after_the_map _ _ _ input mid left m l stopped (λ bytes rest is_map stops. record { ranges = ranges; is_map = is_map; stops = stops })))
+  stopped_early words direction first input mid left out new ranges fault.Input asked f m l (text, written, stopped) =
+      (text, written, run_request direction words asked, inr (direction, asked, after_the_map _ _ _ input mid left m l stopped (λ bytes rest is_map stops. record { ranges = ranges; is_map = is_map; stops = stops })))
+  stopped_early words direction first input mid left out new ranges fault.Output asked f m l (text, written, stopped) =
+      (text, written, inr (direction, asked, after_the_map _ _ _ input mid left m l stopped (λ bytes rest is_map cut. record { ranges = ranges; is_map = is_map; cut = cut })))
+
+  pub run_stopped : (words : List (List ℕ)) (direction : Direction) (first : ℕ) (input mid left out new : Option (List ℕ)) (ranges : List RangeNodes) (e : Fault) (r : Result ℕ Fault) → IsRunWords direction words → first ≡ length ranges + 2 → IfSome input (λ bytes. IsMap (leading_lines bytes) ranges)
+      → Leaves input mid (λ bytes rest. rest ≡ after_map bytes) → RunStops handed direction (insert_ranges [] ranges) first mid left out new e → IsErrAnd r (λ x. x ≡ e) → MatchResult r (HasAnswer handed words input left out new) (Explains handed words input left out new)
+  run_stopped words direction first input mid left out new ranges e (Ok x) asked f m l h is = absurd is
+  run_stopped words direction first input mid left out new ranges e (Err x) asked f m l h is = rw is (stopped_early words direction first input mid left out new ranges e asked f m l h)
+
+  pub caused_as : (reads writes : Type 0) (e : Fault) (r : Result ℕ Fault) → IsCaused reads writes e → IsErrAnd r (λ x. x ≡ e) → IfErr r (IsCaused reads writes)
+  caused_as reads writes e (Ok x) h is = absurd is
+  caused_as reads writes e (Err x) h is = rw is h
+
+  -- The run as a whole.
+  called_as : (words : List (List ℕ)) (input left : Option (List ℕ)) (outs errs line : List ℕ) → errs ≡ line → Leaves input left (λ bytes rest. Output handed words bytes rest outs line 2) → Leaves input left (λ bytes rest. Output handed words bytes rest outs errs 2)
+  called_as words None left outs errs line e h = tt
+  called_as words (Some bytes) None outs errs line e h = absurd h
+  called_as words (Some bytes) (Some rest) outs errs line e h = rw e h
+
+  pub served_answer : (reads writes tells : Type 0) (words : List (List ℕ)) (input left out new err : Option (List ℕ)) (status : ℕ) → HasAnswer handed words input left out new status → Serves reads writes tells handed words input left out new err err status
+  served_answer reads writes tells words input left out new err status (outs, written, called_for) = inl record { outs = outs; errs = []; written = written; told = nothing err; called_for = called_for }
+
+  pub served_fault : (reads writes tells : Type 0) (words : List (List ℕ)) (input left out new err told : Option (List ℕ)) (e : Fault) → Explains handed words input left out new e → IsCaused reads writes e → Reports tells err told e → Serves reads writes tells handed words input left out new err told 2
+  served_fault reads writes tells words input left out new err told fault.Usage x c (errs, a, inl (inl same)) =
+      inl record { outs = []; errs = errs; written = x.0; told = a; called_for = called_as words input left [] errs usage_line same x.1 }
+  served_fault reads writes tells words input left out new err told (fault.BadMapLine n) x c (errs, a, inl (inl same)) =
+      inl record { outs = []; errs = errs; written = x.0; told = a; called_for = called_as words input left [] errs (bad_map_line n) same x.1 }
+  served_fault reads writes tells words input left out new err told fault.NotMultiKey x c (errs, a, inl (inl same)) =
+      inl record { outs = []; errs = errs; written = x.0; told = a; called_for = called_as words input left [] errs not_multi_key_line same x.1 }
+  served_fault reads writes tells words input left out new err told (fault.Command n r) x c (errs, a, inl (inl same)) =
+      inl record { outs = x.0; errs = errs; written = x.1; told = a; called_for = called_as words input left x.0 errs (refused_line n r) same x.3 }
+  served_fault reads writes tells words input left out new err told e x c (errs, a, text) = inr record { fault = e; explained = x; caused = c; errs = errs; told = a; text = text; failed = refl }
+
+  -- Where no stream may fail, only memory can run out.
+  told_whole : (tells : Type 0) (text line : List ℕ) → ¬ tells → IsTold tells text line → text ≡ line
+  told_whole tells text line whole (inl same) = same
+  told_whole tells text line whole (inr (may, part)) = absurd (whole may)
+
+  ran_out : (words : List (List ℕ)) (input left out new err told : Option (List ℕ)) (outs errs : List ℕ) (status : ℕ) → Appends out new outs → IsSoFar handed words input left outs → Appends err told errs → errs ≡ fault_line fault.Memory → status ≡ 2
+      → RanOutOfMemory handed words input left out new err told status
+  ran_out words input left out new err told outs errs status w s a same failed = record { outs = outs; written = w; so_far = s; told = rw same at a; failed = failed }
+
+  so_far : (words : List (List ℕ)) (input left : Option (List ℕ)) (outs : List ℕ) → IsUnfinished handed words input left outs → IsSoFar handed words input left outs
+  so_far words input left outs (inl (none, l)) = inl none
+  so_far words input left outs (inr begun) = inr begun
+
+  steady_fault : (reads writes tells : Type 0) (words : List (List ℕ)) (input left out new err told : Option (List ℕ)) (status : ℕ) (e : Fault) (errs : List ℕ) → ¬ reads → ¬ writes → ¬ tells → Explains handed words input left out new e → IsCaused reads writes e → Appends err told errs → TellsOf tells errs e → status ≡ 2
+      → HasOutput handed words input left out new err told status ⊎ RanOutOfMemory handed words input left out new err told status
+  steady_fault reads writes tells words input left out new err told status fault.Usage errs r w t x c a (inl line) failed =
+      inl record { outs = []; errs = errs; written = x.0; told = a; called_for = rw failed (called_as words input left [] errs usage_line (told_whole tells errs usage_line t line) x.1) }
+  steady_fault reads writes tells words input left out new err told status (fault.BadMapLine n) errs r w t x c a (inl line) failed =
+      inl record { outs = []; errs = errs; written = x.0; told = a; called_for = rw failed (called_as words input left [] errs (bad_map_line n) (told_whole tells errs (bad_map_line n) t line) x.1) }
+  steady_fault reads writes tells words input left out new err told status fault.NotMultiKey errs r w t x c a (inl line) failed =
+      inl record { outs = []; errs = errs; written = x.0; told = a; called_for = rw failed (called_as words input left [] errs not_multi_key_line (told_whole tells errs not_multi_key_line t line) x.1) }
+  steady_fault reads writes tells words input left out new err told status fault.Memory errs r w t x c a (inl line) failed = inr (ran_out words input left out new err told x.0 errs status x.1 (so_far words input left x.0 x.3) a (told_whole tells errs (fault_line fault.Memory) t line) failed)
+  steady_fault reads writes tells words input left out new err told status fault.Input errs r w t x c a text failed = absurd (r c)
+  steady_fault reads writes tells words input left out new err told status fault.Output errs r w t x c a text failed = absurd (w c)
+  steady_fault reads writes tells words input left out new err told status (fault.BadMapLine n) errs r w t x c a (inr (b, line)) failed =
+      inr (ran_out words input left out new err told [] errs status x.0 (inl refl) a (told_whole tells errs (fault_line fault.Memory) t line) failed)
+  steady_fault reads writes tells words input left out new err told status (fault.Command n k) errs r w t x c a (inl line) failed =
+      inl record { outs = x.0; errs = errs; written = x.1; told = a; called_for = rw failed (called_as words input left x.0 errs (refused_line n k) (told_whole tells errs (refused_line n k) t line) x.3) }
+  steady_fault reads writes tells words input left out new err told status (fault.Command n k) errs r w t x c a (inr (b, line)) failed =
+      inr (ran_out words input left out new err told x.0 errs status x.1 (inr x.2) a (told_whole tells errs (fault_line fault.Memory) t line) failed)
+  steady_fault reads writes tells words input left out new err told status fault.Usage errs r w t x c a (inr (b, line)) failed = absurd b
+  steady_fault reads writes tells words input left out new err told status fault.NotMultiKey errs r w t x c a (inr (b, line)) failed = absurd b
+  steady_fault reads writes tells words input left out new err told status fault.Memory errs r w t x c a (inr (b, line)) failed = absurd b
+
+  pub served_steadily : (reads writes tells : Type 0) (words : List (List ℕ)) (input left out new err told : Option (List ℕ)) (status : ℕ) → Serves reads writes tells handed words input left out new err told status → ¬ reads → ¬ writes → ¬ tells
+      → HasOutput handed words input left out new err told status ⊎ RanOutOfMemory handed words input left out new err told status
+  served_steadily reads writes tells words input left out new err told status (inl a) r w t = inl a
+  served_steadily reads writes tells words input left out new err told status (inr f) r w t = steady_fault reads writes tells words input left out new err told status f.fault f.errs r w t f.explained f.caused f.told f.text f.failed
+
+  -- Where nothing is known of failures, each may have been.
+  told_anyhow : (failed : Type 0) (text line : List ℕ) → IsTold failed text line → IsTold ⊤ text line
+  told_anyhow failed text line (inl whole) = inl whole
+  told_anyhow failed text line (inr (f, part)) = inr (tt, part)
+
+  tells_anyhow : (failed : Type 0) (text : List ℕ) (e : Fault) → TellsOf failed text e → TellsOf ⊤ text e
+  tells_anyhow failed text e (inl t) = inl (told_anyhow failed text (fault_line e) t)
+  tells_anyhow failed text e (inr (b, t)) = inr (b, told_anyhow failed text (fault_line fault.Memory) t)
+
+  cause_anyhow : (e : Fault) → IsCaused ⊤ ⊤ e
+  cause_anyhow fault.Usage = tt
+  cause_anyhow (fault.BadMapLine n) = tt
+  cause_anyhow fault.NotMultiKey = tt
+  cause_anyhow (fault.Command n r) = tt
+  cause_anyhow fault.Memory = tt
+  cause_anyhow fault.Input = tt
+  cause_anyhow fault.Output = tt
+
+  pub serves_anyhow : (reads writes tells : Type 0) (words : List (List ℕ)) (input left out new err told : Option (List ℕ)) (status : ℕ) → Serves reads writes tells handed words input left out new err told status → Serves ⊤ ⊤ ⊤ handed words input left out new err told status
+  serves_anyhow reads writes tells words input left out new err told status (inl a) = inl a
+  serves_anyhow reads writes tells words input left out new err told status (inr t) =
+      inr record { fault = t.fault; explained = t.explained; caused = cause_anyhow t.fault; errs = t.errs; told = t.told; text = tells_anyhow tells t.errs t.fault t.text; failed = t.failed }

@@ -3,6 +3,8 @@ pub mod Lines
 pub mod MapLines
 pub mod Output
 pub mod Requests
+pub mod RunFaults
+pub mod Runs
 pub mod Serves
 pub mod Split
 pub mod Streams

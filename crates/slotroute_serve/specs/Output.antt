@@ -1,13 +1,19 @@
 -- What the program reads and writes, and its status, for its words and its input.
-use Rattle.std.specs.Prelude.{◌≡◌, ◌≢◌, ℕ, List, [], ◌∷◌, ◌++◌, None, codes, decimal}
+use Rattle.std.specs.Prelude.{◌≡◌, ◌≢◌, ℕ, ◌+◌, Bool, List, [], ◌∷◌, ◌++◌, None, Some, codes, decimal, length}
 use Rattle.cluster_map.specs.Address.{Address, display_text}
 use Rattle.cluster_map.specs.KeySlot.{IsKeySlot}
+use Rattle.cluster_map.specs.Number.{number_in}
 use Rattle.cluster_map.specs.SlotNodes.{SlotNodes, RangeNodes, insert_ranges}
 use Rattle.cluster_map.specs.RangeMap.{Entry, IsUncovered}
 use Rattle.cluster_map.specs.RouteNode.{IsNodeOfRoute}
 use Rattle.cluster_slots.specs.declared.slot.SlotAddr.TheVariants.{Master}
+use Rattle.slotroute_run.specs.declared.direction.Direction.{Direction}
+use Rattle.slotroute_run.specs.declared.direction.Direction.TheVariants.{Forward, Reverse}
+use Rattle.slotroute_run.specs.declared.refusal.Refusal.{Refusal}
+use Rattle.slotroute_run.specs.declared.refusal.Refusal.TheVariants.{NotMultiKey, NotCovered, NodeRefused, BadReply}
 use Rattle.slotroute_serve.specs.Lines.{line_feed, space, leading_lines, after_lines, after_map}
 use Rattle.slotroute_serve.specs.MapLines.{IsMap, IsFirstBadLine}
+use Rattle.slotroute_serve.specs.Runs.{AllRun, RefusedAt}
 use Rattle.slotroute_serve.specs.Split.{IsSplitAnswer, split_routes}
 
 -- the words `node KEY`
@@ -18,10 +24,34 @@ node_words key = codes "node" ∷ key ∷ []
 abbrev pub split_words : List (List ℕ) → List (List ℕ)
 split_words command = codes "split" ∷ command
 
--- the words are `node KEY`, or `split WORD ..` with one word or more
+-- the word that names a strategy: `first`, `shard`, or `pick=N` with a number of 64 bits
+pub data IsStrategyWord : List ℕ → Type 0 where
+  first_replica : IsStrategyWord (codes "first")
+  shard_aware : IsStrategyWord (codes "shard")
+  pick_index : (digits : List ℕ) (index : ℕ) → number_in 64 digits ≡ Some index
+      → IsStrategyWord (codes "pick=" ++ digits)
+
+abbrev pub direction_word : Direction → List ℕ
+direction_word Forward = codes "forward"
+direction_word Reverse = codes "reverse"
+
+-- the words after `run`: the direction, and perhaps one that names a strategy
+pub data IsDirected (direction : Direction) : List (List ℕ) → Type 0 where
+  alone : IsDirected direction (direction_word direction ∷ [])
+  with_strategy : (word : List ℕ) → IsStrategyWord word
+      → IsDirected direction (direction_word direction ∷ word ∷ [])
+
+-- the words `run ..` of this direction
+abbrev pub IsRunWords : Direction → List (List ℕ) → Type 0
+IsRunWords direction words =
+    (directed : List (List ℕ)) × (words ≡ codes "run" ∷ directed) × IsDirected direction directed
+
+-- the words are `node KEY`, `split WORD ..` with one word or more, or those of `run`
 pub data IsRequest : List (List ℕ) → Type 0 where
   node_request : (key : List ℕ) → IsRequest (node_words key)
   split_request : (command : List (List ℕ)) → command ≢ [] → IsRequest (split_words command)
+  run_request : (direction : Direction) (words : List (List ℕ)) → IsRunWords direction words
+      → IsRequest words
 
 abbrev pub slot_line : ℕ → List ℕ → List ℕ
 slot_line slot node = codes "slot " ++ decimal slot ++ space ∷ node ++ line_feed ∷ []
@@ -35,6 +65,18 @@ bad_map_line number = codes "slotroute: bad map line " ++ decimal number ++ line
 
 abbrev pub not_multi_key_line : List ℕ
 not_multi_key_line = codes "slotroute: not a multi-key command\n"
+
+-- why a command is refused, as its line tells it
+abbrev pub refusal_text : Refusal → List ℕ
+refusal_text NotMultiKey = codes "not a multi-key command"
+refusal_text (NotCovered slot) = codes "slot " ++ decimal slot ++ codes " not covered"
+refusal_text NodeRefused = codes "node refused"
+refusal_text BadReply = codes "bad reply"
+
+abbrev pub refused_line : ℕ → Refusal → List ℕ
+refused_line number refusal =
+    codes "slotroute: line " ++ decimal number ++ codes ": " ++ refusal_text refusal
+    ++ line_feed ∷ []
 
 -- the line and the status that answer for a key: its slot, and the primary of the range that
 -- answers for the slot
@@ -54,16 +96,31 @@ pub data IsAnswer (entries : List (Entry SlotNodes)) : List (List ℕ) → List 
       → IsSplitAnswer entries command lines status
       → IsAnswer entries (split_words command) lines status
 
--- what is left of the input, what goes to the output and to the error stream, and the status
-pub data Output : List (List ℕ) → List ℕ → List ℕ → List ℕ → List ℕ → ℕ → Type 0 where
+-- the number of the line that follows those of the map
+abbrev pub first_after_map : List ℕ → ℕ
+first_after_map input = length (leading_lines input) + 2
+
+-- what is left of the input, what goes to the output and to the error stream, and the status, where
+-- a strategy is handed in or not
+pub data Output (handed : Bool) : List (List ℕ) → List ℕ → List ℕ → List ℕ → List ℕ → ℕ → Type 0 where
   usage : (words : List (List ℕ)) (input : List ℕ) → ¬ (IsRequest words)
-      → Output words input input [] usage_line 2
+      → Output handed words input input [] usage_line 2
   bad_map : (words : List (List ℕ)) (input : List ℕ) (number : ℕ) → IsRequest words
       → IsFirstBadLine (leading_lines input) number
-      → Output words input (after_lines number input) [] (bad_map_line number) 2
+      → Output handed words input (after_lines number input) [] (bad_map_line number) 2
   not_multi_key : (command : List (List ℕ)) (input : List ℕ) (ranges : List RangeNodes)
       → command ≢ [] → IsMap (leading_lines input) ranges → split_routes command ≡ None
-      → Output (split_words command) input (after_map input) [] not_multi_key_line 2
+      → Output handed (split_words command) input (after_map input) [] not_multi_key_line 2
   answer : (words : List (List ℕ)) (input text : List ℕ) (status : ℕ) (ranges : List RangeNodes)
       → IsMap (leading_lines input) ranges → IsAnswer (insert_ranges [] ranges) words text status
-      → Output words input (after_map input) text [] status
+      → Output handed words input (after_map input) text [] status
+  run_to_end : (words : List (List ℕ)) (direction : Direction) (input left text : List ℕ)
+      (ranges : List RangeNodes) → IsRunWords direction words → IsMap (leading_lines input) ranges
+      → AllRun handed direction (insert_ranges [] ranges) (after_map input) left text
+      → Output handed words input left text [] 0
+  run_refused : (words : List (List ℕ)) (direction : Direction) (input left text : List ℕ)
+      (ranges : List RangeNodes) (number : ℕ) (refusal : Refusal) → IsRunWords direction words
+      → IsMap (leading_lines input) ranges
+      → RefusedAt handed direction (insert_ranges [] ranges) (first_after_map input)
+      (after_map input) left text number refusal
+      → Output handed words input left text (refused_line number refusal) 2

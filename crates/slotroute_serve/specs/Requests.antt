@@ -1,19 +1,26 @@
 -- What the words ask for, as the code holds it.
 use Rattle.std.specs.Prelude.{◌≡◌, ◌≢◌, ℕ, List, [], map, string_bytes}
 use Rattle.slotroute_serve.specs.Faults.{WhyNoSplit}
-use Rattle.slotroute_serve.specs.Output.{node_words, split_words}
+use Rattle.slotroute_serve.specs.Output.{node_words, split_words, IsRunWords}
 use Rattle.slotroute_serve.specs.declared.fault.Fault.{Fault}
 use Rattle.slotroute_serve.specs.declared.fault.Fault.TheVariants.{Memory}
+use Rattle.slotroute_serve.specs.declared.request.Question.{Question}
+use Rattle.slotroute_serve.specs.declared.request.Question.TheVariants.{Node, Split}
 use Rattle.slotroute_serve.specs.declared.request.Request.{Request}
-use Rattle.slotroute_serve.specs.declared.request.Request.TheVariants.{Node, Split}
+use Rattle.slotroute_serve.specs.declared.request.Request.TheVariants.{Answer, Run}
 
--- the words are those of the request
-abbrev pub Asks : List (List ℕ) → Request → Type 0
+-- the words are those of the question
+abbrev pub Asks : List (List ℕ) → Question → Type 0
 Asks words (Node key) = words ≡ node_words key.now
 Asks words (Split command) =
     (words ≡ split_words (map string_bytes command.now)) × (map string_bytes command.now ≢ [])
 
--- why a request has no answer on a map
-abbrev pub WhyNoAnswer : Request → Fault → Type 0
+-- the words are those of the request
+abbrev pub AsksFor : List (List ℕ) → Request → Type 0
+AsksFor words (Answer question) = Asks words question
+AsksFor words (Run direction) = IsRunWords direction words
+
+-- why a question has no answer on a map
+abbrev pub WhyNoAnswer : Question → Fault → Type 0
 WhyNoAnswer (Node key) fault = fault ≡ Memory
 WhyNoAnswer (Split command) fault = WhyNoSplit (map string_bytes command.now) fault

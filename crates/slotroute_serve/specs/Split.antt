@@ -1,5 +1,5 @@
 -- What the program answers for a command over many keys.
-use Rattle.std.specs.Prelude.{◌≡◌, ℕ, List, ◌∷◌, [], ◌++◌, Bool, if◌then◌else◌, Option, None, Some, MatchOption, codes, decimal, map, is_none}
+use Rattle.std.specs.Prelude.{◌≡◌, ℕ, List, ◌∷◌, [], ◌++◌, if◌then◌else◌, Option, None, Some, MatchOption, codes, decimal, map, is_none}
 use Rattle.std.specs.List.{AllZip, flat_map, list_any}
 use Rattle.cluster_map.specs.Address.{Address, display_text}
 use Rattle.cluster_map.specs.SlotNodes.{SlotNodes}
@@ -8,12 +8,8 @@ use Rattle.cluster_map.specs.RouteNode.{IsNodeOfRoute}
 use Rattle.cluster_map.specs.SlotRoute.{SlotRoute}
 use Rattle.redis_cluster.specs.Command.{Arguments}
 use Rattle.redis_cluster.specs.Complete.{multi_slot_routes, part_by_name}
-use Rattle.redis_cluster.specs.ReadOnly.{is_among}
+use Rattle.slotroute_run.specs.Commands.{only_reads}
 use Rattle.slotroute_serve.specs.Lines.{line_feed, space}
-
--- the names of the commands that only read
-abbrev pub only_reads : List ℕ → Bool
-only_reads = is_among (codes "MGET" ∷ codes "JSON.MGET" ∷ codes "EXISTS" ∷ [])
 
 -- the routes of the parts of a command with these words, if it is a complete one over many keys
 abbrev pub split_routes : List (List ℕ) → Option (List (SlotRoute × List ℕ))

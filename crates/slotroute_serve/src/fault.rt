@@ -1,6 +1,7 @@
 ghost use Rattle.std.specs.Prelude.{◌≡◌};
 ghost use Rattle.slotroute_serve.specs.declared.fault.Fault.TheVariants.{Memory};
 
+use slotroute_run::Refusal;
 use std::alloc::{AllocError, AllocFailed};
 use std::io;
 
@@ -13,6 +14,8 @@ pub enum Fault {
     BadMapLine(u64),
     /// The command of `split` is not one over many keys, or not a complete one.
     NotMultiKey,
+    /// The command of this line of `run`, counted from 1, is refused.
+    Command(u64, Refusal),
     /// Memory ran out.
     Memory,
     /// The input could not be read.

@@ -5,7 +5,7 @@ ghost use Rattle.cluster_map.specs.Address.{Address};
 ghost use Rattle.cluster_map.specs.SlotNodes.{RangeNodes};
 ghost use Rattle.slotroute_serve.specs.Lines.{line_of, fields_of, leading_lines, after_map, StopsInLine};
 ghost use Rattle.slotroute_serve.specs.MapLines.{IsNodeField, IsMapLine, IsMap};
-ghost use Rattle.slotroute_serve.specs.Faults.{WhyNoMap, IsCaused, IsLeftAt};
+ghost use Rattle.slotroute_serve.specs.Faults.{WhyNoMap, IsMapFault, IsLeftAt};
 ghost use Rattle.slotroute_serve.specs.Streams.{MayFailToRead, Leaves};
 
 use crate::fault::Fault;
@@ -21,7 +21,7 @@ pub fn read_map<S: Source>(alloc: Global, source: &mut S) -> Result<Vec<SlotRang
     ensures map { IfSome (S.remaining source.old) (λ input. MatchResult result
         (λ ranges. IsMap (leading_lines input) ranges.items)
         (WhyNoMap (leading_lines input))) }
-    ensures cause { IfErr result (IsCaused (MayFailToRead S.fails) ⊥) }
+    ensures cause { IfErr result (IsMapFault (MayFailToRead S.fails)) }
     ensures rest { Leaves (S.remaining source.old) (S.remaining source.new) (λ input left.
         MatchResult result (λ _. left ≡ after_map input) (IsLeftAt input left)) }
 {
@@ -41,7 +41,7 @@ pub fn read_map<S: Source>(alloc: Global, source: &mut S) -> Result<Vec<SlotRang
 }
 
 /// Reads one line in place of what `line` held, or answers that the input is at its end.
-fn next_line<S: Source>(source: &mut S, line: &mut Vec<u8>) -> io::Result<bool>
+pub(super) fn next_line<S: Source>(source: &mut S, line: &mut Vec<u8>) -> io::Result<bool>
     ensures text { OnOk result
         (IfSome (S.remaining source.old) (λ input. line.new.items ≡ line_of input)) }
     ensures there { IfOk result (λ there. IfSome (S.remaining source.old)
@@ -69,7 +69,7 @@ fn strip(line: &mut Vec<u8>, byte: u8)
     }
 }
 
-fn fields_in(alloc: Global, line: &[u8]) -> Result<Vec<&[u8]>, AllocError>
+pub(super) fn fields_in(alloc: Global, line: &[u8]) -> Result<Vec<&[u8]>, AllocError>
     ensures { IfOk result (λ fields. map (λ field. field.now) fields.items ≡ fields_of line.now) }
 {
     line.split(|byte| *byte == b' ')

@@ -6,6 +6,7 @@ mod input;
 mod output;
 mod program;
 mod request;
+mod run;
 mod split;
 mod streams;
 

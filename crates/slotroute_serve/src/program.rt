@@ -1,18 +1,21 @@
-ghost use Rattle.std.specs.Prelude.{◌≡◌, ◌⊎◌, ℕ, List, ⊤, map, string_bytes, IfOk, IfErr, OnErr, MatchResult};
+ghost use Rattle.std.specs.Prelude.{◌≡◌, ◌⊎◌, ℕ, List, ⊤, map, string_bytes, is_some, IfOk, IfErr, OnErr, MatchResult};
 ghost use Rattle.std.specs.Cow.{cow_str_bytes};
-ghost use Rattle.slotroute_serve.specs.Output.{IsRequest, IsAnswer, IsNodeAnswer};
+ghost use Rattle.slotroute_serve.specs.Output.{IsRequest, IsAnswer, IsNodeAnswer, refused_line};
 ghost use Rattle.slotroute_serve.specs.Faults.{fault_line, IsCaused};
 ghost use Rattle.slotroute_serve.specs.Requests.{Asks, WhyNoAnswer};
-ghost use Rattle.slotroute_serve.specs.Serves.{Serves, HasOutput, RanOutOfMemory, HasAnswer, Explains, Reports, IsBadMapLine};
+ghost use Rattle.slotroute_serve.specs.RunFaults.{RunEnds, RunStops};
+ghost use Rattle.slotroute_serve.specs.Serves.{Serves, HasOutput, RanOutOfMemory, HasAnswer, Explains, Reports, IsNumbered};
 ghost use Rattle.slotroute_serve.specs.Streams.{MayFailToRead, MayFailToWrite};
 
 use crate::fault::Fault;
 use crate::input::read_map;
 use crate::output::emit;
-use crate::request::{Request, request_of};
+use crate::request::{Question, Request, request_of};
+use crate::run::run_commands;
 use crate::split::split_answer;
 use crate::streams::{Sink, Source};
-use cluster_map::{Route, SlotAddr, SlotMap};
+use cluster_map::{ReadRoutingStrategy, Route, SlotAddr, SlotMap};
+use slotroute_run::{Direction, Refusal};
 use std::alloc::{AllocError, Global};
 use std::borrow::CowStr;
 use std::io::{BufRead, Write};
@@ -23,20 +26,23 @@ pub const USAGE: &str =
 
 /// Runs the program on the words after its name, and gives its status.
 ///
-/// Answers go to `out`, and a fault goes to `err` as one line.
+/// Answers go to `out`, and a fault goes to `err` as one line. A strategy that is handed in picks
+/// the nodes that the reads of `run` go to, whatever its last word is; it is told the shards of the
+/// map once, before the first command.
 pub fn serve<R: BufRead, O: Write, E: Write>(
     alloc: Global,
     words: &[String],
     reader: &mut R,
     out: &mut O,
     err: &mut E,
+    strategy: Option<Box<dyn ReadRoutingStrategy>>,
 ) -> u8
-    ensures served { Serves ⊤ ⊤ ⊤ (map string_bytes words.now)
+    ensures served { Serves ⊤ ⊤ ⊤ (is_some strategy) (map string_bytes words.now)
         (R.remaining reader.old) (R.remaining reader.new)
         (O.contents out.old) (O.contents out.new) (E.contents err.old) (E.contents err.new) result }
     ensures untouched { ¬ (IsRequest (map string_bytes words.now)) → reader.new ≡ reader.old }
 {
-    serve_streams(alloc, words, reader, out, err)
+    serve_streams(alloc, words, reader, out, err, strategy)
 }
 
 /// `serve` over streams that tell contracts how they may fail. Where they may not, only memory can
@@ -47,20 +53,22 @@ pub fn serve_streams<R: Source, O: Sink, E: Sink>(
     reader: &mut R,
     out: &mut O,
     err: &mut E,
+    strategy: Option<Box<dyn ReadRoutingStrategy>>,
 ) -> u8
     ensures served { Serves (MayFailToRead R.fails) (MayFailToWrite O.fails)
-        (MayFailToWrite E.fails) (map string_bytes words.now)
+        (MayFailToWrite E.fails) (is_some strategy) (map string_bytes words.now)
         (R.remaining reader.old) (R.remaining reader.new)
         (O.contents out.old) (O.contents out.new) (E.contents err.old) (E.contents err.new) result }
     ensures steady { ¬ (MayFailToRead R.fails) → ¬ (MayFailToWrite O.fails)
         → ¬ (MayFailToWrite E.fails)
-        → HasOutput (map string_bytes words.now) (R.remaining reader.old) (R.remaining reader.new)
+        → HasOutput (is_some strategy) (map string_bytes words.now) (R.remaining reader.old) (R.remaining reader.new)
         (O.contents out.old) (O.contents out.new) (E.contents err.old) (E.contents err.new) result
-        ⊎ RanOutOfMemory (O.contents out.old) (O.contents out.new) (E.contents err.old)
+        ⊎ RanOutOfMemory (is_some strategy) (map string_bytes words.now) (R.remaining reader.old)
+        (R.remaining reader.new) (O.contents out.old) (O.contents out.new) (E.contents err.old)
         (E.contents err.new) result }
     ensures untouched { ¬ (IsRequest (map string_bytes words.now)) → reader.new ≡ reader.old }
 {
-    match run(alloc, words, reader, out) {
+    match run(alloc, words, reader, out, strategy) {
         Ok(status) => status,
         Err(fault) => {
             report(alloc, &fault, err);
@@ -74,12 +82,13 @@ fn run<R: Source, O: Sink>(
     words: &[String],
     reader: &mut R,
     out: &mut O,
+    strategy: Option<Box<dyn ReadRoutingStrategy>>,
 ) -> Result<u8, Fault>
     ensures answer { MatchResult result
-        (HasAnswer (map string_bytes words.now) (R.remaining reader.old) (R.remaining reader.new)
-        (O.contents out.old) (O.contents out.new))
-        (Explains (map string_bytes words.now) (R.remaining reader.old) (R.remaining reader.new)
-        (O.contents out.old) (O.contents out.new)) }
+        (HasAnswer (is_some strategy) (map string_bytes words.now) (R.remaining reader.old)
+        (R.remaining reader.new) (O.contents out.old) (O.contents out.new))
+        (Explains (is_some strategy) (map string_bytes words.now) (R.remaining reader.old)
+        (R.remaining reader.new) (O.contents out.old) (O.contents out.new)) }
     ensures cause { IfErr result (IsCaused (MayFailToRead R.fails) (MayFailToWrite O.fails)) }
     ensures untouched { ¬ (IsRequest (map string_bytes words.now)) → reader.new ≡ reader.old }
 {
@@ -87,25 +96,80 @@ fn run<R: Source, O: Sink>(
         return Err(Fault::Usage);
     };
     let ranges = read_map(alloc, reader)?;
+    let first = ranges.len() as u64 + 2;
     let map = SlotMap::from_slots(alloc, ranges)?;
-    let (text, status) = answer(alloc, &map, &request)?;
+    let question = match request {
+        Request::Answer(question) => question,
+        Request::Run(direction) => {
+            run_told(alloc, &direction, first, &map, strategy, reader, out)?;
+            return Ok(0);
+        }
+    };
+    let (text, status) = answer(alloc, &map, &question)?;
     emit(out, &text)?;
     Ok(status)
 }
 
-/// The text and the status that answer for a request.
-fn answer(alloc: Global, map: &SlotMap, request: &Request) -> Result<(Vec<u8>, u8), Fault>
+/// The text and the status that answer a question.
+fn answer(alloc: Global, map: &SlotMap, question: &Question) -> Result<(Vec<u8>, u8), Fault>
     ensures { MatchResult result
-        (λ answer. (words : List (List ℕ)) → Asks words request.now
+        (λ answer. (words : List (List ℕ)) → Asks words question.now
         → IsAnswer map.now words answer.0.items answer.1)
-        (WhyNoAnswer request.now) }
+        (WhyNoAnswer question.now) }
 {
-    match request {
-        Request::Node(key) => {
+    match question {
+        Question::Node(key) => {
             let (line, status) = node_answer(alloc, map, key)?;
             Ok((line.into_bytes(), status))
         }
-        Request::Split(command) => split_answer(alloc, map, command),
+        Question::Split(command) => split_answer(alloc, map, command),
+    }
+}
+
+/// Tells the strategy of the map, and runs the commands of the lines that are left.
+fn run_told<R: Source, O: Sink>(
+    alloc: Global,
+    direction: &Direction,
+    first: u64,
+    slot_map: &SlotMap,
+    mut strategy: Option<Box<dyn ReadRoutingStrategy>>,
+    reader: &mut R,
+    out: &mut O,
+) -> Result<(), Fault>
+    ensures run { MatchResult result
+        (λ _. RunEnds (is_some strategy) direction.now slot_map.now
+        (R.remaining reader.old) (R.remaining reader.new) (O.contents out.old) (O.contents out.new))
+        (RunStops (is_some strategy) direction.now slot_map.now first
+        (R.remaining reader.old) (R.remaining reader.new) (O.contents out.old)
+        (O.contents out.new)) }
+    ensures cause { IfErr result (IsCaused (MayFailToRead R.fails) (MayFailToWrite O.fails)) }
+{
+    tell(alloc, slot_map, &mut strategy)?;
+    run_commands(
+        alloc, direction, first, slot_map, lend(&strategy), reader, out,
+    )
+}
+
+/// Tells a strategy the shards of the map.
+fn tell(
+    alloc: Global,
+    slot_map: &SlotMap,
+    strategy: &mut Option<Box<dyn ReadRoutingStrategy>>,
+) -> Result<(), AllocError>
+    ensures { is_some strategy.new ≡ is_some strategy.old }
+{
+    if let Some(strategy) = strategy {
+        strategy.on_topology_changed(slot_map.topology(alloc)?);
+    }
+    Ok(())
+}
+
+fn lend(strategy: &Option<Box<dyn ReadRoutingStrategy>>) -> Option<&dyn ReadRoutingStrategy>
+    ensures { is_some result ≡ is_some strategy.now }
+{
+    match strategy {
+        Some(strategy) => Some(&**strategy),
+        None => None,
     }
 }
 
@@ -122,7 +186,7 @@ fn node_answer(alloc: Global, map: &SlotMap, key: &[u8]) -> Result<(String, u8),
     }
 }
 
-/// Writes the line of a fault. If memory runs out for that of a bad map line, it tells so.
+/// Writes the line of a fault. If memory runs out for one with a number, it tells so.
 fn report<E: Sink>(alloc: Global, fault: &Fault, err: &mut E)
     ensures { Reports (MayFailToWrite E.fails) (E.contents err.old) (E.contents err.new) fault.now }
 {
@@ -134,7 +198,7 @@ fn report<E: Sink>(alloc: Global, fault: &Fault, err: &mut E)
 
 fn fault_text(alloc: Global, fault: &Fault) -> Result<CowStr<'static>, AllocError>
     ensures text { IfOk result (λ text. cow_str_bytes text ≡ fault_line fault.now) }
-    ensures memory { OnErr result (IsBadMapLine fault.now) }
+    ensures memory { OnErr result (IsNumbered fault.now) }
 {
     let text = match fault {
         Fault::Usage => USAGE,
@@ -143,9 +207,28 @@ fn fault_text(alloc: Global, fault: &Fault) -> Result<CowStr<'static>, AllocErro
             return Ok(CowStr::Owned(line));
         }
         Fault::NotMultiKey => "slotroute: not a multi-key command\n",
+        Fault::Command(number, refusal) => {
+            return Ok(CowStr::Owned(refused_line(alloc, *number, refusal)?));
+        }
         Fault::Memory => "slotroute: no memory\n",
         Fault::Input => "slotroute: input failed\n",
         Fault::Output => "slotroute: output failed\n",
     };
     Ok(CowStr::Borrowed(text))
+}
+
+/// The line of a command that is refused.
+fn refused_line(alloc: Global, number: u64, refusal: &Refusal) -> Result<String, AllocError>
+    ensures { IfOk result (λ line. string_bytes line ≡ refused_line number refusal.now) }
+{
+    match refusal {
+        Refusal::NotMultiKey => {
+            format!(in alloc; "slotroute: line {number}: not a multi-key command\n")
+        }
+        Refusal::NotCovered(slot) => {
+            format!(in alloc; "slotroute: line {number}: slot {slot} not covered\n")
+        }
+        Refusal::NodeRefused => format!(in alloc; "slotroute: line {number}: node refused\n"),
+        Refusal::BadReply => format!(in alloc; "slotroute: line {number}: bad reply\n"),
+    }
 }

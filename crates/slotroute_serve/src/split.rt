@@ -1,15 +1,15 @@
 ghost use Rattle.std.specs.Prelude.{◌≡◌, ℕ, List, Some, ◌∷◌, ◌++◌, map, string_bytes, option_copied, IfOk, OnOk, MatchResult};
 ghost use Rattle.std.specs.List.{flat_map};
-ghost use Rattle.redis_cluster.specs.ReadOnly.{is_among};
 ghost use Rattle.redis_cluster.specs.Split.{split_part};
 ghost use Rattle.slotroute_serve.specs.Faults.{WhyNoSplit};
 ghost use Rattle.slotroute_serve.specs.Lines.{space};
-ghost use Rattle.slotroute_serve.specs.Split.{only_reads, part_line, ArePartLines, IsSplitAnswer};
+ghost use Rattle.slotroute_serve.specs.Split.{part_line, ArePartLines, IsSplitAnswer};
 
 use crate::fault::Fault;
 use cluster_map::{NodeAddress, SlotMap};
-use redis_cluster::routing::{ReadOnlyNames, SplitCommand};
+use redis_cluster::routing::SplitCommand;
 use resp_core::Cmd;
+use slotroute_run::read_only_names;
 use std::alloc::{AllocError, Global};
 
 /// The lines and the status that answer for a command with these words.
@@ -38,17 +38,6 @@ fn command_of(alloc: Global, words: &[String]) -> Result<Cmd, AllocError>
         command.write_arg(word.as_bytes())?;
     }
     Ok(command)
-}
-
-/// The names of the commands that only read.
-fn read_only_names(alloc: Global) -> Result<ReadOnlyNames, AllocError>
-    ensures { IfOk result (λ names. (name : List ℕ) → is_among names name ≡ only_reads name) }
-{
-    let mut names = ReadOnlyNames::new(alloc);
-    names.insert(alloc, b"EXISTS")?;
-    names.insert(alloc, b"JSON.MGET")?;
-    names.insert(alloc, b"MGET")?;
-    Ok(names)
 }
 
 /// A line for the part of each route, and whether each has a node, as a status.

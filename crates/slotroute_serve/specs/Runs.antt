@@ -1,0 +1,71 @@
+-- What `run` does with the lines after the map.
+use Rattle.std.specs.Prelude.{◌≡◌, ◌≢◌, ℕ, ◌+◌, Bool, List, [], ◌∷◌, ◌++◌, None, length, map, take}
+use Rattle.cluster_map.specs.RangeMap.{Entry}
+use Rattle.cluster_map.specs.SlotNodes.{SlotNodes}
+use Rattle.memory_nodes.specs.Cells.{Cell}
+use Rattle.redis_cluster.specs.Unsplit.{Keyspace}
+use Rattle.slotroute_run.specs.Commands.{IsCommandRun, IsRefused}
+use Rattle.slotroute_run.specs.declared.direction.Direction.{Direction}
+use Rattle.slotroute_run.specs.declared.refusal.Refusal.{Refusal}
+use Rattle.slotroute_serve.specs.Lines.{lines_of, fields_of, after_lines, StopsInLine}
+
+-- the lines of an input, each as its fields
+abbrev pub field_lines : List ℕ → List (List (List ℕ))
+field_lines input = map fields_of (lines_of input)
+
+-- no key is there
+abbrev pub no_keys : Keyspace Cell
+no_keys = λ key. None
+
+module _ (handed : Bool) (direction : Direction) (entries : List (Entry SlotNodes)) where
+  -- The lines were run, each command from the keyspace that those before it left, and the text is
+  -- what they printed, one after the other. A line with no field does nothing.
+  abbrev pub AreRun : List (List (List ℕ)) → Keyspace Cell → Keyspace Cell → List ℕ → Type 0
+  AreRun [] old new text = (new ≡ old) × (text ≡ [])
+  AreRun ([] ∷ lines) old new text = AreRun lines old new text
+  AreRun ((name ∷ words) ∷ lines) old new text =
+      (first rest : List ℕ) × (between : Keyspace Cell)
+      × IsCommandRun handed direction entries (name ∷ words) old between first
+      × AreRun lines between new rest × (text ≡ first ++ rest)
+
+  -- all lines of the input were run, and nothing is left of it
+  pub record AllRun (input left text : List ℕ) : Type 0 where
+    pub keyspace : Keyspace Cell
+    pub run : AreRun (field_lines input) no_keys keyspace text
+    pub left_is : left ≡ []
+
+  -- The lines before that of this number were run, where the first line has the number `first`, and
+  -- the command of that line is refused. What follows the line is left.
+  pub record RefusedAt (first : ℕ) (input left text : List ℕ) (number : ℕ) (refusal : Refusal)
+      : Type 0 where
+    pub before : List (List (List ℕ))
+    pub command : List (List ℕ)
+    pub later : List (List (List ℕ))
+    pub lines : field_lines input ≡ before ++ command ∷ later
+    pub keyspace : Keyspace Cell
+    pub run : AreRun before no_keys keyspace text
+    pub some : command ≢ []
+    pub why : IsRefused entries command refusal
+    pub counted : number ≡ first + length before
+    pub left_is : left ≡ after_lines (length before + 1) input
+
+  -- the first lines were run, and the reading stopped in the next line or after it
+  pub record StopsAfter (input left text : List ℕ) : Type 0 where
+    pub before : List (List (List ℕ))
+    pub later : List (List (List ℕ))
+    pub lines : field_lines input ≡ before ++ later
+    pub keyspace : Keyspace Cell
+    pub run : AreRun before no_keys keyspace text
+    pub stops : StopsInLine (after_lines (length before) input) left
+
+  -- the first lines were run, and the text is the first bytes of what they printed, perhaps all
+  pub record CutShort (input left text : List ℕ) : Type 0 where
+    pub before : List (List (List ℕ))
+    pub later : List (List (List ℕ))
+    pub lines : field_lines input ≡ before ++ later
+    pub keyspace : Keyspace Cell
+    pub whole : List ℕ
+    pub run : AreRun before no_keys keyspace whole
+    pub count : ℕ
+    pub begins : text ≡ take count whole
+    pub left_is : left ≡ after_lines (length before) input

@@ -1,0 +1,84 @@
+ghost use Rattle.std.specs.Prelude.{◌≡◌, ℕ, [], ◌∷◌, is_some, IfOk, IfErr, MatchResult};
+ghost use Rattle.memory_nodes.specs.Nodes.{keyspace_in};
+ghost use Rattle.slotroute_run.specs.Commands.{AreReadOnly, AreWilling};
+ghost use Rattle.slotroute_serve.specs.Faults.{IsCaused};
+ghost use Rattle.slotroute_serve.specs.Lines.{fields_of};
+ghost use Rattle.slotroute_serve.specs.Runs.{AreRun};
+ghost use Rattle.slotroute_serve.specs.RunFaults.{RunEnds, RunStops, WhyNoText};
+ghost use Rattle.slotroute_serve.specs.Streams.{MayFailToRead, MayFailToWrite};
+
+use crate::fault::Fault;
+use crate::input::{fields_in, next_line};
+use crate::output::emit;
+use crate::streams::{Sink, Source};
+use cluster_map::{ReadRoutingStrategy, SlotMap};
+use memory_nodes::MemoryNodes;
+use redis_cluster::routing::ReadOnlyNames;
+use slotroute_run::{CommandFault, Direction, read_only_names, run_command};
+use std::alloc::Global;
+
+/// Runs the commands of the lines that are left, of which the first has the number `first`, on nodes
+/// that hold no key, and writes what each prints before it reads the next line.
+pub fn run_commands<R: Source, O: Sink>(
+    alloc: Global,
+    direction: &Direction,
+    first: u64,
+    slot_map: &SlotMap,
+    strategy: Option<&dyn ReadRoutingStrategy>,
+    reader: &mut R,
+    out: &mut O,
+) -> Result<(), Fault>
+    ensures run { MatchResult result
+        (λ _. RunEnds (is_some strategy.entry) direction.now slot_map.now
+        (R.remaining reader.old) (R.remaining reader.new) (O.contents out.old) (O.contents out.new))
+        (RunStops (is_some strategy.entry) direction.now slot_map.now first
+        (R.remaining reader.old) (R.remaining reader.new) (O.contents out.old)
+        (O.contents out.new)) }
+    ensures cause { IfErr result (IsCaused (MayFailToRead R.fails) (MayFailToWrite O.fails)) }
+{
+    let read_only = read_only_names(alloc)?;
+    let mut nodes = MemoryNodes::new(alloc);
+    let mut line = Vec::new(alloc);
+    for number in first..u64::MAX {
+        if !next_line(reader, &mut line)? {
+            return Ok(());
+        }
+        let text = line_text(
+            alloc, direction, number, &line, &read_only, slot_map, strategy, &mut nodes,
+        )?;
+        emit(out, &text)?;
+    }
+    // There is no number for a further line.
+    Err(Fault::Memory)
+}
+
+/// What the command of a line prints, which is nothing where the line has no field.
+fn line_text(
+    alloc: Global,
+    direction: &Direction,
+    number: u64,
+    line: &[u8],
+    read_only: &ReadOnlyNames,
+    slot_map: &SlotMap,
+    strategy: Option<&dyn ReadRoutingStrategy>,
+    nodes: &mut MemoryNodes,
+) -> Result<Vec<u8>, Fault>
+    requires names { AreReadOnly read_only.now }
+    requires willing { AreWilling nodes.old }
+    ensures run { IfOk result (λ text. AreRun (is_some strategy.entry) direction.now slot_map.now
+        (fields_of line.now ∷ []) (keyspace_in nodes.old) (keyspace_in nodes.new) text.items) }
+    ensures refused { IfErr result (WhyNoText slot_map.now number (fields_of line.now)) }
+    ensures willing { AreWilling nodes.new }
+{
+    let fields = fields_in(alloc, line)?;
+    if fields.is_empty() {
+        return Ok(Vec::new(alloc));
+    }
+    match run_command(
+        alloc, direction, &fields, read_only, slot_map, strategy, nodes,
+    ) {
+        Ok(text) => Ok(text),
+        Err(CommandFault::Refused(refusal)) => Err(Fault::Command(number, refusal)),
+        Err(CommandFault::Memory) => Err(Fault::Memory),
+    }
+}
