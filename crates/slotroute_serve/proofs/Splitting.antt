@@ -17,7 +17,8 @@ use Rattle.redis_cluster.specs.ReadOnly.{is_among}
 use Rattle.redis_cluster.specs.Split.{Split, route_part, split_part}
 use Rattle.redis_cluster.specs.RoutingInfo.{route_list, route_lists}
 use Rattle.redis_commands.specs.declared.route_by.MultiSlotArgPattern.{MultiSlotArgPattern}
-use Rattle.slotroute_serve.specs.Split.{RoutedPart, IsRoutedPart, ArePartLines, IsSplitAnswer, only_reads, part_line}
+use Rattle.slotroute_run.specs.Commands.{only_reads}
+use Rattle.slotroute_serve.specs.Split.{RoutedPart, IsRoutedPart, ArePartLines, IsSplitAnswer, part_line}
 use Rattle.slotroute_serve.proofs.Reading.{AllZip-more}
 
 -- A node that is lent, as the value it lends.

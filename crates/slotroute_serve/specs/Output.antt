@@ -1,5 +1,5 @@
 -- What the program reads and writes, and its status, for its words and its input.
-use Rattle.std.specs.Prelude.{◌≡◌, ◌≢◌, ℕ, ◌+◌, Bool, List, [], ◌∷◌, ◌++◌, None, Some, codes, decimal, length}
+use Rattle.std.specs.Prelude.{◌≡◌, ◌≢◌, ◌⊎◌, ⊤, ℕ, ◌+◌, Bool, List, [], ◌∷◌, ◌++◌, None, Some, codes, decimal, length}
 use Rattle.cluster_map.specs.Address.{Address, display_text}
 use Rattle.cluster_map.specs.KeySlot.{IsKeySlot}
 use Rattle.cluster_map.specs.Number.{number_in}
@@ -24,27 +24,32 @@ node_words key = codes "node" ∷ key ∷ []
 abbrev pub split_words : List (List ℕ) → List (List ℕ)
 split_words command = codes "split" ∷ command
 
--- the word that names a strategy: `first`, `shard`, or `pick=N` with a number of 64 bits
-pub data IsStrategyWord : List ℕ → Type 0 where
-  first_replica : IsStrategyWord (codes "first")
-  shard_aware : IsStrategyWord (codes "shard")
-  pick_index : (digits : List ℕ) (index : ℕ) → number_in 64 digits ≡ Some index
-      → IsStrategyWord (codes "pick=" ++ digits)
+-- the word names a strategy: `first`, `shard`, or `pick=N` with a number of 64 bits
+abbrev pub IsStrategyWord : List ℕ → Type 0
+IsStrategyWord word =
+    (word ≡ codes "first") ⊎ (word ≡ codes "shard")
+    ⊎ ((digits : List ℕ) × (index : ℕ) × (word ≡ codes "pick=" ++ digits)
+    × (number_in 64 digits ≡ Some index))
+
+-- there is no word, or one that names a strategy
+abbrev pub MayNameStrategy : List (List ℕ) → Type 0
+MayNameStrategy [] = ⊤
+MayNameStrategy (word ∷ []) = IsStrategyWord word
+MayNameStrategy (word ∷ more ∷ words) = ⊥
 
 abbrev pub direction_word : Direction → List ℕ
 direction_word Forward = codes "forward"
 direction_word Reverse = codes "reverse"
 
 -- the words after `run`: the direction, and perhaps one that names a strategy
-pub data IsDirected (direction : Direction) : List (List ℕ) → Type 0 where
-  alone : IsDirected direction (direction_word direction ∷ [])
-  with_strategy : (word : List ℕ) → IsStrategyWord word
-      → IsDirected direction (direction_word direction ∷ word ∷ [])
+abbrev pub IsDirected : Direction → List (List ℕ) → Type 0
+IsDirected direction [] = ⊥
+IsDirected direction (word ∷ words) = (word ≡ direction_word direction) × MayNameStrategy words
 
 -- the words `run ..` of this direction
 abbrev pub IsRunWords : Direction → List (List ℕ) → Type 0
-IsRunWords direction words =
-    (directed : List (List ℕ)) × (words ≡ codes "run" ∷ directed) × IsDirected direction directed
+IsRunWords direction [] = ⊥
+IsRunWords direction (word ∷ words) = (word ≡ codes "run") × IsDirected direction words
 
 -- the words are `node KEY`, `split WORD ..` with one word or more, or those of `run`
 pub data IsRequest : List (List ℕ) → Type 0 where

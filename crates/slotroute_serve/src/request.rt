@@ -1,6 +1,6 @@
-ghost use Rattle.std.specs.Prelude.{◌≡◌, ◌∷◌, [], ◌↔◌, codes, map, string_bytes, IsTrue, MatchOption};
+ghost use Rattle.std.specs.Prelude.{◌≡◌, ◌≢◌, ℕ, List, ◌∷◌, [], ◌↔◌, codes, map, string_bytes, IsTrue, MatchOption};
 ghost use Rattle.slotroute_run.specs.declared.direction.Direction.{Direction as Way};
-ghost use Rattle.slotroute_serve.specs.Output.{IsRequest, IsDirected, IsStrategyWord, direction_word};
+ghost use Rattle.slotroute_serve.specs.Output.{IsRequest, IsDirected, MayNameStrategy, IsStrategyWord};
 ghost use Rattle.slotroute_serve.specs.Requests.{AsksFor};
 
 use cluster_slots::parse_u64;
@@ -30,17 +30,47 @@ pub fn request_of(words: &[String]) -> Option<Request<'_>>
         (¬ (IsRequest (map string_bytes words.now)))
         (AsksFor (map string_bytes words.now)) }
 {
-    match words {
-        [word, key] if word.as_str() == "node" => {
-            Some(Request::Answer(Question::Node(key.as_bytes())))
-        }
-        [word, command @ ..] if word.as_str() == "split" && !command.is_empty() => {
-            Some(Request::Answer(Question::Split(command)))
-        }
-        [word, directed @ ..] if word.as_str() == "run" => {
-            Some(Request::Run(direction_of(directed)?))
-        }
+    let [word, rest @ ..] = words else {
+        return None;
+    };
+    match word.as_str() {
+        "node" => node_request(rest),
+        "split" => split_request(rest),
+        "run" => run_request(rest),
         _ => None,
+    }
+}
+
+fn node_request(words: &[String]) -> Option<Request<'_>>
+    ensures { MatchOption result
+        ((key : List ℕ) → map string_bytes words.now ≢ key ∷ [])
+        (AsksFor (codes "node" ∷ map string_bytes words.now)) }
+{
+    match words {
+        [key] => Some(Request::Answer(Question::Node(key.as_bytes()))),
+        _ => None,
+    }
+}
+
+fn split_request(words: &[String]) -> Option<Request<'_>>
+    ensures { MatchOption result
+        (map string_bytes words.now ≡ [])
+        (AsksFor (codes "split" ∷ map string_bytes words.now)) }
+{
+    if words.is_empty() {
+        return None;
+    }
+    Some(Request::Answer(Question::Split(words)))
+}
+
+fn run_request(words: &[String]) -> Option<Request<'_>>
+    ensures { MatchOption result
+        ((direction : Way) → ¬ (IsDirected direction (map string_bytes words.now)))
+        (AsksFor (codes "run" ∷ map string_bytes words.now)) }
+{
+    match direction_of(words) {
+        Some(direction) => Some(Request::Run(direction)),
+        None => None,
     }
 }
 
@@ -50,34 +80,38 @@ fn direction_of(words: &[String]) -> Option<Direction>
         ((direction : Way) → ¬ (IsDirected direction (map string_bytes words.now)))
         (λ direction. IsDirected direction (map string_bytes words.now)) }
 {
-    match words {
-        [direction] => named_direction(direction),
-        [direction, strategy] if names_strategy(strategy) => named_direction(direction),
-        _ => None,
+    let [direction, rest @ ..] = words else {
+        return None;
+    };
+    if !may_name_strategy(rest) {
+        return None;
     }
-}
-
-fn named_direction(word: &str) -> Option<Direction>
-    ensures { MatchOption result
-        ((direction : Way) → ¬ (word.now ≡ direction_word direction))
-        (λ direction. word.now ≡ direction_word direction) }
-{
-    match word {
+    match direction.as_str() {
         "forward" => Some(Direction::Forward),
         "reverse" => Some(Direction::Reverse),
         _ => None,
     }
 }
 
-/// Whether the word names a strategy.
-fn names_strategy(word: &str) -> bool
+/// Whether there is no word, or one that names a strategy.
+fn may_name_strategy(words: &[String]) -> bool
+    ensures { IsTrue result ↔ MayNameStrategy (map string_bytes words.now) }
+{
+    match words {
+        [] => true,
+        [word] => names_strategy(word.as_bytes()),
+        _ => false,
+    }
+}
+
+fn names_strategy(word: &[u8]) -> bool
     ensures { IsTrue result ↔ IsStrategyWord word.now }
 {
-    if word == "first" || word == "shard" {
+    if word == b"first".as_slice() || word == b"shard".as_slice() {
         return true;
     }
-    match word.strip_prefix("pick=") {
-        Some(digits) => parse_u64(digits.as_bytes()).is_some(),
+    match word.strip_prefix(b"pick=") {
+        Some(digits) => parse_u64(digits).is_some(),
         None => false,
     }
 }
