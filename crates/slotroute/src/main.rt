@@ -1,16 +1,47 @@
-//! Tells which nodes of a Redis cluster serve a key, or the keys of a command.
+//! Tells which nodes of a Redis cluster serve a key, or the keys of a command, and runs commands on
+//! nodes in memory.
 //!
 //! `slotroute node KEY` reads a slot map from standard input, one range a line as
 //! `START END HOST:PORT [HOST:PORT ..]`, and prints the slot of the key and the primary that
 //! serves it. `slotroute split WORD ..` reads such a map too, and prints the parts of a command
-//! over many keys, one for each slot: its slot, its node, and its words.
+//! over many keys, one for each slot: its slot, its node, and its words. `slotroute run forward`
+//! runs the commands of the lines that follow the map and a line with no field, and prints the parts
+//! that it sends and the replies; `run reverse` sends the parts in the other order. A last word
+//! `first`, `pick=N` or `shard` says which nodes serve reads.
 #![tactic(auto)]
 
+use cluster_map::ReadRoutingStrategy;
+use example_strategies::{FirstReplica, PickIndex, ShardAware};
 use slotroute_serve::{USAGE, serve};
 use std::alloc::Global;
 use std::env;
 use std::io::{self, BufReader, BufWriter};
 use std::process::ExitCode;
+
+/// The strategy that the last word of `run` names.
+enum Strategy {
+    First,
+    Pick(usize),
+    Shard,
+}
+
+/// The strategy of the words `run DIRECTION STRATEGY`.
+fn strategy_of(words: &[String]) -> Option<Strategy> {
+    let [command, _, strategy] = words else {
+        return None;
+    };
+    if command.as_str() != "run" {
+        return None;
+    }
+    match strategy.as_str() {
+        "first" => Some(Strategy::First),
+        "shard" => Some(Strategy::Shard),
+        word => {
+            let index = word.strip_prefix("pick=")?;
+            Some(Strategy::Pick(index.parse::<usize>().ok()?))
+        }
+    }
+}
 
 fn run(rt: &HostRuntime, alloc: Global) -> io::Result<u8> {
     let mut words = Vec::new(alloc);
@@ -20,7 +51,15 @@ fn run(rt: &HostRuntime, alloc: Global) -> io::Result<u8> {
     let mut reader = BufReader::new(alloc, rt.stdin())?;
     let mut out = BufWriter::new(alloc, rt.stdout())?;
     let mut err = rt.stderr();
-    Ok(serve(alloc, &words, &mut reader, &mut out, &mut err))
+    let strategy: Option<Box<dyn ReadRoutingStrategy>> = match strategy_of(&words) {
+        Some(Strategy::First) => Some(Box::new(alloc, FirstReplica)?),
+        Some(Strategy::Pick(index)) => Some(Box::new(alloc, PickIndex::new(index))?),
+        Some(Strategy::Shard) => Some(Box::new(alloc, ShardAware::new())?),
+        None => None,
+    };
+    Ok(serve(
+        alloc, &words, &mut reader, &mut out, &mut err, strategy,
+    ))
 }
 
 fn main(rt: HostRuntime) -> ExitCode {

@@ -1,6 +1,6 @@
 -- How a run of commands ends early.
-use Rattle.std.proofs.Common.{◌≡◌, ◌≢◌, ℕ, ◌+◌, Bool, true, false, not, List, [], ◌∷◌, ◌++◌, refl, sym, ◌∙◌, ap, length, take, inl, inr, ◌⊎◌}
-use Rattle.std.specs.Prelude.{Option, Some, None, Result, Ok, Err, IfErr, MatchResult}
+use Rattle.std.proofs.Common.{◌≡◌, ◌≢◌, ℕ, ◌+◌, Bool, List, [], ◌++◌, refl, sym, length, take, inl, inr, ◌⊎◌}
+use Rattle.std.specs.Prelude.{Option, Result, Ok, Err, IfErr, MatchResult}
 use Rattle.std.specs.Result.{IsErrAnd}
 use Rattle.std.specs.Io.BufRead.{DropsThrough}
 use Rattle.std.specs.Io.KnownBytes.{Appends}
@@ -13,14 +13,14 @@ use Rattle.memory_nodes.specs.Cells.{Cell}
 use Rattle.redis_cluster.specs.Unsplit.{Keyspace}
 use Rattle.slotroute_run.specs.declared.direction.Direction.{Direction}
 use Rattle.slotroute_serve.specs.Faults.{IsReaderFault, IsCaused}
-use Rattle.slotroute_serve.specs.Lines.{fields_of, StopsInLine}
+use Rattle.slotroute_serve.specs.Lines.{fields_of}
 use Rattle.slotroute_serve.specs.RunFaults.{WhyNoText, RunEnds, RunStops}
-use Rattle.slotroute_serve.specs.Runs.{no_keys, AreRun, StopsAfter}
+use Rattle.slotroute_serve.specs.Runs.{no_keys, StopsAfter}
 use Rattle.slotroute_serve.specs.Streams.{Leaves}
 use Rattle.slotroute_serve.specs.declared.fault.Fault.{Fault}
 use Rattle.slotroute_serve.specs.declared.fault.Fault.TheVariants as fault
 use Rattle.slotroute_serve.proofs.Reading.{HasLine}
-use Rattle.slotroute_serve.proofs.Running.{RunsOn, run_begun, run_more, stopped_before_line, stopped_after_line, refused_in_line, cut}
+use Rattle.slotroute_serve.proofs.Running.{RunsOn, run_begun, stopped_before_line, stopped_after_line, refused_in_line, cut}
 use Rattle.slotroute_serve.proofs.Serving.{nothing}
 use Rattle.slotroute_serve.proofs.Writing.{grows}
 

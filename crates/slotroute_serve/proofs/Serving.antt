@@ -1,5 +1,5 @@
 -- What the words and the input call for.
-use Rattle.std.proofs.Common.{◌≡◌, ◌≢◌, ℕ, ◌+◌, Bool, sym, ◌∙◌, ap, length, map, string_bytes, Bor, String, Global, Vec, append_assoc, decimal, List, [], ◌∷◌, ◌++◌, refl, subst, rules, take, inl, inr, ◌⊎◌}
+use Rattle.std.proofs.Common.{◌≡◌, ◌≢◌, ℕ, ◌+◌, Bool, length, map, string_bytes, Bor, String, Global, Vec, append_assoc, decimal, List, [], ◌∷◌, ◌++◌, refl, subst, rules, take, inl, inr, ◌⊎◌}
 use Rattle.std.specs.Prelude.{Option, Some, None, Result, Ok, Err, OnOk, OnErr, IfErr, IfSome, MatchResult, codes, ⊤}
 use Rattle.std.specs.Result.{IsErrAnd}
 use Rattle.std.specs.Io.KnownBytes.{Appends}
@@ -14,12 +14,12 @@ use Rattle.cluster_slots.specs.declared.slot.SlotAddr.TheVariants.{Master}
 use Rattle.slotroute_serve.specs.Lines.{leading_lines, after_map}
 use Rattle.slotroute_serve.specs.MapLines.{IsMap}
 use Rattle.slotroute_serve.specs.Faults.{fault_line, WhyNoMap, WhyNoSplit, IsMapFault, IsCaused, IsLeftAt}
-use Rattle.slotroute_serve.specs.Output.{Output, IsAnswer, IsNodeAnswer, IsRequest, split_words, slot_line, usage_line, bad_map_line, not_multi_key_line, IsRunWords, refused_line, first_after_map, usage, bad_map, not_multi_key, answer, run_to_end, run_refused, served, unserved, node_request, split_request, run_request, node_answer, split_answer}
+use Rattle.slotroute_serve.specs.Output.{Output, IsAnswer, IsNodeAnswer, IsRequest, split_words, slot_line, usage_line, bad_map_line, not_multi_key_line, IsRunWords, refused_line, usage, bad_map, not_multi_key, answer, run_to_end, run_refused, served, unserved, node_request, split_request, run_request, node_answer, split_answer}
 use Rattle.slotroute_serve.specs.Requests.{Asks, AsksFor, WhyNoAnswer}
 use Rattle.slotroute_serve.specs.RunFaults.{RunEnds, RunStops}
-use Rattle.slotroute_serve.specs.Runs.{AllRun, RefusedAt, StopsAfter, CutShort}
+use Rattle.slotroute_serve.specs.Runs.{RefusedAt}
 use Rattle.slotroute_serve.specs.Split.{IsSplitAnswer}
-use Rattle.slotroute_serve.specs.Serves.{BeginsRun, CutsRun, IsSoFar, IsUnfinished, HasAnswer, HasOutput, RanOutOfMemory, Explains, IsNumbered, IsTold, TellsOf, Reports, Serves}
+use Rattle.slotroute_serve.specs.Serves.{IsSoFar, IsUnfinished, HasAnswer, HasOutput, RanOutOfMemory, Explains, IsNumbered, IsTold, TellsOf, Reports, Serves}
 use Rattle.slotroute_serve.specs.Streams.{Leaves}
 use Rattle.slotroute_serve.proofs.Leaving.{left_after_map}
 use Rattle.slotroute_serve.specs.declared.fault.Fault.{Fault}

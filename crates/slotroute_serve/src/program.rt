@@ -146,7 +146,13 @@ fn run_told<R: Source, O: Sink>(
 {
     tell(alloc, slot_map, &mut strategy)?;
     run_commands(
-        alloc, direction, first, slot_map, lend(&strategy), reader, out,
+        alloc,
+        direction,
+        first,
+        slot_map,
+        lend(&strategy),
+        reader,
+        out,
     )
 }
 

@@ -1,7 +1,7 @@
 use Rattle.slotroute_serve.proofs.Serving.{usage_fault, is_request, touched, no_map, no_memory, no_answer, answered, not_written, run_stopped, ran_to_end}
 use Rattle.slotroute_serve.specs.Requests.{Asks, AsksFor}
 use Rattle.slotroute_serve.specs.Output.{IsRunWords}
-use Rattle.std.proofs.Common.{◌≡◌, arith, is_some, subst, map, string_bytes}
+use Rattle.std.proofs.Common.{arith, is_some, subst, map, string_bytes}
 use Rattle.slotroute_serve.proofs.program.run.Goals as goal
 
 pub returns-in_default-clause-answer : goal.returns-in_default-clause-answer

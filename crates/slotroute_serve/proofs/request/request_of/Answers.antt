@@ -1,4 +1,4 @@
-use Rattle.std.proofs.Common.{rules, arith, ◌≡◌, ◌⊎◌, inl, inr, ℕ, List, ◌∷◌, [], map, string_bytes, ◌<◌, ◌≤◌, ◌-◌, length, get_or, take, drop, ap, ◌∙◌, sym, subst, refl, codes}
+use Rattle.std.proofs.Common.{arith, ◌≡◌, ◌⊎◌, inl, inr, ℕ, List, ◌∷◌, [], map, string_bytes, ◌≤◌, ◌-◌, length, get_or, take, drop, ap, ◌∙◌, sym, subst, refl, codes}
 use Rattle.std.specs.Prelude.{Option, Some, None, MatchOption}
 use Rattle.std.proofs.lemmas.List.{take_rest}
 use Rattle.slotroute_run.specs.declared.direction.Direction.{Direction}

@@ -1,8 +1,5 @@
-use Rattle.std.proofs.Common.{◌≡◌, ◌++◌, is_some, refl}
-use Rattle.std.specs.IoError.{error_kind}
+use Rattle.std.proofs.Common.{◌++◌, is_some, refl}
 use Rattle.memory_nodes.specs.Nodes.{keyspace_in}
-use Rattle.slotroute_serve.specs.Lines.{fields_of}
-use Rattle.slotroute_serve.specs.Runs.{AreRun}
 use Rattle.slotroute_serve.proofs.Ending.{reader_caused, stops_as, not_begun, reader_stops, text_stops, emit_stops}
 use Rattle.slotroute_serve.proofs.Reading.{HasLine}
 use Rattle.slotroute_serve.proofs.Running.{run_more, run_ended, stopped_in_line, stopped_before_line}
