@@ -6,9 +6,9 @@ use std::test::Fail;
 
 /// Gives a byte a call, and fails at one call.
 #[derive(Drop)]
-struct FailingReader<'a> {
-    rest: &'a [u8],
-    calls_left: usize,
+pub struct FailingReader<'a> {
+    pub rest: &'a [u8],
+    pub calls_left: usize,
 }
 
 impl Read for FailingReader<'_> {
@@ -38,9 +38,9 @@ impl BufRead for FailingReader<'_> {
 
 /// Takes a byte a call, and fails at one call.
 #[derive(Drop)]
-struct FailingWriter {
-    bytes: Vec<u8>,
-    calls_left: usize,
+pub struct FailingWriter {
+    pub bytes: Vec<u8>,
+    pub calls_left: usize,
 }
 
 impl Write for FailingWriter {
@@ -75,7 +75,7 @@ fn each_read_fails_in_turn(rt: HostRuntime) -> Result<(), Fail> {
         };
         let mut out = Vec::new(alloc);
         let mut err = Vec::new(alloc);
-        let status = serve(alloc, &words, &mut reader, &mut out, &mut err);
+        let status = serve(alloc, &words, &mut reader, &mut out, &mut err, None);
         if calls < needed {
             assert_eq!(rt;
                 err.as_slice(),
@@ -108,7 +108,7 @@ fn each_write_fails_in_turn(rt: HostRuntime) -> Result<(), Fail> {
             calls_left: calls,
         };
         let mut err = Vec::new(alloc);
-        let status = serve(alloc, &words, &mut reader, &mut out, &mut err);
+        let status = serve(alloc, &words, &mut reader, &mut out, &mut err, None);
         assert!(rt; whole.starts_with(out.bytes.as_slice()), "at {calls}");
         assert_eq!(rt; out.bytes.len(), calls, "at {calls}");
         assert_eq!(rt;
@@ -132,7 +132,7 @@ fn error_stream_fails(rt: HostRuntime) -> Result<(), Fail> {
             bytes: Vec::new(alloc),
             calls_left: calls,
         };
-        let status = serve(alloc, &words, &mut reader, &mut out, &mut err);
+        let status = serve(alloc, &words, &mut reader, &mut out, &mut err, None);
         assert!(rt; USAGE.starts_with(err.bytes.as_slice()), "at {calls}");
         assert_eq!(rt; err.bytes.len(), calls, "at {calls}");
         assert_eq!(rt; out.len(), 0, "at {calls}");
@@ -173,7 +173,7 @@ fn interrupted_writes_are_made_again(rt: HostRuntime) -> Result<(), Fail> {
         is_interrupted: false,
     };
     let mut err = Vec::new(alloc);
-    let status = serve(alloc, &words, &mut reader, &mut out, &mut err);
+    let status = serve(alloc, &words, &mut reader, &mut out, &mut err, None);
     assert_eq!(rt; out.bytes.as_slice(), b"slot 12182 n2:2\n".as_slice());
     assert_eq!(rt; err.len(), 0);
     assert_eq!(rt; status, 0);
@@ -222,7 +222,7 @@ fn interrupted_reads_are_made_again(rt: HostRuntime) -> Result<(), Fail> {
     };
     let mut out = Vec::new(alloc);
     let mut err = Vec::new(alloc);
-    let status = serve(alloc, &words, &mut reader, &mut out, &mut err);
+    let status = serve(alloc, &words, &mut reader, &mut out, &mut err, None);
     assert_eq!(rt; out.as_slice(), b"slot 12182 n2:2\n".as_slice());
     assert_eq!(rt; err.len(), 0);
     assert_eq!(rt; status, 0);
@@ -249,7 +249,7 @@ fn a_writer_that_takes_nothing(rt: HostRuntime) -> Result<(), Fail> {
     let words = words_of(alloc, &["node", "foo"])?;
     let mut reader = TWO_NODES;
     let mut err = Vec::new(alloc);
-    let status = serve(alloc, &words, &mut reader, &mut FullWriter, &mut err);
+    let status = serve(alloc, &words, &mut reader, &mut FullWriter, &mut err, None);
     assert_eq!(rt; err.as_slice(), b"slotroute: output failed\n".as_slice());
     assert_eq!(rt; status, 2);
     Ok(())

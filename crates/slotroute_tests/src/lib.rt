@@ -12,6 +12,10 @@ mod node;
 #[cfg(test)]
 mod reading;
 #[cfg(test)]
+mod run;
+#[cfg(test)]
+mod run_streams;
+#[cfg(test)]
 mod serve;
 #[cfg(test)]
 mod split;

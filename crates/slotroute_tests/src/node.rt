@@ -27,14 +27,13 @@ fn node_of_a_key(rt: HostRuntime) -> Result<(), Fail> {
 
 #[test]
 fn other_words(rt: HostRuntime) -> Result<(), Fail> {
-    let runs: [Run; 8] = [
+    let runs: [Run; 7] = [
         (&[], TWO_NODES, b"", USAGE, 2),
         (&["node"], TWO_NODES, b"", USAGE, 2),
         (&["node", "a", "b"], TWO_NODES, b"", USAGE, 2),
         (&["Node", "a"], TWO_NODES, b"", USAGE, 2),
         (&["split"], TWO_NODES, b"", USAGE, 2),
         (&["Split", "DEL", "a"], TWO_NODES, b"", USAGE, 2),
-        (&["run", "forward"], TWO_NODES, b"", USAGE, 2),
         (&["node"], b"not a map", b"", USAGE, 2),
     ];
     check(&rt, rt.alloc(), &runs)

@@ -59,7 +59,7 @@ fn nothing_more_is_asked_for(rt: HostRuntime) -> Result<(), Fail> {
         };
         let mut out = Vec::new(alloc);
         let mut err = Vec::new(alloc);
-        let status = serve(alloc, &words, &mut reader, &mut out, &mut err);
+        let status = serve(alloc, &words, &mut reader, &mut out, &mut err, None);
         assert_eq!(rt; reader.rest.len(), 0, "at {i}");
         assert!(rt; !reader.is_asked_for_more, "at {i}");
         assert_eq!(rt; status, *want_status, "at {i}");
@@ -83,7 +83,7 @@ fn the_rest_is_left(rt: HostRuntime) -> Result<(), Fail> {
         let mut reader = input.as_slice();
         let mut out = Vec::new(alloc);
         let mut err = Vec::new(alloc);
-        let status = serve(alloc, &words, &mut reader, &mut out, &mut err);
+        let status = serve(alloc, &words, &mut reader, &mut out, &mut err, None);
         assert_eq!(rt; reader, rest, "at {i}");
         assert_eq!(rt; status, *want_status, "at {i}");
     }

@@ -1,4 +1,5 @@
 //! Runs of the whole program, over input and output in memory.
+use cluster_map::ReadRoutingStrategy;
 use slotroute_serve::serve;
 use std::alloc::{AllocError, Global};
 use std::process::Abort;
@@ -21,20 +22,33 @@ pub fn words_of(alloc: Global, texts: &[&str]) -> Result<Vec<String>, AllocError
 }
 
 pub fn check(rt: &impl Abort, alloc: Global, runs: &[Run]) -> Result<(), Fail> {
-    for (i, (texts, input, want_out, want_err, want_status)) in runs.iter().enumerate() {
-        let words = words_of(alloc, texts)?;
-        let mut reader = *input;
-        let mut out = Vec::new(alloc);
-        let mut err = Vec::new(alloc);
-        let status = serve(alloc, &words, &mut reader, &mut out, &mut err);
-        assert_eq!(rt;
-            out.len(),
-            want_out.len(),
-            "length of the output of run {i}"
-        );
-        assert_eq!(rt; out.as_slice(), *want_out, "output of run {i}");
-        assert_eq!(rt; err.as_slice(), *want_err, "error stream of run {i}");
-        assert_eq!(rt; status, *want_status, "status of run {i}");
+    for (i, run) in runs.iter().enumerate() {
+        check_with(rt, alloc, i, run, None)?;
     }
+    Ok(())
+}
+
+/// One run, with a strategy that is handed in.
+pub fn check_with(
+    rt: &impl Abort,
+    alloc: Global,
+    i: usize,
+    run: &Run,
+    strategy: Option<Box<dyn ReadRoutingStrategy>>,
+) -> Result<(), Fail> {
+    let (texts, input, want_out, want_err, want_status) = *run;
+    let words = words_of(alloc, texts)?;
+    let mut reader = input;
+    let mut out = Vec::new(alloc);
+    let mut err = Vec::new(alloc);
+    let status = serve(alloc, &words, &mut reader, &mut out, &mut err, strategy);
+    assert_eq!(rt;
+        out.len(),
+        want_out.len(),
+        "length of the output of run {i}"
+    );
+    assert_eq!(rt; out.as_slice(), want_out, "output of run {i}");
+    assert_eq!(rt; err.as_slice(), want_err, "error stream of run {i}");
+    assert_eq!(rt; status, want_status, "status of run {i}");
     Ok(())
 }

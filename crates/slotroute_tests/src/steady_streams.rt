@@ -1,5 +1,5 @@
 //! Streams that cannot fail, over which the program answers or runs out of memory.
-ghost use Rattle.std.specs.Prelude.{◌≡◌, ◌⊎◌, ℕ, List, [], None, Some, map, string_bytes};
+ghost use Rattle.std.specs.Prelude.{◌≡◌, ◌⊎◌, ℕ, List, [], false, None, Some, map, string_bytes};
 ghost use Rattle.slotroute_serve.specs.Serves.{HasOutput, RanOutOfMemory};
 
 use crate::serve::{USAGE, words_of};
@@ -44,10 +44,12 @@ impl Sink for Counter {
 }
 
 fn serve_steadily(alloc: Global, words: &[String], out: &mut Counter, err: &mut Counter) -> u8
-    ensures { HasOutput (map string_bytes words.now) (Some []) (Some []) None None None None result
-        ⊎ RanOutOfMemory None None None None result }
+    ensures { HasOutput false (map string_bytes words.now) (Some []) (Some []) None None None None
+        result
+        ⊎ RanOutOfMemory false (map string_bytes words.now) (Some []) (Some []) None None None None
+        result }
 {
-    serve_streams(alloc, words, &mut Nothing, out, err)
+    serve_streams(alloc, words, &mut Nothing, out, err, None)
 }
 
 #[test]
