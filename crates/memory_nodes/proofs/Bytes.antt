@@ -1,18 +1,16 @@
 -- Trees whose keys are bytes.
-use Rattle.std.proofs.Common.{◌≡◌, ℕ, List, Bool, true, false, cond, Option, None, Vec, Global, sym, ap, ◌∙◌}
+use Rattle.std.proofs.Common.{◌≡◌, ℕ, List, Bool, true, false, cond, Option, Some, Vec, Global, refl, sym, ap, subst, ◌∙◌}
 use Rattle.std.specs.Ordering.{is_eq, nat_cmp}
 use Rattle.std.specs.Cmp.{eq_by_cmp_equiv}
 use Rattle.std.specs.Cmp.Lexicographic.{slice_cmp, nat_list_cmp_total, nat_list_eq_equiv}
 use Rattle.std.specs.Str.{bytes_eq}
 use Rattle.std.specs.Map.{lookup, IsKeyTest, AreApart, KeepsOthers}
-use Rattle.std.specs.BTreeMap.{BTreeMap, UpdatesBy}
-use Rattle.std.specs.List.{AllZip}
-use Rattle.std.specs.Option.{MatchOption, IsSomeAnd}
-use Rattle.std.proofs.lemmas.List.Elements.{same_from_all_zip}
+use Rattle.std.specs.BTreeMap.{BTreeMap, UpdatesBy, WritesThrough, is_at}
+use Rattle.std.specs.Prelude.{IsSome}
 use Rattle.std.proofs.lemmas.Map.Text.{is_eq-slice_cmp}
-use Rattle.std.proofs.lemmas.Map.Entries.{lookup_clone}
 use Rattle.std.proofs.lemmas.Slice.Eq.{bytes_eq-Decides}
 use Rattle.resp_core.proofs.Cases.{by_test}
+use Rattle.redis_nodes.specs.Unsplit.{put}
 use Rattle.memory_nodes.specs.Cells.{found}
 
 -- bytes that differ are not equal to one key
@@ -33,14 +31,14 @@ module _ {X : Type 0} where
       (λ e. rw e (ap (found n) (sym ((bytes_eq-Decides bs cs).0 e)) ∙ h.1))
       (λ e. rw e (others _ _ m.entries n.entries h.3 (λ key. is_eq (slice_cmp nat_cmp cs key.items)) (λ x y. (eq_by_cmp_equiv nat_list_cmp_total).congr cs x.items y.items) (λ key. apart bs cs key.items e)))
 
-  -- what a copy has
-  pub found-clone : (C : Vec ℕ Global → Vec ℕ Global → Type 0) (D : X → X → Type 0) → ((x y : Vec ℕ Global) → C x y → y.items ≡ x.items) → (m n : BTreeMap (Vec ℕ Global) X) → AllZip (λ p q. C p.0 q.0 × D p.1 q.1) m.entries n.entries → (cs : List ℕ) → MatchOption (found m cs) (found n cs ≡ None) (λ v. IsSomeAnd (found n cs) (D v))
-  found-clone C D keys m n h cs =
-      lookup_clone C D (λ key. is_eq (slice_cmp nat_cmp cs key.items)) (λ x y c. ap (λ b. is_eq (slice_cmp nat_cmp cs b)) (keys x y c)) m.entries n.entries h
+  -- the same as one `put`
+  pub found-put : (bs : List ℕ) (m n : BTreeMap (Vec ℕ Global) X) (w : Option X) → UpdatesBy (λ x y. slice_cmp nat_cmp x.items y.items) (λ key. slice_cmp nat_cmp bs key.items) m n w → found n ≡ put bs w (found m)
+  found-put bs m n w h = λ i cs. found-updates bs m n w h cs i
 
--- what `clone` says of a vector of bytes
-abbrev pub IsCopy : Vec ℕ Global → Vec ℕ Global → Type 0
-IsCopy x y = AllZip (λ a b. b ≡ a) x.items y.items × (y.len ≡ x.len)
+  -- trees of the same entries have the same at all bytes
+  pub found-same : (m n : BTreeMap (Vec ℕ Global) X) → n.entries ≡ m.entries → found n ≡ found m
+  found-same m n h = ap (λ es. λ bs. lookup (is_at (λ key. slice_cmp nat_cmp bs key.items)) es) h
 
-pub same_items : (x y : Vec ℕ Global) → IsCopy x y → y.items ≡ x.items
-same_items x y h = same_from_all_zip (λ a b. b ≡ a) x.items y.items h.0 (λ a b e. e)
+  -- what `get_mut` lent was there
+  pub found-lent : (bs : List ℕ) (m n : BTreeMap (Vec ℕ Global) X) (now w : X) → Some now ≡ found m bs → WritesThrough (λ x y. slice_cmp nat_cmp x.items y.items) (λ key. slice_cmp nat_cmp bs key.items) m w n → found n ≡ put bs (Some w) (found m)
+  found-lent bs m n now w there h = found-put bs m n (Some w) (h.3 (subst IsSome there refl))

@@ -1,5 +1,5 @@
 -- What the tuples of some arguments do, one after the other.
-use Rattle.std.proofs.Common.{◌≡◌, ℕ, ◌+◌, ◌-◌, ◌≤◌, List, [], ◌∷◌, ◌++◌, Bool, true, false, cond, Vec, Global, map, length, take, drop, get_or, refl, sym, ap, ◌∙◌, append_assoc, append-nil, length-drop, arith}
+use Rattle.std.proofs.Common.{◌≡◌, ℕ, ◌+◌, ◌-◌, ◌<◌, ◌≤◌, List, [], ◌∷◌, ◌++◌, Bool, true, false, cond, Vec, Global, map, length, take, drop, get_or, refl, sym, ap, ◌∙◌, append_assoc, append-nil, length-drop, arith}
 use Rattle.std.specs.Prelude.{count_by}
 use Rattle.std.proofs.lemmas.List.{length-map, take-map, drop-map, take_all}
 use Rattle.std.proofs.lemmas.List.Sums.{sum_by-cons}
@@ -77,6 +77,12 @@ module _ (kept more : List Reply) (old new : ℕ) (added : TupleResult) (rest al
       sym (sum_by-cons (λ r. cond r.counts 1 0) added rest) ∙ ap (count_by (λ r. r.counts)) one in
       omega (arith, is, next)
 
+wide : (pattern : MultiSlotArgPattern) → 1 ≤ width_of pattern
+wide KeysOnly = omega arith
+wide KeyValuePairs = omega arith
+wide KeysAndLastArg = omega arith
+wide KeyWithTwoArgTriples = omega arith
+
 -- no more tuples count than there are arguments
 pub few-more : (pattern : MultiSlotArgPattern) (counts : Bool) (old new width rest others all : ℕ) → new ≡ old + cond counts 1 0 → width ≡ width_of pattern → others + width ≡ rest → old + rest ≤ all → new + others ≤ all
 few-more pattern counts old new width rest others all is is_width cut few =
@@ -88,11 +94,11 @@ few-more pattern counts old new width rest others all is is_width cut few =
     at_most_one true = omega arith
     at_most_one false = omega arith
 
-    wide : (pattern : MultiSlotArgPattern) → 1 ≤ width_of pattern
-    wide KeysOnly = omega arith
-    wide KeyValuePairs = omega arith
-    wide KeysAndLastArg = omega arith
-    wide KeyWithTwoArgTriples = omega arith
+-- while there are arguments for a tuple, there is room for what it adds
+pub room-left : (pattern : MultiSlotArgPattern) (len capacity width rest : ℕ) → width ≡ width_of pattern → width ≤ rest → len + rest ≤ capacity → len < capacity
+room-left pattern len capacity width rest is_width enough room =
+    let some : 1 ≤ width_of pattern = wide pattern in
+    omega (arith, is_width, enough, room, some)
 
 -- where no tuple is left, what is kept is what all add
 pub all-kept : (kept : List Reply) (count : ℕ) (rest all : List TupleResult) → rest ≡ [] → kept ++ map (λ r. r.value) rest ≡ map (λ r. r.value) all → count + count_by (λ r. r.counts) rest ≡ count_by (λ r. r.counts) all → (kept ≡ map (λ r. r.value) all) × (count ≡ count_by (λ r. r.counts) all)

@@ -1,16 +1,18 @@
-ghost use Rattle.std.specs.Prelude.{◌≡◌, List, ℕ, IfOk, OnOk, Some, None, is_some, option_copied};
+ghost use Rattle.std.specs.Prelude.{◌≡◌, None, Some, IfOk, OnOk, OnErr, is_some, option_copied, option_map};
 ghost use Rattle.redis_nodes.specs.Unsplit.{put};
 ghost use Rattle.memory_nodes.specs.Cells.{cell_of, keyspace_of, value_at};
 ghost use Rattle.memory_nodes.specs.Steps.{alone, written};
+ghost use Rattle.memory_nodes.specs.Undo.{undone, cell_before};
 
+use crate::change::{Before, Change};
+use crate::tree::{Tree, put_at};
 use std::alloc::{AllocError, Global};
-use std::collections::BTreeMap;
 
 /// The values of one key, by path.
-pub(super) type Values = BTreeMap<Vec<u8>, Vec<u8>>;
+pub(super) type Values = Tree<Vec<u8>>;
 
 /// The values of each key.
-pub(super) type Cells = BTreeMap<Vec<u8>, Values>;
+pub(super) type Cells = Tree<Values>;
 
 /// The value at a path of a key.
 pub(super) fn value_at<'a>(cells: &'a Cells, key: &[u8], path: &[u8]) -> Option<&'a [u8]>
@@ -28,7 +30,7 @@ pub(super) fn is_there(cells: &Cells, key: &[u8]) -> bool
     cells.contains_key(key)
 }
 
-/// Removes a key, and answers whether it was there.
+/// Removes a key, and answers whether it was there. Takes no memory.
 pub(super) fn remove(cells: &mut Cells, key: &[u8]) -> bool
     ensures cells { keyspace_of cells.new ≡ put key.now None (keyspace_of cells.old) }
     ensures there { result ≡ is_some (keyspace_of cells.old key.now) }
@@ -37,85 +39,86 @@ pub(super) fn remove(cells: &mut Cells, key: &[u8]) -> bool
 }
 
 /// Puts a value at the empty path of a key, and keeps no other value of it.
-pub(super) fn write(
+pub(super) fn write<'a>(
     alloc: Global,
     cells: &mut Cells,
-    key: &[u8],
+    key: &'a [u8],
     value: &[u8],
-) -> Result<(), AllocError>
-    ensures { OnOk result
+) -> Result<Change<'a>, AllocError>
+    ensures cells { OnOk result
         (keyspace_of cells.new ≡ put key.now (Some (alone value.now)) (keyspace_of cells.old)) }
+    ensures undo { IfOk result
+        (λ change. undone change (keyspace_of cells.new) ≡ keyspace_of cells.old) }
+    ensures memory { OnErr result (keyspace_of cells.new ≡ keyspace_of cells.old) }
 {
-    let mut values = Values::new(alloc);
-    put_value(alloc, &mut values, b"", value)?;
-    put_values(alloc, cells, key, values)?;
-    Ok(())
+    write_alone(alloc, cells, key, b"", value)
 }
 
 /// Puts a value at a path of a key, and keeps those at other paths.
-pub(super) fn write_at_path(
+pub(super) fn write_at_path<'a>(
     alloc: Global,
     cells: &mut Cells,
-    key: &[u8],
-    path: &[u8],
+    key: &'a [u8],
+    path: &'a [u8],
     value: &[u8],
-) -> Result<(), AllocError>
-    ensures { OnOk result
+) -> Result<Change<'a>, AllocError>
+    ensures cells { OnOk result
         (keyspace_of cells.new
         ≡ put key.now (Some (written path.now value.now (keyspace_of cells.old key.now)))
         (keyspace_of cells.old)) }
+    ensures undo { IfOk result
+        (λ change. undone change (keyspace_of cells.new) ≡ keyspace_of cells.old) }
+    ensures memory { OnErr result (keyspace_of cells.new ≡ keyspace_of cells.old) }
 {
-    let mut values = take_values(alloc, cells, key);
-    put_value(alloc, &mut values, path, value)?;
-    put_values(alloc, cells, key, values)?;
-    Ok(())
-}
-
-/// Takes the values of a key out. There are none where the key is not there.
-fn take_values(alloc: Global, cells: &mut Cells, key: &[u8]) -> Values
-    ensures values { cell_of result ≡ value_at (keyspace_of cells.old key.now) }
-    ensures cells { keyspace_of cells.new ≡ put key.now None (keyspace_of cells.old) }
-{
-    match cells.remove(key) {
-        Some(values) => values,
-        None => Values::new(alloc),
+    match cells.get_mut(key) {
+        Some(values) => {
+            let before = put_value(alloc, values, path, value)?;
+            Ok(Change {
+                key,
+                before: Before::AtPath(path, before),
+            })
+        }
+        None => write_alone(alloc, cells, key, path, value),
     }
 }
 
-/// Puts a value at a path.
+/// Puts a value at a path of a key, and keeps no other value of it.
+fn write_alone<'a>(
+    alloc: Global,
+    cells: &mut Cells,
+    key: &'a [u8],
+    path: &[u8],
+    value: &[u8],
+) -> Result<Change<'a>, AllocError>
+    ensures cells { OnOk result
+        (keyspace_of cells.new ≡ put key.now (Some (written path.now value.now None))
+        (keyspace_of cells.old)) }
+    ensures undo { IfOk result
+        (λ change. undone change (keyspace_of cells.new) ≡ keyspace_of cells.old) }
+    ensures memory { OnErr result (keyspace_of cells.new ≡ keyspace_of cells.old) }
+{
+    let mut values = Values::new(alloc);
+    put_value(alloc, &mut values, path, value)?;
+    let before = put_at(alloc, cells, key, values)?;
+    Ok(Change {
+        key,
+        before: Before::AtKey(before),
+    })
+}
+
+/// Puts a value at a path, and gives what stood there.
 fn put_value(
     alloc: Global,
     values: &mut Values,
     path: &[u8],
     value: &[u8],
-) -> Result<(), AllocError>
-    ensures { OnOk result
+) -> Result<Option<Vec<u8>>, AllocError>
+    ensures values { OnOk result
         (cell_of values.new ≡ put path.now (Some value.now) (cell_of values.old)) }
+    ensures before { IfOk result
+        (λ before. option_map (λ v. v.items) before ≡ cell_of values.old path.now) }
+    ensures memory { OnErr result (cell_of values.new ≡ cell_of values.old) }
 {
-    values.insert(path.to_vec(alloc)?, value.to_vec(alloc)?)?;
-    Ok(())
-}
-
-/// Puts values at a key, in the place of what is there.
-fn put_values(
-    alloc: Global,
-    cells: &mut Cells,
-    key: &[u8],
-    values: Values,
-) -> Result<(), AllocError>
-    ensures { OnOk result
-        (keyspace_of cells.new ≡ put key.now (Some (cell_of values)) (keyspace_of cells.old)) }
-{
-    cells.insert(key.to_vec(alloc)?, values)?;
-    Ok(())
-}
-
-/// A copy of the values of each key.
-pub(super) fn copy(cells: &Cells) -> Result<Cells, AllocError>
-    ensures { IfOk result (λ copy. keyspace_of copy ≡ keyspace_of cells.now) }
-{
-    match cells.clone() {
-        Ok(copy) => Ok(copy),
-        Err(error) => Err(error),
-    }
+    let before = put_at(alloc, values, path, value.to_vec(alloc)?)?;
+    Ok(before)
 }

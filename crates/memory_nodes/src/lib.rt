@@ -3,9 +3,11 @@
 
 mod action;
 mod cells;
+mod change;
 mod nodes;
 mod results;
 mod trace_entry;
+mod tree;
 mod tuples;
 mod whole_command;
 

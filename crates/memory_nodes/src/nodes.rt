@@ -9,7 +9,7 @@ ghost use Rattle.memory_nodes.specs.Nodes.{keyspace_in, trace_in, mark_in, MayRe
 ghost use Rattle.memory_nodes.specs.Parts.{words};
 ghost use Rattle.memory_nodes.specs.Steps.{step};
 
-use crate::cells::{Cells, copy, value_at};
+use crate::cells::{Cells, value_at};
 use crate::trace_entry::TraceEntry;
 use crate::tuples::run;
 use cluster_slots::NodeAddress;
@@ -18,7 +18,8 @@ use resp_core::{Cmd, ErrorKind, RedisError, Value};
 use std::alloc::{AllocError, Global};
 
 /// Nodes that share one keyspace in memory, keep a trace of what they are sent, and refuse from the
-/// send on that their fuse names.
+/// send on that their fuse names. A send looks each of its keys up in a tree, and touches no other
+/// key.
 #[derive(Drop)]
 pub struct MemoryNodes {
     alloc: Global,
@@ -81,7 +82,8 @@ impl MemoryNodes {
         }
     }
 
-    /// Answers a command. Whatever memory it takes, it takes before it changes anything.
+    /// Answers a command, at the cost of the command alone. Where memory runs out, what it changed
+    /// is undone.
     fn answer(&mut self, node: &NodeAddress, cmd: &Cmd) -> Result<Value, AllocError>
         requires whole { IsSome (multi_key (map Some cmd.now)) }
         ensures reply { IfOk result
@@ -97,10 +99,9 @@ impl MemoryNodes {
         ensures fuse { self.new.fuse ≡ self.old.fuse }
     {
         let entry = TraceEntry::new(self.alloc, node, cmd, true)?;
-        let mut cells = copy(&self.cells)?;
-        let reply = run(self.alloc, &mut cells, cmd, &entry.args)?;
-        self.trace.push(entry)?;
-        self.cells = cells;
+        self.trace.reserve(1)?;
+        let reply = run(self.alloc, &mut self.cells, cmd, &entry.args)?;
+        self.trace.push_reserved(entry);
         Ok(reply)
     }
 

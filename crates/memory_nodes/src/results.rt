@@ -1,4 +1,5 @@
-ghost use Rattle.std.specs.Prelude.{◌≡◌, ◌<◌, ◌^◌, ◌+◌, ◌++◌, ◌∷◌, [], List, Bool, false, map, cond, OnOk, IfSome};
+ghost use Rattle.std.specs.Prelude.{◌≡◌, ◌<◌, ◌≤◌, ◌^◌, ◌+◌, ◌++◌, ◌∷◌, [], List, Bool, false, map, cond, IfOk, IfSome};
+ghost use Rattle.std.specs.Vec.{vec_len, vec_capacity};
 ghost use Rattle.resp_core.specs.Reply.{nil};
 ghost use Rattle.resp_core.specs.View.{view};
 ghost use Rattle.redis_nodes.specs.MultiKey.{form_by_policy};
@@ -50,27 +51,30 @@ pub(super) struct Results {
 }
 
 impl Results {
-    /// What no tuple adds.
-    pub(super) fn new(alloc: Global) -> Results
-        ensures { AreKept result [] }
+    /// What no tuple adds, with room for what so many tuples add.
+    pub(super) fn with_room(alloc: Global, tuples: usize) -> Result<Results, AllocError>
+        ensures empty { IfOk result (λ results. AreKept results []) }
+        ensures room { IfOk result
+            (λ results. vec_len results.values + tuples ≤ vec_capacity results.values) }
     {
-        Results {
-            values: Vec::new(alloc),
+        Ok(Results {
+            values: Vec::with_capacity(alloc, tuples)?,
             count: 0,
-        }
+        })
     }
 
-    /// Adds what the next tuple adds.
-    pub(super) fn add(&mut self, added: KeyResult) -> Result<(), AllocError>
-        requires { self.old.count + 1 < 2 ^ 64 }
-        ensures values { OnOk result
-            (map view self.new.values.items ≡ map view self.old.values.items
-            ++ view added.value ∷ []) }
+    /// Adds what the next tuple adds. Takes no memory.
+    pub(super) fn add(&mut self, added: KeyResult)
+        requires few { self.old.count + 1 < 2 ^ 64 }
+        requires room { vec_len self.old.values < vec_capacity self.old.values }
+        ensures values { map view self.new.values.items ≡ map view self.old.values.items
+            ++ view added.value ∷ [] }
         ensures count { self.new.count ≡ self.old.count + cond added.counts 1 0 }
+        ensures len { vec_len self.new.values ≡ vec_len self.old.values + 1 }
+        ensures room { vec_capacity self.new.values ≡ vec_capacity self.old.values }
     {
         self.count += usize::from(added.counts);
-        self.values.push(added.value)?;
-        Ok(())
+        self.values.push_reserved(added.value);
     }
 
     /// The reply that a policy makes of them.

@@ -1,4 +1,4 @@
-ghost use Rattle.std.specs.Prelude.{◌≡◌, ◌<◌, ◌^◌, [], false, None, IfOk, OnOk, IfSome, IsSome, Some, length, map, slice_get, slice_index_or};
+ghost use Rattle.std.specs.Prelude.{◌≡◌, ◌<◌, ◌^◌, [], false, None, IfOk, OnOk, OnErr, IfSome, IsSome, Some, length, map, slice_get, slice_index_or};
 ghost use Rattle.resp_core.specs.View.{view};
 ghost use Rattle.redis_nodes.specs.MultiKey.{multi_key};
 ghost use Rattle.redis_nodes.specs.Unsplit.{put, after, results, keyspace_after, reply_to};
@@ -6,15 +6,18 @@ ghost use Rattle.memory_nodes.specs.Cells.{keyspace_of, value_at};
 ghost use Rattle.memory_nodes.specs.Parts.{words, key_tuples, act_on};
 ghost use Rattle.memory_nodes.specs.Results.{result_of, AreKept};
 ghost use Rattle.memory_nodes.specs.Steps.{act, shown, step};
+ghost use Rattle.memory_nodes.specs.Undo.{before_all};
 
 use crate::action::Action;
 use crate::cells::{Cells, is_there, remove, value_at, write, write_at_path};
+use crate::change::{Change, undo_all};
 use crate::results::{KeyResult, Results};
 use crate::whole_command::WholeCommand;
 use resp_core::{Cmd, Value};
 use std::alloc::{AllocError, Global};
 
-/// Runs a command over many keys whose arguments are these, and answers it.
+/// Runs a command over many keys whose arguments are these, and answers it. Where memory runs out,
+/// the keyspace is as it was.
 pub(super) fn run(
     alloc: Global,
     cells: &mut Cells,
@@ -28,17 +31,25 @@ pub(super) fn run(
         (λ command. view value ≡ reply_to step command (keyspace_of cells.old))) }
     ensures cells { OnOk result (IfSome (multi_key (map Some cmd.now))
         (λ command. keyspace_of cells.new ≡ keyspace_after step command (keyspace_of cells.old))) }
+    ensures memory { OnErr result (keyspace_of cells.new ≡ keyspace_of cells.old) }
 {
     let whole = WholeCommand::new(alloc, cmd, args)?;
-    let results = run_tuples(alloc, cells, &whole)?;
-    Ok(results.into_reply(whole.policy))
+    let mut changes = Vec::new(alloc);
+    match run_tuples(alloc, cells, &whole, &mut changes) {
+        Ok(results) => Ok(results.into_reply(whole.policy)),
+        Err(error) => {
+            undo_all(cells, changes);
+            Err(error)
+        }
+    }
 }
 
-/// Runs the tuples of a command, one after the other.
-fn run_tuples(
+/// Runs the tuples of a command, one after the other, and adds what the writes changed.
+fn run_tuples<'a>(
     alloc: Global,
     cells: &mut Cells,
-    whole: &WholeCommand<'_>,
+    whole: &WholeCommand<'a>,
+    changes: &mut Vec<Change<'a>>,
 ) -> Result<Results, AllocError>
     requires few { length whole.now.tuples.now < 2 ^ 63 }
     ensures cells { OnOk result
@@ -49,10 +60,14 @@ fn run_tuples(
         (results (act_on whole.now) (key_tuples whole.now.pattern (words whole.now.tuples.now))
         (keyspace_of cells.old))) }
     ensures few { IfOk result (λ kept. kept.count < 2 ^ 63) }
+    // Where memory runs out, undoing the changes leads back.
+    ensures undo { OnErr result
+        (before_all changes.new.items (keyspace_of cells.new)
+        ≡ before_all changes.old.items (keyspace_of cells.old)) }
 {
     let action = Action::of_name(&whole.name);
     let width = whole.pattern.width();
-    let mut results = Results::new(alloc);
+    let mut results = Results::with_room(alloc, whole.tuples.len())?;
     let mut rest = whole.tuples;
     while rest.len() >= width {
         let (tuple, others) = rest.split_at(width);
@@ -63,21 +78,24 @@ fn run_tuples(
             whole.shared,
             word(tuple, 0),
             &tuple[1..],
+            changes,
         )?;
-        results.add(added)?;
+        results.add(added);
         rest = others;
     }
     Ok(results)
 }
 
-/// Runs one tuple: a key and what goes with it.
-fn run_tuple(
+/// Runs one tuple: a key and what goes with it. A write adds what it changed. A removal cannot be
+/// undone, and takes no memory.
+fn run_tuple<'a>(
     alloc: Global,
     cells: &mut Cells,
     action: Action,
     shared: &[Vec<u8>],
-    key: &[u8],
-    extras: &[Vec<u8>],
+    key: &'a [u8],
+    extras: &'a [Vec<u8>],
+    changes: &mut Vec<Change<'a>>,
 ) -> Result<KeyResult, AllocError>
     ensures cells { OnOk result
         (keyspace_of cells.new
@@ -88,6 +106,10 @@ fn run_tuple(
         (λ added. result_of added
         ≡ (act action (slice_get (words shared.now) 0) (words extras.now)
         (keyspace_of cells.old key.now)).result) }
+    ensures undo { ¬ (action ≡ Action.Remove)
+        → before_all changes.new.items (keyspace_of cells.new)
+        ≡ before_all changes.old.items (keyspace_of cells.old) }
+    ensures removal { OnErr result (¬ (action ≡ Action.Remove)) }
 {
     match action {
         Action::Read => read(alloc, cells, key, b""),
@@ -96,11 +118,15 @@ fn run_tuple(
         Action::Remove => Ok(KeyResult::counted(remove(cells, key))),
         Action::Leave => Ok(KeyResult::counted(false)),
         Action::Write => {
-            write(alloc, cells, key, word(extras, 0))?;
+            changes.reserve(1)?;
+            let change = write(alloc, cells, key, word(extras, 0))?;
+            changes.push_reserved(change);
             Ok(KeyResult::counted(false))
         }
         Action::WriteAtPath => {
-            write_at_path(alloc, cells, key, word(extras, 0), word(extras, 1))?;
+            changes.reserve(1)?;
+            let change = write_at_path(alloc, cells, key, word(extras, 0), word(extras, 1))?;
+            changes.push_reserved(change);
             Ok(KeyResult::counted(false))
         }
     }
@@ -110,7 +136,9 @@ fn run_tuple(
 fn read(alloc: Global, cells: &Cells, key: &[u8], path: &[u8]) -> Result<KeyResult, AllocError>
     ensures { IfOk result
         (λ read. result_of read ≡ record {
-        value = shown (value_at (keyspace_of cells.now key.now) path.now); counts = false }) }
+          value = shown (value_at (keyspace_of cells.now key.now) path.now);
+          counts = false;
+        }) }
 {
     match value_at(cells, key, path) {
         Some(value) => Ok(KeyResult::value(Value::BulkString(value.to_vec(alloc)?))),

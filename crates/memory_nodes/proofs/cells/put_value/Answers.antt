@@ -1,14 +1,17 @@
 use Rattle.std.proofs.Common.{ap, ◌∙◌, Some}
 use Rattle.redis_nodes.specs.Unsplit.{put}
 use Rattle.memory_nodes.specs.Cells.{cell_of}
-use Rattle.memory_nodes.proofs.Keyspaces.{cell-updates}
+use Rattle.memory_nodes.proofs.Keyspaces.{cell-put, cell-same}
+use Rattle.memory_nodes.proofs.Undoing.{at-err}
 use Rattle.memory_nodes.proofs.cells.put_value.Goals as goal
 
-pub returns : goal.returns
-returns c =
-    let path = c.in_ok-to_vec.field-0 in
-    let value = c.in_ok-to_vec-2.field-0 in
-    let old = cell_of c.args.values.now in
-    cell-updates path.items c.args.values.now c.insert.new.self (Some value) c.in_ok-insert.ensures.updates
-    ∙ ap (λ p. put p (Some value.items) old) (c.in_ok-to_vec.ensures.items_if_clones_equal (λ x y e. e))
-    ∙ ap (λ v. put c.args.path.now (Some v) old) (c.in_ok-to_vec-2.ensures.items_if_clones_equal (λ x y e. e))
+pub returns-clause-values : goal.returns-clause-values
+returns-clause-values c =
+    let path = c.args.path.now in
+    let old = c.args.values.now in
+    cell-put path old c.put_at.new.tree (Some c.in_ok-to_vec.field-0) c.in_ok-before.ensures.tree
+    ∙ ap (λ v. put path (Some v) (cell_of old)) (c.in_ok-to_vec.ensures.items_if_clones_equal (λ x y e. e))
+
+pub returns-in_err-before-clause-memory : goal.returns-in_err-before-clause-memory
+returns-in_err-before-clause-memory c =
+    at-err c.from_residual-in_err-before.result _ (cell-same c.args.values.now c.put_at.new.tree c.in_err-before.ensures.memory)

@@ -1,5 +1,6 @@
-use Rattle.std.proofs.Common.{◌≡◌, ◌-◌, ◌<◌, [], ◌∷◌, map, length, take, drop, subst, sym, ap, ◌∙◌}
+use Rattle.std.proofs.Common.{◌≡◌, ◌+◌, ◌-◌, ◌<◌, ◌≤◌, true, [], ◌∷◌, map, length, take, drop, subst, sym, ap, ◌∙◌}
 use Rattle.std.specs.Prelude.{slice_get}
+use Rattle.std.specs.Vec.{vec_len, vec_capacity}
 use Rattle.std.proofs.lemmas.List.{length-map}
 use Rattle.resp_core.specs.View.{view}
 use Rattle.redis_commands.specs.Tuples.{width_of}
@@ -9,7 +10,8 @@ use Rattle.memory_nodes.specs.Parts.{words, key_tuples, act_on}
 use Rattle.memory_nodes.specs.Results.{result_of}
 use Rattle.memory_nodes.specs.Steps.{act, action_of}
 use Rattle.memory_nodes.proofs.KeyTuples.{first_tuple, no-tuple}
-use Rattle.memory_nodes.proofs.Running.{after-more, results-more, enough_words, words_back, key_is, extras_are, values-more, count-more, few-more, all-kept}
+use Rattle.memory_nodes.proofs.Running.{after-more, results-more, enough_words, words_back, key_is, extras_are, values-more, count-more, few-more, room-left, all-kept}
+use Rattle.memory_nodes.proofs.Undoing.{at-err}
 use Rattle.memory_nodes.proofs.tuples.run_tuples.Goals as goal
 
 pub loop-rest-preserved : goal.loop-rest-preserved
@@ -47,10 +49,19 @@ loop-rest-preserved c =
     ∙ results-more (act_on whole) pattern (words rest) enough_left old new is_after in
     record {
       cells = ap (λ xs. after (act_on whole) (key_tuples pattern xs) new) left ∙ after-more (act_on whole) pattern (words rest) enough_left old new is_after ∙ c.loop-rest.invariant.cells;
-      values = values-more (map view c.loop-rest.results.values.items) (map view c.add.new.self.values.items) c.loop-rest.results.count c.add.new.self.count (result_of c.in_ok-added.added) (results (act_on whole) (key_tuples pattern (words others)) new) (results (act_on whole) (key_tuples pattern (words rest)) old) c.in_ok-add.ensures.values all_results ∙ c.loop-rest.invariant.values;
-      count = count-more (map view c.loop-rest.results.values.items) (map view c.add.new.self.values.items) c.loop-rest.results.count c.add.new.self.count (result_of c.in_ok-added.added) (results (act_on whole) (key_tuples pattern (words others)) new) (results (act_on whole) (key_tuples pattern (words rest)) old) c.in_ok-add.ensures.count all_results ∙ c.loop-rest.invariant.count;
-      few = few-more pattern c.in_ok-added.added.counts c.loop-rest.results.count c.add.new.self.count width (length rest) (length others) (length whole.tuples.now) c.in_ok-add.ensures.count c.width-width.ensures c.split_at.ensures.back_len c.loop-rest.invariant.few;
+      values = values-more (map view c.loop-rest.results.values.items) (map view c.add.new.self.values.items) c.loop-rest.results.count c.add.new.self.count (result_of c.in_ok-added.added) (results (act_on whole) (key_tuples pattern (words others)) new) (results (act_on whole) (key_tuples pattern (words rest)) old) c.add.ensures.values all_results ∙ c.loop-rest.invariant.values;
+      count = count-more (map view c.loop-rest.results.values.items) (map view c.add.new.self.values.items) c.loop-rest.results.count c.add.new.self.count (result_of c.in_ok-added.added) (results (act_on whole) (key_tuples pattern (words others)) new) (results (act_on whole) (key_tuples pattern (words rest)) old) c.add.ensures.count all_results ∙ c.loop-rest.invariant.count;
+      few = few-more pattern c.in_ok-added.added.counts c.loop-rest.results.count c.add.new.self.count width (length rest) (length others) (length whole.tuples.now) c.add.ensures.count c.width-width.ensures c.split_at.ensures.back_len c.loop-rest.invariant.few;
+      room = few-more pattern true (vec_len c.loop-rest.results.values) (vec_len c.add.new.self.values) width (length rest) (length others) (vec_capacity c.add.new.self.values) c.add.ensures.len c.width-width.ensures c.split_at.ensures.back_len (subst (λ n. vec_len c.loop-rest.results.values + length rest ≤ n) (sym c.add.ensures.room) c.loop-rest.invariant.room);
+      undo = λ kept. c.in_ok-added.ensures.undo kept ∙ c.loop-rest.invariant.undo kept;
     }
+
+pub add-requires-clause-room : goal.add-requires-clause-room
+add-requires-clause-room c = room-left c.args.whole.now.pattern (vec_len c.loop-rest.results.values) (vec_capacity c.loop-rest.results.values) c.width-width.result (length c.loop-rest.rest.now) c.width-width.ensures c.loop-rest-test.true c.loop-rest.invariant.room
+
+pub returns-in_err-added-clause-undo : goal.returns-in_err-added-clause-undo
+returns-in_err-added-clause-undo c =
+    at-err c.from_residual-in_err-added.result _ (c.in_err-added.ensures.undo c.in_err-added.ensures.removal ∙ c.loop-rest.invariant.undo c.in_err-added.ensures.removal)
 
 pub returns-clause-results : goal.returns-clause-results
 returns-clause-results c =

@@ -1,0 +1,30 @@
+-- What undoing a write restores. It takes no memory, so it only writes over what is there, or
+-- removes it.
+use Rattle.std.specs.Prelude.{List, [], ◌∷◌, Option, None, Some, option_map}
+use Rattle.redis_nodes.specs.Unsplit.{Keyspace, put}
+use Rattle.memory_nodes.specs.Cells.{Cell, cell_of}
+use Rattle.memory_nodes.specs.declared.change.Before.{Before}
+use Rattle.memory_nodes.specs.declared.change.Before.TheVariants.{AtKey, AtPath}
+use Rattle.memory_nodes.specs.declared.change.Change.{Change}
+
+-- what stood at a place before goes in the place of what is there now
+abbrev pub back : {X : Type 0} → Option X → Option X → Option X
+back None now = None
+back (Some before) now = option_map (λ x. before) now
+
+-- the cell of the key
+abbrev pub cell_before : Before → Option Cell → Option Cell
+cell_before (AtKey before) now = back (option_map cell_of before) now
+cell_before (AtPath path before) now =
+    option_map (λ cell. put path.now (back (option_map (λ v. v.items) before) (cell path.now)) cell)
+    now
+
+-- the keyspace
+abbrev pub undone : Change → Keyspace Cell → Keyspace Cell
+undone change keyspace =
+    put change.key.now (cell_before change.before (keyspace change.key.now)) keyspace
+
+-- the keyspace before some changes, of which the first was made first
+abbrev pub before_all : List Change → Keyspace Cell → Keyspace Cell
+before_all [] keyspace = keyspace
+before_all (change ∷ later) keyspace = undone change (before_all later keyspace)

@@ -1,0 +1,42 @@
+ghost use Rattle.std.specs.Prelude.{◌≡◌, Some, IfOk, OnOk, OnErr};
+ghost use Rattle.redis_nodes.specs.Unsplit.{put};
+ghost use Rattle.memory_nodes.specs.Cells.{found};
+ghost use Rattle.memory_nodes.specs.Undo.{back};
+
+use std::alloc::{AllocError, Global};
+use std::collections::BTreeMap;
+
+/// What stands at some bytes.
+pub(super) type Tree<V> = BTreeMap<Vec<u8>, V>;
+
+/// Puts a value at some bytes, in the place of what is there, and gives that.
+pub(super) fn put_at<V: Drop>(
+    alloc: Global,
+    tree: &mut Tree<V>,
+    bytes: &[u8],
+    value: V,
+) -> Result<Option<V>, AllocError>
+    ensures tree { OnOk result (found tree.new ≡ put bytes.now (Some value) (found tree.old)) }
+    ensures before { IfOk result (λ before. before ≡ found tree.old bytes.now) }
+    ensures memory { OnErr result (found tree.new ≡ found tree.old) }
+{
+    let before = tree.insert(bytes.to_vec(alloc)?, value)?;
+    Ok(before)
+}
+
+/// Puts back what stood at some bytes before, in the place of what is there now. Takes no memory.
+pub(super) fn put_back<V: Drop>(tree: &mut Tree<V>, bytes: &[u8], before: Option<V>)
+    ensures { found tree.new
+        ≡ put bytes.now (back before (found tree.old bytes.now)) (found tree.old) }
+{
+    match before {
+        Some(before) => {
+            if let Some(now) = tree.get_mut(bytes) {
+                *now = before;
+            }
+        }
+        None => {
+            tree.remove(bytes);
+        }
+    }
+}
