@@ -1,6 +1,6 @@
 -- What undoing a write restores. It takes no memory, so it only writes over what is there, or
 -- removes it.
-use Rattle.std.specs.Prelude.{List, [], ◌∷◌, Option, None, Some, option_map}
+use Rattle.std.specs.Prelude.{ℕ, List, [], ◌∷◌, Option, None, Some, option_map}
 use Rattle.redis_nodes.specs.Unsplit.{Keyspace, put}
 use Rattle.memory_nodes.specs.Cells.{Cell, cell_of}
 use Rattle.memory_nodes.specs.declared.change.Before.{Before}
@@ -12,12 +12,15 @@ abbrev pub back : {X : Type 0} → Option X → Option X → Option X
 back None now = None
 back (Some before) now = option_map (λ x. before) now
 
--- the cell of the key
+-- the cell of a key, where one path was written
+abbrev pub path_before : List ℕ → Option (List ℕ) → Cell → Cell
+path_before path before cell = put path (back before (cell path)) cell
+
+-- the cell of a key
 abbrev pub cell_before : Before → Option Cell → Option Cell
 cell_before (AtKey before) now = back (option_map cell_of before) now
 cell_before (AtPath path before) now =
-    option_map (λ cell. put path.now (back (option_map (λ v. v.items) before) (cell path.now)) cell)
-    now
+    option_map (path_before path.now (option_map (λ v. v.items) before)) now
 
 -- the keyspace
 abbrev pub undone : Change → Keyspace Cell → Keyspace Cell
