@@ -1,5 +1,8 @@
 //! Runs of commands, over input and output in memory.
+ghost use Rattle.cluster_map.specs.Candidates.{IsCandidate};
+
 use crate::serve::{Run, USAGE, check, check_with};
+use cluster_map::{ClusterTopology, NodeAddress, ReadCandidates, ReadRoutingStrategy};
 use example_strategies::{FirstReplica, PickIndex, ShardAware};
 use std::test::Fail;
 
@@ -175,6 +178,44 @@ fn a_strategy_is_told_of_the_shards(rt: HostRuntime) -> Result<(), Fail> {
         0,
     );
     check_with(&rt, alloc, 1, &run, Some(Box::new(alloc, ShardAware::new())?))
+}
+
+/// Picks the candidate whose index is the number of times that it was told of shards.
+#[derive(Drop)]
+struct CountsTold {
+    by_count: PickIndex,
+}
+
+impl ReadRoutingStrategy for CountsTold {
+    ghost picks = { λ s c address. IsCandidate c address };
+
+    ghost picks_candidates = { λ s c address here. here };
+
+    fn on_topology_changed(&mut self, topology: ClusterTopology) {
+        let _ = topology;
+        self.by_count = PickIndex::new(self.by_count.0.saturating_add(1));
+    }
+
+    fn route_read<'a>(&self, candidates: &ReadCandidates<'a>) -> &'a NodeAddress {
+        self.by_count.route_read(candidates)
+    }
+}
+
+// The primary has the index 0, and the first replica 1.
+#[test]
+fn a_strategy_is_told_once(rt: HostRuntime) -> Result<(), Fail> {
+    let alloc = rt.alloc();
+    let run: Run = (
+        &["run", "forward"],
+        b"0 8191 p:1 r:1 r:2\n8192 16383 p:1 r:1 r:2\n\nMGET a b\nMGET a\n",
+        b"r:1 MGET a\nr:1 MGET b\n[nil, nil]\nr:1 MGET a\n[nil]\n",
+        b"",
+        0,
+    );
+    let strategy = CountsTold {
+        by_count: PickIndex::new(0),
+    };
+    check_with(&rt, alloc, 0, &run, Some(Box::new(alloc, strategy)?))
 }
 
 #[test]
