@@ -1,4 +1,4 @@
-//! Nodes that run out of memory at one send.
+//! Nodes that run out of memory at one send, and at no later one.
 ghost use Rattle.memory_nodes.specs.Cells.{Cell};
 ghost use Rattle.memory_nodes.specs.Nodes.{keyspace_in, trace_in, MayRefuse};
 ghost use Rattle.memory_nodes.specs.Steps.{step};
@@ -12,7 +12,7 @@ use resp_core::{Cmd, Value};
 use std::alloc::Global;
 use std::test::Fail;
 
-/// Nodes in memory that answer so many sends, and run out of memory at the next.
+/// Nodes in memory that answer so many sends, run out of memory at the next, and answer again.
 #[derive(Drop)]
 struct ShortOfMemory {
     nodes: MemoryNodes,
@@ -35,6 +35,7 @@ impl Nodes for ShortOfMemory {
 
     fn send(&mut self, node: &NodeAddress, cmd: &Cmd) -> Result<Value, SendError> {
         if self.sends_left == 0 {
+            self.sends_left = usize::MAX;
             self.mark = true;
             return Err(SendError::Memory);
         }
