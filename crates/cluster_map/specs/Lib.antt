@@ -14,7 +14,6 @@ pub use Rattle.read_strategies.specs.Shards
 pub use Rattle.read_strategies.specs.ShardsToGive
 pub use Rattle.read_strategies.specs.Topology
 pub use Rattle.slot_ranges.specs.RangeMap
-pub use Rattle.slot_ranges.specs.RangeTree
 pub use Rattle.slot_ranges.specs.SlotNodes
 pub use Rattle.slot_ranges.specs.SlotsReply
 pub mod Fallback

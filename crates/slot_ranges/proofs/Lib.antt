@@ -1,3 +1,3 @@
+pub mod Places
 pub mod Ranges
 pub mod SameRanges
-pub mod Trees

@@ -4,5 +4,4 @@ pub use Rattle.resp_core.specs.Reply
 pub use Rattle.resp_core.specs.View
 pub mod SlotNodes
 pub mod RangeMap
-pub mod RangeTree
 pub mod SlotsReply

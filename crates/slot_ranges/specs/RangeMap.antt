@@ -1,5 +1,5 @@
 -- Entries of slot ranges with distinct ends, and which of them answers for a slot.
-use Rattle.std.specs.Prelude.{◌≡◌, ◌<◌, ◌≤◌, ℕ, nat_lt, List, [], ◌∷◌, ◌++◌, filter, Contains}
+use Rattle.std.specs.Prelude.{◌≡◌, ◌<◌, ◌≤◌, ℕ, nat_eq, nat_lt, Bool, false, Option, Some, None, List, [], ◌∷◌, ◌++◌, filter, Contains}
 
 -- a start, an end and a value
 abbrev pub Entry : Type 0 → Type 0
@@ -10,6 +10,11 @@ end_of e = e.1
 
 abbrev pub value_of : {V : Type 0} → Entry V → V
 value_of e = e.2
+
+-- whether there is an entry, with this end
+abbrev pub ends_at : {V : Type 0} → ℕ → Option (Entry V) → Bool
+ends_at end None = false
+ends_at end (Some e) = nat_eq (end_of e) end
 
 -- the ends ascend, so they are distinct
 abbrev pub EndsAfter : {V : Type 0} → ℕ → List (Entry V) → Type 0

@@ -1,31 +1,50 @@
-ghost use Rattle.std.specs.Prelude.{◌≡◌, [], map, IfOk, OnOk, OnErr, MatchOption};
+ghost use Rattle.std.specs.Prelude.{◌≡◌, ◌≤◌, nat_lt, [], length, map, filter, slice_get, IfOk, OnOk, OnErr, MatchOption};
+ghost use Rattle.std.specs.Slice.Iter.{iter_rest};
 ghost use Rattle.std.specs.Iterator.{YieldsFirstBy, YieldsFirstRef, item_count};
-ghost use Rattle.slot_ranges.specs.RangeMap.{Entry, value_of, Ascends, IsAnswerAt, IsUncovered, AreDisjoint, IsHeldByNone, IsHeldWith, insert_entry};
+ghost use Rattle.slot_ranges.specs.RangeMap.{Entry, end_of, ends_at, value_of, Ascends, IsAnswerAt, IsUncovered, AreDisjoint, IsHeldByNone, IsHeldWith, insert_entry};
 
 use std::alloc::{AllocError, Global};
-use std::collections::{BTreeMap, btree_map};
 use std::marker::Model;
+use std::{fmt, slice};
 
 /// Values for ranges of slots, of which each has an end of its own.
 ///
 /// The range that ends first at a slot or after it is the one that answers for the slot, if it
 /// starts there or before. So a range that overlaps another, or is reversed, can hide the other.
-#[derive(Debug, Drop)]
+#[derive(Drop)]
 pub struct SlotRangeMap<V> {
-    // by end: the start and the value
-    ranges: BTreeMap<u16, (u16, V)>,
+    // (start, end, value), by ascending end
+    ranges: Vec<(u16, u16, V)>,
 }
 
 impl<V> Model for SlotRangeMap<V> {
     ghost use Rattle.std.specs.Prelude.{List};
     ghost use Rattle.slot_ranges.specs.RangeMap.{Entry, Ascends};
-    ghost use Rattle.slot_ranges.specs.RangeTree.{entries_of};
 
     ghost Value = { List (Entry V) };
 
-    ghost view = { λ m. entries_of m.ranges.entries };
+    ghost view = { λ m. m.ranges.items };
 
-    ghost invariant = { λ m. Ascends (entries_of m.ranges.entries) };
+    ghost invariant = { λ m. Ascends m.ranges.items };
+}
+
+/// How many of the ranges end before this end.
+fn place_of<V>(ranges: &[(u16, u16, V)], end: u16) -> usize
+    requires { Ascends ranges.now }
+    ensures place { result ≡ length (filter (λ e. nat_lt (end_of e) end) ranges.now) }
+    ensures bound { result ≤ length ranges.now }
+{
+    ranges.partition_point(|range| range.1 < end)
+}
+
+/// Whether there is a range at the place that has this end.
+fn ends_at<V>(ranges: &[(u16, u16, V)], place: usize, end: u16) -> bool
+    ensures { result ≡ ends_at end (slice_get ranges.now place) }
+{
+    match ranges.get(place) {
+        Some(range) => range.1 == end,
+        None => false,
+    }
 }
 
 impl<V> SlotRangeMap<V> {
@@ -34,7 +53,7 @@ impl<V> SlotRangeMap<V> {
         ensures { result ≡ [] }
     {
         SlotRangeMap {
-            ranges: BTreeMap::new(alloc),
+            ranges: Vec::new(alloc),
         }
     }
 
@@ -45,7 +64,8 @@ impl<V> SlotRangeMap<V> {
         SlotRangeMap::new(alloc)
     }
 
-    /// Puts in a range, both ends included, in place of the one with the same end. O(log n).
+    /// Puts in a range, both ends included, in place of the one with the same end. It is found in
+    /// O(log n), and a range that is new moves those that end after it.
     ///
     /// # Errors
     ///
@@ -56,7 +76,12 @@ impl<V> SlotRangeMap<V> {
         ensures put { OnOk result (self.new ≡ insert_entry self.old start end value) }
         ensures unchanged { OnErr result (self.new ≡ self.old) }
     {
-        self.ranges.insert(end, (start, value))?;
+        let place = place_of(self.ranges.as_slice(), end);
+        if ends_at(self.ranges.as_slice(), place, end) {
+            self.ranges[place] = (start, end, value);
+        } else {
+            self.ranges.insert(place, (start, end, value))?;
+        }
         Ok(())
     }
 
@@ -71,7 +96,8 @@ impl<V> SlotRangeMap<V> {
             value.now) }
         ensures order { Ascends self.now }
     {
-        let (_, (start, value)) = self.ranges.range(slot..).next()?;
+        let place = place_of(self.ranges.as_slice(), slot);
+        let (start, _, value) = self.ranges.get(place)?;
         (*start <= slot).then_some(value)
     }
 
@@ -116,20 +142,48 @@ impl<V: Clone> SlotRangeMap<V> {
     }
 }
 
+/// Prints the ranges as a map does, from their ends.
+impl<V: fmt::Debug> fmt::Debug for SlotRangeMap<V> {
+    fn fmt<W: fmt::Write>(&self, f: &mut fmt::Formatter<W>) -> fmt::Result {
+        let ranges = ByEnd {
+            ranges: self.ranges.as_slice(),
+        };
+        f.debug_struct("SlotRangeMap")
+            .field("ranges", &ranges)
+            .finish()
+    }
+}
+
+/// Ranges that print as a map from their ends.
+#[derive(Drop)]
+struct ByEnd<'a, V> {
+    ranges: &'a [(u16, u16, V)],
+}
+
+impl<V: fmt::Debug> fmt::Debug for ByEnd<'_, V> {
+    fn fmt<W: fmt::Write>(&self, f: &mut fmt::Formatter<W>) -> fmt::Result {
+        let entries = self
+            .ranges
+            .iter()
+            .map(|(start, end, value)| (end, (start, value)));
+        f.debug_map().entries(entries).finish()
+    }
+}
+
 /// The ranges of a `SlotRangeMap` as (start, end, value), by ascending end.
 #[derive(Drop)]
 pub struct Iter<'a, V> {
-    ranges: btree_map::Iter<'a, u16, (u16, V)>,
+    ranges: slice::Iter<'a, (u16, u16, V)>,
 }
 
 impl<'a, V> Model for Iter<'a, V> {
     ghost use Rattle.std.specs.Prelude.{List};
+    ghost use Rattle.std.specs.Slice.Iter.{iter_rest};
     ghost use Rattle.slot_ranges.specs.RangeMap.{Entry};
-    ghost use Rattle.slot_ranges.specs.RangeTree.{entries_of};
 
     ghost Value = { List (Entry V) };
 
-    ghost view = { λ s. entries_of s.ranges };
+    ghost view = { λ s. iter_rest s.ranges };
 }
 
 impl<'a, V> Iterator for Iter<'a, V> {
@@ -140,7 +194,7 @@ impl<'a, V> Iterator for Iter<'a, V> {
     ghost remaining = { item_count (λ s. s) };
 
     fn next(&mut self) -> Option<(u16, u16, &'a V)> {
-        let (end, (start, value)) = self.ranges.next()?;
+        let (start, end, value) = self.ranges.next()?;
         Some((*start, *end, value))
     }
 }
@@ -148,17 +202,17 @@ impl<'a, V> Iterator for Iter<'a, V> {
 /// The values of a `SlotRangeMap`, by ascending end of their ranges.
 #[derive(Drop)]
 pub struct Values<'a, V> {
-    ranges: btree_map::Iter<'a, u16, (u16, V)>,
+    ranges: slice::Iter<'a, (u16, u16, V)>,
 }
 
 impl<'a, V> Model for Values<'a, V> {
     ghost use Rattle.std.specs.Prelude.{List, map};
+    ghost use Rattle.std.specs.Slice.Iter.{iter_rest};
     ghost use Rattle.slot_ranges.specs.RangeMap.{value_of};
-    ghost use Rattle.slot_ranges.specs.RangeTree.{entries_of};
 
     ghost Value = { List V };
 
-    ghost view = { λ s. map value_of (entries_of s.ranges) };
+    ghost view = { λ s. map value_of (iter_rest s.ranges) };
 }
 
 impl<'a, V> Iterator for Values<'a, V> {
@@ -169,7 +223,7 @@ impl<'a, V> Iterator for Values<'a, V> {
     ghost remaining = { item_count (λ s. s) };
 
     fn next(&mut self) -> Option<&'a V> {
-        let (_, (_, value)) = self.ranges.next()?;
+        let (_, _, value) = self.ranges.next()?;
         Some(value)
     }
 }

@@ -92,3 +92,42 @@ fn values_are_listed_copied_and_cleared(rt: HostRuntime) -> Result<(), Fail> {
     assert_eq!(rt; text.as_str(), "ac", "the copy");
     Ok(())
 }
+
+#[test]
+fn a_map_prints_its_ranges_from_their_ends(rt: HostRuntime) -> Result<(), Fail> {
+    let map = map_of(rt.alloc(), &[(20, 30, "b"), (0, 10, "a"), (5, 30, "c")])?;
+    assert_eq!(rt;
+        format!(in rt.alloc(); "{map:?}")?.as_str(),
+        "SlotRangeMap { ranges: {10: (0, \"a\"), 30: (5, \"c\")} }"
+    );
+    let empty = map_of(rt.alloc(), &[])?;
+    assert_eq!(rt;
+        format!(in rt.alloc(); "{empty:?}")?.as_str(),
+        "SlotRangeMap { ranges: {} }"
+    );
+    Ok(())
+}
+
+#[test]
+fn ranges_may_be_put_in_by_descending_end(rt: HostRuntime) -> Result<(), Fail> {
+    let mut map = SlotRangeMap::new(rt.alloc());
+    for end in (1..=300u16).rev() {
+        map.insert(end, end, end)?;
+    }
+    for ((start, end, value), wanted) in map.iter().zip(1..=300u16) {
+        assert_eq!(rt; (start, end, *value), (wanted, wanted, wanted));
+        assert_eq!(rt; map.get(wanted), Some(&wanted));
+    }
+    assert_eq!(rt; map.iter().count(), 300);
+    assert_eq!(rt; map.get(0), None, "before the first");
+    assert_eq!(rt; map.get(301), None, "past the last");
+    map.insert(0, 300, 1000)?;
+    for (slot, value) in [(300, Some(1000)), (299, Some(299)), (0, None)] {
+        assert_eq!(rt; map.get(slot).copied(), value, "slot {slot}");
+    }
+    map.insert(65535, 65535, 2000)?;
+    for (slot, value) in [(65535, Some(2000)), (65534, None)] {
+        assert_eq!(rt; map.get(slot).copied(), value, "slot {slot}");
+    }
+    Ok(())
+}
