@@ -1,6 +1,5 @@
 -- A map and its topology agree.
-use Rattle.std.proofs.Common.{◌≡◌, ◌<◌, ◌≤◌, ◌+◌, ℕ, suc, All, inl, inr, Bool, true, false, cond, nat_eq, List, [], ◌∷◌, ◌++◌, length, map, filter, slice_get, Option, Some, None, option_map, option_and_then, Less, Equal, Greater, refl, sym, ap, subst, ◌∙◌, append_assoc, arith, nat_cmp}
-use Rattle.std.proofs.lemmas.Bool.{eqb-true, cases_lt}
+use Rattle.std.proofs.Common.{◌≡◌, ◌<◌, ◌≤◌, ◌+◌, ℕ, suc, All, Bool, true, false, cond, nat_eq, List, [], ◌∷◌, ◌++◌, length, map, filter, slice_get, Option, Some, None, option_map, option_and_then, refl, sym, ap, subst, ◌∙◌, append_assoc, arith}
 use Rattle.std.proofs.lemmas.Bool.Decides.{nat_tests}
 use Rattle.std.proofs.lemmas.List.Elements.{All-contains, filter-append}
 use Rattle.std.proofs.lemmas.Option.{slice_get-map}
@@ -9,85 +8,20 @@ use Rattle.std.specs.Prelude.{option_to_list}
 use Rattle.cluster_slots.specs.Address.{Address, same_address}
 use Rattle.cluster_slots.proofs.Orders.{same_from_address}
 use Rattle.slot_ranges.specs.SlotNodes.{SlotNodes}
-use Rattle.slot_ranges.specs.RangeMap.{Entry, EndsAfter, Ascends, IsUncovered, end_of}
+use Rattle.slot_ranges.specs.RangeMap.{Entry, EndsAfter, Ascends, IsUncovered, end_of, insert_entries}
 use Rattle.read_strategies.specs.Shards.{ShardNodes}
-use Rattle.read_strategies.specs.Topology.{Topology, IsShardAt, primary_of, entry_primary, has_primary, ends_of, shard_of, shards_of, place_entry, place_entries, insert_entries, topology_of, Agrees}
+use Rattle.read_strategies.specs.Topology.{Topology, IsShardAt, primary_of, entry_primary, has_primary, ends_of, shard_of, shards_of, place_entry, place_entries, topology_of, Agrees}
 use Rattle.cluster_map.proofs.Groups.{primaries, primary_shards, primary_shards-are, primaries_cover, same_refl, same_sym}
-use Rattle.cluster_map.proofs.Inserts.{insert_step, step, insert_steps, insert_steps-is, Ascends-insert_entries, answer, answer-some, answer-is, by_option, with_value, with_value-insert_steps, with_value-answer}
+use Rattle.cluster_map.proofs.Inserts.{insert_steps, insert_steps-is, answer, answer-some, answer-is, by_option, with_value, with_value-insert_steps, with_value-answer}
 use Rattle.resp_core.proofs.Cases.{by_test}
+use Rattle.slot_ranges.proofs.Finds.{find, last_of, ends_with, same_ranges, Ascends-insert_entries, find-insert_entries}
 use Rattle.slot_ranges.proofs.Ranges.{EndsAfter-smaller}
-
-by_order : {A : Type 0} (a b : ℕ) → (a < b → A) → (a ≡ b → A) → (b < a → A) → A
-by_order a b f g h = elim (cases_lt a b) [ inl l ↦ f l | inr l ↦ elim (cases_lt b a) [ inl m ↦ h m | inr m ↦ g (omega arith) ] ]
 
 Ascends-insert_steps : {V : Type 0} (es more : List (Entry V)) → Ascends es → Ascends (insert_steps es more)
 Ascends-insert_steps es more ascends = rw (← insert_steps-is es more ascends) (Ascends-insert_entries es more ascends)
 
--- the range with an end
-abbrev pub find : {V : Type 0} → ℕ → List (Entry V) → Option (Entry V)
-find e [] = None
-find e (r ∷ rs) = cond (nat_eq r.1 e) (Some r) (find e rs)
-
-abbrev pub last_of : {X : Type 0} → Option X → List X → Option X
-last_of o [] = o
-last_of o (x ∷ xs) = last_of (Some x) xs
-
-abbrev pub ends_with : {V : Type 0} → ℕ → Entry V → Bool
-ends_with e r = nat_eq r.1 e
-
-pub find_insert : {V : Type 0} (e : ℕ) (rs : List (Entry V)) (s k : ℕ) (v : V) → find e (insert_step rs s k v) ≡ cond (nat_eq k e) (Some (s, k, v)) (find e rs)
-find_insert e [] s k v = refl
-find_insert e (r ∷ rs) s k v = by_order k r.1
-    (λ l. let a : nat_cmp k r.1 ≡ Less = grind (arith, nat_tests) in rw a refl)
-    (λ l. let a : nat_cmp k r.1 ≡ Equal = grind (arith, nat_tests) in
-    by_test (nat_eq k e)
-    (λ h. let m : nat_eq r.1 e ≡ true = ap (λ z. nat_eq z e) (sym l) ∙ h in rw (a, h, m) (ap (λ z. Some (s, z, v)) (sym l)))
-    (λ h. let m : nat_eq r.1 e ≡ false = ap (λ z. nat_eq z e) (sym l) ∙ h in rw (a, h, m) refl))
-    (λ l. let a : nat_cmp k r.1 ≡ Greater = grind (arith, nat_tests) in
-    by_test (nat_eq k e)
-    (λ h. let m : nat_eq r.1 e ≡ false = grind (arith, nat_tests) in rw (a, h, m) (find_insert e rs s k v ∙ rw h refl))
-    (λ h. by_test (nat_eq r.1 e)
-    (λ m. rw (a, h, m) refl)
-    (λ m. rw (a, h, m) (find_insert e rs s k v ∙ rw h refl))))
-
-pub find-insert_steps : {V : Type 0} (e : ℕ) (m xs : List (Entry V)) → find e (insert_steps m xs) ≡ last_of (find e m) (filter (ends_with e) xs)
-find-insert_steps e m [] = refl
-find-insert_steps e m (x ∷ xs) =
-    find-insert_steps e (step m x) xs ∙ ap (λ o. last_of o (filter (ends_with e) xs)) (find_insert e m x.0 x.1 x.2)
-    ∙ by_test (nat_eq x.1 e) (λ h. rw (h) refl) (λ h. rw (h) refl)
-
--- rising lists with equal look-ups are equal
-pub find_above : {V : Type 0} (e : ℕ) (rs : List (Entry V)) → EndsAfter e rs → Ascends rs → find e rs ≡ None
-find_above e [] s up = refl
-find_above e (r ∷ rs) s up =
-    let m : nat_eq r.1 e ≡ false = grind (arith, nat_tests) in
-    rw m (find_above e rs (EndsAfter-smaller e r.1 rs s up.0) up.1)
-
-pub same_ranges : {V : Type 0} (xs ys : List (Entry V)) → Ascends xs → Ascends ys → ((e : ℕ) → find e xs ≡ find e ys) → xs ≡ ys
-same_ranges [] [] u w h = refl
-same_ranges [] (y ∷ ys) u w h = let k : nat_eq y.1 y.1 ≡ true = grind (arith, nat_tests) in let q = h y.1 in let p : None ≡ Some y = q ∙ rw k refl in cc
-same_ranges (x ∷ xs) [] u w h = let k : nat_eq x.1 x.1 ≡ true = grind (arith, nat_tests) in let p : Some x ≡ None = sym (rw k refl) ∙ h x.1 in cc
-same_ranges (x ∷ xs) (y ∷ ys) u w h =
-    let a : nat_eq x.1 x.1 ≡ true = grind (arith, nat_tests) in
-    let b : nat_eq y.1 y.1 ≡ true = grind (arith, nat_tests) in
-    let fx : find x.1 (x ∷ xs) ≡ Some x = rw a refl in
-    let fy : find y.1 (y ∷ ys) ≡ Some y = rw b refl in
-    by_order x.1 y.1
-    (λ l. let p : Some x ≡ None = sym fx ∙ h x.1 ∙ find_above x.1 (y ∷ ys) l w in cc)
-    (λ l. let k : nat_eq y.1 x.1 ≡ true = grind (arith, nat_tests) in
-    let gx : find x.1 (y ∷ ys) ≡ Some y = rw k refl in
-    let p : Some x ≡ Some y = sym fx ∙ h x.1 ∙ gx in
-    let q : x ≡ y = cc in
-    let tails : (e : ℕ) → find e xs ≡ find e ys = λ e. by_test (nat_eq x.1 e)
-    (λ t. let t2 : nat_eq y.1 e ≡ true = ap (λ z. nat_eq z e) (sym l) ∙ t in
-    let ex : x.1 ≡ e = eqb-true x.1 e t in
-    ap (λ z. find z xs) (sym ex) ∙ find_above x.1 xs u.0 u.1 ∙ sym (ap (λ z. find z ys) (sym (sym l ∙ ex)) ∙ find_above y.1 ys w.0 w.1))
-    (λ t. let t2 : nat_eq y.1 e ≡ false = ap (λ z. nat_eq z e) (sym l) ∙ t in
-    let hx : find e (x ∷ xs) ≡ find e xs = rw t refl in
-    let hy : find e (y ∷ ys) ≡ find e ys = rw t2 refl in
-    sym hx ∙ h e ∙ hy) in
-    ap (λ z. z ∷ xs) q ∙ ap (λ z. y ∷ z) (same_ranges xs ys u.1 w.1 tails))
-    (λ l. let p : None ≡ Some y = sym (find_above y.1 (x ∷ xs) l u) ∙ h y.1 ∙ fy in cc)
+find-insert_steps : {V : Type 0} (e : ℕ) (more : List (Entry V)) → find e (insert_steps [] more) ≡ last_of None (filter (ends_with e) more)
+find-insert_steps e more = ap (find e) (sym (insert_steps-is [] more tt)) ∙ find-insert_entries e [] more tt
 
 -- the ranges of shards, with their primaries in place of the places
 abbrev with_key : Address → ℕ × ℕ → Entry (Option Address)
@@ -195,7 +129,7 @@ primary_is_listed e rs r h = by_test (list_any (same_address (entry_primary r)) 
 
 look : (rs : List (Entry SlotNodes)) → Ascends rs → (e : ℕ) → find e (insert_steps [] (shard_entries (primary_shards rs))) ≡ find e (map with_primary rs)
 look rs up e =
-    find-insert_steps e [] (shard_entries (primary_shards rs))
+    find-insert_steps e (shard_entries (primary_shards rs))
     ∙ by_option (find e rs)
     (λ h. last_none e rs (one_ends e rs up ∙ ap option_to_list h) (primaries rs) None ∙ sym (find-with_primary e rs ∙ ap (option_map with_primary) h))
     (λ r h. last_one e rs r (one_ends e rs up ∙ ap option_to_list h) (primaries rs) None

@@ -3,10 +3,9 @@ use Rattle.std.proofs.Common.{◌≡◌, ◌<◌, ◌≤◌, ℕ, inl, inr, cond
 use Rattle.std.specs.Ordering.{match_ordering}
 use Rattle.std.proofs.lemmas.Bool.{cases_order}
 use Rattle.std.proofs.lemmas.Bool.Decides.{nat_tests}
-use Rattle.slot_ranges.specs.RangeMap.{Entry, value_of, Ascends, IsAnswerAt, IsUncovered, insert_entry}
-use Rattle.read_strategies.specs.Topology.{insert_entries}
+use Rattle.slot_ranges.specs.RangeMap.{Entry, Ascends, IsAnswerAt, IsUncovered, insert_entry, insert_entries}
 use Rattle.resp_core.proofs.Cases.{by_test}
-use Rattle.slot_ranges.proofs.Ranges.{ending_from, EndsFirstFrom-unique, EndsFirstFrom-answer, EndsFirstFrom-head, IsAnswerAt-first, IsAnswerAt-unique, IsUncovered-first, IsUncovered-none, insert_entry-front, insert_entry-place, insert_entry-later, Ascends-insert_entry}
+use Rattle.slot_ranges.proofs.Ranges.{ending_from, EndsFirstFrom-head, IsAnswerAt-first, IsAnswerAt-unique, IsUncovered-first, IsUncovered-none, insert_entry-front, insert_entry-place, insert_entry-later, Ascends-insert_entry}
 
 abbrev pub insert_step : {V : Type 0} → List (Entry V) → ℕ → ℕ → V → List (Entry V)
 insert_step [] start end value = (start, end, value) ∷ []
@@ -33,10 +32,6 @@ step es e = insert_step es e.0 e.1 e.2
 
 abbrev pub insert_steps : {V : Type 0} → List (Entry V) → List (Entry V) → List (Entry V)
 insert_steps es more = fold step es more
-
-pub Ascends-insert_entries : {V : Type 0} (es more : List (Entry V)) → Ascends es → Ascends (insert_entries es more)
-Ascends-insert_entries es [] ascends = ascends
-Ascends-insert_entries es (x ∷ xs) ascends = Ascends-insert_entries (insert_entry es x.0 x.1 x.2) xs (Ascends-insert_entry es x.0 x.1 x.2 ascends)
 
 pub insert_steps-is : {V : Type 0} (es more : List (Entry V)) → Ascends es → insert_entries es more ≡ insert_steps es more
 insert_steps-is es [] ascends = refl

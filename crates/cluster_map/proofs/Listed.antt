@@ -8,9 +8,9 @@ use Rattle.cluster_slots.proofs.Orders.{same_from_address}
 use Rattle.cluster_slots.specs.Address.{Address, same_address}
 use Rattle.resp_core.proofs.Cases.{by_test}
 use Rattle.slot_ranges.specs.SlotNodes.{SlotNodes}
-use Rattle.slot_ranges.specs.RangeMap.{Entry, value_of, Ascends}
+use Rattle.slot_ranges.specs.RangeMap.{Entry, value_of, Ascends, insert_entries}
 use Rattle.read_strategies.specs.EachOnce.{once_by, each_once}
-use Rattle.read_strategies.specs.Topology.{primary_of, entry_primary, shard_of, shards_of, place_entries, insert_entries, topology_of, at_places, then_rest, shards_left}
+use Rattle.read_strategies.specs.Topology.{primary_of, entry_primary, shard_of, shards_of, place_entries, topology_of, at_places, then_rest, shards_left}
 use Rattle.read_strategies.proofs.Members.{added_once}
 use Rattle.cluster_map.proofs.Groups.{Distinct, primaries-distinct, same_refl}
 use Rattle.cluster_map.proofs.Inserts.{insert_steps, insert_steps-is, by_option, with_value}

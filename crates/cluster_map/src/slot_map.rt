@@ -128,6 +128,19 @@ impl SlotAddrs {
     }
 }
 
+/// The ranges as (start, end, nodes), in order.
+fn range_entries(slots: Vec<SlotRange>) -> Result<Vec<(u16, u16, SlotAddrs)>, AllocError>
+    ensures { IfOk result (λ entries. entries.items ≡ map range_entry slots.items) }
+{
+    let alloc = *slots.allocator();
+    let mut entries = Vec::with_capacity(alloc, slots.len())?;
+    for slot in slots {
+        let (start, end) = (slot.start, slot.end);
+        entries.push((start, end, SlotAddrs::from_slot(slot)))?;
+    }
+    Ok(entries)
+}
+
 /// Which nodes serve which slots of a cluster.
 #[derive(Debug, Drop)]
 pub struct SlotMap {
@@ -166,17 +179,16 @@ impl SlotMap {
     ///
     /// # Errors
     ///
-    /// If memory runs out for a range, those before it stay in the map.
+    /// If memory runs out, the map stays as it was: memory is asked for all ranges at once.
     pub fn fill_slots(&mut self, slots: Vec<SlotRange>) -> Result<(), AllocError>
         ensures put { OnOk result (self.new ≡ insert_ranges self.old slots.items) }
         ensures before { OnErr result ((count : ℕ) × (count < length slots.items)
             × (self.new ≡ insert_ranges self.old (take count slots.items))) }
     {
-        for slot in slots {
-            let (start, end) = (slot.start, slot.end);
-            self.slots.insert(start, end, SlotAddrs::from_slot(slot))?;
+        if slots.is_empty() {
+            return Ok(());
         }
-        Ok(())
+        self.slots.extend(range_entries(slots)?)
     }
 
     /// The map of these ranges, put in one after the other: a later range takes the place of an

@@ -1,12 +1,11 @@
 -- All ranges of the shards, put in one after the other, and the places that they have.
 use Rattle.std.proofs.Common.{◌≡◌, ◌<◌, ◌≤◌, ◌+◌, ℕ, zero, suc, Bool, not, nat_eq, nat_lt, inl, inr, List, [], ◌∷◌, ◌++◌, map, filter, length, take, get_or, slice_index, sym, ap, ◌∙◌, append_assoc, arith}
 use Rattle.std.proofs.lemmas.List.{append-nil, take_more, length-take-le}
-use Rattle.std.proofs.lemmas.List.Sums.{fold-append}
 use Rattle.std.specs.List.{Contains}
 use Rattle.read_strategies.specs.EachOnce.{once_by}
-use Rattle.slot_ranges.specs.RangeMap.{Entry, end_of, value_of, insert_entry}
+use Rattle.slot_ranges.specs.RangeMap.{Entry, end_of, value_of, insert_entry, insert_entries}
 use Rattle.read_strategies.specs.Shards.{ShardNodes}
-use Rattle.read_strategies.specs.Topology.{insert_entries, place_entry, place_entries, places_left}
+use Rattle.read_strategies.specs.Topology.{place_entry, place_entries, places_left}
 use Rattle.resp_core.proofs.Cases.{by_test}
 use Rattle.slot_ranges.proofs.Ranges.{Contains-cons_cases, Contains-nil}
 
@@ -20,13 +19,12 @@ place_entries-last place (x ∷ xs) s =
     ∙ sym (append_assoc (map (place_entry place) x.ranges) (place_entries (suc place) xs) (map (place_entry (place + length (x ∷ xs))) s.ranges))
 
 -- the ranges of one shard more
-pub insert_entries-more : (ss : List ShardNodes) (i : ℕ) (s : ShardNodes) → i < length ss → s ≡ get_or ss i s → insert_entries (insert_entries [] (place_entries 0 (take i ss))) (map (place_entry i) s.ranges) ≡ insert_entries [] (place_entries 0 (take (i + 1) ss))
-insert_entries-more ss i s within is =
+pub place_entries-more : (ss : List ShardNodes) (i : ℕ) (s : ShardNodes) → i < length ss → s ≡ get_or ss i s → place_entries 0 (take i ss) ++ map (place_entry i) s.ranges ≡ place_entries 0 (take (i + 1) ss)
+place_entries-more ss i s within is =
     let t : take (i + 1) ss ≡ take i ss ++ s ∷ [] = take_more ss i s within ∙ ap (λ z. take i ss ++ z ∷ []) (sym is) in
     let m : length (take i ss) ≡ i = length-take-le i ss (omega arith) in
     let n : 0 + length (take i ss) ≡ i = omega arith in
-    sym (fold-append put [] (place_entries 0 (take i ss)) (map (place_entry i) s.ranges))
-    ∙ ap (insert_entries []) (ap (λ k. place_entries 0 (take i ss) ++ map (place_entry k) s.ranges) (sym n) ∙ sym (place_entries-last 0 (take i ss) s) ∙ ap (place_entries 0) (sym t))
+    ap (λ k. place_entries 0 (take i ss) ++ map (place_entry k) s.ranges) (sym n) ∙ sym (place_entries-last 0 (take i ss) s) ∙ ap (place_entries 0) (sym t)
 
 -- each place is below a number
 abbrev pub AllPlaces : ℕ → List (Entry ℕ) → Type 0

@@ -1,10 +1,10 @@
 -- The shards of a map, and the map from slots to shards.
-use Rattle.std.specs.Prelude.{◌≡◌, ◌↔◌, ℕ, suc, Bool, nat_eq, List, [], ◌∷◌, ◌++◌, map, filter, fold, Option, None, Some, slice_get}
+use Rattle.std.specs.Prelude.{◌≡◌, ◌↔◌, ℕ, suc, Bool, nat_eq, List, [], ◌∷◌, ◌++◌, map, filter, Option, None, Some, slice_get}
 use Rattle.cluster_slots.specs.Address.{Address, same_address}
 use Rattle.cluster_slots.specs.declared.slot.SlotAddr.TheVariants.{Master}
 use Rattle.read_strategies.specs.EachOnce.{once_by, each_once}
 use Rattle.slot_ranges.specs.SlotNodes.{SlotNodes}
-use Rattle.slot_ranges.specs.RangeMap.{Entry, value_of, insert_entry, IsAnswerAt}
+use Rattle.slot_ranges.specs.RangeMap.{Entry, value_of, insert_entries, IsAnswerAt}
 use Rattle.read_strategies.specs.RouteNode.{IsNodeOfRoute}
 use Rattle.read_strategies.specs.Shards.{ShardNodes}
 
@@ -44,10 +44,6 @@ shards_of es = map (shard_of es) (each_once (map entry_primary es))
 pub record Topology : Type 0 where
   pub shards : List ShardNodes
   pub ranges : List (Entry ℕ)
-
--- the entries after more are put in, in order
-abbrev pub insert_entries : {V : Type 0} → List (Entry V) → List (Entry V) → List (Entry V)
-insert_entries es more = fold (λ es e. insert_entry es e.0 e.1 (value_of e)) es more
 
 -- a range with a place
 abbrev pub place_entry : ℕ → ℕ × ℕ → Entry ℕ

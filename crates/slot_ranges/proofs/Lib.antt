@@ -1,3 +1,5 @@
+pub mod Bulk
+pub mod Finds
 pub mod Places
 pub mod Ranges
 pub mod SameRanges

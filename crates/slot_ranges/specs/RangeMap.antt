@@ -1,5 +1,5 @@
 -- Entries of slot ranges with distinct ends, and which of them answers for a slot.
-use Rattle.std.specs.Prelude.{◌≡◌, ◌<◌, ◌≤◌, ℕ, nat_eq, nat_lt, Bool, false, Option, Some, None, List, [], ◌∷◌, ◌++◌, filter, Contains}
+use Rattle.std.specs.Prelude.{◌≡◌, ◌<◌, ◌≤◌, ℕ, nat_eq, nat_lt, Bool, false, Option, Some, None, List, [], ◌∷◌, ◌++◌, filter, fold, Contains}
 
 -- a start, an end and a value
 abbrev pub Entry : Type 0 → Type 0
@@ -30,6 +30,10 @@ abbrev pub insert_entry : {V : Type 0} → List (Entry V) → ℕ → ℕ → V 
 insert_entry es start end value =
     filter (λ e. nat_lt (end_of e) end) es ++ (start, end, value)
     ∷ filter (λ e. nat_lt end (end_of e)) es
+
+-- the entries after more are put in, in order
+abbrev pub insert_entries : {V : Type 0} → List (Entry V) → List (Entry V) → List (Entry V)
+insert_entries es more = fold (λ es e. insert_entry es e.0 e.1 (value_of e)) es more
 
 -- the entry holds the slot, and none ends between the slot and the end of this one
 pub record IsAnswerAt {V : Type 0} (es : List (Entry V)) (slot : ℕ) (value : V) : Type 0 where

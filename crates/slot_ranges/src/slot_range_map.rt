@@ -1,7 +1,7 @@
 ghost use Rattle.std.specs.Prelude.{◌≡◌, ◌≤◌, nat_lt, [], length, map, filter, slice_get, IfOk, OnOk, OnErr, MatchOption};
 ghost use Rattle.std.specs.Slice.Iter.{iter_rest};
 ghost use Rattle.std.specs.Iterator.{YieldsFirstBy, YieldsFirstRef, item_count};
-ghost use Rattle.slot_ranges.specs.RangeMap.{Entry, end_of, ends_at, value_of, Ascends, IsAnswerAt, IsUncovered, AreDisjoint, IsHeldByNone, IsHeldWith, insert_entry};
+ghost use Rattle.slot_ranges.specs.RangeMap.{Entry, end_of, ends_at, value_of, Ascends, IsAnswerAt, IsUncovered, AreDisjoint, IsHeldByNone, IsHeldWith, insert_entries, insert_entry};
 
 use std::alloc::{AllocError, Global};
 use std::marker::Model;
@@ -128,6 +128,51 @@ impl<V> SlotRangeMap<V> {
     {
         self.ranges.clear();
     }
+}
+
+impl<V: Drop> SlotRangeMap<V> {
+    /// Puts ranges in, one after the other: each takes the place of an earlier one that has the
+    /// same end. O(n log n) in all ranges, and O(n) where they ascend by end.
+    ///
+    /// # Errors
+    ///
+    /// If memory runs out, the map stays as it was.
+    pub fn extend(&mut self, ranges: Vec<(u16, u16, V)>) -> Result<(), AllocError>
+        ensures put { OnOk result (self.new ≡ insert_entries self.old ranges.items) }
+        ensures unchanged { OnErr result (self.new ≡ self.old) }
+    {
+        let mut ranges = ranges;
+        if self.ranges.is_empty() {
+            put_in_order(&mut ranges)?;
+            self.ranges = ranges;
+            return Ok(());
+        }
+        let count = self.ranges.len();
+        self.ranges.append(&mut ranges)?;
+        if let Err(error) = put_in_order(&mut self.ranges) {
+            self.ranges.truncate(count);
+            return Err(error);
+        }
+        Ok(())
+    }
+}
+
+/// Sorts the ranges by ascending end, and keeps the last of those that have one end.
+fn put_in_order<V: Drop>(ranges: &mut Vec<(u16, u16, V)>) -> Result<(), AllocError>
+    ensures put { OnOk result (ranges.new.items ≡ insert_entries [] ranges.old.items) }
+    ensures unchanged { OnErr result (ranges.new.items ≡ ranges.old.items) }
+{
+    if ranges.is_sorted_by(|range, next| range.1 < next.1) {
+        return Ok(());
+    }
+    // `dedup_by_key` keeps the first of equal ends, so the last is to come first.
+    ranges.reverse();
+    if let Err(error) = ranges.sort_by_key(|range| range.1) {
+        ranges.reverse();
+        return Err(error);
+    }
+    ranges.dedup_by_key(|range| range.1);
+    Ok(())
 }
 
 impl<V: Clone> SlotRangeMap<V> {

@@ -1,7 +1,7 @@
-ghost use Rattle.std.specs.Prelude.{◌≡◌, map, IfOk, OnOk, MatchOption};
-ghost use Rattle.slot_ranges.specs.RangeMap.{Ascends, IsUncovered};
+ghost use Rattle.std.specs.Prelude.{◌≡◌, ◌++◌, map, IfOk, OnOk, MatchOption};
+ghost use Rattle.slot_ranges.specs.RangeMap.{Ascends, IsUncovered, insert_entries};
 ghost use Rattle.read_strategies.specs.ShardsToGive.{shards_to_give};
-ghost use Rattle.read_strategies.specs.Topology.{insert_entries, place_entry, topology_of, places_left, shards_left, IsShardAt};
+ghost use Rattle.read_strategies.specs.Topology.{place_entry, topology_of, places_left, shards_left, IsShardAt};
 
 use crate::read_routing::shard::Shard;
 use crate::read_routing::shards::Shards;
@@ -40,11 +40,13 @@ impl ClusterTopology {
     pub fn from_shards(alloc: Global, shards: Vec<Shard>) -> Result<Self, AllocError>
         ensures put { IfOk result (λ topology. topology ≡ topology_of shards.items) }
     {
-        let mut ranges: SlotRangeMap<usize> = SlotRangeMap::new(alloc);
+        let mut entries = Vec::new(alloc);
         for place in 0..shards.len() {
             let shard = &shards[place];
-            insert_ranges(&mut ranges, shard.slot_ranges(), place)?;
+            push_ranges(&mut entries, shard.slot_ranges(), place)?;
         }
+        let mut ranges: SlotRangeMap<usize> = SlotRangeMap::new(alloc);
+        ranges.extend(entries)?;
         let order = first_places(alloc, &ranges)?;
         Ok(ClusterTopology {
             shards,
@@ -98,17 +100,17 @@ fn copy_places(places: &Vec<usize>) -> Result<Vec<usize>, AllocError>
     places.clone()
 }
 
-/// Puts in the ranges of the shard at a place.
-fn insert_ranges(
-    ranges: &mut SlotRangeMap<usize>,
+/// Adds the ranges of the shard at a place, each with that place.
+fn push_ranges(
+    entries: &mut Vec<(u16, u16, usize)>,
     shard_ranges: &[(u16, u16)],
     place: usize,
 ) -> Result<(), AllocError>
     ensures { OnOk result
-        (ranges.new ≡ insert_entries ranges.old (map (place_entry place) shard_ranges.now)) }
+        (entries.new.items ≡ entries.old.items ++ map (place_entry place) shard_ranges.now) }
 {
     for range in shard_ranges {
-        ranges.insert(range.0, range.1, place)?;
+        entries.push((range.0, range.1, place))?;
     }
     Ok(())
 }
