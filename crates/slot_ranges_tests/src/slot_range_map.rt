@@ -131,3 +131,41 @@ fn ranges_may_be_put_in_by_descending_end(rt: HostRuntime) -> Result<(), Fail> {
     }
     Ok(())
 }
+
+#[test]
+fn many_ranges_are_put_in_as_one_after_the_other(rt: HostRuntime) -> Result<(), Fail> {
+    let alloc = rt.alloc();
+    let ascending = [(0, 10, "a"), (11, 20, "b"), (5, 30, "c")];
+    let descending = [(5, 30, "c"), (11, 20, "b"), (0, 10, "a")];
+    let equal_ends = [
+        (9, 30, "a"),
+        (0, 10, "b"),
+        (5, 30, "c"),
+        (7, 10, "d"),
+        (8, 30, "e"),
+        (40, 3, "f"),
+    ];
+    let table = [
+        [].as_slice(),
+        &ascending[..1],
+        ascending.as_slice(),
+        descending.as_slice(),
+        equal_ends.as_slice(),
+    ];
+    for before in table {
+        for more in table {
+            let mut wanted = map_of(alloc, before)?;
+            for (start, end, value) in more {
+                wanted.insert(*start, *end, *value)?;
+            }
+            let mut map = map_of(alloc, before)?;
+            map.extend(Vec::from_slice(alloc, more)?)?;
+            assert_eq!(rt;
+                format!(in alloc; "{map:?}")?.as_str(),
+                format!(in alloc; "{wanted:?}")?.as_str(),
+                "{more:?} after {before:?}"
+            );
+        }
+    }
+    Ok(())
+}
