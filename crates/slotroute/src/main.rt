@@ -57,9 +57,7 @@ fn run(rt: &HostRuntime, alloc: Global) -> io::Result<u8> {
         Some(Strategy::Shard) => Some(Box::new(alloc, ShardAware::new())?),
         None => None,
     };
-    Ok(serve(
-        alloc, &words, &mut reader, &mut out, &mut err, strategy,
-    ))
+    Ok(serve(alloc, &words, &mut reader, &mut out, &mut err, strategy))
 }
 
 fn main(rt: HostRuntime) -> ExitCode {

@@ -46,8 +46,8 @@ pub record IsCommandRun (handed : Bool) (direction : Direction) (entries : List 
   pub ordered : order ≡ send_order direction (length driven.routes)
   pub printed : text ≡ command_lines sent answer
 
--- Why a command with these words is refused: it is not a complete one over many keys, or the first of
--- its routes that has no node has this slot. Nodes in memory refuse none, and their replies fit.
+-- Why a command with these words is refused: it is not a complete one over many keys, or the first
+-- of its routes that has no node has this slot. Nodes in memory refuse none, and their replies fit.
 abbrev pub IsRefused : List (Entry SlotNodes) → List (List ℕ) → Refusal → Type 0
 IsRefused entries words NotMultiKey = routes_by only_reads (map Some words) ≡ None
 IsRefused entries words (NotCovered slot) =

@@ -13,4 +13,5 @@ send_order Reverse count = reverse (range_with_len 0 count)
 -- the order names the routes of the command with these words, if it has routes
 abbrev pub IsOrderOf : Direction → (List ℕ → Bool) → List (List ℕ) → List ℕ → Type 0
 IsOrderOf direction reads words order =
-    IfSome (routes_by reads (map Some words)) (λ routes. order ≡ send_order direction (length routes))
+    IfSome (routes_by reads (map Some words))
+    (λ routes. order ≡ send_order direction (length routes))

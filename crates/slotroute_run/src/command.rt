@@ -30,8 +30,8 @@ pub fn read_only_names(alloc: Global) -> Result<ReadOnlyNames, AllocError>
     Ok(names)
 }
 
-/// Runs the command with these words on nodes that refuse nothing, and answers what is printed of it:
-/// its parts in the order in which they went out, each with its node, and the reply.
+/// Runs the command with these words on nodes that refuse nothing, and answers what is printed of
+/// it: its parts in the order in which they went out, each with its node, and the reply.
 ///
 /// # Errors
 ///
@@ -48,8 +48,8 @@ pub fn run_command(
 ) -> Result<Vec<u8>, CommandFault>
     requires names { AreReadOnly read_only.now }
     requires willing { AreWilling nodes.old }
-    ensures run { IfOk result (λ text. IsCommandRun (is_some strategy.entry) direction.now slot_map.now
-        (map (λ word. word.now) words.now) (keyspace_in nodes.old) (keyspace_in nodes.new)
+    ensures run { IfOk result (λ text. IsCommandRun (is_some strategy.entry) direction.now
+        slot_map.now (map (λ word. word.now) words.now) (keyspace_in nodes.old) (keyspace_in nodes.new)
         text.items) }
     ensures refused { IfErr result (WhyNotRun slot_map.now (map (λ word. word.now) words.now)) }
     ensures willing { AreWilling nodes.new }
@@ -62,7 +62,8 @@ pub fn run_command(
     Ok(command_lines(alloc, &nodes.trace()[before..], &reply)?)
 }
 
-/// The command of the words, and the numbers of its routes in the order in which their parts go out.
+/// The command of the words, and the numbers of its routes in the order in which their parts go
+/// out.
 fn prepare(
     alloc: Global,
     direction: &Direction,
@@ -114,8 +115,8 @@ fn drive_command(
     requires order { (direction : Direction) × IsOrderOf direction (is_among read_only.now)
         command.now order.now }
     requires willing { AreWilling nodes.old }
-    ensures driven { IfOk result (λ value. IsDriven (IsRunNode (is_some strategy.entry) slot_map.now)
-        step (request (map Some command.now) only_reads slot_map.now order.now)
+    ensures driven { IfOk result (λ value. IsDriven
+        (IsRunNode (is_some strategy.entry) slot_map.now) step (request (map Some command.now) only_reads slot_map.now order.now)
         (state (keyspace_in nodes.old) (trace_in nodes.old) (mark_in nodes.old))
         (state (keyspace_in nodes.new) (trace_in nodes.new) (mark_in nodes.new)) (view value)) }
     ensures refused { IfErr result (WhyNotRun slot_map.now command.now) }

@@ -107,7 +107,8 @@ first_after_map input = length (leading_lines input) + 2
 
 -- what is left of the input, what goes to the output and to the error stream, and the status, where
 -- a strategy is handed in or not
-pub data Output (handed : Bool) : List (List ℕ) → List ℕ → List ℕ → List ℕ → List ℕ → ℕ → Type 0 where
+pub data Output (handed : Bool)
+    : List (List ℕ) → List ℕ → List ℕ → List ℕ → List ℕ → ℕ → Type 0 where
   usage : (words : List (List ℕ)) (input : List ℕ) → ¬ (IsRequest words)
       → Output handed words input input [] usage_line 2
   bad_map : (words : List (List ℕ)) (input : List ℕ) (number : ℕ) → IsRequest words

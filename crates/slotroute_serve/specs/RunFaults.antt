@@ -21,14 +21,16 @@ WhyNoText entries line fields Memory = ⊤
 WhyNoText entries line fields Input = ⊥
 WhyNoText entries line fields OutputFailed = ⊥
 
-module _ (handed : Bool) (direction : Direction) (entries : List (Entry SlotNodes)) (first : ℕ) where
+module _ (handed : Bool) (direction : Direction) (entries : List (Entry SlotNodes))
+    (first : ℕ) where
   -- what was read and printed when a run ended with a fault, where the first line has this number
   abbrev pub WhyStopped : Option (List ℕ) → Option (List ℕ) → List ℕ → Fault → Type 0
   WhyStopped input left text Usage = ⊥
   WhyStopped input left text (BadMapLine number) = ⊥
   WhyStopped input left text NotMultiKey = ⊥
   WhyStopped input left text (Command number refusal) =
-      Leaves input left (λ bytes rest. RefusedAt handed direction entries first bytes rest text number refusal)
+      Leaves input left
+      (λ bytes rest. RefusedAt handed direction entries first bytes rest text number refusal)
   WhyStopped input left text Memory =
       Leaves input left (λ bytes rest. StopsAfter handed direction entries bytes rest text)
   WhyStopped input left text Input =
@@ -37,12 +39,14 @@ module _ (handed : Bool) (direction : Direction) (entries : List (Entry SlotNode
       Leaves input left (λ bytes rest. CutShort handed direction entries bytes rest text)
 
   -- a run that ended with a fault
-  abbrev pub RunStops : Option (List ℕ) → Option (List ℕ) → Option (List ℕ) → Option (List ℕ) → Fault → Type 0
+  abbrev pub RunStops : Option (List ℕ) → Option (List ℕ) → Option (List ℕ) → Option (List ℕ)
+      → Fault → Type 0
   RunStops input left out_old out_new fault =
       (text : List ℕ) × Appends out_old out_new text × WhyStopped input left text fault
 
 -- a run to the end of the input
-abbrev pub RunEnds : Bool → Direction → List (Entry SlotNodes) → Option (List ℕ) → Option (List ℕ) → Option (List ℕ) → Option (List ℕ) → Type 0
+abbrev pub RunEnds : Bool → Direction → List (Entry SlotNodes) → Option (List ℕ)
+    → Option (List ℕ) → Option (List ℕ) → Option (List ℕ) → Type 0
 RunEnds handed direction entries input left out_old out_new =
     (text : List ℕ) × Appends out_old out_new text
     × Leaves input left (λ bytes rest. AllRun handed direction entries bytes rest text)

@@ -32,7 +32,8 @@ pub record HasOutput (handed : Bool) (words : List (List ℕ))
   pub called_for : Leaves input left (λ bytes rest. Output handed words bytes rest outs errs status)
 
 -- the first commands of a run were run, and printed the text
-pub record BeginsRun (handed : Bool) (direction : Direction) (input left text : List ℕ) : Type 0 where
+pub record BeginsRun (handed : Bool) (direction : Direction) (input left text : List ℕ)
+    : Type 0 where
   pub ranges : List RangeNodes
   pub is_map : IsMap (leading_lines input) ranges
   pub stops : StopsAfter handed direction (insert_ranges [] ranges) (after_map input) left text
@@ -100,7 +101,8 @@ Explains handed words input left out_old out_new (Command number refusal) =
     (outs : List ℕ) × Appends out_old out_new outs
     × ((direction : Direction) × IsRunWords direction words
     × Leaves input left (λ bytes rest. BeginsRun handed direction bytes rest outs))
-    × Leaves input left (λ bytes rest. Output handed words bytes rest outs (refused_line number refusal) 2)
+    × Leaves input left
+    (λ bytes rest. Output handed words bytes rest outs (refused_line number refusal) 2)
 Explains handed words input left out_old out_new Memory =
     (outs : List ℕ) × Appends out_old out_new outs × IsRequest words
     × IsUnfinished handed words input left outs
@@ -122,7 +124,8 @@ pub record HasFault (reads writes tells : Type 0) (handed : Bool) (words : List 
   pub text : TellsOf tells errs fault
   pub failed : status ≡ 2
 
-abbrev pub Serves : Type 0 → Type 0 → Type 0 → Bool → List (List ℕ) → Option (List ℕ) → Option (List ℕ)
+abbrev pub Serves : Type 0 → Type 0 → Type 0 → Bool → List (List ℕ)
+    → Option (List ℕ) → Option (List ℕ)
     → Option (List ℕ) → Option (List ℕ) → Option (List ℕ) → Option (List ℕ) → ℕ → Type 0
 Serves reads writes tells handed words input left out_old out_new err_old err_new status =
     HasOutput handed words input left out_old out_new err_old err_new status

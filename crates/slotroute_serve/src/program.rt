@@ -61,7 +61,8 @@ pub fn serve_streams<R: Source, O: Sink, E: Sink>(
         (O.contents out.old) (O.contents out.new) (E.contents err.old) (E.contents err.new) result }
     ensures steady { ¬ (MayFailToRead R.fails) → ¬ (MayFailToWrite O.fails)
         → ¬ (MayFailToWrite E.fails)
-        → HasOutput (is_some strategy) (map string_bytes words.now) (R.remaining reader.old) (R.remaining reader.new)
+        → HasOutput (is_some strategy) (map string_bytes words.now) (R.remaining reader.old)
+        (R.remaining reader.new)
         (O.contents out.old) (O.contents out.new) (E.contents err.old) (E.contents err.new) result
         ⊎ RanOutOfMemory (is_some strategy) (map string_bytes words.now) (R.remaining reader.old)
         (R.remaining reader.new) (O.contents out.old) (O.contents out.new) (E.contents err.old)

@@ -17,8 +17,8 @@ use redis_cluster::routing::ReadOnlyNames;
 use slotroute_run::{CommandFault, Direction, read_only_names, run_command};
 use std::alloc::Global;
 
-/// Runs the commands of the lines that are left, of which the first has the number `first`, on nodes
-/// that hold no key, and writes what each prints before it reads the next line.
+/// Runs the commands of the lines that are left, of which the first has the number `first`, on
+/// nodes that hold no key, and writes what each prints before it reads the next line.
 pub fn run_commands<R: Source, O: Sink>(
     alloc: Global,
     direction: &Direction,

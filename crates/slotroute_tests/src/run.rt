@@ -132,14 +132,26 @@ fn words(rt: HostRuntime) -> Result<(), Fail> {
         (&["run", "forward", "pick=x"], b"x", b"", USAGE, 2),
         (&["run", "forward", "pick="], b"x", b"", USAGE, 2),
         (&["run", "forward", "pick=-1"], b"x", b"", USAGE, 2),
-        (&["run", "forward", "pick=18446744073709551616"], b"x", b"", USAGE, 2),
+        (
+            &["run", "forward", "pick=18446744073709551616"],
+            b"x",
+            b"",
+            USAGE,
+            2,
+        ),
         (&["run", "forward", "pick"], b"x", b"", USAGE, 2),
         (&["run", "forward", "shard", "shard"], b"x", b"", USAGE, 2),
         (&["run", "forward", "first"], b"", b"", b"", 0),
         (&["run", "reverse", "shard"], b"", b"", b"", 0),
         (&["run", "forward", "pick=0"], b"", b"", b"", 0),
         (&["run", "forward", "pick=+3"], b"", b"", b"", 0),
-        (&["run", "forward", "pick=18446744073709551615"], b"", b"", b"", 0),
+        (
+            &["run", "forward", "pick=18446744073709551615"],
+            b"",
+            b"",
+            b"",
+            0,
+        ),
         (&["run", "forward", "pick=007"], b"", b"", b"", 0),
     ];
     check(&rt, rt.alloc(), &runs)
@@ -169,7 +181,13 @@ fn a_strategy_is_told_of_the_shards(rt: HostRuntime) -> Result<(), Fail> {
         b"",
         0,
     );
-    check_with(&rt, alloc, 0, &run, Some(Box::new(alloc, ShardAware::new())?))?;
+    check_with(
+        &rt,
+        alloc,
+        0,
+        &run,
+        Some(Box::new(alloc, ShardAware::new())?),
+    )?;
     let run: Run = (
         &["run", "reverse", "shard"],
         b"0 16383 p:1 r:1 r:2\n\nMGET a b\n",
@@ -177,7 +195,13 @@ fn a_strategy_is_told_of_the_shards(rt: HostRuntime) -> Result<(), Fail> {
         b"",
         0,
     );
-    check_with(&rt, alloc, 1, &run, Some(Box::new(alloc, ShardAware::new())?))
+    check_with(
+        &rt,
+        alloc,
+        1,
+        &run,
+        Some(Box::new(alloc, ShardAware::new())?),
+    )
 }
 
 /// Picks the candidate whose index is the number of times that it was told of shards.
@@ -229,7 +253,13 @@ fn the_strategy_handed_in_counts(rt: HostRuntime) -> Result<(), Fail> {
         b"",
         0,
     );
-    check_with(&rt, alloc, 0, &by_pick, Some(Box::new(alloc, PickIndex::new(5))?))?;
+    check_with(
+        &rt,
+        alloc,
+        0,
+        &by_pick,
+        Some(Box::new(alloc, PickIndex::new(5))?),
+    )?;
     let without_word: Run = (
         &["run", "forward"],
         input,
@@ -237,7 +267,13 @@ fn the_strategy_handed_in_counts(rt: HostRuntime) -> Result<(), Fail> {
         b"",
         0,
     );
-    check_with(&rt, alloc, 1, &without_word, Some(Box::new(alloc, FirstReplica)?))?;
+    check_with(
+        &rt,
+        alloc,
+        1,
+        &without_word,
+        Some(Box::new(alloc, FirstReplica)?),
+    )?;
     let without_strategy: Run = (
         &["run", "forward", "pick=1"],
         input,
@@ -247,7 +283,13 @@ fn the_strategy_handed_in_counts(rt: HostRuntime) -> Result<(), Fail> {
     );
     check_with(&rt, alloc, 2, &without_strategy, None)?;
     let bad_word: Run = (&["run", "forward", "last"], input, b"", USAGE, 2);
-    check_with(&rt, alloc, 3, &bad_word, Some(Box::new(alloc, FirstReplica)?))
+    check_with(
+        &rt,
+        alloc,
+        3,
+        &bad_word,
+        Some(Box::new(alloc, FirstReplica)?),
+    )
 }
 
 // `node` and `split` go to primaries, whatever strategy is handed in.
