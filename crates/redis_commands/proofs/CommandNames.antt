@@ -1,7 +1,6 @@
 -- The name of a command by its first two arguments.
-use Rattle.std.proofs.Common.{◌≡◌, ℕ, List, [], ◌∷◌, ◌++◌, Some, None, true, false, ap, ◌∙◌}
+use Rattle.std.proofs.Common.{◌≡◌, ℕ, List, Some, None, false, ap, ◌∙◌}
 use Rattle.std.specs.Prelude.{if◌then◌else◌}
-use Rattle.std.proofs.lemmas.List.{append_assoc}
 use Rattle.redis_commands.specs.Upper.{upper}
 use Rattle.redis_commands.specs.TwoWords.{takes_second}
 use Rattle.redis_commands.specs.Command.{Arguments, argument, command_of, name_from, name_by, with_second, in_upper_case}
@@ -12,13 +11,3 @@ by_first args first is = ap (name_from args) is
 -- the first word takes no second one
 pub one_word : (args : Arguments) (first : List ℕ) → Some first ≡ argument args 0 → false ≡ takes_second (upper first) → Some (upper first) ≡ command_of args
 one_word args first is takes = ap (λ t. Some (with_second (upper first) (if t then in_upper_case (argument args 1) else None))) takes ∙ by_first args first is
-
--- it takes one, but there is none
-pub second_missing : (args : Arguments) (first : List ℕ) → Some first ≡ argument args 0 → true ≡ takes_second (upper first) → None ≡ argument args 1 → Some (upper first) ≡ command_of args
-second_missing args first is takes none_is =
-    ap (λ o. Some (with_second (upper first) (in_upper_case o))) none_is ∙ ap (λ t. Some (with_second (upper first) (if t then in_upper_case (argument args 1) else None))) takes ∙ by_first args first is
-
--- it takes one
-pub two_words : (args : Arguments) (first second : List ℕ) → Some first ≡ argument args 0 → true ≡ takes_second (upper first) → Some second ≡ argument args 1 → Some ((upper first ++ 32 ∷ []) ++ upper second) ≡ command_of args
-two_words args first second is takes second-is =
-    ap Some (append_assoc (upper first) (32 ∷ []) (upper second)) ∙ ap (λ o. Some (with_second (upper first) (in_upper_case o))) second-is ∙ ap (λ t. Some (with_second (upper first) (if t then in_upper_case (argument args 1) else None))) takes ∙ by_first args first is

@@ -3,6 +3,7 @@ pub mod Arguments
 pub mod CommandNames
 pub mod NameSets
 pub mod Patterns
+pub mod Placed
 pub mod Rows
 pub mod Search
 pub mod TableRows

@@ -1,5 +1,5 @@
 -- A binary search in a table by ascending names.
-use Rattle.std.proofs.Common.{◌≡◌, ℕ, zero, suc, ◌<◌, ◌≤◌, List, [], ◌∷◌, Bool, true, false, ◌&&◌, ◌||◌, None, Some, Ordering, refl, sym, ap, ◌∙◌, arith, length, get_or, map, inl, inr, add-one}
+use Rattle.std.proofs.Common.{◌≡◌, ℕ, zero, suc, ◌<◌, ◌≤◌, List, [], ◌∷◌, true, false, None, Ordering, refl, sym, ap, ◌∙◌, arith, length, get_or, map, inl, inr, add-one}
 use Rattle.std.specs.Ordering.{nat_cmp, is_lt, is_eq, ordering_reverse, ordering_index}
 use Rattle.std.specs.Cmp.Lexicographic.{slice_cmp}
 use Rattle.std.specs.List.Sorted.{IsNonDecreasingBy}
@@ -58,23 +58,9 @@ module _ {X : Type 0} (key : X → List ℕ) where
   ]
 
   module _ {A : Type 0} (value : X → A) where
-    pub found : (xs : List X) (n : List ℕ) (i : ℕ) (d : X) → ascends (map key xs) ≡ true → i < length xs → order (key (get_or xs i d)) n ≡ Ordering.Equal → lookup (map (λ x. (key x, value x)) xs) n ≡ Some (value (get_or xs i d))
-    found [] n i d h inside same = absurd (omega arith)
-    found (x ∷ xs) n zero d h inside same = rw (tested (key x) n Ordering.Equal same) refl
-    found (x ∷ xs) n (suc i) d h inside same =
-        let under : order (key x) (key (get_or xs i d)) ≡ Ordering.Less = above (key x) xs i d h (omega arith) in
-        let over : order n (key x) ≡ Ordering.Greater = nat_list_cmp_total.congr n (key (get_or xs i d)) (key x) (turned (key (get_or xs i d)) n Ordering.Equal same) ∙ turned (key x) (key (get_or xs i d)) Ordering.Less under in
-        rw (tested (key x) n Ordering.Less (turned n (key x) Ordering.Greater over)) (found xs n i d (tail_ascends x xs h) (omega arith) same)
-
-    missing : (xs : List X) (n : List ℕ) → ((k : ℕ) (d : X) → k < length xs → bytes_eq (key (get_or xs k d)) n ≡ false) → lookup (map (λ x. (key x, value x)) xs) n ≡ None
+    pub missing : (xs : List X) (n : List ℕ) → ((k : ℕ) (d : X) → k < length xs → bytes_eq (key (get_or xs k d)) n ≡ false) → lookup (map (λ x. (key x, value x)) xs) n ≡ None
     missing [] n apart = refl
     missing (x ∷ xs) n apart = rw (apart 0 x (omega arith)) (missing xs n (λ k d h. apart (suc k) d (omega arith)))
-
-    pub not_found : (xs : List X) (n : List ℕ) (i : ℕ)
-        → ((k : ℕ) (d : X) → 0 ≤ k → k < i → order (key (get_or xs k d)) n ≡ Ordering.Less)
-        → ((k : ℕ) (d : X) → i ≤ k → k < length xs → order (key (get_or xs k d)) n ≡ Ordering.Greater)
-        → lookup (map (λ x. (key x, value x)) xs) n ≡ None
-    not_found xs n i under over = missing xs n (apart xs n i under over)
 
 module _ {X : Type 0} (key : X → List ℕ) where
   pub found_name : (xs : List X) (n : List ℕ) (i : ℕ) (d : X) → i < length xs → order (key (get_or xs i d)) n ≡ Ordering.Equal → has_name (map key xs) n ≡ true
@@ -82,7 +68,7 @@ module _ {X : Type 0} (key : X → List ℕ) where
   found_name (x ∷ xs) n zero d inside same = rw (tested (key x) n Ordering.Equal same) refl
   found_name (x ∷ xs) n (suc i) d inside same = or_second (bytes_eq (key x) n) (has_name (map key xs) n) (found_name xs n i d (omega arith) same)
 
-  missing_name : (xs : List X) (n : List ℕ) → ((k : ℕ) (d : X) → k < length xs → bytes_eq (key (get_or xs k d)) n ≡ false) → has_name (map key xs) n ≡ false
+  pub missing_name : (xs : List X) (n : List ℕ) → ((k : ℕ) (d : X) → k < length xs → bytes_eq (key (get_or xs k d)) n ≡ false) → has_name (map key xs) n ≡ false
   missing_name [] n apart = refl
   missing_name (x ∷ xs) n apart = rw (apart 0 x (omega arith)) (missing_name xs n (λ k d h. apart (suc k) d (omega arith)))
 

@@ -3,6 +3,7 @@ pub use Rattle.resp_core.specs.View
 pub mod Command
 pub mod Lists
 pub mod NameTables
+pub mod Places
 pub mod Policies
 pub mod PresentArguments
 pub mod ReadOnly

@@ -2,6 +2,7 @@
 #![tactic(auto)]
 
 mod lookup;
+mod places;
 mod policy;
 mod read_only;
 mod routable;
@@ -13,4 +14,4 @@ pub use lookup::contains;
 pub use policy::{AggregateOp, LogicalAggregateOp, ResponsePolicy};
 pub use read_only::ReadOnlyNames;
 pub use routable::Routable;
-pub use route_by::{MultiSlotArgPattern, RouteBy, base_routing};
+pub use route_by::{MultiSlotArgPattern, RouteBy, base_routing, routing_and_policy};

@@ -1,14 +1,59 @@
-ghost use Rattle.std.specs.Prelude.{◌≡◌, map, true};
+ghost use Rattle.std.specs.Prelude.{◌≡◌, ◌<◌, ℕ, map, true, length, get_or};
 ghost use Rattle.redis_commands.specs.Lookup.{lookup, has_name, ascends};
+ghost use Rattle.redis_commands.specs.Places.{number_of, place_of, are_placed};
 
-/// What stands beside the name in a table by ascending names.
-pub(super) fn find<V: Copy>(rows: &[(&[u8], V)], name: &[u8]) -> Option<V>
-    requires { ascends (map (λ row. row.0.now) rows.now) ≡ true }
+/// What stands beside the name in a table whose rows stand at the places of their names.
+pub(super) fn find<V: Copy>(rows: &[(&[u8], V)], places: &[u8], name: &[u8]) -> Option<V>
+    requires some { 0 < length places.now }
+    requires placed { are_placed places.now (map (λ row. row.0.now) rows.now) ≡ true }
     ensures { result ≡ lookup (map (λ row. (row.0.now, row.1)) rows.now) name.now }
 {
-    match rows.binary_search_by_key(&name, |row| row.0) {
-        Ok(place) => Some(rows[place].1),
-        Err(_) => None,
+    let place = place_of(places, name);
+    if place < rows.len() && rows[place].0 == name {
+        Some(rows[place].1)
+    } else {
+        None
+    }
+}
+
+/// Whether the name is one of these, which stand at their places.
+pub(super) fn is_placed(names: &[&[u8]], places: &[u8], name: &[u8]) -> bool
+    requires some { 0 < length places.now }
+    requires placed { are_placed places.now (map (λ n. n.now) names.now) ≡ true }
+    ensures { result ≡ has_name (map (λ n. n.now) names.now) name.now }
+{
+    let place = place_of(places, name);
+    place < names.len() && names[place] == name
+}
+
+/// The place that a list of places has for the name's number.
+fn place_of(places: &[u8], name: &[u8]) -> usize
+    requires { 0 < length places.now }
+    ensures { result ≡ place_of places.now name.now }
+{
+    usize::from(places[number_of(name) % places.len()])
+}
+
+/// A number for a name by five of its bytes, by which a table tells its names apart.
+fn number_of(name: &[u8]) -> usize
+    ensures { result ≡ number_of name.now }
+{
+    let len = name.len();
+    byte_at(name, 0) * 557
+        + byte_at(name, 11) * 847
+        + byte_at(name, len.saturating_sub(3)) * 479
+        + byte_at(name, len.saturating_sub(5)) * 1023
+        + byte_at(name, len.saturating_sub(7)) * 897
+}
+
+fn byte_at(name: &[u8], place: usize) -> usize
+    ensures value { result ≡ get_or name.now place 0 }
+    ensures small { result < 256 }
+{
+    if place < name.len() {
+        usize::from(name[place])
+    } else {
+        0
     }
 }
 

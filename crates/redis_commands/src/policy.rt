@@ -1,8 +1,7 @@
 ghost use Rattle.std.specs.Prelude.{◌≡◌};
 ghost use Rattle.redis_commands.specs.Policies.{policy_of};
 
-use super::lookup::find;
-use super::tables::POLICIES;
+use super::route_by::routing_and_policy;
 
 /// How the bits in the replies of several nodes are joined, place by place.
 #[derive(Clone, Copy, Debug, PartialEq, Eq)]
@@ -46,6 +45,6 @@ impl ResponsePolicy {
     pub fn for_command(name: &[u8]) -> Option<Self>
         ensures { result ≡ policy_of name.now }
     {
-        find(&POLICIES, name)
+        routing_and_policy(name).1
     }
 }

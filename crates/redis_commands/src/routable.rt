@@ -4,9 +4,10 @@ ghost use Rattle.resp_core.specs.View.{view};
 ghost use Rattle.redis_commands.specs.Command.{Arguments, argument, command_of, is_word, arguments_in};
 ghost use Rattle.redis_commands.specs.TwoWords.{takes_second};
 
-use super::lookup::contains;
+use super::lookup::is_placed;
+use super::places::TWO_WORD_PLACES;
 use super::tables::TWO_WORD_NAMES;
-use super::upper_case::to_upper_case;
+use super::upper_case::{join_upper_case, to_upper_case};
 use resp_core::{Cmd, Value};
 use std::alloc::{AllocError, Global};
 
@@ -25,11 +26,9 @@ pub trait Routable {
             return Ok(None);
         };
         let mut name = to_upper_case(alloc, first)?;
-        if contains(&TWO_WORD_NAMES, &name) {
+        if takes_second(&name) {
             if let Some(second) = self.arg_idx(1) {
-                let second = to_upper_case(alloc, second)?;
-                name.push(b' ')?;
-                name.extend_from_slice(&second)?;
+                join_upper_case(&mut name, second)?;
             }
         }
         Ok(Some(name))
@@ -94,4 +93,11 @@ fn is_candidate(arg: Option<&[u8]>, candidate: &[u8]) -> bool
     ensures { result ≡ is_word candidate.now (option_copied arg.entry) }
 {
     arg.is_some_and(|arg| arg.eq_ignore_ascii_case(candidate))
+}
+
+/// Whether a second word belongs to a name with this first word in upper case.
+fn takes_second(first: &[u8]) -> bool
+    ensures { result ≡ takes_second first.now }
+{
+    is_placed(&TWO_WORD_NAMES, &TWO_WORD_PLACES, first)
 }

@@ -2,9 +2,12 @@ ghost use Rattle.std.specs.Prelude.{◌≡◌, ◌≤◌};
 ghost use Rattle.redis_commands.specs.Tuples.{is_complete};
 ghost use Rattle.redis_commands.specs.Tuples.{width_of, fits, own_count};
 ghost use Rattle.redis_commands.specs.RouteBy.{base_routing};
+ghost use Rattle.redis_commands.specs.Policies.{policy_of};
 
 use super::lookup::find;
-use super::tables::BASE_ROUTINGS;
+use super::places::NAME_PLACES;
+use super::policy::ResponsePolicy;
+use super::tables::NAMES;
 
 /// How the arguments of a command over many keys make tuples of a key and what goes with it.
 #[derive(Clone, Copy, Debug, PartialEq, Eq)]
@@ -94,5 +97,17 @@ pub enum RouteBy {
 pub fn base_routing(name: &[u8]) -> Option<RouteBy>
     ensures { result ≡ base_routing name.now }
 {
-    find(&BASE_ROUTINGS, name)
+    routing_and_policy(name).0
+}
+
+/// How commands of a name are routed, as `base_routing` has it, and how the replies to them make
+/// one, as `ResponsePolicy::for_command` has it: one look-up for both.
+pub fn routing_and_policy(name: &[u8]) -> (Option<RouteBy>, Option<ResponsePolicy>)
+    ensures routing { result.0 ≡ base_routing name.now }
+    ensures policy { result.1 ≡ policy_of name.now }
+{
+    match find(&NAMES, &NAME_PLACES, name) {
+        Some((route_by, policy)) => (Some(route_by), policy),
+        None => (None, None),
+    }
 }

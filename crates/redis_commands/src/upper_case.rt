@@ -1,4 +1,4 @@
-ghost use Rattle.std.specs.Prelude.{◌≡◌, IfOk};
+ghost use Rattle.std.specs.Prelude.{◌≡◌, ◌++◌, ◌∷◌, IfOk, OnOk};
 ghost use Rattle.redis_commands.specs.Upper.{upper};
 
 use std::alloc::{AllocError, Global};
@@ -10,4 +10,16 @@ pub(super) fn to_upper_case(alloc: Global, text: &[u8]) -> Result<Vec<u8>, Alloc
     let mut word = text.to_vec(alloc)?;
     word.make_ascii_uppercase();
     Ok(word)
+}
+
+/// Puts a space and the word in ASCII upper case behind the name.
+pub(super) fn join_upper_case(name: &mut Vec<u8>, word: &[u8]) -> Result<(), AllocError>
+    ensures { OnOk result (name.new.items ≡ name.old.items ++ 32 ∷ upper word.now) }
+{
+    name.reserve(word.len() + 1)?;
+    name.push(b' ')?;
+    let start = name.len();
+    name.extend_from_slice(word)?;
+    name[start..].make_ascii_uppercase();
+    Ok(())
 }

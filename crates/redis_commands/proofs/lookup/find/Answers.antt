@@ -1,14 +1,21 @@
-use Rattle.std.proofs.Common.{sym, rules}
-use Rattle.std.proofs.lemmas.List.Sorted.{answers_always}
-use Rattle.redis_commands.proofs.Search.{found, rising, not_found}
+use Rattle.std.proofs.Common.{sym, ap, ◌∙◌, arith}
+use Rattle.std.specs.Str.{bytes_eq}
+use Rattle.std.proofs.lemmas.List.{get_or_default}
+use Rattle.redis_commands.proofs.Placed.{found_at_place, not_at_place}
+use Rattle.redis_commands.proofs.lookup.find.Goals.{else-place-rows-via-then-place-rows+else-eq, else-place-rows-via-else-place-rows}
 use Rattle.redis_commands.proofs.lookup.find.Goals as goal
 
-pub returns-in-Ok : goal.returns-in-Ok
-returns-in-Ok g c =
-    sym (found (λ r. r.0.now) (λ r. r.1) c.args.rows.now c.args.name.now c.in-Ok.place _ c.requires c.in-Ok.ensures.bound
-    (c.in-Ok.ensures.position (λ r. r.0) (answers_always _ _ _ (λ f a r h k. search rules)) _))
+pub returns-then-eq : goal.returns-then-eq
+returns-then-eq g c =
+    sym (found_at_place (λ r. r.0.now) c.args.places.now (λ r. r.1) c.args.rows.now c.args.name.now c.place_of-place.result _ c.requires.placed c.if-place-rows.true
+    (ap (λ r. bytes_eq r.0.now c.args.name.now) (get_or_default c.args.rows.now c.place_of-place.result _ _ c.if-place-rows.true) ∙ sym c.eq.ensures ∙ c.if-eq.true))
 
-pub returns-in-Err : goal.returns-in-Err
-returns-in-Err g c =
-    let split = c.in-Err.ensures.position (λ r. r.0) (answers_always _ _ _ (λ f a r h k. search rules)) (rising (λ r. r.0.now) c.args.rows.now c.args.name.now c.requires) in
-    sym (not_found (λ r. r.0.now) (λ r. r.1) c.args.rows.now c.args.name.now c.in-Err.field-0 split.0 split.1)
+pub returns-else-place-rows : goal.returns-else-place-rows
+returns-else-place-rows g c = elim c.else-place-rows.branch [
+  | else-place-rows-via-then-place-rows+else-eq w ↦
+      sym (not_at_place (λ r. r.0.now) c.args.places.now (λ r. r.1) c.args.rows.now c.args.name.now c.place_of-place.result c.requires.placed c.place_of-place.ensures
+      (λ d inside. ap (λ r. bytes_eq r.0.now c.args.name.now) (get_or_default c.args.rows.now c.place_of-place.result d _ inside) ∙ sym w.eq.ensures ∙ w.if-eq.false))
+  | else-place-rows-via-else-place-rows w ↦
+      sym (not_at_place (λ r. r.0.now) c.args.places.now (λ r. r.1) c.args.rows.now c.args.name.now c.place_of-place.result c.requires.placed c.place_of-place.ensures
+      (λ d inside. absurd (omega arith)))
+]
