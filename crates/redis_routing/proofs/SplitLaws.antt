@@ -78,7 +78,6 @@ module _ (words : ℕ) (tables : NameTables) (only_reads : List ℕ → Bool) (a
   pub split_picked : HasWords words args → IfSplit (λ pattern routes. ArePartsPickedAfter words args pattern routes) (routing_by_with words tables (only_reads name) name args (tables.route_by name))
   split_picked has = of_route_by words tables _ args (only_reads name) name (tables.route_by name) (λ pattern is whole. parts_picked words args (only_reads name) pattern has whole)
 
--- where a command goes by its name, which is held in several places
-pub same_name_routing : (only_reads : List ℕ → Bool) (args : Arguments) (name read looked : List ℕ) (reads : Bool) → read ≡ name → looked ≡ name → reads ≡ only_reads read → routing_by reads looked args (base_routing looked) ≡ routing_by (only_reads name) name args (base_routing name)
-same_name_routing only_reads args name read looked reads read-is looked-is reads-is =
-    ap (λ r. routing_by r looked args (base_routing looked)) (reads-is ∙ ap only_reads read-is) ∙ ap (λ n. routing_by (only_reads name) n args (base_routing n)) looked-is
+-- where a command goes by its name, which is held in two places
+pub same_name_routing : (only_reads : List ℕ → Bool) (args : Arguments) (name looked : List ℕ) → looked ≡ name → routing_by (only_reads looked) looked args (base_routing looked) ≡ routing_by (only_reads name) name args (base_routing name)
+same_name_routing only_reads args name looked is = ap (λ n. routing_by (only_reads n) n args (base_routing n)) is

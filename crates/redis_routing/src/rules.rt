@@ -1,7 +1,6 @@
 ghost use Rattle.std.specs.Prelude.{◌≡◌, ◌<◌, ◌^◌, ◌+◌, IfOk, Some, option_map, option_copied, codes, position};
 ghost use Rattle.redis_commands.specs.Command.{Arguments, IsRespelt, argument, is_word};
 ghost use Rattle.redis_routing.specs.Laws.{Covers, ArePartsPicked, ArePartsRouted, IfSplit};
-ghost use Rattle.redis_commands.specs.Policies.{policy_of};
 ghost use Rattle.redis_commands.specs.ReadOnly.{is_among};
 ghost use Rattle.redis_routing.specs.RoutingInfo.{as_routing, as_multiple_nodes, random, single_node, multi_node, specific_node};
 ghost use Rattle.redis_commands.specs.RouteBy.{base_routing};
@@ -11,7 +10,7 @@ ghost use Rattle.redis_commands.specs.PresentArguments.{present_arguments};
 use super::info::{MultipleNodeRoutingInfo, RoutingInfo, SingleNodeRoutingInfo, nodes_for};
 use super::splitting::by_slots;
 use cluster_slots::{Route, Slot, SlotAddr, parse_u16, parse_u64};
-use redis_commands::{ReadOnlyNames, ResponsePolicy, Routable, RouteBy, base_routing};
+use redis_commands::{ReadOnlyNames, ResponsePolicy, Routable, RouteBy, routing_and_policy};
 use std::alloc::{AllocError, Global};
 
 impl RoutingInfo {
@@ -52,8 +51,7 @@ impl RoutingInfo {
         let Some(name) = command.command(alloc)? else {
             return Ok(None);
         };
-        let reads = read_only.contains(&name);
-        for_name(alloc, command, &name, reads)
+        for_name(alloc, command, &name, read_only)
     }
 }
 
@@ -62,22 +60,31 @@ fn for_name<R: Routable>(
     alloc: Global,
     command: &R,
     name: &[u8],
-    reads: bool,
+    read_only: &ReadOnlyNames,
 ) -> Result<Option<RoutingInfo>, AllocError>
     ensures { IfOk result (λ info. option_map as_routing info
-        ≡ routing_by reads name.now (R.args command.now) (base_routing name.now)) }
+        ≡ routing_by (is_among read_only.now name.now) name.now (R.args command.now)
+        (base_routing name.now)) }
 {
-    let Some(route_by) = base_routing(name) else {
-        return Ok(to_key_or_any(command.arg_idx(1), reads));
+    let (route_by, policy) = routing_and_policy(name);
+    let Some(route_by) = route_by else {
+        return Ok(to_key_or_any(command.arg_idx(1), read_only.contains(name)));
     };
     Ok(match route_by {
-        RouteBy::AllNodes => Some(to_several(MultipleNodeRoutingInfo::AllNodes, name)),
-        RouteBy::AllMasters => Some(to_several(MultipleNodeRoutingInfo::AllMasters, name)),
-        RouteBy::MultiSlot(pattern) => by_slots(alloc, command, name, pattern, reads)?,
+        RouteBy::AllNodes => Some(to_several(MultipleNodeRoutingInfo::AllNodes, policy)),
+        RouteBy::AllMasters => Some(to_several(MultipleNodeRoutingInfo::AllMasters, policy)),
+        RouteBy::MultiSlot(pattern) => {
+            by_slots(alloc, command, pattern, policy, read_only.contains(name))?
+        }
         RouteBy::Undefined => None,
-        RouteBy::CountAt(place) => by_count(command, usize::from(place), reads),
-        RouteBy::KeyAt(place) => to_key(command.arg_idx(usize::from(place)), reads),
-        RouteBy::KeyAfterStreams => after_streams(command, reads),
+        RouteBy::CountAt(place) => {
+            by_count(command, usize::from(place), read_only.contains(name))
+        }
+        RouteBy::KeyAt(place) => {
+            let key = command.arg_idx(usize::from(place));
+            to_key(key, read_only.contains(name))
+        }
+        RouteBy::KeyAfterStreams => after_streams(command, read_only.contains(name)),
         RouteBy::Random => Some(to_any()),
         RouteBy::SlotAt(place) => to_slot(command.arg_idx(usize::from(place))),
     })
@@ -89,10 +96,10 @@ fn to_any() -> RoutingInfo
     RoutingInfo::SingleNode(SingleNodeRoutingInfo::Random)
 }
 
-fn to_several(nodes: MultipleNodeRoutingInfo, name: &[u8]) -> RoutingInfo
-    ensures { as_routing result ≡ multi_node (as_multiple_nodes nodes) (policy_of name.now) }
+fn to_several(nodes: MultipleNodeRoutingInfo, policy: Option<ResponsePolicy>) -> RoutingInfo
+    ensures { as_routing result ≡ multi_node (as_multiple_nodes nodes) policy }
 {
-    RoutingInfo::MultiNode((nodes, ResponsePolicy::for_command(name)))
+    RoutingInfo::MultiNode((nodes, policy))
 }
 
 fn to_specific_node(route: Route) -> RoutingInfo

@@ -11,7 +11,7 @@ use super::splitting::{NAME_WORDS, present_len, routes_by_slot};
 use super::sub_commands::sub_command;
 use cluster_slots::Route;
 use redis_commands::{
-    MultiSlotArgPattern, ReadOnlyNames, ResponsePolicy, Routable, RouteBy, base_routing,
+    MultiSlotArgPattern, ReadOnlyNames, ResponsePolicy, Routable, RouteBy, routing_and_policy,
 };
 use resp_core::Cmd;
 use std::alloc::{AllocError, Global};
@@ -156,12 +156,11 @@ fn pattern_and_policy(name: &[u8]) -> Option<(MultiSlotArgPattern, ResponsePolic
     ensures policy { IfSome result (λ found. Some found.1 ≡ policy_of name.now) }
     ensures joins { IfSome result (λ found. joins_parts found.1 ≡ true) }
 {
-    let Some(RouteBy::MultiSlot(pattern)) = base_routing(name) else {
+    let (route_by, policy) = routing_and_policy(name);
+    let Some(RouteBy::MultiSlot(pattern)) = route_by else {
         return None;
     };
-    let Some(policy) = ResponsePolicy::for_command(name) else {
-        unreachable!()
-    };
+    let Some(policy) = policy else { unreachable!() };
     Some((pattern, policy))
 }
 

@@ -4,7 +4,6 @@ ghost use Rattle.indexmap.specs.IndexMap.{get, keys, IsUnique};
 ghost use Rattle.redis_routing.specs.Groups.{list_or_empty, entry_groups, route_of_group};
 ghost use Rattle.redis_routing.specs.Parts.{first_appearances, slot_of, tuples_in_slot};
 ghost use Rattle.redis_routing.specs.RoutingInfo.{as_routing};
-ghost use Rattle.redis_commands.specs.Policies.{policy_of};
 ghost use Rattle.redis_routing.specs.Routing.{to_slots, routes_of, routing_of_routes};
 ghost use Rattle.redis_commands.specs.PresentArguments.{present_arguments, present_arguments_after};
 ghost use Rattle.redis_routing.specs.RoutingInfo.{route_lists};
@@ -23,19 +22,19 @@ pub(super) const NAME_WORDS: usize = 1;
 pub(super) fn by_slots<R: Routable>(
     alloc: Global,
     command: &R,
-    name: &[u8],
     pattern: MultiSlotArgPattern,
+    policy: Option<ResponsePolicy>,
     reads: bool,
 ) -> Result<Option<RoutingInfo>, AllocError>
     ensures { IfOk result (λ info. option_map as_routing info
-        ≡ to_slots reads (policy_of name.now) pattern (present_arguments (R.args command.now))) }
+        ≡ to_slots reads policy pattern (present_arguments (R.args command.now))) }
 {
     let count = present_len(command, NAME_WORDS);
     if !pattern.fits(count) {
         return Ok(None);
     }
     let routes = routes_by_slot(alloc, command, NAME_WORDS, pattern, count, reads)?;
-    Ok(Some(routing_of_routes(routes, pattern, ResponsePolicy::for_command(name))))
+    Ok(Some(routing_of_routes(routes, pattern, policy)))
 }
 
 /// The routes of so many present arguments, which make whole tuples, after a name of so many words.

@@ -6,10 +6,12 @@ use Rattle.redis_routing.proofs.split_command.pattern_and_policy.Goals as goal
 
 pub unreachable-requires : goal.unreachable-requires
 unreachable-requires c =
-    let is : base_routing c.args.name.now ≡ Some (route_by.MultiSlot c.in-Some-MultiSlot.pattern) = sym c.base_routing.ensures ∙ c.in-Some-MultiSlot.is ∙ ap Some c.in-Some-MultiSlot.field-0-is in
-    split_has_policy c.args.name.now c.in-Some-MultiSlot.pattern is (sym c.for_command.ensures ∙ c.in_default-for_command.is)
+    let split : c.in-Some-MultiSlot.field-0 ≡ route_by.MultiSlot c.in-Some-MultiSlot.pattern = rw c.in-Some-MultiSlot.is at c.in-Some-MultiSlot.field-0-is in
+    let is : base_routing c.args.name.now ≡ Some (route_by.MultiSlot c.in-Some-MultiSlot.pattern) = sym c.routing_and_policy-route_by.ensures.routing ∙ c.in-Some-MultiSlot.is ∙ ap Some split in
+    split_has_policy c.args.name.now c.in-Some-MultiSlot.pattern is (sym c.routing_and_policy-route_by.ensures.policy ∙ c.in_default-policy.is)
 
 pub returns-clause-joins : goal.returns-clause-joins
 returns-clause-joins c =
-    let is : base_routing c.args.name.now ≡ Some (route_by.MultiSlot c.in-Some-MultiSlot.pattern) = sym c.base_routing.ensures ∙ c.in-Some-MultiSlot.is ∙ ap Some c.in-Some-MultiSlot.field-0-is in
-    split_policy_joins c.args.name.now c.in-Some-MultiSlot.pattern c.in-Some.policy is (sym c.for_command.ensures ∙ c.in-Some.is)
+    let split : c.in-Some-MultiSlot.field-0 ≡ route_by.MultiSlot c.in-Some-MultiSlot.pattern = rw c.in-Some-MultiSlot.is at c.in-Some-MultiSlot.field-0-is in
+    let is : base_routing c.args.name.now ≡ Some (route_by.MultiSlot c.in-Some-MultiSlot.pattern) = sym c.routing_and_policy-route_by.ensures.routing ∙ c.in-Some-MultiSlot.is ∙ ap Some split in
+    split_policy_joins c.args.name.now c.in-Some-MultiSlot.pattern c.in-Some.policy is (sym c.routing_and_policy-route_by.ensures.policy ∙ c.in-Some.is)

@@ -21,7 +21,7 @@ returns-clause-cover g c =
     let args = g.R.Routable.args c.args.command.now in
     let only_reads = is_among c.args.read_only.now in
     let name = c.in-Some.name.items in
-    let same = same_name_routing only_reads args name c.deref.result.now c.deref-2.result.now c.contains-reads.result c.deref.ensures.value c.deref-2.ensures.value c.contains-reads.ensures in
+    let same = same_name_routing only_reads args name c.deref.result.now c.deref.ensures.value in
     IfOk-weaker c.for_name.result _ _ (λ info e. subst (IfSplit (λ pattern routes. Covers pattern (present_arguments args) routes)) (sym (e ∙ same)) (split_covers 1 own_tables only_reads args name)) c.for_name.ensures
 
 pub returns-clause-picked : goal.returns-clause-picked
@@ -29,7 +29,7 @@ returns-clause-picked g c =
     let args = g.R.Routable.args c.args.command.now in
     let only_reads = is_among c.args.read_only.now in
     let name = c.in-Some.name.items in
-    let same = same_name_routing only_reads args name c.deref.result.now c.deref-2.result.now c.contains-reads.result c.deref.ensures.value c.deref-2.ensures.value c.contains-reads.ensures in
+    let same = same_name_routing only_reads args name c.deref.result.now c.deref.ensures.value in
     IfOk-weaker c.for_name.result _ _ (λ info e. subst (IfSplit (λ pattern routes. ArePartsPicked args pattern routes)) (sym (e ∙ same)) (split_picked 1 own_tables only_reads args name (has_first args name (rw c.in-Some.is at c.in_ok-name.ensures)))) c.for_name.ensures
 
 pub returns-clause-parts : goal.returns-clause-parts
@@ -37,5 +37,5 @@ returns-clause-parts g c =
     let args = g.R.Routable.args c.args.command.now in
     let only_reads = is_among c.args.read_only.now in
     let name = c.in-Some.name.items in
-    let same = same_name_routing only_reads args name c.deref.result.now c.deref-2.result.now c.contains-reads.result c.deref.ensures.value c.deref-2.ensures.value c.contains-reads.ensures in
+    let same = same_name_routing only_reads args name c.deref.result.now c.deref.ensures.value in
     IfOk-weaker c.for_name.result _ _ (λ info e. subst (IfSplit (λ pattern routes. ArePartsRouted only_reads args pattern routes)) (sym (e ∙ same)) (split_parts 1 own_tables only_reads args name (λ pattern. first_names args name pattern (rw c.in-Some.is at c.in_ok-name.ensures)))) c.for_name.ensures
