@@ -18,6 +18,9 @@ use std::alloc::{AllocError, Global};
 /// How many arguments are the name of a command over many keys.
 pub(super) const NAME_WORDS: usize = 1;
 
+/// For how many slots there is room from the start, where there are as many keys.
+const FIRST_ROOM: usize = 64;
+
 /// To the slots of a command's keys, if its arguments make whole tuples.
 pub(super) fn by_slots<R: Routable>(
     alloc: Global,
@@ -90,7 +93,8 @@ fn group_by_slot<R: Routable>(
         (tuples_in pattern (present_arguments_after words (R.args command.now))))) }
 {
     let width = pattern.width();
-    let mut groups: IndexMap<u16, Vec<usize>> = IndexMap::new(alloc);
+    let room = (own / width).min(FIRST_ROOM);
+    let mut groups: IndexMap<u16, Vec<usize>> = IndexMap::with_capacity(alloc, room)?;
     for number in 0..own / width {
         let place = number * width;
         let Some(key) = command.arg_idx(place + words) else {
