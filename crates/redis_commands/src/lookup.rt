@@ -1,4 +1,4 @@
-ghost use Rattle.std.specs.Prelude.{◌≡◌, ◌<◌, ℕ, map, true, length, get_or};
+ghost use Rattle.std.specs.Prelude.{◌≡◌, ◌<◌, map, true, length, get_or};
 ghost use Rattle.redis_commands.specs.Lookup.{lookup, has_name, ascends};
 ghost use Rattle.redis_commands.specs.Places.{number_of, place_of, are_placed};
 

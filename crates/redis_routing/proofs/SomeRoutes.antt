@@ -1,5 +1,5 @@
 -- A complete command has a route.
-use Rattle.std.proofs.Common.{◌≡◌, ℕ, zero, suc, ◌<◌, List, [], ◌∷◌, Bool, true, length, map, arith}
+use Rattle.std.proofs.Common.{◌≡◌, ℕ, ◌<◌, List, [], ◌∷◌, Bool, true, length, map, arith}
 use Rattle.std.proofs.lemmas.List.{length-map}
 use Rattle.redis_routing.specs.Parts.{first_appearances, slot_of}
 use Rattle.redis_routing.specs.Routing.{route_of_slot, routes_of}

@@ -1,5 +1,5 @@
 -- The laws of split commands, for whatever a command is routed to.
-use Rattle.std.proofs.Common.{◌≡◌, ℕ, zero, suc, List, [], ◌∷◌, Bool, true, false, Option, None, Some, ◌++◌, length, take, refl, ap, ◌∙◌}
+use Rattle.std.proofs.Common.{◌≡◌, ℕ, zero, suc, List, [], ◌∷◌, Bool, true, Option, None, Some, ◌++◌, length, take, refl, ap}
 use Rattle.std.specs.Prelude.{nat_lt}
 use Rattle.cluster_slots.specs.SlotRoute.{SlotRoute}
 use Rattle.redis_commands.specs.Command.{Arguments, HasWords, argument, command_of}
