@@ -1,4 +1,4 @@
-//! Where the names of the tables stand, by their numbers. `tests/name-places` prints this page.
+//! Where the names of the tables stand, by their numbers. `tools/name-places` prints this page.
 
 /// The row of `NAMES` that a name has, if it has one, by its number; 255 is no row.
 pub(super) const NAME_PLACES: [u8; 1024] = [
