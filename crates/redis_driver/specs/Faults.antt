@@ -33,7 +33,7 @@ abbrev pub IsPlanFault : List (ranges.Entry SlotNodes) → (List ℕ → Bool) �
 IsPlanFault entries only_reads args plan.NotMultiKey = routes_by only_reads args ≡ None
 IsPlanFault entries only_reads args (plan.NotCovered slot) =
     (routes : List SlotRoute) × (routes_by only_reads args ≡ Some routes)
-        × IsFirstUncovered entries routes slot
+    × IsFirstUncovered entries routes slot
 IsPlanFault entries only_reads args plan.Memory = Unit {0}
 
 -- why nothing of a request is sent

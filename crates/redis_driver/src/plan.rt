@@ -55,12 +55,18 @@ impl<'a, R: Routable> Model for SplitPlan<'a, R> {
     ghost coded = { Prim.hlevel (codes, value.the_row.coded) };
 
     ghost view = { λ p. record {
-        split = p.split; nodes = map (λ n. n.now) p.nodes.items; parts = p.parts.items;
-        replies = told p.answered.items p.replies.items } };
+      split = p.split;
+      nodes = map (λ n. n.now) p.nodes.items;
+      parts = p.parts.items;
+      replies = told p.answered.items p.replies.items;
+    } };
 
     ghost invariant = { λ p. IsPlan (record {
-        split = p.split; nodes = map (λ n. n.now) p.nodes.items; parts = p.parts.items;
-        replies = told p.answered.items p.replies.items })
+      split = p.split;
+      nodes = map (λ n. n.now) p.nodes.items;
+      parts = p.parts.items;
+      replies = told p.answered.items p.replies.items;
+    })
         × (length p.answered.items ≡ length p.replies.items) };
 }
 
@@ -159,8 +165,11 @@ impl<'a, R: Routable> SplitPlan<'a, R> {
     pub fn tell(&mut self, number: usize, reply: Value) -> Result<(), Value>
         ensures told { OnOk result ((slice_get self.old.replies number ≡ Some None)
             × (self.new ≡ record {
-            split = self.old.split; nodes = self.old.nodes; parts = self.old.parts;
-            replies = slice_set self.old.replies number (Some reply) })) }
+              split = self.old.split;
+              nodes = self.old.nodes;
+              parts = self.old.parts;
+              replies = slice_set self.old.replies number (Some reply);
+            })) }
         ensures refused { IfErr result
             (λ back. (back ≡ reply) × (self.new ≡ self.old)
             × (slice_get self.old.replies number ≡ Some None → ⊥)) }
@@ -226,7 +235,7 @@ fn join<R: Routable>(
     ensures joined { MatchResult result
         (λ value. joined split.now (map view replies.items) ≡ Ok (view value))
         (λ error. ((error ≡ out_of_memory) × (split.now.policy ≡ ResponsePolicy.CombineArrays))
-            ⊎ (joined split.now (map view replies.items) ≡ Err error.kind)) }
+        ⊎ (joined split.now (map view replies.items) ≡ Err error.kind)) }
 {
     match split.policy() {
         ResponsePolicy::CombineArrays => {

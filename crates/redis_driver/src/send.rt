@@ -100,8 +100,11 @@ fn send_part<R: Routable, N: Nodes>(
 fn tell_first<R: Routable>(plan: &mut SplitPlan<'_, R>, number: usize, reply: Value)
     requires { slice_get plan.old.replies number ≡ Some None }
     ensures { plan.new ≡ record {
-        split = plan.old.split; nodes = plan.old.nodes; parts = plan.old.parts;
-        replies = slice_set plan.old.replies number (Some reply) } }
+      split = plan.old.split;
+      nodes = plan.old.nodes;
+      parts = plan.old.parts;
+      replies = slice_set plan.old.replies number (Some reply);
+    } }
 {
     match plan.tell(number, reply) {
         Ok(()) => {}

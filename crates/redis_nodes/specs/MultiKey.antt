@@ -70,8 +70,8 @@ form_of_policy (Some policy) = form_by_policy policy
 abbrev pub multi_key_with : ℕ → NameTables → Arguments → Option MultiKey
 multi_key_with words tables args =
     command_with (command_of args) (present_arguments_after words args)
-        (pattern_by_name_with tables (command_of args))
-        (form_of_policy (policy_by_name_with tables (command_of args)))
+    (pattern_by_name_with tables (command_of args))
+    (form_of_policy (policy_by_name_with tables (command_of args)))
 
 -- by the project's own tables, in which each name has one word
 abbrev pub multi_key : Arguments → Option MultiKey

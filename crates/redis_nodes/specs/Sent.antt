@@ -18,6 +18,6 @@ abbrev pub IsUnanswered : {C : Type 0} (may_refuse : ℕ → Ending → Type 0)
     → Option Ending → Type 0
 IsUnanswered may_refuse old_keys new_keys old new mark node args (Some ending) =
     may_refuse (length old) ending × (new_keys ≡ old_keys)
-        × (new ≡ old ++ entry node args ending ∷ []) × (mark ≡ false)
+    × (new ≡ old ++ entry node args ending ∷ []) × (mark ≡ false)
 IsUnanswered may_refuse old_keys new_keys old new mark node args None =
     (new_keys ≡ old_keys) × (new ≡ old) × (mark ≡ true)
