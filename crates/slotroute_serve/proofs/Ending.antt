@@ -1,12 +1,11 @@
 -- How a run of commands ends early.
-use Rattle.std.proofs.Common.{◌≡◌, ◌≢◌, ℕ, ◌+◌, Bool, List, [], ◌++◌, refl, sym, length, take, inl, inr, ◌⊎◌}
+use Rattle.std.proofs.Common.{◌≡◌, ◌≢◌, ℕ, Bool, List, [], ◌++◌, refl, take, inl, inr, ◌⊎◌, ◌∷◌}
 use Rattle.std.specs.Prelude.{Option, Result, Ok, Err, IfErr, MatchResult}
 use Rattle.std.specs.Result.{IsErrAnd}
 use Rattle.std.specs.Io.BufRead.{DropsThrough}
 use Rattle.std.specs.Io.KnownBytes.{Appends}
 use Rattle.std.specs.declared.io.ErrorKind.{ErrorKind}
 use Rattle.std.specs.declared.io.ErrorKind.TheVariants.{OutOfMemory}
-use Rattle.std.proofs.Math.Seq.{take-append-add}
 use Rattle.cluster_map.specs.RangeMap.{Entry}
 use Rattle.cluster_map.specs.SlotNodes.{SlotNodes}
 use Rattle.memory_nodes.specs.Cells.{Cell}
@@ -15,7 +14,7 @@ use Rattle.slotroute_run.specs.declared.direction.Direction.{Direction}
 use Rattle.slotroute_serve.specs.Faults.{IsReaderFault, IsCaused}
 use Rattle.slotroute_serve.specs.Lines.{fields_of}
 use Rattle.slotroute_serve.specs.RunFaults.{WhyNoText, RunEnds, RunStops}
-use Rattle.slotroute_serve.specs.Runs.{no_keys, StopsAfter}
+use Rattle.slotroute_serve.specs.Runs.{no_keys, AreRun, StopsAfter}
 use Rattle.slotroute_serve.specs.Streams.{Leaves}
 use Rattle.slotroute_serve.specs.declared.fault.Fault.{Fault}
 use Rattle.slotroute_serve.specs.declared.fault.Fault.TheVariants as fault
@@ -76,7 +75,7 @@ module _ (handed : Bool) (direction : Direction) (entries : List (Entry SlotNode
   text_stops first number input mid left out new keys text line fault.Output a on h d why = absurd why
 
   -- the text of a line was not written whole
-  pub emit_stops : (first number : ℕ) (input left out mid new : Option (List ℕ)) (keys : Keyspace Cell) (text more : List ℕ) (k : ℕ) (e : Fault) → Appends out mid text → RunsOn handed direction entries input left first number keys (text ++ more) → Appends mid new (take k more) → e ≡ fault.Output
-      → RunStops handed direction entries first input left out new e
-  emit_stops first number input left out mid new keys text more k e a on part is =
-      rw is (text ++ take k more, grows out mid new text (take k more) (text ++ take k more) a part refl, cut handed direction entries input left first number keys (text ++ more) (text ++ take k more) (length text + k) on (sym (take-append-add text more k)))
+  pub emit_stops : (first number : ℕ) (input at left out mid new : Option (List ℕ)) (keys after : Keyspace Cell) (text more line : List ℕ) (k : ℕ) (e : Fault) → Appends out mid text → RunsOn handed direction entries input at first number keys text → HasLine at line → AreRun handed direction entries (fields_of line ∷ []) keys after more → DropsThrough at left 10
+      → Appends mid new (take k more) → e ≡ fault.Output → RunStops handed direction entries first input left out new e
+  emit_stops first number input at left out mid new keys after text more line k e a on h run d part is =
+      rw is (text ++ take k more, grows out mid new text (take k more) (text ++ take k more) a part refl, cut handed direction entries input at left first number keys after text more line (text ++ take k more) k on h run d refl)

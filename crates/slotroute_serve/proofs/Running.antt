@@ -122,12 +122,28 @@ module _ (handed : Bool) (direction : Direction) (entries : List (Entry SlotNode
         left_is = ap (drop_through 10) r ∙ sym (after_lines-more (length front) input);
       }
 
-  -- some bytes of what the lines print were written
-  pub cut : (old left : Option (List ℕ)) (first number : ℕ) (keys : Keyspace Cell) (whole text : List ℕ) (count : ℕ) → RunsOn old left first number keys whole → text ≡ take count whole → Leaves old left (λ bytes rest. CutShort handed direction entries bytes rest text)
-  cut None left first number keys whole text count on begins = tt
-  cut (Some input) None first number keys whole text count on begins = absurd on
-  cut (Some input) (Some xs) first number keys whole text count (front, split, ran, r, n) begins =
-      record { before = front; later = field_lines xs; lines = split; keyspace = keys; whole = whole; run = ran; count = count; begins = begins; left_is = r }
+  -- some bytes of what the next line prints were written
+  pub cut : (old left new : Option (List ℕ)) (first number : ℕ) (keys after : Keyspace Cell) (earlier whole line text : List ℕ) (count : ℕ) → RunsOn old left first number keys earlier → HasLine left line → AreRun handed direction entries (fields_of line ∷ []) keys after whole → DropsThrough left new 10
+      → text ≡ earlier ++ take count whole → Leaves old new (λ bytes rest. CutShort handed direction entries bytes rest text)
+  cut None left new first number keys after earlier whole line text count on h last d begins = tt
+  cut (Some input) None new first number keys after earlier whole line text count on h last d begins = absurd on
+  cut (Some input) (Some []) new first number keys after earlier whole line text count on h last d begins = absurd (true≢false h.there)
+  cut (Some input) (Some (x ∷ xs)) new first number keys after earlier whole line text count (front, split, ran, r, n) h last d begins =
+      rw d record {
+        before = front;
+        fields = fields_of line;
+        later = field_lines (drop_through 10 (x ∷ xs));
+        lines = split_more input x xs front line split h.text;
+        keyspace = keys;
+        after = after;
+        earlier = earlier;
+        whole = whole;
+        run = ran;
+        last = last;
+        count = count;
+        begins = begins;
+        left_is = ap (drop_through 10) r ∙ sym (after_lines-more (length front) input);
+      }
 
   -- a refused command's line was read whole
   pub begins_at_refused : (first : ℕ) (input left text : List ℕ) (number : ℕ) (refusal : Refusal) → RefusedAt handed direction entries first input left text number refusal → StopsAfter handed direction entries input left text

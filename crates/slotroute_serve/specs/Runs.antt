@@ -58,14 +58,19 @@ module _ (handed : Bool) (direction : Direction) (entries : List (Entry SlotNode
     pub run : AreRun before no_keys keyspace text
     pub stops : StopsInLine (after_lines (length before) input) left
 
-  -- the first lines were run, and the text is the first bytes of what they printed, perhaps all
+  -- The lines before one were run, and the text is what they printed and the first bytes of what the
+  -- command of that line prints, perhaps all. What follows the line is left.
   pub record CutShort (input left text : List ℕ) : Type 0 where
     pub before : List (List (List ℕ))
+    pub fields : List (List ℕ)
     pub later : List (List (List ℕ))
-    pub lines : field_lines input ≡ before ++ later
+    pub lines : field_lines input ≡ before ++ fields ∷ later
     pub keyspace : Keyspace Cell
+    pub after : Keyspace Cell
+    pub earlier : List ℕ
     pub whole : List ℕ
-    pub run : AreRun before no_keys keyspace whole
+    pub run : AreRun before no_keys keyspace earlier
+    pub last : AreRun (fields ∷ []) keyspace after whole
     pub count : ℕ
-    pub begins : text ≡ take count whole
-    pub left_is : left ≡ after_lines (length before) input
+    pub begins : text ≡ earlier ++ take count whole
+    pub left_is : left ≡ after_lines (length before + 1) input

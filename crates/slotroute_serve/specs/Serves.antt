@@ -38,7 +38,7 @@ pub record BeginsRun (handed : Bool) (direction : Direction) (input left text : 
   pub is_map : IsMap (leading_lines input) ranges
   pub stops : StopsAfter handed direction (insert_ranges [] ranges) (after_map input) left text
 
--- the first commands of a run were run, and the text is the first bytes of what they printed
+-- the text is what the first commands of a run printed, and the first bytes of what the next prints
 pub record CutsRun (handed : Bool) (direction : Direction) (input left text : List ℕ) : Type 0 where
   pub ranges : List RangeNodes
   pub is_map : IsMap (leading_lines input) ranges
@@ -58,7 +58,8 @@ IsUnfinished handed words input left text =
     ⊎ ((direction : Direction) × IsRunWords direction words
     × Leaves input left (λ bytes rest. BeginsRun handed direction bytes rest text))
 
--- the text is the first bytes of an answer, or of what the first commands of a run print
+-- the text is the first bytes of an answer, or what the first commands of a run print and the first
+-- bytes of what the next one does
 abbrev pub IsCutShort : Bool → List (List ℕ) → Option (List ℕ) → Option (List ℕ) → List ℕ → Type 0
 IsCutShort handed words input left text =
     Leaves input left (λ bytes rest. BeginsOutput handed words bytes rest text)

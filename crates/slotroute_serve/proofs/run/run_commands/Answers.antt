@@ -43,10 +43,9 @@ returns-in_err-emit-clause-run g c =
     let line : HasLine (g.R.Source.remaining c.loop-number.reader) c.next_line.new.line.items = record { there = rw c.if-not-branch.false at c.in_ok-next_line.ensures.there; text = c.in_ok-next_line.ensures.text } in
     let (k, part) = c.in_err-emit.ensures.begun in
     stops_as (is_some c.args.strategy) c.args.direction.now c.args.slot_map.now c.args.first (g.R.Source.remaining c.args.reader.now) (g.R.Source.remaining c.next_line.new.source) (g.O.Sink.contents c.args.out.now) (g.O.Sink.contents c.emit.new.writer) c.in_err-emit.field-0.0 c.from_residual-in_err-emit.result
-    (emit_stops (is_some c.args.strategy) c.args.direction.now c.args.slot_map.now c.args.first _ (g.R.Source.remaining c.args.reader.now) (g.R.Source.remaining c.next_line.new.source) (g.O.Sink.contents c.args.out.now) (g.O.Sink.contents c.loop-number.out) (g.O.Sink.contents c.emit.new.writer) (keyspace_in c.line_text.new.nodes) c.loop-number.invariant.text c.in_ok-text.text.items k c.in_err-emit.field-0.0
-    c.loop-number.invariant.written
-    (run_more (is_some c.args.strategy) c.args.direction.now c.args.slot_map.now (g.R.Source.remaining c.args.reader.now) (g.R.Source.remaining c.loop-number.reader) (g.R.Source.remaining c.next_line.new.source) c.args.first c.loop-number.number (keyspace_in c.loop-number.nodes) (keyspace_in c.line_text.new.nodes) c.loop-number.invariant.text c.in_ok-text.text.items c.next_line.new.line.items
-    c.loop-number.invariant.on line (rw c.deref.ensures.value at c.in_ok-text.ensures.run) c.in_ok-next_line.ensures.rest)
+    (emit_stops (is_some c.args.strategy) c.args.direction.now c.args.slot_map.now c.args.first c.loop-number.number (g.R.Source.remaining c.args.reader.now) (g.R.Source.remaining c.loop-number.reader) (g.R.Source.remaining c.next_line.new.source) (g.O.Sink.contents c.args.out.now) (g.O.Sink.contents c.loop-number.out) (g.O.Sink.contents c.emit.new.writer)
+    (keyspace_in c.loop-number.nodes) (keyspace_in c.line_text.new.nodes) c.loop-number.invariant.text c.in_ok-text.text.items c.next_line.new.line.items k c.in_err-emit.field-0.0
+    c.loop-number.invariant.written c.loop-number.invariant.on line (rw c.deref.ensures.value at c.in_ok-text.ensures.run) c.in_ok-next_line.ensures.rest
     (rw c.deref-in-loop-number.ensures.value at part) c.in_err-emit.ensures.fault)
     c.from_residual-in_err-emit.ensures.1
 
