@@ -235,7 +235,8 @@ impl SlotMap {
         pick: usize,
     ) -> Option<&NodeAddress>
         ensures node { MatchOption result (IsUncovered self.now route.slot)
-            (λ address. IsRouteNode strategy.entry (λ s. picks s.now) self.now pick route address.now) }
+            (λ address. IsRouteNode strategy.entry (λ s. picks s.now)
+            self.now pick route address.now) }
         // In the map of a reply it is the node that the reply says.
         ensures reply { (answering : List ℕ) (reply : Reply) → self.now ≡ entries_in answering reply
             → MatchOption result (IsUncovered (entries_in answering reply) route.slot)

@@ -46,8 +46,8 @@ impl MemoryNodes {
         }
     }
 
-    /// From now on refuses each send that finds `limit - 1` or more entries in the trace: a limit of
-    /// 3 lets two sends through, and 1, as 0, lets none.
+    /// From now on refuses each send that finds `limit - 1` or more entries in the trace: a limit
+    /// of 3 lets two sends through, and 1, as 0, lets none.
     pub fn fuse(&mut self, limit: usize)
         ensures keyspace { keyspace_in self.new ≡ keyspace_in self.old }
         ensures trace { trace_in self.new ≡ trace_in self.old }

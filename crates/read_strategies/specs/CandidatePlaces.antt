@@ -24,7 +24,8 @@ one_of : (primary : Option Address) (replicas : List Address) (address : Address
     → (primary ≡ Some address) ⊎ Contains replicas address
 one_of None replicas address place there = inr (Contains-at replicas address place there)
 one_of (Some primary) replicas address zero there = inl there
-one_of (Some primary) replicas address (suc place) there = inr (Contains-at replicas address place there)
+one_of (Some primary) replicas address (suc place) there =
+    inr (Contains-at replicas address place there)
 
 -- the primary, where it is a candidate, or a replica
 pub IsCandidate-in_order : (c : Candidates) (address : Address) (place : ℕ)

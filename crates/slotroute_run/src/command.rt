@@ -49,8 +49,8 @@ pub fn run_command(
     requires names { AreReadOnly read_only.now }
     requires willing { AreWilling nodes.old }
     ensures run { IfOk result (λ text. IsCommandRun (is_some strategy.entry) direction.now
-        slot_map.now (map (λ word. word.now) words.now) (keyspace_in nodes.old) (keyspace_in nodes.new)
-        text.items) }
+        slot_map.now (map (λ word. word.now) words.now)
+        (keyspace_in nodes.old) (keyspace_in nodes.new) text.items) }
     ensures refused { IfErr result (WhyNotRun slot_map.now (map (λ word. word.now) words.now)) }
     ensures willing { AreWilling nodes.new }
 {
@@ -116,7 +116,8 @@ fn drive_command(
         command.now order.now }
     requires willing { AreWilling nodes.old }
     ensures driven { IfOk result (λ value. IsDriven
-        (IsRunNode (is_some strategy.entry) slot_map.now) step (request (map Some command.now) only_reads slot_map.now order.now)
+        (IsRunNode (is_some strategy.entry) slot_map.now) step
+        (request (map Some command.now) only_reads slot_map.now order.now)
         (state (keyspace_in nodes.old) (trace_in nodes.old) (mark_in nodes.old))
         (state (keyspace_in nodes.new) (trace_in nodes.new) (mark_in nodes.new)) (view value)) }
     ensures refused { IfErr result (WhyNotRun slot_map.now command.now) }
