@@ -62,35 +62,42 @@ impl Write for FailingWriter {
     }
 }
 
+/// Words, and what they print on two nodes.
+const ANSWERS: [(&[&str], &[u8]); 2] = [
+    (&["node", "foo"], b"slot 12182 n2:2\n"),
+    (
+        &["split", "DEL", "a", "b"],
+        b"15495 n2:2 DEL a\n3300 n1:1 DEL b\n",
+    ),
+];
+
 #[test]
 fn each_read_fails_in_turn(rt: HostRuntime) -> Result<(), Fail> {
     let alloc = rt.alloc();
-    let words = words_of(alloc, &["node", "foo"])?;
     // a call for each byte, and one that finds the end
     let needed = TWO_NODES.len() + 1;
-    for calls in 0..40 {
-        let mut reader = FailingReader {
-            rest: TWO_NODES,
-            calls_left: calls,
-        };
-        let mut out = Vec::new(alloc);
-        let mut err = Vec::new(alloc);
-        let status = serve(alloc, &words, &mut reader, &mut out, &mut err, None);
-        if calls < needed {
-            assert_eq!(rt;
-                err.as_slice(),
-                b"slotroute: input failed\n".as_slice(),
-                "at {calls}"
-            );
-            assert_eq!(rt; out.len(), 0, "at {calls}");
-            assert_eq!(rt; status, 2, "at {calls}");
-        } else {
-            assert_eq!(rt;
-                out.as_slice(),
-                b"slot 12182 n2:2\n".as_slice(),
-                "at {calls}"
-            );
-            assert_eq!(rt; status, 0, "at {calls}");
+    for (texts, whole) in ANSWERS {
+        let words = words_of(alloc, texts)?;
+        for calls in 0..40 {
+            let mut reader = FailingReader {
+                rest: TWO_NODES,
+                calls_left: calls,
+            };
+            let mut out = Vec::new(alloc);
+            let mut err = Vec::new(alloc);
+            let status = serve(alloc, &words, &mut reader, &mut out, &mut err, None);
+            if calls < needed {
+                assert_eq!(rt;
+                    err.as_slice(),
+                    b"slotroute: input failed\n".as_slice(),
+                    "{texts:?} at {calls}"
+                );
+                assert_eq!(rt; out.len(), 0, "{texts:?} at {calls}");
+                assert_eq!(rt; status, 2, "{texts:?} at {calls}");
+            } else {
+                assert_eq!(rt; out.as_slice(), whole, "{texts:?} at {calls}");
+                assert_eq!(rt; status, 0, "{texts:?} at {calls}");
+            }
         }
     }
     Ok(())
@@ -99,24 +106,29 @@ fn each_read_fails_in_turn(rt: HostRuntime) -> Result<(), Fail> {
 #[test]
 fn each_write_fails_in_turn(rt: HostRuntime) -> Result<(), Fail> {
     let alloc = rt.alloc();
-    let words = words_of(alloc, &["node", "foo"])?;
-    let whole: &[u8] = b"slot 12182 n2:2\n";
-    for calls in 0..17 {
-        let mut reader = TWO_NODES;
-        let mut out = FailingWriter {
-            bytes: Vec::new(alloc),
-            calls_left: calls,
-        };
-        let mut err = Vec::new(alloc);
-        let status = serve(alloc, &words, &mut reader, &mut out, &mut err, None);
-        assert!(rt; whole.starts_with(out.bytes.as_slice()), "at {calls}");
-        assert_eq!(rt; out.bytes.len(), calls, "at {calls}");
-        assert_eq!(rt;
-            err.as_slice(),
-            b"slotroute: output failed\n".as_slice(),
-            "at {calls}"
-        );
-        assert_eq!(rt; status, 2, "at {calls}");
+    for (texts, whole) in ANSWERS {
+        let words = words_of(alloc, texts)?;
+        // a call for each byte, and one that sends them off
+        for calls in 0..whole.len() + 1 {
+            let mut reader = TWO_NODES;
+            let mut out = FailingWriter {
+                bytes: Vec::new(alloc),
+                calls_left: calls,
+            };
+            let mut err = Vec::new(alloc);
+            let status = serve(alloc, &words, &mut reader, &mut out, &mut err, None);
+            assert!(rt;
+                whole.starts_with(out.bytes.as_slice()),
+                "{texts:?} at {calls}"
+            );
+            assert_eq!(rt; out.bytes.len(), calls, "{texts:?} at {calls}");
+            assert_eq!(rt;
+                err.as_slice(),
+                b"slotroute: output failed\n".as_slice(),
+                "{texts:?} at {calls}"
+            );
+            assert_eq!(rt; status, 2, "{texts:?} at {calls}");
+        }
     }
     Ok(())
 }

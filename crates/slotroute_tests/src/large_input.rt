@@ -4,7 +4,7 @@ use std::alloc::{AllocError, Global};
 use std::test::Fail;
 
 /// The bytes of `start`, those of `piece` so many times, and those of `end`.
-fn repeated(
+pub fn repeated(
     alloc: Global,
     start: &[u8],
     piece: &[u8],

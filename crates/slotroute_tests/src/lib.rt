@@ -6,6 +6,8 @@ mod failing_streams;
 #[cfg(test)]
 mod large_input;
 #[cfg(test)]
+mod large_run;
+#[cfg(test)]
 mod map_lines;
 #[cfg(test)]
 mod node;
@@ -21,3 +23,5 @@ mod serve;
 mod split;
 #[cfg(test)]
 mod steady_streams;
+#[cfg(test)]
+mod turns;

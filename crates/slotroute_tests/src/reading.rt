@@ -39,13 +39,14 @@ impl BufRead for BoundedReader<'_> {
 /// The words, the bytes that are to be read, and the status.
 type Reading<'a> = (&'a [&'a str], &'a [u8], u8);
 
-const READINGS: [Reading; 6] = [
+const READINGS: [Reading; 7] = [
     (&["node", "foo"], b"0 16383 n1:1\n\n", 0),
     (&["node", "foo"], b"0 16383 n1:1\n  \r\n", 0),
     (&["node", "foo"], b"\n", 1),
     (&["split", "GET", "foo"], b"0 16383 n1:1\n\n", 2),
     (&["node", "foo"], b"0 16383 n1:1\nx\n", 2),
     (&["node"], b"", 2),
+    (&["run", "forward"], b"0 16383 n1:1\n\nDEL a\nGET a\n", 2),
 ];
 
 #[test]

@@ -190,8 +190,8 @@ fn a_strategy_is_told_of_the_shards(rt: HostRuntime) -> Result<(), Fail> {
     )?;
     let run: Run = (
         &["run", "reverse", "shard"],
-        b"0 16383 p:1 r:1 r:2\n\nMGET a b\n",
-        b"r:1 MGET b\nr:1 MGET a\n[nil, nil]\n",
+        b"0 5000 p:1 r:1 r:2\n5001 10000 q:1 s:1 s:2\n10001 16383 p:1 r:1 r:2\n\nMGET a c b\n",
+        b"r:2 MGET b\ns:1 MGET c\nr:2 MGET a\n[nil, nil, nil]\n",
         b"",
         0,
     );
@@ -229,17 +229,29 @@ impl ReadRoutingStrategy for CountsTold {
 #[test]
 fn a_strategy_is_told_once(rt: HostRuntime) -> Result<(), Fail> {
     let alloc = rt.alloc();
-    let run: Run = (
-        &["run", "forward"],
-        b"0 8191 p:1 r:1 r:2\n8192 16383 p:1 r:1 r:2\n\nMGET a b\nMGET a\n",
-        b"r:1 MGET a\nr:1 MGET b\n[nil, nil]\nr:1 MGET a\n[nil]\n",
-        b"",
-        0,
-    );
-    let strategy = CountsTold {
-        by_count: PickIndex::new(0),
-    };
-    check_with(&rt, alloc, 0, &run, Some(Box::new(alloc, strategy)?))
+    let runs: [Run; 2] = [
+        (
+            &["run", "forward"],
+            b"0 8191 p:1 r:1 r:2\n8192 16383 p:1 r:1 r:2\n\nMGET a b\nMGET a\n",
+            b"r:1 MGET a\nr:1 MGET b\n[nil, nil]\nr:1 MGET a\n[nil]\n",
+            b"",
+            0,
+        ),
+        (
+            &["run", "reverse", "first"],
+            b"0 16383 p:1 r:1 r:2\n\nMGET a b\nMGET a\n",
+            b"r:1 MGET b\nr:1 MGET a\n[nil, nil]\nr:1 MGET a\n[nil]\n",
+            b"",
+            0,
+        ),
+    ];
+    for (i, run) in runs.iter().enumerate() {
+        let strategy = CountsTold {
+            by_count: PickIndex::new(0),
+        };
+        check_with(&rt, alloc, i, run, Some(Box::new(alloc, strategy)?))?;
+    }
+    Ok(())
 }
 
 #[test]

@@ -83,3 +83,25 @@ fn each_write_fails_in_turn(rt: HostRuntime) -> Result<(), Fail> {
     }
     Ok(())
 }
+
+// What was printed before stays, and of the line of the fault what was taken.
+#[test]
+fn error_stream_fails(rt: HostRuntime) -> Result<(), Fail> {
+    let alloc = rt.alloc();
+    let words = words_of(alloc, &["run", "forward"])?;
+    let line: &[u8] = b"slotroute: line 6: not a multi-key command\n";
+    for calls in 0..line.len() + 1 {
+        let mut reader = INPUT;
+        let mut out = Vec::new(alloc);
+        let mut err = FailingWriter {
+            bytes: Vec::new(alloc),
+            calls_left: calls,
+        };
+        let status = serve(alloc, &words, &mut reader, &mut out, &mut err, None);
+        assert_eq!(rt; out.as_slice(), OUTPUT, "at {calls}");
+        assert!(rt; line.starts_with(err.bytes.as_slice()), "at {calls}");
+        assert_eq!(rt; err.bytes.len(), calls, "at {calls}");
+        assert_eq!(rt; status, 2, "at {calls}");
+    }
+    Ok(())
+}
