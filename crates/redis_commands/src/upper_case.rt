@@ -12,7 +12,7 @@ pub(super) fn to_upper_case(alloc: Global, text: &[u8]) -> Result<Vec<u8>, Alloc
     Ok(word)
 }
 
-/// Puts a space and the word in ASCII upper case behind the name.
+/// Puts a space and the word in ASCII upper case after the name.
 pub(super) fn join_upper_case(name: &mut Vec<u8>, word: &[u8]) -> Result<(), AllocError>
     ensures { OnOk result (name.new.items ≡ name.old.items ++ 32 ∷ upper word.now) }
 {
