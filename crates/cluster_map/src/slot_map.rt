@@ -184,6 +184,7 @@ impl SlotMap {
         ensures put { OnOk result (self.new ≡ insert_ranges self.old slots.items) }
         ensures before { OnErr result ((count : ℕ) × (count < length slots.items)
             × (self.new ≡ insert_ranges self.old (take count slots.items))) }
+        ensures unchanged { OnErr result (self.new ≡ self.old) }
     {
         if slots.is_empty() {
             return Ok(());
