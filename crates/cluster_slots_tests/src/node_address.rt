@@ -1,5 +1,6 @@
 use cluster_map::{NodeAddress, split_node_address};
-use resp_core::ErrorKind;
+use resp_core::{ErrorKind, RedisResult};
+use std::alloc::{AllocError, Global};
 use std::rc::RcStr;
 use std::test::Fail;
 
@@ -30,31 +31,28 @@ fn a_text_is_cut_into_host_and_port(rt: HostRuntime) -> Result<(), Fail> {
     Ok(())
 }
 
+/// Whether a text was refused as one that names no address.
+fn is_refused<T: Drop>(answer: RedisResult<T>) -> bool {
+    match answer {
+        Ok(_) => false,
+        Err(error) => {
+            error.kind() == ErrorKind::InvalidClientConfig
+                && error.desc() == "Invalid node string"
+                && error.detail().is_none()
+        }
+    }
+}
+
 #[test]
 fn a_text_that_names_no_address_is_refused(rt: HostRuntime) -> Result<(), Fail> {
     let alloc = rt.alloc();
     let address = NodeAddress::new(alloc, "h", 1)?;
     for text in [":0", "[]:6379", "h:65536", "h:-1", "h:", "h", ""] {
-        let refused = split_node_address(text).map(|_| ()).err();
-        assert!(rt; refused.is_some(), "split of {text}");
-        let error = refused.ok_or("no error")?;
-        assert_eq!(rt;
-            error.kind(),
-            ErrorKind::InvalidClientConfig,
-            "split of {text}"
-        );
-        assert_eq!(rt; error.desc(), "Invalid node string", "split of {text}");
-        assert_eq!(rt; error.detail(), None, "split of {text}");
-        let refused = NodeAddress::try_from(alloc, text).map(|_| ()).err();
-        assert!(rt; refused.is_some(), "try_from of {text}");
-        let error = refused.ok_or("no error")?;
-        assert_eq!(rt;
-            error.kind(),
-            ErrorKind::InvalidClientConfig,
+        assert!(rt; is_refused(split_node_address(text)), "split of {text}");
+        assert!(rt;
+            is_refused(NodeAddress::try_from(alloc, text)),
             "try_from of {text}"
         );
-        assert_eq!(rt; error.desc(), "Invalid node string", "try_from of {text}");
-        assert_eq!(rt; error.detail(), None, "try_from of {text}");
         assert!(rt; !address.matches_text(text), "{text} matches no address");
     }
     Ok(())
@@ -76,27 +74,22 @@ fn an_address_matches_the_texts_that_name_it(rt: HostRuntime) -> Result<(), Fail
     Ok(())
 }
 
+/// What `Display` and `Debug` print of an address, with a space between them.
+fn printed(alloc: Global, host: &str, port: u16) -> Result<String, AllocError> {
+    let address = NodeAddress::new(alloc, host, port)?;
+    format!(in alloc; "{address} {address:?}")
+}
+
 #[test]
 fn addresses_print_as_host_colon_port(rt: HostRuntime) -> Result<(), Fail> {
-    let alloc = rt.alloc();
     let table = [
-        ("127.0.0.1", 6379, "127.0.0.1:6379"),
-        ("::1", 65535, "::1:65535"),
-        ("[h", 1, "[h:1"),
-        ("", 0, ":0"),
+        ("127.0.0.1", 6379, "127.0.0.1:6379 127.0.0.1:6379"),
+        ("::1", 65535, "::1:65535 ::1:65535"),
+        ("[h", 1, "[h:1 [h:1"),
+        ("", 0, ":0 :0"),
     ];
     for (host, port, text) in table {
-        let address = NodeAddress::new(alloc, host, port)?;
-        assert_eq!(rt;
-            format!(in alloc; "{address}")?.as_str(),
-            text,
-            "Display of {text}"
-        );
-        assert_eq!(rt;
-            format!(in alloc; "{address:?}")?.as_str(),
-            text,
-            "Debug of {text}"
-        );
+        assert_eq!(rt; printed(rt.alloc(), host, port)?.as_str(), text);
     }
     Ok(())
 }
@@ -119,17 +112,25 @@ fn long_hosts_print_whole(rt: HostRuntime) -> Result<(), Fail> {
 #[test]
 fn addresses_of_the_same_parts_are_equal(rt: HostRuntime) -> Result<(), Fail> {
     let alloc = rt.alloc();
-    let address = NodeAddress::new(alloc, "h", 1)?;
-    assert!(rt;
-        NodeAddress::from_parts(RcStr::from_str(alloc, "h")?, 1) == address,
-        "from parts"
-    );
-    assert!(rt; address.clone()? == address, "a clone");
-    assert!(rt; NodeAddress::new(alloc, "h", 2)? != address, "another port");
-    assert!(rt; NodeAddress::new(alloc, "g", 1)? != address, "another host");
-    let empty = NodeAddress::default(alloc)?;
-    assert_eq!(rt; empty.host(), "", "the default's host");
-    assert_eq!(rt; empty.port(), 0, "the default's port");
+    let address = NodeAddress::from_parts(RcStr::from_str(alloc, "h")?, 1);
+    for (host, port, same) in [("h", 1, true), ("h", 2, false), ("g", 1, false)] {
+        let other = NodeAddress::new(alloc, host, port)?;
+        assert_eq!(rt; other == address, same, "host {host}, port {port}");
+    }
+    Ok(())
+}
+
+#[test]
+fn a_clone_is_equal(rt: HostRuntime) -> Result<(), Fail> {
+    let address = NodeAddress::new(rt.alloc(), "h", 1)?;
+    assert!(rt; address.clone()? == address);
+    Ok(())
+}
+
+#[test]
+fn the_default_address_has_no_host_and_port_0(rt: HostRuntime) -> Result<(), Fail> {
+    let address = NodeAddress::default(rt.alloc())?;
+    assert_eq!(rt; (address.host(), address.port()), ("", 0));
     Ok(())
 }
 
