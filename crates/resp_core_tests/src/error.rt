@@ -1,5 +1,5 @@
 use resp_core::{ErrorKind, RedisError};
-use std::alloc::AllocError;
+use std::alloc::{AllocError, Global};
 use std::test::Fail;
 
 #[test]
@@ -41,44 +41,37 @@ fn each_error_has_the_parts_that_it_was_made_of(rt: HostRuntime) -> Result<(), F
     Ok(())
 }
 
+fn error_of(
+    alloc: Global,
+    kind: ErrorKind,
+    desc: &'static str,
+    detail: Option<&str>,
+) -> Result<RedisError, AllocError> {
+    Ok(match detail {
+        Some(detail) => RedisError::from((kind, desc, String::from_str(alloc, detail)?)),
+        None => RedisError::from((kind, desc)),
+    })
+}
+
 #[test]
 fn errors_are_equal_where_kind_text_and_detail_are(rt: HostRuntime) -> Result<(), Fail> {
     let alloc = rt.alloc();
-    let first = RedisError::from((ErrorKind::Client, "bad", String::from_str(alloc, "x")?));
+    let first = error_of(alloc, ErrorKind::Client, "bad", Some("x"))?;
     let table = [
-        (
-            "the same parts",
-            RedisError::from((ErrorKind::Client, "bad", String::from_str(alloc, "x")?)),
-            true,
-        ),
-        (
-            "another kind",
-            RedisError::from((
-                ErrorKind::UnexpectedReturnType,
-                "bad",
-                String::from_str(alloc, "x")?,
-            )),
-            false,
-        ),
-        (
-            "another text",
-            RedisError::from((ErrorKind::Client, "worse", String::from_str(alloc, "x")?)),
-            false,
-        ),
-        (
-            "another detail",
-            RedisError::from((ErrorKind::Client, "bad", String::from_str(alloc, "y")?)),
-            false,
-        ),
-        (
-            "no detail",
-            RedisError::from((ErrorKind::Client, "bad")),
-            false,
-        ),
+        (ErrorKind::Client, "bad", Some("x"), true),
+        (ErrorKind::UnexpectedReturnType, "bad", Some("x"), false),
+        (ErrorKind::Client, "worse", Some("x"), false),
+        (ErrorKind::Client, "bad", Some("y"), false),
+        (ErrorKind::Client, "bad", None, false),
     ];
-    for (what, second, same) in table {
-        assert_eq!(rt; first == second, same, "{what}");
-        assert_eq!(rt; second == first, same, "{what}, the other way round");
+    for (kind, desc, detail, same) in table {
+        let second = error_of(alloc, kind, desc, detail)?;
+        assert_eq!(rt; first == second, same, "{kind:?}, {desc}, {detail:?}");
+        assert_eq!(rt;
+            second == first,
+            same,
+            "{kind:?}, {desc}, {detail:?}, first"
+        );
     }
     Ok(())
 }

@@ -45,25 +45,31 @@ fn a_clone_is_equal_and_others_are_not(rt: HostRuntime) -> Result<(), Fail> {
 }
 
 #[test]
-fn parts_by_variant(rt: HostRuntime) -> Result<(), Fail> {
-    let alloc = rt.alloc();
+fn a_number_has_no_other_part(rt: HostRuntime) {
     let number = Value::Int(-7);
     assert_eq!(rt; number.as_int(), Some(-7));
     assert_eq!(rt; number.as_bulk_string(), None);
     assert!(rt; number.as_array().is_none());
-    let bytes = bulk(alloc, b"a\0b")?;
-    assert_eq!(rt; bytes.as_int(), None);
-    assert_eq!(rt; bytes.as_bulk_string(), Some(b"a\0b".as_slice()));
-    assert_eq!(rt;
-        bytes.into_bulk_string().ok_or("no bulk string")?.as_slice(),
-        b"a\0b".as_slice()
-    );
-    let items = Value::Array(vec![in alloc; Value::Nil, Value::Okay]?);
-    assert_eq!(rt; items.as_array().map_or(0, |items| items.len()), 2);
-    let items = items.into_array().ok_or("no array")?;
-    assert!(rt; items.as_slice() == [Value::Nil, Value::Okay].as_slice());
+}
+
+#[test]
+fn a_bulk_string_is_its_bytes(rt: HostRuntime) -> Result<(), Fail> {
+    let value = bulk(rt.alloc(), b"a\0b")?;
+    assert_eq!(rt; value.as_int(), None);
+    assert_eq!(rt; value.as_bulk_string(), Some(b"a\0b".as_slice()));
+    let bytes = value.into_bulk_string().ok_or("no bulk string")?;
+    assert_eq!(rt; bytes.as_slice(), b"a\0b".as_slice());
     assert!(rt; Value::Okay.into_bulk_string().is_none());
-    assert!(rt; simple(alloc, "OK")?.into_array().is_none());
+    Ok(())
+}
+
+#[test]
+fn an_array_is_its_items(rt: HostRuntime) -> Result<(), Fail> {
+    let value = Value::Array(vec![in rt.alloc(); Value::Nil, Value::Okay]?);
+    assert_eq!(rt; value.as_array().map_or(0, |items| items.len()), 2);
+    let items = value.into_array().ok_or("no array")?;
+    assert!(rt; items.as_slice() == [Value::Nil, Value::Okay].as_slice());
+    assert!(rt; simple(rt.alloc(), "OK")?.into_array().is_none());
     Ok(())
 }
 
