@@ -1,6 +1,6 @@
 use redis_cluster::pipeline::{ClusterPipeline, UNROUTABLE_ERROR, cluster_pipe};
-use resp_core::{Cmd, ErrorKind, RedisResult};
-use std::alloc::Global;
+use resp_core::{Cmd, ErrorKind, RedisError, RedisResult};
+use std::alloc::{AllocError, Global};
 use std::test::Fail;
 
 /// The names that a pipeline refuses, as the documentation lists them.
@@ -28,9 +28,26 @@ fn pipeline_of(alloc: Global, commands: &[&[&[u8]]]) -> RedisResult<ClusterPipel
     Ok(pipeline)
 }
 
+/// Whether the refusal of a pipeline tells of this name.
+fn is_refusal_of(alloc: Global, name: &str, error: &RedisError) -> Result<bool, AllocError> {
+    let detail = format!(in alloc; "Command '{name}' can't be executed in a cluster pipeline.")?;
+    Ok(
+        error.kind() == ErrorKind::Client
+            && error.desc() == "This command cannot be safely routed in cluster mode"
+            && error.detail() == Some(detail.as_str()),
+    )
+}
+
+/// Whether the check of a pipeline of these commands is refused, and the refusal tells of this name.
+fn is_refused(alloc: Global, commands: &[&[&[u8]]], name: &str) -> RedisResult<bool> {
+    match pipeline_of(alloc, commands)?.check(alloc) {
+        Ok(()) => Ok(false),
+        Err(error) => Ok(is_refusal_of(alloc, name, &error)?),
+    }
+}
+
 #[test]
 fn the_first_refused_name_is_told(rt: HostRuntime) -> Result<(), Fail> {
-    let alloc = rt.alloc();
     let table: [(&[&[&[u8]]], &str); 6] = [
         (&[&[b"SET"], &[b"flushall"], &[b"MGET"]], "FLUSHALL"),
         (&[&[b"\xe3\x80\x80mget"]], "MGET"),
@@ -40,36 +57,32 @@ fn the_first_refused_name_is_told(rt: HostRuntime) -> Result<(), Fail> {
         (&[&[b"\xff"], &[b"Time"]], "TIME"),
     ];
     for (commands, name) in table {
-        let refused = pipeline_of(alloc, commands)?.check(alloc).err();
-        assert!(rt; refused.is_some(), "{name} is refused");
-        let error = refused.ok_or("no error")?;
-        let want = format!(in alloc; "Command '{name}' can't be executed in a cluster pipeline.")?;
-        assert_eq!(rt; error.kind(), ErrorKind::Client, "kind at {name}");
-        assert_eq!(rt;
-            error.desc(),
-            "This command cannot be safely routed in cluster mode",
-            "text at {name}"
+        assert!(rt;
+            is_refused(rt.alloc(), commands, name)?,
+            "{name} is refused"
         );
-        assert_eq!(rt; error.detail(), Some(want.as_str()), "detail at {name}");
     }
     Ok(())
 }
 
 #[test]
 fn each_name_of_the_table_is_refused(rt: HostRuntime) -> Result<(), Fail> {
-    let alloc = rt.alloc();
     for name in REFUSED.split(", ") {
-        let mut pipeline = cluster_pipe(alloc);
-        pipeline.push_cmd(alloc, name.as_bytes())?;
-        let refused = pipeline.check(alloc).err();
-        assert!(rt; refused.is_some(), "{name} is refused");
-        let error = refused.ok_or("no error")?;
-        let want = format!(in alloc; "Command '{name}' can't be executed in a cluster pipeline.")?;
-        assert_eq!(rt; error.kind(), UNROUTABLE_ERROR.0, "kind at {name}");
-        assert_eq!(rt; error.desc(), UNROUTABLE_ERROR.1, "text at {name}");
-        assert_eq!(rt; error.detail(), Some(want.as_str()), "detail at {name}");
+        assert!(rt;
+            is_refused(rt.alloc(), &[&[name.as_bytes()]], name)?,
+            "{name} is refused"
+        );
     }
     Ok(())
+}
+
+#[test]
+fn the_constant_has_the_kind_and_the_text_of_a_refusal(rt: HostRuntime) {
+    assert_eq!(rt; UNROUTABLE_ERROR.0, ErrorKind::Client);
+    assert_eq!(rt;
+        UNROUTABLE_ERROR.1,
+        "This command cannot be safely routed in cluster mode"
+    );
 }
 
 #[test]
@@ -129,19 +142,28 @@ fn without_a_command_there_is_nothing_to_change(rt: HostRuntime) {
     assert!(rt; !pipeline.ignored(0));
 }
 
-#[test]
-fn chained_calls_change_the_last_command(rt: HostRuntime) -> Result<(), Fail> {
-    let alloc = rt.alloc();
+fn cmd_of(alloc: Global, words: &[&[u8]]) -> Result<Cmd, AllocError> {
+    let mut cmd = Cmd::with_capacity(alloc, words.len())?;
+    for word in words {
+        cmd.write_arg(word)?;
+    }
+    Ok(cmd)
+}
+
+fn chained(alloc: Global) -> RedisResult<ClusterPipeline> {
     let mut pipeline = ClusterPipeline::with_capacity(alloc, 1)?;
     pipeline.cmd(alloc, b"SET")?.arg(b"k")?.arg(b"")?;
     pipeline.cmd(alloc, b"INCR")?.arg(b"n")?.ignore()?;
-    let mut set = Cmd::new(alloc);
-    set.arg(b"SET")?.arg(b"k")?.arg(b"")?;
-    let mut incr = Cmd::new(alloc);
-    incr.arg(b"INCR")?.arg(b"n")?;
+    Ok(pipeline)
+}
+
+#[test]
+fn chained_calls_change_the_last_command(rt: HostRuntime) -> Result<(), Fail> {
+    let alloc = rt.alloc();
+    let pipeline = chained(alloc)?;
     assert_eq!(rt; pipeline.commands().len(), 2);
-    assert!(rt; pipeline.commands()[0] == set);
-    assert!(rt; pipeline.commands()[1] == incr);
+    assert!(rt; pipeline.commands()[0] == cmd_of(alloc, &[b"SET", b"k", b""])?);
+    assert!(rt; pipeline.commands()[1] == cmd_of(alloc, &[b"INCR", b"n"])?);
     for (place, want) in [(0, false), (1, true), (2, false), (usize::MAX, false)] {
         assert_eq!(rt; pipeline.ignored(place), want, "mark of {place}");
     }
