@@ -1,13 +1,15 @@
 -- Entries in reverse that are sorted by their ends, of which the first of each end is kept, are what inserts in order leave.
 use Rattle.std.proofs.Common.{◌≡◌, ◌<◌, ◌≤◌, ◌+◌, ℕ, suc, inl, inr, ◌⊎◌, Bool, true, false, nat_lt, nat_eq, nat_cmp, List, [], ◌∷◌, length, get_or, filter, reverse, refl, sym, ap, subst, ◌∙◌, arith}
-use Rattle.std.proofs.lemmas.Bool.{eqb-true}
+use Rattle.std.proofs.lemmas.Bool.{eqb-true, lt-ltb, le-ltb}
 use Rattle.std.proofs.lemmas.Bool.Decides.{nat_tests}
-use Rattle.std.specs.Prelude.{None}
+use Rattle.std.specs.Prelude.{None, Result, Ok, Err, IsOk, OnErr}
+use Rattle.std.proofs.lemmas.List.{length-append}
 use Rattle.std.specs.List.{dedup, dedup_from, AllAdjacentBelow}
 use Rattle.std.specs.List.Sorted.{IsNonDecreasingBy, IsStableByKey, ties}
 use Rattle.std.specs.Ordering.{is_lt}
 use Rattle.resp_core.proofs.Cases.{by_test}
-use Rattle.slot_ranges.specs.RangeMap.{Entry, end_of, EndsAfter, Ascends, insert_entries}
+use Rattle.slot_ranges.specs.RangeMap.{Entry, end_of, EndsAfter, Ascends, insert_entry, insert_entries}
+use Rattle.slot_ranges.proofs.Ranges.{ending_below, ending_above}
 use Rattle.slot_ranges.proofs.Finds.{by_order, find, find-filter, first_of, ends_with, find-reverse, find-insert_entries, Ascends-insert_entries, same_ranges}
 
 -- neighbours of which the second ends later each ascend
@@ -105,3 +107,23 @@ pub dedup-is_insert_entries : {V : Type 0} (es sorted : List (Entry V)) → IsSt
 dedup-is_insert_entries es sorted stable order =
     same_ranges (dedup same_end sorted) (insert_entries [] es) (Ascends-dedup sorted (never_falls sorted order)) (Ascends-insert_entries [] es tt)
     (λ e. find-dedup e sorted ∙ find-stable (reverse es) sorted stable e ∙ find-reverse e es ∙ sym (find-insert_entries e [] es tt))
+
+-- there are no more entries than were put in
+apart : {V : Type 0} (end : ℕ) (es : List (Entry V)) → length (ending_below end es) + length (ending_above end es) ≤ length es
+apart end [] = omega arith
+apart end (e ∷ es) =
+    let rest = apart end es in
+    by_order (end_of e) end (λ l. rw (lt-ltb (end_of e) end l, le-ltb end (end_of e) (omega arith)) (omega arith)) (λ l. rw (le-ltb (end_of e) end (omega arith), le-ltb end (end_of e) (omega arith)) (omega arith)) (λ l. rw (le-ltb (end_of e) end (omega arith), lt-ltb end (end_of e) l) (omega arith))
+
+pub length-insert_entries : {V : Type 0} (es more : List (Entry V)) → length (insert_entries es more) ≤ length es + length more
+length-insert_entries es [] = omega arith
+length-insert_entries es (x ∷ xs) =
+    let others = apart x.1 es in
+    let one : length (insert_entry es x.0 x.1 x.2) ≤ suc (length es) = rw (length-append (ending_below x.1 es) ((x.0, x.1, x.2) ∷ ending_above x.1 es)) (omega arith) in
+    let rest = length-insert_entries (insert_entry es x.0 x.1 x.2) xs in
+    omega arith
+
+-- what did not fail leaves nothing to say of a failure
+pub on_err-ok : {T E : Type 0} (r : Result T E) (P : Type 0) → IsOk r → OnErr r P
+on_err-ok (Ok x) P ok = tt
+on_err-ok (Err e) P ok = cc

@@ -1,4 +1,6 @@
-ghost use Rattle.std.specs.Prelude.{◌≡◌, ◌≤◌, nat_lt, [], length, map, filter, slice_get, IfOk, OnOk, OnErr, MatchOption};
+ghost use Rattle.std.specs.Prelude.{◌≡◌, ◌≤◌, nat_lt, [], length, map, filter, slice_get, IsOk, IfOk, OnOk, OnErr, MatchOption};
+ghost use Rattle.std.specs.List.Sorted.{IsNonDecreasing};
+ghost use Rattle.std.specs.Vec.{vec_capacity};
 ghost use Rattle.std.specs.Slice.Iter.{iter_rest};
 ghost use Rattle.std.specs.Iterator.{YieldsFirstBy, YieldsFirstRef, item_count};
 ghost use Rattle.slot_ranges.specs.RangeMap.{Entry, end_of, ends_at, value_of, Ascends, IsAnswerAt, IsUncovered, AreDisjoint, IsHeldByNone, IsHeldWith, insert_entries, insert_entry};
@@ -15,26 +17,49 @@ use std::{fmt, slice};
 pub struct SlotRangeMap<V> {
     // (start, end, value), by ascending end
     ranges: Vec<(u16, u16, V)>,
+    // their ends once more, side by side, so that a search reads few lines of memory
+    ends: Vec<u16>,
 }
 
 impl<V> Model for SlotRangeMap<V> {
-    ghost use Rattle.std.specs.Prelude.{List};
-    ghost use Rattle.slot_ranges.specs.RangeMap.{Entry, Ascends};
+    ghost use Rattle.std.specs.Prelude.{◌≡◌, List, map};
+    ghost use Rattle.slot_ranges.specs.RangeMap.{Entry, Ascends, end_of};
 
     ghost Value = { List (Entry V) };
 
     ghost view = { λ m. m.ranges.items };
 
-    ghost invariant = { λ m. Ascends m.ranges.items };
+    ghost invariant = { λ m. Ascends m.ranges.items × (m.ends.items ≡ map end_of m.ranges.items) };
 }
 
-/// How many of the ranges end before this end.
-fn place_of<V>(ranges: &[(u16, u16, V)], end: u16) -> usize
-    requires { Ascends ranges.now }
-    ensures place { result ≡ length (filter (λ e. nat_lt (end_of e) end) ranges.now) }
-    ensures bound { result ≤ length ranges.now }
+/// Whether there is an end at the place, below this one.
+fn is_below(ends: &[u16], place: usize, end: u16) -> bool
+    requires { IsNonDecreasing ends.now }
+    ensures { result ≡ nat_lt place (length (filter (λ e. nat_lt e end) ends.now)) }
 {
-    ranges.partition_point(|range| range.1 < end)
+    place < ends.len() && ends[place] < end
+}
+
+/// How many of the ends are below this one.
+///
+/// Each step looks at three ends, which cut what is left into four parts, and counts those below. A
+/// branch at each of them would be guessed wrong half of the time.
+fn place_of(ends: &[u16], end: u16) -> usize
+    requires { IsNonDecreasing ends.now }
+    ensures place { result ≡ length (filter (λ e. nat_lt e end) ends.now) }
+    ensures bound { result ≤ length ends.now }
+{
+    let mut place = 0;
+    let mut left = ends.len();
+    while left > 0 {
+        let part = left / 4 + 1;
+        let below = usize::from(is_below(ends, place + part - 1, end))
+            + usize::from(is_below(ends, place + 2 * part - 1, end))
+            + usize::from(is_below(ends, place + 3 * part - 1, end));
+        place += part * below;
+        left /= 4;
+    }
+    place
 }
 
 /// Whether there is a range at the place that has this end.
@@ -54,6 +79,7 @@ impl<V> SlotRangeMap<V> {
     {
         SlotRangeMap {
             ranges: Vec::new(alloc),
+            ends: Vec::new(alloc),
         }
     }
 
@@ -76,11 +102,13 @@ impl<V> SlotRangeMap<V> {
         ensures put { OnOk result (self.new ≡ insert_entry self.old start end value) }
         ensures unchanged { OnErr result (self.new ≡ self.old) }
     {
-        let place = place_of(self.ranges.as_slice(), end);
+        let place = place_of(self.ends.as_slice(), end);
         if ends_at(self.ranges.as_slice(), place, end) {
             self.ranges[place] = (start, end, value);
         } else {
+            self.ends.reserve(1)?;
             self.ranges.insert(place, (start, end, value))?;
+            self.ends.insert(place, end)?;
         }
         Ok(())
     }
@@ -96,7 +124,7 @@ impl<V> SlotRangeMap<V> {
             value.now) }
         ensures order { Ascends self.now }
     {
-        let place = place_of(self.ranges.as_slice(), slot);
+        let place = place_of(self.ends.as_slice(), slot);
         let (start, _, value) = self.ranges.get(place)?;
         (*start <= slot).then_some(value)
     }
@@ -127,6 +155,7 @@ impl<V> SlotRangeMap<V> {
         ensures empty { self.new ≡ [] }
     {
         self.ranges.clear();
+        self.ends.clear();
     }
 }
 
@@ -143,13 +172,13 @@ impl<V: Drop> SlotRangeMap<V> {
     {
         let mut ranges = ranges;
         if self.ranges.is_empty() {
-            put_in_order(&mut ranges)?;
+            put_in_order(&mut ranges, &mut self.ends)?;
             self.ranges = ranges;
             return Ok(());
         }
         let count = self.ranges.len();
         self.ranges.append(&mut ranges)?;
-        if let Err(error) = put_in_order(&mut self.ranges) {
+        if let Err(error) = put_in_order(&mut self.ranges, &mut self.ends) {
             self.ranges.truncate(count);
             return Err(error);
         }
@@ -157,8 +186,37 @@ impl<V: Drop> SlotRangeMap<V> {
     }
 }
 
+/// Sorts the ranges by ascending end, keeps the last of those that have one end, and writes the
+/// ends of what is kept in place of the ends that are there.
+fn put_in_order<V: Drop>(
+    ranges: &mut Vec<(u16, u16, V)>,
+    ends: &mut Vec<u16>,
+) -> Result<(), AllocError>
+    ensures put { OnOk result (ranges.new.items ≡ insert_entries [] ranges.old.items) }
+    ensures ends { OnOk result (ends.new.items ≡ map end_of ranges.new.items) }
+    ensures unchanged { OnErr result
+        ((ranges.new.items ≡ ranges.old.items) × (ends.new.items ≡ ends.old.items)) }
+{
+    // Once the ranges are sorted, nothing may be refused.
+    ends.reserve(ranges.len().saturating_sub(ends.len()))?;
+    sort_by_end(ranges)?;
+    copy_ends(ranges.as_slice(), ends)
+}
+
+/// Writes the ends of the ranges in place of the ends that are there.
+fn copy_ends<V>(ranges: &[(u16, u16, V)], ends: &mut Vec<u16>) -> Result<(), AllocError>
+    ensures copied { OnOk result (ends.new.items ≡ map end_of ranges.now) }
+    ensures succeeds { length ranges.now ≤ vec_capacity ends.old → IsOk result }
+{
+    ends.clear();
+    for range in ranges {
+        ends.push(range.1)?;
+    }
+    Ok(())
+}
+
 /// Sorts the ranges by ascending end, and keeps the last of those that have one end.
-fn put_in_order<V: Drop>(ranges: &mut Vec<(u16, u16, V)>) -> Result<(), AllocError>
+fn sort_by_end<V: Drop>(ranges: &mut Vec<(u16, u16, V)>) -> Result<(), AllocError>
     ensures put { OnOk result (ranges.new.items ≡ insert_entries [] ranges.old.items) }
     ensures unchanged { OnErr result (ranges.new.items ≡ ranges.old.items) }
 {
@@ -182,6 +240,7 @@ impl<V: Clone> SlotRangeMap<V> {
         ensures { IfOk result (λ map. map ≡ self.now) }
     {
         Ok(SlotRangeMap {
+            ends: self.ends.clone()?,
             ranges: self.ranges.clone()?,
         })
     }

@@ -1,24 +1,14 @@
-use Rattle.std.proofs.Common.{nat_lt, nat_cmp, reverse, [], sym, ◌∙◌, rules}
-use Rattle.std.proofs.lemmas.Fn.{dedup_same}
-use Rattle.std.proofs.lemmas.List.Sorted.{answers_always, IsNonDecreasingBy-from_sort_by_key}
-use Rattle.std.specs.List.Sorted.{IsStableByKey}
-use Rattle.slot_ranges.specs.RangeMap.{end_of}
-use Rattle.slot_ranges.proofs.Finds.{insert_entries-last}
-use Rattle.slot_ranges.proofs.Bulk.{Ascends-adjacent, same_end, dedup-is_insert_entries}
+use Rattle.std.proofs.Common.{◌≡◌, ◌∙◌, [], length, ap, arith}
+use Rattle.std.specs.Prelude.{IsOk}
+use Rattle.slot_ranges.specs.RangeMap.{insert_entries}
+use Rattle.slot_ranges.proofs.Bulk.{length-insert_entries, on_err-ok}
 use Rattle.slot_ranges.proofs.slot_range_map.put_in_order.Goals as goal
 
--- ranges that ascend are what their inserts leave
-pub returns-then-is_sorted_by-clause-put : goal.returns-then-is_sorted_by-clause-put
-returns-then-is_sorted_by-clause-put g c =
-    let each = c.if-is_sorted_by.ensures.cases (λ x y. nat_lt (end_of x) (end_of y)) (answers_always _ _ _ (λ f a r h k. search rules)) in
-    let ascends = rw c.deref.ensures.value at (Ascends-adjacent c.deref.result.now each) in
-    sym (insert_entries-last [] c.args.ranges.now.items ascends)
-
--- and so are the others, when they are sorted
-pub returns-clause-put : goal.returns-clause-put
-returns-clause-put g c =
-    let stable = c.sort_by_key.ensures.stable end_of (answers_always _ _ _ (λ f a r h k. search rules)) in
-    let from_reverse : IsStableByKey end_of nat_cmp (reverse c.args.ranges.now.items) c.sort_by_key.new.self.items = rw (← c.reverse.ensures.items) stable in
-    let order = IsNonDecreasingBy-from_sort_by_key end_of c.sort_by_key.new.self.items c.in_default.ensures.sorted (λ a r q k. search rules) in
-    dedup_same _ same_end _ (λ x y b f x' y' k. search rules) _ _ c.dedup_by_key.ensures.filtered
-    ∙ dedup-is_insert_entries c.args.ranges.now.items c.sort_by_key.new.self.items from_reverse order
+-- the room for the ends was there before the sort
+pub returns-clause-unchanged : goal.returns-clause-unchanged
+returns-clause-unchanged g c =
+    let most = length-insert_entries [] c.args.ranges.now.items in
+    let kept : length c.as_slice.result.now ≡ length (insert_entries [] c.args.ranges.now.items) = ap length (c.as_slice.ensures.value ∙ c.in_ok-sort_by_end.ensures.put) in
+    let room = c.in_ok-reserve.ensures.ok in
+    let ok : IsOk c.copy_ends.result = c.copy_ends.ensures.succeeds (omega arith) in
+    on_err-ok c.copy_ends.result _ ok
