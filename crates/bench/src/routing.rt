@@ -1,7 +1,9 @@
 use crate::fault::Fault;
 use crate::watch::Watch;
 use bench_inputs::{cmd, one_key, read_only};
-use redis_cluster::routing::{ResponsePolicy, Routable, RoutingInfo};
+use redis_cluster::routing::{
+    MultipleNodeRoutingInfo, ResponsePolicy, Routable, RoutingInfo, SingleNodeRoutingInfo,
+};
 use resp_core::Cmd;
 use std::alloc::Global;
 use std::time::CpuClock;
@@ -43,6 +45,20 @@ pub fn call<C: CpuClock>(
     }
 }
 
+/// The slot that a command goes to, how many slots there are where it goes to several, and 1 where
+/// it goes to nodes of no slot.
+fn slot_or_slots(info: &RoutingInfo) -> usize {
+    match info {
+        RoutingInfo::SingleNode(SingleNodeRoutingInfo::SpecificNode(route)) => {
+            usize::from(route.slot())
+        }
+        RoutingInfo::MultiNode((MultipleNodeRoutingInfo::MultiSlot((routes, _)), _)) => {
+            routes.len()
+        }
+        _ => 1,
+    }
+}
+
 /// Where a command goes.
 fn route<C: CpuClock>(watch: &mut Watch<'_, C>, alloc: Global, command: &Cmd) -> Result<(), Fault> {
     let read_only = read_only(alloc)?;
@@ -50,7 +66,7 @@ fn route<C: CpuClock>(watch: &mut Watch<'_, C>, alloc: Global, command: &Cmd) ->
         watch.start()?;
         for _ in 0..watch.calls {
             let info = RoutingInfo::for_routable(alloc, command, &read_only)?;
-            watch.keep(usize::from(info.is_some()));
+            watch.keep(slot_or_slots(&info.ok_or(Fault::Refused)?));
         }
         watch.stop()?;
     }
