@@ -3,6 +3,7 @@ pub mod CmdLists
 pub mod Comparing
 pub mod Copying
 pub mod Freeing
+pub mod ItemEnds
 pub mod SameItems
 pub mod SoFar
 pub mod Views

@@ -2,6 +2,7 @@ pub mod CmdArgs
 pub mod Copying
 pub mod ErrorParts
 pub mod Freeing
+pub mod ItemEnds
 pub mod Reply
 pub mod SameReply
 pub mod SameReplyLaws

@@ -1,4 +1,4 @@
-ghost use Rattle.std.specs.Prelude.{◌≡◌, ◌<◌, ◌^◌, ◌++◌, ◌∷◌, [], ◌↔◌, IsTrue, IfOk, OnOk, OnErr, length, slice_get, option_copied};
+ghost use Rattle.std.specs.Prelude.{◌≡◌, ◌<◌, ◌^◌, ◌++◌, ◌∷◌, [], ◌↔◌, IsTrue, IfOk, OnOk, OnErr, length, slice_get, slice_index, option_copied};
 ghost use Rattle.std.specs.Iterator.{YieldsFirstRef, item_count};
 ghost use Rattle.std.specs.Cmp.Rules.{comparing};
 ghost use Rattle.std.proofs.Common.{rules};
@@ -6,20 +6,26 @@ ghost use Rattle.resp_core.specs.CmdArgs.{same_args};
 
 use std::alloc::{AllocError, Global};
 use std::marker::Model;
-use std::slice;
+use std::{fmt, slice};
 
 /// A command: its name and what follows, each a byte string.
-#[derive(Debug, Drop)]
+#[derive(Drop)]
 pub struct Cmd {
-    args: Vec<Vec<u8>>,
+    /// The items one after another.
+    bytes: Vec<u8>,
+    /// Where each item ends.
+    ends: Vec<usize>,
 }
 
 impl Model for Cmd {
-    ghost use Rattle.std.specs.Prelude.{ℕ, List, map};
+    ghost use Rattle.std.specs.Prelude.{ℕ, List};
+    ghost use Rattle.resp_core.specs.ItemEnds.{items_at, AreItemsAt};
 
     ghost Value = { List (List ℕ) };
 
-    ghost view = { λ c. map (λ arg. arg.items) c.args.items };
+    ghost view = { λ c. items_at 0 c.ends.items c.bytes.items };
+
+    ghost invariant = { λ c. AreItemsAt 0 c.ends.items c.bytes.items };
 }
 
 impl Cmd {
@@ -28,7 +34,8 @@ impl Cmd {
         ensures { result ≡ [] }
     {
         Cmd {
-            args: Vec::new(alloc),
+            bytes: Vec::new(alloc),
+            ends: Vec::new(alloc),
         }
     }
 
@@ -40,8 +47,20 @@ impl Cmd {
     pub fn with_capacity(alloc: Global, items: usize) -> Result<Cmd, AllocError>
         ensures { IfOk result (λ cmd. cmd ≡ []) }
     {
+        Cmd::with_room(alloc, items, 0)
+    }
+
+    /// A command with room for so many items that have so many bytes together.
+    ///
+    /// # Errors
+    ///
+    /// If memory runs out.
+    pub fn with_room(alloc: Global, items: usize, bytes: usize) -> Result<Cmd, AllocError>
+        ensures { IfOk result (λ cmd. cmd ≡ []) }
+    {
         Ok(Cmd {
-            args: Vec::with_capacity(alloc, items)?,
+            bytes: Vec::with_capacity(alloc, bytes)?,
+            ends: Vec::with_capacity(alloc, items)?,
         })
     }
 
@@ -67,8 +86,9 @@ impl Cmd {
         ensures added { OnOk result (self.new ≡ self.old ++ arg.now ∷ []) }
         ensures unchanged { OnErr result (self.new ≡ self.old) }
     {
-        let arg = arg.to_vec(*self.args.allocator())?;
-        self.args.push(arg)?;
+        self.ends.reserve(1)?;
+        self.bytes.extend_from_slice(arg)?;
+        self.ends.push_reserved(self.bytes.len());
         Ok(())
     }
 
@@ -77,7 +97,9 @@ impl Cmd {
         ensures item { option_copied result ≡ slice_get self.now index }
         ensures few { length self.now < 2 ^ 63 }
     {
-        Some(self.args.get(index)?.as_slice())
+        let end = *self.ends.get(index)?;
+        let start = start_of(&self.ends, index);
+        Some(&self.bytes[start..end])
     }
 
     /// How many items there are, the name included.
@@ -85,14 +107,14 @@ impl Cmd {
         ensures count { result ≡ length self.now }
         ensures few { length self.now < 2 ^ 63 }
     {
-        self.args.len()
+        self.ends.len()
     }
 
     /// Whether there is no item.
     pub fn is_empty(&self) -> bool
         ensures { IsTrue result ↔ (self.now ≡ []) }
     {
-        self.args.is_empty()
+        self.ends.is_empty()
     }
 
     /// The items in order.
@@ -100,9 +122,19 @@ impl Cmd {
         ensures { result ≡ self.now }
     {
         Args {
-            args: self.args.iter(),
+            rest: &self.bytes,
+            start: 0,
+            ends: self.ends.iter(),
         }
     }
+}
+
+/// Where the item at a place starts: where the one before it ends.
+fn start_of(ends: &[usize], index: usize) -> usize
+    requires { index < length ends.now }
+    ensures { result ≡ slice_index (0 ∷ ends.now) index }
+{
+    if index == 0 { 0 } else { ends[index - 1] }
 }
 
 impl Clone for Cmd {
@@ -110,7 +142,8 @@ impl Clone for Cmd {
 
     fn clone(&self) -> Result<Self, AllocError> {
         Ok(Cmd {
-            args: self.args.clone()?,
+            bytes: self.bytes.clone()?,
+            ends: self.ends.clone()?,
         })
     }
 }
@@ -124,7 +157,7 @@ impl PartialEq for Cmd {
         ensures value { result ≡ same_args self.now other.now }
         ensures same { IsTrue result ↔ (self.now ≡ other.now) }
     {
-        self.args == other.args
+        self.ends == other.ends && self.bytes == other.bytes
     }
 }
 
@@ -132,19 +165,44 @@ impl Eq for Cmd {
     ghost laws = { Prim.search (comparing, rules) };
 }
 
+/// Prints the items as a list of lists of numbers.
+impl fmt::Debug for Cmd {
+    fn fmt<W: fmt::Write>(&self, f: &mut fmt::Formatter<W>) -> fmt::Result {
+        f.debug_struct("Cmd").field("args", &Items(self)).finish()
+    }
+}
+
+/// The items of a command, to be printed.
+#[derive(Drop)]
+struct Items<'a>(&'a Cmd);
+
+impl fmt::Debug for Items<'_> {
+    fn fmt<W: fmt::Write>(&self, f: &mut fmt::Formatter<W>) -> fmt::Result {
+        f.debug_list().entries(self.0.args()).finish()
+    }
+}
+
 /// The items of a `Cmd`, in order.
 #[derive(Drop)]
 pub struct Args<'a> {
-    args: slice::Iter<'a, Vec<u8>>,
+    /// The bytes of the items that are left.
+    rest: &'a [u8],
+    /// Where those bytes start in the command.
+    start: usize,
+    /// Where each item that is left ends in the command.
+    ends: slice::Iter<'a, usize>,
 }
 
 impl<'a> Model for Args<'a> {
-    ghost use Rattle.std.specs.Prelude.{ℕ, List, map};
+    ghost use Rattle.std.specs.Prelude.{ℕ, List};
     ghost use Rattle.std.specs.Slice.Iter.{iter_rest};
+    ghost use Rattle.resp_core.specs.ItemEnds.{items_at, AreItemsAt};
 
     ghost Value = { List (List ℕ) };
 
-    ghost view = { λ s. map (λ arg. arg.items) (iter_rest s.args) };
+    ghost view = { λ a. items_at a.start (iter_rest a.ends) a.rest.now };
+
+    ghost invariant = { λ a. AreItemsAt a.start (iter_rest a.ends) a.rest.now };
 }
 
 impl<'a> Iterator for Args<'a> {
@@ -155,7 +213,11 @@ impl<'a> Iterator for Args<'a> {
     ghost remaining = { item_count (λ s. s) };
 
     fn next(&mut self) -> Option<&'a [u8]> {
-        Some(self.args.next()?.as_slice())
+        let end = *self.ends.next()?;
+        let (arg, rest) = self.rest.split_at(end - self.start);
+        self.rest = rest;
+        self.start = end;
+        Some(arg)
     }
 }
 
