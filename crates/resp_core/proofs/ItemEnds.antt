@@ -41,17 +41,19 @@ pushed ends bytes item h =
     let from_zero : 0 + length (bytes ++ item) ≡ length (bytes ++ item) = omega arith in
     (rw (joined, h.same_ends, from_zero) at (ends_of-push 0 (items_at 0 ends bytes) item), joined)
 
-pub items_at-push : (ends bytes item : List ℕ) → AreItemsAt 0 ends bytes
-    → items_at 0 (ends ++ length (bytes ++ item) ∷ []) (bytes ++ item) ≡ items_at 0 ends bytes ++ item ∷ []
-items_at-push ends bytes item h =
-    let more = pushed ends bytes item h in
-    rw (more.0, more.1) at (items_at-ends_of 0 (items_at 0 ends bytes ++ item ∷ []))
+pub items_at-push : (ends bytes item longer more : List ℕ) → AreItemsAt 0 ends bytes
+    → more ≡ bytes ++ item → longer ≡ ends ++ length more ∷ []
+    → items_at 0 longer more ≡ items_at 0 ends bytes ++ item ∷ []
+items_at-push ends bytes item longer more h grown last =
+    let parts = pushed ends bytes item h in
+    rw (last, grown) (rw (parts.0, parts.1) at (items_at-ends_of 0 (items_at 0 ends bytes ++ item ∷ [])))
 
-pub AreItemsAt-push : (ends bytes item : List ℕ) → AreItemsAt 0 ends bytes
-    → AreItemsAt 0 (ends ++ length (bytes ++ item) ∷ []) (bytes ++ item)
-AreItemsAt-push ends bytes item h =
-    let more = pushed ends bytes item h in
-    rw (more.0, more.1) at (AreItemsAt-ends_of 0 (items_at 0 ends bytes ++ item ∷ []))
+pub AreItemsAt-push : (ends bytes item longer more : List ℕ) → AreItemsAt 0 ends bytes
+    → more ≡ bytes ++ item → longer ≡ ends ++ length more ∷ []
+    → AreItemsAt 0 longer more
+AreItemsAt-push ends bytes item longer more h grown last =
+    let parts = pushed ends bytes item h in
+    rw (last, grown) (rw (parts.0, parts.1) at (AreItemsAt-ends_of 0 (items_at 0 ends bytes ++ item ∷ [])))
 
 -- an item lies between the end of the one before it and its own
 lies : (start : ℕ) (items : List (List ℕ)) (i : ℕ) → i < length items

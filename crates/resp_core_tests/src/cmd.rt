@@ -65,3 +65,28 @@ fn clones_and_equality(rt: HostRuntime) -> Result<(), Fail> {
     }
     Ok(())
 }
+
+#[test]
+fn room_for_bytes_is_no_item(rt: HostRuntime) -> Result<(), Fail> {
+    let mut cmd = Cmd::with_room(rt.alloc(), 1, 4)?;
+    assert!(rt; cmd.is_empty());
+    cmd.arg(b"GET")?.arg(b"key")?;
+    assert!(rt; cmd == cmd_of(rt.alloc(), &[b"GET", b"key"])?);
+    Ok(())
+}
+
+#[test]
+fn items_are_printed_as_lists_of_numbers(rt: HostRuntime) -> Result<(), Fail> {
+    let alloc = rt.alloc();
+    let cmd = cmd_of(alloc, &[b"GET", b"", b"k"])?;
+    let line = format!(in alloc; "{cmd:?}")?;
+    assert_eq!(rt; line.as_str(), "Cmd { args: [[71, 69, 84], [], [107]] }");
+    let none = format!(in alloc; "{:?}", Cmd::new(alloc))?;
+    assert_eq!(rt; none.as_str(), "Cmd { args: [] }");
+    let lines = format!(in alloc; "{:#?}", cmd_of(alloc, &[b"k"])?)?;
+    assert_eq!(rt;
+        lines.as_str(),
+        "Cmd {\n    args: [\n        [\n            107,\n        ],\n    ],\n}"
+    );
+    Ok(())
+}
