@@ -3,6 +3,7 @@ use Rattle.std.proofs.Common.{◌≡◌, ℕ, suc, ◌<◌, ◌+◌, ◌-◌, Li
 use Rattle.std.specs.List.{range_with_len}
 use Rattle.redis_commands.specs.Command.{Arguments, argument}
 use Rattle.redis_commands.specs.Lists.{all_some}
+use Rattle.redis_routing.specs.SubCommand.{bytes_in, text_len}
 pub use Rattle.resp_core.proofs.SoFar.{before, before-more}
 
 -- one text more
@@ -19,6 +20,13 @@ pub name_more : (args : Arguments) (words place : ℕ) (texts : List (List ℕ))
 name_more args words place texts text inside is =
     let e : words - place ≡ suc (words - (place + 1)) = omega arith in
     before_more texts (argument args place) text (map (λ i. argument args i) (range_with_len (place + 1) (words - (place + 1)))) is ∙ sym (ap (λ n. before texts (all_some (map (λ i. argument args i) (range_with_len place n)))) e)
+
+-- the bytes of one word of the name more
+pub name_bytes_more : (args : Arguments) (words place : ℕ) → place < words
+    → bytes_in (map (λ i. argument args i) (range_with_len place (words - place))) ≡ text_len (argument args place) + bytes_in (map (λ i. argument args i) (range_with_len (place + 1) (words - (place + 1))))
+name_bytes_more args words place inside =
+    let e : words - place ≡ suc (words - (place + 1)) = omega (arith, inside) in
+    ap (λ n. bytes_in (map (λ i. argument args i) (range_with_len place n))) e
 
 -- texts and others after them, if all are there
 abbrev both : Option (List (List ℕ)) → Option (List (List ℕ)) → Option (List (List ℕ))

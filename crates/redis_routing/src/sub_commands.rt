@@ -4,7 +4,7 @@ ghost use Rattle.resp_core.specs.ErrorParts.{out_of_memory};
 ghost use Rattle.resp_core.specs.declared.error.ErrorKind.TheVariants.{Client};
 ghost use Rattle.redis_commands.specs.Command.{argument};
 ghost use Rattle.redis_commands.specs.Lists.{all_some};
-ghost use Rattle.redis_routing.specs.SubCommand.{sub_command, sub_command_after};
+ghost use Rattle.redis_routing.specs.SubCommand.{bytes_in, fitting, sub_command, sub_command_after, text_len};
 
 use super::splitting::NAME_WORDS;
 use redis_commands::Routable;
@@ -41,8 +41,9 @@ pub(super) fn sub_command<R: Routable>(
 ) -> Result<Option<Cmd>, AllocError>
     ensures { IfOk result (λ cmd. cmd ≡ sub_command_after words (R.args original.now) indices.now) }
 {
-    let room = indices.len().saturating_add(words);
-    let Some(mut command) = name_of(alloc, original, words, room)? else {
+    let items = indices.len().saturating_add(words);
+    let bytes = name_len(original, words).saturating_add(args_len(original, words, indices));
+    let Some(mut command) = name_of(alloc, original, words, items, bytes)? else {
         return Ok(None);
     };
     for index in indices {
@@ -54,17 +55,49 @@ pub(super) fn sub_command<R: Routable>(
     Ok(Some(command))
 }
 
-/// The words of the name as a command with room, if none of them is a gap or not there.
+/// How many bytes the words of the name have together, as far as they are there.
+fn name_len<R: Routable>(original: &R, words: usize) -> usize
+    ensures { result ≡ fitting (bytes_in (map (λ place. argument (R.args original.now) place)
+        (range_with_len 0 words))) }
+{
+    let mut len: usize = 0;
+    for place in 0..words {
+        len = len.saturating_add(arg_len(original.arg_idx(place)));
+    }
+    len
+}
+
+/// How many bytes these arguments have together, as far as they are there.
+fn args_len<R: Routable>(original: &R, words: usize, indices: &[usize]) -> usize
+    ensures { result ≡ fitting (bytes_in (map (λ place. argument (R.args original.now)
+        (place + words)) indices.now)) }
+{
+    let mut len: usize = 0;
+    for index in indices {
+        len = len.saturating_add(arg_len(behind_name(original, words, *index)));
+    }
+    len
+}
+
+fn arg_len(arg: Option<&[u8]>) -> usize
+    ensures { result ≡ text_len (option_copied arg.entry) }
+{
+    arg.map_or(0, |text| text.len())
+}
+
+/// The words of the name as a command with room for so many items and bytes, if none of them is a
+/// gap or not there.
 fn name_of<R: Routable>(
     alloc: Global,
     original: &R,
     words: usize,
-    room: usize,
+    items: usize,
+    bytes: usize,
 ) -> Result<Option<Cmd>, AllocError>
     ensures { IfOk result (λ cmd. cmd
         ≡ all_some (map (λ place. argument (R.args original.now) place) (range_with_len 0 words))) }
 {
-    let mut command = Cmd::with_capacity(alloc, room)?;
+    let mut command = Cmd::with_room(alloc, items, bytes)?;
     for place in 0..words {
         let Some(word) = original.arg_idx(place) else {
             return Ok(None);
