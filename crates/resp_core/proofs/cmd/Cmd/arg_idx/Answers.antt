@@ -11,18 +11,10 @@ returns-in_err-end-clause-item c =
     rw (c.from_residual.ensures, ← c.self.view_is) (sym (slice_get_past _ c.args.index (omega (arith, past, count))))
 
 pub returns-in_err-end-clause-few : goal.returns-in_err-end-clause-few
-returns-in_err-end-clause-few c =
-    let few = c.self.inside.ends.small in
-    let held = c.self.inside.ends.ok in
-    let count = length-items_at 0 c.self.inside.ends.items c.self.inside.bytes.items in
-    rw (← c.self.view_is) (omega arith)
+returns-in_err-end-clause-few c = rw (← c.self.view_is) (grind (arith, length-items_at))
 
 pub returns-clause-few : goal.returns-clause-few
-returns-clause-few c =
-    let few = c.self.inside.ends.small in
-    let held = c.self.inside.ends.ok in
-    let count = length-items_at 0 c.self.inside.ends.items c.self.inside.bytes.items in
-    rw (← c.self.view_is) (omega arith)
+returns-clause-few c = rw (← c.self.view_is) (grind (arith, length-items_at))
 
 -- the item starts no later than it ends, and ends within the bytes
 lies : (c : After-deref-3) → (c.start_of-start.result ≤ c.in_ok-end.field-0.now) × (c.in_ok-end.field-0.now ≤ length c.deref-3.result.now)
