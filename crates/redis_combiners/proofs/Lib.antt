@@ -2,6 +2,7 @@ pub mod Ahead
 pub mod AtPlaces
 pub mod Combining
 pub mod Arranging
+pub mod JoinedBits
 pub mod KeyNumbers
 pub mod KeyPlaces
 pub mod Lists

@@ -1,8 +1,8 @@
 -- One array of 0 and 1 for replies that are such arrays.
-use Rattle.std.specs.Prelude.{ℕ, pos, Bool, true, false, List, [], ◌∷◌, length, map, Option, Some, None, ◌==◌, option_and_then, option_map, slice_index_or, if◌then◌else◌}
-use Rattle.std.specs.List.{range_with_len, list_all}
+use Rattle.std.specs.Prelude.{ℕ, pos, Bool, true, false, List, [], ◌∷◌, length, map, Option, Some, None, ◌==◌, ◌&&◌, option_and_then, option_map, slice_index_or, if◌then◌else◌}
+use Rattle.std.specs.List.{range_with_len, list_all, zip}
 use Rattle.resp_core.specs.Reply.{Reply, int}
-use Rattle.redis_combiners.specs.Bits.{all_rows}
+use Rattle.redis_combiners.specs.Bits.{bits_among, all_rows}
 use Rattle.redis_commands.specs.declared.policy.LogicalAggregateOp.{LogicalAggregateOp}
 use Rattle.redis_commands.specs.declared.policy.LogicalAggregateOp.TheVariants.{And}
 
@@ -30,6 +30,15 @@ as_int false = int (pos 0)
 abbrev pub combined_bits : LogicalAggregateOp → List (List Bool) → ℕ → List Reply
 combined_bits op rows width =
     map (λ place. as_int (combined_bit op (column rows place))) (range_with_len 0 width)
+
+-- what the bits of two rows make, place by place: with And, whether both are 1
+abbrev pub joined : LogicalAggregateOp → List Bool → List Bool → List Bool
+joined And row other = map (λ pair. pair.0 && pair.1) (zip row other)
+
+-- what the items of two replies make, if each is 0 or 1
+abbrev pub joined_items : LogicalAggregateOp → List Reply → List Reply → Option (List Bool)
+joined_items op row other =
+    option_and_then (λ bits. option_map (joined op bits) (bits_among other)) (bits_among row)
 
 -- the items of the one array, if the replies are arrays of 0 and 1, all of one length
 abbrev pub logical_items : LogicalAggregateOp → List Reply → Option (List Reply)

@@ -1,15 +1,15 @@
-ghost use Rattle.std.specs.Prelude.{◌≡◌, ◌==◌, ◌⊎◌, IfOk, map, length, MatchResult, option_map, Some, None};
-ghost use Rattle.std.specs.List.{list_all};
+ghost use Rattle.std.specs.Prelude.{◌≡◌, ◌⊎◌, IsTrue, is_some, map, length, MatchResult, option_map, option_and_then, None, Some};
 ghost use Rattle.resp_core.specs.ErrorParts.{out_of_memory};
-ghost use Rattle.resp_core.specs.Reply.{array, replies_of};
+ghost use Rattle.resp_core.specs.Reply.{array, int_of, replies_of};
 ghost use Rattle.resp_core.specs.View.{view};
 ghost use Rattle.resp_core.specs.declared.error.ErrorKind.TheVariants.{UnexpectedReturnType};
-ghost use Rattle.redis_combiners.specs.Bits.{bit_of, bits_among, all_rows};
-ghost use Rattle.redis_combiners.specs.Logical.{common_length, column, combined_bit, combined_bits, as_int, logical_items};
+ghost use Rattle.redis_commands.specs.declared.policy.LogicalAggregateOp.TheVariants.{And};
+ghost use Rattle.redis_combiners.specs.Bits.{bit_of, bits_among};
+ghost use Rattle.redis_combiners.specs.Logical.{as_int, joined_items, logical_items};
 
 use redis_commands::LogicalAggregateOp;
 use resp_core::{ErrorKind, RedisError, RedisResult, Value};
-use std::alloc::{AllocError, Global};
+use std::alloc::Global;
 
 /// One array of 0 and 1 for replies that are such arrays, all of one length: a place has 1 exactly
 /// where all replies have 1 there. No replies make an empty array.
@@ -31,7 +31,7 @@ pub fn logical_aggregate(
         ⊎ ((logical_items op (map view values.items) ≡ None)
         × (fault.kind ≡ UnexpectedReturnType))) }
 {
-    match items(alloc, &values, op)? {
+    match items(alloc, values, op) {
         Some(items) => Ok(Value::Array(items)),
         None => Err(RedisError::from((
             ErrorKind::UnexpectedReturnType,
@@ -40,121 +40,89 @@ pub fn logical_aggregate(
     }
 }
 
-/// The items of the one array, if the replies are of 0 and 1 and of one length.
-fn items(
-    alloc: Global,
-    values: &[Value],
-    op: LogicalAggregateOp,
-) -> Result<Option<Vec<Value>>, AllocError>
-    ensures { IfOk result (λ items. option_map (λ v. map view v.items) items
-        ≡ logical_items op (map view values.now)) }
+/// The items of the one array, if the replies are of 0 and 1 and of one length. They are the first
+/// reply's own, so that nothing is asked of the allocator.
+fn items(alloc: Global, values: Vec<Value>, op: LogicalAggregateOp) -> Option<Vec<Value>>
+    ensures { option_map (λ v. map view v.items) result
+        ≡ logical_items op (map view values.items) }
 {
-    let Some(rows) = rows(alloc, values)? else {
-        return Ok(None);
+    let mut replies = values.into_iter();
+    let Some(first) = replies.next() else {
+        return Some(Vec::new(alloc));
     };
-    let Some(width) = row_length(&rows) else {
-        return Ok(None);
+    let Some(mut row) = first.into_array() else {
+        return None;
     };
-    Ok(Some(fold_columns(alloc, &rows, width, op)?))
-}
-
-/// The bits of each reply, if each is an array of 0 and 1.
-fn rows(alloc: Global, values: &[Value]) -> Result<Option<Vec<Vec<bool>>>, AllocError>
-    ensures { IfOk result (λ rows. option_map (λ v. map (λ row. row.items) v.items) rows
-        ≡ all_rows (map view values.now)) }
-{
-    let mut all = Vec::with_capacity(alloc, values.len())?;
-    for value in values {
-        let Some(items) = value.as_array() else {
-            return Ok(None);
-        };
-        let Some(row) = bits(alloc, items)? else {
-            return Ok(None);
-        };
-        all.push(row)?;
+    if !are_bits(&row) {
+        return None;
     }
-    Ok(Some(all))
+    for reply in replies {
+        let Some(items) = reply.as_array() else {
+            return None;
+        };
+        if items.len() != row.len() {
+            return None;
+        }
+        if !join(&mut row, items, op) {
+            return None;
+        }
+    }
+    Some(row)
 }
 
-/// The bits of the items of one reply, if each item is 0 or 1.
-fn bits(alloc: Global, items: &[Value]) -> Result<Option<Vec<bool>>, AllocError>
-    ensures { IfOk result (λ bits. option_map (λ v. v.items) bits
-        ≡ bits_among (map view items.now)) }
+/// Whether each item is 0 or 1.
+fn are_bits(items: &[Value]) -> bool
+    ensures { result ≡ is_some (bits_among (map view items.now)) }
 {
-    let mut row = Vec::with_capacity(alloc, items.len())?;
     for item in items {
-        let Some(n) = item.as_int() else {
-            return Ok(None);
-        };
-        let Some(b) = bit(n) else {
-            return Ok(None);
-        };
-        row.push(b)?;
-    }
-    Ok(Some(row))
-}
-
-/// Whether the number is 1, if it is 0 or 1.
-fn bit(n: i64) -> Option<bool>
-    ensures { result ≡ bit_of n }
-{
-    match n {
-        0 => Some(false),
-        1 => Some(true),
-        _ => None,
-    }
-}
-
-/// The length of the rows, if all have the same. Without rows it is 0.
-fn row_length(rows: &[Vec<bool>]) -> Option<usize>
-    ensures { result ≡ common_length (map (λ row. row.items) rows.now) }
-{
-    let [first, ..] = rows else {
-        return Some(0);
-    };
-    let width = first.len();
-    all_have_width(rows, width).then_some(width)
-}
-
-/// Whether all rows have this length.
-fn all_have_width(rows: &[Vec<bool>], width: usize) -> bool
-    ensures { result ≡ list_all (λ row. length row == width) (map (λ row. row.items) rows.now) }
-{
-    for row in rows {
-        if row.len() != width {
+        if bit(item).is_none() {
             return false;
         }
     }
     true
 }
 
-/// The bit that the rows make at each place.
-fn fold_columns(
-    alloc: Global,
-    rows: &[Vec<bool>],
-    width: usize,
-    op: LogicalAggregateOp,
-) -> Result<Vec<Value>, AllocError>
-    ensures { IfOk result (λ items. map view items.items
-        ≡ combined_bits op (map (λ row. row.items) rows.now) width) }
+/// Changes each item of the row to what it and the other item make, if all are 0 or 1.
+fn join(row: &mut [Value], items: &[Value], op: LogicalAggregateOp) -> bool
+    requires { length row.old ≡ length items.now }
+    ensures bits { result ≡ is_some (joined_items op (map view row.old) (map view items.now)) }
+    ensures joined { IsTrue result → bits_among (map view row.new)
+        ≡ joined_items op (map view row.old) (map view items.now) }
 {
-    let mut items = Vec::with_capacity(alloc, width)?;
-    for place in 0..width {
-        items.push(as_reply(fold_column(rows, place, op)))?;
+    match op {
+        LogicalAggregateOp::And => join_by_and(row, items),
     }
-    Ok(items)
 }
 
-/// The bit that the rows make at one place.
-fn fold_column(rows: &[Vec<bool>], place: usize, op: LogicalAggregateOp) -> bool
-    ensures { result ≡ combined_bit op (column (map (λ row. row.items) rows.now) place) }
+fn join_by_and(row: &mut [Value], items: &[Value]) -> bool
+    requires { length row.old ≡ length items.now }
+    ensures bits { result ≡ is_some (joined_items And (map view row.old) (map view items.now)) }
+    ensures joined { IsTrue result → bits_among (map view row.new)
+        ≡ joined_items And (map view row.old) (map view items.now) }
 {
-    let mut all = true;
-    for row in rows {
-        all = all && row.get(place).copied().unwrap_or(false);
+    for i in 0..row.len() {
+        let Some(own) = bit(&row[i]) else {
+            return false;
+        };
+        let Some(other) = bit(&items[i]) else {
+            return false;
+        };
+        row[i] = as_reply(own & other);
     }
-    match op {
-        LogicalAggregateOp::And => all,
+    true
+}
+
+/// Whether the item is 1, if it is 0 or 1.
+fn bit(item: &Value) -> Option<bool>
+    ensures { result ≡ option_and_then bit_of (int_of (view item.now)) }
+{
+    let Some(n) = item.as_int() else {
+        return None;
+    };
+    match n {
+        0 => Some(false),
+        1 => Some(true),
+        _ => None,
     }
 }
 

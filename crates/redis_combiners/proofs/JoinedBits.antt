@@ -1,0 +1,291 @@
+-- Rows of bits that are joined one after the other.
+use Rattle.std.proofs.Common.{◌≡◌, ℕ, zero, suc, ◌+◌, ◌<◌, ◌≤◌, Bool, true, false, cond, eqb, List, [], ◌∷◌, ◌++◌, length, map, drop, get_or, Option, Some, None, is_some, pos, negsuc, refl, ap, sym, ◌∙◌, arith, append_assoc}
+use Rattle.std.proofs.Math.ListN.{set}
+use Rattle.std.specs.Prelude.{option_map, option_and_then, ◌&&◌}
+use Rattle.std.specs.List.{range_with_len, list_all}
+use Rattle.std.proofs.lemmas.Bool.{eq-eqb, eqb-true, ne_eqb}
+use Rattle.std.proofs.lemmas.List.{append-nil, drop_all, drop_more, get_or_at, length_push, length-map, map_push, set_at, get_or-map, get_or_read}
+use Rattle.std.proofs.lemmas.List.FromFn.{fill_by_all}
+use Rattle.resp_core.specs.Reply.{Reply, nil, int, bulk, array, simple, okay, pairs, int_of, array_of}
+use Rattle.redis_commands.specs.Lists.{all_some}
+use Rattle.redis_commands.specs.declared.policy.LogicalAggregateOp.{LogicalAggregateOp}
+use Rattle.redis_commands.specs.declared.policy.LogicalAggregateOp.TheVariants.{And}
+use Rattle.redis_combiners.specs.Bits.{bit_of, bits_among, all_rows}
+use Rattle.redis_combiners.specs.Logical.{as_int, column, combined_bits, common_length, joined, joined_items, logical_items}
+use Rattle.resp_core.specs.View.{view}
+use Rattle.resp_core.specs.declared.value.Value.{Value}
+use Rattle.resp_core.proofs.Cases.{by_test}
+use Rattle.redis_combiners.proofs.Ahead.{before, before-more}
+use Rattle.redis_combiners.proofs.Lists.{FirstAndOthers, first_and_others, all_some_length}
+
+abbrev pub bit_in : Reply → Option Bool
+bit_in item = option_and_then bit_of (int_of item)
+
+-- a value that is read, as a reply
+pub reply_at : (vs : List Value) (i : ℕ) (v w : Value) → i < length vs → v ≡ get_or vs i v → get_or (map view vs) i (view w) ≡ view v
+reply_at vs i v w l e = get_or-map view vs i w (view w) l ∙ ap view (sym (get_or_read vs i v l e w))
+
+-- the bits of a row that was made of bits
+bits_of_ints : (bits : List Bool) → bits_among (map as_int bits) ≡ Some bits
+bits_of_ints [] = refl
+bits_of_ints (true ∷ bits) = ap (option_map (λ bs. true ∷ bs)) (bits_of_ints bits)
+bits_of_ints (false ∷ bits) = ap (option_map (λ bs. false ∷ bs)) (bits_of_ints bits)
+
+int_of_bit : (x : Reply) (b : Bool) → bit_in x ≡ Some b → as_int b ≡ x
+int_of_bit nil b e = absurd (cc)
+int_of_bit (int (pos zero)) b e = let is : false ≡ b = cc in ap as_int (sym is)
+int_of_bit (int (pos (suc zero))) b e = let is : true ≡ b = cc in ap as_int (sym is)
+int_of_bit (int (pos (suc (suc n)))) b e = absurd (cc)
+int_of_bit (int (negsuc n)) b e = absurd (cc)
+int_of_bit (bulk bytes) b e = absurd (cc)
+int_of_bit (array items) b e = absurd (cc)
+int_of_bit (simple text) b e = absurd (cc)
+int_of_bit okay b e = absurd (cc)
+int_of_bit (pairs items) b e = absurd (cc)
+
+row_of_bits : (xs : List Reply) (bits : List Bool) → bits_among xs ≡ Some bits → map as_int bits ≡ xs
+row_of_bits [] bits e = none bits (cc)
+  where
+    none : (bs : List Bool) → [] ≡ bs → map as_int bs ≡ []
+    none bs h = ap (map as_int) (sym h)
+row_of_bits (x ∷ xs) bits e =
+    let f : FirstAndOthers (bit_in x) (map bit_in xs) bits = first_and_others (bit_in x) (map bit_in xs) bits e in
+    ap (map as_int) f.is ∙ ap (λ y. y ∷ map as_int f.others) (int_of_bit x f.first f.there) ∙ ap (λ ys. x ∷ ys) (row_of_bits xs f.others f.others_are)
+
+-- what the items of two rows make, one place on
+next_place : (x y : Reply) (xs ys : List Reply) (a b : Bool) → bit_in x ≡ Some a → bit_in y ≡ Some b → joined_items And (x ∷ xs) (y ∷ ys) ≡ option_map (λ bits. (a && b) ∷ bits) (joined_items And xs ys)
+next_place x y xs ys a b e f =
+    ap (λ o. option_and_then (λ bits. option_map (joined And bits) (bits_among (y ∷ ys))) (all_some (o ∷ map bit_in xs))) e
+    ∙ ap (λ o. option_and_then (λ bits. option_map (joined And bits) (all_some (o ∷ map bit_in ys))) (all_some (Some a ∷ map bit_in xs))) f
+    ∙ more (bits_among xs) (bits_among ys)
+  where
+    more : (o p : Option (List Bool)) → option_and_then (λ bits. option_map (joined And bits) (option_map (λ bs. b ∷ bs) p)) (option_map (λ bs. a ∷ bs) o) ≡ option_map (λ bits. (a && b) ∷ bits) (option_and_then (λ bits. option_map (joined And bits) p) o)
+    more None p = refl
+    more (Some u) None = refl
+    more (Some u) (Some v) = refl
+
+no_bit : (x : Reply) (xs ys : List Reply) → bit_in x ≡ None → joined_items And (x ∷ xs) ys ≡ None
+no_bit x xs ys e = ap (λ o. option_and_then (λ bits. option_map (joined And bits) (bits_among ys)) (all_some (o ∷ map bit_in xs))) e
+
+no_other_bit : (y : Reply) (xs ys : List Reply) → bit_in y ≡ None → joined_items And xs (y ∷ ys) ≡ None
+no_other_bit y xs ys e = ap (λ o. option_and_then (λ bits. option_map (joined And bits) (all_some (o ∷ map bit_in ys))) (bits_among xs)) e ∙ none (bits_among xs)
+  where
+    none : (o : Option (List Bool)) → option_and_then (λ bits. option_map (joined And bits) None) o ≡ None
+    none None = refl
+    none (Some u) = refl
+
+-- a row of which the first places are joined with those of the items
+pub record JoinedSoFar (row first items : List Reply) (i : ℕ) : Type 0 where
+  pub bits : List Bool
+  pub long : length bits ≡ i
+  pub row_is : row ≡ map as_int bits ++ drop i first
+  pub rest : before bits (joined_items And (drop i first) (drop i items)) ≡ joined_items And first items
+
+pub joined_none : (first items : List Reply) → JoinedSoFar first first items 0
+joined_none first items = record { bits = []; long = refl; row_is = refl; rest = same (joined_items And first items) }
+  where
+    same : (o : Option (List Bool)) → before [] o ≡ o
+    same None = refl
+    same (Some u) = refl
+
+-- the next item is as it was at first
+own_item : (row first items : List Reply) (i : ℕ) (d : Reply) → JoinedSoFar row first items i → i < length first → get_or row i d ≡ get_or first i d
+own_item row first items i d s l =
+    ap (λ xs. get_or xs i d) (s.row_is ∙ ap (λ xs. map as_int s.bits ++ xs) (drop_more first i d l))
+    ∙ get_or_at (map as_int s.bits) (get_or first i d) (drop (i + 1) first) d i (length-map s.bits as_int ∙ s.long)
+
+pub joined_more : (row first items : List Reply) (i : ℕ) (d : Reply) (a b : Bool) → JoinedSoFar row first items i → i < length first → length first ≡ length items
+    → bit_in (get_or row i d) ≡ Some a → bit_in (get_or items i d) ≡ Some b → JoinedSoFar (set row i (as_int (a && b))) first items (i + 1)
+joined_more row first items i d a b s l n e f =
+    let x = get_or first i d in
+    let y = get_or items i d in
+    let own : bit_in x ≡ Some a = ap bit_in (sym (own_item row first items i d s l)) ∙ e in
+    let step : joined_items And (drop i first) (drop i items) ≡ option_map (λ bits. (a && b) ∷ bits) (joined_items And (drop (i + 1) first) (drop (i + 1) items)) =
+    ap (λ xs. joined_items And xs (drop i items)) (drop_more first i d l)
+    ∙ ap (joined_items And (x ∷ drop (i + 1) first)) (drop_more items i d (omega arith))
+    ∙ next_place x y (drop (i + 1) first) (drop (i + 1) items) a b own f in
+    record {
+      bits = s.bits ++ (a && b) ∷ [];
+      long = length_push s.bits (a && b) ∙ ap (λ m. m + 1) s.long;
+      row_is = ap (λ xs. set xs i (as_int (a && b))) (s.row_is ∙ ap (λ xs. map as_int s.bits ++ xs) (drop_more first i d l))
+          ∙ set_at (map as_int s.bits) x (drop (i + 1) first) (as_int (a && b)) i (length-map s.bits as_int ∙ s.long)
+          ∙ sym (append_assoc (map as_int s.bits) (as_int (a && b) ∷ []) (drop (i + 1) first))
+          ∙ ap (λ xs. xs ++ drop (i + 1) first) (sym (map_push as_int s.bits (a && b)));
+      rest = sym (before-more s.bits (a && b) (joined_items And (drop (i + 1) first) (drop (i + 1) items)))
+          ∙ ap (before s.bits) (sym step) ∙ s.rest;
+    }
+
+pub joined_stop : (row first items : List Reply) (i : ℕ) (d : Reply) → JoinedSoFar row first items i → i < length first → bit_in (get_or row i d) ≡ None → joined_items And first items ≡ None
+joined_stop row first items i d s l e =
+    sym s.rest
+    ∙ ap (λ xs. before s.bits (joined_items And xs (drop i items))) (drop_more first i d l)
+    ∙ ap (before s.bits) (no_bit (get_or first i d) (drop (i + 1) first) (drop i items) (ap bit_in (sym (own_item row first items i d s l)) ∙ e))
+
+pub joined_stop_at_other : (row first items : List Reply) (i : ℕ) (d : Reply) → JoinedSoFar row first items i → i < length items → bit_in (get_or items i d) ≡ None → joined_items And first items ≡ None
+joined_stop_at_other row first items i d s l e =
+    sym s.rest
+    ∙ ap (λ ys. before s.bits (joined_items And (drop i first) ys)) (drop_more items i d l)
+    ∙ ap (before s.bits) (no_other_bit (get_or items i d) (drop i first) (drop (i + 1) items) e)
+
+-- all places are joined
+pub record JoinedRow (row : List Reply) (made : Option (List Bool)) : Type 0 where
+  pub is : bits_among row ≡ made
+  pub there : is_some made ≡ true
+
+pub joined_all_places : (row first items : List Reply) (i : ℕ) → JoinedSoFar row first items i → length first ≤ i → length first ≡ length items → JoinedRow row (joined_items And first items)
+joined_all_places row first items i s l n =
+    let none : drop i first ≡ [] = drop_all i first l in
+    let whole : Some s.bits ≡ joined_items And first items =
+    ap Some (sym (append-nil s.bits))
+    ∙ ap (λ ys. before s.bits (joined_items And [] ys)) (sym (drop_all i items (omega arith)))
+    ∙ ap (λ xs. before s.bits (joined_items And xs (drop i items))) (sym none)
+    ∙ s.rest in
+    record {
+      is = ap bits_among (s.row_is ∙ ap (λ xs. map as_int s.bits ++ xs) none ∙ append-nil (map as_int s.bits)) ∙ bits_of_ints s.bits ∙ whole;
+      there = ap is_some (sym whole);
+    }
+
+-- rows joined one after the other, if all are of one length
+abbrev pub joined_rows : LogicalAggregateOp → List Bool → List (List Bool) → Option (List Bool)
+joined_rows op row [] = Some row
+joined_rows op row (other ∷ others) = cond (eqb (length other) (length row)) (joined_rows op (joined op row other) others) None
+
+-- the same of a row's items and further replies
+abbrev pub joined_replies : LogicalAggregateOp → List Reply → List Reply → Option (List Bool)
+joined_replies op row replies = option_and_then (λ bits. option_and_then (joined_rows op bits) (all_rows replies)) (bits_among row)
+
+-- the bits that two rows make
+both_at : (a b : List Bool) (k : ℕ) → get_or (joined And a b) k false ≡ (get_or a k false && get_or b k false)
+both_at [] b k = refl
+both_at (x ∷ a) [] k = sym (and_false (get_or (x ∷ a) k false))
+  where
+    and_false : (c : Bool) → (c && false) ≡ false
+    and_false true = refl
+    and_false false = refl
+both_at (x ∷ a) (y ∷ b) zero = refl
+both_at (x ∷ a) (y ∷ b) (suc k) = both_at a b k
+
+length-joined : (a b : List Bool) → length b ≡ length a → length (joined And a b) ≡ length a
+length-joined [] b n = refl
+length-joined (x ∷ a) [] n = absurd (omega arith)
+length-joined (x ∷ a) (y ∷ b) n = ap suc (length-joined a b (omega arith))
+
+map_same : {X Y : Type 0} (f g : X → Y) → ((x : X) → f x ≡ g x) → (xs : List X) → map f xs ≡ map g xs
+map_same f g h [] = refl
+map_same f g h (x ∷ xs) = ap (λ y. y ∷ map f xs) (h x) ∙ ap (λ ys. g x ∷ ys) (map_same f g h xs)
+
+-- two rows and what they make are alike to the others
+combined_same : (a b : List Bool) (bs : List (List Bool)) (width : ℕ) → combined_bits And (joined And a b ∷ bs) width ≡ combined_bits And (a ∷ (b ∷ bs)) width
+combined_same a b bs width = map_same _ _ (λ k. ap as_int (ap (λ x. x && rest k) (both_at a b k) ∙ and_assoc (get_or a k false) (get_or b k false) (rest k))) (range_with_len 0 width)
+  where
+    rest : ℕ → Bool
+    rest k = list_all (λ bit. bit) (column bs k)
+
+    and_assoc : (x y z : Bool) → ((x && y) && z) ≡ (x && (y && z))
+    and_assoc true y z = refl
+    and_assoc false y z = refl
+
+alone : (a : List Bool) → map as_int a ≡ combined_bits And (a ∷ []) (length a)
+alone a = fill_by_all (λ k. as_int (get_or a k false && true)) (map as_int a) (length a) (as_int false) (length-map a as_int)
+    (λ k l. get_or-map as_int a k false (as_int false) l ∙ ap as_int (sym (and_true (get_or a k false))))
+  where
+    and_true : (b : Bool) → (b && true) ≡ b
+    and_true true = refl
+    and_true false = refl
+
+-- what the columns of some rows make, if these are of this length
+abbrev by_columns : List (List Bool) → List (List Bool) → ℕ → Option (List Reply)
+by_columns rows others width = option_map (combined_bits And rows) (cond (list_all (λ row. eqb (length row) width) others) (Some width) None)
+
+-- what the columns make is what the rows make
+columns_are_rows : (a : List Bool) (bs : List (List Bool)) → by_columns (a ∷ bs) bs (length a) ≡ option_map (map as_int) (joined_rows And a bs)
+columns_are_rows a [] = ap Some (sym (alone a))
+columns_are_rows a (b ∷ bs) = by_test (eqb (length b) (length a))
+    (λ t. ap (λ c. option_map (combined_bits And (a ∷ (b ∷ bs))) (cond (c && list_all (λ row. eqb (length row) (length a)) bs) (Some (length a)) None)) t
+    ∙ same_columns (cond (list_all (λ row. eqb (length row) (length a)) bs) (Some (length a)) None)
+    ∙ ap (by_columns (joined And a b ∷ bs) bs) (sym (length-joined a b (eqb-true (length b) (length a) t)))
+    ∙ columns_are_rows (joined And a b) bs
+    ∙ ap (λ c. option_map (map as_int) (cond c (joined_rows And (joined And a b) bs) None)) (sym t))
+    (λ f. ap (λ c. option_map (combined_bits And (a ∷ (b ∷ bs))) (cond (c && list_all (λ row. eqb (length row) (length a)) bs) (Some (length a)) None)) f
+    ∙ ap (λ c. option_map (map as_int) (cond c (joined_rows And (joined And a b) bs) None)) (sym f))
+  where
+    same_columns : (o : Option ℕ) → option_map (combined_bits And (a ∷ (b ∷ bs))) o ≡ option_map (combined_bits And (joined And a b ∷ bs)) o
+    same_columns None = refl
+    same_columns (Some width) = ap Some (sym (combined_same a b bs width))
+
+columns_and_rows : (op : LogicalAggregateOp) (a : List Bool) (bs : List (List Bool)) → option_map (combined_bits op (a ∷ bs)) (common_length (a ∷ bs)) ≡ option_map (map as_int) (joined_rows op a bs)
+columns_and_rows And a bs = columns_are_rows a bs
+
+first_and_rest : (o : Option (List Bool)) (os : List (Option (List Bool))) → all_some (o ∷ os) ≡ option_and_then (λ a. option_map (λ bs. a ∷ bs) (all_some os)) o
+first_and_rest None os = refl
+first_and_rest (Some a) os = refl
+
+-- the first reply's items, joined with those of the others
+pub first_is_row : (op : LogicalAggregateOp) (r : Reply) (row rs : List Reply) → array_of r ≡ Some row → logical_items op (r ∷ rs) ≡ option_map (map as_int) (joined_replies op row rs)
+first_is_row op r row rs e =
+    ap (λ o. option_and_then (λ rows. option_map (combined_bits op rows) (common_length rows)) (all_some (option_and_then bits_among o ∷ map (λ reply. option_and_then bits_among (array_of reply)) rs))) e
+    ∙ ap (option_and_then (λ rows. option_map (combined_bits op rows) (common_length rows))) (first_and_rest (bits_among row) (map (λ reply. option_and_then bits_among (array_of reply)) rs))
+    ∙ joins (bits_among row) (all_rows rs)
+  where
+    joins : (o : Option (List Bool)) (p : Option (List (List Bool)))
+        → option_and_then (λ rows. option_map (combined_bits op rows) (common_length rows)) (option_and_then (λ a. option_map (λ bs. a ∷ bs) p) o) ≡ option_map (map as_int) (option_and_then (λ bits. option_and_then (joined_rows op bits) p) o)
+    joins None p = refl
+    joins (Some a) None = refl
+    joins (Some a) (Some bs) = columns_and_rows op a bs
+
+-- where all are joined, the row is what is made
+pub only_row : (op : LogicalAggregateOp) (row : List Reply) → is_some (bits_among row) ≡ true → option_map (map as_int) (joined_replies op row []) ≡ Some row
+only_row op row e = ap (option_map (map as_int)) (whole (bits_among row)) ∙ ints (bits_among row) refl e
+  where
+    whole : (o : Option (List Bool)) → option_and_then (λ bits. option_and_then (joined_rows op bits) (all_rows [])) o ≡ o
+    whole None = refl
+    whole (Some bits) = refl
+
+    ints : (o : Option (List Bool)) → bits_among row ≡ o → is_some o ≡ true → option_map (map as_int) o ≡ Some row
+    ints None f h = absurd (cc)
+    ints (Some bits) f h = ap Some (row_of_bits row bits f)
+
+-- the next reply and its row
+next_row : (op : LogicalAggregateOp) (row : List Reply) (r : Reply) (rs : List Reply)
+    → joined_replies op row (r ∷ rs) ≡ option_and_then (λ a. option_and_then (λ b. cond (eqb (length b) (length a)) (option_and_then (joined_rows op (joined op a b)) (all_rows rs)) None) (option_and_then bits_among (array_of r))) (bits_among row)
+next_row op row r rs =
+    ap (λ o. option_and_then (λ a. option_and_then (joined_rows op a) o) (bits_among row)) (first_and_rest (option_and_then bits_among (array_of r)) (map (λ reply. option_and_then bits_among (array_of reply)) rs))
+    ∙ steps (bits_among row) (option_and_then bits_among (array_of r)) (all_rows rs)
+  where
+    either : (b : Bool) → ◌≡◌ {A = Option (List Bool)} None (cond b None None)
+    either true = refl
+    either false = refl
+
+    steps : (o p : Option (List Bool)) (q : Option (List (List Bool)))
+        → option_and_then (λ a. option_and_then (joined_rows op a) (option_and_then (λ b. option_map (λ bs. b ∷ bs) q) p)) o ≡ option_and_then (λ a. option_and_then (λ b. cond (eqb (length b) (length a)) (option_and_then (joined_rows op (joined op a b)) q) None) p) o
+    steps None p q = refl
+    steps (Some a) None q = refl
+    steps (Some a) (Some b) None = either (eqb (length b) (length a))
+    steps (Some a) (Some b) (Some bs) = refl
+
+bits-length : (xs : List Reply) (a : List Bool) → bits_among xs ≡ Some a → length a ≡ length xs
+bits-length xs a e = all_some_length (map bit_in xs) a e ∙ length-map xs bit_in
+
+pub next_is_longer : (op : LogicalAggregateOp) (row : List Reply) (r : Reply) (items rs : List Reply) → array_of r ≡ Some items → (length items ≡ length row → ⊥) → joined_replies op row (r ∷ rs) ≡ None
+next_is_longer op row r items rs e n = next_row op row r rs
+    ∙ ap (λ o. option_and_then (λ a. option_and_then (λ b. cond (eqb (length b) (length a)) (option_and_then (joined_rows op (joined op a b)) (all_rows rs)) None) (option_and_then bits_among o)) (bits_among row)) e
+    ∙ none (bits_among row) (bits_among items) refl refl
+  where
+    none : (o p : Option (List Bool)) → bits_among row ≡ o → bits_among items ≡ p → option_and_then (λ a. option_and_then (λ b. cond (eqb (length b) (length a)) (option_and_then (joined_rows op (joined op a b)) (all_rows rs)) None) p) o ≡ None
+    none None p f g = refl
+    none (Some a) None f g = refl
+    none (Some a) (Some b) f g = ap (λ c. cond c (option_and_then (joined_rows op (joined op a b)) (all_rows rs)) None) (ne_eqb (length b) (length a) (λ h. n (sym (bits-length items b g) ∙ h ∙ bits-length row a f)))
+
+-- the next row joined to the first
+pub next_joined : (op : LogicalAggregateOp) (row new : List Reply) (r : Reply) (items rs : List Reply) → array_of r ≡ Some items → length items ≡ length row → is_some (joined_items op row items) ≡ true → bits_among new ≡ joined_items op row items
+    → joined_replies op row (r ∷ rs) ≡ joined_replies op new rs
+next_joined op row new r items rs e n there is = next_row op row r rs
+    ∙ ap (λ o. option_and_then (λ a. option_and_then (λ b. cond (eqb (length b) (length a)) (option_and_then (joined_rows op (joined op a b)) (all_rows rs)) None) (option_and_then bits_among o)) (bits_among row)) e
+    ∙ both (bits_among row) (bits_among items) refl refl there
+    ∙ ap (option_and_then (λ bits. option_and_then (joined_rows op bits) (all_rows rs))) (sym is)
+  where
+    both : (o p : Option (List Bool)) → bits_among row ≡ o → bits_among items ≡ p → is_some (option_and_then (λ bits. option_map (joined op bits) p) o) ≡ true
+        → option_and_then (λ a. option_and_then (λ b. cond (eqb (length b) (length a)) (option_and_then (joined_rows op (joined op a b)) (all_rows rs)) None) p) o ≡ option_and_then (λ bits. option_and_then (joined_rows op bits) (all_rows rs)) (option_and_then (λ bits. option_map (joined op bits) p) o)
+    both None p f g h = absurd (cc)
+    both (Some a) None f g h = absurd (cc)
+    both (Some a) (Some b) f g h = ap (λ c. cond c (option_and_then (joined_rows op (joined op a b)) (all_rows rs)) None) (eq-eqb (length b) (length a) (bits-length items b g ∙ n ∙ sym (bits-length row a f)))
