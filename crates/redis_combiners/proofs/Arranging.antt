@@ -1,20 +1,16 @@
--- Items that are put into slots, from the last one on.
-use Rattle.std.proofs.Common.{◌≡◌, ℕ, zero, suc, ◌+◌, ◌<◌, ◌≤◌, Bool, true, false, cond, List, [], ◌∷◌, ◌++◌, length, map, take, drop, get_or, Option, Some, None, refl, ap, sym, ◌∙◌, subst, arith, is_some, lit<, Vec, Global}
+-- Items that are put into slots stand in the order of their places.
+use Rattle.std.proofs.Common.{◌≡◌, ℕ, zero, suc, ◌<◌, ◌⊎◌, inl, inr, Bool, true, false, cond, List, [], ◌∷◌, length, map, get_or, replicate, Option, Some, None, refl, ap, sym, ◌∙◌, subst, arith}
 use Rattle.std.proofs.Math.ListN.{set}
-use Rattle.std.specs.Prelude.{option_map, option_to_list, filter, nat_eq, nat_lt, ◌&&◌}
+use Rattle.std.specs.Prelude.{option_map, option_and_then, option_to_list, filter, is_none, nat_eq, nat_lt, ◌&&◌}
 use Rattle.std.specs.List.{range_with_len, list_all, zip}
-use Rattle.std.proofs.lemmas.Bool.{eqb-true, eqb-false, eq-eqb, le-ltb, lt-ltb}
-use Rattle.std.proofs.lemmas.List.{get_or-set_same, get_or-set_other, length-map, get_or-map, length_push, get_or-take, get_or_at, drop_more, take_at, take-take}
+use Rattle.std.proofs.lemmas.Bool.{eqb-true, eqb-false, eq-eqb, lt-ltb, ltb-true}
+use Rattle.std.proofs.lemmas.List.{get_or-replicate, get_or-set_same, get_or-set_other, length-replicate, length-set}
 use Rattle.std.proofs.lemmas.List.FromFn.{fill_by_all, length-map-range_with_len, get_or-map-range_with_len}
 use Rattle.resp_core.specs.Reply.{Reply}
-use Rattle.resp_core.specs.View.{view}
-use Rattle.resp_core.specs.declared.value.Value.{Value}
 use Rattle.redis_combiners.specs.ByPlaces.{items_at, single, by_places}
+use Rattle.redis_combiners.specs.Slots.{put, filled}
 use Rattle.redis_commands.specs.Lists.{all_some}
 use Rattle.resp_core.proofs.Cases.{by_test}
-
-abbrev pub slot_items : Option Value → List Reply
-slot_items s = option_to_list (option_map view s)
 
 pub items_at-cons : (k p : ℕ) (ps : List ℕ) (x : Reply) (xs : List Reply) → items_at k (p ∷ ps) (x ∷ xs) ≡ cond (nat_eq p k) (x ∷ items_at k ps xs) (items_at k ps xs)
 items_at-cons k p ps x xs = either (nat_eq p k)
@@ -23,53 +19,87 @@ items_at-cons k p ps x xs = either (nat_eq p k)
     either true = refl
     either false = refl
 
-pub slot_items_more : (slots : List (Option Value)) (place : ℕ) (item : Value) (ps : List ℕ) (xs : List Reply) → place < length slots
-    → ((k : ℕ) (d : Option Value) → k < length slots → slot_items (get_or slots k d) ≡ items_at k ps xs)
-    → slot_items (get_or slots place None) ≡ []
-    → (k : ℕ) (d : Option Value) → k < length slots → slot_items (get_or (set slots place (Some item)) k d) ≡ items_at k (place ∷ ps) (view item ∷ xs)
-slot_items_more slots place item ps xs l held empty k d lk = by_test (nat_eq place k)
-    (λ e. let same : place ≡ k = eqb-true place k e in
-    ap (λ b. slot_items (get_or (set slots place (Some item)) b d)) (sym same)
-    ∙ ap slot_items (get_or-set_same slots place (Some item) d l)
-    ∙ ap (λ ys. view item ∷ ys) (sym empty ∙ held place None l ∙ ap (λ b. items_at b ps xs) same)
-    ∙ ap (λ b. cond b (view item ∷ items_at k ps xs) (items_at k ps xs)) (sym e)
-    ∙ sym (items_at-cons k place ps (view item) xs))
-    (λ e. ap slot_items (get_or-set_other slots place k (Some item) d (λ h. eqb-false place k e (sym h)))
-    ∙ held k d lk
-    ∙ ap (λ b. cond b (view item ∷ items_at k ps xs) (items_at k ps xs)) (sym e)
-    ∙ sym (items_at-cons k place ps (view item) xs))
+-- the slots have the items of their places
+record Held (n : ℕ) (ps : List ℕ) (xs : List Reply) (slots : List (Option Reply)) : Type 0 where
+  long : length slots ≡ n
+  held : (k : ℕ) → k < n → option_to_list (get_or slots k None) ≡ items_at k ps xs
+  within : list_all (λ p. nat_lt p n) ps ≡ true
 
--- a place past the end
-list_all_fails : (p : ℕ → Bool) (xs : List ℕ) (i : ℕ) → i < length xs → p (get_or xs i 0) ≡ false → list_all p xs ≡ false
-list_all_fails p [] i l e = absurd (omega arith)
-list_all_fails p (x ∷ xs) zero l e = ap (λ b. b && list_all p xs) e
-list_all_fails p (x ∷ xs) (suc i) l e = ap (λ b. p x && b) (list_all_fails p xs i (omega arith) e) ∙ and_false (p x)
+-- a place is past the end, or has two items
+abbrev IsBad : ℕ → List ℕ → List Reply → Type 0
+IsBad n ps xs = (list_all (λ p. nat_lt p n) ps ≡ false) ⊎ ((k : ℕ) × (k < n) × (1 < length (items_at k ps xs)))
+
+bad_more : (n p : ℕ) (ps : List ℕ) (x : Reply) (xs : List Reply) → IsBad n ps xs → IsBad n (p ∷ ps) (x ∷ xs)
+bad_more n p ps x xs (inl e) = inl (ap (λ b. nat_lt p n && b) e ∙ and_false (nat_lt p n))
   where
     and_false : (b : Bool) → (b && false) ≡ false
     and_false true = refl
     and_false false = refl
-
-pub past_end : (ps : List ℕ) (xs : List Reply) (i : ℕ) → i < length ps → length ps ≤ get_or ps i 0 → by_places ps xs ≡ None
-past_end ps xs i l h = ap (λ b. cond b (all_some (map (λ k. single (items_at k ps xs)) (range_with_len 0 (length ps)))) None) (list_all_fails (λ p. nat_lt p (length ps)) ps i l (le-ltb (get_or ps i 0) (length ps) h))
-
--- two items at one place
-items_at-parts : (k i : ℕ) (ps : List ℕ) (xs : List Reply) → length (items_at k (drop i ps) (drop i xs)) ≤ length (items_at k ps xs)
-items_at-parts k zero ps xs = omega arith
-items_at-parts k (suc i) [] xs = omega arith
-items_at-parts k (suc i) (p ∷ ps) [] = none_there ps
+bad_more n p ps x xs (inr t) = inr (t.0, t.1, subst (λ ys. 1 < length ys) (sym (items_at-cons t.0 p ps x xs)) (one_more (nat_eq p t.0) t.2))
   where
-    none_at : (qs : List ℕ) → items_at k qs [] ≡ []
-    none_at [] = refl
-    none_at (q ∷ qs) = refl
-
-    none_there : (qs : List ℕ) → length (items_at k (drop i qs) []) ≤ 0
-    none_there qs = omega (arith, ap length (none_at (drop i qs)))
-items_at-parts k (suc i) (p ∷ ps) (x ∷ xs) = subst (λ ys. length (items_at k (drop i ps) (drop i xs)) ≤ length ys) (sym (items_at-cons k p ps x xs)) (one_more (nat_eq p k) (items_at-parts k i ps xs))
-  where
-    one_more : (b : Bool) → length (items_at k (drop i ps) (drop i xs)) ≤ length (items_at k ps xs) → length (items_at k (drop i ps) (drop i xs)) ≤ length (cond b (x ∷ items_at k ps xs) (items_at k ps xs))
+    one_more : (b : Bool) → 1 < length (items_at t.0 ps xs) → 1 < length (cond b (x ∷ items_at t.0 ps xs) (items_at t.0 ps xs))
     one_more true h = omega arith
     one_more false h = h
 
+held_more : (n p : ℕ) (ps : List ℕ) (x : Reply) (xs : List Reply) (slots : List (Option Reply)) → Held n ps xs slots → p < n → is_none (get_or slots p None) ≡ true → Held n (p ∷ ps) (x ∷ xs) (set slots p (Some x))
+held_more n p ps x xs slots h l e =
+    let empty : option_to_list (get_or slots p None) ≡ [] = no_item (get_or slots p None) e in
+    record {
+      long = length-set slots p (Some x) ∙ h.long;
+      held = λ k lk. by_test (nat_eq p k)
+          (λ t. let same : p ≡ k = eqb-true p k t in
+          ap (λ j. option_to_list (get_or (set slots p (Some x)) j None)) (sym same)
+          ∙ ap option_to_list (get_or-set_same slots p (Some x) None (omega (arith, h.long)))
+          ∙ ap (λ ys. x ∷ ys) (sym empty ∙ h.held p l ∙ ap (λ j. items_at j ps xs) same)
+          ∙ ap (λ b. cond b (x ∷ items_at k ps xs) (items_at k ps xs)) (sym t)
+          ∙ sym (items_at-cons k p ps x xs))
+          (λ f. ap option_to_list (get_or-set_other slots p k (Some x) None (λ i. eqb-false p k f (sym i)))
+          ∙ h.held k lk
+          ∙ ap (λ b. cond b (x ∷ items_at k ps xs) (items_at k ps xs)) (sym f)
+          ∙ sym (items_at-cons k p ps x xs));
+      within = ap (λ b. b && list_all (λ q. nat_lt q n) ps) (lt-ltb p n l) ∙ h.within;
+    }
+  where
+    no_item : (o : Option Reply) → is_none o ≡ true → option_to_list o ≡ []
+    no_item None e = refl
+    no_item (Some y) e = absurd (cc)
+
+two_at_place : (n p : ℕ) (ps : List ℕ) (x : Reply) (xs : List Reply) (slots : List (Option Reply)) → Held n ps xs slots → p < n → is_none (get_or slots p None) ≡ false → 1 < length (items_at p (p ∷ ps) (x ∷ xs))
+two_at_place n p ps x xs slots h l e =
+    let one : 0 < length (items_at p ps xs) = subst (λ ys. 0 < length ys) (h.held p l) (some_item (get_or slots p None) e) in
+    let two : 1 < length (cond (nat_eq p p) (x ∷ items_at p ps xs) (items_at p ps xs)) = subst (λ b. 1 < length (cond b (x ∷ items_at p ps xs) (items_at p ps xs))) (sym (eq-eqb p p refl)) (omega arith) in
+    subst (λ ys. 1 < length ys) (sym (items_at-cons p p ps x xs)) two
+  where
+    some_item : (o : Option Reply) → is_none o ≡ false → 0 < length (option_to_list o)
+    some_item None e = absurd (cc)
+    some_item (Some y) e = omega arith
+
+abbrev empty : ℕ → List (Option Reply)
+empty n = replicate n None
+
+abbrev Filling : ℕ → List ℕ → List Reply → Option (List (Option Reply)) → Type 0
+Filling n ps xs o = ((slots : List (Option Reply)) × (o ≡ Some slots) × Held n ps xs slots) ⊎ ((o ≡ None) × IsBad n ps xs)
+
+filling : (n : ℕ) (ps : List ℕ) (xs : List Reply) → length xs ≡ length ps → Filling n ps xs (filled (empty n) ps xs)
+filling n [] xs same = inl (empty n, refl, record { long = length-replicate n None; held = λ k l. ap option_to_list (get_or-replicate n k None None l); within = refl })
+filling n (p ∷ ps) [] same = absurd (omega arith)
+filling n (p ∷ ps) (x ∷ xs) same = next (filling n ps xs (omega arith))
+  where
+    at_place : (slots : List (Option Reply)) → filled (empty n) ps xs ≡ Some slots → Held n ps xs slots → Filling n (p ∷ ps) (x ∷ xs) (filled (empty n) (p ∷ ps) (x ∷ xs))
+    at_place slots e h =
+        let step : filled (empty n) (p ∷ ps) (x ∷ xs) ≡ cond (nat_lt p n && is_none (get_or slots p None)) (Some (set slots p (Some x))) None =
+        ap (option_and_then (λ later. put later p x)) e ∙ ap (λ m. cond (nat_lt p m && is_none (get_or slots p None)) (Some (set slots p (Some x))) None) h.long in
+        by_test (nat_lt p n)
+        (λ t. by_test (is_none (get_or slots p None))
+        (λ u. inl (set slots p (Some x), step ∙ ap (λ b. cond (b && is_none (get_or slots p None)) (Some (set slots p (Some x))) None) t ∙ ap (λ b. cond b (Some (set slots p (Some x))) None) u, held_more n p ps x xs slots h (ltb-true p n t) u))
+        (λ u. inr (step ∙ ap (λ b. cond (b && is_none (get_or slots p None)) (Some (set slots p (Some x))) None) t ∙ ap (λ b. cond b (Some (set slots p (Some x))) None) u, inr (p, ltb-true p n t, two_at_place n p ps x xs slots h (ltb-true p n t) u))))
+        (λ f. inr (step ∙ ap (λ b. cond (b && is_none (get_or slots p None)) (Some (set slots p (Some x))) None) f, inl (ap (λ b. b && list_all (λ q. nat_lt q n) ps) f)))
+
+    next : Filling n ps xs (filled (empty n) ps xs) → Filling n (p ∷ ps) (x ∷ xs) (filled (empty n) (p ∷ ps) (x ∷ xs))
+    next (inl t) = at_place t.0 t.1 t.2
+    next (inr t) = inr (ap (option_and_then (λ later. put later p x)) t.0, bad_more n p ps x xs t.1)
+
+-- what is not in order
 one_missing : {X : Type 0} (os : List (Option X)) (i : ℕ) → i < length os → get_or os i None ≡ None → all_some os ≡ None
 one_missing [] i l e = absurd (omega arith)
 one_missing (None ∷ os) i l e = refl
@@ -81,75 +111,32 @@ not_single [] l = absurd (omega arith)
 not_single (x ∷ []) l = absurd (omega arith)
 not_single (x ∷ (y ∷ xs)) l = refl
 
-single_slot_item : (slot : Option Value) → single (slot_items slot) ≡ option_map view slot
-single_slot_item None = refl
-single_slot_item (Some v) = refl
-
-either_none : (b : Bool) (o : Option (List Reply)) → o ≡ None → cond b o None ≡ None
-either_none true o e = e
-either_none false o e = refl
-
-pub place_twice : (ps : List ℕ) (xs : List Reply) (i k : ℕ) → k < length ps → 1 < length (items_at k (drop i ps) (drop i xs)) → by_places ps xs ≡ None
-place_twice ps xs i k l h =
+bad_is_none : (ps : List ℕ) (xs : List Reply) → IsBad (length ps) ps xs → by_places ps xs ≡ None
+bad_is_none ps xs (inl e) = ap (λ b. cond b (all_some (map (λ k. single (items_at k ps xs)) (range_with_len 0 (length ps)))) None) e
+bad_is_none ps xs (inr t) =
     let f : ℕ → Option Reply = λ j. single (items_at j ps xs) in
-    let n : length (map f (range_with_len 0 (length ps))) ≡ length ps = length-map-range_with_len f 0 (length ps) in
-    let there : get_or (map f (range_with_len 0 (length ps))) k None ≡ f k = get_or-map-range_with_len f 0 (length ps) k k None l (omega arith) in
-    let long : 1 < length (items_at k ps xs) = omega (arith, items_at-parts k i ps xs) in
-    either_none (list_all (λ p. nat_lt p (length ps)) ps) (all_some (map f (range_with_len 0 (length ps)))) (one_missing (map f (range_with_len 0 (length ps))) k (omega arith) (there ∙ not_single (items_at k ps xs) long))
-
--- all slots, once each item is in one
-pub all_slot_items : (slots : List (Option Value)) (ps : List ℕ) (xs : List Reply) → length slots ≡ length ps
-    → ((k : ℕ) (d : Option Value) → k < length ps → slot_items (get_or slots k d) ≡ items_at k ps xs)
-    → list_all (λ p. nat_lt p (length ps)) ps ≡ true
-    → all_some (map (λ slot. option_map view slot) slots) ≡ by_places ps xs
-all_slot_items slots ps xs n held within =
-    let f : ℕ → Option Reply = λ j. single (items_at j ps xs) in
-    let seen : Option Value → Option Reply = λ slot. option_map view slot in
-    ap all_some (fill_by_all f (map seen slots) (length ps) None (length-map slots seen ∙ n) (λ k l. get_or-map seen slots k None None (omega arith) ∙ sym (single_slot_item (get_or slots k None)) ∙ ap single (held k None l)))
-    ∙ ap (λ b. cond b (all_some (map f (range_with_len 0 (length ps)))) None) (sym within)
-
-pub two_at_place : (slots : List (Option Value)) (place : ℕ) (item : Value) (ps : List ℕ) (xs : List Reply) → place < length slots
-    → ((k : ℕ) (d : Option Value) → k < length slots → slot_items (get_or slots k d) ≡ items_at k ps xs)
-    → is_some (get_or slots place None) ≡ true
-    → 1 < length (items_at place (place ∷ ps) (view item ∷ xs))
-two_at_place slots place item ps xs l held full =
-    let there : 0 < length (slot_items (get_or slots place None)) = some_slot_item (get_or slots place None) full in
-    let more : 0 < length (items_at place ps xs) = subst (λ ys. 0 < length ys) (held place None l) there in
-    let two : 1 < length (cond (nat_eq place place) (view item ∷ items_at place ps xs) (items_at place ps xs)) = subst (λ b. 1 < length (cond b (view item ∷ items_at place ps xs) (items_at place ps xs))) (sym (eq-eqb place place refl)) (suc_more (items_at place ps xs) more) in
-    subst (λ ys. 1 < length ys) (sym (items_at-cons place place ps (view item) xs)) two
+    let there : get_or (map f (range_with_len 0 (length ps))) t.0 None ≡ f t.0 = get_or-map-range_with_len f 0 (length ps) t.0 t.0 None t.1 (omega arith) in
+    either (list_all (λ p. nat_lt p (length ps)) ps) (all_some (map f (range_with_len 0 (length ps))))
+    (one_missing (map f (range_with_len 0 (length ps))) t.0 (omega (arith, t.1, length-map-range_with_len f 0 (length ps))) (there ∙ not_single (items_at t.0 ps xs) t.2))
   where
-    some_slot_item : (o : Option Value) → is_some o ≡ true → 0 < length (slot_items o)
-    some_slot_item None e = absurd (cc)
-    some_slot_item (Some v) e = lit< tt
+    either : (b : Bool) (o : Option (List Reply)) → o ≡ None → cond b o None ≡ None
+    either true o e = e
+    either false o e = refl
 
-    suc_more : (ys : List Reply) → 0 < length ys → 1 < length (view item ∷ ys)
-    suc_more ys h = omega arith
+held_is : (ps : List ℕ) (xs : List Reply) (slots : List (Option Reply)) → Held (length ps) ps xs slots → all_some slots ≡ by_places ps xs
+held_is ps xs slots h =
+    let f : ℕ → Option Reply = λ j. single (items_at j ps xs) in
+    ap all_some (fill_by_all f slots (length ps) None h.long (λ k l. sym (single_item (get_or slots k None)) ∙ ap single (h.held k l)))
+    ∙ ap (λ b. cond b (all_some (map f (range_with_len 0 (length ps)))) None) (sym h.within)
+  where
+    single_item : (o : Option Reply) → single (option_to_list o) ≡ o
+    single_item None = refl
+    single_item (Some y) = refl
 
--- what a `pop` leaves of the first items
-pub record AfterPop (vs ws : List Value) (item : Value) (all : List Value) (ps : List ℕ) : Type 0 where
-  pub within : length ws < length ps
-  pub next_place : drop (length ws) ps ≡ get_or ps (length ws) 0 ∷ drop (length vs) ps
-  pub next_item : map view (drop (length ws) all) ≡ view item ∷ map view (drop (length vs) all)
-  pub left : ws ≡ take (length ws) all
-
-pub after_pop : (vs ws : List Value) (item : Value) (all : List Value) (ps : List ℕ) → vs ≡ ws ++ item ∷ [] → vs ≡ take (length vs) all → length vs ≤ length ps → length all ≡ length ps → AfterPop vs ws item all ps
-after_pop vs ws item all ps last left few same =
-    let longer : length vs ≡ length ws + 1 = ap length last ∙ length_push ws item in
-    let within : length ws < length ps = omega arith in
-    let here : get_or all (length ws) item ≡ item = sym (get_or-take (length vs) all (length ws) item (omega arith)) ∙ ap (λ us. get_or us (length ws) item) (sym left ∙ last) ∙ get_or_at ws item [] item (length ws) refl in
-    record {
-      within = within;
-      next_place = drop_more ps (length ws) 0 within ∙ ap (λ n. get_or ps (length ws) 0 ∷ drop n ps) (sym longer);
-      next_item = ap (map view) (drop_more all (length ws) item (omega arith)) ∙ ap (λ v. view v ∷ map view (drop (length ws + 1) all)) here ∙ ap (λ n. view item ∷ map view (drop n all)) (sym longer);
-      left = sym (take_at ws (item ∷ []) (length ws) refl) ∙ ap (take (length ws)) (sym last ∙ left) ∙ take-take (length ws) (length vs) all (omega arith);
-    }
-
-pub no_slot_item : (o : Option Value) → is_some o ≡ false → slot_items o ≡ []
-no_slot_item None e = refl
-no_slot_item (Some v) e = absurd (cc)
-
-pub within_more : (n p : ℕ) (ps qs : List ℕ) → qs ≡ p ∷ ps → p < n → list_all (λ q. nat_lt q n) ps ≡ true → list_all (λ q. nat_lt q n) qs ≡ true
-within_more n p ps qs e l h = ap (list_all (λ q. nat_lt q n)) e ∙ ap (λ b. b && list_all (λ q. nat_lt q n) ps) (lt-ltb p n l) ∙ h
-
-pub slots_len : (v : Vec (Option Value) Global) → v.len ≡ length v.items
-slots_len v = v.ok.0
+-- once each item is in its slot, the slots are the order
+pub filled_is : (ps : List ℕ) (xs : List Reply) → length xs ≡ length ps → option_and_then all_some (filled (replicate (length ps) None) ps xs) ≡ by_places ps xs
+filled_is ps xs same = ends (filling (length ps) ps xs same)
+  where
+    ends : Filling (length ps) ps xs (filled (empty (length ps)) ps xs) → option_and_then all_some (filled (empty (length ps)) ps xs) ≡ by_places ps xs
+    ends (inl t) = ap (option_and_then all_some) t.1 ∙ held_is ps xs t.0 t.2
+    ends (inr t) = ap (option_and_then all_some) t.0 ∙ sym (bad_is_none ps xs t.1)

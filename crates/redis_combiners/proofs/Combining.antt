@@ -12,7 +12,7 @@ use Rattle.redis_commands.specs.Lists.{flatten}
 use Rattle.redis_combiners.specs.Misfits.{first_misfit}
 use Rattle.redis_combiners.specs.SortedArrays.{array_or_refusal, array_by_places, sorted_arrays}
 use Rattle.redis_commands.specs.declared.route_by.MultiSlotArgPattern.{MultiSlotArgPattern}
-use Rattle.redis_combiners.proofs.Misfits.{items_length}
+use Rattle.redis_combiners.proofs.Misfits.{FittingItems, fitting_items, items_length}
 
 -- the places of some lists: all in one list, and how many each has
 pub record PlacesOfLists (o : Option (List (List ℕ))) (all counts : List ℕ) : Type 0 where
@@ -25,23 +25,23 @@ pub places_of_lists : (o : Option (List (List ℕ))) (all counts : List ℕ) →
 places_of_lists None all counts e f = absurd (cc)
 places_of_lists (Some pss) all counts e f = record { lists = pss; is = refl; all_are = cc; counts_are = cc }
 
--- the last step, where the places and the items are there
-pub record LastStep (pattern : MultiSlotArgPattern) (rs : List Reply) (lists : List (List ℕ)) (all : List ℕ) (xs : List Reply) : Type 0 where
-  pub long : length xs ≡ length all
-  pub is : sorted_arrays pattern rs lists ≡ array_or_refusal None (by_places all xs)
+-- the last step, where the places are there and each reply fits
+pub record LastStep (pattern : MultiSlotArgPattern) (rs : List Reply) (lists : List (List ℕ)) (all : List ℕ) : Type 0 where
+  pub long : option_map length (all_items rs) ≡ Some (length all)
+  pub is : sorted_arrays pattern rs lists ≡ array_or_refusal None (option_and_then (by_places all) (all_items rs))
 
-pub last_step : (pattern : MultiSlotArgPattern) (rs : List Reply) (lists : List (List ℕ)) (all counts : List ℕ) (xs : List Reply)
-    → PlacesOfLists (all_places pattern lists) all counts → length rs ≡ length counts → first_misfit rs counts ≡ None → all_items rs ≡ Some xs
-    → LastStep pattern rs lists all xs
-last_step pattern rs lists all counts xs p n f g =
+pub last_step : (pattern : MultiSlotArgPattern) (rs : List Reply) (lists : List (List ℕ)) (all counts : List ℕ)
+    → PlacesOfLists (all_places pattern lists) all counts → length rs ≡ length counts → first_misfit rs counts ≡ None
+    → LastStep pattern rs lists all
+last_step pattern rs lists all counts p n f =
     let m : length rs ≡ length p.lists = n ∙ ap length p.counts_are ∙ length-map p.lists length in
     let h : first_misfit rs (map length p.lists) ≡ None = ap (first_misfit rs) (sym p.counts_are) ∙ f in
+    let xs : FittingItems rs = fitting_items rs counts n f in
     let sorted : Option (List Reply) = option_and_then (by_places (flatten p.lists)) (all_items rs) in
     record {
-      long = items_length rs p.lists xs m h g ∙ ap length (sym p.all_are);
+      long = ap (option_map length) xs.are ∙ ap Some (items_length rs p.lists xs.items m h xs.are ∙ ap length (sym p.all_are));
       is = ap (λ o. array_by_places o rs) p.is
           ∙ ap (λ b. cond b (array_or_refusal (first_misfit rs (map length p.lists)) sorted) (Err Client)) (eq-eqb (length rs) (length p.lists) m)
           ∙ ap (λ k. array_or_refusal k sorted) h
-          ∙ ap (λ o. array_or_refusal None (option_and_then (by_places (flatten p.lists)) o)) g
-          ∙ ap (λ qs. array_or_refusal None (by_places qs xs)) (sym p.all_are);
+          ∙ ap (λ qs. array_or_refusal None (option_and_then (by_places qs) (all_items rs))) (sym p.all_are);
     }

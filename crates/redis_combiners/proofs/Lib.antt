@@ -2,9 +2,11 @@ pub mod Ahead
 pub mod AtPlaces
 pub mod Combining
 pub mod Arranging
+pub mod Filling
 pub mod JoinedBits
 pub mod KeyNumbers
 pub mod KeyPlaces
+pub mod Left
 pub mod Lists
 pub mod Misfits
 pub mod Orders

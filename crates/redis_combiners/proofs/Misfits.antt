@@ -63,3 +63,30 @@ items_length (r ∷ rs) (ps ∷ pss) xs n f g =
     let t : Fits (array_of r) rs (length ps) (map length pss) xs = fits (array_of r) rs (length ps) (map length pss) xs f g in
     let h : length t.others ≡ length (flatten pss) = items_length rs pss t.others (omega arith) t.others_fit t.others_are in
     omega (arith, ap length t.is, length-append t.first t.others, length-append ps (flatten pss), t.long)
+
+-- the items of replies that fit
+pub record FittingItems (rs : List Reply) : Type 0 where
+  pub items : List Reply
+  pub are : all_items rs ≡ Some items
+
+pub fitting_items : (rs : List Reply) (counts : List ℕ) → length rs ≡ length counts → first_misfit rs counts ≡ None → FittingItems rs
+fitting_items [] counts n f = record { items = []; are = refl }
+fitting_items (r ∷ rs) [] n f = absurd (omega arith)
+fitting_items (r ∷ rs) (count ∷ counts) n f = made (array_of r) refl f (fitting_items rs counts (omega arith))
+  where
+    more : (ys others : List Reply) (a : Option (List (List Reply))) → option_map flatten a ≡ Some others → option_map flatten (option_map (λ yss. ys ∷ yss) a) ≡ Some (ys ++ others)
+    more ys others None e = absurd (cc)
+    more ys others (Some yss) e = let is : flatten yss ≡ others = cc in ap (λ zs. Some (ys ++ zs)) is
+
+    refused : Some Client ≡ None → ⊥
+    refused h = cc
+
+    made : (o : Option (List Reply)) → array_of r ≡ o → after (misfit_of o count) rs counts ≡ None → (first_misfit rs counts ≡ None → FittingItems rs) → FittingItems (r ∷ rs)
+    made None e g later = absurd (cc)
+    made (Some ys) e g later = by_test (eqb (length ys) count)
+        (λ t. let others : FittingItems rs = later (sym (ap (λ b. after (cond b None (Some Client)) rs counts) t) ∙ g) in
+        record {
+          items = ys ++ others.items;
+          are = ap (λ o. option_map flatten (all_some (o ∷ map array_of rs))) e ∙ more ys others.items (all_some (map array_of rs)) others.are;
+        })
+        (λ t. absurd (refused (sym (ap (λ b. after (cond b None (Some Client)) rs counts) t) ∙ g)))

@@ -1,57 +1,86 @@
-ghost use Rattle.std.specs.Prelude.{◌≡◌, length, map, IfOk, option_map, replicate, None};
+ghost use Rattle.std.specs.Prelude.{◌≡◌, length, map, IfOk, option_map, option_and_then, replicate, Some, None, if◌then◌else◌};
+ghost use Rattle.std.specs.List.{list_all};
+ghost use Rattle.resp_core.specs.Reply.{nil};
 ghost use Rattle.resp_core.specs.View.{view};
+ghost use Rattle.redis_combiners.specs.AllItems.{all_items};
 ghost use Rattle.redis_combiners.specs.ByPlaces.{by_places};
-ghost use Rattle.redis_commands.specs.Lists.{all_some};
+ghost use Rattle.redis_combiners.specs.Slots.{slots_of, filled};
 
 use resp_core::Value;
 use std::alloc::{AllocError, Global};
 
-/// A list of `n` empty slots.
-fn empty_slots(alloc: Global, n: usize) -> Result<Vec<Option<Value>>, AllocError>
-    ensures { IfOk result (λ v. v.items ≡ replicate n None) }
+/// So many values that later ones take the place of.
+fn nils(alloc: Global, count: usize) -> Result<Vec<Value>, AllocError>
+    ensures { IfOk result (λ v. map view v.items ≡ replicate count nil) }
 {
-    let mut slots = Vec::with_capacity(alloc, n)?;
-    for i in 0..n {
-        slots.push(None)?;
+    let mut values = Vec::with_capacity(alloc, count)?;
+    for i in 0..count {
+        values.push(Value::Nil)?;
     }
-    Ok(slots)
+    Ok(values)
 }
 
-/// The values in the slots, if no slot is empty.
-fn all_values(alloc: Global, slots: Vec<Option<Value>>) -> Result<Option<Vec<Value>>, AllocError>
-    ensures { IfOk result (λ o. option_map (λ v. map view v.items) o
-        ≡ all_some (map (λ slot. option_map view slot) slots.items)) }
-{
-    let mut values = Vec::with_capacity(alloc, slots.len())?;
-    for slot in slots {
-        let Some(value) = slot else {
-            return Ok(None);
-        };
-        values.push(value)?;
-    }
-    Ok(Some(values))
-}
-
-/// The items in the order of their places, if these are the numbers from 0 on, each once.
-pub(super) fn arrange(
-    alloc: Global,
-    mut items: Vec<Value>,
+/// Puts each item at its place, if this is one of the places and not taken yet.
+fn put_all(
+    taken: &mut [bool],
+    sorted: &mut [Value],
     places: &[usize],
-) -> Result<Option<Vec<Value>>, AllocError>
-    requires { length items.items ≡ length places.now }
-    ensures { IfOk result (λ o. option_map (λ v. map view v.items) o
-        ≡ by_places places.now (map view items.items)) }
+    mut items: Vec<Value>,
+) -> bool
+    requires slots { length taken.old ≡ length sorted.old }
+    requires places { length items.items ≡ length places.now }
+    ensures { (if result then Some (slots_of taken.new (map view sorted.new)) else None)
+        ≡ filled (slots_of taken.old (map view sorted.old)) places.now (map view items.items) }
 {
-    let mut slots = empty_slots(alloc, places.len())?;
     while let Some(item) = items.pop() {
         let place = places[items.len()];
-        if place >= slots.len() {
-            return Ok(None);
+        if place >= taken.len() {
+            return false;
         }
-        if slots[place].is_some() {
-            return Ok(None);
+        if taken[place] {
+            return false;
         }
-        slots[place] = Some(item);
+        taken[place] = true;
+        sorted[place] = item;
     }
-    all_values(alloc, slots)
+    true
+}
+
+/// Whether all places are taken.
+fn all_taken(taken: &[bool]) -> bool
+    ensures { result ≡ list_all (λ bit. bit) taken.now }
+{
+    for bit in taken {
+        if !*bit {
+            return false;
+        }
+    }
+    true
+}
+
+/// The items of all replies in the order of their places, if these are the numbers from 0 on, each
+/// once. Each item goes straight to its place.
+pub(super) fn arrange(
+    alloc: Global,
+    mut values: Vec<Value>,
+    places: &[usize],
+) -> Result<Option<Vec<Value>>, AllocError>
+    requires { option_map length (all_items (map view values.items)) ≡ Some (length places.now) }
+    ensures { IfOk result (λ o. option_map (λ v. map view v.items) o
+        ≡ option_and_then (by_places places.now) (all_items (map view values.items))) }
+{
+    let mut taken = Vec::from_elem(alloc, false, places.len())?;
+    let mut sorted = nils(alloc, places.len())?;
+    let mut end = places.len();
+    while let Some(value) = values.pop() {
+        let Some(items) = value.into_array() else {
+            return Ok(None);
+        };
+        let start = end - items.len();
+        if !put_all(&mut taken, &mut sorted, &places[start..end], items) {
+            return Ok(None);
+        }
+        end = start;
+    }
+    Ok(all_taken(&taken).then_some(sorted))
 }

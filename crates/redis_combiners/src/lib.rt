@@ -3,7 +3,7 @@
 
 mod arrange;
 mod arrays;
-mod gather;
+mod fit;
 mod logical;
 mod maps;
 mod places;

@@ -25,7 +25,10 @@ pub(super) fn key_places(
     ensures counts { IfOk result (λ o. option_map (λ p. p.counts.items) o
         ≡ option_map (map length) (all_places pattern (map (λ l. l.1.items) lists.now))) }
 {
-    let mut all = Vec::new(alloc);
+    let arguments = lists
+        .iter()
+        .fold(0, |count: usize, list| count.saturating_add(list.1.len()));
+    let mut all = Vec::with_capacity(alloc, arguments / pattern.width())?;
     let mut counts = Vec::with_capacity(alloc, lists.len())?;
     for list in lists {
         let Some(count) = add_places(&mut all, &list.1, pattern)? else {

@@ -6,7 +6,7 @@ ghost use Rattle.redis_combiners.specs.AtPlaces.{AreAtPlaces};
 ghost use Rattle.redis_combiners.specs.SortedArrays.{sorted_arrays};
 
 use super::arrange::arrange;
-use super::gather::gather;
+use super::fit::check_fit;
 use super::places::key_places;
 use cluster_slots::Route;
 use redis_commands::MultiSlotArgPattern;
@@ -53,8 +53,8 @@ pub fn combine_and_sort_array_results(
             "there are not as many replies as lists of places",
         )));
     }
-    let items = gather(alloc, values, &places.counts)?;
-    let Some(sorted) = arrange(alloc, items, &places.all)? else {
+    check_fit(&values, &places.counts)?;
+    let Some(sorted) = arrange(alloc, values, &places.all)? else {
         return Err(RedisError::from((
             ErrorKind::Client,
             "the places are not the numbers from 0 on, each once",

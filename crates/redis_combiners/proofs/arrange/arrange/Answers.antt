@@ -1,70 +1,102 @@
-use Rattle.std.proofs.Common.{◌≡◌, ℕ, ◌<◌, [], ◌∷◌, Some, None, ap, sym, subst, ◌∙◌, arith, length, map, drop, get_or, true, is_some}
-use Rattle.std.specs.List.{list_all}
-use Rattle.std.specs.Prelude.{nat_lt, IfOk, option_map, Option, vec_len}
-use Rattle.resp_core.specs.declared.value.Value.{Value}
-use Rattle.std.proofs.lemmas.List.{length-set, drop-map, get_or_read}
+use Rattle.std.proofs.Common.{◌≡◌, ◌-◌, List, [], ◌++◌, cond, length, map, take, drop, None, Some, ap, sym, ◌∙◌, subst, arith}
+use Rattle.std.specs.Prelude.{option_and_then, option_map}
+use Rattle.std.specs.Bool.{then_some}
+use Rattle.std.specs.List.{between, list_all}
+use Rattle.std.proofs.lemmas.List.{length-map, nil_from_length, take_at}
+use Rattle.std.proofs.lemmas.List.Edits.{length-between}
+use Rattle.resp_core.specs.Reply.{Reply}
 use Rattle.resp_core.specs.View.{view}
-use Rattle.redis_combiners.specs.ByPlaces.{items_at, by_places}
+use Rattle.redis_combiners.specs.Slots.{filled, slots_of}
 use Rattle.redis_commands.specs.Lists.{all_some}
-use Rattle.redis_combiners.proofs.Arranging.{AfterPop, after_pop, two_at_place, place_twice, slot_items_more, all_slot_items, slot_items, no_slot_item, within_more, slots_len}
+use Rattle.redis_combiners.proofs.Left.{Left, whole_of, left_first, next_is_array, next_reply, none_left, by_slots, slots_as_items}
 use Rattle.redis_combiners.proofs.arrange.arrange.Goals as goal
 
-pub returns-then-is_some : goal.returns-then-is_some
-returns-then-is_some c =
-    let vs = c.loop-item.items.items in
-    let ws = c.pop.new.self.items in
-    let all = c.args.items.items in
-    let ps = c.args.places.now in
-    let slots = c.loop-item.slots.items in
-    let inv = c.loop-item.invariant in
-    let idx : c.len.result ≡ length ws = c.len.ensures ∙ c.pop.new.self.ok.0 in
-    let p : AfterPop vs ws c.in-Some.item all ps = after_pop vs ws c.in-Some.item all ps c.in-Some.ensures.items inv.left inv.few c.requires in
-    let place = get_or ps c.len.result 0 in
-    let at : place ≡ get_or ps (length ws) 0 = ap (λ n. get_or ps n 0) idx in
-    let inside : place < length slots = omega (arith, slots_len c.loop-item.slots, c.if-place-len.false, c.len-in-Some.ensures) in
-    let read : c.index.result.now ≡ get_or slots place None = get_or_read slots place c.index.result.now inside c.index.ensures None in
-    let full : is_some (get_or slots place None) ≡ true = ap is_some (sym read) ∙ sym c.is_some.ensures ∙ c.if-is_some.true in
-    let next_place : drop (length ws) ps ≡ place ∷ drop (length vs) ps = p.next_place ∙ ap (λ q. q ∷ drop (length vs) ps) (sym at) in
-    let two : 1 < length (items_at place (place ∷ drop (length vs) ps) (view c.in-Some.item ∷ map view (drop (length vs) all))) = two_at_place slots place c.in-Some.item (drop (length vs) ps) (map view (drop (length vs) all)) inside (λ k d l. inv.held k d (omega (arith, inv.slots))) full in
-    let here : 1 < length (items_at place (drop (length ws) ps) (drop (length ws) (map view all))) = subst (λ qs. 1 < length (items_at place qs (drop (length ws) (map view all)))) (sym next_place) (subst (λ xs. 1 < length (items_at place (place ∷ drop (length vs) ps) xs)) (sym (drop-map view (length ws) all ∙ p.next_item)) two) in
-    sym (place_twice ps (map view all) (length ws) place (omega (arith, inv.slots)) here)
+pub loop-value-init : goal.loop-value-init
+loop-value-init c = left_first (map view c.args.values.items) c.args.places.now c.in_ok-taken.taken.items (map view c.in_ok-sorted.sorted.items) c.requires (c.in_ok-taken.ensures.items_if_clones_equal (λ b e. e)) c.in_ok-sorted.ensures
 
-pub loop-item-preserved : goal.loop-item-preserved
-loop-item-preserved c =
-    let vs = c.loop-item.items.items in
-    let ws = c.pop.new.self.items in
-    let all = c.args.items.items in
-    let ps = c.args.places.now in
-    let slots = c.loop-item.slots.items in
-    let inv = c.loop-item.invariant in
-    let idx : c.len.result ≡ length ws = c.len.ensures ∙ c.pop.new.self.ok.0 in
-    let p : AfterPop vs ws c.in-Some.item all ps = after_pop vs ws c.in-Some.item all ps c.in-Some.ensures.items inv.left inv.few c.requires in
-    let place = get_or ps c.len.result 0 in
-    let at : place ≡ get_or ps (length ws) 0 = ap (λ n. get_or ps n 0) idx in
-    let inside : place < length slots = omega (arith, slots_len c.loop-item.slots, c.if-place-len.false, c.len-in-Some.ensures) in
-    let read : c.index.result.now ≡ get_or slots place None = get_or_read slots place c.index.result.now inside c.index.ensures None in
-    let empty : slot_items (get_or slots place None) ≡ [] = no_slot_item (get_or slots place None) (ap is_some (sym read) ∙ sym c.is_some.ensures ∙ c.if-is_some.false) in
-    let next_place : drop (length ws) ps ≡ place ∷ drop (length vs) ps = p.next_place ∙ ap (λ q. q ∷ drop (length vs) ps) (sym at) in
-    record {
-      slots = length-set slots place (Some c.in-Some.item) ∙ inv.slots;
-      few = omega (arith, p.within);
-      left = p.left;
-      held = λ k d l. slot_items_more slots place c.in-Some.item (drop (length vs) ps) (map view (drop (length vs) all)) inside (λ j e m. inv.held j e (omega (arith, inv.slots))) empty k d (omega (arith, inv.slots))
-          ∙ ap (λ xs. items_at k (place ∷ drop (length vs) ps) xs) (sym p.next_item)
-          ∙ ap (λ qs. items_at k qs (map view (drop (length ws) all))) (sym next_place);
-      within = within_more (length ps) place (drop (length vs) ps) (drop (length ws) ps) next_place (omega (arith, inv.slots)) inv.within;
-    }
+pub returns-in_default-into_array : goal.returns-in_default-into_array
+returns-in_default-into_array c = absurd (next_is_array c.loop-value.taken.items (map view c.loop-value.sorted.items) c.loop-value.values.items c.pop.new.self.items c.in-Some.value c.args.places.now c.loop-value.end (whole_of c.args.places.now (map view c.args.values.items))
+    c.loop-value.invariant c.in-Some.ensures.items c.in_default-into_array.ensures)
+
+pub overflow_sub-start : goal.overflow_sub-start
+overflow_sub-start c =
+    let vs = c.in-Some-into_array.items in
+    let whole = whole_of c.args.places.now (map view c.args.values.items) in
+    let next = next_reply c.loop-value.taken.items (map view c.loop-value.sorted.items) c.loop-value.values.items c.pop.new.self.items c.in-Some.value (map view vs.items) c.args.places.now c.loop-value.end c.len.result whole
+    c.loop-value.invariant c.in-Some.ensures.items c.in-Some-into_array.ensures (c.len.ensures ∙ vs.ok.0 ∙ sym (length-map vs.items view)) in
+    next.few
+
+pub put_all-requires-clause-places : goal.put_all-requires-clause-places
+put_all-requires-clause-places c =
+    let vs = c.in-Some-into_array.items in
+    let whole = whole_of c.args.places.now (map view c.args.values.items) in
+    let next = next_reply c.loop-value.taken.items (map view c.loop-value.sorted.items) c.loop-value.values.items c.pop.new.self.items c.in-Some.value (map view vs.items) c.args.places.now c.loop-value.end c.len.result whole
+    c.loop-value.invariant c.in-Some.ensures.items c.in-Some-into_array.ensures (c.len.ensures ∙ vs.ok.0 ∙ sym (length-map vs.items view)) in
+    omega (arith, length-between c.args.places.now (c.loop-value.end - c.len.result) c.loop-value.end next.within, next.few, c.len.ensures, vs.ok.0)
+
+pub returns-then-not-put_all : goal.returns-then-not-put_all
+returns-then-not-put_all c =
+    let vs = c.in-Some-into_array.items in
+    let places = c.args.places.now in
+    let end = c.loop-value.end in
+    let start = end - c.len.result in
+    let taken = c.loop-value.taken.items in
+    let sorted : List Reply = map view c.loop-value.sorted.items in
+    let whole = whole_of places (map view c.args.values.items) in
+    let next = next_reply taken sorted c.loop-value.values.items c.pop.new.self.items c.in-Some.value (map view vs.items) places end c.len.result whole
+    c.loop-value.invariant c.in-Some.ensures.items c.in-Some-into_array.ensures (c.len.ensures ∙ vs.ok.0 ∙ sym (length-map vs.items view)) in
+    let stopped : None ≡ filled (slots_of taken sorted) (between start end places) (map view vs.items) =
+    ap (λ b. cond b (Some (slots_of c.put_all.new.taken (map view c.put_all.new.sorted))) None) (sym c.if-not-put_all.true)
+    ∙ c.put_all.ensures
+    ∙ ap (λ bs. filled (slots_of bs (map view c.deref_mut-in-Some.result.now)) (between start end places) (map view vs.items)) c.deref_mut.ensures.value
+    ∙ ap (λ ws. filled (slots_of taken (map view ws)) (between start end places) (map view vs.items)) c.deref_mut-in-Some.ensures.value in
+    ap (λ o. option_and_then all_some (option_and_then (λ later. filled later (take start places) next.first) o)) stopped
+    ∙ ap (option_and_then all_some) next.step
+    ∙ sym (by_slots (map view c.args.values.items) places c.requires)
+
+pub loop-value-preserved : goal.loop-value-preserved
+loop-value-preserved c =
+    let vs = c.in-Some-into_array.items in
+    let places = c.args.places.now in
+    let end = c.loop-value.end in
+    let start = end - c.len.result in
+    let taken = c.loop-value.taken.items in
+    let sorted : List Reply = map view c.loop-value.sorted.items in
+    let rest : List Reply = map view c.pop.new.self.items in
+    let whole = whole_of places (map view c.args.values.items) in
+    let new_taken = c.put_all.new.taken in
+    let new_sorted = c.put_all.new.sorted in
+    let next = next_reply taken sorted c.loop-value.values.items c.pop.new.self.items c.in-Some.value (map view vs.items) places end c.len.result whole
+    c.loop-value.invariant c.in-Some.ensures.items c.in-Some-into_array.ensures (c.len.ensures ∙ vs.ok.0 ∙ sym (length-map vs.items view)) in
+    let went_on : Some (slots_of new_taken (map view new_sorted)) ≡ filled (slots_of taken sorted) (between start end places) (map view vs.items) =
+    ap (λ b. cond b (Some (slots_of new_taken (map view new_sorted))) None) (sym c.if-not-put_all.false)
+    ∙ c.put_all.ensures
+    ∙ ap (λ bs. filled (slots_of bs (map view c.deref_mut-in-Some.result.now)) (between start end places) (map view vs.items)) c.deref_mut.ensures.value
+    ∙ ap (λ ws. filled (slots_of taken (map view ws)) (between start end places) (map view vs.items)) c.deref_mut-in-Some.ensures.value in
+    let flags : take c.loop-value.taken.len (new_taken ++ drop (length new_taken) taken) ≡ new_taken = take_at new_taken (drop (length new_taken) taken) c.loop-value.taken.len (c.put_all.auto.taken ∙ c.deref_mut.ensures.len) in
+    let values : take c.loop-value.sorted.len (new_sorted ++ drop (length new_sorted) c.loop-value.sorted.items) ≡ new_sorted = take_at new_sorted (drop (length new_sorted) c.loop-value.sorted.items) c.loop-value.sorted.len (c.put_all.auto.sorted ∙ c.deref_mut-in-Some.ensures.len) in
+    let left : Left new_taken (map view new_sorted) rest places start whole = record {
+      items = next.first;
+      items_are = next.first_are;
+      long = next.long;
+      within = omega (arith, next.within);
+      flags = c.put_all.auto.taken ∙ ap length c.deref_mut.ensures.value ∙ c.loop-value.invariant.flags;
+      slots = length-map new_sorted view ∙ c.put_all.auto.sorted ∙ ap length c.deref_mut-in-Some.ensures.value ∙ sym (length-map c.loop-value.sorted.items view) ∙ c.loop-value.invariant.slots;
+      rest = ap (option_and_then (λ later. filled later (take start places) next.first)) went_on ∙ next.step;
+    } in
+    subst (λ bs. Left bs (map view (take c.loop-value.sorted.len (new_sorted ++ drop (length new_sorted) c.loop-value.sorted.items))) rest places start whole) (sym flags)
+    (subst (λ ws. Left new_taken (map view ws) rest places start whole) (sym values) left)
 
 pub returns : goal.returns
 returns c =
-    let vs = c.loop-item.items.items in
-    let all = c.args.items.items in
-    let ps = c.args.places.now in
-    let slots = c.loop-item.slots.items in
-    let inv = c.loop-item.invariant in
-    let none : vec_len c.loop-item.items ≡ 0 = (rw c.in_default.is at c.pop.ensures.cases).0 in
-    let empty : length vs ≡ 0 = sym c.loop-item.items.ok.0 ∙ none in
-    let held : (k : ℕ) (d : Option Value) → k < length ps → slot_items (get_or slots k d) ≡ items_at k ps (map view all) = λ k d l. subst (λ n. slot_items (get_or slots k d) ≡ items_at k (drop n ps) (map view (drop n all))) empty (inv.held k d l) in
-    let within : list_all (λ p. nat_lt p (length ps)) ps ≡ true = subst (λ n. list_all (λ p. nat_lt p (length ps)) (drop n ps) ≡ true) empty inv.within in
-    let same : all_some (map (λ slot. option_map view slot) slots) ≡ by_places ps (map view all) = all_slot_items slots ps (map view all) inv.slots held within in
-    subst (λ y. IfOk c.all_values.result (λ o. option_map (λ v. map view v.items) o ≡ y)) same c.all_values.ensures
+    let values = c.loop-value.values in
+    let taken = c.loop-value.taken.items in
+    let sorted = c.loop-value.sorted in
+    let places = c.args.places.now in
+    let whole = whole_of places (map view c.args.values.items) in
+    let none : values.items ≡ [] = nil_from_length values.items (sym values.ok.0 ∙ c.in_default.ensures.cases.0) in
+    let last : Left taken (map view sorted.items) [] places c.loop-value.end whole = subst (λ ws. Left taken (map view sorted.items) (map view ws) places c.loop-value.end whole) none c.loop-value.invariant in
+    ap (option_map (λ v. map view v.items)) (c.then_some.ensures ∙ ap (λ b. then_some b sorted) (c.all_taken.ensures ∙ ap (list_all (λ bit. bit)) c.deref.ensures.value))
+    ∙ slots_as_items taken sorted (last.flags ∙ sym last.slots)
+    ∙ ap (option_and_then all_some) (none_left taken (map view sorted.items) places c.loop-value.end whole last)
+    ∙ sym (by_slots (map view c.args.values.items) places c.requires)

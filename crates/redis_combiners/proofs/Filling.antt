@@ -1,0 +1,137 @@
+-- Slots that are filled from the last item on.
+use Rattle.std.proofs.Common.{◌≡◌, ℕ, zero, suc, ◌+◌, ◌<◌, ◌≤◌, Bool, true, false, cond, List, [], ◌∷◌, ◌++◌, length, map, take, get_or, replicate, Option, Some, None, refl, ap, sym, ◌∙◌, arith}
+use Rattle.std.proofs.Math.ListN.{set}
+use Rattle.std.specs.Prelude.{option_map, option_and_then, is_none, ◌&&◌}
+use Rattle.std.specs.List.{list_all}
+use Rattle.std.proofs.lemmas.Bool.{lt-ltb, le-ltb}
+use Rattle.std.proofs.lemmas.List.{length-map, length-take-le, length_push, map_push, take_more, flat_map_more}
+use Rattle.resp_core.specs.Reply.{Reply, array_of}
+use Rattle.resp_core.specs.View.{view}
+use Rattle.resp_core.specs.declared.value.Value.{Value}
+use Rattle.redis_combiners.specs.AllItems.{all_items}
+use Rattle.redis_combiners.specs.Slots.{slots_of, put, filled}
+use Rattle.redis_commands.specs.Lists.{all_some, flatten}
+
+-- one list of items after another
+pub filled_both : (slots : List (Option Reply)) (ps qs : List ℕ) (xs ys : List Reply) → length ps ≡ length xs → filled slots (ps ++ qs) (xs ++ ys) ≡ option_and_then (λ later. filled later ps xs) (filled slots qs ys)
+filled_both slots [] qs [] ys n = same (filled slots qs ys)
+  where
+    same : (o : Option (List (Option Reply))) → o ≡ option_and_then (λ later. Some later) o
+    same None = refl
+    same (Some later) = refl
+filled_both slots [] qs (x ∷ xs) ys n = absurd (omega arith)
+filled_both slots (p ∷ ps) qs [] ys n = absurd (omega arith)
+filled_both slots (p ∷ ps) qs (x ∷ xs) ys n = ap (option_and_then (λ later. put later p x)) (filled_both slots ps qs xs ys (omega arith)) ∙ same (filled slots qs ys)
+  where
+    same : (o : Option (List (Option Reply))) → option_and_then (λ later. put later p x) (option_and_then (λ later. filled later ps xs) o) ≡ option_and_then (λ later. option_and_then (λ last. put last p x) (filled later ps xs)) o
+    same None = refl
+    same (Some later) = refl
+
+-- slots as flags and items
+length-slots_of : (taken : List Bool) (items : List Reply) → length taken ≡ length items → length (slots_of taken items) ≡ length taken
+length-slots_of [] items n = refl
+length-slots_of (b ∷ taken) [] n = absurd (omega arith)
+length-slots_of (b ∷ taken) (x ∷ items) n = ap suc (length-slots_of taken items (omega arith))
+
+free_at : (taken : List Bool) (items : List Reply) (k : ℕ) → length taken ≡ length items → is_none (get_or (slots_of taken items) k None) ≡ cond (get_or taken k false) false true
+free_at [] items k n = refl
+free_at (b ∷ taken) [] k n = absurd (omega arith)
+free_at (true ∷ taken) (x ∷ items) zero n = refl
+free_at (false ∷ taken) (x ∷ items) zero n = refl
+free_at (b ∷ taken) (x ∷ items) (suc k) n = free_at taken items k (omega arith)
+
+set-slots_of : (taken : List Bool) (items : List Reply) (k : ℕ) (x : Reply) → length taken ≡ length items → set (slots_of taken items) k (Some x) ≡ slots_of (set taken k true) (set items k x)
+set-slots_of [] [] k x n = refl
+set-slots_of [] (y ∷ items) k x n = absurd (omega arith)
+set-slots_of (b ∷ taken) [] k x n = absurd (omega arith)
+set-slots_of (b ∷ taken) (y ∷ items) zero x n = refl
+set-slots_of (b ∷ taken) (y ∷ items) (suc k) x n = ap (λ slots. cond b (Some y) None ∷ slots) (set-slots_of taken items k x (omega arith))
+
+-- an item at a place past the end, at one that is taken, and at a free one
+pub put_past : (taken : List Bool) (items : List Reply) (p : ℕ) (x : Reply) → length taken ≡ length items → length taken ≤ p → put (slots_of taken items) p x ≡ None
+put_past taken items p x n l = ap (λ b. cond (b && is_none (get_or (slots_of taken items) p None)) (Some (set (slots_of taken items) p (Some x))) None) (le-ltb p (length (slots_of taken items)) (omega (arith, length-slots_of taken items n)))
+
+put_within : (taken : List Bool) (items : List Reply) (p : ℕ) (x : Reply) (b : Bool) → length taken ≡ length items → p < length taken → get_or taken p false ≡ b
+    → put (slots_of taken items) p x ≡ cond (cond b false true) (Some (slots_of (set taken p true) (set items p x))) None
+put_within taken items p x b n l e =
+    ap (λ c. cond (c && is_none (get_or (slots_of taken items) p None)) (Some (set (slots_of taken items) p (Some x))) None) (lt-ltb p (length (slots_of taken items)) (omega (arith, length-slots_of taken items n)))
+    ∙ ap (λ c. cond c (Some (set (slots_of taken items) p (Some x))) None) (free_at taken items p n ∙ ap (λ c. cond c false true) e)
+    ∙ ap (λ slots. cond (cond b false true) (Some slots) None) (set-slots_of taken items p x n)
+
+pub put_taken : (taken : List Bool) (items : List Reply) (p : ℕ) (x : Reply) → length taken ≡ length items → p < length taken → get_or taken p false ≡ true → put (slots_of taken items) p x ≡ None
+put_taken taken items p x n l e = put_within taken items p x true n l e
+
+pub put_free : (taken : List Bool) (items : List Reply) (p : ℕ) (x : Reply) → length taken ≡ length items → p < length taken → get_or taken p false ≡ false → put (slots_of taken items) p x ≡ Some (slots_of (set taken p true) (set items p x))
+put_free taken items p x n l e = put_within taken items p x false n l e
+
+-- the last of the items that are left
+pub next_item : (slots : List (Option Reply)) (ps : List ℕ) (vs ws : List Value) (item : Value) (n : ℕ) (whole : Option (List (Option Reply))) → vs ≡ ws ++ item ∷ [] → length vs ≤ length ps → n ≡ length ws
+    → filled slots (take (length vs) ps) (map view vs) ≡ whole
+    → option_and_then (λ later. filled later (take (length ws) ps) (map view ws)) (put slots (get_or ps n 0) (view item)) ≡ whole
+next_item slots ps vs ws item n whole last few at e =
+    let long : length vs ≡ length ws + 1 = ap length last ∙ length_push ws item in
+    ap (λ m. option_and_then (λ later. filled later (take (length ws) ps) (map view ws)) (put slots (get_or ps m 0) (view item))) at
+    ∙ sym (filled_both slots (take (length ws) ps) (get_or ps (length ws) 0 ∷ []) (map view ws) (view item ∷ []) (length-take-le (length ws) ps (omega arith) ∙ sym (length-map ws view)))
+    ∙ ap (λ qs. filled slots qs (map view ws ++ view item ∷ [])) (sym (take_more ps (length ws) 0 (omega arith)) ∙ ap (λ m. take m ps) (sym long))
+    ∙ ap (filled slots (take (length vs) ps)) (sym (map_push view ws item) ∙ ap (map view) (sym last))
+    ∙ e
+
+-- all slots, if each is taken
+pub all_slots : (taken : List Bool) (items : List Reply) → length taken ≡ length items → all_some (slots_of taken items) ≡ cond (list_all (λ bit. bit) taken) (Some items) None
+all_slots [] [] n = refl
+all_slots [] (x ∷ items) n = absurd (omega arith)
+all_slots (b ∷ taken) [] n = absurd (omega arith)
+all_slots (false ∷ taken) (x ∷ items) n = refl
+all_slots (true ∷ taken) (x ∷ items) n = ap (option_map (λ xs. x ∷ xs)) (all_slots taken items (omega arith)) ∙ more (list_all (λ bit. bit) taken)
+  where
+    more : (b : Bool) → option_map (λ xs. x ∷ xs) (cond b (Some items) None) ≡ cond b (Some (x ∷ items)) None
+    more true = refl
+    more false = refl
+
+pub no_slots : (n : ℕ) (x : Reply) → slots_of (replicate n false) (replicate n x) ≡ replicate n None
+no_slots zero x = refl
+no_slots (suc n) x = ap (λ slots. None ∷ slots) (no_slots n x)
+
+-- the items of the last reply, after those of the others
+pub record LastReply (rs : List Reply) (r : Reply) (items : List Reply) : Type 0 where
+  pub first : List Reply
+  pub last : List Reply
+  pub first_are : all_items rs ≡ Some first
+  pub last_are : array_of r ≡ Some last
+  pub is : items ≡ first ++ last
+
+record LastList (os : List (Option (List Reply))) (o : Option (List Reply)) (xss : List (List Reply)) : Type 0 where
+  front : List (List Reply)
+  last : List Reply
+  front_are : all_some os ≡ Some front
+  last_is : o ≡ Some last
+  is : xss ≡ front ++ last ∷ []
+
+last_list : (os : List (Option (List Reply))) (o : Option (List Reply)) (xss : List (List Reply)) → all_some (os ++ o ∷ []) ≡ Some xss → LastList os o xss
+last_list [] None xss e = absurd (cc)
+last_list [] (Some xs) xss e = record { front = []; last = xs; front_are = refl; last_is = refl; is = cc }
+last_list (None ∷ os) o xss e = absurd (cc)
+last_list (Some x ∷ os) o xss e = made (all_some (os ++ o ∷ [])) refl e (λ yss. last_list os o yss)
+  where
+    made : (a : Option (List (List Reply))) → all_some (os ++ o ∷ []) ≡ a → option_map (λ yss. x ∷ yss) a ≡ Some xss → ((yss : List (List Reply)) → all_some (os ++ o ∷ []) ≡ Some yss → LastList os o yss) → LastList (Some x ∷ os) o xss
+    made None f h later = absurd (cc)
+    made (Some yss) f h later =
+        let l : LastList os o yss = later yss f in
+        let is : x ∷ yss ≡ xss = cc in
+        record { front = x ∷ l.front; last = l.last; front_are = ap (option_map (λ zss. x ∷ zss)) l.front_are; last_is = l.last_is; is = sym is ∙ ap (λ zss. x ∷ zss) l.is }
+
+pub last_reply : (rs : List Reply) (r : Reply) (items : List Reply) → all_items (rs ++ r ∷ []) ≡ Some items → LastReply rs r items
+last_reply rs r items e = made (all_some (map array_of (rs ++ r ∷ []))) refl e
+  where
+    made : (a : Option (List (List Reply))) → all_some (map array_of (rs ++ r ∷ [])) ≡ a → option_map flatten a ≡ Some items → LastReply rs r items
+    made None f h = absurd (cc)
+    made (Some xss) f h =
+        let l : LastList (map array_of rs) (array_of r) xss = last_list (map array_of rs) (array_of r) xss (ap all_some (sym (map_push array_of rs r)) ∙ f) in
+        let is : flatten xss ≡ items = cc in
+        record {
+          first = flatten l.front;
+          last = l.last;
+          first_are = ap (option_map flatten) l.front_are;
+          last_are = l.last_is;
+          is = sym is ∙ ap flatten l.is ∙ sym (flat_map_more (λ xs. xs) [] l.front l.last);
+        }
