@@ -107,7 +107,7 @@ fn join_by_and(row: &mut [Value], items: &[Value]) -> bool
         let Some(other) = bit(&items[i]) else {
             return false;
         };
-        row[i] = as_reply(own & other);
+        put_bit(&mut row[i], own & other);
     }
     true
 }
@@ -126,9 +126,14 @@ fn bit(item: &Value) -> Option<bool>
     }
 }
 
-/// 1 for a bit that is set, 0 for one that is not.
-fn as_reply(bit: bool) -> Value
-    ensures { view result ≡ as_int bit }
+/// Puts a bit in the place of an item. Into a number it is written, since to drop a value is a call.
+fn put_bit(item: &mut Value, bit: bool)
+    ensures { view item.new ≡ as_int bit }
 {
-    Value::Int(i64::from(bit))
+    let number = i64::from(bit);
+    if let Value::Int(n) = item {
+        *n = number;
+    } else {
+        *item = Value::Int(number);
+    }
 }

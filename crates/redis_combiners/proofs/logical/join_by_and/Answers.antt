@@ -36,7 +36,7 @@ loop-i-preserved c =
     let there = reply_at c.args.items.now i other own (omega arith) c.index-items-i.is in
     let more = joined_more row first items i (view own) c.in-Some.own c.in-Some-bit.other c.loop-i.invariant (omega (arith, length-map c.args.row.now view)) (length-map c.args.row.now view ∙ c.requires ∙ sym (length-map c.args.items.now view))
     (ap bit_in here ∙ sym c.in-Some.ensures) (ap bit_in there ∙ sym c.in-Some-bit.ensures) in
-    subst (λ rs. JoinedSoFar rs first items (i + 1)) (ap (set row i) (sym c.as_reply.ensures) ∙ sym (map-set view c.loop-i.row i c.as_reply.result)) more
+    subst (λ rs. JoinedSoFar rs first items (i + 1)) (ap (set row i) (sym c.put_bit.ensures) ∙ sym (map-set view c.loop-i.row i c.put_bit.new.item)) more
 
 pub returns-clause-bits : goal.returns-clause-bits
 returns-clause-bits c =
