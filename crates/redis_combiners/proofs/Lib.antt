@@ -1,5 +1,6 @@
 pub mod Ahead
 pub mod AtPlaces
+pub mod ByKey
 pub mod Combining
 pub mod Arranging
 pub mod Filling
@@ -14,3 +15,4 @@ pub mod OwnPlaces
 pub mod Running
 pub mod TotalOrders
 pub mod Totals
+pub mod WithPairs

@@ -1,15 +1,13 @@
 -- The total of each key, as the sum of its numbers.
-use Rattle.std.proofs.Common.{◌≡◌, Ordering, length, ℕ, ◌+◌, ◌*◌, ◌^◌, ◌<◌, ℤ, pos, neg_ℤ, ◌+ℤ◌, ◌≤ℤ◌, List, [], ◌∷◌, ◌++◌, Bool, true, false, cond, Option, Some, None, refl, ap, sym, subst, ◌∙◌, arith, map, get_or, fold, Vec, Global, FitsSigned, w64}
+use Rattle.std.proofs.Common.{◌≡◌, Ordering, length, ℕ, ◌^◌, ◌<◌, ℤ, pos, ◌+ℤ◌, List, [], ◌∷◌, ◌++◌, Bool, true, false, cond, Option, Some, None, refl, ap, sym, subst, ◌∙◌, arith, map, get_or, fold, Vec, Global, FitsSigned, w64}
 use Rattle.std.specs.Prelude.{option_map, option_and_then, unwrap_or, is_some, filter, ◌&&◌, ◌||◌, T}
 use Rattle.std.specs.Ordering.{is_eq, is_lt, nat_cmp}
 use Rattle.std.specs.declared.cmp.Ordering.TheVariants.{Less, Equal, Greater}
-use Rattle.std.specs.Cmp.{eq_by_cmp_equiv}
 use Rattle.std.specs.Cmp.Lexicographic.{slice_cmp, nat_list_cmp_total, nat_list_eq_equiv}
 use Rattle.std.specs.List.{AllByRecursion, list_any}
 use Rattle.std.specs.List.Sorted.{IsStrictlySortedBy}
 use Rattle.std.specs.Str.{bytes_eq}
 use Rattle.std.specs.Map.{lookup, IsKeyTest, AreApart, KeepsOthers}
-use Rattle.std.specs.BTreeMap.{BTreeMap, UpdatesBy}
 use Rattle.std.specs.FinMap.{get, entries, from_entries, find, is_sorted, entries_sorted, get-empty, get-insert, contains_key-keys, slice_cmp-IsAntisymmetric, nat_cmp-IsAntisymmetric}
 use Rattle.std.specs.FinMap.Entries.{below_all, same_entries}
 use Rattle.std.proofs.lemmas.Bool.{lt-ltb}
@@ -21,9 +19,10 @@ use Rattle.resp_core.specs.Reply.{Reply, bulk, int, pairs, pairs_of}
 use Rattle.redis_combiners.specs.Aggregate.{total, fits_i64}
 use Rattle.redis_combiners.specs.KeyNumbers.{KeyNumber, all_pairs}
 use Rattle.redis_commands.specs.Lists.{all_some}
-use Rattle.redis_combiners.specs.Entries.{plain_pairs, number_at}
+use Rattle.redis_combiners.specs.Entries.{plain_pairs, number_at, plus}
 use Rattle.redis_combiners.specs.Totals.{has_key, total_of, total_at, ascending_keys, totals, IsListing, reply_pair, map_of, map_of_totals, combined_map}
 use Rattle.redis_combiners.proofs.Ahead.{before, before-more}
+use Rattle.redis_combiners.proofs.ByKey.{same_bytes_of}
 use Rattle.resp_core.proofs.Cases.{by_test}
 
 abbrev order : List ℕ → List ℕ → Ordering
@@ -159,27 +158,20 @@ pub same_totals : (ps qs : List KeyNumber) → ((q : List ℕ) → sum_at q ps �
 same_totals ps qs h = are_totals (totals ps) qs (totals_ascend ps) (λ q. find_totals q ps ∙ sym (sum_at_is q ps) ∙ h q ∙ sum_at_is q qs)
 
 -- what an update says of the bytes of keys
-apart : (bs cs ks : List ℕ) → bytes_eq bs cs ≡ false → is_eq (order bs ks) ≡ true → is_eq (order cs ks) ≡ false
-apart bs cs ks n y =
-    let same : bytes_eq bs ks ≡ true = sym (is_eq-slice_cmp bs ks) ∙ y in
-    is_eq-slice_cmp cs ks ∙ nat_list_eq_equiv.symm cs ks ∙ sym (nat_list_eq_equiv.congr bs ks cs same) ∙ n
+apart : (bs cs ks : List ℕ) → bytes_eq bs cs ≡ false → bytes_eq bs ks ≡ true → bytes_eq cs ks ≡ false
+apart bs cs ks n y = nat_list_eq_equiv.symm cs ks ∙ sym (nat_list_eq_equiv.congr bs ks cs y) ∙ n
 
 others : {K X : Type 0} (eq : K → K → Bool) (test : K → Bool) (old new : List (K × X)) → KeepsOthers eq test old new → (other : K → Bool) → IsKeyTest eq other → AreApart test other → lookup other new ≡ lookup other old
 unfolding KeepsOthers
 others eq test old new h = h
 
-pub number_at-updates : (bs : List ℕ) (m n : BTreeMap (Vec ℕ Global) ℤ) (w : Option ℤ) → UpdatesBy (λ x y. slice_cmp nat_cmp x.items y.items) (λ k. slice_cmp nat_cmp bs k.items) m n w → (cs : List ℕ) → number_at n.entries cs ≡ cond (bytes_eq bs cs) w (number_at m.entries cs)
-number_at-updates bs m n w h cs =
+pub number_at-updates : (bs : List ℕ) (old new : List (Vec ℕ Global × ℤ)) (w : Option ℤ) → lookup (λ k. bytes_eq bs k.items) new ≡ w → KeepsOthers same_bytes_of (λ k. bytes_eq bs k.items) old new → (cs : List ℕ) → number_at new cs ≡ cond (bytes_eq bs cs) w (number_at old cs)
+number_at-updates bs old new w at keeps cs =
     by_test (bytes_eq bs cs)
-    (λ e. rw e (ap (number_at n.entries) (sym ((bytes_eq-Decides bs cs).0 e)) ∙ h.1))
-    (λ e. rw e (others _ _ m.entries n.entries h.3 (λ k. is_eq (slice_cmp nat_cmp cs k.items)) (λ x y. (eq_by_cmp_equiv nat_list_cmp_total).congr cs x.items y.items) (λ k. apart bs cs k.items e)))
+    (λ e. rw e (ap (number_at new) (sym ((bytes_eq-Decides bs cs).0 e)) ∙ at))
+    (λ e. rw e (others _ _ old new keeps (λ k. bytes_eq cs k.items) (λ x y. nat_list_eq_equiv.congr cs x.items y.items) (λ k. apart bs cs k.items e)))
 
 -- a total, so far and of the rest
-abbrev pub plus : Option ℤ → Option ℤ → Option ℤ
-plus None o = o
-plus (Some a) None = Some a
-plus (Some a) (Some b) = Some (a +ℤ b)
-
 pub plus_none : (o : Option ℤ) → plus o None ≡ o
 plus_none None = refl
 plus_none (Some a) = refl
@@ -201,24 +193,6 @@ sum_at_more k q n new old at_k ps whole e same h = by_test (bytes_eq k q)
 
 pub same_key : (k q : List ℕ) (es : List (Vec ℕ Global × ℤ)) → bytes_eq k q ≡ true → number_at es k ≡ number_at es q
 same_key k q es e = ap (number_at es) ((bytes_eq-Decides k q).0 e)
-
--- no total leaves its bounds
-abbrev Within : ℕ → ℤ → Type 0
-Within n z = (neg_ℤ (pos (2 ^ 63 * n)) ≤ℤ z) × (z ≤ℤ pos (2 ^ 63 * n))
-
-pub within_more : (m n : ℕ) (b : Bool) (old at_k new : Option ℤ) (z : ℤ) → n ≡ m + 1 → FitsSigned w64 z → Within m (or_zero old) → Within m (or_zero at_k) → new ≡ cond b (Some (or_zero at_k +ℤ z)) old → Within n (or_zero new)
-within_more m n true old at_k new z e f h k is = subst (λ o. Within n (or_zero o)) (sym is) (omega (arith, ints), omega (arith, ints))
-within_more m n false old at_k new z e f h k is = subst (λ o. Within n (or_zero o)) (sym is) (omega (arith, ints), omega (arith, ints))
-
--- the keys of the entries ascend
-all_less : (k : Vec ℕ Global) (es : List (Vec ℕ Global × ℤ)) → AllByRecursion (λ y. slice_cmp nat_cmp k.items y.items ≡ Less) (map (λ e. e.0) es) → AllByRecursion (λ y. slice_cmp nat_cmp k.items y ≡ Less) (map (λ e. e.0) (plain_pairs es))
-all_less k [] h = h
-all_less k (e ∷ es) h = (h.0, all_less k es h.1)
-
-pub ascending : (es : List (Vec ℕ Global × ℤ)) → IsStrictlySortedBy (λ x y. slice_cmp nat_cmp x.items y.items) (map (λ e. e.0) es) → IsStrictlySortedBy (slice_cmp nat_cmp) (map (λ e. e.0) (plain_pairs es))
-unfolding IsStrictlySortedBy
-ascending [] h = h
-ascending (e ∷ es) h = (all_less e.0 es h.0, ascending es h.1)
 
 -- one more total in the list
 fits-true : (z : ℤ) → FitsSigned w64 z → fits_i64 z ≡ true
@@ -247,7 +221,9 @@ rising (e ∷ es) h = both _ _ (below e.0 es h.0) (rising es h.1)
 
 find-number_at : (q : List ℕ) (es : List (Vec ℕ Global × ℤ)) → find order q (plain_pairs es) ≡ number_at es q
 find-number_at q [] = refl
-find-number_at q (e ∷ es) = ap (cond (is_eq (slice_cmp nat_cmp q e.0.items)) (Some e.1)) (find-number_at q es)
+find-number_at q (e ∷ es) =
+    ap (λ b. cond b (Some e.1) (find order q (plain_pairs es))) (is_eq-slice_cmp q e.0.items)
+    ∙ ap (cond (bytes_eq q e.0.items) (Some e.1)) (find-number_at q es)
 
 -- what the entries make is what the replies make
 pub combined_map_is : (rs : List Reply) (ps : List KeyNumber) (es : List (Vec ℕ Global × ℤ)) → all_pairs rs ≡ Some ps → length ps < 2 ^ 63 → IsStrictlySortedBy (slice_cmp nat_cmp) (map (λ e. e.0) (plain_pairs es)) → ((q : List ℕ) → number_at es q ≡ total_at q ps)

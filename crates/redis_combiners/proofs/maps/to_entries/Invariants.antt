@@ -9,4 +9,4 @@ use Rattle.redis_combiners.proofs.maps.to_entries.Given as goal
 abbrev pub invariant-loop-key : goal.invariant-loop-key
 invariant-loop-key l = (goal.iterator-loop-key).can_next l.key-iterator
     × (goal.iterator-loop-key).is_finite l.key-iterator
-    × (before (map view_pair l.list.items) (all_some (map reply_pair (plain_pairs l.key-iterator))) ≡ all_some (map reply_pair (plain_pairs l.fn.sums.entries)))
+    × (before (map view_pair l.list.items) (all_some (map reply_pair (plain_pairs l.key-iterator.rest.items))) ≡ all_some (map reply_pair (plain_pairs l.fn.totals.items)))
