@@ -70,8 +70,13 @@ fn sum_replies(alloc: Global, values: Vec<Value>) -> Result<Option<KeyTotals>, A
         ≡ with_pairs 0 None q (all_pairs (map view values.items))) }
     ensures few { IfOk result (λ sums. IfSome sums (λ s. s.pair_count < 2 ^ 63)) }
 {
+    // Mostly each reply has the keys of the first.
+    let room = match values.first() {
+        Some(Value::Array(items)) => items.len() / 2,
+        _ => 0,
+    };
     let mut sums = KeyTotals {
-        totals: IndexMap::with_capacity(alloc, first_pair_count(&values))?,
+        totals: IndexMap::with_capacity(alloc, room)?,
         pair_count: 0,
     };
     for value in values {
@@ -83,14 +88,6 @@ fn sum_replies(alloc: Global, values: Vec<Value>) -> Result<Option<KeyTotals>, A
         }
     }
     Ok(Some(sums))
-}
-
-/// How many pairs the first reply has, and so how many keys there may be.
-fn first_pair_count(values: &Vec<Value>) -> usize {
-    match values.first() {
-        Some(Value::Array(items)) => items.len() / 2,
-        _ => 0,
-    }
 }
 
 /// Adds the pairs of the items, if these are bulk strings and numbers in turn.
