@@ -116,9 +116,9 @@ no_pairs (Some ps) h = absurd (cc)
 pub none_combined : (rs : List Reply) → ((q : List ℕ) → None ≡ with_pairs 0 None q (all_pairs rs)) → combined_map rs ≡ None
 none_combined rs h = ap (option_and_then map_of_totals) (no_pairs (all_pairs rs) (h []))
 
-pub combined_from : (rs : List Reply) (count : ℕ) (es fs : List (Vec ℕ Global × ℤ)) → ((q : List ℕ) → Some (count, number_at es q) ≡ with_pairs 0 None q (all_pairs rs)) → count < 2 ^ 63
-    → IsStrictlySortedBy (slice_cmp nat_cmp) (map (λ e. e.0) (plain_pairs fs)) → ((q : List ℕ) → number_at fs q ≡ number_at es q) → combined_map rs ≡ option_map (λ l. pairs (pairs_of l)) (all_some (map reply_pair (plain_pairs fs)))
-combined_from rs count es fs h few ascending same = by (all_pairs rs) refl h
+pub combined_from : (rs : List Reply) (count : ℕ) (es fs : List (Vec ℕ Global × ℤ)) (made : Option (List (Reply × Reply))) → ((q : List ℕ) → Some (count, number_at es q) ≡ with_pairs 0 None q (all_pairs rs)) → count < 2 ^ 63
+    → IsStrictlySortedBy (slice_cmp nat_cmp) (map (λ e. e.0) (plain_pairs fs)) → ((q : List ℕ) → number_at fs q ≡ number_at es q) → made ≡ all_some (map reply_pair (plain_pairs fs)) → combined_map rs ≡ option_map (λ l. pairs (pairs_of l)) made
+combined_from rs count es fs made h few ascending same is = by (all_pairs rs) refl h ∙ ap (option_map (λ l. pairs (pairs_of l))) (sym is)
   where
     by : (o : Option (List KeyNumber)) → all_pairs rs ≡ o → ((q : List ℕ) → Some (count, number_at es q) ≡ with_pairs 0 None q o) → combined_map rs ≡ option_map (λ l. pairs (pairs_of l)) (all_some (map reply_pair (plain_pairs fs)))
     by None e all = absurd (let n = all [] in cc)
