@@ -81,13 +81,6 @@ pub record JoinedSoFar (row first items : List Reply) (i : ℕ) : Type 0 where
   pub row_is : row ≡ map as_int bits ++ drop i first
   pub rest : before bits (joined_items And (drop i first) (drop i items)) ≡ joined_items And first items
 
-pub joined_none : (first items : List Reply) → JoinedSoFar first first items 0
-joined_none first items = record { bits = []; long = refl; row_is = refl; rest = same (joined_items And first items) }
-  where
-    same : (o : Option (List Bool)) → before [] o ≡ o
-    same None = refl
-    same (Some u) = refl
-
 -- the next item is as it was at first
 own_item : (row first items : List Reply) (i : ℕ) (d : Reply) → JoinedSoFar row first items i → i < length first → get_or row i d ≡ get_or first i d
 own_item row first items i d s l =
