@@ -148,7 +148,7 @@ module _ (handed : Bool) where
   no_answer words asked input left out ranges e (Ok x) a m l h is = absurd is
   no_answer words asked input left out ranges e (Err x) a m l h is = rw is (no_answer_of words asked input left out ranges e a m l h)
 
-  -- a want of lines is not that of a stream
+  -- what refuses a split is no failure of a stream
   cause_of_split : (reads writes : Type 0) (command : List (List ℕ)) (e : Fault) → WhyNoSplit command e → IsCaused reads writes e
   cause_of_split reads writes command fault.Usage h = tt
   cause_of_split reads writes command (fault.BadMapLine n) h = tt
