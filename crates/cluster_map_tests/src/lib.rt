@@ -1,11 +1,11 @@
-//! Tests of slot maps, shards and read strategies.
+//! Tests of read strategies, shards and topologies. Those of slot maps stand in `slot_map_tests`.
 #![tactic(auto)]
 
 #[cfg(test)]
+mod given;
+#[cfg(test)]
 mod read_routing;
 #[cfg(test)]
-mod refusals;
+mod strategies;
 #[cfg(test)]
-mod slot_map;
-#[cfg(test)]
-mod turns;
+mod topology;

@@ -1,6 +1,6 @@
 //! What stands where memory is refused once, at any request. Run as it is, this sees memory enough;
 //! `tests/refusals` runs it with the first request refused, with the second, and so on.
-use crate::slot_map::range_of;
+use crate::given::range_of;
 use cluster_map::{Route, SlotAddr, SlotMap, SlotRange};
 use resp_core::RedisResult;
 use std::alloc::{AllocError, Global};
@@ -13,7 +13,7 @@ fn one_for_each_slot(alloc: Global) -> RedisResult<Vec<SlotRange>> {
     let mut ranges = Vec::new(alloc);
     for slot in 0..RANGES {
         let primary = format!(in alloc; "p:{slot}")?;
-        let range = range_of(alloc, slot, slot, primary.as_str(), &["r:1"])?;
+        let range = range_of(alloc, (slot, slot, primary.as_str(), &["r:1"]))?;
         ranges.push(range).map_err(AllocError::from)?;
     }
     Ok(ranges)
