@@ -2,15 +2,24 @@ use cluster_map::SlotRangeMap;
 use std::alloc::{AllocError, Global};
 use std::test::Fail;
 
-fn map_of(
-    alloc: Global,
-    ranges: &[(u16, u16, &'static str)],
-) -> Result<SlotRangeMap<&'static str>, AllocError> {
+// The first slot, the last and the value.
+type Range = (u16, u16, &'static str);
+
+fn map_of(alloc: Global, ranges: &[Range]) -> Result<SlotRangeMap<&'static str>, AllocError> {
     let mut map = SlotRangeMap::new(alloc);
     for (start, end, value) in ranges {
         map.insert(*start, *end, *value)?;
     }
     Ok(map)
+}
+
+// The value that a map of these ranges has at a slot.
+fn value_at(
+    alloc: Global,
+    ranges: &[Range],
+    slot: u16,
+) -> Result<Option<&'static str>, AllocError> {
+    Ok(map_of(alloc, ranges)?.get(slot).copied())
 }
 
 #[test]
@@ -38,15 +47,33 @@ fn a_slot_is_answered_by_the_range_that_ends_first_from_it_on(rt: HostRuntime) -
         ([].as_slice(), 0, None),
     ];
     for (ranges, slot, value) in table {
-        let map = map_of(rt.alloc(), ranges)?;
-        assert_eq!(rt; map.get(slot).copied(), value, "slot {slot} of {ranges:?}");
+        let found = value_at(rt.alloc(), ranges, slot)?;
+        assert_eq!(rt; found, value, "slot {slot} of {ranges:?}");
     }
     Ok(())
 }
 
+// The ranges of a map as a loop over it meets them.
+fn looped_over(alloc: Global, put: &[Range]) -> Result<Vec<Range>, AllocError> {
+    let mut seen = Vec::new(alloc);
+    for (start, end, value) in &map_of(alloc, put)? {
+        seen.push((start, end, *value))?;
+    }
+    Ok(seen)
+}
+
+// The ranges of a map as `iter` tells them.
+fn iterated(alloc: Global, put: &[Range]) -> Result<Vec<Range>, AllocError> {
+    let map = map_of(alloc, put)?;
+    let mut seen = Vec::new(alloc);
+    for (start, end, value) in map.iter() {
+        seen.push((start, end, *value))?;
+    }
+    Ok(seen)
+}
+
 #[test]
 fn ranges_come_by_ascending_end(rt: HostRuntime) -> Result<(), Fail> {
-    let alloc = rt.alloc();
     let table = [
         (
             [(300, 400, "b"), (100, 200, "a")],
@@ -55,41 +82,34 @@ fn ranges_come_by_ascending_end(rt: HostRuntime) -> Result<(), Fail> {
         ([(0, 100, "a"), (90, 100, "b")], [(90, 100, "b")].as_slice()),
     ];
     for (put, wanted) in table {
-        let map = map_of(alloc, put.as_slice())?;
-        let mut seen = Vec::new(alloc);
-        for (start, end, value) in &map {
-            seen.push((start, end, *value))?;
-        }
-        assert_eq!(rt; seen.as_slice(), wanted, "a loop over the map of {put:?}");
-        for (entry, (start, end, value)) in map.iter().zip(wanted) {
-            assert_eq!(rt; entry, (*start, *end, value), "iter of the map of {put:?}");
-        }
-        assert_eq!(rt;
-            map.iter().count(),
-            wanted.len(),
-            "iter of the map of {put:?}"
-        );
+        let looped = looped_over(rt.alloc(), put.as_slice())?;
+        assert_eq!(rt; looped.as_slice(), wanted, "a loop over the map of {put:?}");
+        let iterated = iterated(rt.alloc(), put.as_slice())?;
+        assert_eq!(rt; iterated.as_slice(), wanted, "iter of the map of {put:?}");
     }
-    let empty: SlotRangeMap<&'static str> = SlotRangeMap::default(alloc);
+    let empty: SlotRangeMap<&'static str> = SlotRangeMap::default(rt.alloc());
     assert!(rt; empty.iter().next().is_none(), "the default is empty");
     Ok(())
 }
 
+fn values_text(alloc: Global, map: &SlotRangeMap<char>) -> Result<String, AllocError> {
+    let mut text = String::new(alloc);
+    for value in map.values() {
+        text.push(*value)?;
+    }
+    Ok(text)
+}
+
 #[test]
 fn values_are_listed_copied_and_cleared(rt: HostRuntime) -> Result<(), Fail> {
-    let alloc = rt.alloc();
-    let mut map = SlotRangeMap::new(alloc);
+    let mut map = SlotRangeMap::new(rt.alloc());
     for (start, end, value) in [(20u16, 30u16, 'b'), (0, 10, 'a'), (5, 30, 'c')] {
         map.insert(start, end, value)?;
     }
     let copy = map.clone()?;
     map.clear();
     assert_eq!(rt; map.values().count(), 0, "cleared");
-    let mut text = String::new(alloc);
-    for value in copy.values() {
-        text.push(*value)?;
-    }
-    assert_eq!(rt; text.as_str(), "ac", "the copy");
+    assert_eq!(rt; values_text(rt.alloc(), &copy)?.as_str(), "ac", "the copy");
     Ok(())
 }
 
@@ -132,6 +152,24 @@ fn ranges_may_be_put_in_by_descending_end(rt: HostRuntime) -> Result<(), Fail> {
     Ok(())
 }
 
+// The text of a map that more ranges are put into, together or one after the other.
+fn text_after(
+    alloc: Global,
+    before: &[Range],
+    more: &[Range],
+    is_together: bool,
+) -> Result<String, AllocError> {
+    let mut map = map_of(alloc, before)?;
+    if is_together {
+        map.extend(Vec::from_slice(alloc, more)?)?;
+    } else {
+        for (start, end, value) in more {
+            map.insert(*start, *end, *value)?;
+        }
+    }
+    format!(in alloc; "{map:?}")
+}
+
 #[test]
 fn many_ranges_are_put_in_as_one_after_the_other(rt: HostRuntime) -> Result<(), Fail> {
     let alloc = rt.alloc();
@@ -154,15 +192,11 @@ fn many_ranges_are_put_in_as_one_after_the_other(rt: HostRuntime) -> Result<(), 
     ];
     for before in table {
         for more in table {
-            let mut wanted = map_of(alloc, before)?;
-            for (start, end, value) in more {
-                wanted.insert(*start, *end, *value)?;
-            }
-            let mut map = map_of(alloc, before)?;
-            map.extend(Vec::from_slice(alloc, more)?)?;
+            let wanted = text_after(alloc, before, more, false)?;
+            let found = text_after(alloc, before, more, true)?;
             assert_eq!(rt;
-                format!(in alloc; "{map:?}")?.as_str(),
-                format!(in alloc; "{wanted:?}")?.as_str(),
+                found.as_str(),
+                wanted.as_str(),
                 "{more:?} after {before:?}"
             );
         }

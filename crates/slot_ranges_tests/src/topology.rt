@@ -1,5 +1,5 @@
 use cluster_map::{Route, SlotAddr, SlotMap, SlotRange, parse_slots, slot_cmd};
-use resp_core::Value;
+use resp_core::{RedisResult, Value};
 use std::alloc::{AllocError, Global};
 use std::test::Fail;
 
@@ -55,65 +55,79 @@ fn printed(alloc: Global, ranges: &[SlotRange]) -> Result<String, AllocError> {
     Ok(text)
 }
 
+// The ranges that a reply of these items says.
+fn read(alloc: Global, text: &str, answering: &str) -> Result<String, Fail> {
+    let ranges = parse_slots(alloc, &array(alloc, text)?, answering)?;
+    Ok(printed(alloc, &ranges)?)
+}
+
+// The ranges that a reply of this item says.
+fn read_item(alloc: Global, item: Value) -> RedisResult<String> {
+    let reply = Value::Array(vec![in alloc; item]?);
+    Ok(printed(alloc, &parse_slots(alloc, &reply, "node")?)?)
+}
+
+// The answering node, a reply's items, and its ranges.
+type Row = (&'static str, &'static str, &'static str);
+
+const REPLIES: [Row; 27] = [
+    ("node", "[ 0 4000 [ `` 6379 ] ]", "(0 4000 node:6379)"),
+    (
+        "answer.host",
+        "[ 0 100 [ `0.0.0.0` 7000 ] ]",
+        "(0 100 answer.host:7000)",
+    ),
+    (
+        "answer6.host",
+        "[ 200 300 [ `::` 7001 ] ]",
+        "(200 300 answer6.host:7001)",
+    ),
+    (
+        "node",
+        "[ 0 10 [ `` 1 ] ] [ 1 2 ] [ 11 20 [ `?` 1 ] [ `h` 70000 ] [ `k` 3 ] [ nil 4 ] ] 7 [ 30 40 [ `z` 1 ] ]",
+        "(0 10 node:1)(11 20 k:3 node:4)",
+    ),
+    ("", "[ 0 10 [ nil 5 ] ]", ""),
+    ("?", "[ 0 10 [ nil 5 ] ]", "(0 10 ?:5)"),
+    ("node", "[ 0 10 3 [ `h` 1 ] ]", "(0 10 h:1)"),
+    ("node", "[ 10 0 [ `h` 1 ] ]", "(10 0 h:1)"),
+    ("node", "[ 0 65536 [ `h` 1 ] ]", ""),
+    ("node", "[ -1 5 [ `h` 1 ] ]", ""),
+    ("node", "[ 0 10 [ `h` 1 nil ] [ `h` 1 ] ]", "(0 10 h:1 h:1)"),
+    ("node", "", ""),
+    ("node", "[ ]", ""),
+    ("node", "[ 0 1 ]", ""),
+    ("node", "[ `0` 1 [ `h` 1 ] ]", ""),
+    ("node", "[ 0 1 [ ] ]", ""),
+    ("node", "[ 0 1 [ `h` ] ]", ""),
+    ("node", "[ 0 1 [ `h` `1` ] ]", ""),
+    ("node", "[ 0 1 [ 5 1 ] ]", ""),
+    ("node", "[ 0 1 [ +h 1 ] ]", ""),
+    ("node", "[ 0 65535 [ `h` 1 ] ]", "(0 65535 h:1)"),
+    ("node", "[ 0 1 [ `h` -1 ] ]", ""),
+    ("node", "[ 0 1 [ `h` 9223372036854775807 ] ]", ""),
+    (
+        "node",
+        "[ 0 1 [ `h` 0 ] ] [ 2 3 [ `h` 65535 ] ]",
+        "(0 1 h:0)(2 3 h:65535)",
+    ),
+    (
+        "",
+        "[ 0 1 [ `` 1 ] [ `a` 2 ] [ `b` 3 ] [ `0.0.0.0` 4 ] ]",
+        "(0 1 a:2 b:3)",
+    ),
+    ("node", "[ ] nil [ 0 1 [ `h` 1 ] ]", ""),
+    (
+        "node",
+        "[ 0 1 [ `h` 1 ] ] [ 0 1 [ `h` 1 ] ]",
+        "(0 1 h:1)(0 1 h:1)",
+    ),
+];
+
 #[test]
 fn a_reply_is_read_item_by_item(rt: HostRuntime) -> Result<(), Fail> {
-    let alloc = rt.alloc();
-    let table = [
-        ("node", "[ 0 4000 [ `` 6379 ] ]", "(0 4000 node:6379)"),
-        (
-            "answer.host",
-            "[ 0 100 [ `0.0.0.0` 7000 ] ]",
-            "(0 100 answer.host:7000)",
-        ),
-        (
-            "answer6.host",
-            "[ 200 300 [ `::` 7001 ] ]",
-            "(200 300 answer6.host:7001)",
-        ),
-        (
-            "node",
-            "[ 0 10 [ `` 1 ] ] [ 1 2 ] [ 11 20 [ `?` 1 ] [ `h` 70000 ] [ `k` 3 ] [ nil 4 ] ] 7 [ 30 40 [ `z` 1 ] ]",
-            "(0 10 node:1)(11 20 k:3 node:4)",
-        ),
-        ("", "[ 0 10 [ nil 5 ] ]", ""),
-        ("?", "[ 0 10 [ nil 5 ] ]", "(0 10 ?:5)"),
-        ("node", "[ 0 10 3 [ `h` 1 ] ]", "(0 10 h:1)"),
-        ("node", "[ 10 0 [ `h` 1 ] ]", "(10 0 h:1)"),
-        ("node", "[ 0 65536 [ `h` 1 ] ]", ""),
-        ("node", "[ -1 5 [ `h` 1 ] ]", ""),
-        ("node", "[ 0 10 [ `h` 1 nil ] [ `h` 1 ] ]", "(0 10 h:1 h:1)"),
-        ("node", "", ""),
-        ("node", "[ ]", ""),
-        ("node", "[ 0 1 ]", ""),
-        ("node", "[ `0` 1 [ `h` 1 ] ]", ""),
-        ("node", "[ 0 1 [ ] ]", ""),
-        ("node", "[ 0 1 [ `h` ] ]", ""),
-        ("node", "[ 0 1 [ `h` `1` ] ]", ""),
-        ("node", "[ 0 1 [ 5 1 ] ]", ""),
-        ("node", "[ 0 1 [ +h 1 ] ]", ""),
-        ("node", "[ 0 65535 [ `h` 1 ] ]", "(0 65535 h:1)"),
-        ("node", "[ 0 1 [ `h` -1 ] ]", ""),
-        ("node", "[ 0 1 [ `h` 9223372036854775807 ] ]", ""),
-        (
-            "node",
-            "[ 0 1 [ `h` 0 ] ] [ 2 3 [ `h` 65535 ] ]",
-            "(0 1 h:0)(2 3 h:65535)",
-        ),
-        (
-            "",
-            "[ 0 1 [ `` 1 ] [ `a` 2 ] [ `b` 3 ] [ `0.0.0.0` 4 ] ]",
-            "(0 1 a:2 b:3)",
-        ),
-        ("node", "[ ] nil [ 0 1 [ `h` 1 ] ]", ""),
-        (
-            "node",
-            "[ 0 1 [ `h` 1 ] ] [ 0 1 [ `h` 1 ] ]",
-            "(0 1 h:1)(0 1 h:1)",
-        ),
-    ];
-    for (answering, text, want) in table {
-        let ranges = parse_slots(alloc, &array(alloc, text)?, answering)?;
-        let found = printed(alloc, &ranges)?;
+    for (answering, text, want) in REPLIES {
+        let found = read(rt.alloc(), text, answering)?;
         assert_eq!(rt; found.as_str(), want, "{text} from {answering:?}");
     }
     Ok(())
@@ -123,7 +137,6 @@ fn a_reply_is_read_item_by_item(rt: HostRuntime) -> Result<(), Fail> {
 // host of its own. Behind the id of a node stands what else it has to tell of it.
 #[test]
 fn replies_of_a_server_are_read(rt: HostRuntime) -> Result<(), Fail> {
-    let alloc = rt.alloc();
     let table = [
         (
             "[ 0 5460 [ `127.0.0.1` 27001 `82ced503` [ ] ] [ `127.0.0.1` 27005 `90f212ae` [ ] ] ]",
@@ -147,16 +160,13 @@ fn replies_of_a_server_are_read(rt: HostRuntime) -> Result<(), Fail> {
         ),
     ];
     for (text, want) in table {
-        let ranges = parse_slots(alloc, &array(alloc, text)?, "node")?;
-        let found = printed(alloc, &ranges)?;
+        let found = read(rt.alloc(), text, "node")?;
         assert_eq!(rt; found.as_str(), want, "{text}");
     }
     Ok(())
 }
 
-#[test]
-fn a_reply_that_is_not_an_array_has_no_ranges(rt: HostRuntime) -> Result<(), Fail> {
-    let alloc = rt.alloc();
+fn other_replies(alloc: Global) -> Result<Vec<Value>, Fail> {
     let item = array(alloc, "0 1 [ `h` 1 ]")?;
     let replies = vec![in alloc;
         Value::Nil,
@@ -166,62 +176,77 @@ fn a_reply_that_is_not_an_array_has_no_ranges(rt: HostRuntime) -> Result<(), Fai
         word(alloc, "+h")?,
         Value::Map(vec![in alloc; (Value::Int(0), item)]?),
     ]?;
-    for reply in &replies {
-        let ranges = parse_slots(alloc, reply, "node")?;
-        assert!(rt; ranges.is_empty(), "{reply:?}");
+    Ok(replies)
+}
+
+#[test]
+fn a_reply_that_is_not_an_array_has_no_ranges(rt: HostRuntime) -> Result<(), Fail> {
+    for reply in &other_replies(rt.alloc())? {
+        let number = parse_slots(rt.alloc(), reply, "node")?.len();
+        assert_eq!(rt; number, 0, "{reply:?}");
     }
     Ok(())
+}
+
+fn item_of_host(alloc: Global, host: &[u8]) -> Result<Value, AllocError> {
+    let host = Value::BulkString(host.to_vec(alloc)?);
+    let node = Value::Array(vec![in alloc; host, Value::Int(1)]?);
+    Ok(Value::Array(vec![in alloc; Value::Int(0), Value::Int(10), node]?))
 }
 
 #[test]
 fn a_host_that_is_not_utf8_has_replacement_characters(rt: HostRuntime) -> Result<(), Fail> {
-    let alloc = rt.alloc();
-    let host = Value::BulkString([255, 120].to_vec(alloc)?);
-    let node = Value::Array(vec![in alloc; host, Value::Int(1)]?);
-    let item = Value::Array(vec![in alloc; Value::Int(0), Value::Int(10), node]?);
-    let ranges = parse_slots(alloc, &Value::Array(vec![in alloc; item]?), "node")?;
-    let found = printed(alloc, &ranges)?;
+    let item = item_of_host(rt.alloc(), &[255, 120])?;
+    let found = read_item(rt.alloc(), item)?;
     assert_eq!(rt; found.as_str(), "(0 10 \u{fffd}x:1)");
     Ok(())
 }
 
+// The node for a key in the map of a reply, or `none`.
+fn node_at(alloc: Global, text: &str, key: &str, addr: SlotAddr) -> Result<String, Fail> {
+    let map = SlotMap::from_reply(alloc, &array(alloc, text)?, "node")?;
+    match map.slot_addr_for_route(Route::with_key(key.as_bytes(), addr), None, 0) {
+        Some(node) => Ok(format!(in alloc; "{node}")?),
+        None => Ok(String::from_str(alloc, "none")?),
+    }
+}
+
 #[test]
 fn a_reply_makes_a_map(rt: HostRuntime) -> Result<(), Fail> {
-    let alloc = rt.alloc();
     let halves = "[ 0 8191 [ `n1` 1 ] ] [ 8192 16383 [ `n2` 2 ] [ `r2` 3 ] ]";
     let replaced = "[ 0 8191 [ `n1` 1 ] ] [ 8192 16383 [ `n2` 2 ] ] [ 9000 16383 [ `n3` 3 ] ]";
     let table = [
-        (halves, "foo", SlotAddr::Master, Some(("n2", 2))),
-        (halves, "foo", SlotAddr::ReplicaOptional, Some(("n2", 2))),
-        (halves, "foo", SlotAddr::ReplicaRequired, Some(("r2", 3))),
-        (halves, "b", SlotAddr::ReplicaRequired, Some(("n1", 1))),
-        (replaced, "foo", SlotAddr::Master, Some(("n3", 3))),
-        ("[ 0 12181 [ `n1` 1 ] ]", "foo", SlotAddr::Master, None),
-        ("7 [ 0 16383 [ `n1` 1 ] ]", "foo", SlotAddr::Master, None),
+        (halves, "foo", SlotAddr::Master, "n2:2"),
+        (halves, "foo", SlotAddr::ReplicaOptional, "n2:2"),
+        (halves, "foo", SlotAddr::ReplicaRequired, "r2:3"),
+        (halves, "b", SlotAddr::ReplicaRequired, "n1:1"),
+        (replaced, "foo", SlotAddr::Master, "n3:3"),
+        ("[ 0 12181 [ `n1` 1 ] ]", "foo", SlotAddr::Master, "none"),
+        ("7 [ 0 16383 [ `n1` 1 ] ]", "foo", SlotAddr::Master, "none"),
     ];
     for (text, key, addr, want) in table {
-        let map = SlotMap::from_reply(alloc, &array(alloc, text)?, "node")?;
-        let node = map.slot_addr_for_route(Route::with_key(key.as_bytes(), addr), None, 0);
-        assert_eq!(rt;
-            node.map(|n| (n.host(), n.port())),
-            want,
-            "{key} as {addr:?} in {text}"
-        );
+        let node = node_at(rt.alloc(), text, key, addr)?;
+        assert_eq!(rt; node.as_str(), want, "{key} as {addr:?} in {text}");
     }
     Ok(())
 }
 
-#[test]
-fn a_reply_may_have_an_item_for_each_slot(rt: HostRuntime) -> Result<(), Fail> {
-    let alloc = rt.alloc();
+// A reply with an item for each slot, whose node has the slot as its port.
+fn item_for_each_slot(alloc: Global) -> Result<Value, Fail> {
     let mut items = Vec::new(alloc);
     for slot in 0..16384 {
         let node = Value::Array(vec![in alloc; word(alloc, "`h`")?, Value::Int(slot)]?);
         items.push(Value::Array(vec![in alloc; Value::Int(slot), Value::Int(slot), node]?))?;
     }
-    let reply = Value::Array(items);
-    assert_eq!(rt; parse_slots(alloc, &reply, "node")?.len(), 16384);
-    let map = SlotMap::from_reply(alloc, &reply, "node")?;
+    Ok(Value::Array(items))
+}
+
+#[test]
+fn a_reply_may_have_an_item_for_each_slot(rt: HostRuntime) -> Result<(), Fail> {
+    let reply = item_for_each_slot(rt.alloc())?;
+    let number = parse_slots(rt.alloc(), &reply, "node")?.len();
+    assert_eq!(rt; number, 16384);
+    let map = SlotMap::from_reply(rt.alloc(), &reply, "node")?;
     for slot in 0..16384 {
         let node = map.slot_addr_for_route(Route::new(slot, SlotAddr::Master), None, 0);
         assert_eq!(rt; node.map(|n| n.port()), Some(slot), "slot {slot}");
@@ -229,15 +254,19 @@ fn a_reply_may_have_an_item_for_each_slot(rt: HostRuntime) -> Result<(), Fail> {
     Ok(())
 }
 
-#[test]
-fn an_item_may_have_many_nodes_and_long_hosts(rt: HostRuntime) -> Result<(), Fail> {
-    let alloc = rt.alloc();
+fn item_of_many_nodes(alloc: Global) -> Result<Value, AllocError> {
     let mut item = vec![in alloc; Value::Int(0), Value::Int(16383)]?;
     for port in 0..100 {
         let host = Value::BulkString(vec![in alloc; b'h'; 300]?);
         item.push(Value::Array(vec![in alloc; host, Value::Int(port)]?))?;
     }
-    let reply = Value::Array(vec![in alloc; Value::Array(item)]?);
+    Ok(Value::Array(item))
+}
+
+#[test]
+fn an_item_may_have_many_nodes_and_long_hosts(rt: HostRuntime) -> Result<(), Fail> {
+    let alloc = rt.alloc();
+    let reply = Value::Array(vec![in alloc; item_of_many_nodes(alloc)?]?);
     let ranges = parse_slots(alloc, &reply, "node")?;
     assert_eq!(rt; ranges.len(), 1);
     for range in &ranges {
@@ -250,21 +279,20 @@ fn an_item_may_have_many_nodes_and_long_hosts(rt: HostRuntime) -> Result<(), Fai
     Ok(())
 }
 
-#[test]
-fn a_reply_may_be_nested_deeply(rt: HostRuntime) -> Result<(), Fail> {
-    let alloc = rt.alloc();
+// An item whose first node is an array in an array, and so on, and whose second is one.
+fn deep_item(alloc: Global) -> Result<Value, Fail> {
     let mut deep = Value::Nil;
     for _ in 0..1000 {
         deep = Value::Array(vec![in alloc; deep]?);
     }
-    let item = Value::Array(vec![in alloc;
-        Value::Int(0),
-        Value::Int(10),
-        deep,
-        array(alloc, "`h` 1")?,
-    ]?);
-    let ranges = parse_slots(alloc, &Value::Array(vec![in alloc; item]?), "node")?;
-    let found = printed(alloc, &ranges)?;
+    let node = array(alloc, "`h` 1")?;
+    Ok(Value::Array(vec![in alloc; Value::Int(0), Value::Int(10), deep, node]?))
+}
+
+#[test]
+fn a_reply_may_be_nested_deeply(rt: HostRuntime) -> Result<(), Fail> {
+    let item = deep_item(rt.alloc())?;
+    let found = read_item(rt.alloc(), item)?;
     assert_eq!(rt; found.as_str(), "(0 10 h:1)");
     Ok(())
 }
