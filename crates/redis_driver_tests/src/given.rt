@@ -6,6 +6,7 @@ use redis_cluster::driver::{DriveError, Nodes, drive};
 use redis_cluster::routing::{ReadOnlyNames, Routable};
 use resp_core::{Cmd, RedisResult, Value};
 use std::alloc::{AllocError, Global};
+use std::process::Abort;
 use std::str;
 use std::test::Fail;
 
@@ -22,10 +23,20 @@ pub const ONE_REPLICA: [Line<'static>; 2] = [
 ];
 
 /// A map, and the names that only read.
-#[derive(Drop)]
 pub struct Given {
     pub map: SlotMap,
     pub read_only: ReadOnlyNames,
+}
+
+// By hand, so that a test that lets one go is proved over a call, and not over the loops that free
+// what it holds.
+impl Drop for Given {
+    fn drop(self) {
+        let Given {
+            map: _,
+            read_only: _,
+        } = self;
+    }
 }
 
 impl Given {
@@ -72,40 +83,100 @@ impl Given {
 }
 
 /// Nodes in memory, and what is given for them.
-#[derive(Drop)]
 pub struct Cluster {
+    alloc: Global,
     given: Given,
     pub nodes: MemoryNodes,
+}
+
+// By hand for the same reason.
+impl Drop for Cluster {
+    fn drop(self) {
+        let Cluster {
+            alloc: _,
+            given: _,
+            nodes: _,
+        } = self;
+    }
 }
 
 impl Cluster {
     pub fn new(alloc: Global, lines: &[Line<'_>]) -> RedisResult<Cluster> {
         Ok(Cluster {
+            alloc,
             given: Given::new(alloc, lines)?,
             nodes: MemoryNodes::new(alloc),
         })
     }
 
+    /// Drives a command with no strategy.
+    pub fn give(&mut self, command: &Cmd, order: &[usize]) -> Result<Value, DriveError> {
+        self.given
+            .give(self.alloc, command, None, order, &mut self.nodes)
+    }
+
     /// Drives a command, and answers what it gave as a text.
     pub fn drive<R: Routable>(
         &mut self,
-        alloc: Global,
         command: &R,
         strategy: Option<&dyn ReadRoutingStrategy>,
         order: &[usize],
     ) -> Result<String, Fail> {
         self.given
-            .drive(alloc, command, strategy, order, &mut self.nodes)
+            .drive(self.alloc, command, strategy, order, &mut self.nodes)
     }
 
     /// Drives the command of the words of a text, with no strategy.
-    pub fn run(&mut self, alloc: Global, text: &str, order: &[usize]) -> Result<String, Fail> {
-        self.drive(alloc, &cmd_of(alloc, text)?, None, order)
+    pub fn run(&mut self, text: &str, order: &[usize]) -> Result<String, Fail> {
+        self.drive(&cmd_of(self.alloc, text)?, None, order)
     }
 
-    /// The value of a key at the empty path, or `nil`.
-    pub fn value(&self, key: &str) -> Result<&str, Fail> {
-        self.value_at(key, "")
+    /// Drives the command of the words of a text with no strategy, and sees what it gives.
+    pub fn check(
+        &mut self,
+        rt: &impl Abort,
+        text: &str,
+        order: &[usize],
+        want: &str,
+    ) -> Result<(), Fail> {
+        self.check_with(rt, None, text, order, want)
+    }
+
+    /// Drives the command of the words of a text, and sees what it gives.
+    pub fn check_with(
+        &mut self,
+        rt: &impl Abort,
+        strategy: Option<&dyn ReadRoutingStrategy>,
+        text: &str,
+        order: &[usize],
+        want: &str,
+    ) -> Result<(), Fail> {
+        let given = self.drive(&cmd_of(self.alloc, text)?, strategy, order)?;
+        assert_eq!(rt; given.as_str(), want, "{text} in the order {order:?}");
+        Ok(())
+    }
+
+    /// Sees what was sent so far, one entry after the other, each closed by `;`.
+    pub fn check_sent(&self, rt: &impl Abort, want: &str) -> Result<(), Fail> {
+        assert_eq!(rt; self.sent()?.as_str(), want, "what was sent");
+        Ok(())
+    }
+
+    /// Sees the value of a key at the empty path, or `nil`.
+    pub fn check_value(&self, rt: &impl Abort, key: &str, want: &str) -> Result<(), Fail> {
+        self.check_value_at(rt, key, "", want)
+    }
+
+    /// Sees the value of a key at a path, or `nil`.
+    pub fn check_value_at(
+        &self,
+        rt: &impl Abort,
+        key: &str,
+        path: &str,
+        want: &str,
+    ) -> Result<(), Fail> {
+        assert_eq!(rt; self.value_at(key, path)?, want, "'{key}' at '{path}'");
+        Ok(())
     }
 
     /// The value of a key at a path, or `nil`.
@@ -117,8 +188,8 @@ impl Cluster {
     }
 
     /// What was sent so far, one entry after the other, each closed by `;`.
-    pub fn sent(&self, alloc: Global) -> Result<String, Fail> {
-        trace_text(alloc, self.nodes.trace())
+    pub fn sent(&self) -> Result<String, Fail> {
+        trace_text(self.alloc, self.nodes.trace())
     }
 }
 

@@ -1,10 +1,26 @@
 use crate::given::{Cluster, TWO_NODES};
+use std::process::Abort;
 use std::test::Fail;
+
+// Sees what a command gives with a fuse.
+fn check_fused(
+    rt: &impl Abort,
+    cluster: &mut Cluster,
+    limit: usize,
+    text: &str,
+    order: &[usize],
+    want: &str,
+) -> Result<(), Fail> {
+    cluster.nodes.fuse(0);
+    cluster.nodes.fuse(limit);
+    let given = cluster.run(text, order)?;
+    assert_eq!(rt; given.as_str(), want, "{text} with a fuse of {limit}");
+    Ok(())
+}
 
 #[test]
 fn a_fuse_counts_the_sends_before_it_and_the_last_one_holds(rt: HostRuntime) -> Result<(), Fail> {
-    let alloc = rt.alloc();
-    let mut cluster = Cluster::new(alloc, &TWO_NODES)?;
+    let mut cluster = Cluster::new(rt.alloc(), &TWO_NODES)?;
     let table: [(usize, &str, &[usize], &str); 6] = [
         (9, "MSET a 1 b 2", &[0, 1], "OK"),
         (4, "DEL a b", &[0, 1], "Node Client 'node refused' after 1"),
@@ -14,10 +30,7 @@ fn a_fuse_counts_the_sends_before_it_and_the_last_one_holds(rt: HostRuntime) -> 
         (10, "DEL b a", &[0, 1], "1"),
     ];
     for (limit, text, order, want) in table {
-        cluster.nodes.fuse(0);
-        cluster.nodes.fuse(limit);
-        let given = cluster.run(alloc, text, order)?;
-        assert_eq!(rt; given.as_str(), want, "{text} with a fuse of {limit}");
+        check_fused(&rt, &mut cluster, limit, text, order, want)?;
     }
     assert_eq!(rt;
         cluster.nodes.trace().len(),
@@ -29,10 +42,9 @@ fn a_fuse_counts_the_sends_before_it_and_the_last_one_holds(rt: HostRuntime) -> 
 
 #[test]
 fn nothing_stands_at_another_key_or_path(rt: HostRuntime) -> Result<(), Fail> {
-    let alloc = rt.alloc();
-    let mut cluster = Cluster::new(alloc, &TWO_NODES)?;
-    cluster.run(alloc, "JSON.MSET a $.x 1", &[0])?;
-    cluster.run(alloc, "MSET b 2", &[0])?;
+    let mut cluster = Cluster::new(rt.alloc(), &TWO_NODES)?;
+    cluster.check(&rt, "JSON.MSET a $.x 1", &[0], "OK")?;
+    cluster.check(&rt, "MSET b 2", &[0], "OK")?;
     for (key, path, want) in [
         ("a", "$.x", "1"),
         ("a", "$.y", "nil"),
@@ -42,18 +54,16 @@ fn nothing_stands_at_another_key_or_path(rt: HostRuntime) -> Result<(), Fail> {
         ("c", "", "nil"),
         ("", "", "nil"),
     ] {
-        assert_eq!(rt; cluster.value_at(key, path)?, want, "'{key}' at '{path}'");
+        cluster.check_value_at(&rt, key, path, want)?;
     }
     Ok(())
 }
 
 #[test]
 fn a_value_at_the_empty_path_takes_the_place_of_all_others(rt: HostRuntime) -> Result<(), Fail> {
-    let alloc = rt.alloc();
-    let mut cluster = Cluster::new(alloc, &TWO_NODES)?;
-    cluster.run(alloc, "JSON.MSET a $.x 1", &[0])?;
-    cluster.run(alloc, "MSET a 2", &[0])?;
-    assert_eq!(rt; cluster.value_at("a", "$.x")?, "nil", "at the path");
-    assert_eq!(rt; cluster.value("a")?, "2", "at the empty path");
-    Ok(())
+    let mut cluster = Cluster::new(rt.alloc(), &TWO_NODES)?;
+    cluster.check(&rt, "JSON.MSET a $.x 1", &[0], "OK")?;
+    cluster.check(&rt, "MSET a 2", &[0], "OK")?;
+    cluster.check_value_at(&rt, "a", "$.x", "nil")?;
+    cluster.check_value(&rt, "a", "2")
 }

@@ -1,9 +1,10 @@
 //! What stands where memory is refused once, at any request. Run as they are, these see memory
 //! enough; `tests/refusals` runs each with the first request refused, with the second, and so on.
-use crate::given::{Given, TWO_NODES, cmd_of};
+use crate::given::{Cluster, Given, TWO_NODES, cmd_of};
 use memory_nodes::{MemoryNodes, TraceEntry};
 use redis_cluster::driver::{DriveFault, PlanFault, SplitPlan};
-use resp_core::{ErrorKind, Value};
+use resp_core::{Cmd, ErrorKind, Value};
+use std::alloc::Global;
 use std::test::Fail;
 
 // What is sent for three commands with the order 2, 0, 1: the host, and the words of the part.
@@ -77,35 +78,45 @@ fn is_whole_reply(text: &str, reply: &Value) -> bool {
     }
 }
 
+// How many parts of a command were answered, and whether the reply or the fault is right; none
+// where the command itself has no memory.
+fn outcome(alloc: Global, cluster: &mut Cluster, text: &str) -> Option<(usize, bool)> {
+    let cmd = cmd_of(alloc, text).ok()?;
+    match cluster.give(&cmd, &[2, 0, 1]) {
+        Ok(reply) => Some((3, is_whole_reply(text, &reply))),
+        Err(error) => Some((error.answered, matches!(error.fault, DriveFault::Memory))),
+    }
+}
+
 #[test]
 fn a_command_is_driven_or_tells_that_memory_ran_out(rt: HostRuntime) -> Result<(), Fail> {
-    let alloc = rt.alloc();
-    let Ok(given) = Given::new(alloc, &TWO_NODES) else {
+    let Ok(mut cluster) = Cluster::new(rt.alloc(), &TWO_NODES) else {
         return Ok(());
     };
-    let mut nodes = MemoryNodes::new(alloc);
     for (text, before) in [("MSET a 1 b 2 c 3", 0), ("MGET a b c", 3), ("DEL a b c", 6)] {
-        let Ok(cmd) = cmd_of(alloc, text) else {
+        let Some((answered, is_right)) = outcome(rt.alloc(), &mut cluster, text) else {
             return Ok(());
         };
-        let (answered, is_right) = match given.give(alloc, &cmd, None, &[2, 0, 1], &mut nodes) {
-            Ok(reply) => (3, is_whole_reply(text, &reply)),
-            Err(error) => (error.answered, matches!(error.fault, DriveFault::Memory)),
-        };
         assert!(rt; is_right, "{text}: the reply or the fault");
-        let sends = nodes.trace().len();
+        let sends = cluster.nodes.trace().len();
         assert_eq!(rt;
             sends.checked_sub(before),
             Some(answered),
             "{text}: entries"
         );
-        assert!(rt; is_front(nodes.trace()), "{text}: what was sent");
-        assert!(rt; has_values(&nodes, sends), "{text}: what stands");
+        assert!(rt; is_front(cluster.nodes.trace()), "{text}: what was sent");
+        assert!(rt; has_values(&cluster.nodes, sends), "{text}: what stands");
         if answered < 3 {
             return Ok(());
         }
     }
     Ok(())
+}
+
+// Whether the plan takes a reply of no value; none where the reply has no memory.
+fn tell_nil(alloc: Global, plan: &mut SplitPlan<'_, Cmd>, number: usize) -> Option<bool> {
+    let reply = vec![in alloc; Value::Nil].ok()?;
+    Some(plan.tell(number, Value::Array(reply)).is_ok())
 }
 
 #[test]
@@ -126,13 +137,10 @@ fn a_plan_is_made_or_tells_that_memory_ran_out(rt: HostRuntime) -> Result<(), Fa
         }
     };
     for number in 0..2 {
-        let Ok(reply) = vec![in alloc; Value::Nil] else {
+        let Some(is_told) = tell_nil(alloc, &mut plan, number) else {
             return Ok(());
         };
-        assert!(rt;
-            plan.tell(number, Value::Array(reply)).is_ok(),
-            "route {number}"
-        );
+        assert!(rt; is_told, "route {number}");
     }
     match plan.combine(alloc) {
         Ok(reply) => assert_eq!(rt; reply.as_array().map(|items| items.len()), Some(2)),

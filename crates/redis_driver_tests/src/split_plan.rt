@@ -4,20 +4,36 @@ use cluster_map::ReadRoutingStrategy;
 use example_strategies::FirstReplica;
 use redis_cluster::driver::{PlanFault, SplitPlan};
 use redis_cluster::routing::Routable;
-use resp_core::{Cmd, Value};
+use resp_core::{Cmd, RedisResult, Value};
 use std::alloc::{AllocError, Global};
+use std::process::Abort;
 use std::str;
 use std::test::Fail;
 
-// The routes of a plan: slot, node and part of each, closed by `;`, or why there is no plan.
-fn planned<R: Routable>(
+// Sees what there is of a plan, made with a number to pick by.
+fn check_planned<R: Routable>(
+    rt: &impl Abort,
     alloc: Global,
     lines: &[Line<'_>],
     command: &R,
     strategy: Option<&dyn ReadRoutingStrategy>,
     pick: usize,
-) -> Result<String, Fail> {
+    want: &str,
+) -> Result<(), Fail> {
     let given = Given::new(alloc, lines)?;
+    let text = planned(alloc, &given, command, strategy, pick)?;
+    assert_eq!(rt; text.as_str(), want, "with pick {pick}");
+    Ok(())
+}
+
+// The routes of a plan: slot, node and part of each, closed by `;`, or why there is no plan.
+fn planned<R: Routable>(
+    alloc: Global,
+    given: &Given,
+    command: &R,
+    strategy: Option<&dyn ReadRoutingStrategy>,
+    pick: usize,
+) -> Result<String, Fail> {
     match SplitPlan::new(alloc, command, &given.read_only, &given.map, strategy, pick) {
         Ok(plan) => plan_text(alloc, &plan),
         Err(fault) => Ok(fault_text(alloc, &fault)?),
@@ -27,13 +43,20 @@ fn planned<R: Routable>(
 fn plan_text<R: Routable>(alloc: Global, plan: &SplitPlan<'_, R>) -> Result<String, Fail> {
     let mut text = String::new(alloc);
     for number in 0..plan.len() {
-        let (route, _) = plan.routes().get(number).ok_or("no route")?;
-        text.push_str(&format!(in alloc; "{}", route.slot())?)?;
-        let node = plan.node(number).ok_or("no node")?;
-        text.push_str(&format!(in alloc; " {node}")?)?;
+        text.push_str(&route_text(alloc, plan, number)?)?;
         push_part(&mut text, plan.part(number).ok_or("no part")?)?;
     }
     Ok(text)
+}
+
+fn route_text<R: Routable>(
+    alloc: Global,
+    plan: &SplitPlan<'_, R>,
+    number: usize,
+) -> Result<String, Fail> {
+    let (route, _) = plan.routes().get(number).ok_or("no route")?;
+    let node = plan.node(number).ok_or("no node")?;
+    Ok(format!(in alloc; "{} {node}", route.slot())?)
 }
 
 fn push_part(text: &mut String, part: &Cmd) -> Result<(), Fail> {
@@ -57,21 +80,16 @@ fn fault_text(alloc: Global, fault: &PlanFault) -> Result<String, AllocError> {
 fn a_plan_has_the_node_and_the_part_of_each_route(rt: HostRuntime) -> Result<(), Fail> {
     let alloc = rt.alloc();
     let cmd = cmd_of(alloc, "DEL foo bar baz {bar}vaz")?;
-    let text = planned(alloc, &TWO_NODES, &cmd, None, 0)?;
-    assert_eq!(rt;
-        text.as_str(),
-        "12182 n2:2 DEL foo;5061 n1:1 DEL bar {bar}vaz;4813 n1:1 DEL baz;"
-    );
-    Ok(())
+    let want = "12182 n2:2 DEL foo;5061 n1:1 DEL bar {bar}vaz;4813 n1:1 DEL baz;";
+    check_planned(&rt, alloc, &TWO_NODES, &cmd, None, 0, want)
 }
 
 #[test]
 fn arguments_from_a_gap_on_have_no_part(rt: HostRuntime) -> Result<(), Fail> {
     let alloc = rt.alloc();
     let value = value_of(alloc, "MSET a 1 b 2 # c")?;
-    let text = planned(alloc, &TWO_NODES, &value, None, 0)?;
-    assert_eq!(rt; text.as_str(), "15495 n2:2 MSET a 1;3300 n1:1 MSET b 2;");
-    Ok(())
+    let want = "15495 n2:2 MSET a 1;3300 n1:1 MSET b 2;";
+    check_planned(&rt, alloc, &TWO_NODES, &value, None, 0, want)
 }
 
 #[test]
@@ -86,8 +104,8 @@ fn a_strategy_picks_for_reads_alone_and_the_pick_decides_nothing(
     for (text, want) in table {
         let cmd = cmd_of(alloc, text)?;
         for pick in [0, 1, usize::MAX] {
-            let given = planned(alloc, &ONE_REPLICA, &cmd, Some(&FirstReplica), pick)?;
-            assert_eq!(rt; given.as_str(), want, "{text} with pick {pick}");
+            let strategy: &dyn ReadRoutingStrategy = &FirstReplica;
+            check_planned(&rt, alloc, &ONE_REPLICA, &cmd, Some(strategy), pick, want)?;
         }
     }
     Ok(())
@@ -98,12 +116,8 @@ fn without_a_strategy_each_part_goes_to_a_primary(rt: HostRuntime) -> Result<(),
     let alloc = rt.alloc();
     let cmd = cmd_of(alloc, "MGET b a")?;
     for pick in [0, 1, usize::MAX] {
-        let given = planned(alloc, &ONE_REPLICA, &cmd, None, pick)?;
-        assert_eq!(rt;
-            given.as_str(),
-            "3300 n1:1 MGET b;15495 n2:2 MGET a;",
-            "pick {pick}"
-        );
+        let want = "3300 n1:1 MGET b;15495 n2:2 MGET a;";
+        check_planned(&rt, alloc, &ONE_REPLICA, &cmd, None, pick, want)?;
     }
     Ok(())
 }
@@ -117,10 +131,16 @@ fn commands_without_a_plan(rt: HostRuntime) -> Result<(), Fail> {
         ("JSON.MGET b", "NotMultiKey"),
         ("DEL a c b", "NotCovered 7365"),
     ] {
-        let given = planned(alloc, &upper, &cmd_of(alloc, text)?, None, 0)?;
-        assert_eq!(rt; given.as_str(), want, "{text}");
+        let cmd = cmd_of(alloc, text)?;
+        check_planned(&rt, alloc, &upper, &cmd, None, 0, want)?;
     }
     Ok(())
+}
+
+fn check_two_routes(rt: &impl Abort, plan: &SplitPlan<'_, Cmd>) {
+    assert_eq!(rt; plan.len(), 2, "number of routes");
+    assert!(rt; plan.node(2).is_none(), "no third node");
+    assert!(rt; plan.part(2).is_none(), "no third part");
 }
 
 #[test]
@@ -128,10 +148,7 @@ fn past_the_last_route_there_is_nothing(rt: HostRuntime) -> Result<(), Fail> {
     let alloc = rt.alloc();
     let given = Given::new(alloc, &TWO_NODES)?;
     let cmd = cmd_of(alloc, "DEL a b")?;
-    let plan = plan_of(alloc, &given, &cmd)?;
-    assert_eq!(rt; plan.len(), 2, "number of routes");
-    assert!(rt; plan.node(2).is_none(), "no third node");
-    assert!(rt; plan.part(2).is_none(), "no third part");
+    check_two_routes(&rt, &plan_of(alloc, &given, &cmd)?);
     Ok(())
 }
 
@@ -146,17 +163,33 @@ fn plan_of<'a>(
     }
 }
 
-// The reply of a plan that is told these, each with the number of its route, or the kind of the
-// error.
-fn combined(alloc: Global, text: &str, replies: Vec<(usize, Value)>) -> Result<String, Fail> {
+// Sees the reply of a plan that is told these, each with the number of its route, or the kind of
+// the error.
+fn check_combined(
+    rt: &impl Abort,
+    alloc: Global,
+    text: &str,
+    replies: Vec<(usize, Value)>,
+    want: &str,
+) -> Result<(), Fail> {
+    let given = match combined(alloc, text, replies)? {
+        Ok(reply) => reply_text(alloc, &reply)?,
+        Err(error) => format!(in alloc; "{:?}", error.kind())?,
+    };
+    assert_eq!(rt; given.as_str(), want, "reply of {text}");
+    Ok(())
+}
+
+fn combined(
+    alloc: Global,
+    text: &str,
+    replies: Vec<(usize, Value)>,
+) -> Result<RedisResult<Value>, Fail> {
     let given = Given::new(alloc, &TWO_NODES)?;
     let cmd = cmd_of(alloc, text)?;
     let mut plan = plan_of(alloc, &given, &cmd)?;
     tell_all(&mut plan, replies)?;
-    match plan.combine(alloc) {
-        Ok(reply) => reply_text(alloc, &reply),
-        Err(error) => Ok(format!(in alloc; "{:?}", error.kind())?),
-    }
+    Ok(plan.combine(alloc))
 }
 
 fn tell_all(
@@ -179,18 +212,20 @@ fn lists_come_together_in_the_order_of_the_keys(rt: HostRuntime) -> Result<(), F
         (0, value_of(alloc, "1 4")?),
         (1, value_of(alloc, "2 3")?),
     ]?;
-    let reply = combined(alloc, "MGET a b x{b}y {a}b c", replies)?;
-    assert_eq!(rt; reply.as_str(), "[1, 2, 3, 4, 5]");
-    Ok(())
+    check_combined(
+        &rt,
+        alloc,
+        "MGET a b x{b}y {a}b c",
+        replies,
+        "[1, 2, 3, 4, 5]",
+    )
 }
 
 #[test]
 fn counts_are_added_up(rt: HostRuntime) -> Result<(), Fail> {
     let alloc = rt.alloc();
     let replies = vec![in alloc; (1, Value::Int(2)), (2, Value::Int(4)), (0, Value::Int(1))]?;
-    let reply = combined(alloc, "DEL a b c", replies)?;
-    assert_eq!(rt; reply.as_str(), "7");
-    Ok(())
+    check_combined(&rt, alloc, "DEL a b c", replies, "7")
 }
 
 #[test]
@@ -199,22 +234,18 @@ fn commands_that_only_succeed_have_the_reply_of_the_first_route(
 ) -> Result<(), Fail> {
     let alloc = rt.alloc();
     let replies = vec![in alloc; (1, Value::Nil), (0, Value::Okay)]?;
-    let reply = combined(alloc, "MSET a 1 b 2", replies)?;
-    assert_eq!(rt; reply.as_str(), "OK");
-    Ok(())
+    check_combined(&rt, alloc, "MSET a 1 b 2", replies, "OK")
 }
 
 #[test]
 fn a_reply_is_missing(rt: HostRuntime) -> Result<(), Fail> {
     let alloc = rt.alloc();
+    // Of each route alone, and of none.
     for number in [0, 1] {
         let replies = vec![in alloc; (number, Value::Int(1))]?;
-        let error = combined(alloc, "DEL a b", replies)?;
-        assert_eq!(rt; error.as_str(), "Client", "route {number} alone was told");
+        check_combined(&rt, alloc, "DEL a b", replies, "Client")?;
     }
-    let error = combined(alloc, "DEL a b", Vec::new(alloc))?;
-    assert_eq!(rt; error.as_str(), "Client", "none was told");
-    Ok(())
+    check_combined(&rt, alloc, "DEL a b", Vec::new(alloc), "Client")
 }
 
 #[test]
@@ -222,8 +253,7 @@ fn replies_of_another_kind_are_refused(rt: HostRuntime) -> Result<(), Fail> {
     let alloc = rt.alloc();
     for text in ["DEL a b", "MGET a b"] {
         let replies = vec![in alloc; (0, Value::Nil), (1, Value::Nil)]?;
-        let error = combined(alloc, text, replies)?;
-        assert_eq!(rt; error.as_str(), "UnexpectedReturnType", "{text}");
+        check_combined(&rt, alloc, text, replies, "UnexpectedReturnType")?;
     }
     Ok(())
 }
@@ -236,12 +266,7 @@ fn back(plan: &mut SplitPlan<'_, Cmd>, number: usize, reply: i64) -> Option<i64>
     }
 }
 
-#[test]
-fn a_reply_told_twice_is_given_back(rt: HostRuntime) -> Result<(), Fail> {
-    let alloc = rt.alloc();
-    let given = Given::new(alloc, &TWO_NODES)?;
-    let cmd = cmd_of(alloc, "DEL a b")?;
-    let mut plan = plan_of(alloc, &given, &cmd)?;
+fn check_given_back(rt: &impl Abort, plan: &mut SplitPlan<'_, Cmd>) {
     for (number, reply, want) in [
         (1, 1, None),
         (1, 2, Some(2)),
@@ -250,9 +275,18 @@ fn a_reply_told_twice_is_given_back(rt: HostRuntime) -> Result<(), Fail> {
         (0, 5, None),
         (0, 6, Some(6)),
     ] {
-        let given_back = back(&mut plan, number, reply);
+        let given_back = back(plan, number, reply);
         assert_eq!(rt; given_back, want, "route {number}, reply {reply}");
     }
+}
+
+#[test]
+fn a_reply_told_twice_is_given_back(rt: HostRuntime) -> Result<(), Fail> {
+    let alloc = rt.alloc();
+    let given = Given::new(alloc, &TWO_NODES)?;
+    let cmd = cmd_of(alloc, "DEL a b")?;
+    let mut plan = plan_of(alloc, &given, &cmd)?;
+    check_given_back(&rt, &mut plan);
     let whole = plan.combine(alloc)?;
     assert_eq!(rt; whole.as_int(), Some(6), "the first reply of each");
     Ok(())
