@@ -1,7 +1,8 @@
 //! Streams that fail or are interrupted at each call in turn.
-use crate::serve::{TWO_NODES, USAGE, words_of};
-use slotroute_serve::serve;
+use crate::serve::{TWO_NODES, USAGE, Written, check_written, served};
+use std::alloc::Global;
 use std::io::{self, BufRead, ErrorKind, Read, Write};
+use std::process::Abort;
 use std::test::Fail;
 
 /// Gives a byte a call, and fails at one call.
@@ -71,84 +72,90 @@ const ANSWERS: [(&[&str], &[u8]); 2] = [
     ),
 ];
 
+fn check_read_that_fails(
+    rt: &impl Abort,
+    alloc: Global,
+    texts: &[&str],
+    calls: usize,
+    want: Written,
+) -> Result<(), Fail> {
+    let mut reader = FailingReader {
+        rest: TWO_NODES,
+        calls_left: calls,
+    };
+    let mut out = Vec::new(alloc);
+    let mut err = Vec::new(alloc);
+    let status = served(alloc, texts, &mut reader, &mut out, &mut err)?;
+    check_written(rt, calls, (&out, &err, status), want);
+    Ok(())
+}
+
 #[test]
 fn each_read_fails_in_turn(rt: HostRuntime) -> Result<(), Fail> {
-    let alloc = rt.alloc();
+    let failed: Written = (b"", b"slotroute: input failed\n", 2);
     // a call for each byte, and one that finds the end
     let needed = TWO_NODES.len() + 1;
     for (texts, whole) in ANSWERS {
-        let words = words_of(alloc, texts)?;
         for calls in 0..40 {
-            let mut reader = FailingReader {
-                rest: TWO_NODES,
-                calls_left: calls,
-            };
-            let mut out = Vec::new(alloc);
-            let mut err = Vec::new(alloc);
-            let status = serve(alloc, &words, &mut reader, &mut out, &mut err, None);
-            if calls < needed {
-                assert_eq!(rt;
-                    err.as_slice(),
-                    b"slotroute: input failed\n".as_slice(),
-                    "{texts:?} at {calls}"
-                );
-                assert_eq!(rt; out.len(), 0, "{texts:?} at {calls}");
-                assert_eq!(rt; status, 2, "{texts:?} at {calls}");
+            let want = if calls < needed {
+                failed
             } else {
-                assert_eq!(rt; out.as_slice(), whole, "{texts:?} at {calls}");
-                assert_eq!(rt; status, 0, "{texts:?} at {calls}");
-            }
+                (whole, b"".as_slice(), 0)
+            };
+            check_read_that_fails(&rt, rt.alloc(), texts, calls, want)?;
         }
     }
+    Ok(())
+}
+
+fn check_write_that_fails(
+    rt: &impl Abort,
+    alloc: Global,
+    texts: &[&str],
+    calls: usize,
+    want: Written,
+) -> Result<(), Fail> {
+    let mut reader = TWO_NODES;
+    let mut out = FailingWriter {
+        bytes: Vec::new(alloc),
+        calls_left: calls,
+    };
+    let mut err = Vec::new(alloc);
+    let status = served(alloc, texts, &mut reader, &mut out, &mut err)?;
+    check_written(rt, calls, (&out.bytes, &err, status), want);
     Ok(())
 }
 
 #[test]
 fn each_write_fails_in_turn(rt: HostRuntime) -> Result<(), Fail> {
-    let alloc = rt.alloc();
     for (texts, whole) in ANSWERS {
-        let words = words_of(alloc, texts)?;
         // a call for each byte, and one that sends them off
         for calls in 0..whole.len() + 1 {
-            let mut reader = TWO_NODES;
-            let mut out = FailingWriter {
-                bytes: Vec::new(alloc),
-                calls_left: calls,
-            };
-            let mut err = Vec::new(alloc);
-            let status = serve(alloc, &words, &mut reader, &mut out, &mut err, None);
-            assert!(rt;
-                whole.starts_with(out.bytes.as_slice()),
-                "{texts:?} at {calls}"
-            );
-            assert_eq!(rt; out.bytes.len(), calls, "{texts:?} at {calls}");
-            assert_eq!(rt;
-                err.as_slice(),
-                b"slotroute: output failed\n".as_slice(),
-                "{texts:?} at {calls}"
-            );
-            assert_eq!(rt; status, 2, "{texts:?} at {calls}");
+            let taken = whole.get(..calls).ok_or("more calls than bytes")?;
+            let want: Written = (taken, b"slotroute: output failed\n", 2);
+            check_write_that_fails(&rt, rt.alloc(), texts, calls, want)?;
         }
     }
     Ok(())
 }
 
+fn check_error_stream_that_fails(rt: &impl Abort, alloc: Global, calls: usize) -> Result<(), Fail> {
+    let mut reader = TWO_NODES;
+    let mut out = Vec::new(alloc);
+    let mut err = FailingWriter {
+        bytes: Vec::new(alloc),
+        calls_left: calls,
+    };
+    let status = served(alloc, &["node"], &mut reader, &mut out, &mut err)?;
+    let taken = USAGE.get(..calls).ok_or("more calls than bytes")?;
+    check_written(rt, calls, (&out, &err.bytes, status), (b"", taken, 2));
+    Ok(())
+}
+
 #[test]
 fn error_stream_fails(rt: HostRuntime) -> Result<(), Fail> {
-    let alloc = rt.alloc();
-    let words = words_of(alloc, &["node"])?;
     for calls in 0..4 {
-        let mut reader = TWO_NODES;
-        let mut out = Vec::new(alloc);
-        let mut err = FailingWriter {
-            bytes: Vec::new(alloc),
-            calls_left: calls,
-        };
-        let status = serve(alloc, &words, &mut reader, &mut out, &mut err, None);
-        assert!(rt; USAGE.starts_with(err.bytes.as_slice()), "at {calls}");
-        assert_eq!(rt; err.bytes.len(), calls, "at {calls}");
-        assert_eq!(rt; out.len(), 0, "at {calls}");
-        assert_eq!(rt; status, 2, "at {calls}");
+        check_error_stream_that_fails(&rt, rt.alloc(), calls)?;
     }
     Ok(())
 }
@@ -178,17 +185,15 @@ impl Write for InterruptedWriter {
 #[test]
 fn interrupted_writes_are_made_again(rt: HostRuntime) -> Result<(), Fail> {
     let alloc = rt.alloc();
-    let words = words_of(alloc, &["node", "foo"])?;
     let mut reader = TWO_NODES;
     let mut out = InterruptedWriter {
         bytes: Vec::new(alloc),
         is_interrupted: false,
     };
     let mut err = Vec::new(alloc);
-    let status = serve(alloc, &words, &mut reader, &mut out, &mut err, None);
-    assert_eq!(rt; out.bytes.as_slice(), b"slot 12182 n2:2\n".as_slice());
-    assert_eq!(rt; err.len(), 0);
-    assert_eq!(rt; status, 0);
+    let status = served(alloc, &["node", "foo"], &mut reader, &mut out, &mut err)?;
+    let want: Written = (b"slot 12182 n2:2\n", b"", 0);
+    check_written(&rt, 0, (&out.bytes, &err, status), want);
     Ok(())
 }
 
@@ -227,17 +232,15 @@ impl BufRead for InterruptedReader<'_> {
 #[test]
 fn interrupted_reads_are_made_again(rt: HostRuntime) -> Result<(), Fail> {
     let alloc = rt.alloc();
-    let words = words_of(alloc, &["node", "foo"])?;
     let mut reader = InterruptedReader {
         rest: TWO_NODES,
         is_interrupted: false,
     };
     let mut out = Vec::new(alloc);
     let mut err = Vec::new(alloc);
-    let status = serve(alloc, &words, &mut reader, &mut out, &mut err, None);
-    assert_eq!(rt; out.as_slice(), b"slot 12182 n2:2\n".as_slice());
-    assert_eq!(rt; err.len(), 0);
-    assert_eq!(rt; status, 0);
+    let status = served(alloc, &["node", "foo"], &mut reader, &mut out, &mut err)?;
+    let want: Written = (b"slot 12182 n2:2\n", b"", 0);
+    check_written(&rt, 0, (&out, &err, status), want);
     Ok(())
 }
 
@@ -257,11 +260,15 @@ impl Write for FullWriter {
 
 #[test]
 fn a_writer_that_takes_nothing(rt: HostRuntime) -> Result<(), Fail> {
-    let alloc = rt.alloc();
-    let words = words_of(alloc, &["node", "foo"])?;
     let mut reader = TWO_NODES;
-    let mut err = Vec::new(alloc);
-    let status = serve(alloc, &words, &mut reader, &mut FullWriter, &mut err, None);
+    let mut err = Vec::new(rt.alloc());
+    let status = served(
+        rt.alloc(),
+        &["node", "foo"],
+        &mut reader,
+        &mut FullWriter,
+        &mut err,
+    )?;
     assert_eq!(rt; err.as_slice(), b"slotroute: output failed\n".as_slice());
     assert_eq!(rt; status, 2);
     Ok(())

@@ -1,7 +1,6 @@
 //! Runs of many commands, of long ones and of long values, which fail nowhere for their size.
 use crate::large_input::repeated;
-use crate::serve::{Run, check, words_of};
-use slotroute_serve::serve;
+use crate::serve::{Run, check, served};
 use std::test::Fail;
 
 #[test]
@@ -71,11 +70,10 @@ fn commands_of_many_slots(rt: HostRuntime) -> Result<(), Fail> {
         let word = format!(in alloc; " {key}")?;
         input.extend_from_slice(word.as_bytes())?;
     }
-    let words = words_of(alloc, &["run", "forward"])?;
     let mut reader = input.as_slice();
     let mut out = Vec::new(alloc);
     let mut err = Vec::new(alloc);
-    let status = serve(alloc, &words, &mut reader, &mut out, &mut err, None);
+    let status = served(alloc, &["run", "forward"], &mut reader, &mut out, &mut err)?;
     let reply = repeated(alloc, b"\n[v", b", v", 9_999, b"]\n")?;
     assert_eq!(rt; err.len(), 0);
     assert!(rt;

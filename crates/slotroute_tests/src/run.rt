@@ -4,6 +4,8 @@ ghost use Rattle.cluster_map.specs.Candidates.{IsCandidate};
 use crate::serve::{Run, USAGE, check, check_with};
 use cluster_map::{ClusterTopology, NodeAddress, ReadCandidates, ReadRoutingStrategy};
 use example_strategies::{FirstReplica, PickIndex, ShardAware};
+use std::alloc::Global;
+use std::process::Abort;
 use std::test::Fail;
 
 const SETS_AND_GETS: &[u8] =
@@ -254,6 +256,10 @@ fn a_strategy_is_told_once(rt: HostRuntime) -> Result<(), Fail> {
     Ok(())
 }
 
+fn check_first_replica(rt: &impl Abort, alloc: Global, i: usize, run: &Run) -> Result<(), Fail> {
+    check_with(rt, alloc, i, run, Some(Box::new(alloc, FirstReplica)?))
+}
+
 #[test]
 fn the_strategy_handed_in_counts(rt: HostRuntime) -> Result<(), Fail> {
     let alloc = rt.alloc();
@@ -279,13 +285,7 @@ fn the_strategy_handed_in_counts(rt: HostRuntime) -> Result<(), Fail> {
         b"",
         0,
     );
-    check_with(
-        &rt,
-        alloc,
-        1,
-        &without_word,
-        Some(Box::new(alloc, FirstReplica)?),
-    )?;
+    check_first_replica(&rt, alloc, 1, &without_word)?;
     let without_strategy: Run = (
         &["run", "forward", "pick=1"],
         input,
@@ -295,13 +295,7 @@ fn the_strategy_handed_in_counts(rt: HostRuntime) -> Result<(), Fail> {
     );
     check_with(&rt, alloc, 2, &without_strategy, None)?;
     let bad_word: Run = (&["run", "forward", "last"], input, b"", USAGE, 2);
-    check_with(
-        &rt,
-        alloc,
-        3,
-        &bad_word,
-        Some(Box::new(alloc, FirstReplica)?),
-    )
+    check_first_replica(&rt, alloc, 3, &bad_word)
 }
 
 // `node` and `split` go to primaries, whatever strategy is handed in.

@@ -2,6 +2,7 @@
 use cluster_map::ReadRoutingStrategy;
 use slotroute_serve::serve;
 use std::alloc::{AllocError, Global};
+use std::io::{BufRead, Write};
 use std::process::Abort;
 use std::test::Fail;
 
@@ -42,13 +43,40 @@ pub fn check_with(
     let mut out = Vec::new(alloc);
     let mut err = Vec::new(alloc);
     let status = serve(alloc, &words, &mut reader, &mut out, &mut err, strategy);
+    check_written(
+        rt,
+        i,
+        (&out, &err, status),
+        (want_out, want_err, want_status),
+    );
+    Ok(())
+}
+
+/// Serves the words over streams of the test's own, and answers the status.
+pub fn served<R: BufRead, O: Write, E: Write>(
+    alloc: Global,
+    texts: &[&str],
+    reader: &mut R,
+    out: &mut O,
+    err: &mut E,
+) -> Result<u8, AllocError> {
+    let words = words_of(alloc, texts)?;
+    Ok(serve(alloc, &words, reader, out, err, None))
+}
+
+/// What went to the output and to the error stream, and the status.
+pub type Written<'a> = (&'a [u8], &'a [u8], u8);
+
+/// Sees what a run wrote, which a failure names by its number.
+pub fn check_written(rt: &impl Abort, i: usize, given: Written, want: Written) {
+    let (out, err, status) = given;
+    let (want_out, want_err, want_status) = want;
     assert_eq!(rt;
         out.len(),
         want_out.len(),
         "length of the output of run {i}"
     );
-    assert_eq!(rt; out.as_slice(), want_out, "output of run {i}");
-    assert_eq!(rt; err.as_slice(), want_err, "error stream of run {i}");
+    assert_eq!(rt; out, want_out, "output of run {i}");
+    assert_eq!(rt; err, want_err, "error stream of run {i}");
     assert_eq!(rt; status, want_status, "status of run {i}");
-    Ok(())
 }
