@@ -13,7 +13,7 @@ fn each_part_goes_to_the_node_of_its_slot_and_the_reply_is_of_the_whole(
     // The values stand in the order of the keys, and a key is removed once.
     cluster.check(&rt, "MGET a b a", &[1, 0], "[3, 2, 3]")?;
     cluster.check(&rt, "DEL a a b", &[1, 0], "2")?;
-    assert_eq!(rt; cluster.nodes.trace().len(), 6, "two sends each");
+    cluster.check_sends(&rt, 6);
     cluster.check_value(&rt, "a", "nil")
 }
 
@@ -23,7 +23,7 @@ fn keys_of_one_slot_are_one_part(rt: HostRuntime) -> Result<(), Fail> {
     cluster.check(&rt, "DEL foo {foo}bar", &[0], "0")?;
     cluster.check_sent(&rt, "n2:2 DEL foo {foo}bar;")?;
     cluster.check(&rt, "DEL foo {foo}bar", &[], "BadOrder after 0")?;
-    assert_eq!(rt; cluster.nodes.trace().len(), 1, "nothing more was sent");
+    cluster.check_sends(&rt, 1);
     Ok(())
 }
 

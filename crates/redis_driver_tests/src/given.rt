@@ -162,6 +162,11 @@ impl Cluster {
         Ok(())
     }
 
+    /// Sees how many sends there were so far, with those that were refused.
+    pub fn check_sends(&self, rt: &impl Abort, want: usize) {
+        assert_eq!(rt; self.nodes.trace().len(), want, "sends");
+    }
+
     /// Sees the value of a key at the empty path, or `nil`.
     pub fn check_value(&self, rt: &impl Abort, key: &str, want: &str) -> Result<(), Fail> {
         self.check_value_at(rt, key, "", want)

@@ -32,11 +32,7 @@ fn a_fuse_counts_the_sends_before_it_and_the_last_one_holds(rt: HostRuntime) -> 
     for (limit, text, order, want) in table {
         check_fused(&rt, &mut cluster, limit, text, order, want)?;
     }
-    assert_eq!(rt;
-        cluster.nodes.trace().len(),
-        9,
-        "each send that was refused, too"
-    );
+    cluster.check_sends(&rt, 9);
     Ok(())
 }
 
