@@ -2,6 +2,7 @@ use crate::helpers;
 use redis_cluster::routing::{ResponsePolicy, Routable};
 use resp_core::{Cmd, Value};
 use std::alloc::{AllocError, Global};
+use std::process::Abort;
 use std::test::Fail;
 
 // The words as a command.
@@ -25,6 +26,16 @@ fn name_of<R: Routable>(alloc: Global, routable: &R) -> Result<String, Fail> {
     }
 }
 
+fn check_name<R: Routable>(
+    rt: &impl Abort,
+    alloc: Global,
+    routable: &R,
+    want: &str,
+) -> Result<(), Fail> {
+    assert_eq!(rt; name_of(alloc, routable)?.as_str(), want);
+    Ok(())
+}
+
 #[test]
 fn names_of_commands(rt: HostRuntime) -> Result<(), Fail> {
     let alloc = rt.alloc();
@@ -42,10 +53,18 @@ fn names_of_commands(rt: HostRuntime) -> Result<(), Fail> {
         (&[], "none"),
     ];
     for (words, name) in table {
-        assert_eq!(rt; name_of(alloc, &cmd_of(alloc, words)?)?.as_str(), name);
-        assert_eq!(rt; name_of(alloc, &value_of(alloc, words)?)?.as_str(), name);
+        check_name(&rt, alloc, &cmd_of(alloc, words)?, name)?;
+        check_name(&rt, alloc, &value_of(alloc, words)?, name)?;
     }
     Ok(())
+}
+
+// Sees that a word and the next make a name.
+fn check_two_words(rt: &impl Abort, alloc: Global, word: &str) -> Result<(), Fail> {
+    let name = format!(in alloc; "{word} HELP")?;
+    check_name(rt, alloc, &cmd_of(alloc, &[word, "help"])?, &name)?;
+    check_name(rt, alloc, &cmd_of(alloc, &[word, "help", "x"])?, &name)?;
+    check_name(rt, alloc, &cmd_of(alloc, &[word])?, word)
 }
 
 #[test]
@@ -55,18 +74,10 @@ fn fifteen_words_take_a_second_one(rt: HostRuntime) -> Result<(), Fail> {
         MEMORY, XINFO, CLIENT, ACL, SCRIPT, CLUSTER, LATENCY";
     assert_eq!(rt; first_words.split(", ").count(), 15);
     for word in first_words.split(", ") {
-        let name = format!(in alloc; "{word} HELP")?;
-        for cmd in [
-            cmd_of(alloc, &[word, "help"])?,
-            cmd_of(alloc, &[word, "help", "x"])?,
-        ] {
-            assert_eq!(rt; name_of(alloc, &cmd)?.as_str(), name.as_str());
-        }
-        assert_eq!(rt; name_of(alloc, &cmd_of(alloc, &[word])?)?.as_str(), word);
+        check_two_words(&rt, alloc, word)?;
     }
     for word in ["GET", "XREAD", "TFUNCTION", "DEBUG", "LATENC", "LATENCYS"] {
-        let cmd = cmd_of(alloc, &[word, "help"])?;
-        assert_eq!(rt; name_of(alloc, &cmd)?.as_str(), word);
+        check_name(&rt, alloc, &cmd_of(alloc, &[word, "help"])?, word)?;
     }
     Ok(())
 }
@@ -82,7 +93,7 @@ fn names_of_values_with_gaps(rt: HostRuntime) -> Result<(), Fail> {
         (&["GET", "#"], "GET"),
     ];
     for (words, name) in table {
-        assert_eq!(rt; name_of(alloc, &value_of(alloc, words)?)?.as_str(), name);
+        check_name(&rt, alloc, &value_of(alloc, words)?, name)?;
     }
     Ok(())
 }
