@@ -1,5 +1,5 @@
 -- What the driver says of a command, in the words of the program.
-use Rattle.std.proofs.Common.{◌≡◌, ℕ, ◌-◌, Bool, List, [], ◌∷◌, Option, None, Some, IfSome, MatchOption, refl, sym, ap, ◌∙◌, subst, take, drop, length, map, is_some}
+use Rattle.std.proofs.Common.{◌≡◌, ℕ, ◌-◌, ◌≤◌, Bool, List, [], ◌∷◌, ◌++◌, arith, length-append, Option, None, Some, IfSome, MatchOption, refl, sym, ap, ◌∙◌, subst, take, drop, length, map, is_some}
 use Rattle.std.proofs.Math.Path.{fun_ext}
 use Rattle.std.proofs.Math.Seq.{drop-append_seam}
 use Rattle.std.proofs.lemmas.List.{drop-map, take_rest, length-map}
@@ -121,6 +121,10 @@ command_run handed direction entries words old new order answer text ordered d l
 pub since : {X Y : Type 0} (f : X → Y) (old new : List X) (was is : List Y) → map f old ≡ was → map f new ≡ is → map f (take (length new - length old) (drop (length old) new)) ≡ drop (length was) is
 since f old new was is o n =
     ap (map f) (take_rest new (length old)) ∙ sym (drop-map f (length old) new) ∙ ap (drop (length old)) n ∙ ap (λ k. drop k is) (sym (length-map old f) ∙ ap length o)
+
+-- A trace that grew is no shorter than before.
+pub grown : {X : Type 0} (f : X → Entry) (before after : List X) (old new sent : List Entry) → map f before ≡ old → map f after ≡ new → new ≡ old ++ sent → length before ≤ length after
+grown f before after old new sent b a g = omega (arith, length-map before f, length-map after f, ap length b, ap length a, ap length g, length-append old sent)
 
 -- A command as it was prepared was run.
 pub prepared_run : (handed : Bool) (direction : Direction) (entries : List (ranges.Entry SlotNodes)) (names words command : List (List ℕ)) (old new : State Cell) (order order' : List ℕ) (answer : Reply) (text : List ℕ) (sent : List Entry) → AreReadOnly names → command ≡ words → order' ≡ order

@@ -2,8 +2,16 @@ use Rattle.resp_core.specs.View.{view}
 use Rattle.std.proofs.Common.{map}
 use Rattle.memory_nodes.specs.Nodes.{entry_of, keyspace_in, trace_in, mark_in}
 use Rattle.redis_cluster.specs.Driven.{state}
-use Rattle.slotroute_run.proofs.Running.{since, prepared_run}
+use Rattle.slotroute_run.proofs.Running.{grown, since, prepared_run}
 use Rattle.slotroute_run.proofs.command.run_command.Goals as goal
+
+pub slice_bounds-command_lines-count : goal.slice_bounds-command_lines-count
+slice_bounds-command_lines-count g c =
+    let sent = c.in_ok-reply.ensures.driven.trace in
+    grown entry_of c.trace-before.result.now c.trace.result.now _ _ sent.entries c.trace-before.ensures c.trace.ensures sent.grew
+
+pub slice_bounds-command_lines-start : goal.slice_bounds-command_lines-start
+slice_bounds-command_lines-start g c = slice_bounds-command_lines-count g c
 
 pub returns-clause-run : goal.returns-clause-run
 returns-clause-run g c =
