@@ -1,0 +1,484 @@
+//! In Rust, after the algorithms that the Rust crate publishes, what some calls of the layer do:
+//! a `BTreeMap` of ranges by their ends, a `HashMap` for grouping and for totals, a command as one
+//! buffer with ends. It is not the crate's own code. `in_rust time OPERATION SIZE` prints the
+//! nanoseconds of a call, measured as `crates/bench` measures them, over the same inputs; nothing
+//! is printed for an operation that is not here.
+use std::collections::{BTreeMap, HashMap};
+use std::env;
+use std::hint::black_box;
+use std::sync::Arc;
+
+// The clock of the processor time of this thread.
+const THREAD_CPU_TIME: i32 = 3;
+
+unsafe extern "C" {
+    fn clock_gettime(clock: i32, time: *mut [i64; 2]) -> i32;
+}
+
+fn nanos() -> u64 {
+    let mut time = [0; 2];
+    // SAFETY: two words are what the call writes on a 64-bit Linux.
+    unsafe { clock_gettime(THREAD_CPU_TIME, &mut time) };
+    time[0] as u64 * 1_000_000_000 + time[1] as u64
+}
+
+const WHOLE_NANOS: u64 = 500_000_000;
+const ROUND_NANOS: u64 = 200_000;
+
+/// The nanoseconds of so many calls, each on an input of its own, of the least of some rounds.
+fn least<I, O>(
+    rounds: u64,
+    calls: u64,
+    input: &mut impl FnMut() -> I,
+    call: &mut impl FnMut(I) -> O,
+) -> u64 {
+    let mut least = u64::MAX;
+    for _ in 0..rounds {
+        let stock: Vec<I> = (0..calls).map(|_| input()).collect();
+        let began = nanos();
+        for input in stock {
+            black_box(call(input));
+        }
+        least = least.min(nanos() - began);
+    }
+    least
+}
+
+fn time<I, O>(mut input: impl FnMut() -> I, mut call: impl FnMut(I) -> O) {
+    let one = least(3, 1, &mut input, &mut call).max(1);
+    let calls = (ROUND_NANOS / one).clamp(1, 20_000);
+    let rounds = (WHOLE_NANOS / (one * calls)).clamp(9, 1000);
+    let whole = least(rounds, calls, &mut input, &mut call);
+    println!("{:.1}", whole as f64 / calls as f64);
+}
+
+#[derive(Clone, Copy, PartialEq, Eq, Hash)]
+enum SlotAddr {
+    Master,
+    ReplicaOptional,
+}
+
+#[derive(Clone, Copy, PartialEq, Eq, Hash)]
+struct Route(u16, SlotAddr);
+
+// Slots of keys.
+
+const fn remainders() -> [u16; 256] {
+    let mut table = [0; 256];
+    let mut byte = 0;
+    while byte < 256 {
+        let mut crc = (byte as u16) << 8;
+        let mut bit = 0;
+        while bit < 8 {
+            crc = if crc & 0x8000 == 0 {
+                crc << 1
+            } else {
+                crc << 1 ^ 0x1021
+            };
+            bit += 1;
+        }
+        table[byte] = crc;
+        byte += 1;
+    }
+    table
+}
+
+static REMAINDERS: [u16; 256] = remainders();
+
+fn hashtag(key: &[u8]) -> Option<&[u8]> {
+    let open = key.iter().position(|byte| *byte == b'{')?;
+    let close = key[open..].iter().position(|byte| *byte == b'}')?;
+    let tag = &key[open + 1..open + close];
+    (!tag.is_empty()).then_some(tag)
+}
+
+#[inline(never)]
+fn slot_of(key: &[u8]) -> u16 {
+    let mut crc = 0;
+    for byte in hashtag(key).unwrap_or(key) {
+        crc = crc << 8 ^ REMAINDERS[usize::from((crc >> 8) as u8 ^ byte)];
+    }
+    crc % 16384
+}
+
+// Maps of ranges.
+
+#[derive(Clone)]
+struct NodeAddress {
+    host: Arc<str>,
+    port: u16,
+}
+
+#[derive(Clone)]
+struct SlotRange {
+    start: u16,
+    end: u16,
+    primary: NodeAddress,
+    replicas: Vec<NodeAddress>,
+}
+
+type SlotMap = BTreeMap<u16, SlotRange>;
+
+#[inline(never)]
+fn map_of(ranges: Vec<SlotRange>) -> SlotMap {
+    let mut map = SlotMap::new();
+    for range in ranges {
+        map.insert(range.end, range);
+    }
+    map
+}
+
+#[inline(never)]
+fn node_of(map: &SlotMap, route: Route) -> Option<&NodeAddress> {
+    let (_, range) = map.range(route.0..).next()?;
+    if range.start > route.0 {
+        return None;
+    }
+    match route.1 {
+        SlotAddr::Master => Some(&range.primary),
+        SlotAddr::ReplicaOptional => Some(range.replicas.first().unwrap_or(&range.primary)),
+    }
+}
+
+fn ranges(count: usize) -> Vec<SlotRange> {
+    let range = |number: usize| {
+        let node = number % 1000;
+        let host = format!("10.0.{}.{}", node / 250, node % 250);
+        let at = |port| NodeAddress {
+            host: host.as_str().into(),
+            port,
+        };
+        SlotRange {
+            start: (number * 16384 / count) as u16,
+            end: ((number + 1) * 16384 / count - 1) as u16,
+            primary: at(6379),
+            replicas: vec![at(6380)],
+        }
+    };
+    (0..count).map(range).collect()
+}
+
+// Commands.
+
+#[derive(Default)]
+struct Cmd {
+    data: Vec<u8>,
+    ends: Vec<usize>,
+}
+
+impl Cmd {
+    #[inline(never)]
+    fn write_arg(&mut self, arg: &[u8]) {
+        self.data.extend_from_slice(arg);
+        self.ends.push(self.data.len());
+    }
+
+    fn arg_idx(&self, index: usize) -> Option<&[u8]> {
+        let end = *self.ends.get(index)?;
+        let start = if index == 0 { 0 } else { self.ends[index - 1] };
+        Some(&self.data[start..end])
+    }
+
+    #[inline(never)]
+    fn name(&self) -> Option<Vec<u8>> {
+        let mut name = self.arg_idx(0)?.to_ascii_uppercase();
+        match name.as_slice() {
+            b"XGROUP" | b"OBJECT" | b"SLOWLOG" | b"FUNCTION" | b"MODULE" | b"COMMAND"
+            | b"PUBSUB" | b"CONFIG" | b"MEMORY" | b"XINFO" | b"CLIENT" | b"ACL" | b"SCRIPT"
+            | b"CLUSTER" | b"LATENCY" => {}
+            _ => return Some(name),
+        }
+        if let Some(second) = self.arg_idx(1) {
+            let second = second.to_ascii_uppercase();
+            name.reserve(second.len() + 1);
+            name.push(b' ');
+            name.extend(second);
+        }
+        Some(name)
+    }
+}
+
+fn command(words: &[&[u8]]) -> Cmd {
+    let mut command = Cmd::default();
+    for word in words {
+        command.write_arg(word);
+    }
+    command
+}
+
+fn command_of_keys(name: &[u8], count: usize, value: Option<&[u8]>) -> Cmd {
+    let mut command = command(&[name]);
+    for number in 0..count {
+        command.write_arg(format!("key:{number}").as_bytes());
+        if let Some(value) = value {
+            command.write_arg(value);
+        }
+    }
+    command
+}
+
+type Routes = Vec<(Route, Vec<usize>)>;
+
+/// The routes of a command whose keys stand at each `width`th argument.
+#[inline(never)]
+fn split(command: &Cmd, width: usize, addr: SlotAddr) -> Routes {
+    let mut routes = Routes::new();
+    let mut numbers = HashMap::new();
+    for place in (0..command.ends.len() - 1).step_by(width) {
+        let key = command.arg_idx(place + 1).expect("a key");
+        let route = Route(slot_of(key), addr);
+        let number = *numbers.entry(route).or_insert_with(|| {
+            routes.push((route, Vec::new()));
+            routes.len() - 1
+        });
+        routes[number].1.extend(place..place + width);
+    }
+    routes
+}
+
+fn part(command: &Cmd, places: &[usize]) -> Cmd {
+    let mut part = Cmd {
+        data: Vec::with_capacity(places.len() * 20 + 4),
+        ends: Vec::with_capacity(places.len() + 1),
+    };
+    part.write_arg(command.arg_idx(0).expect("a name"));
+    for place in places {
+        part.write_arg(command.arg_idx(place + 1).expect("an argument"));
+    }
+    part
+}
+
+fn parts(command: &Cmd, routes: &Routes) -> Vec<Cmd> {
+    routes
+        .iter()
+        .map(|(_, places)| part(command, places))
+        .collect()
+}
+
+// Replies.
+
+#[derive(Clone)]
+#[allow(dead_code)]
+enum Value {
+    Nil,
+    Int(i64),
+    BulkString(Vec<u8>),
+    Array(Vec<Value>),
+    Map(Vec<(Value, Value)>),
+}
+
+#[derive(Debug)]
+struct Refused;
+
+#[inline(never)]
+fn sum(replies: Vec<Value>) -> Result<Value, Refused> {
+    let mut total = 0;
+    for reply in replies {
+        let Value::Int(number) = reply else {
+            return Err(Refused);
+        };
+        total += number;
+    }
+    Ok(Value::Int(total))
+}
+
+#[inline(never)]
+fn all_set(replies: Vec<Value>) -> Result<Value, Refused> {
+    let mut bits: Vec<bool> = Vec::new();
+    for reply in replies {
+        let Value::Array(items) = reply else {
+            return Err(Refused);
+        };
+        if bits.is_empty() {
+            bits = vec![true; items.len()];
+        }
+        for (bit, item) in bits.iter_mut().zip(items) {
+            let Value::Int(number) = item else {
+                return Err(Refused);
+            };
+            *bit = *bit && number > 0;
+        }
+    }
+    Ok(Value::Array(
+        bits.into_iter().map(|bit| Value::Int(bit.into())).collect(),
+    ))
+}
+
+#[inline(never)]
+fn totals(replies: Vec<Value>) -> Result<Value, Refused> {
+    let mut totals: HashMap<Vec<u8>, i64> = HashMap::new();
+    for reply in replies {
+        let Value::Array(items) = reply else {
+            return Err(Refused);
+        };
+        let mut items = items.into_iter();
+        while let Some(key) = items.next() {
+            let (Value::BulkString(key), Some(Value::Int(number))) = (key, items.next()) else {
+                return Err(Refused);
+            };
+            *totals.entry(key).or_insert(0) += number;
+        }
+    }
+    let pair = |(key, total)| (Value::BulkString(key), Value::Int(total));
+    Ok(Value::Map(totals.into_iter().map(pair).collect()))
+}
+
+#[inline(never)]
+fn joined(replies: Vec<Value>) -> Result<Value, Refused> {
+    let mut all = Vec::new();
+    for reply in replies {
+        let Value::Array(items) = reply else {
+            return Err(Refused);
+        };
+        all.extend(items);
+    }
+    Ok(Value::Array(all))
+}
+
+#[inline(never)]
+fn sorted(replies: Vec<Value>, routes: &Routes) -> Result<Value, Refused> {
+    let count = replies.iter().map(|reply| match reply {
+        Value::Array(items) => items.len(),
+        _ => 0,
+    });
+    let mut all = vec![Value::Nil; count.sum()];
+    for ((_, places), reply) in routes.iter().zip(replies) {
+        let Value::Array(items) = reply else {
+            return Err(Refused);
+        };
+        assert_eq!(items.len(), places.len());
+        for (place, item) in places.iter().zip(items) {
+            all[*place] = item;
+        }
+    }
+    Ok(Value::Array(all))
+}
+
+fn bulks(count: usize) -> Value {
+    let bulk = |number| Value::BulkString(format!("key:{number}").into_bytes());
+    Value::Array((0..count).map(bulk).collect())
+}
+
+fn ints(count: usize, below: usize) -> Vec<Value> {
+    (0..count)
+        .map(|number| Value::Int((number % below) as i64))
+        .collect()
+}
+
+fn counts(count: usize) -> Value {
+    let pair = |number: usize| {
+        let key = format!("key:{number}").into_bytes();
+        [Value::BulkString(key), Value::Int(number as i64)]
+    };
+    Value::Array((0..count).flat_map(pair).collect())
+}
+
+fn time_sorted(size: usize) {
+    let routes = split(
+        &command_of_keys(b"MGET", size, None),
+        1,
+        SlotAddr::ReplicaOptional,
+    );
+    let replies: Vec<Value> = routes
+        .iter()
+        .map(|(_, places)| bulks(places.len()))
+        .collect();
+    time(|| replies.clone(), |replies| sorted(replies, &routes));
+}
+
+fn time_parts(command: Cmd, width: usize) {
+    let routes = split(&command, width, SlotAddr::Master);
+    time(|| (), |()| parts(&command, &routes));
+}
+
+fn time_command(words: &[&[u8]]) {
+    let command = command(words);
+    time(|| (), |()| command.name());
+}
+
+fn time_slots(size: usize) {
+    let key = |number: usize| {
+        let mut key = number.to_string().into_bytes();
+        key.resize(size, b'k');
+        key
+    };
+    let keys: Vec<Vec<u8>> = (0..64).map(key).collect();
+    let mut turn = 0;
+    time(
+        || (),
+        |()| {
+            turn += 1;
+            slot_of(&keys[turn & 63])
+        },
+    );
+}
+
+fn time_nodes(size: usize) {
+    let map = map_of(ranges(size));
+    let mut turn = 0_usize;
+    time(
+        || (),
+        |()| {
+            turn += 1;
+            let slot = (turn.wrapping_mul(40_503) & 16_383) as u16;
+            node_of(&map, Route(slot, SlotAddr::Master)).map(|node| (node.port, node.host.len()))
+        },
+    );
+}
+
+fn main() {
+    let words: Vec<String> = env::args().collect();
+    let size = words.get(3).and_then(|word| word.parse().ok()).unwrap_or(1);
+    let del = || command_of_keys(b"DEL", size, None);
+    let mget = || command_of_keys(b"MGET", size, None);
+    let mset = || command_of_keys(b"MSET", size, Some(b"value"));
+    let of_three = |reply: Value| move || vec![reply.clone(); 3];
+    match words.get(2).map_or("", String::as_str) {
+        "key-slot" => time_slots(size),
+        "look-up" => time_nodes(size),
+        "map-from-slots" => {
+            let ranges = ranges(size);
+            time(|| ranges.clone(), map_of);
+        }
+        "name-get" => time_command(&[b"get", &vec![b'k'; size]]),
+        "name-cluster-info" => time_command(&[b"cluster", b"info"]),
+        "split-del" => {
+            let command = del();
+            time(|| (), |()| split(&command, 1, SlotAddr::Master));
+        }
+        "split-mget" => {
+            let command = mget();
+            time(|| (), |()| split(&command, 1, SlotAddr::ReplicaOptional));
+        }
+        "split-mset" => {
+            let command = mset();
+            time(|| (), |()| split(&command, 2, SlotAddr::Master));
+        }
+        "parts-del" => time_parts(del(), 1),
+        "parts-mset" => time_parts(mset(), 2),
+        "split-and-parts-del" => {
+            let command = del();
+            time(
+                || (),
+                |()| {
+                    let routes = split(&command, 1, SlotAddr::Master);
+                    let parts = parts(&command, &routes);
+                    (routes, parts)
+                },
+            );
+        }
+        "combine-sums" => {
+            let replies = ints(size, size);
+            time(|| replies.clone(), sum);
+        }
+        "combine-logical" => time(of_three(Value::Array(ints(size, 2))), all_set),
+        "combine-maps" => time(of_three(counts(size)), totals),
+        "combine-arrays" => time(of_three(bulks(size)), joined),
+        "combine-sorted" => time_sorted(size),
+        "command" => {
+            let words = vec![b"argument".as_slice(); size];
+            time(|| (), |()| command(&words));
+        }
+        _ => {}
+    }
+}
