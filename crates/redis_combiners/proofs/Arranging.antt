@@ -1,4 +1,4 @@
--- Items that are put into slots stand in the order of their places.
+-- Items that are put into spots stand in the order of their places.
 use Rattle.std.proofs.Common.{◌≡◌, ℕ, zero, suc, ◌<◌, ◌⊎◌, inl, inr, Bool, true, false, cond, List, [], ◌∷◌, length, map, get_or, replicate, Option, Some, None, refl, ap, sym, ◌∙◌, subst, arith}
 use Rattle.std.proofs.Math.ListN.{set}
 use Rattle.std.specs.Prelude.{option_map, option_and_then, option_to_list, filter, is_none, nat_eq, nat_lt, ◌&&◌}
@@ -8,7 +8,7 @@ use Rattle.std.proofs.lemmas.List.{get_or-replicate, get_or-set_same, get_or-set
 use Rattle.std.proofs.lemmas.List.FromFn.{fill_by_all, length-map-range_with_len, get_or-map-range_with_len}
 use Rattle.resp_core.specs.Reply.{Reply}
 use Rattle.redis_combiners.specs.ByPlaces.{items_at, single, by_places}
-use Rattle.redis_combiners.specs.Slots.{put, filled}
+use Rattle.redis_combiners.specs.Spots.{put, filled}
 use Rattle.redis_commands.specs.Lists.{all_some}
 use Rattle.resp_core.proofs.Cases.{by_test}
 
@@ -19,10 +19,10 @@ items_at-cons k p ps x xs = either (nat_eq p k)
     either true = refl
     either false = refl
 
--- the slots have the items of their places
-record Held (n : ℕ) (ps : List ℕ) (xs : List Reply) (slots : List (Option Reply)) : Type 0 where
-  long : length slots ≡ n
-  held : (k : ℕ) → k < n → option_to_list (get_or slots k None) ≡ items_at k ps xs
+-- the spots have the items of their places
+record Held (n : ℕ) (ps : List ℕ) (xs : List Reply) (spots : List (Option Reply)) : Type 0 where
+  long : length spots ≡ n
+  held : (k : ℕ) → k < n → option_to_list (get_or spots k None) ≡ items_at k ps xs
   within : list_all (λ p. nat_lt p n) ps ≡ true
 
 -- a place is past the end, or has two items
@@ -41,19 +41,19 @@ bad_more n p ps x xs (inr t) = inr (t.0, t.1, subst (λ ys. 1 < length ys) (sym 
     one_more true h = omega arith
     one_more false h = h
 
-held_more : (n p : ℕ) (ps : List ℕ) (x : Reply) (xs : List Reply) (slots : List (Option Reply)) → Held n ps xs slots → p < n → is_none (get_or slots p None) ≡ true → Held n (p ∷ ps) (x ∷ xs) (set slots p (Some x))
-held_more n p ps x xs slots h l e =
-    let empty : option_to_list (get_or slots p None) ≡ [] = no_item (get_or slots p None) e in
+held_more : (n p : ℕ) (ps : List ℕ) (x : Reply) (xs : List Reply) (spots : List (Option Reply)) → Held n ps xs spots → p < n → is_none (get_or spots p None) ≡ true → Held n (p ∷ ps) (x ∷ xs) (set spots p (Some x))
+held_more n p ps x xs spots h l e =
+    let empty : option_to_list (get_or spots p None) ≡ [] = no_item (get_or spots p None) e in
     record {
-      long = length-set slots p (Some x) ∙ h.long;
+      long = length-set spots p (Some x) ∙ h.long;
       held = λ k lk. by_test (nat_eq p k)
           (λ t. let same : p ≡ k = eqb-true p k t in
-          ap (λ j. option_to_list (get_or (set slots p (Some x)) j None)) (sym same)
-          ∙ ap option_to_list (get_or-set_same slots p (Some x) None (omega (arith, h.long)))
+          ap (λ j. option_to_list (get_or (set spots p (Some x)) j None)) (sym same)
+          ∙ ap option_to_list (get_or-set_same spots p (Some x) None (omega (arith, h.long)))
           ∙ ap (λ ys. x ∷ ys) (sym empty ∙ h.held p l ∙ ap (λ j. items_at j ps xs) same)
           ∙ ap (λ b. cond b (x ∷ items_at k ps xs) (items_at k ps xs)) (sym t)
           ∙ sym (items_at-cons k p ps x xs))
-          (λ f. ap option_to_list (get_or-set_other slots p k (Some x) None (λ i. eqb-false p k f (sym i)))
+          (λ f. ap option_to_list (get_or-set_other spots p k (Some x) None (λ i. eqb-false p k f (sym i)))
           ∙ h.held k lk
           ∙ ap (λ b. cond b (x ∷ items_at k ps xs) (items_at k ps xs)) (sym f)
           ∙ sym (items_at-cons k p ps x xs));
@@ -64,9 +64,9 @@ held_more n p ps x xs slots h l e =
     no_item None e = refl
     no_item (Some y) e = absurd (cc)
 
-two_at_place : (n p : ℕ) (ps : List ℕ) (x : Reply) (xs : List Reply) (slots : List (Option Reply)) → Held n ps xs slots → p < n → is_none (get_or slots p None) ≡ false → 1 < length (items_at p (p ∷ ps) (x ∷ xs))
-two_at_place n p ps x xs slots h l e =
-    let one : 0 < length (items_at p ps xs) = subst (λ ys. 0 < length ys) (h.held p l) (some_item (get_or slots p None) e) in
+two_at_place : (n p : ℕ) (ps : List ℕ) (x : Reply) (xs : List Reply) (spots : List (Option Reply)) → Held n ps xs spots → p < n → is_none (get_or spots p None) ≡ false → 1 < length (items_at p (p ∷ ps) (x ∷ xs))
+two_at_place n p ps x xs spots h l e =
+    let one : 0 < length (items_at p ps xs) = subst (λ ys. 0 < length ys) (h.held p l) (some_item (get_or spots p None) e) in
     let two : 1 < length (cond (nat_eq p p) (x ∷ items_at p ps xs) (items_at p ps xs)) = subst (λ b. 1 < length (cond b (x ∷ items_at p ps xs) (items_at p ps xs))) (sym (eq-eqb p p refl)) (omega arith) in
     subst (λ ys. 1 < length ys) (sym (items_at-cons p p ps x xs)) two
   where
@@ -78,22 +78,22 @@ abbrev empty : ℕ → List (Option Reply)
 empty n = replicate n None
 
 abbrev Filling : ℕ → List ℕ → List Reply → Option (List (Option Reply)) → Type 0
-Filling n ps xs o = ((slots : List (Option Reply)) × (o ≡ Some slots) × Held n ps xs slots) ⊎ ((o ≡ None) × IsBad n ps xs)
+Filling n ps xs o = ((spots : List (Option Reply)) × (o ≡ Some spots) × Held n ps xs spots) ⊎ ((o ≡ None) × IsBad n ps xs)
 
 filling : (n : ℕ) (ps : List ℕ) (xs : List Reply) → length xs ≡ length ps → Filling n ps xs (filled (empty n) ps xs)
 filling n [] xs same = inl (empty n, refl, record { long = length-replicate n None; held = λ k l. ap option_to_list (get_or-replicate n k None None l); within = refl })
 filling n (p ∷ ps) [] same = absurd (omega arith)
 filling n (p ∷ ps) (x ∷ xs) same = next (filling n ps xs (omega arith))
   where
-    at_place : (slots : List (Option Reply)) → filled (empty n) ps xs ≡ Some slots → Held n ps xs slots → Filling n (p ∷ ps) (x ∷ xs) (filled (empty n) (p ∷ ps) (x ∷ xs))
-    at_place slots e h =
-        let step : filled (empty n) (p ∷ ps) (x ∷ xs) ≡ cond (nat_lt p n && is_none (get_or slots p None)) (Some (set slots p (Some x))) None =
-        ap (option_and_then (λ later. put later p x)) e ∙ ap (λ m. cond (nat_lt p m && is_none (get_or slots p None)) (Some (set slots p (Some x))) None) h.long in
+    at_place : (spots : List (Option Reply)) → filled (empty n) ps xs ≡ Some spots → Held n ps xs spots → Filling n (p ∷ ps) (x ∷ xs) (filled (empty n) (p ∷ ps) (x ∷ xs))
+    at_place spots e h =
+        let step : filled (empty n) (p ∷ ps) (x ∷ xs) ≡ cond (nat_lt p n && is_none (get_or spots p None)) (Some (set spots p (Some x))) None =
+        ap (option_and_then (λ later. put later p x)) e ∙ ap (λ m. cond (nat_lt p m && is_none (get_or spots p None)) (Some (set spots p (Some x))) None) h.long in
         by_test (nat_lt p n)
-        (λ t. by_test (is_none (get_or slots p None))
-        (λ u. inl (set slots p (Some x), step ∙ ap (λ b. cond (b && is_none (get_or slots p None)) (Some (set slots p (Some x))) None) t ∙ ap (λ b. cond b (Some (set slots p (Some x))) None) u, held_more n p ps x xs slots h (ltb-true p n t) u))
-        (λ u. inr (step ∙ ap (λ b. cond (b && is_none (get_or slots p None)) (Some (set slots p (Some x))) None) t ∙ ap (λ b. cond b (Some (set slots p (Some x))) None) u, inr (p, ltb-true p n t, two_at_place n p ps x xs slots h (ltb-true p n t) u))))
-        (λ f. inr (step ∙ ap (λ b. cond (b && is_none (get_or slots p None)) (Some (set slots p (Some x))) None) f, inl (ap (λ b. b && list_all (λ q. nat_lt q n) ps) f)))
+        (λ t. by_test (is_none (get_or spots p None))
+        (λ u. inl (set spots p (Some x), step ∙ ap (λ b. cond (b && is_none (get_or spots p None)) (Some (set spots p (Some x))) None) t ∙ ap (λ b. cond b (Some (set spots p (Some x))) None) u, held_more n p ps x xs spots h (ltb-true p n t) u))
+        (λ u. inr (step ∙ ap (λ b. cond (b && is_none (get_or spots p None)) (Some (set spots p (Some x))) None) t ∙ ap (λ b. cond b (Some (set spots p (Some x))) None) u, inr (p, ltb-true p n t, two_at_place n p ps x xs spots h (ltb-true p n t) u))))
+        (λ f. inr (step ∙ ap (λ b. cond (b && is_none (get_or spots p None)) (Some (set spots p (Some x))) None) f, inl (ap (λ b. b && list_all (λ q. nat_lt q n) ps) f)))
 
     next : Filling n ps xs (filled (empty n) ps xs) → Filling n (p ∷ ps) (x ∷ xs) (filled (empty n) (p ∷ ps) (x ∷ xs))
     next (inl t) = at_place t.0 t.1 t.2
@@ -123,17 +123,17 @@ bad_is_none ps xs (inr t) =
     either true o e = e
     either false o e = refl
 
-held_is : (ps : List ℕ) (xs : List Reply) (slots : List (Option Reply)) → Held (length ps) ps xs slots → all_some slots ≡ by_places ps xs
-held_is ps xs slots h =
+held_is : (ps : List ℕ) (xs : List Reply) (spots : List (Option Reply)) → Held (length ps) ps xs spots → all_some spots ≡ by_places ps xs
+held_is ps xs spots h =
     let f : ℕ → Option Reply = λ j. single (items_at j ps xs) in
-    ap all_some (fill_by_all f slots (length ps) None h.long (λ k l. sym (single_item (get_or slots k None)) ∙ ap single (h.held k l)))
+    ap all_some (fill_by_all f spots (length ps) None h.long (λ k l. sym (single_item (get_or spots k None)) ∙ ap single (h.held k l)))
     ∙ ap (λ b. cond b (all_some (map f (range_with_len 0 (length ps)))) None) (sym h.within)
   where
     single_item : (o : Option Reply) → single (option_to_list o) ≡ o
     single_item None = refl
     single_item (Some y) = refl
 
--- once each item is in its slot, the slots are the order
+-- once each item is in its spot, the spots are the order
 pub filled_is : (ps : List ℕ) (xs : List Reply) → length xs ≡ length ps → option_and_then all_some (filled (replicate (length ps) None) ps xs) ≡ by_places ps xs
 filled_is ps xs same = ends (filling (length ps) ps xs same)
   where

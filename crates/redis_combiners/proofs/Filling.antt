@@ -1,4 +1,4 @@
--- Slots that are filled from the last item on.
+-- Spots that are filled from the last item on.
 use Rattle.std.proofs.Common.{◌≡◌, ℕ, zero, suc, ◌+◌, ◌<◌, ◌≤◌, Bool, true, false, cond, List, [], ◌∷◌, ◌++◌, length, map, take, get_or, replicate, Option, Some, None, refl, ap, sym, ◌∙◌, arith}
 use Rattle.std.proofs.Math.ListN.{set}
 use Rattle.std.specs.Prelude.{option_map, option_and_then, is_none, ◌&&◌}
@@ -9,88 +9,88 @@ use Rattle.resp_core.specs.Reply.{Reply, array_of}
 use Rattle.resp_core.specs.View.{view}
 use Rattle.resp_core.specs.declared.value.Value.{Value}
 use Rattle.redis_combiners.specs.AllItems.{all_items}
-use Rattle.redis_combiners.specs.Slots.{slots_of, put, filled}
+use Rattle.redis_combiners.specs.Spots.{spots_of, put, filled}
 use Rattle.redis_commands.specs.Lists.{all_some, flatten}
 
 -- one list of items after another
-pub filled_both : (slots : List (Option Reply)) (ps qs : List ℕ) (xs ys : List Reply) → length ps ≡ length xs → filled slots (ps ++ qs) (xs ++ ys) ≡ option_and_then (λ later. filled later ps xs) (filled slots qs ys)
-filled_both slots [] qs [] ys n = same (filled slots qs ys)
+pub filled_both : (spots : List (Option Reply)) (ps qs : List ℕ) (xs ys : List Reply) → length ps ≡ length xs → filled spots (ps ++ qs) (xs ++ ys) ≡ option_and_then (λ later. filled later ps xs) (filled spots qs ys)
+filled_both spots [] qs [] ys n = same (filled spots qs ys)
   where
     same : (o : Option (List (Option Reply))) → o ≡ option_and_then (λ later. Some later) o
     same None = refl
     same (Some later) = refl
-filled_both slots [] qs (x ∷ xs) ys n = absurd (omega arith)
-filled_both slots (p ∷ ps) qs [] ys n = absurd (omega arith)
-filled_both slots (p ∷ ps) qs (x ∷ xs) ys n = ap (option_and_then (λ later. put later p x)) (filled_both slots ps qs xs ys (omega arith)) ∙ same (filled slots qs ys)
+filled_both spots [] qs (x ∷ xs) ys n = absurd (omega arith)
+filled_both spots (p ∷ ps) qs [] ys n = absurd (omega arith)
+filled_both spots (p ∷ ps) qs (x ∷ xs) ys n = ap (option_and_then (λ later. put later p x)) (filled_both spots ps qs xs ys (omega arith)) ∙ same (filled spots qs ys)
   where
     same : (o : Option (List (Option Reply))) → option_and_then (λ later. put later p x) (option_and_then (λ later. filled later ps xs) o) ≡ option_and_then (λ later. option_and_then (λ last. put last p x) (filled later ps xs)) o
     same None = refl
     same (Some later) = refl
 
--- slots as flags and items
-length-slots_of : (taken : List Bool) (items : List Reply) → length taken ≡ length items → length (slots_of taken items) ≡ length taken
-length-slots_of [] items n = refl
-length-slots_of (b ∷ taken) [] n = absurd (omega arith)
-length-slots_of (b ∷ taken) (x ∷ items) n = ap suc (length-slots_of taken items (omega arith))
+-- spots as flags and items
+length-spots_of : (taken : List Bool) (items : List Reply) → length taken ≡ length items → length (spots_of taken items) ≡ length taken
+length-spots_of [] items n = refl
+length-spots_of (b ∷ taken) [] n = absurd (omega arith)
+length-spots_of (b ∷ taken) (x ∷ items) n = ap suc (length-spots_of taken items (omega arith))
 
-free_at : (taken : List Bool) (items : List Reply) (k : ℕ) → length taken ≡ length items → is_none (get_or (slots_of taken items) k None) ≡ cond (get_or taken k false) false true
+free_at : (taken : List Bool) (items : List Reply) (k : ℕ) → length taken ≡ length items → is_none (get_or (spots_of taken items) k None) ≡ cond (get_or taken k false) false true
 free_at [] items k n = refl
 free_at (b ∷ taken) [] k n = absurd (omega arith)
 free_at (true ∷ taken) (x ∷ items) zero n = refl
 free_at (false ∷ taken) (x ∷ items) zero n = refl
 free_at (b ∷ taken) (x ∷ items) (suc k) n = free_at taken items k (omega arith)
 
-set-slots_of : (taken : List Bool) (items : List Reply) (k : ℕ) (x : Reply) → length taken ≡ length items → set (slots_of taken items) k (Some x) ≡ slots_of (set taken k true) (set items k x)
-set-slots_of [] [] k x n = refl
-set-slots_of [] (y ∷ items) k x n = absurd (omega arith)
-set-slots_of (b ∷ taken) [] k x n = absurd (omega arith)
-set-slots_of (b ∷ taken) (y ∷ items) zero x n = refl
-set-slots_of (b ∷ taken) (y ∷ items) (suc k) x n = ap (λ slots. cond b (Some y) None ∷ slots) (set-slots_of taken items k x (omega arith))
+set-spots_of : (taken : List Bool) (items : List Reply) (k : ℕ) (x : Reply) → length taken ≡ length items → set (spots_of taken items) k (Some x) ≡ spots_of (set taken k true) (set items k x)
+set-spots_of [] [] k x n = refl
+set-spots_of [] (y ∷ items) k x n = absurd (omega arith)
+set-spots_of (b ∷ taken) [] k x n = absurd (omega arith)
+set-spots_of (b ∷ taken) (y ∷ items) zero x n = refl
+set-spots_of (b ∷ taken) (y ∷ items) (suc k) x n = ap (λ spots. cond b (Some y) None ∷ spots) (set-spots_of taken items k x (omega arith))
 
 -- an item at a place past the end, at one that is taken, and at a free one
-pub put_past : (taken : List Bool) (items : List Reply) (p : ℕ) (x : Reply) → length taken ≡ length items → length taken ≤ p → put (slots_of taken items) p x ≡ None
-put_past taken items p x n l = ap (λ b. cond (b && is_none (get_or (slots_of taken items) p None)) (Some (set (slots_of taken items) p (Some x))) None) (le-ltb p (length (slots_of taken items)) (omega (arith, length-slots_of taken items n)))
+pub put_past : (taken : List Bool) (items : List Reply) (p : ℕ) (x : Reply) → length taken ≡ length items → length taken ≤ p → put (spots_of taken items) p x ≡ None
+put_past taken items p x n l = ap (λ b. cond (b && is_none (get_or (spots_of taken items) p None)) (Some (set (spots_of taken items) p (Some x))) None) (le-ltb p (length (spots_of taken items)) (omega (arith, length-spots_of taken items n)))
 
 put_within : (taken : List Bool) (items : List Reply) (p : ℕ) (x : Reply) (b : Bool) → length taken ≡ length items → p < length taken → get_or taken p false ≡ b
-    → put (slots_of taken items) p x ≡ cond (cond b false true) (Some (slots_of (set taken p true) (set items p x))) None
+    → put (spots_of taken items) p x ≡ cond (cond b false true) (Some (spots_of (set taken p true) (set items p x))) None
 put_within taken items p x b n l e =
-    ap (λ c. cond (c && is_none (get_or (slots_of taken items) p None)) (Some (set (slots_of taken items) p (Some x))) None) (lt-ltb p (length (slots_of taken items)) (omega (arith, length-slots_of taken items n)))
-    ∙ ap (λ c. cond c (Some (set (slots_of taken items) p (Some x))) None) (free_at taken items p n ∙ ap (λ c. cond c false true) e)
-    ∙ ap (λ slots. cond (cond b false true) (Some slots) None) (set-slots_of taken items p x n)
+    ap (λ c. cond (c && is_none (get_or (spots_of taken items) p None)) (Some (set (spots_of taken items) p (Some x))) None) (lt-ltb p (length (spots_of taken items)) (omega (arith, length-spots_of taken items n)))
+    ∙ ap (λ c. cond c (Some (set (spots_of taken items) p (Some x))) None) (free_at taken items p n ∙ ap (λ c. cond c false true) e)
+    ∙ ap (λ spots. cond (cond b false true) (Some spots) None) (set-spots_of taken items p x n)
 
-pub put_taken : (taken : List Bool) (items : List Reply) (p : ℕ) (x : Reply) → length taken ≡ length items → p < length taken → get_or taken p false ≡ true → put (slots_of taken items) p x ≡ None
+pub put_taken : (taken : List Bool) (items : List Reply) (p : ℕ) (x : Reply) → length taken ≡ length items → p < length taken → get_or taken p false ≡ true → put (spots_of taken items) p x ≡ None
 put_taken taken items p x n l e = put_within taken items p x true n l e
 
-pub put_free : (taken : List Bool) (items : List Reply) (p : ℕ) (x : Reply) → length taken ≡ length items → p < length taken → get_or taken p false ≡ false → put (slots_of taken items) p x ≡ Some (slots_of (set taken p true) (set items p x))
+pub put_free : (taken : List Bool) (items : List Reply) (p : ℕ) (x : Reply) → length taken ≡ length items → p < length taken → get_or taken p false ≡ false → put (spots_of taken items) p x ≡ Some (spots_of (set taken p true) (set items p x))
 put_free taken items p x n l e = put_within taken items p x false n l e
 
 -- the last of the items that are left
-pub next_item : (slots : List (Option Reply)) (ps : List ℕ) (vs ws : List Value) (item : Value) (n : ℕ) (whole : Option (List (Option Reply))) → vs ≡ ws ++ item ∷ [] → length vs ≤ length ps → n ≡ length ws
-    → filled slots (take (length vs) ps) (map view vs) ≡ whole
-    → option_and_then (λ later. filled later (take (length ws) ps) (map view ws)) (put slots (get_or ps n 0) (view item)) ≡ whole
-next_item slots ps vs ws item n whole last few at e =
+pub next_item : (spots : List (Option Reply)) (ps : List ℕ) (vs ws : List Value) (item : Value) (n : ℕ) (whole : Option (List (Option Reply))) → vs ≡ ws ++ item ∷ [] → length vs ≤ length ps → n ≡ length ws
+    → filled spots (take (length vs) ps) (map view vs) ≡ whole
+    → option_and_then (λ later. filled later (take (length ws) ps) (map view ws)) (put spots (get_or ps n 0) (view item)) ≡ whole
+next_item spots ps vs ws item n whole last few at e =
     let long : length vs ≡ length ws + 1 = ap length last ∙ length_push ws item in
-    ap (λ m. option_and_then (λ later. filled later (take (length ws) ps) (map view ws)) (put slots (get_or ps m 0) (view item))) at
-    ∙ sym (filled_both slots (take (length ws) ps) (get_or ps (length ws) 0 ∷ []) (map view ws) (view item ∷ []) (length-take-le (length ws) ps (omega arith) ∙ sym (length-map ws view)))
-    ∙ ap (λ qs. filled slots qs (map view ws ++ view item ∷ [])) (sym (take_more ps (length ws) 0 (omega arith)) ∙ ap (λ m. take m ps) (sym long))
-    ∙ ap (filled slots (take (length vs) ps)) (sym (map_push view ws item) ∙ ap (map view) (sym last))
+    ap (λ m. option_and_then (λ later. filled later (take (length ws) ps) (map view ws)) (put spots (get_or ps m 0) (view item))) at
+    ∙ sym (filled_both spots (take (length ws) ps) (get_or ps (length ws) 0 ∷ []) (map view ws) (view item ∷ []) (length-take-le (length ws) ps (omega arith) ∙ sym (length-map ws view)))
+    ∙ ap (λ qs. filled spots qs (map view ws ++ view item ∷ [])) (sym (take_more ps (length ws) 0 (omega arith)) ∙ ap (λ m. take m ps) (sym long))
+    ∙ ap (filled spots (take (length vs) ps)) (sym (map_push view ws item) ∙ ap (map view) (sym last))
     ∙ e
 
--- all slots, if each is taken
-pub all_slots : (taken : List Bool) (items : List Reply) → length taken ≡ length items → all_some (slots_of taken items) ≡ cond (list_all (λ bit. bit) taken) (Some items) None
-all_slots [] [] n = refl
-all_slots [] (x ∷ items) n = absurd (omega arith)
-all_slots (b ∷ taken) [] n = absurd (omega arith)
-all_slots (false ∷ taken) (x ∷ items) n = refl
-all_slots (true ∷ taken) (x ∷ items) n = ap (option_map (λ xs. x ∷ xs)) (all_slots taken items (omega arith)) ∙ more (list_all (λ bit. bit) taken)
+-- all spots, if each is taken
+pub all_spots : (taken : List Bool) (items : List Reply) → length taken ≡ length items → all_some (spots_of taken items) ≡ cond (list_all (λ bit. bit) taken) (Some items) None
+all_spots [] [] n = refl
+all_spots [] (x ∷ items) n = absurd (omega arith)
+all_spots (b ∷ taken) [] n = absurd (omega arith)
+all_spots (false ∷ taken) (x ∷ items) n = refl
+all_spots (true ∷ taken) (x ∷ items) n = ap (option_map (λ xs. x ∷ xs)) (all_spots taken items (omega arith)) ∙ more (list_all (λ bit. bit) taken)
   where
     more : (b : Bool) → option_map (λ xs. x ∷ xs) (cond b (Some items) None) ≡ cond b (Some (x ∷ items)) None
     more true = refl
     more false = refl
 
-pub no_slots : (n : ℕ) (x : Reply) → slots_of (replicate n false) (replicate n x) ≡ replicate n None
-no_slots zero x = refl
-no_slots (suc n) x = ap (λ slots. None ∷ slots) (no_slots n x)
+pub no_spots : (n : ℕ) (x : Reply) → spots_of (replicate n false) (replicate n x) ≡ replicate n None
+no_spots zero x = refl
+no_spots (suc n) x = ap (λ spots. None ∷ spots) (no_spots n x)
 
 -- the items of the last reply, after those of the others
 pub record LastReply (rs : List Reply) (r : Reply) (items : List Reply) : Type 0 where

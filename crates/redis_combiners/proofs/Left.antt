@@ -1,4 +1,4 @@
--- What is left to put into slots, reply by reply from the last one on.
+-- What is left to put into spots, reply by reply from the last one on.
 use Rattle.std.proofs.Common.{◌≡◌, ℕ, ◌+◌, ◌-◌, ◌≤◌, Bool, true, false, cond, List, [], ◌∷◌, ◌++◌, length, map, take, drop, replicate, Option, Some, None, refl, ap, sym, ◌∙◌, arith, Global}
 use Rattle.std.specs.Bool.{then_some}
 use Rattle.std.specs.Prelude.{option_map, option_and_then, Vec}
@@ -11,11 +11,11 @@ use Rattle.resp_core.specs.declared.value.Value.{Value}
 use Rattle.redis_combiners.specs.ByPlaces.{by_places}
 use Rattle.redis_commands.specs.Lists.{all_some}
 use Rattle.redis_combiners.specs.AllItems.{all_items}
-use Rattle.redis_combiners.specs.Slots.{slots_of, filled}
-use Rattle.redis_combiners.proofs.Filling.{LastReply, last_reply, filled_both, no_slots, all_slots}
+use Rattle.redis_combiners.specs.Spots.{spots_of, filled}
+use Rattle.redis_combiners.proofs.Filling.{LastReply, last_reply, filled_both, no_spots, all_spots}
 use Rattle.redis_combiners.proofs.Arranging.{filled_is}
 
--- all slots, once the items of all replies are in them
+-- all spots, once the items of all replies are in them
 abbrev pub whole_of : List ℕ → List Reply → Option (List (Option Reply))
 whole_of places replies = option_and_then (filled (replicate (length places) None) places) (all_items replies)
 
@@ -26,8 +26,8 @@ pub record Left (taken : List Bool) (sorted replies : List Reply) (places : List
   pub long : length items ≡ end
   pub within : end ≤ length places
   pub flags : length taken ≡ length places
-  pub slots : length sorted ≡ length places
-  pub rest : filled (slots_of taken sorted) (take end places) items ≡ whole
+  pub spots : length sorted ≡ length places
+  pub rest : filled (spots_of taken sorted) (take end places) items ≡ whole
 
 pub left_first : (replies : List Reply) (places : List ℕ) (taken : List Bool) (sorted : List Reply) → option_map length (all_items replies) ≡ Some (length places) → taken ≡ replicate (length places) false → sorted ≡ replicate (length places) nil
     → Left taken sorted replies places (length places) (whole_of places replies)
@@ -41,10 +41,10 @@ left_first replies places taken sorted n t s = made (all_items replies) refl n
       long = cc;
       within = omega arith;
       flags = ap length t ∙ length-replicate (length places) false;
-      slots = ap length s ∙ length-replicate (length places) nil;
-      rest = ap (λ bs. filled (slots_of bs sorted) (take (length places) places) items) t
-          ∙ ap (λ xs. filled (slots_of (replicate (length places) false) xs) (take (length places) places) items) s
-          ∙ ap (λ slots. filled slots (take (length places) places) items) (no_slots (length places) nil)
+      spots = ap length s ∙ length-replicate (length places) nil;
+      rest = ap (λ bs. filled (spots_of bs sorted) (take (length places) places) items) t
+          ∙ ap (λ xs. filled (spots_of (replicate (length places) false) xs) (take (length places) places) items) s
+          ∙ ap (λ spots. filled spots (take (length places) places) items) (no_spots (length places) nil)
           ∙ ap (λ ps. filled (replicate (length places) None) ps items) (take_all (length places) places (omega arith))
           ∙ ap (option_and_then (filled (replicate (length places) None) places)) (sym e);
     }
@@ -56,7 +56,7 @@ pub record NextReply (taken : List Bool) (sorted replies items : List Reply) (pl
   pub first : List Reply
   pub first_are : all_items replies ≡ Some first
   pub long : length first ≡ end - n
-  pub step : option_and_then (λ later. filled later (take (end - n) places) first) (filled (slots_of taken sorted) (between (end - n) end places) items) ≡ whole
+  pub step : option_and_then (λ later. filled later (take (end - n) places) first) (filled (spots_of taken sorted) (between (end - n) end places) items) ≡ whole
 
 last_items : (taken : List Bool) (sorted : List Reply) (vs ws : List Value) (v : Value) (places : List ℕ) (end : ℕ) (whole : Option (List (Option Reply))) (l : Left taken sorted (map view vs) places end whole) → vs ≡ ws ++ v ∷ []
     → LastReply (map view ws) (view v) l.items
@@ -87,29 +87,29 @@ next_reply taken sorted vs ws v items places end n whole l e there long =
       first = r.first;
       first_are = r.first_are;
       long = omega arith;
-      step = sym (filled_both (slots_of taken sorted) (take (end - n) places) (between (end - n) end places) r.first items (length-take-le (end - n) places (omega (arith, l.within)) ∙ omega arith))
-          ∙ ap (λ ps. filled (slots_of taken sorted) ps (r.first ++ items)) parts
-          ∙ ap (filled (slots_of taken sorted) (take end places)) (sym is)
+      step = sym (filled_both (spots_of taken sorted) (take (end - n) places) (between (end - n) end places) r.first items (length-take-le (end - n) places (omega (arith, l.within)) ∙ omega arith))
+          ∙ ap (λ ps. filled (spots_of taken sorted) ps (r.first ++ items)) parts
+          ∙ ap (filled (spots_of taken sorted) (take end places)) (sym is)
           ∙ l.rest;
     }
 
 -- no reply is left
-pub none_left : (taken : List Bool) (sorted : List Reply) (places : List ℕ) (end : ℕ) (whole : Option (List (Option Reply))) → Left taken sorted [] places end whole → Some (slots_of taken sorted) ≡ whole
+pub none_left : (taken : List Bool) (sorted : List Reply) (places : List ℕ) (end : ℕ) (whole : Option (List (Option Reply))) → Left taken sorted [] places end whole → Some (spots_of taken sorted) ≡ whole
 none_left taken sorted places end whole l =
     let are : Some [] ≡ Some l.items = l.items_are in
     let nothing : [] ≡ l.items = cc in
-    ap (λ m. filled (slots_of taken sorted) (take m places) l.items) (ap length nothing ∙ l.long) ∙ l.rest
+    ap (λ m. filled (spots_of taken sorted) (take m places) l.items) (ap length nothing ∙ l.long) ∙ l.rest
 
--- the order of all items, by the slots
-pub by_slots : (replies : List Reply) (places : List ℕ) → option_map length (all_items replies) ≡ Some (length places) → option_and_then (by_places places) (all_items replies) ≡ option_and_then all_some (whole_of places replies)
-by_slots replies places n = cases (all_items replies) n
+-- the order of all items, by the spots
+pub by_spots : (replies : List Reply) (places : List ℕ) → option_map length (all_items replies) ≡ Some (length places) → option_and_then (by_places places) (all_items replies) ≡ option_and_then all_some (whole_of places replies)
+by_spots replies places n = cases (all_items replies) n
   where
     cases : (o : Option (List Reply)) → option_map length o ≡ Some (length places) → option_and_then (by_places places) o ≡ option_and_then all_some (option_and_then (filled (replicate (length places) None) places) o)
     cases None h = refl
     cases (Some items) h = let long : length items ≡ length places = cc in sym (filled_is places items long)
 
-pub slots_as_items : (taken : List Bool) (sorted : Vec Value Global) → length taken ≡ length (map view sorted.items) → option_map (λ v. map view v.items) (then_some (list_all (λ bit. bit) taken) sorted) ≡ all_some (slots_of taken (map view sorted.items))
-slots_as_items taken sorted n = cases (list_all (λ bit. bit) taken) ∙ sym (all_slots taken (map view sorted.items) n)
+pub spots_as_items : (taken : List Bool) (sorted : Vec Value Global) → length taken ≡ length (map view sorted.items) → option_map (λ v. map view v.items) (then_some (list_all (λ bit. bit) taken) sorted) ≡ all_some (spots_of taken (map view sorted.items))
+spots_as_items taken sorted n = cases (list_all (λ bit. bit) taken) ∙ sym (all_spots taken (map view sorted.items) n)
   where
     cases : (b : Bool) → option_map (λ v. map view v.items) (then_some b sorted) ≡ cond b (Some (map view sorted.items)) None
     cases true = refl

@@ -12,6 +12,6 @@ pub mod KeyNumbers
 pub mod KeyPlaces
 pub mod Logical
 pub mod Misfits
-pub mod Slots
+pub mod Spots
 pub mod SortedArrays
 pub mod Totals

@@ -4,7 +4,7 @@ ghost use Rattle.resp_core.specs.Reply.{nil};
 ghost use Rattle.resp_core.specs.View.{view};
 ghost use Rattle.redis_combiners.specs.AllItems.{all_items};
 ghost use Rattle.redis_combiners.specs.ByPlaces.{by_places};
-ghost use Rattle.redis_combiners.specs.Slots.{slots_of, filled};
+ghost use Rattle.redis_combiners.specs.Spots.{spots_of, filled};
 
 use resp_core::Value;
 use std::alloc::{AllocError, Global};
@@ -27,10 +27,10 @@ fn put_all(
     places: &[usize],
     mut items: Vec<Value>,
 ) -> bool
-    requires slots { length taken.old ≡ length sorted.old }
+    requires spots { length taken.old ≡ length sorted.old }
     requires places { length items.items ≡ length places.now }
-    ensures { (if result then Some (slots_of taken.new (map view sorted.new)) else None)
-        ≡ filled (slots_of taken.old (map view sorted.old)) places.now (map view items.items) }
+    ensures { (if result then Some (spots_of taken.new (map view sorted.new)) else None)
+        ≡ filled (spots_of taken.old (map view sorted.old)) places.now (map view items.items) }
 {
     while let Some(item) = items.pop() {
         let place = places[items.len()];

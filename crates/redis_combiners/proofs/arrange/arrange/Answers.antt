@@ -6,9 +6,9 @@ use Rattle.std.proofs.lemmas.List.{length-map, nil_from_length, take_at}
 use Rattle.std.proofs.lemmas.List.Edits.{length-between}
 use Rattle.resp_core.specs.Reply.{Reply}
 use Rattle.resp_core.specs.View.{view}
-use Rattle.redis_combiners.specs.Slots.{filled, slots_of}
+use Rattle.redis_combiners.specs.Spots.{filled, spots_of}
 use Rattle.redis_commands.specs.Lists.{all_some}
-use Rattle.redis_combiners.proofs.Left.{Left, whole_of, left_first, next_is_array, next_reply, none_left, by_slots, slots_as_items}
+use Rattle.redis_combiners.proofs.Left.{Left, whole_of, left_first, next_is_array, next_reply, none_left, by_spots, spots_as_items}
 use Rattle.redis_combiners.proofs.arrange.arrange.Goals as goal
 
 pub loop-value-init : goal.loop-value-init
@@ -45,14 +45,14 @@ returns-then-not-put_all c =
     let whole = whole_of places (map view c.args.values.items) in
     let next = next_reply taken sorted c.loop-value.values.items c.pop.new.self.items c.in-Some.value (map view vs.items) places end c.len.result whole
     c.loop-value.invariant c.in-Some.ensures.items c.in-Some-into_array.ensures (c.len.ensures ∙ vs.ok.0 ∙ sym (length-map vs.items view)) in
-    let stopped : None ≡ filled (slots_of taken sorted) (between start end places) (map view vs.items) =
-    ap (λ b. cond b (Some (slots_of c.put_all.new.taken (map view c.put_all.new.sorted))) None) (sym c.if-not-put_all.true)
+    let stopped : None ≡ filled (spots_of taken sorted) (between start end places) (map view vs.items) =
+    ap (λ b. cond b (Some (spots_of c.put_all.new.taken (map view c.put_all.new.sorted))) None) (sym c.if-not-put_all.true)
     ∙ c.put_all.ensures
-    ∙ ap (λ bs. filled (slots_of bs (map view c.deref_mut-in-Some.result.now)) (between start end places) (map view vs.items)) c.deref_mut.ensures.value
-    ∙ ap (λ ws. filled (slots_of taken (map view ws)) (between start end places) (map view vs.items)) c.deref_mut-in-Some.ensures.value in
+    ∙ ap (λ bs. filled (spots_of bs (map view c.deref_mut-in-Some.result.now)) (between start end places) (map view vs.items)) c.deref_mut.ensures.value
+    ∙ ap (λ ws. filled (spots_of taken (map view ws)) (between start end places) (map view vs.items)) c.deref_mut-in-Some.ensures.value in
     ap (λ o. option_and_then all_some (option_and_then (λ later. filled later (take start places) next.first) o)) stopped
     ∙ ap (option_and_then all_some) next.step
-    ∙ sym (by_slots (map view c.args.values.items) places c.requires)
+    ∙ sym (by_spots (map view c.args.values.items) places c.requires)
 
 pub loop-value-preserved : goal.loop-value-preserved
 loop-value-preserved c =
@@ -68,11 +68,11 @@ loop-value-preserved c =
     let new_sorted = c.put_all.new.sorted in
     let next = next_reply taken sorted c.loop-value.values.items c.pop.new.self.items c.in-Some.value (map view vs.items) places end c.len.result whole
     c.loop-value.invariant c.in-Some.ensures.items c.in-Some-into_array.ensures (c.len.ensures ∙ vs.ok.0 ∙ sym (length-map vs.items view)) in
-    let went_on : Some (slots_of new_taken (map view new_sorted)) ≡ filled (slots_of taken sorted) (between start end places) (map view vs.items) =
-    ap (λ b. cond b (Some (slots_of new_taken (map view new_sorted))) None) (sym c.if-not-put_all.false)
+    let went_on : Some (spots_of new_taken (map view new_sorted)) ≡ filled (spots_of taken sorted) (between start end places) (map view vs.items) =
+    ap (λ b. cond b (Some (spots_of new_taken (map view new_sorted))) None) (sym c.if-not-put_all.false)
     ∙ c.put_all.ensures
-    ∙ ap (λ bs. filled (slots_of bs (map view c.deref_mut-in-Some.result.now)) (between start end places) (map view vs.items)) c.deref_mut.ensures.value
-    ∙ ap (λ ws. filled (slots_of taken (map view ws)) (between start end places) (map view vs.items)) c.deref_mut-in-Some.ensures.value in
+    ∙ ap (λ bs. filled (spots_of bs (map view c.deref_mut-in-Some.result.now)) (between start end places) (map view vs.items)) c.deref_mut.ensures.value
+    ∙ ap (λ ws. filled (spots_of taken (map view ws)) (between start end places) (map view vs.items)) c.deref_mut-in-Some.ensures.value in
     let flags : take c.loop-value.taken.len (new_taken ++ drop (length new_taken) taken) ≡ new_taken = take_at new_taken (drop (length new_taken) taken) c.loop-value.taken.len (c.put_all.auto.taken ∙ c.deref_mut.ensures.len) in
     let values : take c.loop-value.sorted.len (new_sorted ++ drop (length new_sorted) c.loop-value.sorted.items) ≡ new_sorted = take_at new_sorted (drop (length new_sorted) c.loop-value.sorted.items) c.loop-value.sorted.len (c.put_all.auto.sorted ∙ c.deref_mut-in-Some.ensures.len) in
     let left : Left new_taken (map view new_sorted) rest places start whole = record {
@@ -81,7 +81,7 @@ loop-value-preserved c =
       long = next.long;
       within = omega (arith, next.within);
       flags = c.put_all.auto.taken ∙ ap length c.deref_mut.ensures.value ∙ c.loop-value.invariant.flags;
-      slots = length-map new_sorted view ∙ c.put_all.auto.sorted ∙ ap length c.deref_mut-in-Some.ensures.value ∙ sym (length-map c.loop-value.sorted.items view) ∙ c.loop-value.invariant.slots;
+      spots = length-map new_sorted view ∙ c.put_all.auto.sorted ∙ ap length c.deref_mut-in-Some.ensures.value ∙ sym (length-map c.loop-value.sorted.items view) ∙ c.loop-value.invariant.spots;
       rest = ap (option_and_then (λ later. filled later (take start places) next.first)) went_on ∙ next.step;
     } in
     subst (λ bs. Left bs (map view (take c.loop-value.sorted.len (new_sorted ++ drop (length new_sorted) c.loop-value.sorted.items))) rest places start whole) (sym flags)
@@ -97,6 +97,6 @@ returns c =
     let none : values.items ≡ [] = nil_from_length values.items (sym values.ok.0 ∙ c.in_default.ensures.cases.0) in
     let last : Left taken (map view sorted.items) [] places c.loop-value.end whole = subst (λ ws. Left taken (map view sorted.items) (map view ws) places c.loop-value.end whole) none c.loop-value.invariant in
     ap (option_map (λ v. map view v.items)) (c.then_some.ensures ∙ ap (λ b. then_some b sorted) (c.all_taken.ensures ∙ ap (list_all (λ bit. bit)) c.deref.ensures.value))
-    ∙ slots_as_items taken sorted (last.flags ∙ sym last.slots)
+    ∙ spots_as_items taken sorted (last.flags ∙ sym last.spots)
     ∙ ap (option_and_then all_some) (none_left taken (map view sorted.items) places c.loop-value.end whole last)
-    ∙ sym (by_slots (map view c.args.values.items) places c.requires)
+    ∙ sym (by_spots (map view c.args.values.items) places c.requires)
