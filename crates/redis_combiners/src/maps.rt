@@ -34,8 +34,8 @@ struct KeyTotals {
 /// # Errors
 ///
 /// `UnexpectedReturnType` where a reply is not an array of bulk strings and numbers in turn, or
-/// where the sum of a key does not fit in an i64; a running sum may leave the i64, since it is taken
-/// in 128 bits. Or out of memory, as 2^63 pairs always are.
+/// where the sum of a key does not fit in an i64; a running sum may leave the i64, since it has 128
+/// bits. Or out of memory, as 2^63 pairs always are.
 #[tactic(auto, using(crate::proofs::TotalOrders::any_order))]
 pub fn combine_map_results(alloc: Global, values: Vec<Value>) -> RedisResult<Value>
     ensures answer { MatchResult result

@@ -38,7 +38,7 @@ fn is_refusal_of(alloc: Global, name: &str, error: &RedisError) -> Result<bool, 
     )
 }
 
-/// Whether the check of a pipeline of these commands is refused, and the refusal tells of this name.
+/// Whether the check of a pipeline of these commands is refused and tells of this name.
 fn is_refused(alloc: Global, commands: &[&[&[u8]]], name: &str) -> RedisResult<bool> {
     match pipeline_of(alloc, commands)?.check(alloc) {
         Ok(()) => Ok(false),

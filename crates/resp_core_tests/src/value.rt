@@ -73,7 +73,7 @@ fn an_array_is_its_items(rt: HostRuntime) -> Result<(), Fail> {
     Ok(())
 }
 
-// `depth` lists, each with the next alone inside: arrays, and maps that hold it as the key or as the value.
+// `depth` lists, each with the next alone inside: arrays, and maps that hold it as key or value.
 fn nested(alloc: Global, depth: usize) -> Result<Value, AllocError> {
     let mut value = Value::Int(7);
     for level in 0..depth {
