@@ -1,5 +1,4 @@
-ghost use Rattle.std.specs.Prelude.{◌≡◌, ◌⊎◌, IsTrue, is_some, map, length, MatchResult, option_map, option_and_then, None, Some};
-ghost use Rattle.resp_core.specs.ErrorParts.{out_of_memory};
+ghost use Rattle.std.specs.Prelude.{◌≡◌, IsTrue, is_some, map, length, MatchResult, option_map, option_and_then, None, Some};
 ghost use Rattle.resp_core.specs.Reply.{array, int_of, replies_of};
 ghost use Rattle.resp_core.specs.View.{view};
 ghost use Rattle.resp_core.specs.declared.error.ErrorKind.TheVariants.{UnexpectedReturnType};
@@ -12,12 +11,12 @@ use resp_core::{ErrorKind, RedisError, RedisResult, Value};
 use std::alloc::Global;
 
 /// One array of 0 and 1 for replies that are such arrays, all of one length: a place has 1 exactly
-/// where all replies have 1 there. No replies make an empty array.
+/// where all replies have 1 there. No replies make an empty array. It takes no memory.
 ///
 /// # Errors
 ///
 /// `UnexpectedReturnType` where a reply is not an array of 0 and 1, or its length is not that of
-/// the first, or out of memory.
+/// the first.
 pub fn logical_aggregate(
     alloc: Global,
     values: Vec<Value>,
@@ -27,9 +26,8 @@ pub fn logical_aggregate(
         (λ value. option_map (λ items. array (replies_of items))
         (logical_items op (map view values.items))
         ≡ Some (view value))
-        (λ fault. (fault ≡ out_of_memory)
-        ⊎ ((logical_items op (map view values.items) ≡ None)
-        × (fault.kind ≡ UnexpectedReturnType))) }
+        (λ fault. (logical_items op (map view values.items) ≡ None)
+        × (fault.kind ≡ UnexpectedReturnType)) }
 {
     match items(alloc, values, op) {
         Some(items) => Ok(Value::Array(items)),
