@@ -78,3 +78,41 @@ fn routes_hold_a_slot_and_which_of_its_nodes(rt: HostRuntime) {
         "two kinds of nodes"
     );
 }
+
+/// The polynomial of the Redis cluster specification without x^16.
+const POLYNOMIAL: u16 = 0x1021;
+
+/// The remainder of a byte followed by 16 zero bits, by division of one bit after the other.
+fn remainder_by_bits(byte: u8) -> u16 {
+    let mut crc = u16::from(byte) << 8;
+    for _bit in 0..8u32 {
+        crc = if crc >= 0x8000 {
+            (crc << 1) ^ POLYNOMIAL
+        } else {
+            crc << 1
+        };
+    }
+    crc
+}
+
+#[test]
+fn keys_of_one_byte_have_the_slots_of_its_remainder(rt: HostRuntime) {
+    let table = [
+        (0, 0),
+        (1, 0x1021),
+        (2, 0x2042),
+        (16, 0x1231),
+        (128, 0x9188),
+        (255, 0x1EF0),
+    ];
+    for (byte, remainder) in table {
+        assert_eq!(rt; remainder_by_bits(byte), remainder, "remainder of {byte}");
+    }
+    for byte in 0..=255u8 {
+        assert_eq!(rt;
+            Slot::for_key(&[byte]).number(),
+            remainder_by_bits(byte) % SLOT_SIZE,
+            "slot of byte {byte}"
+        );
+    }
+}
