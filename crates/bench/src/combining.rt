@@ -1,13 +1,12 @@
 use crate::fault::Fault;
 use crate::watch::Watch;
-use bench_inputs::{bulks, cmd, copies, counts, ints, read_only, repeated};
+use bench_inputs::{bulks, cmd, counts, ints, read_only, repeated};
 use redis_cluster::routing::{
     AggregateOp, LogicalAggregateOp, SplitCommand, aggregate, combine_and_sort_array_results,
     combine_array_results, combine_map_results, logical_aggregate,
 };
 use resp_core::{Cmd, Value};
 use std::alloc::Global;
-use std::time::CpuClock;
 
 /// Calls that make one reply of several.
 #[derive(Clone, Copy)]
@@ -24,9 +23,9 @@ pub enum Combining {
 const REPLIES: usize = 3;
 
 /// Makes the calls at a size.
-pub fn call<C: CpuClock>(
+pub fn call(
     what: Combining,
-    watch: &mut Watch<'_, C>,
+    watch: &mut Watch<'_>,
     alloc: Global,
     size: usize,
 ) -> Result<(), Fault> {
@@ -59,96 +58,67 @@ fn sample(reply: &Value) -> usize {
 }
 
 /// The sum or the least of these numbers.
-fn numbers<C: CpuClock>(
-    watch: &mut Watch<'_, C>,
+fn numbers(
+    watch: &mut Watch<'_>,
     alloc: Global,
     replies: &Vec<Value>,
     op: AggregateOp,
 ) -> Result<(), Fault> {
-    for _ in 0..watch.rounds {
-        let stock = copies(alloc, replies, watch.calls)?;
-        watch.start()?;
-        for values in stock {
-            watch.keep(sample(&aggregate(values, op)?));
-        }
-        watch.stop()?;
-    }
-    Ok(())
+    watch.time_with(
+        alloc,
+        || Ok(replies.clone()?),
+        |values| Ok(sample(&aggregate(values, op)?)),
+    )
 }
 
 /// The bits of these replies.
-fn logical<C: CpuClock>(
-    watch: &mut Watch<'_, C>,
-    alloc: Global,
-    replies: &Vec<Value>,
-) -> Result<(), Fault> {
-    for _ in 0..watch.rounds {
-        let stock = copies(alloc, replies, watch.calls)?;
-        watch.start()?;
-        for values in stock {
-            let reply = logical_aggregate(alloc, values, LogicalAggregateOp::And)?;
-            watch.keep(sample(&reply));
-        }
-        watch.stop()?;
-    }
-    Ok(())
+fn logical(watch: &mut Watch<'_>, alloc: Global, replies: &Vec<Value>) -> Result<(), Fault> {
+    watch.time_with(
+        alloc,
+        || Ok(replies.clone()?),
+        |values| Ok(sample(&logical_aggregate(alloc, values, LogicalAggregateOp::And)?)),
+    )
 }
 
 /// The map of these replies.
-fn maps<C: CpuClock>(
-    watch: &mut Watch<'_, C>,
-    alloc: Global,
-    replies: &Vec<Value>,
-) -> Result<(), Fault> {
-    for _ in 0..watch.rounds {
-        let stock = copies(alloc, replies, watch.calls)?;
-        watch.start()?;
-        for values in stock {
-            watch.keep(sample(&combine_map_results(alloc, values)?));
-        }
-        watch.stop()?;
-    }
-    Ok(())
+fn maps(watch: &mut Watch<'_>, alloc: Global, replies: &Vec<Value>) -> Result<(), Fault> {
+    watch.time_with(
+        alloc,
+        || Ok(replies.clone()?),
+        |values| Ok(sample(&combine_map_results(alloc, values)?)),
+    )
 }
 
 /// The items of these replies in one array.
-fn arrays<C: CpuClock>(
-    watch: &mut Watch<'_, C>,
-    alloc: Global,
-    replies: &Vec<Value>,
-) -> Result<(), Fault> {
-    for _ in 0..watch.rounds {
-        let stock = copies(alloc, replies, watch.calls)?;
-        watch.start()?;
-        for values in stock {
-            watch.keep(sample(&combine_array_results(alloc, values)?));
-        }
-        watch.stop()?;
-    }
-    Ok(())
+fn arrays(watch: &mut Watch<'_>, alloc: Global, replies: &Vec<Value>) -> Result<(), Fault> {
+    watch.time_with(
+        alloc,
+        || Ok(replies.clone()?),
+        |values| Ok(sample(&combine_array_results(alloc, values)?)),
+    )
 }
 
-/// The items of the replies to the parts of a command, in the order of its keys.
-fn sorted<C: CpuClock>(
-    watch: &mut Watch<'_, C>,
-    alloc: Global,
-    command: &Cmd,
-) -> Result<(), Fault> {
-    let read_only = read_only(alloc)?;
-    let split = SplitCommand::new(alloc, command, &read_only)?.ok_or(Fault::Refused)?;
-    let mut replies = Vec::new(alloc);
+/// The replies to the parts of a command that reads, by its split.
+fn replies_to(alloc: Global, split: &SplitCommand<Cmd>) -> Result<Vec<Value>, Fault> {
+    let mut replies = Vec::with_capacity(alloc, split.len())?;
     for (_, places) in split.routes() {
         replies.push(Value::Array(bulks(alloc, places.len())?))?;
     }
-    let pattern = split.pattern();
-    for _ in 0..watch.rounds {
-        let stock = copies(alloc, &replies, watch.calls)?;
-        watch.start()?;
-        for values in stock {
-            let reply = combine_and_sort_array_results(alloc, values, split.routes(), &pattern)?;
-            watch.keep(sample(&reply));
-        }
-        watch.stop()?;
-    }
-    Ok(())
+    Ok(replies)
+}
+
+/// The items of the replies to the parts of a command, in the order of its keys.
+fn sorted(watch: &mut Watch<'_>, alloc: Global, command: &Cmd) -> Result<(), Fault> {
+    let read_only = read_only(alloc)?;
+    let split = SplitCommand::new(alloc, command, &read_only)?.ok_or(Fault::Refused)?;
+    let replies = replies_to(alloc, &split)?;
+    let (routes, pattern) = (split.routes(), split.pattern());
+    watch.time_with(
+        alloc,
+        || Ok(replies.clone()?),
+        |values| {
+            let reply = combine_and_sort_array_results(alloc, values, routes, &pattern)?;
+            Ok(sample(&reply))
+        },
+    )
 }

@@ -6,7 +6,6 @@ use redis_cluster::driver::{SplitPlan, drive};
 use redis_cluster::routing::SplitCommand;
 use resp_core::Cmd;
 use std::alloc::Global;
-use std::time::CpuClock;
 
 /// Calls on commands that are driven.
 #[derive(Clone, Copy)]
@@ -17,12 +16,7 @@ pub enum Driving {
 }
 
 /// Makes the calls at a size.
-pub fn call<C: CpuClock>(
-    what: Driving,
-    watch: &mut Watch<'_, C>,
-    alloc: Global,
-    size: usize,
-) -> Result<(), Fault> {
+pub fn call(what: Driving, watch: &mut Watch<'_>, alloc: Global, size: usize) -> Result<(), Fault> {
     match what {
         Driving::DelPlan => plan(watch, alloc, &cmd(alloc, b"DEL", size, None)?),
         Driving::Del => driven(watch, alloc, &cmd(alloc, b"DEL", size, None)?),
@@ -34,20 +28,13 @@ pub fn call<C: CpuClock>(
 const RANGES: usize = 16384;
 
 /// The plan of a command.
-fn plan<C: CpuClock>(watch: &mut Watch<'_, C>, alloc: Global, command: &Cmd) -> Result<(), Fault> {
+fn plan(watch: &mut Watch<'_>, alloc: Global, command: &Cmd) -> Result<(), Fault> {
     let map = map(alloc, RANGES)?;
     let read_only = read_only(alloc)?;
-    for _ in 0..watch.rounds {
-        watch.start()?;
-        for _ in 0..watch.calls {
-            let Ok(plan) = SplitPlan::new(alloc, command, &read_only, &map, None, 0) else {
-                return Err(Fault::Refused);
-            };
-            watch.keep(plan.len());
-        }
-        watch.stop()?;
-    }
-    Ok(())
+    watch.time(|_| {
+        let plan = SplitPlan::new(alloc, command, &read_only, &map, None, 0);
+        Ok(plan.map_err(|_| Fault::Refused)?.len())
+    })
 }
 
 /// The route numbers of a command, in order.
@@ -62,27 +49,16 @@ fn order_of(alloc: Global, command: &Cmd) -> Result<Vec<usize>, Fault> {
 }
 
 /// A command, driven over nodes in memory that hold no key.
-fn driven<C: CpuClock>(
-    watch: &mut Watch<'_, C>,
-    alloc: Global,
-    command: &Cmd,
-) -> Result<(), Fault> {
+fn driven(watch: &mut Watch<'_>, alloc: Global, command: &Cmd) -> Result<(), Fault> {
     let map = map(alloc, RANGES)?;
     let read_only = read_only(alloc)?;
     let order = order_of(alloc, command)?;
-    for _ in 0..watch.rounds {
-        watch.start()?;
-        for _ in 0..watch.calls {
-            let mut nodes = MemoryNodes::new(alloc);
-            let answer = drive(
-                alloc, command, &read_only, &map, None, 0, &order, &mut nodes,
-            );
-            let Ok(_) = answer else {
-                return Err(Fault::Refused);
-            };
-            watch.keep(nodes.trace().len());
-        }
-        watch.stop()?;
-    }
-    Ok(())
+    watch.time(|_| {
+        let mut nodes = MemoryNodes::new(alloc);
+        let answer = drive(
+            alloc, command, &read_only, &map, None, 0, &order, &mut nodes,
+        );
+        answer.map_err(|_| Fault::Refused)?;
+        Ok(nodes.trace().len())
+    })
 }

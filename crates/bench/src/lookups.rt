@@ -3,7 +3,6 @@ use crate::watch::Watch;
 use bench_inputs::{keys, map, ranges, slots_reply};
 use cluster_map::{Route, Slot, SlotAddr, SlotMap};
 use std::alloc::Global;
-use std::time::CpuClock;
 
 /// Calls on slots of keys and maps of slots.
 #[derive(Clone, Copy)]
@@ -17,12 +16,7 @@ pub enum Lookups {
 }
 
 /// Makes the calls at a size.
-pub fn call<C: CpuClock>(
-    what: Lookups,
-    watch: &mut Watch<'_, C>,
-    alloc: Global,
-    size: usize,
-) -> Result<(), Fault> {
+pub fn call(what: Lookups, watch: &mut Watch<'_>, alloc: Global, size: usize) -> Result<(), Fault> {
     match what {
         Lookups::KeySlot => key_slot(watch, &keys(alloc, KEYS, size)?),
         Lookups::Node => node_of_slot(watch, &map(alloc, size)?),
@@ -37,16 +31,11 @@ pub fn call<C: CpuClock>(
 const KEYS: usize = 64;
 
 /// The slot of each of the keys in turn.
-fn key_slot<C: CpuClock>(watch: &mut Watch<'_, C>, keys: &[Vec<u8>]) -> Result<(), Fault> {
-    for _ in 0..watch.rounds {
-        watch.start()?;
-        for turn in 0..watch.calls {
-            let key = keys.get(turn & (KEYS - 1)).ok_or(Fault::Refused)?;
-            watch.keep(usize::from(Slot::for_key(key).number()));
-        }
-        watch.stop()?;
-    }
-    Ok(())
+fn key_slot(watch: &mut Watch<'_>, keys: &[Vec<u8>]) -> Result<(), Fault> {
+    watch.time(|turn| {
+        let key = keys.get(turn & (KEYS - 1)).ok_or(Fault::Refused)?;
+        Ok(usize::from(Slot::for_key(key).number()))
+    })
 }
 
 /// A slot for each turn, spread over all.
@@ -63,89 +52,40 @@ fn port_at(map: &SlotMap, slot: u16) -> usize {
 }
 
 /// The node of each slot in turn.
-fn node_of_slot<C: CpuClock>(watch: &mut Watch<'_, C>, map: &SlotMap) -> Result<(), Fault> {
-    for _ in 0..watch.rounds {
-        watch.start()?;
-        for turn in 0..watch.calls {
-            watch.keep(port_at(map, slot_of(turn)));
-        }
-        watch.stop()?;
-    }
-    Ok(())
+fn node_of_slot(watch: &mut Watch<'_>, map: &SlotMap) -> Result<(), Fault> {
+    watch.time(|turn| Ok(port_at(map, slot_of(turn))))
 }
 
 /// The map of so many ranges, by ascending slots.
-fn from_slots<C: CpuClock>(
-    watch: &mut Watch<'_, C>,
-    alloc: Global,
-    count: usize,
-) -> Result<(), Fault> {
-    for _ in 0..watch.rounds {
-        let mut stock = Vec::with_capacity(alloc, watch.calls)?;
-        for _ in 0..watch.calls {
-            stock.push(ranges(alloc, count)?)?;
-        }
-        watch.start()?;
-        for ranges in stock {
-            let map = SlotMap::from_slots(alloc, ranges)?;
-            watch.keep(port_at(&map, 0));
-        }
-        watch.stop()?;
-    }
-    Ok(())
+fn from_slots(watch: &mut Watch<'_>, alloc: Global, count: usize) -> Result<(), Fault> {
+    watch.time_with(
+        alloc,
+        || Ok(ranges(alloc, count)?),
+        |ranges| Ok(port_at(&SlotMap::from_slots(alloc, ranges)?, 0)),
+    )
 }
 
 /// The map of a reply to `CLUSTER SLOTS` of so many ranges.
-fn from_reply<C: CpuClock>(
-    watch: &mut Watch<'_, C>,
-    alloc: Global,
-    count: usize,
-) -> Result<(), Fault> {
+fn from_reply(watch: &mut Watch<'_>, alloc: Global, count: usize) -> Result<(), Fault> {
     let reply = slots_reply(alloc, count)?;
-    for _ in 0..watch.rounds {
-        watch.start()?;
-        for _ in 0..watch.calls {
-            let map = SlotMap::from_reply(alloc, &reply, "10.0.0.1")?;
-            watch.keep(port_at(&map, 0));
-        }
-        watch.stop()?;
-    }
-    Ok(())
+    watch.time(|_| Ok(port_at(&SlotMap::from_reply(alloc, &reply, "10.0.0.1")?, 0)))
 }
 
 /// The topology of a map.
-fn topology<C: CpuClock>(
-    watch: &mut Watch<'_, C>,
-    alloc: Global,
-    map: &SlotMap,
-) -> Result<(), Fault> {
-    for _ in 0..watch.rounds {
-        watch.start()?;
-        for turn in 0..watch.calls {
-            let topology = map.topology(alloc)?;
-            watch.keep(usize::from(topology.shard_for_slot(slot_of(turn)).is_some()));
-        }
-        watch.stop()?;
-    }
-    Ok(())
+fn topology(watch: &mut Watch<'_>, alloc: Global, map: &SlotMap) -> Result<(), Fault> {
+    watch.time(|turn| {
+        let topology = map.topology(alloc)?;
+        Ok(usize::from(topology.shard_for_slot(slot_of(turn)).is_some()))
+    })
 }
 
 /// The shard of each slot in turn, in the topology of a map.
-fn shard_of_slot<C: CpuClock>(
-    watch: &mut Watch<'_, C>,
-    alloc: Global,
-    map: &SlotMap,
-) -> Result<(), Fault> {
+fn shard_of_slot(watch: &mut Watch<'_>, alloc: Global, map: &SlotMap) -> Result<(), Fault> {
     let topology = map.topology(alloc)?;
-    for _ in 0..watch.rounds {
-        watch.start()?;
-        for turn in 0..watch.calls {
-            let shard = topology
-                .shard_for_slot(slot_of(turn))
-                .ok_or(Fault::Refused)?;
-            watch.keep(usize::from(shard.primary().port()));
-        }
-        watch.stop()?;
-    }
-    Ok(())
+    watch.time(|turn| {
+        let shard = topology
+            .shard_for_slot(slot_of(turn))
+            .ok_or(Fault::Refused)?;
+        Ok(usize::from(shard.primary().port()))
+    })
 }

@@ -20,7 +20,6 @@ use fault::Fault;
 use operation::{Operation, ROWS, call};
 use std::alloc::Global;
 use std::process::ExitCode;
-use std::time::CpuClock;
 use std::{env, io};
 use watch::Watch;
 
@@ -40,7 +39,7 @@ fn operation_of(wanted: &str) -> Result<Operation, Fault> {
     Err(Fault::Words)
 }
 
-fn list(rt: &impl Print) -> Result<(), Fault> {
+fn list(rt: &HostRuntime) -> Result<(), Fault> {
     for (_, name, (unit, sizes)) in &ROWS {
         for size in *sizes {
             println!(rt; "{name} {size} {unit}")?;
@@ -49,7 +48,7 @@ fn list(rt: &impl Print) -> Result<(), Fault> {
     Ok(())
 }
 
-fn each(rt: &(impl Print + CpuClock), alloc: Global) -> Result<(), Fault> {
+fn each(rt: &HostRuntime, alloc: Global) -> Result<(), Fault> {
     for (operation, name, (_, sizes)) in &ROWS {
         let size = sizes.first().copied().unwrap_or(0);
         let mut watch = Watch::new(rt, 1, 1);
@@ -59,12 +58,12 @@ fn each(rt: &(impl Print + CpuClock), alloc: Global) -> Result<(), Fault> {
     Ok(())
 }
 
-fn once(rt: &impl CpuClock, alloc: Global, name: &str, size: usize) -> Result<(), Fault> {
+fn once(rt: &HostRuntime, alloc: Global, name: &str, size: usize) -> Result<(), Fault> {
     let mut watch = Watch::new(rt, 1, 1);
     call(operation_of(name)?, &mut watch, alloc, size)
 }
 
-fn time(rt: &(impl Print + CpuClock), alloc: Global, name: &str, size: usize) -> Result<(), Fault> {
+fn time(rt: &HostRuntime, alloc: Global, name: &str, size: usize) -> Result<(), Fault> {
     let operation = operation_of(name)?;
     let mut first = Watch::new(rt, 1, 3);
     call(operation, &mut first, alloc, size)?;

@@ -8,7 +8,6 @@ use crate::values::{self, Values};
 use crate::watch::Watch;
 use Operation::{Combine, Drive, LookUp, Route, Split, Value};
 use std::alloc::Global;
-use std::time::CpuClock;
 
 /// What can be timed.
 #[derive(Clone, Copy)]
@@ -87,9 +86,9 @@ pub static ROWS: [Row; 36] = [
 ];
 
 /// Makes the calls of an operation at a size, as the watch asks for them.
-pub fn call<C: CpuClock>(
+pub fn call(
     operation: Operation,
-    watch: &mut Watch<'_, C>,
+    watch: &mut Watch<'_>,
     alloc: Global,
     size: usize,
 ) -> Result<(), Fault> {

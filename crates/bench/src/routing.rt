@@ -6,7 +6,6 @@ use redis_cluster::routing::{
 };
 use resp_core::Cmd;
 use std::alloc::Global;
-use std::time::CpuClock;
 
 /// Calls on where commands go.
 #[derive(Clone, Copy)]
@@ -27,12 +26,7 @@ const FOUND: [&[u8]; 4] = [b"DEL", b"MSET", b"SCRIPT EXISTS", b"WAIT"];
 const NOT_FOUND: [&[u8]; 4] = [b"GET", b"SET", b"CLUSTER NODES", b"ZADD"];
 
 /// Makes the calls at a size.
-pub fn call<C: CpuClock>(
-    what: Routing,
-    watch: &mut Watch<'_, C>,
-    alloc: Global,
-    size: usize,
-) -> Result<(), Fault> {
+pub fn call(what: Routing, watch: &mut Watch<'_>, alloc: Global, size: usize) -> Result<(), Fault> {
     match what {
         Routing::Name => name(watch, alloc, &one_key(alloc, b"get", size)?),
         Routing::TwoWordName => name(watch, alloc, &cmd(alloc, b"cluster", 1, None)?),
@@ -60,41 +54,23 @@ fn slot_or_slots(info: &RoutingInfo) -> usize {
 }
 
 /// Where a command goes.
-fn route<C: CpuClock>(watch: &mut Watch<'_, C>, alloc: Global, command: &Cmd) -> Result<(), Fault> {
+fn route(watch: &mut Watch<'_>, alloc: Global, command: &Cmd) -> Result<(), Fault> {
     let read_only = read_only(alloc)?;
-    for _ in 0..watch.rounds {
-        watch.start()?;
-        for _ in 0..watch.calls {
-            let info = RoutingInfo::for_routable(alloc, command, &read_only)?;
-            watch.keep(slot_or_slots(&info.ok_or(Fault::Refused)?));
-        }
-        watch.stop()?;
-    }
-    Ok(())
+    watch.time(|_| {
+        let info = RoutingInfo::for_routable(alloc, command, &read_only)?;
+        Ok(slot_or_slots(&info.ok_or(Fault::Refused)?))
+    })
 }
 
 /// The name of a command.
-fn name<C: CpuClock>(watch: &mut Watch<'_, C>, alloc: Global, command: &Cmd) -> Result<(), Fault> {
-    for _ in 0..watch.rounds {
-        watch.start()?;
-        for _ in 0..watch.calls {
-            let name = command.command(alloc)?;
-            watch.keep(usize::from(name.is_some()));
-        }
-        watch.stop()?;
-    }
-    Ok(())
+fn name(watch: &mut Watch<'_>, alloc: Global, command: &Cmd) -> Result<(), Fault> {
+    watch.time(|_| Ok(usize::from(command.command(alloc)?.is_some())))
 }
 
 /// The policy of each of four names in turn.
-fn policy<C: CpuClock>(watch: &mut Watch<'_, C>, names: [&[u8]; 4]) -> Result<(), Fault> {
-    for _ in 0..watch.rounds {
-        watch.start()?;
-        for turn in 0..watch.calls {
-            let policy = ResponsePolicy::for_command(names[turn & 3]);
-            watch.keep(usize::from(policy.is_some()));
-        }
-        watch.stop()?;
-    }
-    Ok(())
+fn policy(watch: &mut Watch<'_>, names: [&[u8]; 4]) -> Result<(), Fault> {
+    watch.time(|turn| {
+        let policy = ResponsePolicy::for_command(names[turn & 3]);
+        Ok(usize::from(policy.is_some()))
+    })
 }

@@ -4,7 +4,6 @@ use bench_inputs::{cmd, read_only};
 use redis_cluster::routing::SplitCommand;
 use resp_core::Cmd;
 use std::alloc::{AllocError, Global};
-use std::time::CpuClock;
 
 /// Calls on splits of commands by slot.
 #[derive(Clone, Copy)]
@@ -18,9 +17,9 @@ pub enum Splitting {
 }
 
 /// Makes the calls at a size.
-pub fn call<C: CpuClock>(
+pub fn call(
     what: Splitting,
-    watch: &mut Watch<'_, C>,
+    watch: &mut Watch<'_>,
     alloc: Global,
     size: usize,
 ) -> Result<(), Fault> {
@@ -35,17 +34,12 @@ pub fn call<C: CpuClock>(
 }
 
 /// The split of a command, without its parts.
-fn split<C: CpuClock>(watch: &mut Watch<'_, C>, alloc: Global, command: &Cmd) -> Result<(), Fault> {
+fn split(watch: &mut Watch<'_>, alloc: Global, command: &Cmd) -> Result<(), Fault> {
     let read_only = read_only(alloc)?;
-    for _ in 0..watch.rounds {
-        watch.start()?;
-        for _ in 0..watch.calls {
-            let split = SplitCommand::new(alloc, command, &read_only)?.ok_or(Fault::Refused)?;
-            watch.keep(split.len());
-        }
-        watch.stop()?;
-    }
-    Ok(())
+    watch.time(|_| {
+        let split = SplitCommand::new(alloc, command, &read_only)?;
+        Ok(split.ok_or(Fault::Refused)?.len())
+    })
 }
 
 /// The parts of a split command, all at once, as a client has them that sends them itself.
@@ -58,33 +52,17 @@ fn parts_of(alloc: Global, split: &SplitCommand<Cmd>) -> Result<Vec<Cmd>, AllocE
 }
 
 /// The parts of a command that is split before.
-fn parts<C: CpuClock>(watch: &mut Watch<'_, C>, alloc: Global, command: &Cmd) -> Result<(), Fault> {
+fn parts(watch: &mut Watch<'_>, alloc: Global, command: &Cmd) -> Result<(), Fault> {
     let read_only = read_only(alloc)?;
     let split = SplitCommand::new(alloc, command, &read_only)?.ok_or(Fault::Refused)?;
-    for _ in 0..watch.rounds {
-        watch.start()?;
-        for _ in 0..watch.calls {
-            watch.keep(parts_of(alloc, &split)?.len());
-        }
-        watch.stop()?;
-    }
-    Ok(())
+    watch.time(|_| Ok(parts_of(alloc, &split)?.len()))
 }
 
 /// The split of a command and its parts, with no plan, nodes or replies.
-fn with_parts<C: CpuClock>(
-    watch: &mut Watch<'_, C>,
-    alloc: Global,
-    command: &Cmd,
-) -> Result<(), Fault> {
+fn with_parts(watch: &mut Watch<'_>, alloc: Global, command: &Cmd) -> Result<(), Fault> {
     let read_only = read_only(alloc)?;
-    for _ in 0..watch.rounds {
-        watch.start()?;
-        for _ in 0..watch.calls {
-            let split = SplitCommand::new(alloc, command, &read_only)?.ok_or(Fault::Refused)?;
-            watch.keep(parts_of(alloc, &split)?.len());
-        }
-        watch.stop()?;
-    }
-    Ok(())
+    watch.time(|_| {
+        let split = SplitCommand::new(alloc, command, &read_only)?.ok_or(Fault::Refused)?;
+        Ok(parts_of(alloc, &split)?.len())
+    })
 }

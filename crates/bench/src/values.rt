@@ -3,7 +3,6 @@ use crate::watch::Watch;
 use bench_inputs::{bulks, ints, keys, nested};
 use resp_core::{Cmd, Value};
 use std::alloc::Global;
-use std::time::CpuClock;
 
 /// Calls on commands and replies.
 #[derive(Clone, Copy)]
@@ -18,12 +17,7 @@ pub enum Values {
 }
 
 /// Makes the calls at a size.
-pub fn call<C: CpuClock>(
-    what: Values,
-    watch: &mut Watch<'_, C>,
-    alloc: Global,
-    size: usize,
-) -> Result<(), Fault> {
+pub fn call(what: Values, watch: &mut Watch<'_>, alloc: Global, size: usize) -> Result<(), Fault> {
     match what {
         Values::Command => command(watch, alloc, &keys(alloc, size, 8)?),
         Values::DropInt => dropped(watch, alloc, &Value::Int(1)),
@@ -35,61 +29,33 @@ pub fn call<C: CpuClock>(
     }
 }
 
-/// A command of these words, made and dropped.
-fn command<C: CpuClock>(
-    watch: &mut Watch<'_, C>,
-    alloc: Global,
-    words: &[Vec<u8>],
-) -> Result<(), Fault> {
-    for _ in 0..watch.rounds {
-        watch.start()?;
-        for _ in 0..watch.calls {
-            let mut command = Cmd::new(alloc);
-            for word in words {
-                command.write_arg(word)?;
-            }
-            watch.keep(command.len());
-        }
-        watch.stop()?;
+/// A command of these words.
+fn command_of(alloc: Global, words: &[Vec<u8>]) -> Result<Cmd, Fault> {
+    let mut command = Cmd::new(alloc);
+    for word in words {
+        command.write_arg(word)?;
     }
-    Ok(())
+    Ok(command)
+}
+
+/// A command of these words, made and dropped.
+fn command(watch: &mut Watch<'_>, alloc: Global, words: &[Vec<u8>]) -> Result<(), Fault> {
+    watch.time(|_| Ok(command_of(alloc, words)?.len()))
 }
 
 /// Drops a value.
-fn dropped<C: CpuClock>(
-    watch: &mut Watch<'_, C>,
-    alloc: Global,
-    value: &Value,
-) -> Result<(), Fault> {
-    for _ in 0..watch.rounds {
-        let mut stock = Vec::with_capacity(alloc, watch.calls)?;
-        for _ in 0..watch.calls {
-            stock.push(value.clone()?)?;
-        }
-        watch.start()?;
-        for value in stock {
+fn dropped(watch: &mut Watch<'_>, alloc: Global, value: &Value) -> Result<(), Fault> {
+    watch.time_with(
+        alloc,
+        || Ok(value.clone()?),
+        |value| {
             drop(value);
-            watch.keep(1);
-        }
-        watch.stop()?;
-    }
-    Ok(())
+            Ok(1)
+        },
+    )
 }
 
 /// Copies a value. What it takes to drop the copy is not timed.
-fn cloned<C: CpuClock>(
-    watch: &mut Watch<'_, C>,
-    alloc: Global,
-    value: &Value,
-) -> Result<(), Fault> {
-    for _ in 0..watch.rounds {
-        let mut copies = Vec::with_capacity(alloc, watch.calls)?;
-        watch.start()?;
-        for _ in 0..watch.calls {
-            copies.push(value.clone()?)?;
-        }
-        watch.stop()?;
-        watch.keep(copies.len());
-    }
-    Ok(())
+fn cloned(watch: &mut Watch<'_>, alloc: Global, value: &Value) -> Result<(), Fault> {
+    watch.time_kept(alloc, || Ok(value.clone()?))
 }

@@ -1,22 +1,23 @@
+use crate::fault::Fault;
+use std::alloc::Global;
 use std::io;
 use std::time::{CpuClock, Duration};
 
 /// Times rounds of calls on the processor time of this thread, and keeps the least round.
 #[derive(Drop)]
-pub struct Watch<'a, C: CpuClock> {
-    clock: &'a C,
-    /// How many calls an operation is to make in a round.
-    pub calls: usize,
-    /// How many rounds an operation is to make.
-    pub rounds: usize,
-    /// The sum of what was kept.
+pub struct Watch<'a> {
+    clock: &'a HostRuntime,
+    calls: usize,
+    rounds: usize,
+    /// The sum of what the calls answered, so that no compiler leaves one out.
     pub answers: usize,
     began: Duration,
     least: Duration,
 }
 
-impl<'a, C: CpuClock> Watch<'a, C> {
-    pub fn new(clock: &'a C, calls: usize, rounds: usize) -> Self {
+impl<'a> Watch<'a> {
+    /// A watch for so many rounds of so many calls.
+    pub fn new(clock: &'a HostRuntime, calls: usize, rounds: usize) -> Self {
         Watch {
             clock,
             calls,
@@ -27,21 +28,77 @@ impl<'a, C: CpuClock> Watch<'a, C> {
         }
     }
 
-    /// Begins a round.
-    pub fn start(&mut self) -> io::Result<()> {
+    /// Times rounds of a call, which gets the number of its turn and answers something of what it
+    /// made.
+    pub fn time<F: Fn(usize) -> Result<usize, Fault>>(&mut self, call: F) -> Result<(), Fault>
+        requires { F.IsAlwaysCallable call }
+    {
+        for _ in 0..self.rounds {
+            self.start()?;
+            for turn in 0..self.calls {
+                let answer = call(turn)?;
+                self.keep(answer);
+            }
+            self.stop()?;
+        }
+        Ok(())
+    }
+
+    /// `time` for a call that uses up what is made for it before the round.
+    pub fn time_with<T, M, F>(&mut self, alloc: Global, make: M, call: F) -> Result<(), Fault>
+    where
+        T: Drop,
+        M: Fn() -> Result<T, Fault>,
+        F: Fn(T) -> Result<usize, Fault>,
+        requires made { M.IsAlwaysCallable make }
+        requires called { F.IsAlwaysCallable call }
+    {
+        for _ in 0..self.rounds {
+            let mut stock = Vec::with_capacity(alloc, self.calls)?;
+            for _ in 0..self.calls {
+                stock.push(make()?)?;
+            }
+            self.start()?;
+            for given in stock {
+                let answer = call(given)?;
+                self.keep(answer);
+            }
+            self.stop()?;
+        }
+        Ok(())
+    }
+
+    /// `time` for a call whose answer is dropped after the round.
+    pub fn time_kept<T, F>(&mut self, alloc: Global, call: F) -> Result<(), Fault>
+    where
+        T: Drop,
+        F: Fn() -> Result<T, Fault>,
+        requires { F.IsAlwaysCallable call }
+    {
+        for _ in 0..self.rounds {
+            let mut answers = Vec::with_capacity(alloc, self.calls)?;
+            self.start()?;
+            for _ in 0..self.calls {
+                answers.push(call()?)?;
+            }
+            self.stop()?;
+            self.keep(answers.len());
+        }
+        Ok(())
+    }
+
+    fn start(&mut self) -> io::Result<()> {
         self.began = self.clock.thread_cpu_time()?;
         Ok(())
     }
 
-    /// Ends a round.
-    pub fn stop(&mut self) -> io::Result<()> {
+    fn stop(&mut self) -> io::Result<()> {
         let ended = self.clock.thread_cpu_time()?;
         self.least = self.least.min(ended.saturating_sub(self.began));
         Ok(())
     }
 
-    /// Takes something of an answer, so that no compiler leaves out the call that gave it.
-    pub fn keep(&mut self, answer: usize) {
+    fn keep(&mut self, answer: usize) {
         self.answers = self.answers.wrapping_add(answer);
     }
 

@@ -187,16 +187,3 @@ pub fn repeated(alloc: Global, count: usize, items: Vec<Value>) -> Result<Vec<Va
     }
     Ok(all)
 }
-
-/// So many copies of some values, each to be used up by a call.
-pub fn copies(
-    alloc: Global,
-    values: &Vec<Value>,
-    count: usize,
-) -> Result<Vec<Vec<Value>>, AllocError> {
-    let mut all = Vec::with_capacity(alloc, count)?;
-    for _ in 0..count {
-        all.push(values.clone()?)?;
-    }
-    Ok(all)
-}
