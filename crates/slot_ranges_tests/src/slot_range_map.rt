@@ -128,37 +128,26 @@ fn a_map_prints_its_ranges_from_their_ends(rt: HostRuntime) -> Result<(), Fail> 
     Ok(())
 }
 
-// The value at a slot of a map of a range for each slot from 300 down to 1, and then a last one.
-fn value_in_many(
-    alloc: Global,
-    last: (u16, u16, u16),
-    slot: u16,
-) -> Result<Option<u16>, AllocError> {
-    let mut map = SlotRangeMap::new(alloc);
-    for number in (1..=300u16).rev() {
-        map.insert(number, number, number)?;
-    }
-    let (start, end, value) = last;
-    map.insert(start, end, value)?;
-    Ok(map.get(slot).copied())
-}
-
 #[test]
 fn ranges_may_be_put_in_by_descending_end(rt: HostRuntime) -> Result<(), Fail> {
-    let (same_end, past_all) = ((0, 300, 1000), (65535, 65535, 2000));
-    let table = [
-        (same_end, 300, Some(1000)),
-        (same_end, 299, Some(299)),
-        (same_end, 1, Some(1)),
-        (same_end, 0, None),
-        (same_end, 301, None),
-        (past_all, 65535, Some(2000)),
-        (past_all, 65534, None),
-        (past_all, 300, Some(300)),
-    ];
-    for (last, slot, wanted) in table {
-        let found = value_in_many(rt.alloc(), last, slot)?;
-        assert_eq!(rt; found, wanted, "slot {slot}, and {last:?} put in last");
+    let mut map = SlotRangeMap::new(rt.alloc());
+    for end in (1..=300u16).rev() {
+        map.insert(end, end, end)?;
+    }
+    for ((start, end, value), wanted) in map.iter().zip(1..=300u16) {
+        assert_eq!(rt; (start, end, *value), (wanted, wanted, wanted));
+        assert_eq!(rt; map.get(wanted), Some(&wanted));
+    }
+    assert_eq!(rt; map.iter().count(), 300);
+    assert_eq!(rt; map.get(0), None, "before the first");
+    assert_eq!(rt; map.get(301), None, "past the last");
+    map.insert(0, 300, 1000)?;
+    for (slot, value) in [(300, Some(1000)), (299, Some(299)), (0, None)] {
+        assert_eq!(rt; map.get(slot).copied(), value, "slot {slot}");
+    }
+    map.insert(65535, 65535, 2000)?;
+    for (slot, value) in [(65535, Some(2000)), (65534, None)] {
+        assert_eq!(rt; map.get(slot).copied(), value, "slot {slot}");
     }
     Ok(())
 }
