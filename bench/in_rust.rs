@@ -3,7 +3,7 @@
 //! buffer with ends. It is not the crate's own code. `in_rust time OPERATION SIZE` prints the
 //! nanoseconds of a call, measured as `crates/bench` measures them, over the same inputs; nothing
 //! is printed for an operation that is not here.
-use std::collections::{BTreeMap, HashMap};
+use std::collections::{BTreeMap, HashMap, HashSet};
 use std::env;
 use std::hint::black_box;
 use std::sync::Arc;
@@ -215,6 +215,168 @@ fn command_of_keys(name: &[u8], count: usize, value: Option<&[u8]>) -> Cmd {
         }
     }
     command
+}
+
+// Where a command goes.
+
+#[derive(Clone, Copy, PartialEq, Eq)]
+enum RouteBy {
+    AllNodes,
+    AllMasters,
+    Random,
+    KeyAt(usize),
+    CountAt(usize),
+    SlotAt,
+    KeyAfterStreams,
+    MultiSlot,
+    Undefined,
+}
+
+#[derive(Clone, Copy)]
+enum ResponsePolicy {
+    AllSucceeded,
+    Sum,
+    Min,
+    And,
+    CombineArrays,
+    CombineMaps,
+    OneSucceeded,
+    FirstSucceededNonEmptyOrAllEmpty,
+    Special,
+}
+
+enum RoutingInfo {
+    SpecificNode(Route),
+    AllNodes(Option<ResponsePolicy>),
+    AllMasters(Option<ResponsePolicy>),
+    Other,
+}
+
+#[rustfmt::skip]
+fn base_routing(name: &[u8]) -> RouteBy {
+    match name {
+        b"ACL DELUSER" | b"ACL SAVE" | b"ACL SETUSER" | b"CLIENT SETINFO" | b"CLIENT SETNAME"
+        | b"CONFIG RESETSTAT" | b"CONFIG REWRITE" | b"CONFIG SET" | b"FUNCTION KILL"
+        | b"FUNCTION STATS" | b"LATENCY DOCTOR" | b"LATENCY GRAPH" | b"LATENCY HISTOGRAM"
+        | b"LATENCY HISTORY" | b"LATENCY LATEST" | b"LATENCY RESET" | b"PUBSUB CHANNELS"
+        | b"PUBSUB NUMPAT" | b"PUBSUB NUMSUB" | b"PUBSUB SHARDCHANNELS" | b"PUBSUB SHARDNUMSUB"
+        | b"SCRIPT FLUSH" | b"SCRIPT KILL" | b"SCRIPT LOAD" | b"SLOWLOG GET" | b"SLOWLOG LEN"
+        | b"SLOWLOG RESET" => RouteBy::AllNodes,
+        b"ACL DRYRUN" | b"ACL GENPASS" | b"ACL GETUSER" | b"ACL HELP" | b"ACL LIST" | b"ACL LOG"
+        | b"ACL USERS" | b"ACL WHOAMI" | b"AUTH" | b"BGSAVE" | b"CLIENT GETNAME"
+        | b"CLIENT GETREDIR" | b"CLIENT ID" | b"CLIENT INFO" | b"CLIENT KILL" | b"CLIENT PAUSE"
+        | b"CLIENT REPLY" | b"CLIENT TRACKINGINFO" | b"CLIENT UNBLOCK" | b"CLIENT UNPAUSE"
+        | b"CLUSTER COUNT-FAILURE-REPORTS" | b"CLUSTER INFO" | b"CLUSTER KEYSLOT"
+        | b"CLUSTER MEET" | b"CLUSTER MYSHARDID" | b"CLUSTER NODES" | b"CLUSTER REPLICAS"
+        | b"CLUSTER RESET" | b"CLUSTER SET-CONFIG-EPOCH" | b"CLUSTER SHARDS" | b"CLUSTER SLOTS"
+        | b"COMMAND" | b"COMMAND COUNT" | b"COMMAND GETKEYS" | b"COMMAND LIST" | b"CONFIG GET"
+        | b"ECHO" | b"FUNCTION LIST" | b"LASTSAVE" | b"LOLWUT" | b"MODULE LIST" | b"MODULE LOAD"
+        | b"MODULE LOADEX" | b"MODULE UNLOAD" | b"READONLY" | b"READWRITE" | b"SAVE"
+        | b"SCRIPT SHOW" | b"TFCALL" | b"TFCALLASYNC" | b"TFUNCTION DELETE" | b"TFUNCTION LIST"
+        | b"TFUNCTION LOAD" | b"TIME" => RouteBy::Random,
+        b"BITOP" | b"JSON.DEBUG" | b"MEMORY USAGE" | b"OBJECT ENCODING" | b"OBJECT FREQ"
+        | b"OBJECT IDLETIME" | b"OBJECT REFCOUNT" | b"PFDEBUG" | b"XGROUP CREATE"
+        | b"XGROUP CREATECONSUMER" | b"XGROUP DELCONSUMER" | b"XGROUP DESTROY" | b"XGROUP SETID"
+        | b"XINFO CONSUMERS" | b"XINFO GROUPS" | b"XINFO STREAM" => RouteBy::KeyAt(2),
+        b"BLMPOP" | b"BZMPOP" | b"EVAL" | b"EVALSHA" | b"EVALSHA_RO" | b"EVAL_RO" | b"FCALL"
+        | b"FCALL_RO" => RouteBy::CountAt(2),
+        b"CLUSTER ADDSLOTS" | b"CLUSTER COUNTKEYSINSLOT" | b"CLUSTER DELSLOTS"
+        | b"CLUSTER DELSLOTSRANGE" | b"CLUSTER GETKEYSINSLOT" | b"CLUSTER SETSLOT"
+        => RouteBy::SlotAt,
+        b"DBSIZE" | b"DEBUG" | b"FLUSHALL" | b"FLUSHDB" | b"FT._ALIASLIST" | b"FT._LIST"
+        | b"FUNCTION DELETE" | b"FUNCTION FLUSH" | b"FUNCTION LOAD" | b"FUNCTION RESTORE"
+        | b"INFO" | b"KEYS" | b"MEMORY DOCTOR" | b"MEMORY MALLOC-STATS" | b"MEMORY PURGE"
+        | b"MEMORY STATS" | b"PING" | b"RANDOMKEY" | b"SCRIPT EXISTS" | b"UNWATCH" | b"WAIT"
+        | b"WAITAOF" => RouteBy::AllMasters,
+        b"LMPOP" | b"SINTERCARD" | b"ZDIFF" | b"ZINTER" | b"ZINTERCARD" | b"ZMPOP" | b"ZUNION"
+        => RouteBy::CountAt(1),
+        b"REPLICAOF" | b"SCAN" | b"SHUTDOWN" | b"SLAVEOF" => RouteBy::Undefined,
+        b"XREAD" | b"XREADGROUP" => RouteBy::KeyAfterStreams,
+        b"DEL" | b"EXISTS" | b"MGET" | b"TOUCH" | b"UNLINK" | b"WATCH" | b"JSON.MGET"
+        | b"JSON.MSET" | b"MSET" => RouteBy::MultiSlot,
+        _ => RouteBy::KeyAt(1),
+    }
+}
+
+#[rustfmt::skip]
+fn policy(name: &[u8]) -> Option<ResponsePolicy> {
+    let policy = match name {
+        b"ACL DELUSER" | b"ACL SAVE" | b"ACL SETUSER" | b"CLIENT SETINFO" | b"CLIENT SETNAME"
+        | b"CONFIG RESETSTAT" | b"CONFIG REWRITE" | b"CONFIG SET" | b"FLUSHALL" | b"FLUSHDB"
+        | b"FUNCTION DELETE" | b"FUNCTION FLUSH" | b"FUNCTION LOAD" | b"FUNCTION RESTORE"
+        | b"JSON.MSET" | b"MEMORY PURGE" | b"MSET" | b"PING" | b"SCRIPT FLUSH" | b"SCRIPT LOAD"
+        | b"SLOWLOG RESET" | b"UNWATCH" | b"WATCH" => ResponsePolicy::AllSucceeded,
+        b"DBSIZE" | b"DEL" | b"EXISTS" | b"LATENCY RESET" | b"PUBSUB NUMPAT" | b"SLOWLOG LEN"
+        | b"TOUCH" | b"UNLINK" => ResponsePolicy::Sum,
+        b"FT._ALIASLIST" | b"FT._LIST" | b"JSON.MGET" | b"KEYS" | b"MGET" | b"PUBSUB CHANNELS"
+        | b"PUBSUB SHARDCHANNELS" | b"SLOWLOG GET" => ResponsePolicy::CombineArrays,
+        b"FUNCTION KILL" | b"SCRIPT KILL" => ResponsePolicy::OneSucceeded,
+        b"FUNCTION STATS" | b"INFO" | b"LATENCY DOCTOR" | b"LATENCY GRAPH" | b"LATENCY HISTOGRAM"
+        | b"LATENCY HISTORY" | b"LATENCY LATEST" | b"MEMORY DOCTOR" | b"MEMORY MALLOC-STATS"
+        | b"MEMORY STATS" => ResponsePolicy::Special,
+        b"PUBSUB NUMSUB" | b"PUBSUB SHARDNUMSUB" => ResponsePolicy::CombineMaps,
+        b"RANDOMKEY" => ResponsePolicy::FirstSucceededNonEmptyOrAllEmpty,
+        b"SCRIPT EXISTS" => ResponsePolicy::And,
+        b"WAIT" => ResponsePolicy::Min,
+        _ => return None,
+    };
+    Some(policy)
+}
+
+#[inline(never)]
+fn route_of(command: &Cmd, read_only: &HashSet<&[u8]>) -> Option<RoutingInfo> {
+    let name = command.name()?;
+    match base_routing(&name) {
+        RouteBy::AllNodes => Some(RoutingInfo::AllNodes(policy(&name))),
+        RouteBy::AllMasters => Some(RoutingInfo::AllMasters(policy(&name))),
+        RouteBy::KeyAt(place) => {
+            let slot = slot_of(command.arg_idx(place)?);
+            let addr = if read_only.contains(name.as_slice()) {
+                SlotAddr::ReplicaOptional
+            } else {
+                SlotAddr::Master
+            };
+            Some(RoutingInfo::SpecificNode(Route(slot, addr)))
+        }
+        RouteBy::Undefined => None,
+        // the operations that are timed have no name of these
+        _ => Some(RoutingInfo::Other),
+    }
+}
+
+/// Calls it at a command, and looks at the slot or at the policy, so that both are computed.
+fn time_route(words: &[&[u8]]) {
+    let command = command(words);
+    let read_only: HashSet<&[u8]> = [
+        b"GET".as_slice(),
+        b"MGET",
+        b"EXISTS",
+        b"JSON.MGET",
+        b"XREAD",
+    ]
+    .into();
+    time(
+        || (),
+        |()| match route_of(&command, &read_only) {
+            Some(RoutingInfo::SpecificNode(route)) => route.0,
+            Some(RoutingInfo::AllNodes(policy) | RoutingInfo::AllMasters(policy)) => {
+                u16::from(policy.is_some())
+            }
+            _ => 0,
+        },
+    );
+}
+
+/// Calls it at four names in turn.
+fn time_policy(names: [&[u8]; 4]) {
+    let mut turn = 0;
+    time(
+        || (),
+        |()| {
+            turn += 1;
+            policy(black_box(names[turn & 3])).is_some()
+        },
+    );
 }
 
 type Routes = Vec<(Route, Vec<usize>)>;
@@ -442,6 +604,10 @@ fn main() {
         }
         "name-get" => time_command(&[b"get", &vec![b'k'; size]]),
         "name-cluster-info" => time_command(&[b"cluster", b"info"]),
+        "policy-found" => time_policy([b"DEL", b"MSET", b"SCRIPT EXISTS", b"WAIT"]),
+        "policy-not-found" => time_policy([b"GET", b"SET", b"CLUSTER NODES", b"ZADD"]),
+        "route-get" => time_route(&[b"GET", &vec![b'k'; size]]),
+        "route-flushall" => time_route(&[b"FLUSHALL", &vec![b'k'; size]]),
         "split-del" => {
             let command = del();
             time(|| (), |()| split(&command, 1, SlotAddr::Master));
