@@ -1,13 +1,15 @@
 -- Tables whose names are found by a number of theirs.
-use Rattle.std.specs.Prelude.{ℕ, ◌+◌, ◌-◌, ◌*◌, ◌%◌, List, Bool, map, length, get_or}
+use Rattle.std.specs.Prelude.{ℕ, ◌+◌, ◌-◌, ◌*◌, ◌/◌, ◌%◌, List, Bool, cond, nat_lt, map, length, get_or}
 use Rattle.std.specs.List.{range_with_len}
 use Rattle.std.specs.Str.{bytes_eq}
 
--- a number for a name by five of its bytes, each 0 where the name is too short for it
+-- a number for a name by five of its bytes
 abbrev pub number_of : List ℕ → ℕ
 number_of name =
-    get_or name 0 0 * 557 + get_or name 11 0 * 847 + get_or name (length name - 3) 0 * 479
-    + get_or name (length name - 5) 0 * 1023 + get_or name (length name - 7) 0 * 897
+    cond (nat_lt (length name) 3) 0
+    (get_or name 0 0 * 107 + get_or name ((length name - 3) / 2) 0
+    + get_or name (length name - 7) 0 * 72 + get_or name (length name - 3) 0 * 12
+    + get_or name (length name - 1) 0 * 7)
 
 -- the place that a list of places has for the name's number
 abbrev pub place_of : List ℕ → List ℕ → ℕ

@@ -1,4 +1,4 @@
-ghost use Rattle.std.specs.Prelude.{◌≡◌, ◌<◌, map, true, length, get_or};
+ghost use Rattle.std.specs.Prelude.{◌≡◌, ◌<◌, map, true, length};
 ghost use Rattle.redis_commands.specs.Lookup.{lookup, has_name, ascends};
 ghost use Rattle.redis_commands.specs.Places.{number_of, place_of, are_placed};
 
@@ -34,27 +34,20 @@ fn place_of(places: &[u8], name: &[u8]) -> usize
     usize::from(places[number_of(name) % places.len()])
 }
 
-/// A number for a name by five of its bytes, by which a table tells its names apart.
+/// A number for a name by five of its bytes, by which a table tells its names apart. It is 0 for a
+/// name of fewer than three.
 fn number_of(name: &[u8]) -> usize
     ensures { result ≡ number_of name.now }
 {
     let len = name.len();
-    byte_at(name, 0) * 557
-        + byte_at(name, 11) * 847
-        + byte_at(name, len.saturating_sub(3)) * 479
-        + byte_at(name, len.saturating_sub(5)) * 1023
-        + byte_at(name, len.saturating_sub(7)) * 897
-}
-
-fn byte_at(name: &[u8], place: usize) -> usize
-    ensures value { result ≡ get_or name.now place 0 }
-    ensures small { result < 256 }
-{
-    if place < name.len() {
-        usize::from(name[place])
-    } else {
-        0
+    if len < 3 {
+        return 0;
     }
+    usize::from(name[0]) * 107
+        + usize::from(name[(len - 3) / 2])
+        + usize::from(name[len.saturating_sub(7)]) * 72
+        + usize::from(name[len - 3]) * 12
+        + usize::from(name[len - 1]) * 7
 }
 
 /// Whether the name is one of these ascending names.

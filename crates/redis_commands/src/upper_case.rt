@@ -7,7 +7,9 @@ use std::alloc::{AllocError, Global};
 pub(super) fn to_upper_case(alloc: Global, text: &[u8]) -> Result<Vec<u8>, AllocError>
     ensures { IfOk result (λ word. word.items ≡ upper text.now) }
 {
-    let mut word = text.to_vec(alloc)?;
+    // `to_vec` writes four bytes at a time, and the wide reads that follow would wait for that.
+    let mut word = Vec::with_capacity(alloc, text.len())?;
+    word.extend_from_slice(text)?;
     word.make_ascii_uppercase();
     Ok(word)
 }
