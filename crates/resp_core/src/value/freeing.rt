@@ -10,7 +10,9 @@ use super::Value;
 use std::mem;
 
 impl Value {
-    /// Frees a value, the innermost first.
+    /// Frees a value, the innermost first. Never inline, so that `drop` is: most values have none
+    /// inside.
+    #[inline(never)]
     pub(super) fn free(mut self) {
         let mut above = Value::Nil;
         loop {
