@@ -194,6 +194,10 @@ impl SlotMap {
 
     /// The map of these ranges, put in one after the other: a later range takes the place of an
     /// earlier one that has the same end.
+    ///
+    /// # Errors
+    ///
+    /// If memory runs out.
     #[tactic(auto, using(crate::proofs::Disjoint::any_order))]
     pub fn from_slots(alloc: Global, slots: Vec<SlotRange>) -> Result<Self, AllocError>
         ensures put { IfOk result (λ map. map ≡ insert_ranges [] slots.items) }
@@ -250,8 +254,12 @@ impl SlotMap {
         Some(addrs.slot_addr(route.slot(), route.slot_addr(), strategy, pick))
     }
 
-    /// The node of each route, in order. The strategy is asked in this order, and `pick` is the
-    /// same for all.
+    /// The node of each route, in order, or `None` where no range answers for its slot. The strategy
+    /// is asked in this order, and `pick` is the same for all.
+    ///
+    /// # Errors
+    ///
+    /// If memory runs out.
     pub fn addresses_for_multi_slot(
         &self,
         alloc: Global,
@@ -275,6 +283,10 @@ impl SlotMap {
     /// The nodes that a read may go to where the one of its route fails: the replicas, and after
     /// them the primary where no replica is required. There is none for a primary's route, nor
     /// where no range answers for the slot.
+    ///
+    /// # Errors
+    ///
+    /// If memory runs out.
     pub fn shard_fallback_addrs(
         &self,
         alloc: Global,
@@ -305,6 +317,10 @@ impl SlotMap {
     }
 
     /// Each primary once, by its first range.
+    ///
+    /// # Errors
+    ///
+    /// If memory runs out.
     pub fn addresses_for_all_primaries(
         &self,
         alloc: Global,
@@ -321,6 +337,10 @@ impl SlotMap {
     }
 
     /// Each node once, by its first range and, within a range, the primary first.
+    ///
+    /// # Errors
+    ///
+    /// If memory runs out.
     pub fn addresses_for_all_nodes(&self, alloc: Global) -> Result<Vec<&NodeAddress>, AllocError>
         ensures all { IfOk result (λ found. targets found.items
             ≡ each_once (flat_map (λ (e : Entry SlotNodes). nodes_in (value_of e)) self.now)) }
@@ -333,7 +353,12 @@ impl SlotMap {
         members(alloc, &seen)
     }
 
-    /// The shards of this map, one for each primary.
+    /// The shards of this map: for each primary, in order of the end of its first range, all its
+    /// ranges, and the replicas of the first one.
+    ///
+    /// # Errors
+    ///
+    /// If memory runs out.
     pub fn topology(&self, alloc: Global) -> Result<ClusterTopology, AllocError>
         ensures shards { IfOk result (λ topology. topology ≡ topology_of (shards_of self.now)) }
         // So its `shards` lists just these.

@@ -19,8 +19,8 @@ use std::hash::{Hash, Hasher};
 use std::marker::Model;
 use std::rc::RcStr;
 
-/// The address of a node: a host and a port. A short host takes no memory, and clones share the
-/// text of a longer one.
+/// The address of a node: a host and a port. A host of at most 16 bytes takes no memory where it is
+/// given as text, and clones share the text of a longer one.
 ///
 /// Addresses are ordered by the bytes of the host, then by port. `Display` and `Debug` print
 /// `host:port`.
@@ -40,6 +40,10 @@ impl Model for NodeAddress {
 
 impl NodeAddress {
     /// The address of a host, taken as it is, and a port.
+    ///
+    /// # Errors
+    ///
+    /// If memory runs out.
     pub fn new(alloc: Global, host: &str, port: u16) -> Result<Self, AllocError>
         ensures { IfOk result (λ a. a ≡ record { host = host.now; port = port }) }
     {
@@ -58,6 +62,10 @@ impl NodeAddress {
     }
 
     /// The empty host and port 0.
+    ///
+    /// # Errors
+    ///
+    /// If memory runs out.
     pub fn default(alloc: Global) -> Result<Self, AllocError>
         ensures { IfOk result (λ a. a ≡ record { host = []; port = 0 }) }
     {
@@ -80,7 +88,8 @@ impl NodeAddress {
         Ok(NodeAddress::new(alloc, host, port)?)
     }
 
-    /// The host, without brackets: a name, an IPv4 or an IPv6 address.
+    /// The host as it was given, without the brackets that `try_from` reads around one: a name, an
+    /// IPv4 or an IPv6 address.
     pub fn host(&self) -> &str
         ensures { result.now ≡ self.now.host }
     {

@@ -22,7 +22,8 @@ pub trait ReadRoutingStrategy: Drop {
     /// The addresses that a read of these candidates may go to.
     ghost picks: { Self → Candidates → Address → Type 0 };
 
-    /// Tells the strategy of the cluster's shards.
+    /// Tells the strategy of the cluster's shards. Whoever owns the strategy calls it, each time
+    /// that the map is made anew.
     fn on_topology_changed(&mut self, topology: ClusterTopology) {
         let _ = topology;
     }

@@ -8,7 +8,7 @@ ghost use Rattle.redis_combiners.specs.AllItems.{all_items};
 use resp_core::{ErrorKind, RedisError, RedisResult, Value};
 use std::alloc::{AllocError, Global};
 
-/// One array of the items of all replies, in order.
+/// One array of the items of all replies, in order: the keys of `KEYS *`.
 ///
 /// # Errors
 ///

@@ -11,7 +11,8 @@ use resp_core::{ErrorKind, RedisError, RedisResult, Value};
 use std::alloc::Global;
 
 /// One array of 0 and 1 for replies that are such arrays, all of one length: a place has 1 exactly
-/// where all replies have 1 there. No replies make an empty array. It takes no memory.
+/// where all replies have 1 there, as a script of `SCRIPT EXISTS` is there where each primary has
+/// it. No replies make an empty array. It takes no memory.
 ///
 /// # Errors
 ///

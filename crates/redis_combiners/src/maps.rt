@@ -28,8 +28,8 @@ struct KeyTotals {
 }
 
 /// One map for replies that are arrays of keys and numbers in turn: each key that occurs, by
-/// ascending bytes, with the sum of its numbers over all replies. No replies make an empty map. The
-/// order of the replies does not matter.
+/// ascending bytes, with the sum of its numbers over all replies, as the subscribers that
+/// `PUBSUB NUMSUB` counts. No replies make an empty map. The order of the replies does not matter.
 ///
 /// # Errors
 ///

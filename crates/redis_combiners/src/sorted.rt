@@ -15,7 +15,7 @@ use std::alloc::Global;
 
 /// One array of the items of all replies, each at the place that its key had in the command:
 /// element j of reply i stands where place j of list i says. The lists are those of the routes of a
-/// split.
+/// split, as of an `MGET`.
 ///
 /// # Errors
 ///

@@ -8,7 +8,8 @@ use redis_commands::AggregateOp;
 use resp_core::{ErrorKind, RedisError, RedisResult, Value};
 
 /// One number for replies that are numbers: their sum, which is 0 of none, or the least of them,
-/// which is `i64::MAX` of none. The order of the replies does not matter. Takes no memory.
+/// which is `i64::MAX` of none: `DBSIZE` and `DEL` are summed up, and of `WAIT` it is the least. The
+/// order of the replies does not matter. Takes no memory.
 ///
 /// # Errors
 ///

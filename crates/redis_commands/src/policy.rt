@@ -26,7 +26,7 @@ pub enum ResponsePolicy {
     OneSucceeded,
     /// The first reply that is not empty, or an empty one where all are: `RANDOMKEY`.
     FirstSucceededNonEmptyOrAllEmpty,
-    /// One of the replies, where every node succeeded: `MSET key value`.
+    /// One of the replies, where every node succeeded: `MSET key1 value1 key2 value2`.
     AllSucceeded,
     /// Lists of 0 and 1, joined place by place: `SCRIPT EXISTS sha1`.
     AggregateLogical(LogicalAggregateOp),
@@ -41,7 +41,8 @@ pub enum ResponsePolicy {
 }
 
 impl ResponsePolicy {
-    /// The policy of a command's name, given in upper case as `Routable::command` answers it.
+    /// The policy of a command's name, given in upper case as `Routable::command` answers it. `None`
+    /// is for names whose replies this layer has no rule for, as those of one node: `GET`.
     pub fn for_command(name: &[u8]) -> Option<Self>
         ensures { result ≡ policy_of name.now }
     {

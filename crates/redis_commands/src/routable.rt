@@ -17,7 +17,12 @@ pub trait Routable {
     ghost args: { Self → Arguments };
 
     /// The name in upper case, with its second word where names with this first word have one.
-    /// There is none where the first argument is missing or a gap.
+    /// There is none where the first argument is missing or a gap. Of `cluster info` it is
+    /// `CLUSTER INFO`, and of `get key` it is `GET`.
+    ///
+    /// # Errors
+    ///
+    /// If memory runs out.
     fn command(&self, alloc: Global) -> Result<Option<Vec<u8>>, AllocError>
         ensures { IfOk result (λ name. option_map (λ v. v.items) name
             ≡ command_of (args self.now)) }

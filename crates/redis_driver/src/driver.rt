@@ -29,7 +29,8 @@ use std::alloc::Global;
 /// The command is split by slot: there is one route for each slot of a key, numbered by the first
 /// key of each, and one part for each route, which has the tuples of the slot in their order. The
 /// parts go out in `order`, a list that names each route number once, each to the primary of its
-/// slot or, where the name only reads and a strategy is lent, to the node that the strategy picks.
+/// slot or, where the name only reads and a strategy is lent, to the node that the strategy picks;
+/// `pick` decides nothing here, since no route of a split requires a replica.
 /// `DEL foo bar baz {bar}vaz` goes out as `DEL foo`, `DEL bar {bar}vaz` and `DEL baz`, and the
 /// counts are added up.
 ///

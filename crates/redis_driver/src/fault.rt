@@ -45,11 +45,11 @@ pub enum DriveFault {
     NotCovered(u16),
     /// The order does not name each route once. Nothing was sent.
     BadOrder,
-    /// Memory ran out.
+    /// Memory ran out. The first `answered` parts of the order took effect.
     Memory,
-    /// A node refused a part.
+    /// A node refused a part. The parts before it in the order took effect.
     Node(RedisError),
-    /// The replies could not be combined.
+    /// The replies could not be combined. All parts took effect.
     Reply(RedisError),
 }
 

@@ -72,7 +72,8 @@ impl<'a, R: Routable> Model for SplitPlan<'a, R> {
 
 impl<'a, R: Routable> SplitPlan<'a, R> {
     /// Plans a command: its routes, in order of first appearance of their slots, the node of each
-    /// by the map, and where reads may go to replicas by the strategy, and the part of each.
+    /// by the map, and where reads may go to replicas by the strategy, and the part of each. `pick`
+    /// decides nothing here, since no route of a split requires a replica.
     ///
     /// # Errors
     ///
@@ -189,7 +190,8 @@ impl<'a, R: Routable> SplitPlan<'a, R> {
     /// # Errors
     ///
     /// `Client` where a reply was not told. Else what the combiners refuse; where the replies are
-    /// those to parts of one command they refuse nothing, and memory runs out for lists alone.
+    /// those to parts of one command they refuse nothing, and memory runs out for lists alone. The
+    /// plan is used up then too, with the replies that it was told.
     pub fn combine(self, alloc: Global) -> RedisResult<Value>
         ensures unsplit { (form : ReplyForm) (results : List TupleResult)
             → ArePartReplies self.entry form results → MatchResult result

@@ -14,15 +14,16 @@ use redis_commands::{ReadOnlyNames, ResponsePolicy, Routable, RouteBy, routing_a
 use std::alloc::{AllocError, Global};
 
 impl RoutingInfo {
-    /// Where a command goes. `None` where it has no name, where the argument that it is routed by
-    /// is missing or no number, where its tuples are not whole, or where commands of its name go
-    /// nowhere. A name that no table has goes to the slot of argument 1, or without one to any
-    /// node.
+    /// Where a command goes: `GET foo` to slot 12182, `DBSIZE` to each primary, `ECHO hello` to any
+    /// node. `None` where it has no name, where the argument that it is routed by is missing, no
+    /// number or no slot (`CLUSTER COUNTKEYSINSLOT 16384`), where its tuples are not whole, or where
+    /// commands of its name go nowhere. A name that no table has goes to the slot of argument 1, or
+    /// without one to any node.
     ///
     /// A command over many keys goes to one node where all keys have one slot, and else has a route
     /// for each slot of a key, by the first key of each, with the places of its part as
-    /// `command_for_multi_slot_indices` takes them. The ASCII case of the first word changes
-    /// nothing.
+    /// `command_for_multi_slot_indices` takes them. Its arguments end at the first gap. The ASCII
+    /// case of the first word changes nothing.
     ///
     /// # Errors
     ///

@@ -235,6 +235,10 @@ fn sort_by_end<V: Drop>(ranges: &mut Vec<(u16, u16, V)>) -> Result<(), AllocErro
 
 impl<V: Clone> SlotRangeMap<V> {
     /// A copy, for values whose clones equal them.
+    ///
+    /// # Errors
+    ///
+    /// If memory runs out.
     pub fn clone(&self) -> Result<Self, AllocError>
         requires { (v w : V) → V.is_clone v w → w ≡ v }
         ensures { IfOk result (λ map. map ≡ self.now) }

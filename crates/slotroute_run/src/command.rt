@@ -36,7 +36,7 @@ pub fn read_only_names(alloc: Global) -> Result<ReadOnlyNames, AllocError>
 /// # Errors
 ///
 /// `Refused` where the command is not one over many keys, is not complete, or has a key whose slot
-/// has no node. Nothing was sent then.
+/// has no node. Nothing was sent then. `Memory` where memory ran out, after any number of parts.
 pub fn run_command(
     alloc: Global,
     direction: &Direction,

@@ -37,6 +37,10 @@ impl Model for ClusterTopology {
 impl ClusterTopology {
     /// The topology of these shards. Their ranges are put in, one after the other: a range takes
     /// the place of an earlier one that has the same end.
+    ///
+    /// # Errors
+    ///
+    /// If memory runs out.
     pub fn from_shards(alloc: Global, shards: Vec<Shard>) -> Result<Self, AllocError>
         ensures put { IfOk result (λ topology. topology ≡ topology_of shards.items) }
     {

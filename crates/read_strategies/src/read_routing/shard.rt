@@ -52,7 +52,7 @@ impl Shard {
         &self.primary
     }
 
-    /// The replicas, in the order of the reply that told of them.
+    /// The replicas, in the order in which they were given.
     pub fn replicas(&self) -> &[NodeAddress]
         ensures { result.now ≡ self.now.replicas }
     {
@@ -77,6 +77,10 @@ impl Shard {
     }
 
     /// A shard of one range, with copies of these nodes.
+    ///
+    /// # Errors
+    ///
+    /// If memory runs out.
     pub fn of_range(
         alloc: Global,
         start: u16,
