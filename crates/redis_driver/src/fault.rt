@@ -5,7 +5,7 @@ use resp_core::RedisError;
 use std::alloc::{AllocError, AllocFailed};
 
 /// Why a command has no plan.
-#[derive(Drop)]
+#[derive(Debug, Drop)]
 pub enum PlanFault {
     /// The command is not one of those that are split by slot, or is not complete.
     NotMultiKey,
@@ -36,7 +36,7 @@ impl<T: Drop> From<AllocFailed<T>> for PlanFault {
 }
 
 /// Why a command was not driven to its end.
-#[derive(Drop)]
+#[derive(Debug, Drop)]
 pub enum DriveFault {
     /// The command is not one of those that are split by slot, or is not complete. Nothing was
     /// sent.
@@ -55,7 +55,7 @@ pub enum DriveFault {
 
 /// Why a command was not driven to its end, and how many of its parts took effect: the first ones
 /// of the order, and no other.
-#[derive(Drop)]
+#[derive(Debug, Drop)]
 pub struct DriveError {
     pub fault: DriveFault,
     pub answered: usize,

@@ -9,7 +9,7 @@ use cluster_slots::NodeAddress;
 use resp_core::{Cmd, RedisError, Value};
 
 /// Why a node did not answer.
-#[derive(Drop)]
+#[derive(Debug, Drop)]
 pub enum SendError {
     /// The node refused the command, and did nothing.
     Refused(RedisError),
