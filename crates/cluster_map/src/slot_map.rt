@@ -1,13 +1,11 @@
-ghost use Rattle.std.specs.Prelude.{◌≡◌, ℕ, List, [], map, Option, IfOk, IfErr, IsTrue, ◌↔◌, MatchOption, Contains, IsPermutation, ◌<◌, ◌≤◌, ◌^◌, ◌++◌, length, take, flat_map, fold, OnOk, OnErr};
+ghost use Rattle.std.specs.Prelude.{◌≡◌, ℕ, List, [], map, Option, IfOk, IfErr, ◌↔◌, MatchOption, Contains, IsPermutation, ◌<◌, ◌≤◌, ◌^◌, length, take, flat_map, OnOk, OnErr};
 ghost use Rattle.std.specs.List.{AllZip};
-ghost use Rattle.std.specs.Cmp.Rules.{comparing};
-ghost use Rattle.std.proofs.Common.{rules};
 ghost use Rattle.resp_core.specs.ErrorParts.{out_of_memory};
 ghost use Rattle.resp_core.specs.Reply.{Reply};
 ghost use Rattle.resp_core.specs.View.{view};
 ghost use Rattle.cluster_slots.specs.Address.{Address};
 ghost use Rattle.cluster_slots.specs.SlotRoute.{SlotRoute};
-ghost use Rattle.slot_ranges.specs.SlotNodes.{SlotNodes, RangeNodes, nodes_of, range_entry, same_range, insert_ranges, nodes_in};
+ghost use Rattle.slot_ranges.specs.SlotNodes.{SlotNodes, RangeNodes, nodes_of, range_entry, insert_ranges, nodes_in};
 ghost use Rattle.slot_ranges.specs.RangeMap.{Entry, Ascends, AreDisjoint, IsUncovered, value_of};
 ghost use Rattle.read_strategies.specs.EachOnce.{each_once};
 ghost use Rattle.cluster_map.specs.Fallback.{fallback, IsFallback};

@@ -2,7 +2,7 @@ ghost use Rattle.std.specs.Prelude.{◌≡◌, None, Some, IfOk, OnOk, OnErr, is
 ghost use Rattle.redis_nodes.specs.Unsplit.{put};
 ghost use Rattle.memory_nodes.specs.Cells.{cell_of, keyspace_of, value_at};
 ghost use Rattle.memory_nodes.specs.Steps.{alone, written};
-ghost use Rattle.memory_nodes.specs.Undo.{undone, cell_before};
+ghost use Rattle.memory_nodes.specs.Undo.{undone};
 
 use crate::change::{Before, Change};
 use crate::tree::{Tree, put_at};

@@ -4,9 +4,8 @@ ghost use Rattle.redis_nodes.specs.MultiKey.{multi_key};
 ghost use Rattle.redis_nodes.specs.Sent.{IsUnanswered, ending_of};
 ghost use Rattle.redis_nodes.specs.Trace.{Ending, answered, refused, entry};
 ghost use Rattle.redis_nodes.specs.Unsplit.{keyspace_after, reply_to};
-ghost use Rattle.memory_nodes.specs.Cells.{Cell, keyspace_of, value_at};
+ghost use Rattle.memory_nodes.specs.Cells.{Cell, value_at};
 ghost use Rattle.memory_nodes.specs.Nodes.{keyspace_in, trace_in, mark_in, MayRefuse, IsFused, entry_of, node_refused};
-ghost use Rattle.memory_nodes.specs.Parts.{words};
 ghost use Rattle.memory_nodes.specs.Steps.{step};
 
 use crate::cells::{Cells, value_at};

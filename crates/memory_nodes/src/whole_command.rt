@@ -1,4 +1,4 @@
-ghost use Rattle.std.specs.Prelude.{◌≡◌, ◌<◌, ◌^◌, Some, IfOk, IsSome, length, map};
+ghost use Rattle.std.specs.Prelude.{◌≡◌, ◌<◌, Some, IfOk, IsSome, map};
 ghost use Rattle.redis_nodes.specs.MultiKey.{multi_key};
 ghost use Rattle.redis_commands.specs.Policies.{policy_of};
 ghost use Rattle.redis_commands.specs.RouteBy.{base_routing};

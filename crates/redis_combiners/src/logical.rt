@@ -125,7 +125,7 @@ fn bit(item: &Value) -> Option<bool>
     }
 }
 
-/// Puts a bit in the place of an item. A number is written into, since to drop a value is a call.
+/// Puts a bit in the place of an item. A number is written into, so that no value is dropped.
 fn put_bit(item: &mut Value, bit: bool)
     ensures { view item.new ≡ as_int bit }
 {

@@ -1,4 +1,4 @@
-ghost use Rattle.std.specs.Prelude.{◌≡◌, ◌+◌, ◌^◌, ◌<◌, ◌+ℤ◌, ◌⊎◌, ℕ, pos, List, map, length, MatchResult, IfOk, IfSome, OnOk, option_map, unwrap_or, Some, None, if◌then◌else◌, cond, IsPermutation};
+ghost use Rattle.std.specs.Prelude.{◌≡◌, ◌+◌, ◌^◌, ◌<◌, ◌+ℤ◌, ◌⊎◌, ℕ, pos, List, map, MatchResult, IfOk, IfSome, OnOk, option_map, unwrap_or, Some, None, if◌then◌else◌, cond, IsPermutation};
 ghost use Rattle.std.specs.Str.{bytes_eq};
 ghost use Rattle.std.specs.Ordering.{nat_cmp};
 ghost use Rattle.std.specs.Cmp.Lexicographic.{slice_cmp};
@@ -10,7 +10,7 @@ ghost use Rattle.resp_core.specs.declared.error.ErrorKind.TheVariants.{Unexpecte
 ghost use Rattle.redis_combiners.specs.Entries.{plain_pairs, number_at, with_pairs};
 ghost use Rattle.redis_combiners.specs.KeyNumbers.{KeyNumber, pairs_among, all_pairs};
 ghost use Rattle.redis_commands.specs.Lists.{all_some};
-ghost use Rattle.redis_combiners.specs.Totals.{total_at, totals, IsListing, reply_pair, combined_map};
+ghost use Rattle.redis_combiners.specs.Totals.{totals, IsListing, reply_pair, combined_map};
 
 use indexmap::IndexMap;
 use resp_core::{ErrorKind, RedisError, RedisResult, Value};

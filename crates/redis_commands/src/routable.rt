@@ -1,4 +1,4 @@
-ghost use Rattle.std.specs.Prelude.{◌≡◌, ◌<◌, ◌^◌, ℕ, List, Option, Some, IfOk, IfSome, map, length, position, option_copied, option_map};
+ghost use Rattle.std.specs.Prelude.{◌≡◌, ◌<◌, ◌^◌, Option, Some, IfOk, IfSome, map, length, position, option_copied, option_map};
 ghost use Rattle.resp_core.specs.Reply.{bulk_string_of, array_of};
 ghost use Rattle.resp_core.specs.View.{view};
 ghost use Rattle.redis_commands.specs.Command.{Arguments, argument, command_of, is_word, arguments_in};

@@ -1,4 +1,4 @@
-ghost use Rattle.std.specs.Prelude.{◌≡◌, ◌<◌, ◌⊎◌, ℕ, List, true, Option, Some, None, is_none, Ok, Err, MatchOption, MatchResult, IfOk, OnOk, IfErr, length, map, option_map, slice_get, slice_set};
+ghost use Rattle.std.specs.Prelude.{◌≡◌, ◌<◌, ◌⊎◌, ℕ, List, true, Option, Some, None, is_none, Ok, Err, MatchResult, IfOk, OnOk, IfErr, length, map, option_map, slice_get, slice_set};
 ghost use Rattle.std.specs.List.{All, AllZip, list_all, list_any};
 ghost use Rattle.std.specs.Result.{IsErrAnd};
 ghost use Rattle.resp_core.specs.ErrorParts.{out_of_memory};

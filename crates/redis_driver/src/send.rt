@@ -1,6 +1,5 @@
-ghost use Rattle.std.specs.Prelude.{◌≡◌, ◌<◌, ◌++◌, ◌∷◌, ◌↔◌, [], ℕ, List, Some, None, map, length, slice_get, slice_set, IfOk, OnOk, IfErr, IsSome};
+ghost use Rattle.std.specs.Prelude.{◌≡◌, ◌<◌, ◌++◌, ◌∷◌, ◌↔◌, [], ℕ, Some, None, map, length, slice_get, slice_set, IfOk, OnOk, IfErr, IsSome};
 ghost use Rattle.resp_core.specs.View.{view};
-ghost use Rattle.cluster_slots.specs.Address.{Address};
 ghost use Rattle.redis_nodes.specs.MultiKey.{MultiKey, multi_key};
 ghost use Rattle.redis_nodes.specs.Orders.{NamesOnce, in_order};
 ghost use Rattle.redis_nodes.specs.Sent.{IsUnanswered, ending_of};

@@ -39,7 +39,3 @@ abbrev pub part_of_slot_after : ℕ → MultiSlotArgPattern → Arguments → �
 part_of_slot_after words pattern args slot =
     take words args
     ++ map Some (arguments_in_slot pattern (present_arguments_after words args) slot)
-
--- where the name has one word
-abbrev pub part_of_slot : MultiSlotArgPattern → Arguments → ℕ → Arguments
-part_of_slot pattern args slot = part_of_slot_after 1 pattern args slot

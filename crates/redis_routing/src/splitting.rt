@@ -1,4 +1,4 @@
-ghost use Rattle.std.specs.Prelude.{◌≡◌, ◌<◌, ◌^◌, ◌+◌, ◌-◌, ◌++◌, ◌||◌, ◌∷◌, [], ℕ, true, length, map, IfOk, OnOk, is_some, if◌then◌else◌, nat_eq, option_map};
+ghost use Rattle.std.specs.Prelude.{◌≡◌, ◌<◌, ◌^◌, ◌+◌, ◌-◌, ◌++◌, ◌||◌, ◌∷◌, [], ℕ, length, map, IfOk, OnOk, is_some, if◌then◌else◌, nat_eq, option_map};
 ghost use Rattle.std.specs.List.{flat_map, range_with_len};
 ghost use Rattle.indexmap.specs.IndexMap.{get, keys, IsUnique};
 ghost use Rattle.redis_routing.specs.Groups.{list_or_empty, entry_groups, route_of_group};

@@ -1,4 +1,4 @@
-ghost use Rattle.std.specs.Prelude.{◌≡◌, ◌⊎◌, ◌<◌, ◌+◌, ◌^◌, length, Some, None, IfOk, IfErr, map, option_copied};
+ghost use Rattle.std.specs.Prelude.{◌≡◌, ◌⊎◌, ◌<◌, ◌+◌, Some, None, IfOk, IfErr, map, option_copied};
 ghost use Rattle.std.specs.List.{range_with_len};
 ghost use Rattle.resp_core.specs.ErrorParts.{out_of_memory};
 ghost use Rattle.resp_core.specs.declared.error.ErrorKind.TheVariants.{Client};

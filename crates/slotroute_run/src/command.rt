@@ -1,6 +1,5 @@
-ghost use Rattle.std.specs.Prelude.{◌≡◌, ◌≢◌, ℕ, List, [], Some, false, map, length, is_some, IfOk, IfErr, IfSome, OnOk};
+ghost use Rattle.std.specs.Prelude.{◌≡◌, Some, map, length, is_some, IfOk, IfErr, IfSome};
 ghost use Rattle.redis_cluster.specs.Driven.{routes_by, request, state, IsDriven};
-ghost use Rattle.redis_cluster.specs.Orders.{NamesOnce};
 ghost use Rattle.redis_cluster.specs.ReadOnly.{is_among};
 ghost use Rattle.resp_core.specs.View.{view};
 ghost use Rattle.memory_nodes.specs.Nodes.{keyspace_in, trace_in, mark_in};

@@ -1,4 +1,4 @@
-ghost use Rattle.std.specs.Prelude.{◌≡◌, ℕ, List, length, nat_lt, map, OnOk, OnErr, IfOk, IfErr, IfSome, MatchOption, MatchResult};
+ghost use Rattle.std.specs.Prelude.{◌≡◌, List, length, nat_lt, map, OnOk, OnErr, IfOk, IfErr, IfSome, MatchOption, MatchResult};
 ghost use Rattle.std.specs.List.{AllZip};
 ghost use Rattle.std.specs.Io.BufRead.{DropsThrough, strip_last};
 ghost use Rattle.cluster_map.specs.Address.{Address};

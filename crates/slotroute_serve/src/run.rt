@@ -1,4 +1,4 @@
-ghost use Rattle.std.specs.Prelude.{◌≡◌, ℕ, [], ◌∷◌, is_some, IfOk, IfErr, MatchResult};
+ghost use Rattle.std.specs.Prelude.{[], ◌∷◌, is_some, IfOk, IfErr, MatchResult};
 ghost use Rattle.memory_nodes.specs.Nodes.{keyspace_in};
 ghost use Rattle.slotroute_run.specs.Commands.{AreReadOnly, AreWilling};
 ghost use Rattle.slotroute_serve.specs.Faults.{IsCaused};

@@ -1,4 +1,4 @@
-ghost use Rattle.std.specs.Prelude.{◌≡◌, ℕ, List, Some, ◌∷◌, ◌++◌, map, string_bytes, option_copied, IfOk, OnOk, MatchResult};
+ghost use Rattle.std.specs.Prelude.{◌≡◌, Some, ◌∷◌, ◌++◌, map, string_bytes, option_copied, IfOk, OnOk, MatchResult};
 ghost use Rattle.std.specs.List.{flat_map};
 ghost use Rattle.redis_cluster.specs.Split.{split_part};
 ghost use Rattle.slotroute_serve.specs.Faults.{WhyNoSplit};

@@ -1,5 +1,5 @@
 //! Streams that cannot fail, over which the program answers or runs out of memory.
-ghost use Rattle.std.specs.Prelude.{◌≡◌, ◌⊎◌, ℕ, List, [], false, None, Some, map, string_bytes};
+ghost use Rattle.std.specs.Prelude.{◌⊎◌, [], false, None, Some, map, string_bytes};
 ghost use Rattle.slotroute_serve.specs.Serves.{HasOutput, RanOutOfMemory};
 
 use crate::serve::{USAGE, words_of};

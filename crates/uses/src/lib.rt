@@ -2,7 +2,7 @@
 //! several, and a command over many keys that is driven.
 #![tactic(auto)]
 
-ghost use Rattle.std.specs.Prelude.{◌≡◌, Some, None, map, MatchOption, MatchResult, IfOk, IfSome, option_map};
+ghost use Rattle.std.specs.Prelude.{◌≡◌, Some, None, map, MatchOption, MatchResult, IfOk, IfSome};
 ghost use Rattle.resp_core.specs.View.{view};
 ghost use Rattle.resp_core.specs.declared.error.ErrorKind.TheVariants.{UnexpectedReturnType};
 ghost use Rattle.cluster_map.specs.KeySlot.{key_slot};

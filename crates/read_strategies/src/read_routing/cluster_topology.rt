@@ -1,5 +1,5 @@
 ghost use Rattle.std.specs.Prelude.{◌≡◌, ◌++◌, map, IfOk, OnOk, MatchOption};
-ghost use Rattle.slot_ranges.specs.RangeMap.{Ascends, IsUncovered, insert_entries};
+ghost use Rattle.slot_ranges.specs.RangeMap.{Ascends, IsUncovered};
 ghost use Rattle.read_strategies.specs.ShardsToGive.{shards_to_give};
 ghost use Rattle.read_strategies.specs.Topology.{place_entry, topology_of, places_left, shards_left, IsShardAt};
 
