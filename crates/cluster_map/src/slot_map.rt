@@ -86,7 +86,10 @@ impl SlotAddrs {
         match slot_addr {
             SlotAddr::Master => Ok(Vec::new(alloc)),
             SlotAddr::ReplicaOptional => {
-                let mut addresses = self.replicas.clone()?;
+                let mut addresses = Vec::with_capacity(alloc, self.replicas.len() + 1)?;
+                for replica in &self.replicas {
+                    addresses.push(replica.clone()?)?;
+                }
                 addresses.push(self.primary.clone()?)?;
                 Ok(addresses)
             }
