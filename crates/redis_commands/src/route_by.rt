@@ -78,8 +78,7 @@ pub enum RouteBy {
     AllMasters,
     /// Split by slot: `MGET key1 key2`.
     MultiSlot(MultiSlotArgPattern),
-    /// To no node by the layer's own choice, since one node alone is not meant: `SCAN 0`,
-    /// `SHUTDOWN`.
+    /// To no node: which one is meant, the caller has to say: `SCAN 0`, `SHUTDOWN`.
     Undefined,
     /// A number of keys at this argument, and the first key after it: `EVAL script 1 key`.
     CountAt(u8),
