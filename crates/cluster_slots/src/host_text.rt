@@ -1,10 +1,10 @@
 ghost use Rattle.std.specs.Prelude.{◌≡◌, IfOk};
-ghost use Rattle.std.specs.Rc.{rc_str_bytes};
+ghost use Rattle.std.specs.Arc.{arc_str_bytes};
 
 use arrayvec::ArrayString;
 use std::alloc::{AllocError, Global};
 use std::marker::Model;
-use std::rc::RcStr;
+use std::sync::ArcStr;
 
 /// The text of a host. A short one takes no memory, and clones share a longer one.
 #[derive(Drop)]
@@ -16,7 +16,7 @@ pub(crate) struct HostText {
 #[derive(Drop)]
 enum Place {
     Inside(ArrayString<16>),
-    Shared(RcStr),
+    Shared(ArcStr),
 }
 
 impl Model for HostText {
@@ -35,14 +35,14 @@ impl HostText {
     {
         let place = match ArrayString::from(host) {
             Ok(text) => Place::Inside(text),
-            Err(_) => Place::Shared(RcStr::from_str(alloc, host)?),
+            Err(_) => Place::Shared(ArcStr::from_str(alloc, host)?),
         };
         Ok(HostText { place })
     }
 
     /// The text itself.
-    pub(crate) fn shared(host: RcStr) -> Self
-        ensures { result ≡ rc_str_bytes host }
+    pub(crate) fn shared(host: ArcStr) -> Self
+        ensures { result ≡ arc_str_bytes host }
     {
         HostText {
             place: Place::Shared(host),

@@ -1,7 +1,7 @@
 ghost use Rattle.std.specs.Prelude.{◌≡◌, ◌<◌, ◌^◌, ◌++◌, ◌⊎◌, ◌↔◌, [], Some, IsTrue, IfOk, IfErr, MatchOption};
 ghost use Rattle.std.specs.Ordering.{as_partial_cmp};
 ghost use Rattle.std.specs.Hash as hashed;
-ghost use Rattle.std.specs.Rc.{rc_str_bytes};
+ghost use Rattle.std.specs.Arc.{arc_str_bytes};
 ghost use Rattle.std.specs.Cmp.{partial_order_from_own_ties};
 ghost use Rattle.std.specs.Cmp.Rules.{comparing, hashing};
 ghost use Rattle.std.proofs.Common.{rules, refl};
@@ -17,7 +17,7 @@ use std::cmp::Ordering;
 use std::fmt;
 use std::hash::{Hash, Hasher};
 use std::marker::Model;
-use std::rc::RcStr;
+use std::sync::ArcStr;
 
 /// The address of a node: a host and a port. A host of at most 16 bytes takes no memory where it is
 /// given as text, and clones share the text of a longer one.
@@ -54,8 +54,8 @@ impl NodeAddress {
     }
 
     /// The address of a host whose text is shared, and a port.
-    pub fn from_parts(host: RcStr, port: u16) -> Self
-        ensures { result ≡ record { host = rc_str_bytes host; port = port } }
+    pub fn from_parts(host: ArcStr, port: u16) -> Self
+        ensures { result ≡ record { host = arc_str_bytes host; port = port } }
     {
         let host = HostText::shared(host);
         NodeAddress { host, port }

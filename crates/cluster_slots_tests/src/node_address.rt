@@ -2,7 +2,7 @@ use cluster_map::{NodeAddress, split_node_address};
 use resp_core::{ErrorKind, RedisResult};
 use std::alloc::{AllocError, Global};
 use std::cmp::Ordering;
-use std::rc::RcStr;
+use std::sync::ArcStr;
 use std::test::Fail;
 
 #[test]
@@ -116,7 +116,7 @@ fn long_hosts_print_whole(rt: HostRuntime) -> Result<(), Fail> {
 #[test]
 fn addresses_of_the_same_parts_are_equal(rt: HostRuntime) -> Result<(), Fail> {
     let alloc = rt.alloc();
-    let address = NodeAddress::from_parts(RcStr::from_str(alloc, "h")?, 1);
+    let address = NodeAddress::from_parts(ArcStr::from_str(alloc, "h")?, 1);
     for (host, port, same) in [("h", 1, true), ("h", 2, false), ("g", 1, false)] {
         let other = NodeAddress::new(alloc, host, port)?;
         assert_eq!(rt; other == address, same, "host {host}, port {port}");
