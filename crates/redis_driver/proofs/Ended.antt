@@ -1,6 +1,10 @@
 -- What stands when the parts were sent, or the sends stopped.
 use Rattle.std.proofs.Common.{◌≡◌, ◌<◌, ◌≤◌, ℕ, zero, suc, List, [], ◌∷◌, ◌++◌, Option, Some, None, All, inl, inr, ◌⊎◌, refl, sym, ap, ◌∙◌, arith, subst, map, take, length, get_or}
-use Rattle.std.specs.Prelude.{slice_get}
+use Rattle.std.specs.Prelude.{slice_get, cond, Bool}
+use Rattle.std.specs.Str.{bytes_eq}
+use Rattle.std.proofs.Common.{⊎_elim}
+use Rattle.std.proofs.Math.Path.{fun_ext}
+use Rattle.resp_core.proofs.Cases.{by_test}
 use Rattle.std.specs.List.{AllZip}
 use Rattle.std.specs.Option.{option_to_list}
 use Rattle.std.proofs.lemmas.List.{append-nil, length-map, take_all}
@@ -15,7 +19,7 @@ use Rattle.redis_nodes.specs.MultiKey.{MultiKey, KeyTuple, list}
 use Rattle.redis_nodes.specs.Orders.{NamesOnce, in_order, tuples_of_slots}
 use Rattle.redis_nodes.specs.Sent.{ending_of}
 use Rattle.redis_nodes.specs.Trace.{Entry, Ending, answered, refused}
-use Rattle.redis_nodes.specs.Unsplit.{Step, act_of, after, keyspace_after}
+use Rattle.redis_nodes.specs.Unsplit.{Step, Keyspace, act_of, after, keyspace_after, put}
 use Rattle.redis_nodes.specs.declared.nodes.SendError.{SendError}
 use Rattle.redis_nodes.specs.declared.nodes.SendError.TheVariants as sent
 use Rattle.redis_nodes.proofs.Fold.{joined}
@@ -23,8 +27,8 @@ use Rattle.redis_nodes.proofs.Orders.{map-in_order}
 use Rattle.redis_nodes.proofs.Once.{length-names_once}
 use Rattle.redis_nodes.proofs.Whole.{keyspace_of_all, keyspace_at_stop, names_slots_from}
 use Rattle.redis_driver.specs.Driven.{Request, State, IsCoveredCommand, IsDrivable, IsEntryOf, AreSent}
-use Rattle.redis_driver.specs.Ended.{AreEndedEarly}
-use Rattle.redis_driver.specs.Faults.{fault_of_send, IsUntouched, IsStopped, IsNodeFault, IsLateMemory, IsFault, IsEarly}
+use Rattle.redis_driver.specs.Ended.{AreEndedEarly, IsReplyEnded}
+use Rattle.redis_driver.specs.Faults.{fault_of_send, IsUntouched, IsStopped, IsNodeFault, IsLateMemory, IsFault, IsEarly, IsMisfit, IsCut, nothing, unseen, unseen_step}
 use Rattle.redis_driver.specs.Plan.{Plan}
 use Rattle.redis_routing.specs.Split.{slots_of}
 use Rattle.redis_driver.specs.Sends.{Target, targets, target_entry, IsLast, AreStopped}
@@ -154,10 +158,10 @@ module _ {C : Type 0} (IsNode : SlotRoute → Address → Type 0) (step : Step C
           each = entries_are IsNode r.arguments answered (in_order routes r.order) (in_order (targets plan) r.order) (both_in_order (IsTarget IsNode r.arguments) routes (targets plan) r.order is.targets_are);
         }
 
-    -- and memory ran out in combining the replies
-    pub combining_fault : new.trace ≡ old.trace ++ map (target_entry answered) (in_order (targets plan) r.order) → new.keyspace ≡ keyspace_after step command old.keyspace → command.form ≡ list → 0 < length plan.split.routes
-        → IsLateMemory IsNode step r old new (length plan.split.routes)
-    combining_fault grew keyspace form some =
+    -- and so the parts of all routes were answered
+    pub combined : new.trace ≡ old.trace ++ map (target_entry answered) (in_order (targets plan) r.order) → new.keyspace ≡ keyspace_after step command old.keyspace
+        → IsStopped IsNode step r old new routes command (length plan.split.routes) new.trace
+    combined grew keyspace =
         let count = length plan.split.routes in
         let whole : take count r.order ≡ r.order = ap (λ n. take n r.order) (sym routes_many) ∙ all_order in
         let as_stopped : new.keyspace ≡ after (act_of step command) (tuples_of_slots (in_order slots (take count r.order)) command.tuples) old.keyspace =
@@ -165,16 +169,15 @@ module _ {C : Type 0} (IsNode : SlotRoute → Address → Type 0) (step : Step C
         ∙ sym (keyspace_of_all (act_of step command) slots r.order command.tuples old.keyspace of_slots (names_slots_from slots command.tuples is.plan_is.once))
         ∙ ap (λ o. after (act_of step command) (joined (in_order slots o) command.tuples) old.keyspace) (sym whole)
         ∙ keyspace_at_stop (act_of step command) slots r.order command.tuples old.keyspace count of_slots is.plan_is.at_most_once in
-        record {
-          routes = routes;
-          command = command;
-          some = some;
-          stopped = stopped_first count new.trace (omega (arith, routes_many)) (grew ∙ ap (λ o. old.trace ++ map (target_entry answered) (in_order (targets plan) o)) (sym whole)) as_stopped;
-          cause = inr (form, sym routes_many);
-        }
+        stopped_first count new.trace (omega (arith, routes_many)) (grew ∙ ap (λ o. old.trace ++ map (target_entry answered) (in_order (targets plan) o)) (sym whole)) as_stopped
+
+    -- and memory ran out in combining the replies
+    pub combining_fault : new.trace ≡ old.trace ++ map (target_entry answered) (in_order (targets plan) r.order) → new.keyspace ≡ keyspace_after step command old.keyspace → command.form ≡ list → 0 < length plan.split.routes
+        → IsLateMemory IsNode step r old new (length plan.split.routes)
+    combining_fault grew keyspace form some = record { routes = routes; command = command; some = some; stopped = combined grew keyspace; cause = inr (form, sym routes_many) }
 
     -- the sends stopped
-    module _ (may_refuse : ℕ → Ending → Type 0) (count : ℕ) (within : count < length plan.split.routes) where
+    module _ (kept : Type 0) (now : kept) (may_refuse : ℕ → Ending → Type 0) (count : ℕ) (within : count < length plan.split.routes) where
       node_fault : (error : ErrorParts) (before : List Entry) → IsStopped IsNode step r old new routes command count before
           → (found : Option Target) → slice_get (in_order (targets plan) r.order) count ≡ found → IsLast may_refuse before new.trace new.mark found (Some (refused error))
           → IsNodeFault IsNode step r old new may_refuse error count
@@ -195,7 +198,7 @@ module _ {C : Type 0} (IsNode : SlotRoute → Address → Type 0) (step : Step C
             allowed = last.1;
           }
 
-      memory_fault : (n : ℕ) → count ≡ n → AreStopped step may_refuse command plan r.order count old.keyspace new.keyspace old.trace new.trace new.mark None
+      memory_fault : (n : ℕ) → count ≡ n → AreStopped kept step may_refuse command plan r.order count old.keyspace new.keyspace old.trace new.trace new.mark None
           → (found : Option Target) → slice_get (in_order (targets plan) r.order) count ≡ found → (before : List Entry) → IsLast may_refuse before new.trace new.mark found None
           → before ≡ old.trace ++ map (target_entry answered) (in_order (targets plan) (take count r.order))
           → IsUntouched IsNode step r old new count ⊎ IsLateMemory IsNode step r old new count
@@ -203,7 +206,7 @@ module _ {C : Type 0} (IsNode : SlotRoute → Address → Type 0) (step : Step C
       memory_fault zero n_is stopped (Some target) at before last grew =
           inl (record {
             answered = n_is;
-            keyspace = stopped.keyspace ∙ ap (λ m. after (act_of step command) (tuples_of_slots (in_order slots (take m r.order)) command.tuples) old.keyspace) n_is
+            keyspace = stopped.keyspace now ∙ ap (λ m. after (act_of step command) (tuples_of_slots (in_order slots (take m r.order)) command.tuples) old.keyspace) n_is
                 ∙ ap (λ ts. after (act_of step command) ts old.keyspace) (no_tuples command.tuples);
             trace = last.0 ∙ grew ∙ ap (λ m. old.trace ++ map (target_entry answered) (in_order (targets plan) (take m r.order))) n_is ∙ append-nil old.trace;
           })
@@ -212,26 +215,74 @@ module _ {C : Type 0} (IsNode : SlotRoute → Address → Type 0) (step : Step C
             routes = routes;
             command = command;
             some = omega (arith, n_is);
-            stopped = stopped_first count new.trace (omega (arith, within, routes_many)) (last.0 ∙ grew) stopped.keyspace;
+            stopped = stopped_first count new.trace (omega (arith, within, routes_many)) (last.0 ∙ grew) (stopped.keyspace now);
             cause = inl last.1;
           })
 
       -- its fault has its cause
-      pub send_fault : (error : SendError) → AreStopped step may_refuse command plan r.order count old.keyspace new.keyspace old.trace new.trace new.mark (ending_of error)
+      pub send_fault : (error : SendError) → AreStopped kept step may_refuse command plan r.order count old.keyspace new.keyspace old.trace new.trace new.mark (ending_of error)
           → IsFault IsNode step r old new may_refuse (fault_of_send error) count
       send_fault (sent.Refused error) stopped =
-          node_fault error stopped.before (stopped_first count stopped.before (omega (arith, within, routes_many)) stopped.trace stopped.keyspace) (slice_get (in_order (targets plan) r.order) count) refl stopped.last
+          node_fault error stopped.before (stopped_first count stopped.before (omega (arith, within, routes_many)) stopped.trace (stopped.keyspace now)) (slice_get (in_order (targets plan) r.order) count) refl stopped.last
       send_fault sent.Memory stopped = memory_fault count refl stopped (slice_get (in_order (targets plan) r.order) count) refl stopped.before stopped.last stopped.trace
 
     -- a plan that was not driven to its end has a fault with its cause
-    pub ended_fault : (may_refuse : ℕ → Ending → Type 0) (fault : DriveFault) (count : ℕ) → 0 < length plan.split.routes
-        → AreEndedEarly step may_refuse plan r.order old.keyspace new.keyspace old.trace new.trace new.mark fault count → IsFault IsNode step r old new may_refuse fault count
-    ended_fault may_refuse fault count some (inl ended) =
-        subst (λ f. IsFault IsNode step r old new may_refuse f count) (sym ended.fault_is) (send_fault may_refuse count ended.within ended.error (ended.stopped command is.plan_is))
-    ended_fault may_refuse fault count some (inr ended) =
+    pub ended_fault : (kept : Type 0) → kept → (may_refuse : ℕ → Ending → Type 0) (fault : DriveFault) (count : ℕ) → 0 < length plan.split.routes
+        → AreEndedEarly kept step may_refuse plan r.order old.keyspace new.keyspace old.trace new.trace new.mark fault count → IsFault IsNode step r old new may_refuse fault count
+    ended_fault kept now may_refuse fault count some (inl ended) =
+        subst (λ f. IsFault IsNode step r old new may_refuse f count) (sym ended.fault_is) (send_fault kept now may_refuse count ended.within ended.error (ended.stopped command is.plan_is))
+    ended_fault kept now may_refuse fault count some (inr (inr ended)) = absurd (ended.misfit now)
+    ended_fault kept now may_refuse fault count some (inr (inl ended)) =
         let late : IsLateMemory IsNode step r old new count =
-        subst (IsLateMemory IsNode step r old new) (sym ended.count_is) (combining_fault ended.trace (ended.keyspace command is.plan_is) (ended.form command is.plan_is) some) in
+        subst (IsLateMemory IsNode step r old new) (sym ended.count_is) (combining_fault ended.trace (ended.keyspace command is.plan_is now) (ended.form command is.plan_is) some) in
         subst (λ f. IsFault IsNode step r old new may_refuse f count) (sym ended.fault_is) (inr late)
+
+-- what is not seen stays so
+put_nothing : (key other : List ℕ) → put key None nothing other ≡ nothing other
+put_nothing key other = by_test (bytes_eq key other) (λ t. ap (λ b. cond b None (nothing other)) t) (λ f. ap (λ b. cond b None (nothing other)) f)
+
+after_nothing : (command : MultiKey) (ts : List KeyTuple) → nothing ≡ after (act_of unseen_step command) ts nothing
+after_nothing command [] = refl
+after_nothing command (t ∷ ts) = after_nothing command ts ∙ ap (λ k. after (act_of unseen_step command) ts k) (sym (fun_ext (put_nothing t.key)))
+
+module _ {C : Type 0} (step : Step C) (kept : Type 0) (may_refuse : ℕ → Ending → Type 0) (plan : Plan) (order : List ℕ) (old_keys new_keys : Keyspace C) (old new : List Entry) (mark : Bool) where
+  unseen_stopped : (command : MultiKey) (count : ℕ) (ending : Option Ending) → AreStopped kept step may_refuse command plan order count old_keys new_keys old new mark ending
+      → AreStopped (Unit {0}) unseen_step may_refuse command plan order count nothing nothing old new mark ending
+  unseen_stopped command count ending s = record {
+    before = s.before;
+    trace = s.trace;
+    keyspace = λ now. after_nothing command (tuples_of_slots (in_order (slots_of plan.split.routes) (take count order)) command.tuples);
+    last = s.last;
+  }
+
+  pub unseen_ended : (fault : DriveFault) (count : ℕ) → AreEndedEarly kept step may_refuse plan order old_keys new_keys old new mark fault count
+      → AreEndedEarly (Unit {0}) unseen_step may_refuse plan order nothing nothing old new mark fault count ⊎ IsReplyEnded kept step may_refuse plan order old_keys new_keys old new mark fault count
+  unseen_ended fault count (inl e) = inl (inl (record { error = e.error; fault_is = e.fault_is; within = e.within; stopped = λ command is. unseen_stopped command count (ending_of e.error) (e.stopped command is) }))
+  unseen_ended fault count (inr (inl e)) = inl (inr (inl (record { fault_is = e.fault_is; count_is = e.count_is; trace = e.trace; keyspace = λ command is now. after_nothing command command.tuples; form = e.form })))
+  unseen_ended fault count (inr (inr e)) = inr e
+
+-- what nodes that are not seen are told
+cut_of : (IsNode : SlotRoute → Address → Type 0) (r : Request) (old new : State (Unit {0})) (may_refuse : ℕ → Ending → Type 0) (fault : DriveFault) (count : ℕ) → IsFault IsNode unseen_step r old new may_refuse fault count → IsCut IsNode r old new may_refuse fault count
+cut_of IsNode r old new may_refuse early.NotMultiKey count f = f
+cut_of IsNode r old new may_refuse (early.NotCovered slot) count f = f
+cut_of IsNode r old new may_refuse early.BadOrder count f = f
+cut_of IsNode r old new may_refuse early.Memory count f = f
+cut_of IsNode r old new may_refuse (early.Node error) count f = f
+cut_of IsNode r old new may_refuse (early.Reply error) count f = absurd f
+
+module _ {C : Type 0} (IsNode : SlotRoute → Address → Type 0) (step : Step C) (r : Request) (kept : Type 0) (old_keys new_keys : Keyspace C) (old new : List Entry) (old_mark new_mark : Bool) (plan : Plan) (command : MultiKey) (is : IsReady IsNode r plan command) (order : NamesOnce (length plan.split.routes) r.order) where
+  misfit : (may_refuse : ℕ → Ending → Type 0) (fault : DriveFault) (count : ℕ) → IsReplyEnded kept step may_refuse plan r.order old_keys new_keys old new new_mark fault count → IsMisfit IsNode r (unseen old old_mark) (unseen new new_mark) count
+  misfit may_refuse fault count e =
+      let whole = combined IsNode unseen_step r (unseen old old_mark) (unseen new new_mark) plan command is order e.trace (after_nothing command command.tuples) in
+      record { routes = map (λ t. t.0) plan.split.routes; command = command; stopped = subst (λ n. IsStopped IsNode unseen_step r (unseen old old_mark) (unseen new new_mark) (map (λ t. t.0) plan.split.routes) command n new) (sym e.count_is) whole; all = e.count_is ∙ sym (length-map plan.split.routes (λ t. t.0)) }
+
+  pub cut_fault : (may_refuse : ℕ → Ending → Type 0) (fault : DriveFault) (count : ℕ) → 0 < length plan.split.routes
+      → AreEndedEarly kept step may_refuse plan r.order old_keys new_keys old new new_mark fault count → IsCut IsNode r (unseen old old_mark) (unseen new new_mark) may_refuse fault count
+  cut_fault may_refuse fault count some ended =
+      ⊎_elim (λ e. cut_of IsNode r (unseen old old_mark) (unseen new new_mark) may_refuse fault count
+      (ended_fault IsNode unseen_step r (unseen old old_mark) (unseen new new_mark) plan command is order (Unit {0}) tt may_refuse fault count some e))
+      (λ e. subst (λ (f : DriveFault). IsCut IsNode r (unseen old old_mark) (unseen new new_mark) may_refuse f count) (sym e.fault_is) (misfit may_refuse fault count e))
+      (unseen_ended step kept may_refuse plan r.order old_keys new_keys old new new_mark fault count ended)
 
 -- a fault that comes before the first send leaves all as it was
 pub early_fault : {C : Type 0} (IsNode : SlotRoute → Address → Type 0) (step : Step C) (r : Request) (old : State C) (may_refuse : ℕ → Ending → Type 0) (fault : DriveFault) → IsEarly r fault → IsFault IsNode step r old old may_refuse fault 0
@@ -241,3 +292,6 @@ early_fault IsNode step r old may_refuse early.BadOrder is = (is, record { answe
 early_fault IsNode step r old may_refuse early.Memory is = inl (record { answered = refl; keyspace = refl; trace = refl })
 early_fault IsNode step r old may_refuse (early.Node error) is = absurd is
 early_fault IsNode step r old may_refuse (early.Reply error) is = absurd is
+
+pub early_cut : (IsNode : SlotRoute → Address → Type 0) (r : Request) (old : State (Unit {0})) (may_refuse : ℕ → Ending → Type 0) (fault : DriveFault) → IsEarly r fault → IsCut IsNode r old old may_refuse fault 0
+early_cut IsNode r old may_refuse fault is = cut_of IsNode r old old may_refuse fault 0 (early_fault IsNode unseen_step r old may_refuse fault is)

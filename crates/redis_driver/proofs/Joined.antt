@@ -1,12 +1,13 @@
 -- What the policies of split commands make of the replies to the parts.
-use Rattle.std.proofs.Common.{◌≡◌, ℕ, List, [], ◌∷◌, Option, Some, Ok, map, length, refl, sym, ap, ◌∙◌, arith, Vec, Global}
+use Rattle.std.proofs.Common.{◌≡◌, ℕ, List, [], ◌∷◌, Option, None, Some, Ok, Err, map, length, refl, sym, ap, ◌∙◌, arith, Vec, Global}
 use Rattle.std.specs.Prelude.{slice_get}
 use Rattle.std.proofs.lemmas.List.{length-map}
 use Rattle.std.proofs.lemmas.Simd.{map-map}
 use Rattle.cluster_slots.specs.SlotRoute.{SlotRoute}
 use Rattle.resp_core.specs.Reply.{Reply}
 use Rattle.resp_core.specs.Reply as reply
-use Rattle.resp_core.specs.declared.error.ErrorKind.TheVariants.{Client, UnexpectedReturnType}
+use Rattle.resp_core.specs.declared.error.ErrorKind.{ErrorKind}
+use Rattle.resp_core.specs.declared.error.ErrorKind.TheVariants.{Client, UnexpectedReturnType, OutOfMemory}
 use Rattle.redis_combiners.specs.Aggregate.{aggregate_of}
 use Rattle.redis_combiners.specs.SortedArrays.{sorted_arrays}
 use Rattle.redis_commands.specs.declared.policy.AggregateOp.{AggregateOp}
@@ -101,3 +102,24 @@ joined_is_unsplit split form results replies held answered =
 -- arrays make lists
 pub arrays_make_lists : (split : Split) (form : ReplyForm) → form_by_policy split.policy ≡ Some form → split.policy ≡ CombineArrays → form ≡ list
 arrays_make_lists split form is policy = let e : form_by_policy split.policy ≡ Some list = ap form_by_policy policy in cc
+
+-- a refusal is of its own kind
+refused_for : (kind other : ErrorKind) (found : Option Reply) → or_refused kind found ≡ Err other → kind ≡ other
+refused_for kind other None is = cc
+refused_for kind other (Some reply) is = absurd (cc)
+
+-- of the ways to join replies only the one to a list runs out of memory
+by_memory : (policy : ResponsePolicy) (pattern : MultiSlotArgPattern) (lists : List (List ℕ)) (form : ReplyForm) (replies : List Reply) → form_by_policy policy ≡ Some form
+    → joined_by policy pattern lists replies ≡ Err OutOfMemory → form ≡ list
+by_memory OneSucceeded pattern lists form replies is failed = absurd (cc)
+by_memory FirstSucceededNonEmptyOrAllEmpty pattern lists form replies is failed = absurd (cc)
+by_memory AllSucceeded pattern lists form replies is failed = absurd (let e : Client ≡ OutOfMemory = refused_for Client OutOfMemory (slice_get replies 0) failed in cc)
+by_memory (AggregateLogical op) pattern lists form replies is failed = absurd (cc)
+by_memory (Aggregate Min) pattern lists form replies is failed = absurd (cc)
+by_memory (Aggregate Sum) pattern lists form replies is failed = absurd (let e : UnexpectedReturnType ≡ OutOfMemory = refused_for UnexpectedReturnType OutOfMemory (aggregate_of Sum replies) failed in cc)
+by_memory CombineArrays pattern lists form replies is failed = cc
+by_memory Special pattern lists form replies is failed = absurd (cc)
+by_memory CombineMaps pattern lists form replies is failed = absurd (cc)
+
+pub memory_makes_lists : (split : Split) (form : ReplyForm) (replies : List Reply) → form_by_policy split.policy ≡ Some form → joined split replies ≡ Err OutOfMemory → form ≡ list
+memory_makes_lists split form replies is failed = by_memory split.policy split.pattern (map (λ r. r.1) split.routes) form replies is failed

@@ -10,14 +10,18 @@ use Rattle.resp_core.specs.Reply.{Reply}
 use Rattle.resp_core.specs.View.{view}
 use Rattle.resp_core.specs.declared.value.Value.{Value}
 use Rattle.redis_nodes.specs.MultiKey.{MultiKey, multi_key, part_of}
-use Rattle.redis_nodes.specs.Orders.{times, NamesOnce}
+use Rattle.redis_nodes.specs.Orders.{times, NamesOnce, in_order}
 use Rattle.redis_nodes.specs.Sent.{IsUnanswered}
 use Rattle.redis_nodes.specs.Trace.{Entry, Ending}
 use Rattle.redis_nodes.specs.Unsplit.{Keyspace}
-use Rattle.redis_nodes.proofs.Counts.{same_number}
+use Rattle.redis_nodes.proofs.Counts.{same_number, times_here, times_there}
+use Rattle.redis_nodes.proofs.Orders.{in_order_more, map-in_order}
+use Rattle.std.specs.Option.{option_to_list}
+use Rattle.std.proofs.lemmas.List.{map_push}
+use Rattle.std.proofs.Common.{append_assoc, ◌++◌}
 use Rattle.redis_nodes.proofs.Once.{times_more, times-take, names_once-apart}
 use Rattle.redis_driver.specs.Sends.{Target, IsLast}
-use Rattle.redis_driver.proofs.Constructors.{same_some}
+use Rattle.redis_driver.proofs.Constructors.{same_some, same_head, same_tail}
 
 -- the slot of a route, and where its part goes, which is that of the slot
 pub record RouteTarget (command : MultiKey) (slots : List ℕ) (nodes : List Address) (parts : List (List (List ℕ))) (number : ℕ) : Type 0 where
@@ -76,6 +80,16 @@ IsTold replies number reply = (value : Value) × (slice_get replies number ≡ S
 abbrev pub AreTold : List (Option Value) → List ℕ → List ℕ → ℕ → (ℕ → Reply) → Type 0
 AreTold replies slots order count reply_of = (number slot : ℕ) → slice_get slots number ≡ Some slot → 0 < times number (take count order) → IsTold replies number (reply_of slot)
 
+-- and some reply to each of them, whatever it is
+abbrev pub AreSomeTold : List (Option Value) → List ℕ → ℕ → ℕ → Type 0
+AreSomeTold replies order count routes = (number : ℕ) → number < routes → 0 < times number (take count order) → (value : Value) × (slice_get replies number ≡ Some (Some value))
+
+-- and may be what came
+pub record AreGivenSo (old new : List Reply → Type 0) (replies : List (Option Value)) (sent : List ℕ) : Type 0 where
+  pub values : List Value
+  pub told : in_order replies sent ≡ map Some values
+  pub gave : (before : List Reply) → old before → new (before ++ map view values)
+
 -- and no other
 abbrev pub AreUntold : List (Option Value) → List ℕ → ℕ → ℕ → Type 0
 AreUntold replies order count routes = (number : ℕ) → number < routes → times number (take count order) ≡ 0 → slice_get replies number ≡ Some None
@@ -97,6 +111,17 @@ module _ (replies : List (Option Value)) (slots order : List ℕ) (count number 
       let was : IsTold replies other (reply_of own) = before other own own_at (omega arith) in
       (was.0, set_there replies number other (Some value) apart ∙ was.1, was.2))
 
+  pub some_told_more : (routes : ℕ) (value : Value) → AreSomeTold replies order count routes → AreSomeTold (slice_set replies number (Some value)) order (count + 1) routes
+  some_told_more routes value before other inside named =
+      by_test (nat_eq other number)
+      (λ same.
+      let e : other ≡ number = eqb-true other number same in
+      (value, ap (slice_get (slice_set replies number (Some value))) e ∙ set_here replies number (Some value) room))
+      (λ apart.
+      let as_often : times other (take (count + 1) order) ≡ times other (take count order) + 0 = more_at other ∙ ap (λ b. times other (take count order) + cond b 1 0) apart in
+      let was : (old : Value) × (slice_get replies other ≡ Some (Some old)) = before other inside (omega arith) in
+      (was.0, set_there replies number other (Some value) apart ∙ was.1))
+
   pub untold_less : (routes : ℕ) (value : Value) → AreUntold replies order count routes → AreUntold (slice_set replies number (Some value)) order (count + 1) routes
   untold_less routes value before other inside none =
       by_test (nat_eq other number)
@@ -117,6 +142,52 @@ all_told (r ∷ replies) (s ∷ slots) reply_of many each =
     let rest = all_told replies slots reply_of (omega arith) (λ number slot at. each (suc number) slot at) in
     let first_is : r ≡ Some first.0 = same_some r (Some first.0) first.1 in
     (first.0 ∷ rest.0, ap (λ o. o ∷ replies) first_is ∙ ap (λ os. Some first.0 ∷ os) rest.1, ap (λ v. v ∷ map view rest.0) first.2 ∙ ap (λ vs. reply_of s ∷ vs) rest.2)
+
+-- what is put at a place that is not named changes nothing that is
+set_unnamed : {X : Type 0} (xs : List X) (k : ℕ) (x : X) (sent : List ℕ) → times k sent ≡ 0 → in_order (slice_set xs k x) sent ≡ in_order xs sent
+set_unnamed xs k x [] none = refl
+set_unnamed xs k x (j ∷ sent) none =
+    by_test (nat_eq k j)
+    (λ here. absurd (omega (arith, times_here k j sent here)))
+    (λ there.
+    let apart : nat_eq j k ≡ false = grind (arith, nat_tests) in
+    let rest : times k sent ≡ 0 = omega (arith, times_there k j sent there) in
+    ap (λ found. option_to_list found ++ in_order (slice_set xs k x) sent) (set_there xs k j x apart)
+    ∙ ap (λ ys. option_to_list (slice_get xs j) ++ ys) (set_unnamed xs k x sent rest))
+
+-- one reply more came
+pub given_more : (old mid new : List Reply → Type 0) (replies : List (Option Value)) (order : List ℕ) (i k : ℕ) (value : Value) → i < length order → k ≡ get_or order i 0 → k < length replies → times k (take i order) ≡ 0
+    → ((before : List Reply) → mid before → new (before ++ view value ∷ [])) → AreGivenSo old mid replies (take i order) → AreGivenSo old new (slice_set replies k (Some value)) (take (i + 1) order)
+given_more old mid new replies order i k value inside is room none came so = record {
+  values = so.values ++ value ∷ [];
+  told = in_order_more (slice_set replies k (Some value)) order i k (Some value) inside is (set_here replies k (Some value) room)
+      ∙ ap (λ os. os ++ Some value ∷ []) (set_unnamed replies k (Some value) (take i order) none ∙ so.told)
+      ∙ sym (map_push Some so.values value);
+  gave = λ before was. subst new (append_assoc before (map view so.values) (view value ∷ []) ∙ ap (λ vs. before ++ vs) (sym (map_push view so.values value))) (came (before ++ map view so.values) (so.gave before was));
+}
+
+-- the same values
+some_same : (xs ys : List Value) → map Some xs ≡ map Some ys → xs ≡ ys
+some_same [] [] is = refl
+some_same [] (y ∷ ys) is = absurd (cc)
+some_same (x ∷ xs) [] is = absurd (cc)
+some_same (x ∷ xs) (y ∷ ys) is = ap (λ v. v ∷ xs) (same_some x y (same_head is)) ∙ ap (λ vs. y ∷ vs) (some_same xs ys (same_tail is))
+
+-- where all were told, all came
+pub given_all : (old new : List Reply → Type 0) (replies : List (Option Value)) (order : List ℕ) (values : List Value) → replies ≡ map Some values → AreGivenSo old new replies order
+    → (before : List Reply) → old before → new (before ++ in_order (map view values) order)
+given_all old new replies order values all so before was =
+    let same : so.values ≡ in_order values order =
+    some_same so.values (in_order values order) (sym so.told ∙ ap (λ os. in_order os order) all ∙ sym (map-in_order Some values order)) in
+    subst new (ap (λ vs. before ++ vs) (ap (map view) same ∙ map-in_order view values order)) (so.gave before was)
+
+pub all_some_told : (replies : List (Option Value)) → ((number : ℕ) → number < length replies → (value : Value) × (slice_get replies number ≡ Some (Some value))) → (values : List Value) × (replies ≡ map Some values)
+all_some_told [] each = ([], refl)
+all_some_told (r ∷ replies) each =
+    let first : (value : Value) × (slice_get (r ∷ replies) 0 ≡ Some (Some value)) = each 0 (omega arith) in
+    let rest = all_some_told replies (λ number inside. each (suc number) (omega arith)) in
+    let first_is : r ≡ Some first.0 = same_some r (Some first.0) first.1 in
+    (first.0 ∷ rest.0, ap (λ o. o ∷ replies) first_is ∙ ap (λ os. Some first.0 ∷ os) rest.1)
 
 -- what a send that was not answered leaves is how the sends end
 pub last_is : {C : Type 0} (may now_may : ℕ → Ending → Type 0) (old_keys new_keys : Keyspace C) (old new : List Entry) (mark : Bool) (target : Target) (found : Option Target) (ending : Option Ending)

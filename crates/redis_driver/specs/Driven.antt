@@ -76,6 +76,15 @@ module _ (IsNode : SlotRoute → Address → Type 0) (args : Arguments) where
     pub grew : new ≡ old ++ entries
     pub each : AllZip (IsEntryOf answered) routes entries
 
+-- Each part was sent once, in the order given, to a node of its route, and was answered, whatever
+-- the answers are.
+pub record IsDelivered (IsNode : SlotRoute → Address → Type 0) (r : Request) (old new : List Entry)
+    : Type 0 where
+  pub routes : List SlotRoute
+  pub command : MultiKey
+  pub drivable : IsDrivable r routes command
+  pub trace : AreSent IsNode r.arguments (in_order routes r.order) old new
+
 module _ {C : Type 0} (IsNode : SlotRoute → Address → Type 0) (step : Step C) (r : Request)
     (old new : State C) where
   -- The command was driven to its end: each part was sent once, in the order given, to a node of

@@ -1,18 +1,19 @@
 -- Why a command was not driven to its end, and what stands then.
-use Rattle.std.specs.Prelude.{◌≡◌, ◌<◌, ◌≤◌, ◌⊎◌, ℕ, Bool, true, List, [], ◌∷◌, ◌++◌, None, Some, length, take, slice_get}
+use Rattle.std.specs.Prelude.{◌≡◌, ◌<◌, ◌≤◌, ◌⊎◌, ℕ, Bool, true, false, List, [], ◌∷◌, ◌++◌, None, Some, length, take, slice_get}
 use Rattle.resp_core.specs.ErrorParts.{ErrorParts}
 use Rattle.cluster_slots.specs.Address.{Address}
 use Rattle.cluster_slots.specs.SlotRoute.{SlotRoute}
 use Rattle.redis_nodes.specs.MultiKey.{MultiKey, list}
 use Rattle.redis_nodes.specs.Orders.{NamesOnce, in_order}
 use Rattle.redis_nodes.specs.Trace.{Entry, Ending, refused}
-use Rattle.redis_nodes.specs.Unsplit.{Step}
+use Rattle.resp_core.specs.Reply.{nil}
+use Rattle.redis_nodes.specs.Unsplit.{Step, Keyspace}
 use Rattle.redis_nodes.specs.declared.nodes.SendError.{SendError}
 use Rattle.redis_nodes.specs.declared.nodes.SendError.TheVariants as sent
 use Rattle.slot_ranges.specs.SlotNodes.{SlotNodes}
 use Rattle.slot_ranges.specs.RangeMap as ranges
 use Rattle.redis_commands.specs.Command.{Arguments}
-use Rattle.redis_driver.specs.Driven.{Request, State, routes_by, IsFirstUncovered, IsCoveredCommand, IsDrivable, IsEntryOf, AreAnswered}
+use Rattle.redis_driver.specs.Driven.{Request, State, state, routes_by, IsFirstUncovered, IsCoveredCommand, IsDrivable, IsEntryOf, AreAnswered}
 use Rattle.redis_driver.specs.declared.fault.DriveFault.{DriveFault}
 use Rattle.redis_driver.specs.declared.fault.DriveFault.TheVariants.{NotMultiKey, NotCovered, BadOrder, Memory, Node, Reply}
 use Rattle.redis_driver.specs.declared.fault.PlanFault.{PlanFault}
@@ -97,3 +98,27 @@ module _ {C : Type 0} (IsNode : SlotRoute → Address → Type 0) (step : Step C
   IsFault may_refuse (Node error) count = IsNodeFault may_refuse error count
   -- the replies to the parts of a command always fit
   IsFault may_refuse (Reply error) count = ⊥
+
+-- no key is seen: the meaning under which nodes hold nothing
+abbrev pub unseen_step : Step (Unit {0})
+unseen_step name shared key extras cell =
+    record { cell = None; result = record { value = nil; counts = false } }
+
+abbrev pub nothing : Keyspace (Unit {0})
+nothing = λ key. None
+
+abbrev pub unseen : List Entry → Bool → State (Unit {0})
+unseen trace mark = state nothing trace mark
+
+module _ (IsNode : SlotRoute → Address → Type 0) (r : Request) (old new : State (Unit {0})) where
+  -- all parts were sent and answered, and the replies do not fit
+  pub record IsMisfit (count : ℕ) : Type 0 where
+    pub routes : List SlotRoute
+    pub command : MultiKey
+    pub stopped : IsStopped IsNode unseen_step r old new routes command count new.trace
+    pub all : count ≡ length routes
+
+  -- the fault has its cause, and so many parts were answered, whatever the answers are
+  abbrev pub IsCut : (may_refuse : ℕ → Ending → Type 0) → DriveFault → ℕ → Type 0
+  IsCut may_refuse (Reply error) count = IsMisfit count
+  IsCut may_refuse fault count = IsFault IsNode unseen_step r old new may_refuse fault count

@@ -1,5 +1,5 @@
 -- The one reply that is made of those to the parts of a split command.
-use Rattle.std.specs.Prelude.{ℕ, List, Option, None, Some, Result, Ok, Err, map, slice_get}
+use Rattle.std.specs.Prelude.{◌≡◌, ◌++◌, ℕ, Bool, List, Option, None, Some, Result, Ok, Err, map, length, slice_get}
 use Rattle.resp_core.specs.Reply.{Reply}
 use Rattle.resp_core.specs.declared.error.ErrorKind.{ErrorKind}
 use Rattle.resp_core.specs.declared.error.ErrorKind.TheVariants.{Client, UnexpectedReturnType}
@@ -8,7 +8,10 @@ use Rattle.redis_combiners.specs.SortedArrays.{sorted_arrays}
 use Rattle.redis_commands.specs.declared.policy.ResponsePolicy.{ResponsePolicy}
 use Rattle.redis_commands.specs.declared.policy.ResponsePolicy.TheVariants.{Aggregate, CombineArrays}
 use Rattle.redis_commands.specs.declared.route_by.MultiSlotArgPattern.{MultiSlotArgPattern}
-use Rattle.redis_routing.specs.Split.{Split}
+use Rattle.redis_commands.specs.Command.{Arguments, command_of}
+use Rattle.redis_nodes.specs.Orders.{in_order}
+use Rattle.redis_routing.specs.Complete.{multi_slot_routes, pattern_by_name}
+use Rattle.redis_routing.specs.Split.{Split, policy_by_name}
 
 -- the reply, or a refusal of this kind where there is none
 abbrev pub or_refused : ErrorKind → Option Reply → Result Reply ErrorKind
@@ -26,3 +29,21 @@ joined_by _ pattern lists replies = or_refused Client (slice_get replies 0)
 -- the one reply to the command, by those to its parts, or the kind of the refusal
 abbrev pub joined : Split → List Reply → Result Reply ErrorKind
 joined split replies = joined_by split.policy split.pattern (map (λ r. r.1) split.routes) replies
+
+-- the split of a command
+pub record IsSplitOf (only_reads : List ℕ → Bool) (args : Arguments) (split : Split) : Type 0 where
+  pub arguments : split.arguments ≡ args
+  pub routes : Some split.routes ≡ multi_slot_routes only_reads args
+  pub pattern : Some split.pattern ≡ pattern_by_name (command_of args)
+  pub policy : Some split.policy ≡ policy_by_name (command_of args)
+
+-- The reply is the one that the command's policy makes of a reply for each route, and these may be
+-- what the nodes gave, in the order given, after what they gave before.
+pub record IsJoined (only_reads : List ℕ → Bool) (args : Arguments) (order : List ℕ)
+    (old new : List Reply → Type 0) (reply : Reply) : Type 0 where
+  pub split : Split
+  pub split_is : IsSplitOf only_reads args split
+  pub replies : List Reply
+  pub each : length replies ≡ length split.routes
+  pub gave : (before : List Reply) → old before → new (before ++ in_order replies order)
+  pub joined_is : joined split replies ≡ Ok reply

@@ -1,14 +1,16 @@
 -- The plan of a command over many keys: a part for each of its routes, the node that it goes to,
 -- and the reply to it.
-use Rattle.std.specs.Prelude.{◌≡◌, ℕ, Bool, cond, List, Option, None, Some, map, length}
+use Rattle.std.specs.Prelude.{◌≡◌, ℕ, Bool, cond, List, Option, None, Some, map, length, ◌++◌}
 use Rattle.std.specs.List.{zip}
 use Rattle.resp_core.specs.Reply.{Reply}
 use Rattle.resp_core.specs.View.{view}
 use Rattle.resp_core.specs.declared.value.Value.{Value}
 use Rattle.cluster_slots.specs.Address.{Address}
+use Rattle.cluster_slots.specs.SlotRoute.{SlotRoute}
 use Rattle.redis_commands.specs.PresentArguments.{present_arguments_after}
 use Rattle.redis_routing.specs.Split.{Split, IsSplit, slots_of, split_part}
 use Rattle.redis_nodes.specs.MultiKey.{KeyTuple, ReplyForm, tuples_of, form_by_policy}
+use Rattle.redis_nodes.specs.Orders.{in_order}
 use Rattle.redis_nodes.specs.SlotResults.{results_of_slot}
 use Rattle.redis_nodes.specs.Unsplit.{TupleResult, reply_by}
 
@@ -51,3 +53,12 @@ pub record ArePartReplies (plan : Plan) (form : ReplyForm) (results : List Tuple
   pub replies : List Value
   pub all_told : plan.replies ≡ map Some replies
   pub answered : ArePartsAnswered plan.split form results (map view replies)
+
+-- All replies of the plan were told; in the order in which they came, these may be what the nodes
+-- gave after what they gave before.
+pub record AreGiven (old new : List Reply → Type 0) (routes : List (SlotRoute × List ℕ))
+    (replies : List (Option Value)) (order : List ℕ) : Type 0 where
+  pub values : List Value
+  pub all_told : replies ≡ map Some values
+  pub each : length values ≡ length routes
+  pub gave : (before : List Reply) → old before → new (before ++ in_order (map view values) order)

@@ -42,14 +42,14 @@ IsLast may_refuse before new mark None ending = ⊥
 
 -- the sends stopped after so many answers: the trace has an entry of each, and of the next one, if
 -- it was refused; the keyspace is that of the slots that were answered
-pub record AreStopped {C : Type 0} (step : Step C) (may_refuse : ℕ → Ending → Type 0)
+pub record AreStopped {C : Type 0} (kept : Type 0) (step : Step C) (may_refuse : ℕ → Ending → Type 0)
     (command : MultiKey) (plan : Plan) (order : List ℕ) (count : ℕ)
     (old_keys new_keys : Keyspace C) (old new : List Entry) (mark : Bool)
     (ending : Option Ending) : Type 0 where
   pub before : List Entry
   pub trace : before ≡ old ++ map (target_entry answered)
       (in_order (targets plan) (take count order))
-  pub keyspace : new_keys ≡ after (act_of step command)
+  pub keyspace : kept → new_keys ≡ after (act_of step command)
       (tuples_of_slots (in_order (slots_of plan.split.routes) (take count order)) command.tuples)
       old_keys
   pub last : IsLast may_refuse before new mark (slice_get (in_order (targets plan) order) count)

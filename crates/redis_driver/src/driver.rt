@@ -1,5 +1,6 @@
-ghost use Rattle.std.specs.Prelude.{◌≡◌, ◌<◌, ◌↔◌, ◌++◌, ℕ, None, map, length, IfOk, OnOk, IfErr};
+ghost use Rattle.std.specs.Prelude.{◌≡◌, ◌<◌, ◌↔◌, ◌++◌, ◌⊎◌, ℕ, List, Ok, None, map, length, IfOk, OnOk, IfErr};
 ghost use Rattle.resp_core.specs.declared.error.ErrorKind.TheVariants.{OutOfMemory};
+ghost use Rattle.resp_core.specs.Reply.{Reply};
 ghost use Rattle.resp_core.specs.View.{view};
 ghost use Rattle.read_strategies.specs.RouteNode.{IsRouteNode};
 ghost use Rattle.redis_commands.specs.ReadOnly.{is_among};
@@ -8,8 +9,9 @@ ghost use Rattle.redis_nodes.specs.MultiKey.{MultiKey};
 ghost use Rattle.redis_nodes.specs.Orders.{NamesOnce, in_order};
 ghost use Rattle.redis_nodes.specs.Trace.{Ending, answered};
 ghost use Rattle.redis_nodes.specs.Unsplit.{keyspace_after, reply_to};
-ghost use Rattle.redis_driver.specs.Driven.{request, state, IsDriven, IsHeadline};
-ghost use Rattle.redis_driver.specs.Faults.{IsEarly, IsFault};
+ghost use Rattle.redis_driver.specs.Driven.{request, state, IsDelivered, IsDriven, IsHeadline};
+ghost use Rattle.redis_driver.specs.Faults.{IsEarly, IsFault, IsCut, unseen};
+ghost use Rattle.redis_driver.specs.Joined.{joined, IsJoined, IsSplitOf};
 ghost use Rattle.redis_driver.specs.Ready.{IsReady};
 ghost use Rattle.redis_driver.specs.Ended.{AreEndedEarly};
 ghost use Rattle.redis_driver.specs.Sends.{targets, target_entry, IsPlanOf};
@@ -34,8 +36,10 @@ use std::alloc::Global;
 /// `DEL foo bar baz {bar}vaz` goes out as `DEL foo`, `DEL bar {bar}vaz` and `DEL baz`, and the
 /// counts are added up.
 ///
-/// Where it answers, the keyspace and the reply are those of the unsplit command, whatever the
-/// command does to a single key, whatever the order. Arguments from the first gap on are not sent.
+/// Where it answers, each part went once, and the reply is made of those that the nodes gave. Where
+/// the nodes keep to one meaning over one keyspace, keyspace and reply are those of the unsplit
+/// command, whatever that does to a single key, whatever the order. Arguments from the first gap on
+/// are not sent.
 ///
 /// # Errors
 ///
@@ -43,7 +47,7 @@ use std::alloc::Global;
 /// key has no node, `BadOrder` where the order does not name each route once. Nothing was sent
 /// then. `Node` is what a node refused: the parts of the order before it took effect, and no later
 /// one is sent. `Memory` is told after any number of answers, which took effect. `Reply` does not
-/// come from nodes that keep their contract.
+/// come from nodes that keep to one meaning.
 pub fn drive<R: Routable, N: Nodes>(
     alloc: Global,
     command: &R,
@@ -54,9 +58,19 @@ pub fn drive<R: Routable, N: Nodes>(
     order: &[usize],
     nodes: &mut N,
 ) -> Result<Value, DriveError>
-    // The headline: each part went once, in the order given, to a node of its route, and the
-    // keyspace and the reply are those of the unsplit command.
-    ensures driven { IfOk result (λ value.
+    // Each part went once, in the order given, to a node of its route, whatever the nodes answered.
+    ensures delivered { IfOk result (λ value.
+        IsDelivered (IsRouteNode strategy.entry (λ s. picks s.now) slot_map.now pick)
+        (request (R.args command.now) (is_among read_only.now) slot_map.now order.now)
+        (N.trace nodes.old) (N.trace nodes.new)) }
+    // And the reply is made of what they answered, as the command's policy says.
+    ensures joined { IfOk result (λ value.
+        IsJoined (is_among read_only.now) (R.args command.now) order.now
+        (N.gave nodes.old) (N.gave nodes.new) (view value)) }
+    // The headline: where the nodes keep to one meaning over one keyspace, each part went once, in
+    // the order given, to a node of its route, and the keyspace and the reply are those of the
+    // unsplit command.
+    ensures driven { IfOk result (λ value. N.kept nodes.new →
         IsDriven (IsRouteNode strategy.entry (λ s. picks s.now) slot_map.now pick) N.step
         (request (R.args command.now) (is_among read_only.now) slot_map.now order.now)
         (state (N.keyspace nodes.old) (N.trace nodes.old) (N.mark nodes.old))
@@ -66,15 +80,24 @@ pub fn drive<R: Routable, N: Nodes>(
     // out.
     ensures headline { IsHeadline (N.may_refuse nodes.old)
         (request (R.args command.now) (is_among read_only.now) slot_map.now order.now)
-        (N.trace nodes.old) → IfErr result (λ e. e.fault ≡ DriveFault.Memory) }
+        (N.trace nodes.old) → IfErr result (λ e. N.kept nodes.new → e.fault ≡ DriveFault.Memory) }
+    // So many parts were answered, and no other, whatever the answers are.
+    ensures cut { IfErr result (λ e.
+        IsCut (IsRouteNode strategy.entry (λ s. picks s.now) slot_map.now pick)
+        (request (R.args command.now) (is_among read_only.now) slot_map.now order.now)
+        (unseen (N.trace nodes.old) (N.mark nodes.old))
+        (unseen (N.trace nodes.new) (N.mark nodes.new))
+        (N.may_refuse nodes.old) e.fault e.answered) }
     // Each fault but a lack of memory before any answer has its cause, and what was answered
     // stands.
-    ensures fault { IfErr result (λ e.
+    ensures fault { IfErr result (λ e. N.kept nodes.new →
         IsFault (IsRouteNode strategy.entry (λ s. picks s.now) slot_map.now pick) N.step
         (request (R.args command.now) (is_among read_only.now) slot_map.now order.now)
         (state (N.keyspace nodes.old) (N.trace nodes.old) (N.mark nodes.old))
         (state (N.keyspace nodes.new) (N.trace nodes.new) (N.mark nodes.new))
         (N.may_refuse nodes.old) e.fault e.answered) }
+    // Nodes that kept to it now did so before.
+    ensures kept { N.kept nodes.new → N.kept nodes.old }
     // A command with gaps and its front have the same tuples, routes and parts.
     ensures gaps { IsSameCommand (R.args command.now) (front (R.args command.now)) }
     // What nodes may refuse stays the same.
@@ -101,6 +124,8 @@ fn plan_in_order<'a, R: Routable>(
         (λ plan. (c : MultiKey)
         × IsReady (IsRouteNode strategy.entry (λ s. picks s.now) slot_map.now pick)
         (request (R.args command.now) (is_among read_only.now) slot_map.now order.now) plan c) }
+    ensures split { IfOk result
+        (λ plan. IsSplitOf (is_among read_only.now) (R.args command.now) plan.split) }
     ensures untold { IfOk result (λ plan. plan.replies ≡ map (λ route. None) plan.split.routes) }
     ensures order { IfOk result (λ plan. NamesOnce (length plan.split.routes) order.now) }
     ensures some { IfOk result (λ plan. 0 < length plan.split.routes) }
@@ -132,13 +157,19 @@ fn drive_plan<R: Routable, N: Nodes>(
     ensures trace { OnOk result
         (N.trace nodes.new ≡ N.trace nodes.old ++ map (target_entry answered)
         (in_order (targets plan.entry) order.now)) }
+    ensures kept { N.kept nodes.new → N.kept nodes.old }
     ensures keyspace { OnOk result ((c : MultiKey) → IsPlanOf c plan.entry
-        → N.keyspace nodes.new ≡ keyspace_after N.step c (N.keyspace nodes.old)) }
+        → N.kept nodes.new → N.keyspace nodes.new ≡ keyspace_after N.step c (N.keyspace nodes.old)) }
     ensures reply { IfOk result
         (λ value. (c : MultiKey) → IsPlanOf c plan.entry
-        → view value ≡ reply_to N.step c (N.keyspace nodes.old)) }
+        → N.kept nodes.new → view value ≡ reply_to N.step c (N.keyspace nodes.old)) }
+    ensures joined { IfOk result
+        (λ value. (replies : List Reply) × (length replies ≡ length plan.entry.split.routes)
+        × ((before : List Reply) → N.gave nodes.old before
+        → N.gave nodes.new (before ++ in_order replies order.now))
+        × (joined plan.entry.split replies ≡ Ok (view value))) }
     ensures stopped { IfErr result
-        (λ e. AreEndedEarly N.step (N.may_refuse nodes.old) plan.entry order.now
+        (λ e. AreEndedEarly (N.kept nodes.new) N.step (N.may_refuse nodes.old) plan.entry order.now
         (N.keyspace nodes.old) (N.keyspace nodes.new) (N.trace nodes.old) (N.trace nodes.new)
         (N.mark nodes.new) e.fault e.answered) }
     ensures may_refuse { (count : ℕ) (ending : Ending) → N.may_refuse nodes.new count ending
@@ -159,8 +190,8 @@ fn drive_plan<R: Routable, N: Nodes>(
 
 /// The fault of replies that could not be combined.
 fn of_combining(error: RedisError) -> DriveFault
-    ensures memory { error.kind ≡ OutOfMemory → result ≡ DriveFault.Memory }
-    ensures refused { (error.kind ≡ OutOfMemory → ⊥) → result ≡ DriveFault.Reply error }
+    ensures { ((error.kind ≡ OutOfMemory) × (result ≡ DriveFault.Memory))
+        ⊎ ((error.kind ≡ OutOfMemory → ⊥) × (result ≡ DriveFault.Reply error)) }
 {
     if error.kind() == ErrorKind::OutOfMemory {
         DriveFault::Memory

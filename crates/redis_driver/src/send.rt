@@ -1,4 +1,5 @@
-ghost use Rattle.std.specs.Prelude.{◌≡◌, ◌<◌, ◌++◌, ◌∷◌, ◌↔◌, [], ℕ, Some, None, map, length, slice_get, slice_set, IfOk, OnOk, IfErr, IsSome};
+ghost use Rattle.std.specs.Prelude.{◌≡◌, ◌<◌, ◌++◌, ◌∷◌, ◌↔◌, [], ℕ, List, Some, None, map, length, slice_get, slice_set, IfOk, OnOk, IfErr, IsSome};
+ghost use Rattle.resp_core.specs.Reply.{Reply};
 ghost use Rattle.resp_core.specs.View.{view};
 ghost use Rattle.redis_nodes.specs.MultiKey.{MultiKey, multi_key};
 ghost use Rattle.redis_nodes.specs.Orders.{NamesOnce, in_order};
@@ -6,7 +7,7 @@ ghost use Rattle.redis_nodes.specs.Sent.{IsUnanswered, ending_of};
 ghost use Rattle.redis_nodes.specs.Trace.{Ending, answered};
 ghost use Rattle.redis_nodes.specs.Unsplit.{keyspace_after, reply_to, results_of};
 ghost use Rattle.redis_driver.specs.Faults.{fault_of_send};
-ghost use Rattle.redis_driver.specs.Plan.{ArePartReplies};
+ghost use Rattle.redis_driver.specs.Plan.{ArePartReplies, AreGiven};
 ghost use Rattle.redis_driver.specs.Sends.{Target, targets, target_entry, IsPlanOf, AreStopped};
 
 use crate::fault::{DriveError, DriveFault};
@@ -25,18 +26,23 @@ pub(super) fn send_all<R: Routable, N: Nodes>(
     requires untold { plan.old.replies ≡ map (λ route. None) plan.old.split.routes }
     requires order { NamesOnce (length plan.old.split.routes) order.now }
     ensures plan { OnOk result (plan.new.split ≡ plan.old.split) }
+    ensures told { OnOk result (AreGiven (N.gave nodes.old) (N.gave nodes.new)
+        plan.old.split.routes plan.new.replies order.now) }
     ensures replies { OnOk result ((command : MultiKey) → IsPlanOf command plan.old
+        → N.kept nodes.new
         → ArePartReplies plan.new command.form (results_of N.step command (N.keyspace nodes.old))) }
     ensures trace { OnOk result
         (N.trace nodes.new ≡ N.trace nodes.old ++ map (target_entry answered)
         (in_order (targets plan.old) order.now)) }
     ensures keyspace { OnOk result ((command : MultiKey) → IsPlanOf command plan.old
+        → N.kept nodes.new
         → N.keyspace nodes.new ≡ keyspace_after N.step command (N.keyspace nodes.old)) }
+    ensures kept { N.kept nodes.new → N.kept nodes.old }
     ensures within { IfErr result (λ stop. stop.answered < length order.now) }
     ensures stopped { IfErr result
         (λ stop. (error : SendError) × (stop.fault ≡ fault_of_send error)
         × ((command : MultiKey) → IsPlanOf command plan.old
-        → AreStopped N.step (N.may_refuse nodes.old) command plan.old order.now stop.answered
+        → AreStopped (N.kept nodes.new) N.step (N.may_refuse nodes.old) command plan.old order.now stop.answered
         (N.keyspace nodes.old) (N.keyspace nodes.new) (N.trace nodes.old) (N.trace nodes.new)
         (N.mark nodes.new) (ending_of error))) }
     ensures may_refuse { (count : ℕ) (ending : Ending) → N.may_refuse nodes.new count ending
@@ -70,10 +76,15 @@ fn send_part<R: Routable, N: Nodes>(
         (λ value. (target : Target) (command : MultiKey)
         → slice_get (targets plan.now) number ≡ Some target
         → multi_key (map Some target.1) ≡ Some command
-        → view value ≡ reply_to N.step command (N.keyspace nodes.old)) }
+        → N.kept nodes.new → view value ≡ reply_to N.step command (N.keyspace nodes.old)) }
+    ensures kept { N.kept nodes.new → N.kept nodes.old }
+    ensures gave { IfOk result
+        (λ value. (replies : List Reply) → N.gave nodes.old replies
+        → N.gave nodes.new (replies ++ view value ∷ [])) }
     ensures keyspace { OnOk result ((target : Target) (command : MultiKey)
         → slice_get (targets plan.now) number ≡ Some target
         → multi_key (map Some target.1) ≡ Some command
+        → N.kept nodes.new
         → N.keyspace nodes.new ≡ keyspace_after N.step command (N.keyspace nodes.old)) }
     ensures trace { OnOk result ((target : Target)
         → slice_get (targets plan.now) number ≡ Some target

@@ -1,4 +1,5 @@
-ghost use Rattle.std.specs.Prelude.{◌≡◌, ℕ, List, [], ◌∷◌, ◌++◌, Bool, false, Some, map, IfOk, OnOk, IfErr, IfSome, IsSome, ◌↔◌};
+ghost use Rattle.std.specs.Prelude.{◌≡◌, ℕ, List, [], ◌∷◌, ◌++◌, Bool, false, Some, map, IfOk, OnOk, OnErr, IfErr, IfSome, IsSome, ◌↔◌};
+ghost use Rattle.resp_core.specs.Reply.{Reply};
 ghost use Rattle.resp_core.specs.View.{view};
 ghost use Rattle.redis_nodes.specs.MultiKey.{multi_key};
 ghost use Rattle.redis_nodes.specs.Unsplit.{Step, Keyspace, keyspace_after, reply_to};
@@ -41,6 +42,14 @@ pub trait Nodes {
     /// Whether the send that finds so many entries in the trace may end so, without an answer.
     ghost may_refuse: { Self → ℕ → Ending → Type 0 };
 
+    /// So far the nodes answered by that meaning, over one keyspace. What a connection gives nobody
+    /// can prove, so for a real client this is a premise; where an `impl` does not write it, its
+    /// `send` ensures it always.
+    ghost kept: { Self → Type 0 } = { λ _. Unit {0} };
+
+    /// Whether these may be the replies so far, in the order in which they came.
+    ghost gave: { Self → List Reply → Type 0 } = { λ _ _. Unit {0} };
+
     /// Sends a command over many keys, complete and without gaps, to a node.
     ///
     /// # Errors
@@ -51,9 +60,15 @@ pub trait Nodes {
         requires whole { IsSome (multi_key (map Some cmd.now)) }
         ensures reply { IfOk result
             (λ value. IfSome (multi_key (map Some cmd.now))
-            (λ command. view value ≡ reply_to step command (keyspace self.old))) }
+            (λ command. kept self.new → view value ≡ reply_to step command (keyspace self.old))) }
         ensures keyspace { OnOk result (IfSome (multi_key (map Some cmd.now))
-            (λ command. keyspace self.new ≡ keyspace_after step command (keyspace self.old))) }
+            (λ command. kept self.new
+            → keyspace self.new ≡ keyspace_after step command (keyspace self.old))) }
+        ensures kept { kept self.new → kept self.old }
+        ensures gave { IfOk result (λ value. (replies : List Reply) → gave self.old replies
+            → gave self.new (replies ++ view value ∷ [])) }
+        ensures gave_none { OnErr result ((replies : List Reply) → gave self.old replies
+            → gave self.new replies) }
         ensures trace { OnOk result
             (trace self.new ≡ trace self.old ++ entry node.now cmd.now answered ∷ []) }
         ensures mark { OnOk result (mark self.new ≡ false) }

@@ -65,7 +65,7 @@ pub fn deleted(replies: Vec<Value>) -> RedisResult<Value>
 }
 
 /// Deletes the keys of a `DEL`, each at its node, and answers how many there were: as one server
-/// would that has all keys, whatever the nodes' keys hold.
+/// would that has all keys, whatever the nodes' keys hold, where the nodes keep to one meaning.
 pub fn delete<N: Nodes>(
     alloc: Global,
     command: &Cmd,
@@ -73,7 +73,7 @@ pub fn delete<N: Nodes>(
     order: &[usize],
     nodes: &mut N,
 ) -> Result<Value, DriveError>
-    ensures unsplit { IfOk result (λ count. IfSome (multi_key (map Some command.now)) (λ whole.
+    ensures unsplit { IfOk result (λ count. N.kept nodes.new → IfSome (multi_key (map Some command.now)) (λ whole.
         (view count ≡ reply_to N.step whole (N.keyspace nodes.old))
         × (N.keyspace nodes.new ≡ keyspace_after N.step whole (N.keyspace nodes.old)))) }
 {

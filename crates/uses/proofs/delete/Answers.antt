@@ -10,7 +10,7 @@ pub returns : goal.returns
 returns g c =
     record {
       unsplit = IfOk-weaker c.drive.result _ _
-          (λ count d. subst (λ (o : Option MultiKey). IfSome o (λ whole. (view count ≡ reply_to g.N.Nodes.step whole (g.N.Nodes.keyspace c.args.nodes.now)) × (g.N.Nodes.keyspace c.drive.new.nodes ≡ keyspace_after g.N.Nodes.step whole (g.N.Nodes.keyspace c.args.nodes.now))))
-          (sym d.drivable.is_covered.command_is) (d.reply, d.keyspace))
+          (λ count d now. subst (λ (o : Option MultiKey). IfSome o (λ whole. (view count ≡ reply_to g.N.Nodes.step whole (g.N.Nodes.keyspace c.args.nodes.now)) × (g.N.Nodes.keyspace c.drive.new.nodes ≡ keyspace_after g.N.Nodes.step whole (g.N.Nodes.keyspace c.args.nodes.now))))
+          (sym (d now).drivable.is_covered.command_is) ((d now).reply, (d now).keyspace))
           c.drive.ensures.driven;
     }

@@ -1,5 +1,14 @@
-use Rattle.std.proofs.Common.{◌≡◌, inl, length, arith}
+use Rattle.std.proofs.Common.{◌≡◌, inl, inr, length, arith, ap, sym, ◌∙◌, ⊎_elim, map, Err}
+use Rattle.std.proofs.lemmas.List.{length-map}
+use Rattle.resp_core.specs.View.{view}
+use Rattle.resp_core.specs.ErrorParts.{ErrorParts}
+use Rattle.resp_core.specs.declared.error.ErrorKind.{ErrorKind}
+use Rattle.redis_nodes.specs.MultiKey.{form_by_policy}
+use Rattle.redis_nodes.specs.Unsplit.{results_of}
 use Rattle.redis_nodes.proofs.Once.{length-names_once}
+use Rattle.redis_routing.specs.Split.{Split}
+use Rattle.redis_driver.specs.Joined.{joined}
+use Rattle.redis_driver.proofs.Joined.{arrays_make_lists, memory_makes_lists}
 use Rattle.redis_driver.proofs.driver.drive_plan.Goals as goal
 
 pub returns-in-Err-clause-stopped : goal.returns-in-Err-clause-stopped
@@ -7,3 +16,39 @@ returns-in-Err-clause-stopped g c =
     let stopped = c.in-Err.ensures.stopped in
     let same : length c.args.order.now ≡ length c.args.plan.split.routes = length-names_once (length c.args.plan.split.routes) c.args.order.now c.requires.order in
     inl (record { error = stopped.0; fault_is = stopped.1; within = omega (arith, c.in-Err.ensures.within, same); stopped = stopped.2 })
+
+pub returns-in-Err-combine-clause-stopped : goal.returns-in-Err-combine-clause-stopped
+returns-in-Err-combine-clause-stopped g c =
+    let told = c.in_default.ensures.told in
+    let failed = c.in-Err-combine.ensures.joined told.values told.all_told in
+    let routes : length c.send_all.new.plan.split.routes ≡ length c.args.plan.split.routes = ap (λ (s : Split). length s.routes) c.in_default.ensures.plan in
+    ⊎_elim
+    (λ memory. inr (inl (record {
+      fault_is = memory.1;
+      count_is = c.len-answered.ensures.len ∙ routes;
+      trace = c.in_default.ensures.trace;
+      keyspace = c.in_default.ensures.keyspace;
+      form = λ command is.
+          let form = ap (λ (s : Split). form_by_policy s.policy) c.in_default.ensures.plan ∙ is.form in
+          ⊎_elim
+          (λ arrays. arrays_make_lists c.send_all.new.plan.split command.form form arrays.1)
+          (λ kind. memory_makes_lists c.send_all.new.plan.split command.form (map view told.values) form (kind ∙ ap (λ (k : ErrorKind). Err k) memory.0))
+          failed;
+    })))
+    (λ misfit. inr (inr (record {
+      error = c.in-Err-combine.error;
+      fault_is = misfit.1;
+      count_is = c.len-answered.ensures.len ∙ routes;
+      trace = c.in_default.ensures.trace;
+      misfit = λ now.
+          let command = c.requires.command.0 in
+          let none = c.in-Err-combine.ensures.unsplit command.form (results_of g.N.Nodes.step command (g.N.Nodes.keyspace c.args.nodes.now)) (c.in_default.ensures.replies command c.requires.command.1 now) in
+          misfit.0 (ap (λ (e : ErrorParts). e.kind) none.0);
+    })))
+    c.of_combining.ensures
+
+pub returns-in-Ok-clause-joined : goal.returns-in-Ok-clause-joined
+returns-in-Ok-clause-joined g c =
+    let told = c.in_default.ensures.told in
+    let is = c.in-Ok.ensures.joined told.values told.all_told in
+    (map view told.values, length-map told.values view ∙ told.each, told.gave, ap (λ (s : Split). joined s (map view told.values)) (sym c.in_default.ensures.plan) ∙ is)

@@ -20,7 +20,7 @@ use Rattle.redis_driver.specs.Plan.{Plan, tuples_in_split}
 use Rattle.redis_routing.specs.Split.{slots_of, Split}
 use Rattle.redis_driver.specs.Sends.{Target, targets, target_entry, IsPlanOf, AreStopped}
 use Rattle.redis_driver.proofs.Zips.{zip_long}
-use Rattle.redis_driver.proofs.Sending.{RouteTarget, route_target, none_at, not_yet, AreTold, AreUntold, told_more, untold_less, all_told, last_is, same_keys}
+use Rattle.redis_driver.proofs.Sending.{RouteTarget, route_target, none_at, not_yet, AreTold, AreSomeTold, AreUntold, told_more, some_told_more, all_some_told, AreGivenSo, given_more, given_all, untold_less, all_told, last_is, same_keys}
 use Rattle.redis_driver.proofs.send.send_all.Goals as goal
 
 -- the routes have as many slots
@@ -42,10 +42,13 @@ loop-number-init g c =
       split = refl;
       same_targets = refl;
       room = ap length c.requires.untold ∙ length-map plan.split.routes (λ r. None) ∙ sym (many plan);
-      told = λ command is number slot at some. absurd (omega (arith, some));
+      kept = λ now. now;
+      some_told = λ number inside some. absurd (omega (arith, some));
+      given = record { values = []; told = refl; gave = λ before was. subst (g.N.Nodes.gave c.args.nodes.now) (sym (append-nil before)) was };
+      told = λ command is now number slot at some. absurd (omega (arith, some));
       untold = λ number inside none. ap (λ rs. slice_get rs number) c.requires.untold ∙ none_at plan.split.routes number (omega (arith, inside, many plan));
       trace = sym (append-nil (g.N.Nodes.trace c.args.nodes.now));
-      keyspace = λ command is. refl;
+      keyspace = λ command is now. refl;
       may_refuse = λ count ending. (λ may. may, λ may. may);
       answered = refl;
     }
@@ -94,25 +97,32 @@ loop-number-preserved g c =
       split = ap (λ (p : Plan). p.split) c.tell_first.ensures ∙ inv.split;
       same_targets = ap targets c.tell_first.ensures ∙ inv.same_targets;
       room = ap length replies_are ∙ length-set c.loop-number.plan.replies k (Some c.in-Ok.reply) ∙ inv.room;
-      told = λ command is.
+      kept = λ now. inv.kept (c.send_part.ensures.kept now);
+      some_told = subst (λ rs. AreSomeTold rs order (i + 1) (length slots)) (sym replies_are)
+          (some_told_more c.loop-number.plan.replies slots order i k inside refl room (length slots) c.in-Ok.reply inv.some_told);
+      given = subst (λ rs. AreGivenSo (nodes.gave c.args.nodes.now) (nodes.gave c.send_part.new.nodes) rs (take (i + 1) order)) (sym replies_are)
+          (given_more (nodes.gave c.args.nodes.now) (nodes.gave c.loop-number.nodes) (nodes.gave c.send_part.new.nodes) c.loop-number.plan.replies order i k c.in-Ok.reply inside refl room
+          (not_yet (length plan.split.routes) order i c.requires.order inside) c.in-Ok.ensures.gave inv.given);
+      told = λ command is now.
+          let was = c.send_part.ensures.kept now in
           let own = there command is in
           let reply_of : ℕ → Reply = λ slot. reply_by command.form (results_of_slot slot command.tuples (results_of nodes.step command old)) in
           let says : view c.in-Ok.reply ≡ reply_of own.slot =
-          c.in-Ok.ensures.reply own.target (part_of command own.slot) (at own.target own.target_at) own.part
-          ∙ ap (λ ks. reply_by command.form (results (act_of nodes.step command) (tuples_of_slot own.slot command.tuples) ks)) (inv.keyspace command is)
+          c.in-Ok.ensures.reply own.target (part_of command own.slot) (at own.target own.target_at) own.part now
+          ∙ ap (λ ks. reply_by command.form (results (act_of nodes.step command) (tuples_of_slot own.slot command.tuples) ks)) (inv.keyspace command is was)
           ∙ ap (reply_by command.form) (results_more (act_of nodes.step command) slots order command.tuples old i k own.slot names is.at_most_once inside refl own.slot_at) in
           subst (λ rs. AreTold rs slots order (i + 1) reply_of) (sym replies_are)
-          (told_more c.loop-number.plan.replies slots order i k inside refl room reply_of own.slot c.in-Ok.reply own.slot_at says (inv.told command is));
+          (told_more c.loop-number.plan.replies slots order i k inside refl room reply_of own.slot c.in-Ok.reply own.slot_at says (inv.told command is was));
       untold = subst (λ rs. AreUntold rs order (i + 1) (length slots)) (sym replies_are)
           (untold_less c.loop-number.plan.replies slots order i k inside refl room (length slots) c.in-Ok.reply inv.untold);
       trace = c.in-Ok.ensures.trace t.target (at t.target t.target_at) ∙ ap (λ tr. tr ++ target_entry answered t.target ∷ []) inv.trace
           ∙ append_assoc (nodes.trace c.args.nodes.now) (map (target_entry answered) (in_order (targets plan) (take i order))) (target_entry answered t.target ∷ [])
           ∙ ap (λ es. nodes.trace c.args.nodes.now ++ es)
           (sym (ap (map (target_entry answered)) (in_order_more (targets plan) order i k t.target inside refl t.target_at) ∙ map_push (target_entry answered) (in_order (targets plan) (take i order)) t.target));
-      keyspace = λ command is.
+      keyspace = λ command is now.
           let own = there command is in
-          c.in-Ok.ensures.keyspace own.target (part_of command own.slot) (at own.target own.target_at) own.part
-          ∙ ap (λ ks. after (act_of nodes.step command) (tuples_of_slot own.slot command.tuples) ks) (inv.keyspace command is)
+          c.in-Ok.ensures.keyspace own.target (part_of command own.slot) (at own.target own.target_at) own.part now
+          ∙ ap (λ ks. after (act_of nodes.step command) (tuples_of_slot own.slot command.tuples) ks) (inv.keyspace command is (c.send_part.ensures.kept now))
           ∙ keyspace_more (act_of nodes.step command) slots order command.tuples old i k own.slot inside refl own.slot_at;
       may_refuse = λ count ending.
           let now = c.send_part.ensures.may_refuse count ending in
@@ -143,15 +153,15 @@ returns-in-Err-clause-stopped g c =
           let unanswered = c.in-Err.ensures.unanswered t.target (ap (λ ts. slice_get ts k) inv.same_targets ∙ t.target_at) in
           let next : slice_get (in_order (targets plan) order) i ≡ Some t.target =
           next_in_order (targets plan) order i t.target (subst (λ n. All (λ j. j < n) order) (sym (targets_many command plan is)) names.below) inside t.target_at in
-          let stopped : AreStopped nodes.step (nodes.may_refuse c.args.nodes.now) command plan order i old (nodes.keyspace c.send_part.new.nodes) (nodes.trace c.args.nodes.now) (nodes.trace c.send_part.new.nodes) (nodes.mark c.send_part.new.nodes) ending =
+          let stopped : AreStopped (nodes.kept c.send_part.new.nodes) nodes.step (nodes.may_refuse c.args.nodes.now) command plan order i old (nodes.keyspace c.send_part.new.nodes) (nodes.trace c.args.nodes.now) (nodes.trace c.send_part.new.nodes) (nodes.mark c.send_part.new.nodes) ending =
           record {
             before = nodes.trace c.loop-number.nodes;
             trace = inv.trace;
-            keyspace = same_keys (nodes.may_refuse c.loop-number.nodes) (nodes.keyspace c.loop-number.nodes) (nodes.keyspace c.send_part.new.nodes) (nodes.trace c.loop-number.nodes) (nodes.trace c.send_part.new.nodes) (nodes.mark c.send_part.new.nodes) t.target ending unanswered
-                ∙ inv.keyspace command is ∙ keyspace_at_stop (act_of nodes.step command) slots order command.tuples old i names is.at_most_once;
+            keyspace = λ now. same_keys (nodes.may_refuse c.loop-number.nodes) (nodes.keyspace c.loop-number.nodes) (nodes.keyspace c.send_part.new.nodes) (nodes.trace c.loop-number.nodes) (nodes.trace c.send_part.new.nodes) (nodes.mark c.send_part.new.nodes) t.target ending unanswered
+                ∙ inv.keyspace command is (c.send_part.ensures.kept now) ∙ keyspace_at_stop (act_of nodes.step command) slots order command.tuples old i names is.at_most_once;
             last = last_is (nodes.may_refuse c.args.nodes.now) (nodes.may_refuse c.loop-number.nodes) (nodes.keyspace c.loop-number.nodes) (nodes.keyspace c.send_part.new.nodes) (nodes.trace c.loop-number.nodes) (nodes.trace c.send_part.new.nodes) (nodes.mark c.send_part.new.nodes) t.target (slice_get (in_order (targets plan) order) i) ending inv.may_refuse next unanswered;
           } in
-          subst (λ n. AreStopped nodes.step (nodes.may_refuse c.args.nodes.now) command plan order n old (nodes.keyspace c.send_part.new.nodes) (nodes.trace c.args.nodes.now) (nodes.trace c.send_part.new.nodes) (nodes.mark c.send_part.new.nodes) ending) (sym inv.answered) stopped,
+          subst (λ n. AreStopped (nodes.kept c.send_part.new.nodes) nodes.step (nodes.may_refuse c.args.nodes.now) command plan order n old (nodes.keyspace c.send_part.new.nodes) (nodes.trace c.args.nodes.now) (nodes.trace c.send_part.new.nodes) (nodes.mark c.send_part.new.nodes) ending) (sym inv.answered) stopped,
     )
 
 pub returns-clause-replies : goal.returns-clause-replies
@@ -163,11 +173,11 @@ returns-clause-replies g c =
     let inv = c.loop-number.invariant in
     let i = c.loop-number.number-index in
     let whole : take i order ≡ order = take_all i order (omega (arith, c.loop-number-test.false)) in
-    λ command is.
+    λ command is now.
     let rs = results_of nodes.step command (nodes.keyspace c.args.nodes.now) in
     let reply_of : ℕ → Reply = λ slot. reply_by command.form (results_of_slot slot command.tuples rs) in
     let all = all_told c.loop-number.plan.replies slots reply_of inv.room
-    (λ number slot at. inv.told command is number slot at
+    (λ number slot at. inv.told command is now number slot at
     (let inside : number < length slots = slice_get_within slots number slot at in
     let once : times number (take i order) ≡ 1 = ap (times number) whole ∙ c.requires.order.once number (omega (arith, inside, many plan)) in omega (arith, once))) in
     record {
@@ -191,6 +201,27 @@ returns-clause-keyspace g c =
     let i = c.loop-number.number-index in
     let whole : take i order ≡ order = take_all i order (omega (arith, c.loop-number-test.false)) in
     let names : NamesOnce (length slots) order = subst (λ n. NamesOnce n order) (sym (many plan)) c.requires.order in
-    λ command is. c.loop-number.invariant.keyspace command is
+    λ command is now. c.loop-number.invariant.keyspace command is now
     ∙ ap (λ o. after (act_of nodes.step command) (joined (in_order slots o) command.tuples) old) whole
     ∙ keyspace_of_all (act_of nodes.step command) slots order command.tuples old names (names_slots_from slots command.tuples is.once)
+
+pub returns-clause-told : goal.returns-clause-told
+returns-clause-told g c =
+    let plan = c.args.plan.now in
+    let order = c.args.order.now in
+    let inv = c.loop-number.invariant in
+    let i = c.loop-number.number-index in
+    let whole : take i order ≡ order = take_all i order (omega (arith, c.loop-number-test.false)) in
+    let all = all_some_told c.loop-number.plan.replies
+    (λ number inside.
+    let room = inv.room in
+    let below : number < length (slots_of plan.split.routes) = omega (arith, inside, room) in
+    let once : times number (take i order) ≡ 1 = ap (times number) whole ∙ c.requires.order.once number (omega (arith, below, many plan)) in
+    inv.some_told number below (omega (arith, once))) in
+    record {
+      values = all.0;
+      all_told = all.1;
+      each = sym (length-map all.0 Some) ∙ ap length (sym all.1) ∙ inv.room ∙ many plan;
+      gave = given_all (g.N.Nodes.gave c.args.nodes.now) (g.N.Nodes.gave c.loop-number.nodes) c.loop-number.plan.replies order all.0 all.1
+          (subst (AreGivenSo (g.N.Nodes.gave c.args.nodes.now) (g.N.Nodes.gave c.loop-number.nodes) c.loop-number.plan.replies) whole inv.given);
+    }

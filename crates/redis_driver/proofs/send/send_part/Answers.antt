@@ -40,7 +40,7 @@ returns-clause-reply g c =
     IfOk-weaker c.send.result _ _ (λ value told target command at is.
     let part_is : c.in-Some-part.part.now ≡ target.1 = one_of (λ p. p.now) c.part.result c.in-Some-part.part (slice_get c.args.plan.now.parts c.args.number) target.1 c.part.ensures c.in-Some-part.is (zip_at c.args.plan.now.nodes c.args.plan.now.parts c.args.number target at).1 in
     let whole : multi_key (map Some c.in-Some-part.part.now) ≡ Some command = ap (λ a. multi_key (map Some a)) part_is ∙ is in
-    subst (λ (o : Option MultiKey). IfSome o (λ m. view value ≡ reply_to g.N.Nodes.step m (g.N.Nodes.keyspace c.args.nodes.now))) whole told)
+    subst (λ (o : Option MultiKey). IfSome o (λ m. g.N.Nodes.kept c.send.new.self → view value ≡ reply_to g.N.Nodes.step m (g.N.Nodes.keyspace c.args.nodes.now))) whole told)
     c.send.ensures.reply
 
 pub returns-clause-keyspace : goal.returns-clause-keyspace
@@ -48,7 +48,7 @@ returns-clause-keyspace g c =
     on_ok_weaker c.send.result (λ told target command at is.
     let part_is : c.in-Some-part.part.now ≡ target.1 = one_of (λ p. p.now) c.part.result c.in-Some-part.part (slice_get c.args.plan.now.parts c.args.number) target.1 c.part.ensures c.in-Some-part.is (zip_at c.args.plan.now.nodes c.args.plan.now.parts c.args.number target at).1 in
     let whole : multi_key (map Some c.in-Some-part.part.now) ≡ Some command = ap (λ a. multi_key (map Some a)) part_is ∙ is in
-    subst (λ (o : Option MultiKey). IfSome o (λ m. g.N.Nodes.keyspace c.send.new.self ≡ keyspace_after g.N.Nodes.step m (g.N.Nodes.keyspace c.args.nodes.now))) whole told)
+    subst (λ (o : Option MultiKey). IfSome o (λ m. g.N.Nodes.kept c.send.new.self → g.N.Nodes.keyspace c.send.new.self ≡ keyspace_after g.N.Nodes.step m (g.N.Nodes.keyspace c.args.nodes.now))) whole told)
     c.send.ensures.keyspace
 
 pub returns-clause-trace : goal.returns-clause-trace
