@@ -9,9 +9,9 @@ use Rattle.std.proofs.lemmas.List.FromFn.{fill_by_all}
 use Rattle.resp_core.specs.Reply.{Reply, nil, int, bulk, array, simple, okay, pairs, int_of, array_of}
 use Rattle.redis_commands.specs.Lists.{all_some}
 use Rattle.redis_commands.specs.declared.policy.LogicalAggregateOp.{LogicalAggregateOp}
-use Rattle.redis_commands.specs.declared.policy.LogicalAggregateOp.TheVariants.{And}
+use Rattle.redis_commands.specs.declared.policy.LogicalAggregateOp.TheVariants.{And, Or}
 use Rattle.redis_combiners.specs.Bits.{bit_of, bits_among, all_rows}
-use Rattle.redis_combiners.specs.Logical.{as_int, column, combined_bits, common_length, joined, joined_items, logical_items}
+use Rattle.redis_combiners.specs.Logical.{as_int, column, combined_bit, combined_bits, common_length, joined, joined_bit, joined_items, logical_items}
 use Rattle.resp_core.specs.View.{view}
 use Rattle.resp_core.specs.declared.value.Value.{Value}
 use Rattle.resp_core.proofs.Cases.{by_test}
@@ -53,85 +53,86 @@ row_of_bits (x ∷ xs) bits e =
     ap (map as_int) f.is ∙ ap (λ y. y ∷ map as_int f.others) (int_of_bit x f.first f.there) ∙ ap (λ ys. x ∷ ys) (row_of_bits xs f.others f.others_are)
 
 -- what the items of two rows make, one place on
-next_place : (x y : Reply) (xs ys : List Reply) (a b : Bool) → bit_in x ≡ Some a → bit_in y ≡ Some b → joined_items And (x ∷ xs) (y ∷ ys) ≡ option_map (λ bits. (a && b) ∷ bits) (joined_items And xs ys)
-next_place x y xs ys a b e f =
-    ap (λ o. option_and_then (λ bits. option_map (joined And bits) (bits_among (y ∷ ys))) (all_some (o ∷ map bit_in xs))) e
-    ∙ ap (λ o. option_and_then (λ bits. option_map (joined And bits) (all_some (o ∷ map bit_in ys))) (all_some (Some a ∷ map bit_in xs))) f
+next_place : (op : LogicalAggregateOp) (x y : Reply) (xs ys : List Reply) (a b : Bool) → bit_in x ≡ Some a → bit_in y ≡ Some b → joined_items op (x ∷ xs) (y ∷ ys) ≡ option_map (λ bits. joined_bit op a b ∷ bits) (joined_items op xs ys)
+next_place op x y xs ys a b e f =
+    ap (λ o. option_and_then (λ bits. option_map (joined op bits) (bits_among (y ∷ ys))) (all_some (o ∷ map bit_in xs))) e
+    ∙ ap (λ o. option_and_then (λ bits. option_map (joined op bits) (all_some (o ∷ map bit_in ys))) (all_some (Some a ∷ map bit_in xs))) f
     ∙ more (bits_among xs) (bits_among ys)
   where
-    more : (o p : Option (List Bool)) → option_and_then (λ bits. option_map (joined And bits) (option_map (λ bs. b ∷ bs) p)) (option_map (λ bs. a ∷ bs) o) ≡ option_map (λ bits. (a && b) ∷ bits) (option_and_then (λ bits. option_map (joined And bits) p) o)
+    more : (o p : Option (List Bool)) → option_and_then (λ bits. option_map (joined op bits) (option_map (λ bs. b ∷ bs) p)) (option_map (λ bs. a ∷ bs) o) ≡ option_map (λ bits. joined_bit op a b ∷ bits) (option_and_then (λ bits. option_map (joined op bits) p) o)
     more None p = refl
     more (Some u) None = refl
     more (Some u) (Some v) = refl
 
-no_bit : (x : Reply) (xs ys : List Reply) → bit_in x ≡ None → joined_items And (x ∷ xs) ys ≡ None
-no_bit x xs ys e = ap (λ o. option_and_then (λ bits. option_map (joined And bits) (bits_among ys)) (all_some (o ∷ map bit_in xs))) e
+no_bit : (op : LogicalAggregateOp) (x : Reply) (xs ys : List Reply) → bit_in x ≡ None → joined_items op (x ∷ xs) ys ≡ None
+no_bit op x xs ys e = ap (λ o. option_and_then (λ bits. option_map (joined op bits) (bits_among ys)) (all_some (o ∷ map bit_in xs))) e
 
-no_other_bit : (y : Reply) (xs ys : List Reply) → bit_in y ≡ None → joined_items And xs (y ∷ ys) ≡ None
-no_other_bit y xs ys e = ap (λ o. option_and_then (λ bits. option_map (joined And bits) (all_some (o ∷ map bit_in ys))) (bits_among xs)) e ∙ none (bits_among xs)
+no_other_bit : (op : LogicalAggregateOp) (y : Reply) (xs ys : List Reply) → bit_in y ≡ None → joined_items op xs (y ∷ ys) ≡ None
+no_other_bit op y xs ys e = ap (λ o. option_and_then (λ bits. option_map (joined op bits) (all_some (o ∷ map bit_in ys))) (bits_among xs)) e ∙ none (bits_among xs)
   where
-    none : (o : Option (List Bool)) → option_and_then (λ bits. option_map (joined And bits) None) o ≡ None
+    none : (o : Option (List Bool)) → option_and_then (λ bits. option_map (joined op bits) None) o ≡ None
     none None = refl
     none (Some u) = refl
 
 -- a row of which the first places are joined with those of the items
-pub record JoinedSoFar (row first items : List Reply) (i : ℕ) : Type 0 where
+pub record JoinedSoFar (op : LogicalAggregateOp) (row first items : List Reply) (i : ℕ) : Type 0 where
   pub bits : List Bool
   pub long : length bits ≡ i
   pub row_is : row ≡ map as_int bits ++ drop i first
-  pub rest : before bits (joined_items And (drop i first) (drop i items)) ≡ joined_items And first items
+  pub rest : before bits (joined_items op (drop i first) (drop i items)) ≡ joined_items op first items
 
 -- the next item is as it was at first
-own_item : (row first items : List Reply) (i : ℕ) (d : Reply) → JoinedSoFar row first items i → i < length first → get_or row i d ≡ get_or first i d
-own_item row first items i d s l =
+own_item : (op : LogicalAggregateOp) (row first items : List Reply) (i : ℕ) (d : Reply) → JoinedSoFar op row first items i → i < length first → get_or row i d ≡ get_or first i d
+own_item op row first items i d s l =
     ap (λ xs. get_or xs i d) (s.row_is ∙ ap (λ xs. map as_int s.bits ++ xs) (drop_more first i d l))
     ∙ get_or_at (map as_int s.bits) (get_or first i d) (drop (i + 1) first) d i (length-map s.bits as_int ∙ s.long)
 
-pub joined_more : (row first items : List Reply) (i : ℕ) (d : Reply) (a b : Bool) → JoinedSoFar row first items i → i < length first → length first ≡ length items
-    → bit_in (get_or row i d) ≡ Some a → bit_in (get_or items i d) ≡ Some b → JoinedSoFar (set row i (as_int (a && b))) first items (i + 1)
-joined_more row first items i d a b s l n e f =
+pub joined_more : (op : LogicalAggregateOp) (row first items : List Reply) (i : ℕ) (d : Reply) (a b : Bool) → JoinedSoFar op row first items i → i < length first → length first ≡ length items
+    → bit_in (get_or row i d) ≡ Some a → bit_in (get_or items i d) ≡ Some b → JoinedSoFar op (set row i (as_int (joined_bit op a b))) first items (i + 1)
+joined_more op row first items i d a b s l n e f =
     let x = get_or first i d in
     let y = get_or items i d in
-    let own : bit_in x ≡ Some a = ap bit_in (sym (own_item row first items i d s l)) ∙ e in
-    let step : joined_items And (drop i first) (drop i items) ≡ option_map (λ bits. (a && b) ∷ bits) (joined_items And (drop (i + 1) first) (drop (i + 1) items)) =
-    ap (λ xs. joined_items And xs (drop i items)) (drop_more first i d l)
-    ∙ ap (joined_items And (x ∷ drop (i + 1) first)) (drop_more items i d (omega arith))
-    ∙ next_place x y (drop (i + 1) first) (drop (i + 1) items) a b own f in
+    let own : bit_in x ≡ Some a = ap bit_in (sym (own_item op row first items i d s l)) ∙ e in
+    let step : joined_items op (drop i first) (drop i items) ≡ option_map (λ bits. joined_bit op a b ∷ bits) (joined_items op (drop (i + 1) first) (drop (i + 1) items)) =
+    ap (λ xs. joined_items op xs (drop i items)) (drop_more first i d l)
+    ∙ ap (joined_items op (x ∷ drop (i + 1) first)) (drop_more items i d (omega arith))
+    ∙ next_place op x y (drop (i + 1) first) (drop (i + 1) items) a b own f in
+    let c = joined_bit op a b in
     record {
-      bits = s.bits ++ (a && b) ∷ [];
-      long = length_push s.bits (a && b) ∙ ap (λ m. m + 1) s.long;
-      row_is = ap (λ xs. set xs i (as_int (a && b))) (s.row_is ∙ ap (λ xs. map as_int s.bits ++ xs) (drop_more first i d l))
-          ∙ set_at (map as_int s.bits) x (drop (i + 1) first) (as_int (a && b)) i (length-map s.bits as_int ∙ s.long)
-          ∙ sym (append_assoc (map as_int s.bits) (as_int (a && b) ∷ []) (drop (i + 1) first))
-          ∙ ap (λ xs. xs ++ drop (i + 1) first) (sym (map_push as_int s.bits (a && b)));
-      rest = sym (before-more s.bits (a && b) (joined_items And (drop (i + 1) first) (drop (i + 1) items)))
+      bits = s.bits ++ c ∷ [];
+      long = length_push s.bits c ∙ ap (λ m. m + 1) s.long;
+      row_is = ap (λ xs. set xs i (as_int c)) (s.row_is ∙ ap (λ xs. map as_int s.bits ++ xs) (drop_more first i d l))
+          ∙ set_at (map as_int s.bits) x (drop (i + 1) first) (as_int c) i (length-map s.bits as_int ∙ s.long)
+          ∙ sym (append_assoc (map as_int s.bits) (as_int c ∷ []) (drop (i + 1) first))
+          ∙ ap (λ xs. xs ++ drop (i + 1) first) (sym (map_push as_int s.bits c));
+      rest = sym (before-more s.bits c (joined_items op (drop (i + 1) first) (drop (i + 1) items)))
           ∙ ap (before s.bits) (sym step) ∙ s.rest;
     }
 
-pub joined_stop : (row first items : List Reply) (i : ℕ) (d : Reply) → JoinedSoFar row first items i → i < length first → bit_in (get_or row i d) ≡ None → joined_items And first items ≡ None
-joined_stop row first items i d s l e =
+pub joined_stop : (op : LogicalAggregateOp) (row first items : List Reply) (i : ℕ) (d : Reply) → JoinedSoFar op row first items i → i < length first → bit_in (get_or row i d) ≡ None → joined_items op first items ≡ None
+joined_stop op row first items i d s l e =
     sym s.rest
-    ∙ ap (λ xs. before s.bits (joined_items And xs (drop i items))) (drop_more first i d l)
-    ∙ ap (before s.bits) (no_bit (get_or first i d) (drop (i + 1) first) (drop i items) (ap bit_in (sym (own_item row first items i d s l)) ∙ e))
+    ∙ ap (λ xs. before s.bits (joined_items op xs (drop i items))) (drop_more first i d l)
+    ∙ ap (before s.bits) (no_bit op (get_or first i d) (drop (i + 1) first) (drop i items) (ap bit_in (sym (own_item op row first items i d s l)) ∙ e))
 
-pub joined_stop_at_other : (row first items : List Reply) (i : ℕ) (d : Reply) → JoinedSoFar row first items i → i < length items → bit_in (get_or items i d) ≡ None → joined_items And first items ≡ None
-joined_stop_at_other row first items i d s l e =
+pub joined_stop_at_other : (op : LogicalAggregateOp) (row first items : List Reply) (i : ℕ) (d : Reply) → JoinedSoFar op row first items i → i < length items → bit_in (get_or items i d) ≡ None → joined_items op first items ≡ None
+joined_stop_at_other op row first items i d s l e =
     sym s.rest
-    ∙ ap (λ ys. before s.bits (joined_items And (drop i first) ys)) (drop_more items i d l)
-    ∙ ap (before s.bits) (no_other_bit (get_or items i d) (drop i first) (drop (i + 1) items) e)
+    ∙ ap (λ ys. before s.bits (joined_items op (drop i first) ys)) (drop_more items i d l)
+    ∙ ap (before s.bits) (no_other_bit op (get_or items i d) (drop i first) (drop (i + 1) items) e)
 
 -- all places are joined
 pub record JoinedRow (row : List Reply) (made : Option (List Bool)) : Type 0 where
   pub is : bits_among row ≡ made
   pub there : is_some made ≡ true
 
-pub joined_all_places : (row first items : List Reply) (i : ℕ) → JoinedSoFar row first items i → length first ≤ i → length first ≡ length items → JoinedRow row (joined_items And first items)
-joined_all_places row first items i s l n =
+pub joined_all_places : (op : LogicalAggregateOp) (row first items : List Reply) (i : ℕ) → JoinedSoFar op row first items i → length first ≤ i → length first ≡ length items → JoinedRow row (joined_items op first items)
+joined_all_places op row first items i s l n =
     let none : drop i first ≡ [] = drop_all i first l in
-    let whole : Some s.bits ≡ joined_items And first items =
+    let whole : Some s.bits ≡ joined_items op first items =
     ap Some (sym (append-nil s.bits))
-    ∙ ap (λ ys. before s.bits (joined_items And [] ys)) (sym (drop_all i items (omega arith)))
-    ∙ ap (λ xs. before s.bits (joined_items And xs (drop i items))) (sym none)
+    ∙ ap (λ ys. before s.bits (joined_items op [] ys)) (sym (drop_all i items (omega arith)))
+    ∙ ap (λ xs. before s.bits (joined_items op xs (drop i items))) (sym none)
     ∙ s.rest in
     record {
       is = ap bits_among (s.row_is ∙ ap (λ xs. map as_int s.bits ++ xs) none ∙ append-nil (map as_int s.bits)) ∙ bits_of_ints s.bits ∙ whole;
@@ -148,66 +149,75 @@ abbrev pub joined_replies : LogicalAggregateOp → List Reply → List Reply →
 joined_replies op row replies = option_and_then (λ bits. option_and_then (joined_rows op bits) (all_rows replies)) (bits_among row)
 
 -- the bits that two rows make
-both_at : (a b : List Bool) (k : ℕ) → get_or (joined And a b) k false ≡ (get_or a k false && get_or b k false)
-both_at [] b k = refl
-both_at (x ∷ a) [] k = sym (and_false (get_or (x ∷ a) k false))
-  where
-    and_false : (c : Bool) → (c && false) ≡ false
-    and_false true = refl
-    and_false false = refl
-both_at (x ∷ a) (y ∷ b) zero = refl
-both_at (x ∷ a) (y ∷ b) (suc k) = both_at a b k
+both_at : (op : LogicalAggregateOp) (a b : List Bool) (k : ℕ) → length b ≡ length a → get_or (joined op a b) k false ≡ joined_bit op (get_or a k false) (get_or b k false)
+both_at And [] [] k n = refl
+both_at Or [] [] k n = refl
+both_at op [] (y ∷ b) k n = absurd (omega arith)
+both_at op (x ∷ a) [] k n = absurd (omega arith)
+both_at op (x ∷ a) (y ∷ b) zero n = refl
+both_at op (x ∷ a) (y ∷ b) (suc k) n = both_at op a b k (omega arith)
 
-length-joined : (a b : List Bool) → length b ≡ length a → length (joined And a b) ≡ length a
-length-joined [] b n = refl
-length-joined (x ∷ a) [] n = absurd (omega arith)
-length-joined (x ∷ a) (y ∷ b) n = ap suc (length-joined a b (omega arith))
+length-joined : (op : LogicalAggregateOp) (a b : List Bool) → length b ≡ length a → length (joined op a b) ≡ length a
+length-joined op [] b n = refl
+length-joined op (x ∷ a) [] n = absurd (omega arith)
+length-joined op (x ∷ a) (y ∷ b) n = ap suc (length-joined op a b (omega arith))
 
-map_same : {X Y : Type 0} (f g : X → Y) → ((x : X) → f x ≡ g x) → (xs : List X) → map f xs ≡ map g xs
+pub map_same : {X Y : Type 0} (f g : X → Y) → ((x : X) → f x ≡ g x) → (xs : List X) → map f xs ≡ map g xs
 map_same f g h [] = refl
 map_same f g h (x ∷ xs) = ap (λ y. y ∷ map f xs) (h x) ∙ ap (λ ys. g x ∷ ys) (map_same f g h xs)
 
+-- the first bit is joined to what the others make
+more_bits : (op : LogicalAggregateOp) (x : Bool) (bits : List Bool) → combined_bit op (x ∷ bits) ≡ joined_bit op x (combined_bit op bits)
+more_bits And x bits = refl
+more_bits Or x bits = refl
+
+one_bit : (op : LogicalAggregateOp) (x : Bool) → combined_bit op (x ∷ []) ≡ x
+one_bit And true = refl
+one_bit And false = refl
+one_bit Or true = refl
+one_bit Or false = refl
+
+joined_first : (op : LogicalAggregateOp) (x y z : Bool) → joined_bit op (joined_bit op x y) z ≡ joined_bit op x (joined_bit op y z)
+joined_first And true y z = refl
+joined_first And false y z = refl
+joined_first Or true y z = refl
+joined_first Or false y z = refl
+
+-- two bits and the one that they make are alike to the others
+two_bits : (op : LogicalAggregateOp) (x y : Bool) (bits : List Bool) → combined_bit op (joined_bit op x y ∷ bits) ≡ combined_bit op (x ∷ (y ∷ bits))
+two_bits op x y bits =
+    more_bits op (joined_bit op x y) bits
+    ∙ joined_first op x y (combined_bit op bits)
+    ∙ sym (ap (joined_bit op x) (more_bits op y bits))
+    ∙ sym (more_bits op x (y ∷ bits))
+
 -- two rows and what they make are alike to the others
-combined_same : (a b : List Bool) (bs : List (List Bool)) (width : ℕ) → combined_bits And (joined And a b ∷ bs) width ≡ combined_bits And (a ∷ (b ∷ bs)) width
-combined_same a b bs width = map_same _ _ (λ k. ap as_int (ap (λ x. x && rest k) (both_at a b k) ∙ and_assoc (get_or a k false) (get_or b k false) (rest k))) (range_with_len 0 width)
-  where
-    rest : ℕ → Bool
-    rest k = list_all (λ bit. bit) (column bs k)
+combined_same : (op : LogicalAggregateOp) (a b : List Bool) (bs : List (List Bool)) (width : ℕ) → length b ≡ length a → combined_bits op (joined op a b ∷ bs) width ≡ combined_bits op (a ∷ (b ∷ bs)) width
+combined_same op a b bs width n = map_same _ _ (λ k. ap as_int (ap (λ x. combined_bit op (x ∷ column bs k)) (both_at op a b k n) ∙ two_bits op (get_or a k false) (get_or b k false) (column bs k))) (range_with_len 0 width)
 
-    and_assoc : (x y z : Bool) → ((x && y) && z) ≡ (x && (y && z))
-    and_assoc true y z = refl
-    and_assoc false y z = refl
-
-alone : (a : List Bool) → map as_int a ≡ combined_bits And (a ∷ []) (length a)
-alone a = fill_by_all (λ k. as_int (get_or a k false && true)) (map as_int a) (length a) (as_int false) (length-map a as_int)
-    (λ k l. get_or-map as_int a k false (as_int false) l ∙ ap as_int (sym (and_true (get_or a k false))))
-  where
-    and_true : (b : Bool) → (b && true) ≡ b
-    and_true true = refl
-    and_true false = refl
+alone : (op : LogicalAggregateOp) (a : List Bool) → map as_int a ≡ combined_bits op (a ∷ []) (length a)
+alone op a = fill_by_all (λ k. as_int (combined_bit op (get_or a k false ∷ []))) (map as_int a) (length a) (as_int false) (length-map a as_int)
+    (λ k l. get_or-map as_int a k false (as_int false) l ∙ ap as_int (sym (one_bit op (get_or a k false))))
 
 -- what the columns of some rows make, if these are of this length
-abbrev by_columns : List (List Bool) → List (List Bool) → ℕ → Option (List Reply)
-by_columns rows others width = option_map (combined_bits And rows) (cond (list_all (λ row. eqb (length row) width) others) (Some width) None)
+abbrev by_columns : LogicalAggregateOp → List (List Bool) → List (List Bool) → ℕ → Option (List Reply)
+by_columns op rows others width = option_map (combined_bits op rows) (cond (list_all (λ row. eqb (length row) width) others) (Some width) None)
 
 -- what the columns make is what the rows make
-columns_are_rows : (a : List Bool) (bs : List (List Bool)) → by_columns (a ∷ bs) bs (length a) ≡ option_map (map as_int) (joined_rows And a bs)
-columns_are_rows a [] = ap Some (sym (alone a))
-columns_are_rows a (b ∷ bs) = by_test (eqb (length b) (length a))
-    (λ t. ap (λ c. option_map (combined_bits And (a ∷ (b ∷ bs))) (cond (c && list_all (λ row. eqb (length row) (length a)) bs) (Some (length a)) None)) t
-    ∙ same_columns (cond (list_all (λ row. eqb (length row) (length a)) bs) (Some (length a)) None)
-    ∙ ap (by_columns (joined And a b ∷ bs) bs) (sym (length-joined a b (eqb-true (length b) (length a) t)))
-    ∙ columns_are_rows (joined And a b) bs
-    ∙ ap (λ c. option_map (map as_int) (cond c (joined_rows And (joined And a b) bs) None)) (sym t))
-    (λ f. ap (λ c. option_map (combined_bits And (a ∷ (b ∷ bs))) (cond (c && list_all (λ row. eqb (length row) (length a)) bs) (Some (length a)) None)) f
-    ∙ ap (λ c. option_map (map as_int) (cond c (joined_rows And (joined And a b) bs) None)) (sym f))
+columns_and_rows : (op : LogicalAggregateOp) (a : List Bool) (bs : List (List Bool)) → by_columns op (a ∷ bs) bs (length a) ≡ option_map (map as_int) (joined_rows op a bs)
+columns_and_rows op a [] = ap Some (sym (alone op a))
+columns_and_rows op a (b ∷ bs) = by_test (eqb (length b) (length a))
+    (λ t. ap (λ c. option_map (combined_bits op (a ∷ (b ∷ bs))) (cond (c && list_all (λ row. eqb (length row) (length a)) bs) (Some (length a)) None)) t
+    ∙ same_columns (eqb-true (length b) (length a) t) (cond (list_all (λ row. eqb (length row) (length a)) bs) (Some (length a)) None)
+    ∙ ap (by_columns op (joined op a b ∷ bs) bs) (sym (length-joined op a b (eqb-true (length b) (length a) t)))
+    ∙ columns_and_rows op (joined op a b) bs
+    ∙ ap (λ c. option_map (map as_int) (cond c (joined_rows op (joined op a b) bs) None)) (sym t))
+    (λ f. ap (λ c. option_map (combined_bits op (a ∷ (b ∷ bs))) (cond (c && list_all (λ row. eqb (length row) (length a)) bs) (Some (length a)) None)) f
+    ∙ ap (λ c. option_map (map as_int) (cond c (joined_rows op (joined op a b) bs) None)) (sym f))
   where
-    same_columns : (o : Option ℕ) → option_map (combined_bits And (a ∷ (b ∷ bs))) o ≡ option_map (combined_bits And (joined And a b ∷ bs)) o
-    same_columns None = refl
-    same_columns (Some width) = ap Some (sym (combined_same a b bs width))
-
-columns_and_rows : (op : LogicalAggregateOp) (a : List Bool) (bs : List (List Bool)) → option_map (combined_bits op (a ∷ bs)) (common_length (a ∷ bs)) ≡ option_map (map as_int) (joined_rows op a bs)
-columns_and_rows And a bs = columns_are_rows a bs
+    same_columns : length b ≡ length a → (o : Option ℕ) → option_map (combined_bits op (a ∷ (b ∷ bs))) o ≡ option_map (combined_bits op (joined op a b ∷ bs)) o
+    same_columns n None = refl
+    same_columns n (Some width) = ap Some (sym (combined_same op a b bs width n))
 
 first_and_rest : (o : Option (List Bool)) (os : List (Option (List Bool))) → all_some (o ∷ os) ≡ option_and_then (λ a. option_map (λ bs. a ∷ bs) (all_some os)) o
 first_and_rest None os = refl

@@ -1,5 +1,6 @@
 pub mod Ahead
 pub mod AtPlaces
+pub mod BitOrders
 pub mod ByKey
 pub mod Combining
 pub mod Arranging

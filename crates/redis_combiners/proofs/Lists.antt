@@ -1,7 +1,9 @@
 -- Lists of what may be missing.
 use Rattle.std.proofs.Common.{◌≡◌, ℕ, zero, suc, ◌<◌, List, [], ◌∷◌, length, get_or, map, Option, Some, None, Bool, true, false, cond, refl, ap, sym, ◌∙◌, arith}
-use Rattle.std.specs.Prelude.{option_map, is_none, unwrap_or, ◌||◌}
+use Rattle.std.specs.Prelude.{option_map, option_and_then, is_none, unwrap_or, ◌||◌}
 use Rattle.std.specs.List.{list_any}
+use Rattle.std.specs.List.Sorted.{IsPermutation}
+use Rattle.std.proofs.lemmas.List.Sorted.{IsPermutation-map, list_any-IsPermutation}
 use Rattle.redis_commands.specs.Lists.{all_some}
 
 -- what is there of each, if nothing is missing
@@ -14,6 +16,24 @@ all_some_is {A} {X} f d (x ∷ xs) = more (f x) (list_any (λ y. is_none (f y)) 
     more None b e = refl
     more (Some y) true e = ap (option_map (λ ys. y ∷ ys)) e
     more (Some y) false e = ap (option_map (λ ys. y ∷ ys)) e
+
+-- what is made of what is there of each, where the order does not count
+pub any_order_of : {A X Y : Type 0} (f : A → Option X) (d : X) (made : List X → Option Y) → ((xs ys : List X) → IsPermutation xs ys → made ys ≡ made xs) → (these those : List A) → IsPermutation these those → option_and_then made (all_some (map f those)) ≡ option_and_then made (all_some (map f these))
+any_order_of {A} {X} {Y} f d made same these those h =
+    ap (option_and_then made) (all_some_is f d those)
+    ∙ ap (λ b. option_and_then made (cond b None (Some (map of those)))) (sym (list_any-IsPermutation is_missing these those h))
+    ∙ by_cases (list_any is_missing these)
+    ∙ sym (ap (option_and_then made) (all_some_is f d these))
+  where
+    is_missing : A → Bool
+    is_missing a = is_none (f a)
+
+    of : A → X
+    of a = unwrap_or (f a) d
+
+    by_cases : (b : Bool) → option_and_then made (cond b None (Some (map of those))) ≡ option_and_then made (cond b None (Some (map of these)))
+    by_cases true = refl
+    by_cases false = same (map of these) (map of those) (IsPermutation-map of these those h)
 
 -- where nothing is missing: the first, and the others
 pub record FirstAndOthers {X : Type 0} (o : Option X) (os : List (Option X)) (xs : List X) : Type 0 where

@@ -1,12 +1,11 @@
 -- The order of the replies does not count.
-use Rattle.std.proofs.Common.{◌≡◌, ℕ, ◌+◌, List, [], ◌∷◌, sym, ap, ◌∙◌, refl, arith, map, ◌-◌, ◌^◌, fold, ℤ, pos, ◌+ℤ◌, ◌≤ℤ◌, Option, Some, None, Bool, true, false, cond, ⊎_elim, subst}
+use Rattle.std.proofs.Common.{◌≡◌, ℕ, ◌+◌, List, [], ◌∷◌, sym, ap, ◌∙◌, refl, arith, ◌-◌, ◌^◌, fold, ℤ, pos, ◌+ℤ◌, ◌≤ℤ◌, Option, Some, None, ⊎_elim, subst}
 use lib.IntN.{negsuc}
-use Rattle.std.specs.Prelude.{option_map, option_and_then, is_none, unwrap_or, sum_by}
+use Rattle.std.specs.Prelude.{option_map, option_and_then, sum_by}
 use Rattle.std.specs.Int.{int_min}
-use Rattle.std.specs.List.{list_any}
 use Rattle.std.specs.List.Sorted.{IsPermutation}
 use Rattle.std.proofs.lemmas.Int.{ints, fold-int_min_bounds, fold-int_min_reached}
-use Rattle.std.proofs.lemmas.List.Sorted.{IsPermutation-map, IsPermutation-sym, sum_by-IsPermutation, list_any-IsPermutation, Contains-permutation}
+use Rattle.std.proofs.lemmas.List.Sorted.{IsPermutation-sym, sum_by-IsPermutation, Contains-permutation}
 use Rattle.std.proofs.lemmas.List.Sums.{sum_by-cons}
 use Rattle.std.proofs.lemmas.List.Elements.{All-contains}
 use borrow.Author.Differences.{up, down}
@@ -14,28 +13,11 @@ use Rattle.resp_core.specs.Reply.{Reply, int_of, int}
 use Rattle.redis_combiners.specs.Aggregate.{numbers, in_i64, total, aggregate_of}
 use Rattle.redis_commands.specs.declared.policy.AggregateOp.{AggregateOp}
 use Rattle.redis_commands.specs.declared.policy.AggregateOp.TheVariants.{Min, Sum}
-use Rattle.redis_combiners.proofs.Lists.{all_some_is}
-
-abbrev is_no_number : Reply → Bool
-is_no_number reply = is_none (int_of reply)
-
-abbrev number : Reply → ℤ
-number reply = unwrap_or (int_of reply) (pos 0)
-
-numbers_are : (rs : List Reply) → numbers rs ≡ cond (list_any is_no_number rs) None (Some (map number rs))
-numbers_are rs = all_some_is int_of (pos 0) rs
+use Rattle.redis_combiners.proofs.Lists.{any_order_of}
 
 -- what is made of the numbers, where their order does not count
 same_of : (f : List ℤ → Option ℤ) → ((xs ys : List ℤ) → IsPermutation xs ys → f ys ≡ f xs) → (rs others : List Reply) → IsPermutation rs others → option_and_then f (numbers others) ≡ option_and_then f (numbers rs)
-same_of f same rs others h =
-    ap (option_and_then f) (numbers_are others)
-    ∙ ap (λ b. option_and_then f (cond b None (Some (map number others)))) (sym (list_any-IsPermutation is_no_number rs others h))
-    ∙ by_cases (list_any is_no_number rs)
-    ∙ sym (ap (option_and_then f) (numbers_are rs))
-  where
-    by_cases : (b : Bool) → option_and_then f (cond b None (Some (map number others))) ≡ option_and_then f (cond b None (Some (map number rs)))
-    by_cases true = refl
-    by_cases false = same (map number rs) (map number others) (IsPermutation-map number rs others h)
+same_of f same rs others h = any_order_of int_of (pos 0) f same rs others h
 
 total_step : (t a x : ℤ) (d u : ℕ) → t +ℤ pos d ≡ (a +ℤ x) +ℤ pos u → t +ℤ pos (down x + d) ≡ a +ℤ pos (up x + u)
 total_step t a (pos n) d u e = omega (arith, ints)

@@ -1,10 +1,10 @@
 -- One array of 0 and 1 for replies that are such arrays.
-use Rattle.std.specs.Prelude.{ℕ, pos, Bool, true, false, List, [], ◌∷◌, length, map, Option, Some, None, ◌==◌, ◌&&◌, option_and_then, option_map, slice_index_or, if◌then◌else◌}
-use Rattle.std.specs.List.{range_with_len, list_all, zip}
+use Rattle.std.specs.Prelude.{ℕ, pos, Bool, true, false, List, [], ◌∷◌, length, map, Option, Some, None, ◌==◌, ◌&&◌, ◌||◌, option_and_then, option_map, slice_index_or, if◌then◌else◌}
+use Rattle.std.specs.List.{range_with_len, list_all, list_any, zip}
 use Rattle.resp_core.specs.Reply.{Reply, int}
 use Rattle.redis_combiners.specs.Bits.{bits_among, all_rows}
 use Rattle.redis_commands.specs.declared.policy.LogicalAggregateOp.{LogicalAggregateOp}
-use Rattle.redis_commands.specs.declared.policy.LogicalAggregateOp.TheVariants.{And}
+use Rattle.redis_commands.specs.declared.policy.LogicalAggregateOp.TheVariants.{And, Or}
 
 -- the length of the rows, if all have the same; without rows it is 0
 abbrev pub common_length : List (List Bool) → Option ℕ
@@ -17,9 +17,10 @@ common_length (first ∷ others) =
 abbrev pub column : List (List Bool) → ℕ → List Bool
 column rows place = map (λ row. slice_index_or row place false) rows
 
--- the bit that those at one place make: with And, whether all are 1
+-- the bit that those at one place make: with And, whether all are 1; with Or, whether some is
 abbrev pub combined_bit : LogicalAggregateOp → List Bool → Bool
 combined_bit And bits = list_all (λ bit. bit) bits
+combined_bit Or bits = list_any (λ bit. bit) bits
 
 -- the bit as a reply
 abbrev pub as_int : Bool → Reply
@@ -31,9 +32,14 @@ abbrev pub combined_bits : LogicalAggregateOp → List (List Bool) → ℕ → L
 combined_bits op rows width =
     map (λ place. as_int (combined_bit op (column rows place))) (range_with_len 0 width)
 
--- what the bits of two rows make, place by place: with And, whether both are 1
+-- the bit that two make
+abbrev pub joined_bit : LogicalAggregateOp → Bool → Bool → Bool
+joined_bit And a b = a && b
+joined_bit Or a b = a || b
+
+-- what the bits of two rows make, place by place
 abbrev pub joined : LogicalAggregateOp → List Bool → List Bool → List Bool
-joined And row other = map (λ pair. pair.0 && pair.1) (zip row other)
+joined op row other = map (λ pair. joined_bit op pair.0 pair.1) (zip row other)
 
 -- what the items of two replies make, if each is 0 or 1
 abbrev pub joined_items : LogicalAggregateOp → List Reply → List Reply → Option (List Bool)

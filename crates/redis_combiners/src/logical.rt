@@ -1,34 +1,37 @@
-ghost use Rattle.std.specs.Prelude.{◌≡◌, IsTrue, is_some, map, length, MatchResult, option_map, option_and_then, None, Some};
-ghost use Rattle.resp_core.specs.Reply.{array, int_of, replies_of};
+ghost use Rattle.std.specs.Prelude.{◌≡◌, IsTrue, is_some, List, map, length, MatchResult, option_map, option_and_then, None, Some, IsPermutation};
+ghost use Rattle.resp_core.specs.Reply.{Reply, array, int_of, replies_of};
 ghost use Rattle.resp_core.specs.View.{view};
 ghost use Rattle.resp_core.specs.declared.error.ErrorKind.TheVariants.{UnexpectedReturnType};
-ghost use Rattle.redis_commands.specs.declared.policy.LogicalAggregateOp.TheVariants.{And};
 ghost use Rattle.redis_combiners.specs.Bits.{bit_of, bits_among};
-ghost use Rattle.redis_combiners.specs.Logical.{as_int, joined_items, logical_items};
+ghost use Rattle.redis_combiners.specs.Logical.{as_int, joined_bit, joined_items, logical_items};
 
 use redis_commands::LogicalAggregateOp;
 use resp_core::{ErrorKind, RedisError, RedisResult, Value};
 use std::alloc::Global;
 
-/// One array of 0 and 1 for replies that are such arrays, all of one length: a place has 1 exactly
-/// where all replies have 1 there, as a script of `SCRIPT EXISTS` is there where each primary has
-/// it. No replies make an empty array. It takes no memory.
+/// One array of 0 and 1 for replies that are such arrays, all of one length. With `And` a place has
+/// 1 exactly where all replies have 1 there, as a script of `SCRIPT EXISTS` is there where each
+/// primary has it; with `Or` exactly where some reply has 1 there. No replies make an empty array.
+/// The order of the replies does not matter. It takes no memory.
 ///
 /// # Errors
 ///
 /// `UnexpectedReturnType` where a reply is not an array of 0 and 1, or its length is not that of
 /// the first.
+#[tactic(auto, using(crate::proofs::BitOrders::any_order))]
 pub fn logical_aggregate(
     alloc: Global,
     values: Vec<Value>,
     op: LogicalAggregateOp,
 ) -> RedisResult<Value>
-    ensures { MatchResult result
+    ensures answer { MatchResult result
         (λ value. option_map (λ items. array (replies_of items))
         (logical_items op (map view values.items))
         ≡ Some (view value))
         (λ fault. (logical_items op (map view values.items) ≡ None)
         × (fault.kind ≡ UnexpectedReturnType)) }
+    ensures any_order { (others : List Reply) → IsPermutation (map view values.items) others
+        → logical_items op others ≡ logical_items op (map view values.items) }
 {
     match items(alloc, values, op) {
         Some(items) => Ok(Value::Array(items)),
@@ -88,17 +91,6 @@ fn join(row: &mut [Value], items: &[Value], op: LogicalAggregateOp) -> bool
     ensures joined { IsTrue result → bits_among (map view row.new)
         ≡ joined_items op (map view row.old) (map view items.now) }
 {
-    match op {
-        LogicalAggregateOp::And => join_by_and(row, items),
-    }
-}
-
-fn join_by_and(row: &mut [Value], items: &[Value]) -> bool
-    requires { length row.old ≡ length items.now }
-    ensures bits { result ≡ is_some (joined_items And (map view row.old) (map view items.now)) }
-    ensures joined { IsTrue result → bits_among (map view row.new)
-        ≡ joined_items And (map view row.old) (map view items.now) }
-{
     for i in 0..row.len() {
         let Some(own) = bit(&row[i]) else {
             return false;
@@ -106,9 +98,19 @@ fn join_by_and(row: &mut [Value], items: &[Value]) -> bool
         let Some(other) = bit(&items[i]) else {
             return false;
         };
-        put_bit(&mut row[i], own & other);
+        put_bit(&mut row[i], join_bits(own, other, op));
     }
     true
+}
+
+/// The bit that two make.
+fn join_bits(own: bool, other: bool, op: LogicalAggregateOp) -> bool
+    ensures { result ≡ joined_bit op own other }
+{
+    match op {
+        LogicalAggregateOp::And => own & other,
+        LogicalAggregateOp::Or => own | other,
+    }
 }
 
 /// Whether the item is 1, if it is 0 or 1.

@@ -8,6 +8,8 @@ use super::route_by::routing_and_policy;
 pub enum LogicalAggregateOp {
     /// 1 where every reply has 1: `SCRIPT EXISTS sha1`.
     And,
+    /// 1 where some reply has 1. No name of a command has this policy.
+    Or,
 }
 
 /// How the numbers in the replies of several nodes make one.
