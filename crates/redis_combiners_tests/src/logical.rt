@@ -33,23 +33,50 @@ fn a_place_is_set_where_all_are(rt: HostRuntime) -> Result<(), Fail> {
 }
 
 #[test]
-fn other_numbers_and_other_lengths_are_refused(rt: HostRuntime) -> Result<(), Fail> {
+fn a_place_is_set_where_some_is(rt: HostRuntime) -> Result<(), Fail> {
     let alloc = rt.alloc();
-    let table: [&[&[i64]]; 5] = [
+    let table: [(&[&[i64]], &[i64]); 6] = [
+        (&[&[1, 0], &[0, 0]], &[1, 0]),
+        (&[&[1, 1, 0, 0], &[1, 0, 1, 0]], &[1, 1, 1, 0]),
+        (&[&[0, 0, 0], &[0, 0, 1], &[0, 1, 0]], &[0, 1, 1]),
+        (&[&[0]], &[0]),
+        (&[&[], &[]], &[]),
+        (&[], &[]),
+    ];
+    for (replies, want) in table {
+        let answer = logical_aggregate(alloc, arrays(alloc, replies)?, LogicalAggregateOp::Or)?;
+        assert!(rt; answer == array(alloc, want)?, "{replies:?}");
+    }
+    Ok(())
+}
+
+/// The kind of error that an operation on the replies is refused with.
+fn refusal(
+    alloc: Global,
+    replies: &[&[i64]],
+    op: LogicalAggregateOp,
+) -> Result<Option<ErrorKind>, AllocError> {
+    let refused = logical_aggregate(alloc, arrays(alloc, replies)?, op).err();
+    Ok(refused.map(|error| error.kind()))
+}
+
+#[test]
+fn other_numbers_and_other_lengths_are_refused(rt: HostRuntime) -> Result<(), Fail> {
+    let table: [&[&[i64]]; 7] = [
         &[&[2]],
+        &[&[1], &[2]],
+        &[&[0], &[2]],
         &[&[1], &[-1]],
         &[&[], &[1]],
         &[&[1], &[1, 0]],
         &[&[1, 0], &[]],
     ];
     for replies in table {
-        let refused = logical_aggregate(alloc, arrays(alloc, replies)?, LogicalAggregateOp::And);
-        let error = refused.err().ok_or("no error")?;
-        assert_eq!(rt;
-            error.kind(),
-            ErrorKind::UnexpectedReturnType,
-            "{replies:?}"
-        );
+        for op in [LogicalAggregateOp::And, LogicalAggregateOp::Or] {
+            let refused = refusal(rt.alloc(), replies, op)?;
+            let want = Some(ErrorKind::UnexpectedReturnType);
+            assert_eq!(rt; refused, want, "{op:?} of {replies:?}");
+        }
     }
     Ok(())
 }
