@@ -6,6 +6,8 @@ mod for_routable;
 #[cfg(test)]
 mod helpers;
 #[cfg(test)]
+mod hostile;
+#[cfg(test)]
 mod info;
 #[cfg(test)]
 mod policy;

@@ -8,6 +8,8 @@ mod faults;
 #[cfg(test)]
 mod given;
 #[cfg(test)]
+mod hostile;
+#[cfg(test)]
 mod json_paths;
 #[cfg(test)]
 mod nodes_in_memory;
