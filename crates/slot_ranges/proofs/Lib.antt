@@ -1,4 +1,5 @@
 pub mod Bulk
+pub mod Clones
 pub mod Finds
 pub mod Places
 pub mod Ranges

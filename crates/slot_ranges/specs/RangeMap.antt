@@ -35,6 +35,11 @@ insert_entry es start end value =
 abbrev pub insert_entries : {V : Type 0} → List (Entry V) → List (Entry V) → List (Entry V)
 insert_entries es more = fold (λ es e. insert_entry es e.0 e.1 (value_of e)) es more
 
+-- the entry has the start and the end of another, and a clone of its value
+abbrev pub IsEntryClone : {V : Type 0} → (V → V → Type 0) → Entry V → Entry V → Type 0
+IsEntryClone IsClone e copy =
+    (copy.0 ≡ e.0) × (end_of copy ≡ end_of e) × IsClone (value_of e) (value_of copy)
+
 -- the entry holds the slot, and none ends between the slot and the end of this one
 pub record IsAnswerAt {V : Type 0} (es : List (Entry V)) (slot : ℕ) (value : V) : Type 0 where
   pub start : ℕ

@@ -1,9 +1,10 @@
 ghost use Rattle.std.specs.Prelude.{◌≡◌, ◌≤◌, nat_lt, [], length, map, filter, slice_get, IsOk, IfOk, OnOk, OnErr, MatchOption};
+ghost use Rattle.std.specs.List.{AllZip};
 ghost use Rattle.std.specs.List.Sorted.{IsNonDecreasing};
 ghost use Rattle.std.specs.Vec.{vec_capacity};
 ghost use Rattle.std.specs.Slice.Iter.{iter_rest};
 ghost use Rattle.std.specs.Iterator.{YieldsFirstBy, YieldsFirstRef, item_count};
-ghost use Rattle.slot_ranges.specs.RangeMap.{Entry, end_of, ends_at, value_of, Ascends, IsAnswerAt, IsUncovered, AreDisjoint, IsHeldByNone, IsHeldWith, insert_entries, insert_entry};
+ghost use Rattle.slot_ranges.specs.RangeMap.{Entry, end_of, ends_at, value_of, Ascends, IsAnswerAt, IsUncovered, AreDisjoint, IsEntryClone, IsHeldByNone, IsHeldWith, insert_entries, insert_entry};
 
 use std::alloc::{AllocError, Global};
 use std::marker::Model;
@@ -233,15 +234,15 @@ fn sort_by_end<V: Drop>(ranges: &mut Vec<(u16, u16, V)>) -> Result<(), AllocErro
     Ok(())
 }
 
-impl<V: Clone> SlotRangeMap<V> {
-    /// A copy, for values whose clones equal them.
-    ///
-    /// # Errors
-    ///
-    /// If memory runs out.
-    pub fn clone(&self) -> Result<Self, AllocError>
-        requires { (v w : V) → V.is_clone v w → w ≡ v }
-        ensures { IfOk result (λ map. map ≡ self.now) }
+/// A clone has the ranges of its source, each with a clone of its value.
+impl<V: Clone> Clone for SlotRangeMap<V> {
+    ghost is_clone = { AllZip (IsEntryClone V.is_clone) };
+
+    fn clone(&self) -> Result<Self, AllocError>
+        ensures entries { IfOk result (AllZip (IsEntryClone V.is_clone) self.now) }
+        // Where clones of values equal them, so do clones of maps.
+        ensures same { IfOk result
+            (λ copy. ((v w : V) → V.is_clone v w → w ≡ v) → copy ≡ self.now) }
     {
         Ok(SlotRangeMap {
             ends: self.ends.clone()?,

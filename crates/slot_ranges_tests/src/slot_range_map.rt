@@ -113,6 +113,26 @@ fn values_are_listed_copied_and_cleared(rt: HostRuntime) -> Result<(), Fail> {
     Ok(())
 }
 
+// A map of one range, whose value is an owned text.
+fn map_of_text(alloc: Global, text: &str) -> Result<SlotRangeMap<String>, AllocError> {
+    let mut map = SlotRangeMap::new(alloc);
+    map.insert(5, 30, String::from_str(alloc, text)?)?;
+    Ok(map)
+}
+
+#[test]
+fn a_map_of_owned_texts_is_cloned(rt: HostRuntime) -> Result<(), Fail> {
+    let mut map = map_of_text(rt.alloc(), "a")?;
+    let copy = map.clone()?;
+    map.clear();
+    let printed = format!(in rt.alloc(); "{copy:?}")?;
+    assert_eq!(rt;
+        printed.as_str(),
+        "SlotRangeMap { ranges: {30: (5, \"a\")} }"
+    );
+    Ok(())
+}
+
 #[test]
 fn a_map_prints_its_ranges_from_their_ends(rt: HostRuntime) -> Result<(), Fail> {
     let map = map_of(rt.alloc(), &[(20, 30, "b"), (0, 10, "a"), (5, 30, "c")])?;
