@@ -22,7 +22,7 @@ use Rattle.redis_cluster.specs.Trace.{Entry, Ending, refused}
 use Rattle.redis_driver.specs.declared.fault.DriveFault.{DriveFault}
 use Rattle.redis_driver.specs.declared.fault.DriveFault.TheVariants as drive
 use Rattle.resp_core.specs.Reply.{Reply}
-use Rattle.slotroute_run.specs.Commands.{only_reads, AreReadOnly, IsRunNode, IsCommandRun, WhyNotRun}
+use Rattle.slotroute_run.specs.Commands.{only_reads, AreReadOnly, IsRunNode, IsCommandRun, IsUnsent, WhyNotRun}
 use Rattle.slotroute_run.specs.Direction.{send_order, IsOrderOf}
 use Rattle.slotroute_run.specs.Printed.{command_lines}
 use Rattle.slotroute_run.specs.Refusals.{fault_of_drive}
@@ -84,6 +84,16 @@ module _ (IsNode : SlotRoute → Address → Type 0) (names words : List (List �
   why_not_run are willing drive.Memory count other f = tt
   why_not_run are willing (drive.Node error) count other f = absurd (willing (length f.before) (refused error) f.allowed)
   why_not_run are willing (drive.Reply error) count other f = absurd f
+
+  -- what the driver refuses before it sends leaves keys and trace, and no node refuses
+  pub unsent : ((count : ℕ) (ending : Ending) → ¬ (may_refuse count ending)) → (fault : DriveFault) (count : ℕ)
+      → IsFault IsNode step (request (map Some words) (is_among names) entries order) old new may_refuse fault count → IsUnsent (fault_of_drive fault) old.keyspace new.keyspace old.trace new.trace
+  unsent willing drive.NotMultiKey count f = (f.1.keyspace, f.1.trace)
+  unsent willing (drive.NotCovered slot) count f = (f.1.keyspace, f.1.trace)
+  unsent willing drive.BadOrder count f = (f.1.keyspace, f.1.trace)
+  unsent willing drive.Memory count f = tt
+  unsent willing (drive.Node error) count f = absurd (willing (length f.before) (refused error) f.allowed)
+  unsent willing (drive.Reply error) count f = absurd f
 
   -- an order of the direction is not refused
   pub good_order : (direction : Direction) (fault : DriveFault) (count : ℕ) → IsOrderOf direction (is_among names) words order

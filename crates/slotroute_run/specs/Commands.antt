@@ -61,6 +61,12 @@ abbrev pub WhyNotRun : List (Entry SlotNodes) → List (List ℕ) → CommandFau
 WhyNotRun entries words (Refused refusal) = IsRefused entries words refusal
 WhyNotRun entries words Memory = ⊤
 
+-- a refused command leaves the keys and the trace as they were
+abbrev pub IsUnsent : CommandFault → (old new : Keyspace Cell) → (before after : List trace.Entry)
+    → Type 0
+IsUnsent (Refused refusal) old new before after = (new ≡ old) × (after ≡ before)
+IsUnsent Memory old new before after = ⊤
+
 -- the nodes refuse nothing
 abbrev pub AreWilling : MemoryNodes → Type 0
 AreWilling nodes = (count : ℕ) (ending : Ending) → ¬ (MayRefuse nodes count ending)

@@ -4,7 +4,7 @@ ghost use Rattle.redis_cluster.specs.ReadOnly.{is_among};
 ghost use Rattle.resp_core.specs.View.{view};
 ghost use Rattle.memory_nodes.specs.Nodes.{keyspace_in, trace_in, mark_in};
 ghost use Rattle.memory_nodes.specs.Steps.{step};
-ghost use Rattle.slotroute_run.specs.Commands.{only_reads, AreReadOnly, AreWilling, IsCommandRun, IsRunNode, WhyNotRun};
+ghost use Rattle.slotroute_run.specs.Commands.{only_reads, AreReadOnly, AreWilling, IsCommandRun, IsRunNode, IsUnsent, WhyNotRun};
 ghost use Rattle.slotroute_run.specs.Direction.{IsOrderOf};
 ghost use Rattle.slotroute_run.specs.Refusals.{fault_of_drive};
 
@@ -51,6 +51,8 @@ pub fn run_command(
         slot_map.now (map (λ word. word.now) words.now)
         (keyspace_in nodes.old) (keyspace_in nodes.new) text.items) }
     ensures refused { IfErr result (WhyNotRun slot_map.now (map (λ word. word.now) words.now)) }
+    ensures unsent { IfErr result (λ fault. IsUnsent fault
+        (keyspace_in nodes.old) (keyspace_in nodes.new) (trace_in nodes.old) (trace_in nodes.new)) }
     ensures willing { AreWilling nodes.new }
 {
     let (command, order) = prepare(alloc, direction, words, read_only)?;
@@ -120,6 +122,8 @@ fn drive_command(
         (state (keyspace_in nodes.old) (trace_in nodes.old) (mark_in nodes.old))
         (state (keyspace_in nodes.new) (trace_in nodes.new) (mark_in nodes.new)) (view value)) }
     ensures refused { IfErr result (WhyNotRun slot_map.now command.now) }
+    ensures unsent { IfErr result (λ fault. IsUnsent fault
+        (keyspace_in nodes.old) (keyspace_in nodes.new) (trace_in nodes.old) (trace_in nodes.new)) }
     ensures willing { AreWilling nodes.new }
 {
     match drive(

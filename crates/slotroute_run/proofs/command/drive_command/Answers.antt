@@ -1,6 +1,6 @@
 use Rattle.memory_nodes.specs.Nodes.{keyspace_in, trace_in, mark_in, MayRefuse}
 use Rattle.redis_cluster.specs.Driven.{state}
-use Rattle.slotroute_run.proofs.Running.{driven_by, why_not_run, good_order}
+use Rattle.slotroute_run.proofs.Running.{driven_by, why_not_run, good_order, unsent}
 use Rattle.slotroute_run.proofs.command.drive_command.Goals as goal
 
 pub command_fault-requires : goal.command_fault-requires
@@ -28,3 +28,10 @@ returns-in-Err-clause-refused g c =
     rw c.command_fault.ensures
     (why_not_run _ c.args.read_only.now c.args.command.now c.args.slot_map.now c.args.order.now old new (MayRefuse c.args.nodes.now) c.requires.names c.requires.willing c.in-Err.error.fault c.in-Err.error.answered
     (good_order _ c.args.read_only.now c.args.command.now c.args.slot_map.now c.args.order.now old new (MayRefuse c.args.nodes.now) direction c.in-Err.error.fault c.in-Err.error.answered order (c.in-Err.ensures.fault tt)) (c.in-Err.ensures.fault tt))
+
+pub returns-in-Err-clause-unsent : goal.returns-in-Err-clause-unsent
+returns-in-Err-clause-unsent g c =
+    let old = state (keyspace_in c.args.nodes.now) (trace_in c.args.nodes.now) (mark_in c.args.nodes.now) in
+    let new = state (keyspace_in c.drive.new.nodes) (trace_in c.drive.new.nodes) (mark_in c.drive.new.nodes) in
+    rw c.command_fault.ensures
+    (unsent _ c.args.read_only.now c.args.command.now c.args.slot_map.now c.args.order.now old new (MayRefuse c.args.nodes.now) c.requires.willing c.in-Err.error.fault c.in-Err.error.answered (c.in-Err.ensures.fault tt))
