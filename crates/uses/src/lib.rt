@@ -90,5 +90,7 @@ pub fn delete<N: Nodes>(
     )
 }
 
+pub mod threads;
+
 #[cfg(test)]
 mod tests;
