@@ -90,7 +90,6 @@ pub fn delete<N: Nodes>(
     )
 }
 
-pub mod threads;
-
 #[cfg(test)]
 mod tests;
+pub mod threads;
