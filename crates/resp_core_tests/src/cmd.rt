@@ -90,3 +90,53 @@ fn items_are_printed_as_lists_of_numbers(rt: HostRuntime) -> Result<(), Fail> {
     );
     Ok(())
 }
+
+/// A command of so many items, of which each is its own place.
+fn counted(alloc: Global, items: usize) -> Result<Cmd, AllocError> {
+    let mut cmd = Cmd::new(alloc);
+    for place in 0..items {
+        cmd.write_arg(&place.to_be_bytes())?;
+    }
+    Ok(cmd)
+}
+
+/// Whether each item of a command is its own place.
+fn is_counted(cmd: &Cmd) -> bool {
+    for (place, item) in (0..cmd.len()).zip(cmd.args()) {
+        if item != place.to_be_bytes().as_slice() {
+            return false;
+        }
+    }
+    true
+}
+
+/// Whether a command of so many items has each at its place, and so has its clone.
+fn keeps_items(alloc: Global, items: usize) -> Result<bool, AllocError> {
+    let cmd = counted(alloc, items)?;
+    let copy = cmd.clone()?;
+    Ok(cmd.len() == items && is_counted(&cmd) && copy == cmd)
+}
+
+#[test]
+fn commands_of_many_items(rt: HostRuntime) -> Result<(), Fail> {
+    for items in [255, 256, 65_535, 65_536, 100_000] {
+        assert!(rt; keeps_items(rt.alloc(), items)?, "{items} items");
+    }
+    Ok(())
+}
+
+/// Whether a command keeps an item of so many bytes between two others, and so does its clone.
+fn keeps_bytes(alloc: Global, bytes: usize) -> Result<bool, AllocError> {
+    let long = vec![in alloc; 7u8; bytes]?;
+    let cmd = cmd_of(alloc, &[b"SET", &long, b""])?;
+    let copy = cmd.clone()?;
+    Ok(cmd.arg_idx(1) == Some(long.as_slice()) && cmd.len() == 3 && copy == cmd)
+}
+
+#[test]
+fn items_of_many_bytes(rt: HostRuntime) -> Result<(), Fail> {
+    for bytes in [255, 256, 65_535, 65_536, 5_000_000] {
+        assert!(rt; keeps_bytes(rt.alloc(), bytes)?, "{bytes} bytes");
+    }
+    Ok(())
+}

@@ -4,6 +4,8 @@
 #[cfg(test)]
 mod cmd;
 #[cfg(test)]
+mod deep;
+#[cfg(test)]
 mod error;
 #[cfg(test)]
 mod value;

@@ -72,26 +72,3 @@ fn an_array_is_its_items(rt: HostRuntime) -> Result<(), Fail> {
     assert!(rt; simple(rt.alloc(), "OK")?.into_array().is_none());
     Ok(())
 }
-
-// `depth` lists, each with the next alone inside: arrays, and maps that hold it as key or value.
-fn nested(alloc: Global, depth: usize) -> Result<Value, AllocError> {
-    let mut value = Value::Int(7);
-    for level in 0..depth {
-        value = match level % 4 {
-            0 => Value::Map(vec![in alloc; (value, Value::Nil)]?),
-            1 => Value::Map(vec![in alloc; (Value::Okay, value)]?),
-            _ => Value::Array(vec![in alloc; value]?),
-        };
-    }
-    Ok(value)
-}
-
-#[test]
-fn deep_values_take_no_stack(rt: HostRuntime) -> Result<(), Fail> {
-    let alloc = rt.alloc();
-    let value = nested(alloc, 1_000_000)?;
-    let copy = value.clone()?;
-    assert!(rt; copy == value);
-    assert!(rt; nested(alloc, 1_000_001)? != value);
-    Ok(())
-}
