@@ -1,5 +1,5 @@
 -- Entries grouped one at a time are the shards of the primaries.
-use Rattle.std.proofs.Common.{◌≡◌, ◌+◌, ℕ, zero, suc, Bool, true, false, not, cond, ◌||◌, List, [], ◌∷◌, ◌++◌, map, filter, fold, set, get_or, refl, sym, ap, ◌∙◌, append_assoc, arith, Bor}
+use Rattle.std.proofs.Common.{◌≡◌, ◌<◌, ◌+◌, length, ℕ, zero, suc, Bool, true, false, not, cond, ◌||◌, List, [], ◌∷◌, ◌++◌, map, filter, fold, set, get_or, refl, sym, ap, ◌∙◌, append_assoc, arith}
 use Rattle.std.specs.List.{list_any, position_or_len}
 use Rattle.std.proofs.lemmas.List.{append-nil}
 use Rattle.std.proofs.lemmas.List.Sums.{fold-append}
@@ -9,11 +9,9 @@ use Rattle.cluster_slots.proofs.Orders.{same_from_address, address_decides}
 use Rattle.slot_ranges.specs.SlotNodes.{SlotNodes}
 use Rattle.slot_ranges.specs.RangeMap.{Entry}
 use Rattle.read_strategies.specs.Shards.{ShardNodes}
-use Rattle.cluster_map.specs.Targets.{targets}
 use Rattle.read_strategies.specs.Topology.{primary_of, entry_primary, has_primary, ends_of, first_replicas, shard_with, shard_of, shards_of}
 use Rattle.read_strategies.proofs.Members.{add_new, added_once, list_any-last}
 use Rattle.resp_core.proofs.Cases.{by_test, or_second}
-use Rattle.cluster_map.proofs.TargetSets.{same_target}
 
 -- a shard with a range more
 abbrev pub with_range : ShardNodes → Entry SlotNodes → ShardNodes
@@ -104,9 +102,18 @@ keys_known ss r ks ms k i x y b e t h m read w =
     let any : list_any (same_address k) ks ≡ true = not_false _ (sym t ∙ h) in
     m ∙ rw any (e ∙ sym (keys_stay ss i x y read (ap primary_of w)))
 
-pub place-targets : (k : Bor Address) (ks : List (Bor Address)) → position_or_len (same_target k) ks ≡ position_or_len (same_address k.now) (targets ks)
-place-targets k [] = refl
-place-targets k (x ∷ xs) = rw (place-targets k xs) refl
+any_within : (ss : List ShardNodes) (k : Address) → list_any (same_address k) (map primary_of ss) ≡ true → position_or_len (same_address k) (map primary_of ss) < length ss
+any_within [] k = λ h. cc
+any_within (s ∷ ss) k = by_test (same_address k s.primary)
+    (λ t. rw t (λ h. omega arith))
+    (λ t. rw t (λ h. let rest = any_within ss k h in omega (arith, rest)))
+
+pub place_within : (ss : List ShardNodes) (ks : List Address) (k : Address) (i : ℕ) (b : Bool) → ks ≡ map primary_of ss → b ≡ not (list_any (same_address k) ks) → b ≡ false → i ≡ position_or_len (same_address k) ks → i < length ss
+place_within ss ks k i b e t h at =
+    let any : list_any (same_address k) ks ≡ true = not_false _ (sym t ∙ h) in
+    let place : i ≡ position_or_len (same_address k) (map primary_of ss) = at ∙ ap (position_or_len (same_address k)) e in
+    let within = any_within ss k (sym (ap (list_any (same_address k)) e) ∙ any) in
+    omega (arith, place, within)
 
 map-append-one : {X Y : Type 0} (f : X → Y) (xs : List X) (x : X) → map f (xs ++ x ∷ []) ≡ map f xs ++ f x ∷ []
 map-append-one f [] x = refl

@@ -4,5 +4,6 @@ pub mod Disjoint
 pub mod Groups
 pub mod Inserts
 pub mod Listed
+pub mod NodeSets
+pub mod RangePrimaries
 pub mod ReplyNodes
-pub mod TargetSets

@@ -19,3 +19,4 @@ pub use Rattle.slot_ranges.specs.SlotsReply
 pub mod Fallback
 pub mod ReplyNode
 pub mod Targets
+pub mod Windows

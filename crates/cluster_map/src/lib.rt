@@ -2,6 +2,7 @@
 //! where reads go.
 #![tactic(auto)]
 
+/// The map from slots to nodes.
 pub mod slot_map;
 
 pub use cluster_slots::{

@@ -15,10 +15,10 @@ ghost use Rattle.cluster_map.specs.ReplyNode.{IsFound, IsFoundByReply, entries_i
 ghost use Rattle.read_strategies.specs.Shards.{ShardNodes};
 ghost use Rattle.read_strategies.specs.Topology.{shards_of, shards_left, topology_of, Agrees, IsShardAt};
 
-use addresses::{insert_all, members};
+use addresses::{insert_all, node_count, range_count};
 use cluster_slots::{NodeAddress, Route, SlotAddr};
 use grouping::shards_of;
-use indexmap::IndexSet;
+use node_set::NodeSet;
 use read_strategies::{ClusterTopology, ReadCandidates, ReadRoutingStrategy, Replicas};
 use resp_core::{RedisResult, Value};
 use slot_ranges::slot_range_map::Values;
@@ -28,6 +28,7 @@ use std::marker::Model;
 
 mod addresses;
 mod grouping;
+mod node_set;
 
 pub use addresses::NodeAddresses;
 pub use slot_ranges::SlotRange;
@@ -143,6 +144,14 @@ fn range_entries(slots: Vec<SlotRange>) -> Result<Vec<(u16, u16, SlotAddrs)>, Al
 }
 
 /// Which nodes serve which slots of a cluster.
+///
+/// ```
+/// let slots = vec![in alloc;
+///     SlotRange::new(0, 8191, low, Vec::new(alloc)),
+///     SlotRange::new(8192, 16383, high, Vec::new(alloc)),
+/// ]?;
+/// Ok(SlotMap::from_slots(alloc, slots)?)
+/// ```
 #[derive(Debug, Drop)]
 pub struct SlotMap {
     slots: SlotRangeMap<SlotAddrs>,
@@ -330,11 +339,11 @@ impl SlotMap {
             ≡ each_once (map (λ (e : Entry SlotNodes). (value_of e).primary) self.now)) }
         ensures order { Ascends self.now }
     {
-        let mut seen = IndexSet::new(alloc);
+        let mut seen = NodeSet::with_room(alloc, range_count(self.values()))?;
         for addrs in self.values() {
-            seen.insert(&addrs.primary)?;
+            seen.insert_full(&addrs.primary)?;
         }
-        members(alloc, &seen)
+        Ok(seen.into_nodes())
     }
 
     /// Each node once, by its first range and, within a range, the primary first.
@@ -347,11 +356,11 @@ impl SlotMap {
             ≡ each_once (flat_map (λ (e : Entry SlotNodes). nodes_in (value_of e)) self.now)) }
         ensures order { Ascends self.now }
     {
-        let mut seen = IndexSet::new(alloc);
+        let mut seen = NodeSet::with_room(alloc, node_count(self.values()))?;
         for addrs in self.values() {
             insert_all(&mut seen, addrs)?;
         }
-        members(alloc, &seen)
+        Ok(seen.into_nodes())
     }
 
     /// The shards of this map: for each primary, in order of the end of its first range, all its

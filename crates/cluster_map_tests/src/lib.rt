@@ -4,6 +4,8 @@
 #[cfg(test)]
 mod given;
 #[cfg(test)]
+mod one_hash;
+#[cfg(test)]
 mod read_routing;
 #[cfg(test)]
 mod strategies;

@@ -1,14 +1,15 @@
-ghost use Rattle.std.specs.Prelude.{◌≡◌, ◌++◌, List, IfOk, OnOk};
+ghost use Rattle.std.specs.Prelude.{◌≡◌, ◌++◌, List, OnOk};
 ghost use Rattle.std.specs.Iterator.{YieldsFirstRef, item_count};
 ghost use Rattle.cluster_slots.specs.Address.{Address};
 ghost use Rattle.read_strategies.specs.EachOnce.{each_once};
 ghost use Rattle.slot_ranges.specs.SlotNodes.{nodes_in};
-ghost use Rattle.cluster_map.specs.Targets.{targets, left_in};
+ghost use Rattle.cluster_map.specs.Targets.{left_in};
 
 use crate::slot_map::SlotAddrs;
+use crate::slot_map::node_set::NodeSet;
 use cluster_slots::NodeAddress;
-use indexmap::IndexSet;
-use std::alloc::{AllocError, Global};
+use slot_ranges::slot_range_map::Values;
+use std::alloc::AllocError;
 
 /// The nodes of a range of slots: the primary, and then the replicas.
 #[derive(Drop)]
@@ -50,25 +51,32 @@ impl<'a> IntoIterator for &'a SlotAddrs {
 }
 
 /// Puts in the nodes of a range.
-pub(crate) fn insert_all<'a>(
-    seen: &mut IndexSet<&'a NodeAddress>,
-    addrs: &'a SlotAddrs,
-) -> Result<(), AllocError>
-    ensures { OnOk result ((before : List Address) → targets seen.old.keys ≡ each_once before
-        → targets seen.new.keys ≡ each_once (before ++ nodes_in addrs.now)) }
+pub(crate) fn insert_all<'a>(seen: &mut NodeSet<'a>, addrs: &'a SlotAddrs) -> Result<(), AllocError>
+    ensures { OnOk result ((before : List Address) → seen.old ≡ each_once before
+        → seen.new ≡ each_once (before ++ nodes_in addrs.now)) }
 {
     for address in addrs {
-        seen.insert(address)?;
+        seen.insert_full(address)?;
     }
     Ok(())
 }
 
-/// The members of a set, in order.
-pub(crate) fn members<'a>(
-    alloc: Global,
-    seen: &IndexSet<&'a NodeAddress>,
-) -> Result<Vec<&'a NodeAddress>, AllocError>
-    ensures { IfOk result (λ found. found.items ≡ seen.now.keys) }
-{
-    seen.iter().copied().collect(alloc)
+/// How many nodes the ranges have, one range after the other. It is only room that is made for them.
+pub(crate) fn node_count(ranges: Values<'_, SlotAddrs>) -> usize {
+    let mut count = 0_usize;
+    for addrs in ranges {
+        count = count
+            .saturating_add(addrs.replicas().len())
+            .saturating_add(1);
+    }
+    count
+}
+
+/// How many ranges there are. It is only room that is made for their primaries.
+pub(crate) fn range_count(ranges: Values<'_, SlotAddrs>) -> usize {
+    let mut count = 0_usize;
+    for _ in ranges {
+        count = count.saturating_add(1);
+    }
+    count
 }

@@ -1,12 +1,11 @@
 ghost use Rattle.std.specs.Prelude.{◌≡◌, ◌<◌, ◌^◌, ◌++◌, ◌∷◌, [], List, All, map, IfOk, OnOk};
 ghost use Rattle.slot_ranges.specs.SlotNodes.{SlotNodes};
 ghost use Rattle.slot_ranges.specs.RangeMap.{Entry, Ascends, end_of};
-ghost use Rattle.cluster_map.specs.Targets.{targets};
 ghost use Rattle.read_strategies.specs.Topology.{primary_of, shards_of};
 
 use crate::slot_map::SlotAddrs;
-use cluster_slots::NodeAddress;
-use indexmap::IndexSet;
+use crate::slot_map::addresses::range_count;
+use crate::slot_map::node_set::NodeSet;
 use read_strategies::Shard;
 use slot_ranges::slot_range_map::SlotRangeMap;
 use std::alloc::{AllocError, Global};
@@ -20,7 +19,7 @@ pub(crate) fn shards_of(
     ensures ends { IfOk result (λ shards. All (λ e. end_of e < 2 ^ 16) ranges.now) }
     ensures order { Ascends ranges.now }
 {
-    let mut seen: IndexSet<&NodeAddress> = IndexSet::new(alloc);
+    let mut seen = NodeSet::with_room(alloc, range_count(ranges.values()))?;
     let mut shards = Vec::new(alloc);
     for (start, end, addrs) in ranges.iter() {
         add_range(alloc, &mut seen, &mut shards, start, end, addrs)?;
@@ -32,14 +31,14 @@ pub(crate) fn shards_of(
 /// in the set, each at the place of its shard.
 fn add_range<'a>(
     alloc: Global,
-    seen: &mut IndexSet<&'a NodeAddress>,
+    seen: &mut NodeSet<'a>,
     shards: &mut Vec<Shard>,
     start: u16,
     end: u16,
     addrs: &'a SlotAddrs,
 ) -> Result<(), AllocError>
-    requires { targets seen.old.keys ≡ map primary_of shards.old.items }
-    ensures keys { OnOk result (targets seen.new.keys ≡ map primary_of shards.new.items) }
+    requires { seen.old ≡ map primary_of shards.old.items }
+    ensures nodes { OnOk result (seen.new ≡ map primary_of shards.new.items) }
     ensures shards { OnOk result ((es : List (Entry SlotNodes)) → shards.old.items ≡ shards_of es
         → shards.new.items ≡ shards_of (es ++ (start, end, addrs.now) ∷ [])) }
     ensures end { end < 2 ^ 16 }

@@ -3,17 +3,16 @@ use Rattle.std.proofs.lemmas.Grind.{common_steps}
 use Rattle.std.proofs.lemmas.List.{append-nil}
 use Rattle.read_strategies.specs.EachOnce.{each_once}
 use Rattle.slot_ranges.specs.RangeMap.{value_of}
-use Rattle.cluster_map.specs.Targets.{targets}
 use Rattle.read_strategies.proofs.Members.{add_new, added_more}
-use Rattle.cluster_map.proofs.TargetSets.{range_primary, targets-insert, primaries_last, primaries_in}
+use Rattle.cluster_map.proofs.RangePrimaries.{range_primary, primaries_last, primaries_in}
 use Rattle.cluster_map.proofs.slot_map.SlotMap.addresses_for_all_primaries.Goals as goal
 
 pub loop-addrs-preserved : goal.loop-addrs-preserved
 loop-addrs-preserved c =
     let done = c.loop-addrs.invariant.2.0 in
     let nodes = c.in-Some.addrs.now in
-    let old = targets c.loop-addrs.seen.keys in
-    let keys = ap targets c.in_ok-insert.ensures.keys ∙ targets-insert c.loop-addrs.seen.keys _ ∙ ap (add_new old) (ap range_primary c.addrs.view_is) in (
+    let old = c.loop-addrs.seen in
+    let keys = c.in_ok-insert_full.ensures.nodes ∙ ap (add_new old) (ap range_primary c.addrs.view_is) in (
       tt,
       tt,
       (

@@ -2,8 +2,7 @@ use Rattle.std.proofs.Common.{◌≡◌, ◌++◌, List, map}
 use Rattle.read_strategies.specs.EachOnce.{each_once}
 use Rattle.slot_ranges.specs.SlotNodes.{SlotNodes}
 use Rattle.slot_ranges.specs.RangeMap.{value_of}
-use Rattle.cluster_map.specs.Targets.{targets}
-use Rattle.cluster_map.proofs.TargetSets.{range_primary}
+use Rattle.cluster_map.proofs.RangePrimaries.{range_primary}
 use Rattle.cluster_map.proofs.slot_map.SlotMap.addresses_for_all_primaries.Given as goal
 
 -- the members are the primaries of the ranges so far
@@ -11,4 +10,4 @@ abbrev pub invariant-loop-addrs : goal.invariant-loop-addrs
 invariant-loop-addrs l =
     (goal.iterator-loop-addrs).can_next l.addrs-iterator ×
     (goal.iterator-loop-addrs).is_finite l.addrs-iterator ×
-    ((done : List SlotNodes) × (done ++ l.addrs-iterator ≡ map value_of l.self) × (targets l.seen.keys ≡ each_once (map range_primary done)))
+    ((done : List SlotNodes) × (done ++ l.addrs-iterator ≡ map value_of l.self) × (l.seen ≡ each_once (map range_primary done)))

@@ -1,6 +1,6 @@
 use Rattle.std.proofs.Common.{◌≡◌, fold}
 use Rattle.slot_ranges.specs.SlotNodes.{nodes_in}
-use Rattle.cluster_map.specs.Targets.{targets, left_in}
+use Rattle.cluster_map.specs.Targets.{left_in}
 use Rattle.read_strategies.proofs.Members.{add_new}
 use Rattle.cluster_map.proofs.slot_map.addresses.insert_all.Given as goal
 
@@ -9,4 +9,4 @@ abbrev pub invariant-loop-address : goal.invariant-loop-address
 invariant-loop-address l =
     (goal.iterator-loop-address).can_next l.address-iterator ×
     (goal.iterator-loop-address).is_finite l.address-iterator ×
-    (fold add_new (targets l.seen.keys) (left_in l.address-iterator) ≡ fold add_new (targets l.fn.seen.keys) (nodes_in l.addrs))
+    (fold add_new l.seen (left_in l.address-iterator) ≡ fold add_new l.fn.seen (nodes_in l.addrs))

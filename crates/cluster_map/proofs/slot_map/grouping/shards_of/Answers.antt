@@ -15,7 +15,7 @@ loop-start-preserved c =
     let e : Entry SlotNodes = (c.in-Some.start, c.in-Some.end, c.in-Some.addrs.now) in (
       tt,
       tt,
-      c.in_ok-add_range.ensures.keys,
+      c.in_ok-add_range.ensures.nodes,
       (
         done ++ e ∷ [],
         append_assoc done (e ∷ []) c.next.new.self ∙ ap (λ z. done ++ z) (sym c.in-Some.ensures.steps) ∙ c.loop-start.invariant.3.1,

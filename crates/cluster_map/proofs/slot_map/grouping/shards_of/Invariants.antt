@@ -1,7 +1,6 @@
 use Rattle.std.proofs.Common.{◌≡◌, ◌<◌, ◌++◌, List, All, map}
 use Rattle.slot_ranges.specs.SlotNodes.{SlotNodes}
 use Rattle.slot_ranges.specs.RangeMap.{Entry, end_of}
-use Rattle.cluster_map.specs.Targets.{targets}
 use Rattle.read_strategies.specs.Topology.{primary_of, shards_of}
 use Rattle.cluster_map.proofs.slot_map.grouping.shards_of.Given as goal
 
@@ -11,6 +10,6 @@ abbrev pub invariant-loop-start : goal.invariant-loop-start
 invariant-loop-start l =
     (goal.iterator-loop-start).can_next l.start-iterator ×
     (goal.iterator-loop-start).is_finite l.start-iterator ×
-    (targets l.seen.keys ≡ map primary_of l.shards.items) ×
+    (l.seen ≡ map primary_of l.shards.items) ×
     ((done : List (Entry SlotNodes)) × (done ++ l.start-iterator ≡ l.ranges)
     × (l.shards.items ≡ shards_of done) × All (λ e. end_of e < 65536) done)
