@@ -89,6 +89,14 @@ total_same q rs others h =
     same_option (sum_at q there) (sum_at q here) (sum_has q there ∙ has ∙ sym (sum_has q here))
     (from_parts (or_zero (sum_at q there)) (or_zero (sum_at q here)) (sum_by (downs q) there) (sum_by (ups q) there) (sum_by (downs q) here) (sum_by (ups q) here) (total_parts q there) (total_parts q here) d u)
 
+-- the same of pairs
+pub sum_permuted : (q : List ℕ) (ps qs : List KeyNumber) → IsPermutation ps qs → sum_at q qs ≡ sum_at q ps
+sum_permuted q ps qs h =
+    let t : (List ℕ × ℤ) → Bool = λ p. bytes_eq p.0 q in
+    same_option (sum_at q qs) (sum_at q ps) (sum_has q qs ∙ sym (list_any-IsPermutation t ps qs h) ∙ sym (sum_has q ps))
+    (from_parts (or_zero (sum_at q qs)) (or_zero (sum_at q ps)) (sum_by (downs q) qs) (sum_by (ups q) qs) (sum_by (downs q) ps) (sum_by (ups q) ps) (total_parts q qs) (total_parts q ps)
+    (sum_by-IsPermutation (downs q) ps qs h) (sum_by-IsPermutation (ups q) ps qs h))
+
 length_same : (rs others : List Reply) → IsPermutation rs others → length (flat_map pairs_of_reply others) ≡ length (flat_map pairs_of_reply rs)
 length_same rs others h = length-flat_map pairs_of_reply others ∙ sum_by-IsPermutation (λ r. length (pairs_of_reply r)) rs others h ∙ sym (length-flat_map pairs_of_reply rs)
 

@@ -7,7 +7,6 @@ use Rattle.std.specs.Cmp.Lexicographic.{slice_cmp, nat_list_cmp_total, nat_list_
 use Rattle.std.specs.List.{AllByRecursion, list_any}
 use Rattle.std.specs.List.Sorted.{IsStrictlySortedBy}
 use Rattle.std.specs.Str.{bytes_eq}
-use Rattle.std.specs.Map.{lookup, IsKeyTest, AreApart, KeepsOthers}
 use Rattle.std.specs.FinMap.{get, entries, from_entries, find, is_sorted, entries_sorted, get-empty, get-insert, contains_key-keys, slice_cmp-IsAntisymmetric, nat_cmp-IsAntisymmetric}
 use Rattle.std.specs.FinMap.Entries.{below_all, same_entries}
 use Rattle.std.proofs.lemmas.Bool.{lt-ltb}
@@ -19,10 +18,9 @@ use Rattle.resp_core.specs.Reply.{Reply, bulk, int, pairs, pairs_of}
 use Rattle.redis_combiners.specs.Aggregate.{total, fits_i64}
 use Rattle.redis_combiners.specs.KeyNumbers.{KeyNumber, all_pairs}
 use Rattle.redis_commands.specs.Lists.{all_some}
-use Rattle.redis_combiners.specs.Entries.{plain_pairs, number_at, plus}
+use Rattle.redis_combiners.specs.Entries.{plain_pairs, total_among, plus}
 use Rattle.redis_combiners.specs.Totals.{has_key, total_of, total_at, ascending_keys, totals, IsListing, reply_pair, map_of, map_of_totals, combined_map}
 use Rattle.redis_combiners.proofs.Ahead.{before, before-more}
-use Rattle.redis_combiners.proofs.ByKey.{same_bytes_of}
 use Rattle.resp_core.proofs.Cases.{by_test}
 
 abbrev order : List ℕ → List ℕ → Ordering
@@ -157,20 +155,6 @@ are_totals es ps s h = same_entries order nat_list_cmp_total (slice_cmp-IsAntisy
 pub same_totals : (ps qs : List KeyNumber) → ((q : List ℕ) → sum_at q ps ≡ sum_at q qs) → totals ps ≡ totals qs
 same_totals ps qs h = are_totals (totals ps) qs (totals_ascend ps) (λ q. find_totals q ps ∙ sym (sum_at_is q ps) ∙ h q ∙ sum_at_is q qs)
 
--- what an update says of the bytes of keys
-apart : (bs cs ks : List ℕ) → bytes_eq bs cs ≡ false → bytes_eq bs ks ≡ true → bytes_eq cs ks ≡ false
-apart bs cs ks n y = nat_list_eq_equiv.symm cs ks ∙ sym (nat_list_eq_equiv.congr bs ks cs y) ∙ n
-
-others : {K X : Type 0} (eq : K → K → Bool) (test : K → Bool) (old new : List (K × X)) → KeepsOthers eq test old new → (other : K → Bool) → IsKeyTest eq other → AreApart test other → lookup other new ≡ lookup other old
-unfolding KeepsOthers
-others eq test old new h = h
-
-pub number_at-updates : (bs : List ℕ) (old new : List (Vec ℕ Global × ℤ)) (w : Option ℤ) → lookup (λ k. bytes_eq bs k.items) new ≡ w → KeepsOthers same_bytes_of (λ k. bytes_eq bs k.items) old new → (cs : List ℕ) → number_at new cs ≡ cond (bytes_eq bs cs) w (number_at old cs)
-number_at-updates bs old new w at keeps cs =
-    by_test (bytes_eq bs cs)
-    (λ e. rw e (ap (number_at new) (sym ((bytes_eq-Decides bs cs).0 e)) ∙ at))
-    (λ e. rw e (others _ _ old new keeps (λ k. bytes_eq cs k.items) (λ x y. nat_list_eq_equiv.congr cs x.items y.items) (λ k. apart bs cs k.items e)))
-
 -- a total, so far and of the rest
 pub plus_none : (o : Option ℤ) → plus o None ≡ o
 plus_none None = refl
@@ -191,8 +175,8 @@ sum_at_more k q n new old at_k ps whole e same h = by_test (bytes_eq k q)
     (λ f. ap (λ o. plus o (sum_at q ps)) (e ∙ ap (λ b. cond b (Some (or_zero at_k +ℤ n)) old) f)
     ∙ ap (λ b. plus old (cond b (Some (n +ℤ or_zero (sum_at q ps))) (sum_at q ps))) (sym f) ∙ h)
 
-pub same_key : (k q : List ℕ) (es : List (Vec ℕ Global × ℤ)) → bytes_eq k q ≡ true → number_at es k ≡ number_at es q
-same_key k q es e = ap (number_at es) ((bytes_eq-Decides k q).0 e)
+pub same_key : (k q : List ℕ) (es : List (Vec ℕ Global × ℤ)) → bytes_eq k q ≡ true → total_among es k ≡ total_among es q
+same_key k q es e = ap (total_among es) ((bytes_eq-Decides k q).0 e)
 
 -- one more total in the list
 fits-true : (z : ℤ) → FitsSigned w64 z → fits_i64 z ≡ true
@@ -219,16 +203,29 @@ unfolding IsStrictlySortedBy
 rising [] h = tt
 rising (e ∷ es) h = both _ _ (below e.0 es h.0) (rising es h.1)
 
-find-number_at : (q : List ℕ) (es : List (Vec ℕ Global × ℤ)) → find order q (plain_pairs es) ≡ number_at es q
-find-number_at q [] = refl
-find-number_at q (e ∷ es) =
-    ap (λ b. cond b (Some e.1) (find order q (plain_pairs es))) (is_eq-slice_cmp q e.0.items)
-    ∙ ap (cond (bytes_eq q e.0.items) (Some e.1)) (find-number_at q es)
+-- what is above a key is of other keys
+none_above : (k : List ℕ) (ps : List KeyNumber) → AllByRecursion (λ y. order k y ≡ Less) (map (λ p. p.0) ps) → sum_at k ps ≡ None
+none_above k [] h = refl
+none_above k (p ∷ ps) h =
+    let other : bytes_eq p.0 k ≡ false = sym (same_bytes k p.0) ∙ ap is_eq h.0 in
+    ap (λ b. cond b (Some (p.1 +ℤ or_zero (sum_at k ps))) (sum_at k ps)) other ∙ none_above k ps h.1
+
+-- where keys ascend, what is found is the total
+find_sorted : (q : List ℕ) (ps : List KeyNumber) → IsStrictlySortedBy order (map (λ p. p.0) ps) → find order q ps ≡ sum_at q ps
+unfolding IsStrictlySortedBy
+find_sorted q [] h = refl
+find_sorted q (p ∷ ps) h = by_test (bytes_eq p.0 q)
+    (λ t. let none : sum_at q ps ≡ None = ap (λ k. sum_at k ps) (sym ((bytes_eq-Decides p.0 q).0 t)) ∙ none_above p.0 ps h.0 in
+    ap (λ b. cond b (Some p.1) (find order q ps)) (same_bytes q p.0 ∙ t)
+    ∙ ap Some (omega (arith, ints))
+    ∙ sym (ap (λ b. cond b (Some (p.1 +ℤ or_zero (sum_at q ps))) (sum_at q ps)) t ∙ ap (λ o. Some (p.1 +ℤ or_zero o)) none))
+    (λ n. ap (λ b. cond b (Some p.1) (find order q ps)) (same_bytes q p.0 ∙ n) ∙ find_sorted q ps h.1
+    ∙ sym (ap (λ b. cond b (Some (p.1 +ℤ or_zero (sum_at q ps))) (sum_at q ps)) n))
 
 -- what the entries make is what the replies make
-pub combined_map_is : (rs : List Reply) (ps : List KeyNumber) (es : List (Vec ℕ Global × ℤ)) → all_pairs rs ≡ Some ps → length ps < 2 ^ 63 → IsStrictlySortedBy (slice_cmp nat_cmp) (map (λ e. e.0) (plain_pairs es)) → ((q : List ℕ) → number_at es q ≡ total_at q ps)
+pub combined_map_is : (rs : List Reply) (ps : List KeyNumber) (es : List (Vec ℕ Global × ℤ)) → all_pairs rs ≡ Some ps → length ps < 2 ^ 63 → IsStrictlySortedBy (slice_cmp nat_cmp) (map (λ e. e.0) (plain_pairs es)) → ((q : List ℕ) → total_among es q ≡ total_at q ps)
     → combined_map rs ≡ option_map (λ l. pairs (pairs_of l)) (all_some (map reply_pair (plain_pairs es)))
 combined_map_is rs ps es k few s h =
     ap (option_and_then map_of_totals) k
     ∙ ap (λ b. cond b (map_of (totals ps)) None) (lt-ltb (length ps) (2 ^ 63) few)
-    ∙ ap map_of (sym (are_totals (plain_pairs es) ps (rising (plain_pairs es) s) (λ q. find-number_at q es ∙ h q)))
+    ∙ ap map_of (sym (are_totals (plain_pairs es) ps (rising (plain_pairs es) s) (λ q. find_sorted q (plain_pairs es) s ∙ sum_at_is q (plain_pairs es) ∙ h q)))

@@ -8,7 +8,7 @@ use Rattle.std.specs.Str.{bytes_eq}
 use Rattle.std.proofs.lemmas.Int.{ints}
 use Rattle.resp_core.specs.Reply.{Reply, array_of, pairs, pairs_of}
 use Rattle.redis_commands.specs.Lists.{all_some, flatten}
-use Rattle.redis_combiners.specs.Entries.{plain_pairs, number_at, plus, with_pairs}
+use Rattle.redis_combiners.specs.Entries.{plain_pairs, total_among, plus, with_pairs}
 use Rattle.redis_combiners.specs.KeyNumbers.{KeyNumber, pairs_among, all_pairs}
 use Rattle.redis_combiners.specs.Totals.{total_at, reply_pair, map_of_totals, combined_map}
 use Rattle.redis_combiners.proofs.Totals.{or_zero, sum_at, sum_at_is, sum_at_more, plus_none, combined_map_is}
@@ -20,7 +20,7 @@ plus_assoc (Some x) (Some y) None = refl
 plus_assoc (Some x) (Some y) (Some z) = ap Some (omega (arith, ints))
 
 -- the total of a key over two lists
-sum_at-append : (q : List ℕ) (ps qs : List KeyNumber) → sum_at q (ps ++ qs) ≡ plus (sum_at q ps) (sum_at q qs)
+pub sum_at-append : (q : List ℕ) (ps qs : List KeyNumber) → sum_at q (ps ++ qs) ≡ plus (sum_at q ps) (sum_at q qs)
 sum_at-append q [] qs = refl
 sum_at-append q (p ∷ ps) qs = more (bytes_eq p.0 q) (sum_at q ps) (sum_at q qs) (sum_at q (ps ++ qs)) (sum_at-append q ps qs)
   where
@@ -116,11 +116,11 @@ no_pairs (Some ps) h = absurd (cc)
 pub none_combined : (rs : List Reply) → ((q : List ℕ) → None ≡ with_pairs 0 None q (all_pairs rs)) → combined_map rs ≡ None
 none_combined rs h = ap (option_and_then map_of_totals) (no_pairs (all_pairs rs) (h []))
 
-pub combined_from : (rs : List Reply) (count : ℕ) (es fs : List (Vec ℕ Global × ℤ)) (made : Option (List (Reply × Reply))) → ((q : List ℕ) → Some (count, number_at es q) ≡ with_pairs 0 None q (all_pairs rs)) → count < 2 ^ 63
-    → IsStrictlySortedBy (slice_cmp nat_cmp) (map (λ e. e.0) (plain_pairs fs)) → ((q : List ℕ) → number_at fs q ≡ number_at es q) → made ≡ all_some (map reply_pair (plain_pairs fs)) → combined_map rs ≡ option_map (λ l. pairs (pairs_of l)) made
+pub combined_from : (rs : List Reply) (count : ℕ) (es fs : List (Vec ℕ Global × ℤ)) (made : Option (List (Reply × Reply))) → ((q : List ℕ) → Some (count, total_among es q) ≡ with_pairs 0 None q (all_pairs rs)) → count < 2 ^ 63
+    → IsStrictlySortedBy (slice_cmp nat_cmp) (map (λ e. e.0) (plain_pairs fs)) → ((q : List ℕ) → total_among fs q ≡ total_among es q) → made ≡ all_some (map reply_pair (plain_pairs fs)) → combined_map rs ≡ option_map (λ l. pairs (pairs_of l)) made
 combined_from rs count es fs made h few ascending same is = by (all_pairs rs) refl h ∙ ap (option_map (λ l. pairs (pairs_of l))) (sym is)
   where
-    by : (o : Option (List KeyNumber)) → all_pairs rs ≡ o → ((q : List ℕ) → Some (count, number_at es q) ≡ with_pairs 0 None q o) → combined_map rs ≡ option_map (λ l. pairs (pairs_of l)) (all_some (map reply_pair (plain_pairs fs)))
+    by : (o : Option (List KeyNumber)) → all_pairs rs ≡ o → ((q : List ℕ) → Some (count, total_among es q) ≡ with_pairs 0 None q o) → combined_map rs ≡ option_map (λ l. pairs (pairs_of l)) (all_some (map reply_pair (plain_pairs fs)))
     by None e all = absurd (let n = all [] in cc)
     by (Some ps) e all =
         let counted : count ≡ 0 + length ps = ap count_of (all []) in

@@ -1,8 +1,7 @@
 -- Pairs and entries of the code, seen as plain data.
-use Rattle.std.specs.Prelude.{ℕ, ◌+◌, ℤ, ◌+ℤ◌, List, length, map, Option, Some, None, option_map, Vec}
+use Rattle.std.specs.Prelude.{ℕ, ◌+◌, ℤ, ◌+ℤ◌, Bool, false, List, length, map, Option, Some, None, option_map, slice_get, Vec}
 use Rattle.std.specs.Global.{Global}
 use Rattle.std.specs.Str.{bytes_eq}
-use Rattle.std.specs.Map.{lookup}
 use Rattle.redis_combiners.specs.KeyNumbers.{KeyNumber}
 use Rattle.redis_combiners.specs.Totals.{total_at}
 
@@ -10,9 +9,22 @@ use Rattle.redis_combiners.specs.Totals.{total_at}
 abbrev pub plain_pairs : List (Vec ℕ Global × ℤ) → List KeyNumber
 plain_pairs entries = map (λ entry. (entry.0.items, entry.1)) entries
 
--- the number of the first entry that has the key
-abbrev pub number_at : List (Vec ℕ Global × ℤ) → List ℕ → Option ℤ
-number_at entries key = lookup (λ other. bytes_eq key other.items) entries
+-- their keys, one beside the other
+abbrev pub keys_among : List (Vec ℕ Global × ℤ) → List (List ℕ)
+keys_among entries = map (λ pair. pair.0) (plain_pairs entries)
+
+-- the total of the entries that have the key, if one has it
+abbrev pub total_among : List (Vec ℕ Global × ℤ) → List ℕ → Option ℤ
+total_among entries key = total_at key (plain_pairs entries)
+
+-- whether an entry has the key
+abbrev pub entry_has : List ℕ → Option (Vec ℕ Global × ℤ) → Bool
+entry_has key None = false
+entry_has key (Some entry) = bytes_eq entry.0.items key
+
+-- whether the entry at a place has the key
+abbrev pub has_key_at : List (Vec ℕ Global × ℤ) → ℕ → List ℕ → Bool
+has_key_at entries place key = entry_has key (slice_get entries place)
 
 -- the total of two parts, each of which may have none
 abbrev pub plus : Option ℤ → Option ℤ → Option ℤ

@@ -1,4 +1,4 @@
-ghost use Rattle.std.specs.Prelude.{◌≡◌, ◌+◌, ◌^◌, ◌<◌, ◌+ℤ◌, ◌⊎◌, ℕ, pos, List, map, MatchResult, IfOk, IfSome, OnOk, option_map, unwrap_or, Some, None, if◌then◌else◌, cond, IsPermutation};
+ghost use Rattle.std.specs.Prelude.{◌≡◌, ◌++◌, ◌∷◌, [], ◌+◌, ◌^◌, ◌<◌, ◌+ℤ◌, ◌⊎◌, ℕ, pos, List, map, MatchResult, IfOk, IfSome, OnOk, option_map, unwrap_or, Some, None, if◌then◌else◌, cond, IsPermutation};
 ghost use Rattle.std.specs.Str.{bytes_eq};
 ghost use Rattle.std.specs.Ordering.{nat_cmp};
 ghost use Rattle.std.specs.Cmp.Lexicographic.{slice_cmp};
@@ -7,12 +7,11 @@ ghost use Rattle.resp_core.specs.ErrorParts.{out_of_memory};
 ghost use Rattle.resp_core.specs.Reply.{Reply, bulk, int};
 ghost use Rattle.resp_core.specs.View.{view, view_pair};
 ghost use Rattle.resp_core.specs.declared.error.ErrorKind.TheVariants.{UnexpectedReturnType};
-ghost use Rattle.redis_combiners.specs.Entries.{plain_pairs, number_at, with_pairs};
+ghost use Rattle.redis_combiners.specs.Entries.{plain_pairs, keys_among, total_among, has_key_at, with_pairs};
 ghost use Rattle.redis_combiners.specs.KeyNumbers.{KeyNumber, pairs_among, all_pairs};
 ghost use Rattle.redis_commands.specs.Lists.{all_some};
 ghost use Rattle.redis_combiners.specs.Totals.{totals, IsListing, reply_pair, combined_map};
 
-use indexmap::IndexMap;
 use resp_core::{ErrorKind, RedisError, RedisResult, Value};
 use std::alloc::{AllocError, Global};
 use std::cmp::Ordering;
@@ -20,10 +19,10 @@ use std::cmp::Ordering;
 /// How many pairs are summed up at most.
 const MOST_PAIRS: u64 = u64::MAX / 2;
 
-/// The total of each key, and over how many pairs.
+/// The totals of keys, and over how many pairs. A key may have several, whose sum is its total.
 #[derive(Drop)]
 struct KeyTotals {
-    totals: IndexMap<Vec<u8>, i128>,
+    totals: Vec<(Vec<u8>, i128)>,
     pair_count: u64,
 }
 
@@ -66,7 +65,7 @@ pub fn combine_map_results(alloc: Global, values: Vec<Value>) -> RedisResult<Val
 /// The totals over all replies, if each is an array of bulk strings and numbers in turn.
 fn sum_replies(alloc: Global, values: Vec<Value>) -> Result<Option<KeyTotals>, AllocError>
     ensures totals { IfOk result (λ sums. (q : List ℕ)
-        → option_map (λ s. (s.pair_count, number_at s.totals.entries q)) sums
+        → option_map (λ s. (s.pair_count, total_among s.totals.items q)) sums
         ≡ with_pairs 0 None q (all_pairs (map view values.items))) }
     ensures few { IfOk result (λ sums. IfSome sums (λ s. s.pair_count < 2 ^ 63)) }
 {
@@ -76,7 +75,7 @@ fn sum_replies(alloc: Global, values: Vec<Value>) -> Result<Option<KeyTotals>, A
         _ => 0,
     };
     let mut sums = KeyTotals {
-        totals: IndexMap::with_capacity(alloc, room)?,
+        totals: Vec::with_capacity(alloc, room)?,
         pair_count: 0,
     };
     for value in values {
@@ -90,15 +89,17 @@ fn sum_replies(alloc: Global, values: Vec<Value>) -> Result<Option<KeyTotals>, A
     Ok(Some(sums))
 }
 
-/// Adds the pairs of the items, if these are bulk strings and numbers in turn.
+/// Adds the pairs of the items, if these are bulk strings and numbers in turn. A reply mostly has its
+/// keys in the order of those before, so each key is looked for right behind the one before it.
 fn add_pairs(sums: &mut KeyTotals, items: Vec<Value>) -> Result<bool, AllocError>
     requires { sums.old.pair_count < 2 ^ 63 }
     ensures totals { IfOk result (λ ok. (q : List ℕ)
-        → with_pairs sums.old.pair_count (number_at sums.old.totals.entries q) q
+        → with_pairs sums.old.pair_count (total_among sums.old.totals.items q) q
         (pairs_among (map view items.items))
-        ≡ (if ok then Some (sums.new.pair_count, number_at sums.new.totals.entries q) else None)) }
+        ≡ (if ok then Some (sums.new.pair_count, total_among sums.new.totals.items q) else None)) }
     ensures few { OnOk result (sums.new.pair_count < 2 ^ 63) }
 {
+    let mut place = 0_usize;
     let mut rest = items.into_iter();
     while let Some(key) = rest.next() {
         let Some(number) = rest.next() else {
@@ -110,50 +111,71 @@ fn add_pairs(sums: &mut KeyTotals, items: Vec<Value>) -> Result<bool, AllocError
         let Some(n) = number.as_int() else {
             return Ok(false);
         };
-        add_pair(sums, bytes, n)?;
+        if add_pair(sums, place, bytes, n)? {
+            place = place.saturating_add(1);
+        }
     }
     Ok(true)
 }
 
-/// Counts a pair, and adds its number to the total of its key.
-fn add_pair(sums: &mut KeyTotals, key: Vec<u8>, n: i64) -> Result<(), AllocError>
+/// Counts a pair, adds its number to the total of its key, and tells whether that stood at the place.
+fn add_pair(sums: &mut KeyTotals, place: usize, key: Vec<u8>, n: i64) -> Result<bool, AllocError>
     ensures count { OnOk result (sums.new.pair_count ≡ sums.old.pair_count + 1) }
     ensures few { OnOk result (sums.new.pair_count < 2 ^ 63) }
     ensures totals { OnOk result ((q : List ℕ)
-        → number_at sums.new.totals.entries q
+        → total_among sums.new.totals.items q
         ≡ cond (bytes_eq key.items q)
-        (Some (unwrap_or (number_at sums.old.totals.entries key.items) (pos 0) +ℤ n))
-        (number_at sums.old.totals.entries q)) }
+        (Some (unwrap_or (total_among sums.old.totals.items key.items) (pos 0) +ℤ n))
+        (total_among sums.old.totals.items q)) }
 {
     if sums.pair_count >= MOST_PAIRS {
         return Err(AllocError);
     }
     sums.pair_count += 1;
-    add_number(&mut sums.totals, key, n)
+    add_number(&mut sums.totals, place, key, i128::from(n))
 }
 
-/// Adds a number to the total of its key.
-fn add_number(totals: &mut IndexMap<Vec<u8>, i128>, key: Vec<u8>, n: i64) -> Result<(), AllocError>
-    ensures { OnOk result ((q : List ℕ)
-        → number_at totals.new.entries q
+/// Adds a number to the total at a place, if that is of its key, or puts it last, and tells which.
+fn add_number(
+    totals: &mut Vec<(Vec<u8>, i128)>,
+    place: usize,
+    key: Vec<u8>,
+    number: i128,
+) -> Result<bool, AllocError>
+    ensures totals { OnOk result ((q : List ℕ)
+        → total_among totals.new.items q
         ≡ cond (bytes_eq key.items q)
-        (Some (unwrap_or (number_at totals.old.entries key.items) (pos 0) +ℤ n))
-        (number_at totals.old.entries q)) }
+        (Some (unwrap_or (total_among totals.old.items key.items) (pos 0) +ℤ number))
+        (total_among totals.old.items q)) }
+    ensures found { IfOk result (λ found. found ≡ has_key_at totals.old.items place key.items) }
+    ensures keys { OnOk result (keys_among totals.new.items
+        ≡ (if has_key_at totals.old.items place key.items then keys_among totals.old.items
+        else keys_among totals.old.items ++ key.items ∷ [])) }
 {
-    match totals.get_mut(&key) {
-        Some(total) => add_to(total, n),
-        None => {
-            totals.insert(key, i128::from(n))?;
-            Ok(())
-        }
+    if has_key(totals, place, &key) {
+        add_to(&mut totals[place].1, number)?;
+        Ok(true)
+    } else {
+        totals.push((key, number))?;
+        Ok(false)
+    }
+}
+
+/// Whether the total at a place is of this key.
+fn has_key(totals: &Vec<(Vec<u8>, i128)>, place: usize, key: &Vec<u8>) -> bool
+    ensures { result ≡ has_key_at totals.now.items place key.now.items }
+{
+    match totals.get(place) {
+        Some(entry) => entry.0 == *key,
+        None => false,
     }
 }
 
 /// Adds a number to a total, which leaves the 128 bits only after more pairs than memory holds.
-fn add_to(total: &mut i128, n: i64) -> Result<(), AllocError>
-    ensures { OnOk result (total.new ≡ total.old +ℤ n) }
+fn add_to(total: &mut i128, number: i128) -> Result<(), AllocError>
+    ensures { OnOk result (total.new ≡ total.old +ℤ number) }
 {
-    match total.checked_add(i128::from(n)) {
+    match total.checked_add(number) {
         Some(sum) => {
             *total = sum;
             Ok(())
@@ -162,25 +184,26 @@ fn add_to(total: &mut i128, n: i64) -> Result<(), AllocError>
     }
 }
 
-/// The totals by ascending key.
+/// The total of each key, by ascending key: those of one key stand side by side once they are sorted.
 fn by_key(
     alloc: Global,
-    totals: IndexMap<Vec<u8>, i128>,
+    mut totals: Vec<(Vec<u8>, i128)>,
 ) -> Result<Vec<(Vec<u8>, i128)>, AllocError>
     ensures same { IfOk result (λ list. (q : List ℕ)
-        → number_at list.items q ≡ number_at totals.entries q) }
+        → total_among list.items q ≡ total_among totals.items q) }
     ensures ascending { IfOk result (λ list.
-        IsStrictlySortedBy (slice_cmp nat_cmp) (map (λ e. e.0) (plain_pairs list.items))) }
+        IsStrictlySortedBy (slice_cmp nat_cmp) (keys_among list.items)) }
 {
-    let mut list = Vec::with_capacity(alloc, totals.len())?;
-    for (key, total) in totals {
-        list.push((key, total))?;
-    }
-    list.sort_unstable_by(
+    totals.sort_unstable_by(
         |a: &(Vec<u8>, i128), b: &(Vec<u8>, i128)| -> Ordering
             ensures { result ≡ slice_cmp nat_cmp a.now.0.items b.now.0.items }
         { a.0.cmp(&b.0) },
     );
+    let mut list = Vec::with_capacity(alloc, totals.len())?;
+    for (key, total) in totals {
+        let last = list.len().saturating_sub(1);
+        add_number(&mut list, last, key, total)?;
+    }
     Ok(list)
 }
 

@@ -11,6 +11,10 @@ use resp_core::{ErrorKind, RedisError, RedisResult, Value};
 /// which is `i64::MAX` of none: `DBSIZE` and `DEL` are summed up, and of `WAIT` it is the least. The
 /// order of the replies does not matter. Takes no memory.
 ///
+/// ```
+/// aggregate(replies, AggregateOp::Sum)
+/// ```
+///
 /// # Errors
 ///
 /// `UnexpectedReturnType` where a reply is not a number, or where the sum does not fit in an i64; a

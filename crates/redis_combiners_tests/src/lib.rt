@@ -6,6 +6,8 @@ mod arrays;
 #[cfg(test)]
 mod given;
 #[cfg(test)]
+mod hostile;
+#[cfg(test)]
 mod logical;
 #[cfg(test)]
 mod maps;

@@ -136,3 +136,62 @@ fn other_replies_are_refused(rt: HostRuntime) -> Result<(), Fail> {
     }
     Ok(())
 }
+
+/// How many keys each reply has.
+const KEYS: i64 = 1000;
+
+// The pairs of all keys, each number under its text, from a key on and round.
+fn pairs_from(alloc: Global, first: i64) -> Result<Vec<(Value, Value)>, AllocError> {
+    let mut pairs = Vec::new(alloc);
+    for k in first..first.saturating_add(KEYS) {
+        let n = k % KEYS;
+        let key = format!(in alloc; "{n:04}")?;
+        pairs.push((bulk(alloc, key.as_str())?, Value::Int(n)))?;
+    }
+    Ok(pairs)
+}
+
+fn array_of_pairs(alloc: Global, pairs: Vec<(Value, Value)>) -> Result<Value, AllocError> {
+    let mut items = Vec::new(alloc);
+    for (key, number) in pairs {
+        items.push(key)?;
+        items.push(number)?;
+    }
+    Ok(Value::Array(items))
+}
+
+// Whether two replies, the second with its keys in another order, make the totals of the keys.
+fn makes_in_any_order(alloc: Global, others: Vec<(Value, Value)>) -> Result<bool, Fail> {
+    let values = vec![in alloc;
+        array_of_pairs(alloc, pairs_from(alloc, 0)?)?,
+        array_of_pairs(alloc, others)?,
+    ]?;
+    let mut totals = pairs_from(alloc, 0)?;
+    for pair in totals.iter_mut() {
+        if let Value::Int(n) = &mut pair.1 {
+            *n = n.saturating_mul(2);
+        }
+    }
+    Ok(combine_map_results(alloc, values)? == Value::Map(totals))
+}
+
+#[test]
+fn keys_in_another_order_have_their_totals(rt: HostRuntime) -> Result<(), Fail> {
+    let alloc = rt.alloc();
+    let mut turned = pairs_from(alloc, 0)?;
+    turned.as_mut_slice().reverse();
+    assert!(rt;
+        makes_in_any_order(alloc, pairs_from(alloc, 0)?)?,
+        "the same order"
+    );
+    assert!(rt;
+        makes_in_any_order(alloc, pairs_from(alloc, 1)?)?,
+        "one key later"
+    );
+    assert!(rt;
+        makes_in_any_order(alloc, pairs_from(alloc, 500)?)?,
+        "from the middle on"
+    );
+    assert!(rt; makes_in_any_order(alloc, turned)?, "turned round");
+    Ok(())
+}

@@ -1,35 +1,41 @@
-use Rattle.std.proofs.Common.{◌≡◌, ap, ◌∙◌, cond, Some, pos, ◌+ℤ◌, arith, rules, to_z, of_z}
+use Rattle.std.proofs.Common.{◌≡◌, ◌∙◌, ◌++◌, ◌∷◌, [], ap, sym, refl, cond, slice_get, true, Some, ◌+ℤ◌, rules, to_z, of_z, FitsSigned}
 use Rattle.std.specs.Int.{w128}
-use Rattle.std.specs.Prelude.{unwrap_or}
+use Rattle.std.proofs.lemmas.Int.{to_z-of_z}
 use Rattle.std.specs.Str.{bytes_eq}
-use Rattle.std.proofs.lemmas.Int.{ints}
-use Rattle.std.proofs.lemmas.Result.{on_ok_weaker}
-use Rattle.redis_combiners.specs.Entries.{number_at}
-use Rattle.redis_combiners.proofs.Totals.{number_at-updates}
+use Rattle.std.proofs.lemmas.Option.{get_or_from_slice_get}
+use Rattle.redis_combiners.specs.Entries.{keys_among, has_key_at}
+use Rattle.redis_combiners.proofs.ByKey.{found_entry, total_set, keys_set, total_pushed}
 use Rattle.redis_combiners.proofs.maps.add_number.Goals as goal
 
-pub returns-in-Some : goal.returns-in-Some
-returns-in-Some c =
+pub returns-in_ok-add_to-clause-totals : goal.returns-in_ok-add_to-clause-totals
+returns-in_ok-add_to-clause-totals c q =
+    let old = c.args.totals.now.items in
     let key = c.args.key.items in
-    let old = c.args.totals.now.entries in
-    let n = c.args.n in
-    let sum = c.add_to.new.total in
-    let update = (c.get_mut.follows.holds sum).3 (search rules) in
-    on_ok_weaker c.add_to.result
-    (λ e q. number_at-updates key old (c.get_mut.follows.lender sum).entries (Some sum) update.1 update.3 q
-    ∙ ap (λ z. cond (bytes_eq key q) (Some z) (number_at old q))
-    (let more : sum ≡ c.in-Some.total.now +ℤ n = (let f = c.ranges.n.sfits in omega (arith, ints, e)) in more ∙ ap (λ o. unwrap_or o (pos 0) +ℤ n) c.in-Some.ensures.value))
-    c.add_to.ensures
+    let read = c.index_mut.result.now in
+    let (entry, got, same) = found_entry old c.args.place key (sym c.has_key.ensures ∙ c.if-has_key.true) in
+    let is : read ≡ entry = c.index_mut.ensures.value ∙ get_or_from_slice_get old c.args.place entry read got in
+    let there : slice_get old c.args.place ≡ Some read = got ∙ ap Some (sym is) in
+    let of_key : bytes_eq read.0.items key ≡ true = ap (λ e. bytes_eq e.0.items key) is ∙ same in
+    let more : c.add_to.new.total ≡ read.1 +ℤ c.args.number = search rules in
+    total_set old _ c.args.place read key c.args.number c.add_to.new.total there of_key refl more q
 
-pub returns-in_ok-insert-in-None : goal.returns-in_ok-insert-in-None
-returns-in_ok-insert-in-None c = λ q.
+pub returns-in_ok-add_to-clause-keys : goal.returns-in_ok-add_to-clause-keys
+returns-in_ok-add_to-clause-keys c =
+    let old = c.args.totals.now.items in
     let key = c.args.key.items in
-    let old = c.args.totals.now in
-    let n = c.args.n in
-    let kept = c.get_mut.follows.lender-at-none in
-    let update = c.in_ok-insert-in-None.ensures.updates in
-    let sum = to_z w128 (of_z w128 c.from.result) in
-    number_at-updates key kept.entries c.insert.new.self.entries (Some sum) update.1 update.3 q
-    ∙ ap (λ m. cond (bytes_eq key q) (Some sum) (number_at m.entries q)) c.get_mut.follows.holds-at-none
-    ∙ ap (λ z. cond (bytes_eq key q) (Some z) (number_at old.entries q))
-    (let first : sum ≡ pos 0 +ℤ n = (let f = c.from.ensures in omega (arith, ints)) in first ∙ ap (λ o. unwrap_or o (pos 0) +ℤ n) c.in-None.ensures.value)
+    let read = c.index_mut.result.now in
+    let has : has_key_at old c.args.place key ≡ true = sym c.has_key.ensures ∙ c.if-has_key.true in
+    let (entry, got, same) = found_entry old c.args.place key has in
+    let is : read ≡ entry = c.index_mut.ensures.value ∙ get_or_from_slice_get old c.args.place entry read got in
+    let there : slice_get old c.args.place ≡ Some read = got ∙ ap Some (sym is) in
+    let of_key : bytes_eq read.0.items key ≡ true = ap (λ e. bytes_eq e.0.items key) is ∙ same in
+    keys_set old _ c.args.place read key c.add_to.new.total there of_key refl
+    ∙ ap (λ b. cond b (keys_among old) (keys_among old ++ key ∷ [])) (sym has)
+
+pub returns-in_ok-push-clause-totals : goal.returns-in_ok-push-clause-totals
+returns-in_ok-push-clause-totals c q =
+    let old = c.args.totals.now.items in
+    let key = c.args.key in
+    let wide : FitsSigned w128 c.args.number = search rules in
+    let same : to_z w128 (of_z w128 c.args.number) ≡ c.args.number = to_z-of_z w128 c.args.number wide in
+    total_pushed old c.push.new.self.items key c.args.number (c.in_ok-push.ensures.items ∙ ap (λ z. old ++ (key, z) ∷ []) same) q

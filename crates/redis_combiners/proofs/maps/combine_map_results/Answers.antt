@@ -19,14 +19,14 @@ returns-in-Some-2-clause-answer c =
     let sums = c.in-Some.sums in
     let list = c.in-Some-2.list in
     let seen : view (Map list) ≡ pairs (pairs_of (map view_pair list.items)) = search (rules, the_lemmas) in
-    combined_from (map view c.args.values.items) sums.pair_count sums.totals.entries c.in_ok-ascending.ascending.items (Some (map view_pair list.items))
+    combined_from (map view c.args.values.items) sums.pair_count sums.totals.items c.in_ok-ascending.ascending.items (Some (map view_pair list.items))
     (λ q. rw c.in-Some.is at c.in_ok-sums.ensures.totals q) (rw c.in-Some.is at c.in_ok-sums.ensures.few) c.in_ok-ascending.ensures.ascending c.in_ok-ascending.ensures.same (rw c.in-Some-2.is at c.in_ok-list.ensures)
     ∙ ap Some (sym seen)
 
 pub returns-in-None-clause-answer : goal.returns-in-None-clause-answer
 returns-in-None-clause-answer c =
     let sums = c.in-Some.sums in
-    let refused = combined_from (map view c.args.values.items) sums.pair_count sums.totals.entries c.in_ok-ascending.ascending.items None
+    let refused = combined_from (map view c.args.values.items) sums.pair_count sums.totals.items c.in_ok-ascending.ascending.items None
     (λ q. rw c.in-Some.is at c.in_ok-sums.ensures.totals q) (rw c.in-Some.is at c.in_ok-sums.ensures.few) c.in_ok-ascending.ensures.ascending c.in_ok-ascending.ensures.same (rw c.in-None.is at c.in_ok-list.ensures) in
     inr (refused, ap (λ e. e.kind) c.from-in-None.ensures)
 

@@ -2,7 +2,7 @@ use Rattle.std.proofs.Common.{◌∷◌, ◌≡◌, ap, sym, ◌∙◌, map, Som
 use Rattle.resp_core.specs.Reply.{array_of}
 use Rattle.resp_core.specs.View.{view}
 use Rattle.redis_combiners.specs.KeyNumbers.{all_pairs}
-use Rattle.redis_combiners.specs.Entries.{number_at, with_pairs}
+use Rattle.redis_combiners.specs.Entries.{total_among, with_pairs}
 use Rattle.redis_combiners.proofs.WithPairs.{replies_more, reply_refused}
 use Rattle.redis_combiners.proofs.maps.sum_replies.Goals as goal
 
@@ -13,8 +13,8 @@ returns-then-not-branch-clause-totals c = λ q.
     let array : Some items ≡ array_of (view c.in-Some.value) = search rules in
     let rest = map view c.next.new.self.rest.items in
     let left : map view c.loop-value.value-iterator.rest.items ≡ map view (c.in-Some.value ∷ c.next.new.self.rest.items) = search rules in
-    reply_refused old.pair_count q (number_at old.totals.entries q) (view c.in-Some.value) items rest array (rw c.if-not-branch.true at c.in_ok-add_pairs.ensures.totals q)
-    ∙ ap (λ rs. with_pairs old.pair_count (number_at old.totals.entries q) q (all_pairs rs)) (sym left)
+    reply_refused old.pair_count q (total_among old.totals.items q) (view c.in-Some.value) items rest array (rw c.if-not-branch.true at c.in_ok-add_pairs.ensures.totals q)
+    ∙ ap (λ rs. with_pairs old.pair_count (total_among old.totals.items q) q (all_pairs rs)) (sym left)
     ∙ c.loop-value.invariant.2 q
 
 pub loop-value-preserved : goal.loop-value-preserved
@@ -28,8 +28,8 @@ loop-value-preserved c =
       tt,
       tt,
       (λ q.
-          replies_more old.pair_count new.pair_count q (number_at old.totals.entries q) (number_at new.totals.entries q) (view c.in-Some.value) items rest array (rw c.if-not-branch.false at c.in_ok-add_pairs.ensures.totals q)
-          ∙ ap (λ rs. with_pairs old.pair_count (number_at old.totals.entries q) q (all_pairs rs)) (sym left)
+          replies_more old.pair_count new.pair_count q (total_among old.totals.items q) (total_among new.totals.items q) (view c.in-Some.value) items rest array (rw c.if-not-branch.false at c.in_ok-add_pairs.ensures.totals q)
+          ∙ ap (λ rs. with_pairs old.pair_count (total_among old.totals.items q) q (all_pairs rs)) (sym left)
           ∙ c.loop-value.invariant.2 q),
       c.in_ok-add_pairs.ensures.few,
     )
