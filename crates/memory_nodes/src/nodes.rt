@@ -1,7 +1,7 @@
 ghost use Rattle.std.specs.Prelude.{◌≡◌, ◌≤◌, ◌+◌, ◌++◌, ◌∷◌, ◌↔◌, ℕ, [], None, Some, false, IfOk, OnOk, IfErr, OnErr, IfSome, IsSome, IsTrue, option_copied, length, map};
 ghost use Rattle.resp_core.specs.View.{view};
 ghost use Rattle.redis_nodes.specs.MultiKey.{multi_key};
-ghost use Rattle.redis_nodes.specs.Sent.{IsUnanswered, ending_of};
+ghost use Rattle.redis_nodes.specs.Sent.{IsLeft, IsUnanswered, ending_of};
 ghost use Rattle.redis_nodes.specs.Trace.{Ending, answered, refused, entry};
 ghost use Rattle.redis_nodes.specs.Unsplit.{keyspace_after, reply_to};
 ghost use Rattle.memory_nodes.specs.Cells.{Cell, value_at};
@@ -146,9 +146,12 @@ impl Nodes for MemoryNodes {
             (trace_in self.new ≡ trace_in self.old ++ entry node.now cmd.now answered ∷ []) }
         ensures mark { OnOk result (mark_in self.new ≡ false) }
         ensures unanswered { IfErr result
-            (λ error. IsUnanswered (MayRefuse self.old) (keyspace_in self.old)
-            (keyspace_in self.new) (trace_in self.old) (trace_in self.new) (mark_in self.new)
-            node.now cmd.now (ending_of error)) }
+            (λ error. IsUnanswered (MayRefuse self.old) (trace_in self.old) (trace_in self.new)
+            (mark_in self.new) node.now cmd.now (ending_of error)) }
+        ensures stays { OnErr result (keyspace_in self.new ≡ keyspace_in self.old) }
+        ensures left { IfErr result (λ error. IfSome (multi_key (map Some cmd.now))
+            (λ command. IsLeft step command (keyspace_in self.old) (keyspace_in self.new)
+            (ending_of error))) }
         ensures may_refuse { (count : ℕ) (ending : Ending) → MayRefuse self.new count ending
             ↔ MayRefuse self.old count ending }
         ensures not_refused { OnOk result

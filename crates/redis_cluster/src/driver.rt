@@ -1,3 +1,3 @@
-//! Commands over many keys, split by slot, sent in any order, and answered as by one server.
+//! Multi-key commands, split by slot, sent in any order, and answered as by one server.
 pub use redis_driver::{DriveError, DriveFault, PlanFault, SplitPlan, drive};
 pub use redis_nodes::{Nodes, SendError};

@@ -1,5 +1,5 @@
 -- What stands when the parts were sent, or the sends stopped.
-use Rattle.std.proofs.Common.{◌≡◌, ◌<◌, ◌≤◌, ℕ, zero, suc, List, [], ◌∷◌, ◌++◌, Option, Some, None, All, inl, inr, ◌⊎◌, refl, sym, ap, ◌∙◌, arith, subst, map, take, length, get_or}
+use Rattle.std.proofs.Common.{◌≡◌, ◌<◌, ◌≤◌, ℕ, zero, suc, ◌+◌, List, [], ◌∷◌, ◌++◌, Option, Some, None, All, inl, inr, ◌⊎◌, refl, sym, ap, ◌∙◌, arith, subst, map, take, length, get_or}
 use Rattle.std.specs.Prelude.{slice_get, cond, Bool}
 use Rattle.std.specs.Str.{bytes_eq}
 use Rattle.std.proofs.Common.{⊎_elim}
@@ -18,7 +18,7 @@ use Rattle.redis_commands.specs.Command.{Arguments}
 use Rattle.redis_nodes.specs.MultiKey.{MultiKey, KeyTuple, list}
 use Rattle.redis_nodes.specs.Orders.{NamesOnce, in_order, tuples_of_slots}
 use Rattle.redis_nodes.specs.Sent.{ending_of}
-use Rattle.redis_nodes.specs.Trace.{Entry, Ending, answered, refused}
+use Rattle.redis_nodes.specs.Trace.{Entry, Ending, answered, refused, lost}
 use Rattle.redis_nodes.specs.Unsplit.{Step, Keyspace, act_of, after, keyspace_after, put}
 use Rattle.redis_nodes.specs.declared.nodes.SendError.{SendError}
 use Rattle.redis_nodes.specs.declared.nodes.SendError.TheVariants as sent
@@ -26,12 +26,12 @@ use Rattle.redis_nodes.proofs.Fold.{joined}
 use Rattle.redis_nodes.proofs.Orders.{map-in_order}
 use Rattle.redis_nodes.proofs.Once.{length-names_once}
 use Rattle.redis_nodes.proofs.Whole.{keyspace_of_all, keyspace_at_stop, names_slots_from}
-use Rattle.redis_driver.specs.Driven.{Request, State, IsCoveredCommand, IsDrivable, IsEntryOf, AreSent}
+use Rattle.redis_driver.specs.Driven.{Request, State, IsCoveredCommand, IsDrivable, IsEntryOf, AreSent, IsLeftBy}
 use Rattle.redis_driver.specs.Ended.{AreEndedEarly, IsReplyEnded}
-use Rattle.redis_driver.specs.Faults.{fault_of_send, IsUntouched, IsStopped, IsNodeFault, IsLateMemory, IsFault, IsEarly, IsMisfit, IsCut, nothing, unseen, unseen_step}
+use Rattle.redis_driver.specs.Faults.{fault_of_send, IsBefore, IsUntouched, IsStopped, IsNodeFault, IsLostFault, IsLateMemory, IsFault, IsEarly, IsMisfit, IsCut, nothing, unseen, unseen_step}
 use Rattle.redis_driver.specs.Plan.{Plan}
 use Rattle.redis_routing.specs.Split.{slots_of}
-use Rattle.redis_driver.specs.Sends.{Target, targets, target_entry, IsLast, AreStopped}
+use Rattle.redis_driver.specs.Sends.{Target, targets, target_entry, IsLast, IsLeftAt, AreStopped}
 use Rattle.redis_driver.specs.declared.fault.DriveFault.{DriveFault}
 use Rattle.redis_driver.specs.declared.fault.DriveFault.TheVariants as early
 use Rattle.redis_driver.specs.Ready.{IsTarget, IsReady}
@@ -133,6 +133,9 @@ module _ {C : Type 0} (IsNode : SlotRoute → Address → Type 0) (step : Step C
         ap (map (λ (route : SlotRoute). route.slot)) (take_in_order routes count r.order of_routes.below)
         ∙ map-in_order (λ (route : SlotRoute). route.slot) routes (take count r.order) ∙ ap (λ xs. in_order xs (take count r.order)) slots_are
 
+    left_by : (count : ℕ) → new.keyspace ≡ after (act_of step command) (tuples_of_slots (in_order slots (take count r.order)) command.tuples) old.keyspace → IsLeftBy step old new command (take count (in_order routes r.order))
+    left_by count keyspace = keyspace ∙ ap (λ xs. after (act_of step command) (tuples_of_slots xs command.tuples) old.keyspace) (sym (slots_first count))
+
     stopped_first : (count : ℕ) (trace : List Entry) → count ≤ length routes → trace ≡ old.trace ++ map (target_entry answered) (in_order (targets plan) (take count r.order))
         → new.keyspace ≡ after (act_of step command) (tuples_of_slots (in_order slots (take count r.order)) command.tuples) old.keyspace
         → IsStopped IsNode step r old new routes command count trace
@@ -142,7 +145,7 @@ module _ {C : Type 0} (IsNode : SlotRoute → Address → Type 0) (step : Step C
           within = within;
           answered = record {
             sent = sent_first count trace grew;
-            keyspace = keyspace ∙ ap (λ xs. after (act_of step command) (tuples_of_slots xs command.tuples) old.keyspace) (sym (slots_first count));
+            keyspace = left_by count keyspace;
           };
         }
 
@@ -198,6 +201,29 @@ module _ {C : Type 0} (IsNode : SlotRoute → Address → Type 0) (step : Step C
             allowed = last.1;
           }
 
+      lost_fault : (error : ErrorParts) → AreStopped kept step may_refuse command plan r.order count old.keyspace new.keyspace old.trace new.trace new.mark (Some (lost error))
+          → (found : Option Target) → slice_get (in_order (targets plan) r.order) count ≡ found → (before : List Entry) → IsLast may_refuse before new.trace new.mark found (Some (lost error))
+          → before ≡ old.trace ++ map (target_entry answered) (in_order (targets plan) (take count r.order))
+          → IsLostFault IsNode step r old new may_refuse error count
+      lost_fault error stopped None at before last grew = absurd last
+      lost_fault error stopped (Some target) at before last grew =
+          let own = beside (IsTarget IsNode r.arguments) (in_order routes r.order) (in_order (targets plan) r.order) count target
+          (both_in_order (IsTarget IsNode r.arguments) routes (targets plan) r.order is.targets_are) at in
+          record {
+            routes = routes;
+            command = command;
+            drivable = drivable;
+            before = before;
+            sent = sent_first count before grew;
+            route = own.0;
+            next = own.1;
+            last = target_entry (lost error) target;
+            loss = (own.2.0, own.2.1, refl);
+            trace = last.0;
+            allowed = last.1;
+            keyspace = ⊎_elim (λ e. inl (left_by count e)) (λ e. inr (left_by (count + 1) e)) (stopped.keyspace now);
+          }
+
       memory_fault : (n : ℕ) → count ≡ n → AreStopped kept step may_refuse command plan r.order count old.keyspace new.keyspace old.trace new.trace new.mark None
           → (found : Option Target) → slice_get (in_order (targets plan) r.order) count ≡ found → (before : List Entry) → IsLast may_refuse before new.trace new.mark found None
           → before ≡ old.trace ++ map (target_entry answered) (in_order (targets plan) (take count r.order))
@@ -224,6 +250,7 @@ module _ {C : Type 0} (IsNode : SlotRoute → Address → Type 0) (step : Step C
           → IsFault IsNode step r old new may_refuse (fault_of_send error) count
       send_fault (sent.Refused error) stopped =
           node_fault error stopped.before (stopped_first count stopped.before (omega (arith, within, routes_many)) stopped.trace (stopped.keyspace now)) (slice_get (in_order (targets plan) r.order) count) refl stopped.last
+      send_fault (sent.Lost error) stopped = lost_fault error stopped (slice_get (in_order (targets plan) r.order) count) refl stopped.before stopped.last stopped.trace
       send_fault sent.Memory stopped = memory_fault count refl stopped (slice_get (in_order (targets plan) r.order) count) refl stopped.before stopped.last stopped.trace
 
     -- a plan that was not driven to its end has a fault with its cause
@@ -245,13 +272,19 @@ after_nothing : (command : MultiKey) (ts : List KeyTuple) → nothing ≡ after 
 after_nothing command [] = refl
 after_nothing command (t ∷ ts) = after_nothing command ts ∙ ap (λ k. after (act_of unseen_step command) ts k) (sym (fun_ext (put_nothing t.key)))
 
+unseen_left : (command : MultiKey) (ts : List KeyTuple) (slots more : List ℕ) (ending : Option Ending) → IsLeftAt (act_of unseen_step command) ts slots more nothing nothing ending
+unseen_left command ts slots more None = after_nothing command (tuples_of_slots slots ts)
+unseen_left command ts slots more (Some answered) = after_nothing command (tuples_of_slots slots ts)
+unseen_left command ts slots more (Some (refused error)) = after_nothing command (tuples_of_slots slots ts)
+unseen_left command ts slots more (Some (lost error)) = inl (after_nothing command (tuples_of_slots slots ts))
+
 module _ {C : Type 0} (step : Step C) (kept : Type 0) (may_refuse : ℕ → Ending → Type 0) (plan : Plan) (order : List ℕ) (old_keys new_keys : Keyspace C) (old new : List Entry) (mark : Bool) where
   unseen_stopped : (command : MultiKey) (count : ℕ) (ending : Option Ending) → AreStopped kept step may_refuse command plan order count old_keys new_keys old new mark ending
       → AreStopped (Unit {0}) unseen_step may_refuse command plan order count nothing nothing old new mark ending
   unseen_stopped command count ending s = record {
     before = s.before;
     trace = s.trace;
-    keyspace = λ now. after_nothing command (tuples_of_slots (in_order (slots_of plan.split.routes) (take count order)) command.tuples);
+    keyspace = λ now. unseen_left command command.tuples (in_order (slots_of plan.split.routes) (take count order)) (in_order (slots_of plan.split.routes) (take (count + 1) order)) ending;
     last = s.last;
   }
 
@@ -268,6 +301,7 @@ cut_of IsNode r old new may_refuse (early.NotCovered slot) count f = f
 cut_of IsNode r old new may_refuse early.BadOrder count f = f
 cut_of IsNode r old new may_refuse early.Memory count f = f
 cut_of IsNode r old new may_refuse (early.Node error) count f = f
+cut_of IsNode r old new may_refuse (early.Lost error) count f = f
 cut_of IsNode r old new may_refuse (early.Reply error) count f = absurd f
 
 module _ {C : Type 0} (IsNode : SlotRoute → Address → Type 0) (step : Step C) (r : Request) (kept : Type 0) (old_keys new_keys : Keyspace C) (old new : List Entry) (old_mark new_mark : Bool) (plan : Plan) (command : MultiKey) (is : IsReady IsNode r plan command) (order : NamesOnce (length plan.split.routes) r.order) where
@@ -291,7 +325,32 @@ early_fault IsNode step r old may_refuse (early.NotCovered slot) is = (is, recor
 early_fault IsNode step r old may_refuse early.BadOrder is = (is, record { answered = refl; keyspace = refl; trace = refl }, refl)
 early_fault IsNode step r old may_refuse early.Memory is = inl (record { answered = refl; keyspace = refl; trace = refl })
 early_fault IsNode step r old may_refuse (early.Node error) is = absurd is
+early_fault IsNode step r old may_refuse (early.Lost error) is = absurd is
 early_fault IsNode step r old may_refuse (early.Reply error) is = absurd is
 
 pub early_cut : (IsNode : SlotRoute → Address → Type 0) (r : Request) (old : State (Unit {0})) (may_refuse : ℕ → Ending → Type 0) (fault : DriveFault) → IsEarly r fault → IsCut IsNode r old old may_refuse fault 0
 early_cut IsNode r old may_refuse fault is = cut_of IsNode r old old may_refuse fault 0 (early_fault IsNode unseen_step r old may_refuse fault is)
+
+-- a fault of the sends is none of those that are told before the first
+late_send : (error : SendError) → IsBefore (fault_of_send error) → ⊥
+late_send (sent.Refused error) before = before
+late_send (sent.Lost error) before = before
+late_send sent.Memory before = before
+
+pub ended_late : {C : Type 0} (step : Step C) (kept : Type 0) (may_refuse : ℕ → Ending → Type 0) (plan : Plan) (order : List ℕ) (old_keys new_keys : Keyspace C) (old new : List Entry) (mark : Bool) (fault : DriveFault) (count : ℕ)
+    → AreEndedEarly kept step may_refuse plan order old_keys new_keys old new mark fault count → IsBefore fault → ⊥
+ended_late step kept may_refuse plan order old_keys new_keys old new mark fault count (inl e) before = late_send e.error (subst IsBefore e.fault_is before)
+ended_late step kept may_refuse plan order old_keys new_keys old new mark fault count (inr (inl e)) before = let none : IsBefore early.Memory = subst IsBefore e.fault_is before in none
+ended_late step kept may_refuse plan order old_keys new_keys old new mark fault count (inr (inr e)) before = let none : IsBefore (early.Reply e.error) = subst IsBefore e.fault_is before in none
+
+-- nor is it a refusal of the replies
+pub no_reply_fault : (error : SendError) (reply : ErrorParts) → fault_of_send error ≡ early.Reply reply → ⊥
+no_reply_fault (sent.Refused error) reply is = cc
+no_reply_fault (sent.Lost error) reply is = cc
+no_reply_fault sent.Memory reply is = cc
+
+pub memory_is_no_reply : (reply : ErrorParts) → early.Memory ≡ early.Reply reply → ⊥
+memory_is_no_reply reply is = cc
+
+pub same_reply : (one other : ErrorParts) → early.Reply one ≡ early.Reply other → one ≡ other
+same_reply one other is = cc

@@ -1,7 +1,8 @@
 -- One part more is sent and its reply told, and the replies are all there in the end.
-use Rattle.std.proofs.Common.{◌≡◌, ◌<◌, ◌↔◌, ℕ, zero, suc, ◌+◌, List, [], ◌∷◌, Bool, false, cond, Option, Some, None, refl, sym, ap, ◌∙◌, arith, length, map, take, get_or, subst}
+use Rattle.std.proofs.Common.{◌≡◌, ◌<◌, ◌↔◌, inl, inr, ⊎_elim, ℕ, zero, suc, ◌+◌, List, [], ◌∷◌, Bool, false, cond, Option, Some, None, refl, sym, ap, ◌∙◌, arith, length, map, take, get_or, subst}
 use Rattle.std.specs.Prelude.{nat_eq, slice_get, slice_set}
-use Rattle.std.specs.List.{AllZip, zip}
+use Rattle.std.specs.List.{All, AllZip, zip}
+use Rattle.std.proofs.lemmas.List.Elements.{All-nil, All-cons}
 use Rattle.std.proofs.lemmas.Bool.{eqb-true}
 use Rattle.std.proofs.lemmas.Bool.Decides.{nat_tests}
 use Rattle.cluster_slots.specs.Address.{Address}
@@ -9,18 +10,19 @@ use Rattle.resp_core.proofs.Cases.{by_test}
 use Rattle.resp_core.specs.Reply.{Reply}
 use Rattle.resp_core.specs.View.{view}
 use Rattle.resp_core.specs.declared.value.Value.{Value}
-use Rattle.redis_nodes.specs.MultiKey.{MultiKey, multi_key, part_of}
-use Rattle.redis_nodes.specs.Orders.{times, NamesOnce, in_order}
-use Rattle.redis_nodes.specs.Sent.{IsUnanswered}
-use Rattle.redis_nodes.specs.Trace.{Entry, Ending}
-use Rattle.redis_nodes.specs.Unsplit.{Keyspace}
+use Rattle.cluster_slots.specs.KeySlot.{key_slot}
+use Rattle.redis_nodes.specs.MultiKey.{KeyTuple, MultiKey, multi_key, part_of, tuples_of_slot}
+use Rattle.redis_nodes.specs.Orders.{times, NamesOnce, in_order, tuples_of_slots}
+use Rattle.redis_nodes.specs.Sent.{IsLeft, IsUnanswered}
+use Rattle.redis_nodes.specs.Trace.{Entry, Ending, answered, refused, lost}
+use Rattle.redis_nodes.specs.Unsplit.{Act, Step, Keyspace, after, keyspace_after}
 use Rattle.redis_nodes.proofs.Counts.{same_number, times_here, times_there}
 use Rattle.redis_nodes.proofs.Orders.{in_order_more, map-in_order}
 use Rattle.std.specs.Option.{option_to_list}
 use Rattle.std.proofs.lemmas.List.{map_push}
 use Rattle.std.proofs.Common.{append_assoc, ◌++◌}
 use Rattle.redis_nodes.proofs.Once.{times_more, times-take, names_once-apart}
-use Rattle.redis_driver.specs.Sends.{Target, IsLast}
+use Rattle.redis_driver.specs.Sends.{Target, IsLast, IsLeftAt}
 use Rattle.redis_driver.proofs.Constructors.{same_some, same_head, same_tail}
 
 -- the slot of a route, and where its part goes, which is that of the slot
@@ -41,6 +43,14 @@ route_target command (s ∷ slots) (n ∷ nodes) (p ∷ parts) zero many each wi
 route_target command (s ∷ slots) (n ∷ nodes) (p ∷ parts) (suc number) many each within =
     let rest = route_target command slots nodes parts number (omega arith) each.1 (omega arith) in
     record { slot = rest.slot; target = rest.target; slot_at = rest.slot_at; target_at = rest.target_at; part = rest.part }
+
+-- the tuples of a slot have it
+pub of_one_slot : (slot : ℕ) (ts : List KeyTuple) → All (λ (t : KeyTuple). key_slot t.key ≡ slot) (tuples_of_slot slot ts)
+of_one_slot slot [] = All-nil (λ (t : KeyTuple). key_slot t.key ≡ slot)
+of_one_slot slot (t ∷ ts) =
+    by_test (nat_eq (key_slot t.key) slot)
+    (λ here. rw here (All-cons (λ (u : KeyTuple). key_slot u.key ≡ slot) t (tuples_of_slot slot ts) (eqb-true (key_slot t.key) slot here) (of_one_slot slot ts)))
+    (λ there. rw there (of_one_slot slot ts))
 
 -- what is put at a place stands there, and elsewhere nothing changes
 pub set_here : {X : Type 0} (xs : List X) (k : ℕ) (x : X) → k < length xs → slice_get (slice_set xs k x) k ≡ Some x
@@ -190,16 +200,18 @@ all_some_told (r ∷ replies) each =
     (first.0 ∷ rest.0, ap (λ o. o ∷ replies) first_is ∙ ap (λ os. Some first.0 ∷ os) rest.1)
 
 -- what a send that was not answered leaves is how the sends end
-pub last_is : {C : Type 0} (may now_may : ℕ → Ending → Type 0) (old_keys new_keys : Keyspace C) (old new : List Entry) (mark : Bool) (target : Target) (found : Option Target) (ending : Option Ending)
+pub last_is : (may now_may : ℕ → Ending → Type 0) (old new : List Entry) (mark : Bool) (target : Target) (found : Option Target) (ending : Option Ending)
     → ((count : ℕ) (e : Ending) → now_may count e ↔ may count e) → found ≡ Some target
-    → IsUnanswered now_may old_keys new_keys old new mark target.0 target.1 ending → IsLast may old new mark found ending
-last_is may now_may old_keys new_keys old new mark target found (Some ending) same at h =
-    subst (λ (o : Option Target). IsLast may old new mark o (Some ending)) (sym at) (h.2, (same (length old) ending).0 h.0)
-last_is may now_may old_keys new_keys old new mark target found None same at h =
-    subst (λ (o : Option Target). IsLast may old new mark o None) (sym at) (h.1, h.2)
+    → IsUnanswered now_may old new mark target.0 target.1 ending → IsLast may old new mark found ending
+last_is may now_may old new mark target found (Some ending) same at h =
+    subst (λ (o : Option Target). IsLast may old new mark o (Some ending)) (sym at) (h.1, (same (length old) ending).0 h.0)
+last_is may now_may old new mark target found None same at h =
+    subst (λ (o : Option Target). IsLast may old new mark o None) (sym at) (h.0, h.1)
 
--- and the keyspace is the old one
-pub same_keys : {C : Type 0} (may : ℕ → Ending → Type 0) (old_keys new_keys : Keyspace C) (old new : List Entry) (mark : Bool) (target : Target) (ending : Option Ending)
-    → IsUnanswered may old_keys new_keys old new mark target.0 target.1 ending → new_keys ≡ old_keys
-same_keys may old_keys new_keys old new mark target (Some ending) h = h.1
-same_keys may old_keys new_keys old new mark target None h = h.0
+-- and the keyspace is that of the parts before it, or where the reply was lost that of one part more
+pub left_at : {C : Type 0} (step : Step C) (act : Act C) (tuples : List KeyTuple) (part : MultiKey) (slots more : List ℕ) (old mid new : Keyspace C) (ending : Option Ending) → mid ≡ after act (tuples_of_slots slots tuples) old
+    → keyspace_after step part mid ≡ after act (tuples_of_slots more tuples) old → IsLeft step part mid new ending → IsLeftAt act tuples slots more old new ending
+left_at step act tuples part slots more old mid new None was next left = left ∙ was
+left_at step act tuples part slots more old mid new (Some answered) was next left = left ∙ was
+left_at step act tuples part slots more old mid new (Some (refused error)) was next left = left ∙ was
+left_at step act tuples part slots more old mid new (Some (lost error)) was next left = ⊎_elim (λ e. inl (e ∙ was)) (λ e. inr (e ∙ next)) left

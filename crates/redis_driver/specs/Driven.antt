@@ -1,5 +1,5 @@
 -- What a command over many keys leaves at the nodes, and answers, when it was sent part by part.
-use Rattle.std.specs.Prelude.{◌≡◌, ◌<◌, ◌≤◌, ◌+◌, ℕ, Bool, List, ◌∷◌, ◌++◌, Option, Some, map, option_map, length}
+use Rattle.std.specs.Prelude.{◌≡◌, ◌<◌, ◌≤◌, ◌⊎◌, ◌+◌, ℕ, Bool, List, ◌∷◌, ◌++◌, Option, Some, map, option_map, length}
 use Rattle.std.specs.List.{All, AllZip}
 use Rattle.resp_core.specs.ErrorParts.{ErrorParts}
 use Rattle.resp_core.specs.Reply.{Reply}
@@ -13,7 +13,7 @@ use Rattle.redis_commands.specs.Command.{Arguments}
 use Rattle.redis_routing.specs.Complete.{multi_slot_routes, part_by_name}
 use Rattle.redis_nodes.specs.MultiKey.{MultiKey, multi_key}
 use Rattle.redis_nodes.specs.Orders.{NamesOnce, in_order, tuples_of_slots}
-use Rattle.redis_nodes.specs.Trace.{Entry, Ending, answered, refused}
+use Rattle.redis_nodes.specs.Trace.{Entry, Ending, answered, refused, lost}
 use Rattle.redis_nodes.specs.Unsplit.{Step, Keyspace, act_of, after, keyspace_after, reply_to}
 
 -- what is asked of the driver: a command's arguments, the names that only read, the entries of the
@@ -85,6 +85,13 @@ pub record IsDelivered (IsNode : SlotRoute → Address → Type 0) (r : Request)
   pub drivable : IsDrivable r routes command
   pub trace : AreSent IsNode r.arguments (in_order routes r.order) old new
 
+-- the keyspace is that of the tuples of these routes' slots, in the order of the arguments
+abbrev pub IsLeftBy : {C : Type 0} → Step C → (old new : State C) → MultiKey → List SlotRoute
+    → Type 0
+IsLeftBy step old new command routes =
+    new.keyspace ≡ after (act_of step command)
+    (tuples_of_slots (map (λ route. route.slot) routes) command.tuples) old.keyspace
+
 module _ {C : Type 0} (IsNode : SlotRoute → Address → Type 0) (step : Step C) (r : Request)
     (old new : State C) where
   -- The command was driven to its end: each part was sent once, in the order given, to a node of
@@ -102,17 +109,21 @@ module _ {C : Type 0} (IsNode : SlotRoute → Address → Type 0) (step : Step C
   pub record AreAnswered (command : MultiKey) (routes : List SlotRoute) (trace : List Entry)
       : Type 0 where
     pub sent : AreSent IsNode r.arguments routes old.trace trace
-    pub keyspace : new.keyspace ≡ after (act_of step command)
-        (tuples_of_slots (map (λ route. route.slot) routes) command.tuples) old.keyspace
+    pub keyspace : IsLeftBy step old new command routes
 
--- no send of those after so many entries may be refused
+-- each entry that the trace grew by was answered
+abbrev pub AreAllAnswered : List Entry → List Entry → Type 0
+AreAllAnswered old new =
+    (entries : List Entry) × (new ≡ old ++ entries) × All (λ e. e.ending ≡ answered) entries
+
+-- no send of those after so many entries may be refused, or lose its reply
 abbrev pub AreWilling : (ℕ → Ending → Type 0) → ℕ → ℕ → Type 0
 AreWilling may_refuse entries sends =
     (number : ℕ) → entries ≤ number → number < entries + sends → (error : ErrorParts)
-    → may_refuse number (refused error) → ⊥
+    → may_refuse number (refused error) ⊎ may_refuse number (lost error) → ⊥
 
--- what is needed beside memory, so that a command is driven to its end: it can be driven, and no
--- node refuses
+-- what is needed beside memory, so that a command is driven to its end: it can be driven, no node
+-- refuses, and no reply is lost
 pub record IsHeadline (may_refuse : ℕ → Ending → Type 0) (r : Request) (trace : List Entry)
     : Type 0 where
   pub routes : List SlotRoute

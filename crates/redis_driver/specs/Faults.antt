@@ -1,11 +1,11 @@
 -- Why a command was not driven to its end, and what stands then.
-use Rattle.std.specs.Prelude.{◌≡◌, ◌<◌, ◌≤◌, ◌⊎◌, ℕ, Bool, true, false, List, [], ◌∷◌, ◌++◌, None, Some, length, take, slice_get}
+use Rattle.std.specs.Prelude.{◌≡◌, ◌<◌, ◌≤◌, ◌⊎◌, ℕ, ◌+◌, Bool, true, false, List, [], ◌∷◌, ◌++◌, None, Some, length, take, slice_get}
 use Rattle.resp_core.specs.ErrorParts.{ErrorParts}
 use Rattle.cluster_slots.specs.Address.{Address}
 use Rattle.cluster_slots.specs.SlotRoute.{SlotRoute}
 use Rattle.redis_nodes.specs.MultiKey.{MultiKey, list}
 use Rattle.redis_nodes.specs.Orders.{NamesOnce, in_order}
-use Rattle.redis_nodes.specs.Trace.{Entry, Ending, refused}
+use Rattle.redis_nodes.specs.Trace.{Entry, Ending, refused, lost}
 use Rattle.resp_core.specs.Reply.{nil}
 use Rattle.redis_nodes.specs.Unsplit.{Step, Keyspace}
 use Rattle.redis_nodes.specs.declared.nodes.SendError.{SendError}
@@ -13,9 +13,9 @@ use Rattle.redis_nodes.specs.declared.nodes.SendError.TheVariants as sent
 use Rattle.slot_ranges.specs.SlotNodes.{SlotNodes}
 use Rattle.slot_ranges.specs.RangeMap as ranges
 use Rattle.redis_commands.specs.Command.{Arguments}
-use Rattle.redis_driver.specs.Driven.{Request, State, state, routes_by, IsFirstUncovered, IsCoveredCommand, IsDrivable, IsEntryOf, AreAnswered}
+use Rattle.redis_driver.specs.Driven.{Request, State, state, routes_by, IsFirstUncovered, IsCoveredCommand, IsDrivable, IsEntryOf, AreSent, IsLeftBy, AreAnswered}
 use Rattle.redis_driver.specs.declared.fault.DriveFault.{DriveFault}
-use Rattle.redis_driver.specs.declared.fault.DriveFault.TheVariants.{NotMultiKey, NotCovered, BadOrder, Memory, Node, Reply}
+use Rattle.redis_driver.specs.declared.fault.DriveFault.TheVariants.{NotMultiKey, NotCovered, BadOrder, Memory, Node, Lost, Reply}
 use Rattle.redis_driver.specs.declared.fault.PlanFault.{PlanFault}
 use Rattle.redis_driver.specs.declared.fault.PlanFault.TheVariants as plan
 
@@ -26,6 +26,7 @@ fault_of_plan plan.Memory = Memory
 
 abbrev pub fault_of_send : SendError → DriveFault
 fault_of_send (sent.Refused error) = Node error
+fault_of_send (sent.Lost error) = Lost error
 fault_of_send sent.Memory = Memory
 
 -- why a command has no plan, but for memory
@@ -46,7 +47,18 @@ IsEarly r BadOrder =
     × IsCoveredCommand r routes command × (NamesOnce (length routes) r.order → ⊥)
 IsEarly r Memory = Unit {0}
 IsEarly r (Node error) = ⊥
+IsEarly r (Lost error) = ⊥
 IsEarly r (Reply error) = ⊥
+
+-- the fault is told before the first send, and not for lack of memory
+abbrev pub IsBefore : DriveFault → Type 0
+IsBefore NotMultiKey = Unit {0}
+IsBefore (NotCovered slot) = Unit {0}
+IsBefore BadOrder = Unit {0}
+IsBefore Memory = ⊥
+IsBefore (Node error) = ⊥
+IsBefore (Lost error) = ⊥
+IsBefore (Reply error) = ⊥
 
 module _ {C : Type 0} (IsNode : SlotRoute → Address → Type 0) (step : Step C) (r : Request)
     (old new : State C) where
@@ -78,6 +90,24 @@ module _ {C : Type 0} (IsNode : SlotRoute → Address → Type 0) (step : Step C
     pub trace : new.trace ≡ before ++ last ∷ []
     pub allowed : may_refuse (length before) (refused error)
 
+  -- no reply came to the part of the next route: the parts before it took effect, it may have taken
+  -- effect, and no later one was sent
+  pub record IsLostFault (may_refuse : ℕ → Ending → Type 0) (error : ErrorParts) (count : ℕ)
+      : Type 0 where
+    pub routes : List SlotRoute
+    pub command : MultiKey
+    pub drivable : IsDrivable r routes command
+    pub before : List Entry
+    pub sent : AreSent IsNode r.arguments (take count (in_order routes r.order)) old.trace before
+    pub route : SlotRoute
+    pub next : slice_get (in_order routes r.order) count ≡ Some route
+    pub last : Entry
+    pub loss : IsEntryOf IsNode r.arguments (lost error) route last
+    pub trace : new.trace ≡ before ++ last ∷ []
+    pub allowed : may_refuse (length before) (lost error)
+    pub keyspace : IsLeftBy step old new command (take count (in_order routes r.order))
+        ⊎ IsLeftBy step old new command (take (count + 1) (in_order routes r.order))
+
   -- memory ran out after an answer: at a node, which the mark tells, or in combining all replies to
   -- a list
   pub record IsLateMemory (count : ℕ) : Type 0 where
@@ -96,6 +126,7 @@ module _ {C : Type 0} (IsNode : SlotRoute → Address → Type 0) (step : Step C
   IsFault may_refuse BadOrder count = IsEarly r BadOrder × IsUntouched count × (new.mark ≡ old.mark)
   IsFault may_refuse Memory count = IsUntouched count ⊎ IsLateMemory count
   IsFault may_refuse (Node error) count = IsNodeFault may_refuse error count
+  IsFault may_refuse (Lost error) count = IsLostFault may_refuse error count
   -- the replies to the parts of a command always fit
   IsFault may_refuse (Reply error) count = ⊥
 

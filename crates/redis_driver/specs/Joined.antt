@@ -37,13 +37,14 @@ pub record IsSplitOf (only_reads : List ℕ → Bool) (args : Arguments) (split 
   pub pattern : Some split.pattern ≡ pattern_by_name (command_of args)
   pub policy : Some split.policy ≡ policy_by_name (command_of args)
 
--- The reply is the one that the command's policy makes of a reply for each route, and these may be
--- what the nodes gave, in the order given, after what they gave before.
+-- The outcome, a reply or the kind of a refusal, is the one that the command's policy makes of a
+-- reply for each route, and these may be what the nodes gave, in the order given, after what they
+-- gave before.
 pub record IsJoined (only_reads : List ℕ → Bool) (args : Arguments) (order : List ℕ)
-    (old new : List Reply → Type 0) (reply : Reply) : Type 0 where
+    (old new : List Reply → Type 0) (outcome : Result Reply ErrorKind) : Type 0 where
   pub split : Split
   pub split_is : IsSplitOf only_reads args split
   pub replies : List Reply
   pub each : length replies ≡ length split.routes
   pub gave : (before : List Reply) → old before → new (before ++ in_order replies order)
-  pub joined_is : joined split replies ≡ Ok reply
+  pub joined_is : joined split replies ≡ outcome

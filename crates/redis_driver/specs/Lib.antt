@@ -5,3 +5,4 @@ pub mod Ready
 pub mod Faults
 pub mod Joined
 pub mod Ended
+pub mod FaultText

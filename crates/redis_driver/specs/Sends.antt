@@ -1,12 +1,12 @@
 -- What the sends of a plan's parts leave, by the plan's own lists.
-use Rattle.std.specs.Prelude.{◌≡◌, ◌≤◌, ℕ, Bool, true, List, [], ◌∷◌, ◌++◌, Option, None, Some, map, length, take, slice_get}
+use Rattle.std.specs.Prelude.{◌≡◌, ◌≤◌, ◌⊎◌, ℕ, ◌+◌, Bool, true, List, [], ◌∷◌, ◌++◌, Option, None, Some, map, length, take, slice_get}
 use Rattle.std.specs.List.{All, AllZip, zip}
 use Rattle.cluster_slots.specs.Address.{Address}
 use Rattle.cluster_slots.specs.KeySlot.{key_slot}
-use Rattle.redis_nodes.specs.MultiKey.{MultiKey, multi_key, part_of, form_by_policy}
+use Rattle.redis_nodes.specs.MultiKey.{KeyTuple, MultiKey, multi_key, part_of, form_by_policy}
 use Rattle.redis_nodes.specs.Orders.{times, in_order, tuples_of_slots}
-use Rattle.redis_nodes.specs.Trace.{Entry, Ending, answered, entry}
-use Rattle.redis_nodes.specs.Unsplit.{Step, Keyspace, act_of, after}
+use Rattle.redis_nodes.specs.Trace.{Entry, Ending, answered, refused, lost, entry}
+use Rattle.redis_nodes.specs.Unsplit.{Act, Step, Keyspace, act_of, after}
 use Rattle.redis_driver.specs.Plan.{Plan, tuples_in_split}
 use Rattle.redis_routing.specs.Split.{slots_of}
 
@@ -32,7 +32,8 @@ pub record IsPlanOf (command : MultiKey) (plan : Plan) : Type 0 where
   pub parts : AllZip (λ slot part. multi_key (map Some part) ≡ Some (part_of command slot))
       (slots_of plan.split.routes) plan.parts
 
--- the last send was refused, which its entry tells, or ran out of memory, which the mark tells
+-- the last send was refused or lost its reply, which its entry tells, or ran out of memory, which
+-- the mark tells
 abbrev pub IsLast : (ℕ → Ending → Type 0) → List Entry → List Entry → Bool → Option Target
     → Option Ending → Type 0
 IsLast may_refuse before new mark (Some target) (Some ending) =
@@ -40,8 +41,22 @@ IsLast may_refuse before new mark (Some target) (Some ending) =
 IsLast may_refuse before new mark (Some target) None = (new ≡ before) × (mark ≡ true)
 IsLast may_refuse before new mark None ending = ⊥
 
+-- The keyspace is that of the tuples of some slots. Where the last reply was lost, it may be that of
+-- one slot more.
+abbrev pub IsLeftAt : {C : Type 0} (act : Act C) (tuples : List KeyTuple)
+    (slots more : List ℕ) (old new : Keyspace C) → Option Ending → Type 0
+IsLeftAt act tuples slots more old new None = new ≡ after act (tuples_of_slots slots tuples) old
+IsLeftAt act tuples slots more old new (Some answered) =
+    new ≡ after act (tuples_of_slots slots tuples) old
+IsLeftAt act tuples slots more old new (Some (refused error)) =
+    new ≡ after act (tuples_of_slots slots tuples) old
+IsLeftAt act tuples slots more old new (Some (lost error)) =
+    (new ≡ after act (tuples_of_slots slots tuples) old)
+    ⊎ (new ≡ after act (tuples_of_slots more tuples) old)
+
 -- the sends stopped after so many answers: the trace has an entry of each, and of the next one, if
--- it was refused; the keyspace is that of the slots that were answered
+-- it was refused or its reply was lost; the keyspace is that of the slots that were answered, or
+-- after a lost reply that of the next one, too
 pub record AreStopped {C : Type 0} (kept : Type 0) (step : Step C) (may_refuse : ℕ → Ending → Type 0)
     (command : MultiKey) (plan : Plan) (order : List ℕ) (count : ℕ)
     (old_keys new_keys : Keyspace C) (old new : List Entry) (mark : Bool)
@@ -49,8 +64,8 @@ pub record AreStopped {C : Type 0} (kept : Type 0) (step : Step C) (may_refuse :
   pub before : List Entry
   pub trace : before ≡ old ++ map (target_entry answered)
       (in_order (targets plan) (take count order))
-  pub keyspace : kept → new_keys ≡ after (act_of step command)
-      (tuples_of_slots (in_order (slots_of plan.split.routes) (take count order)) command.tuples)
-      old_keys
+  pub keyspace : kept → IsLeftAt (act_of step command) command.tuples
+      (in_order (slots_of plan.split.routes) (take count order))
+      (in_order (slots_of plan.split.routes) (take (count + 1) order)) old_keys new_keys ending
   pub last : IsLast may_refuse before new mark (slice_get (in_order (targets plan) order) count)
       ending

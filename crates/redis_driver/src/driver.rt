@@ -1,7 +1,9 @@
-ghost use Rattle.std.specs.Prelude.{◌≡◌, ◌<◌, ◌↔◌, ◌++◌, ◌⊎◌, ℕ, List, Ok, None, map, length, IfOk, OnOk, IfErr};
+ghost use Rattle.std.specs.Prelude.{◌≡◌, ◌<◌, ◌↔◌, ◌++◌, ◌⊎◌, ℕ, List, Ok, Err, None, map, length, IfOk, OnOk, IfErr};
 ghost use Rattle.resp_core.specs.declared.error.ErrorKind.TheVariants.{OutOfMemory};
+ghost use Rattle.resp_core.specs.ErrorParts.{ErrorParts};
 ghost use Rattle.resp_core.specs.Reply.{Reply};
 ghost use Rattle.resp_core.specs.View.{view};
+ghost use Rattle.cluster_slots.specs.SlotRoute.{SlotRoute};
 ghost use Rattle.read_strategies.specs.RouteNode.{IsRouteNode};
 ghost use Rattle.redis_commands.specs.ReadOnly.{is_among};
 ghost use Rattle.redis_nodes.specs.Front.{IsSameCommand, front};
@@ -9,8 +11,8 @@ ghost use Rattle.redis_nodes.specs.MultiKey.{MultiKey};
 ghost use Rattle.redis_nodes.specs.Orders.{NamesOnce, in_order};
 ghost use Rattle.redis_nodes.specs.Trace.{Ending, answered};
 ghost use Rattle.redis_nodes.specs.Unsplit.{keyspace_after, reply_to};
-ghost use Rattle.redis_driver.specs.Driven.{request, state, IsDelivered, IsDriven, IsHeadline};
-ghost use Rattle.redis_driver.specs.Faults.{IsEarly, IsFault, IsCut, unseen};
+ghost use Rattle.redis_driver.specs.Driven.{request, state, AreAllAnswered, IsDelivered, IsDrivable, IsDriven, IsHeadline};
+ghost use Rattle.redis_driver.specs.Faults.{IsBefore, IsEarly, IsFault, IsCut, unseen};
 ghost use Rattle.redis_driver.specs.Joined.{joined, IsJoined, IsSplitOf};
 ghost use Rattle.redis_driver.specs.Ready.{IsReady};
 ghost use Rattle.redis_driver.specs.Ended.{AreEndedEarly};
@@ -26,7 +28,21 @@ use redis_nodes::Nodes;
 use resp_core::{ErrorKind, RedisError, Value};
 use std::alloc::Global;
 
-/// Sends a command over many keys part by part, and answers as one server would that has all keys.
+/// Sends a multi-key command part by part, and answers as one server would that has all keys.
+///
+/// ```
+/// let none_only_reads = ReadOnlyNames::new(alloc);
+/// drive(
+///     alloc,
+///     command,
+///     &none_only_reads,
+///     slot_map,
+///     None,
+///     0,
+///     order,
+///     nodes,
+/// )
+/// ```
 ///
 /// The command is split by slot: there is one route for each slot of a key, numbered by the first
 /// key of each, and one part for each route, which has the tuples of the slot in their order. The
@@ -45,9 +61,11 @@ use std::alloc::Global;
 ///
 /// In this order: `NotMultiKey` where the command is not complete, `NotCovered` where a slot of a
 /// key has no node, `BadOrder` where the order does not name each route once. Nothing was sent
-/// then. `Node` is what a node refused: the parts of the order before it took effect, and no later
-/// one is sent. `Memory` is told after any number of answers, which took effect. `Reply` does not
-/// come from nodes that keep to one meaning.
+/// then. `Node` is what a node refused: the parts of the order before it were answered, and no later
+/// one is sent. `Lost` is a part whose reply did not come: those before it were answered, it may
+/// have taken effect, and no later one is sent. `Memory` is told after any number of answers. What
+/// was answered took effect where the nodes kept to one meaning. `Reply` does not come from such
+/// nodes.
 pub fn drive<R: Routable, N: Nodes>(
     alloc: Global,
     command: &R,
@@ -66,7 +84,11 @@ pub fn drive<R: Routable, N: Nodes>(
     // And the reply is made of what they answered, as the command's policy says.
     ensures joined { IfOk result (λ value.
         IsJoined (is_among read_only.now) (R.args command.now) order.now
-        (N.gave nodes.old) (N.gave nodes.new) (view value)) }
+        (N.gave nodes.old) (N.gave nodes.new) (Ok (view value))) }
+    // Or the policy refuses them, with an error of this kind.
+    ensures unjoined { IfErr result (λ e. (error : ErrorParts) → e.fault ≡ DriveFault.Reply error →
+        IsJoined (is_among read_only.now) (R.args command.now) order.now
+        (N.gave nodes.old) (N.gave nodes.new) (Err error.kind)) }
     // The headline: where the nodes keep to one meaning over one keyspace, each part went once, in
     // the order given, to a node of its route, and the keyspace and the reply are those of the
     // unsplit command.
@@ -76,11 +98,16 @@ pub fn drive<R: Routable, N: Nodes>(
         (state (N.keyspace nodes.old) (N.trace nodes.old) (N.mark nodes.old))
         (state (N.keyspace nodes.new) (N.trace nodes.new) (N.mark nodes.new))
         (view value)) }
-    // There is a reply where the command can be driven and no node may refuse, unless memory runs
-    // out.
+    // There is a reply where the command can be driven, no node may refuse and no reply may be
+    // lost, unless memory runs out.
     ensures headline { IsHeadline (N.may_refuse nodes.old)
         (request (R.args command.now) (is_among read_only.now) slot_map.now order.now)
         (N.trace nodes.old) → IfErr result (λ e. N.kept nodes.new → e.fault ≡ DriveFault.Memory) }
+    // And where each send was answered, whatever nodes may refuse.
+    ensures carried { (routes : List SlotRoute) (c : MultiKey) → IsDrivable
+        (request (R.args command.now) (is_among read_only.now) slot_map.now order.now) routes c
+        → AreAllAnswered (N.trace nodes.old) (N.trace nodes.new)
+        → IfErr result (λ e. N.kept nodes.new → e.fault ≡ DriveFault.Memory) }
     // So many parts were answered, and no other, whatever the answers are.
     ensures cut { IfErr result (λ e.
         IsCut (IsRouteNode strategy.entry (λ s. picks s.now) slot_map.now pick)
@@ -96,6 +123,8 @@ pub fn drive<R: Routable, N: Nodes>(
         (state (N.keyspace nodes.old) (N.trace nodes.old) (N.mark nodes.old))
         (state (N.keyspace nodes.new) (N.trace nodes.new) (N.mark nodes.new))
         (N.may_refuse nodes.old) e.fault e.answered) }
+    // The nodes are as they were where the command, the map or the order is at fault.
+    ensures untouched { IfErr result (λ e. IsBefore e.fault → nodes.new ≡ nodes.old) }
     // Nodes that kept to it now did so before.
     ensures kept { N.kept nodes.new → N.kept nodes.old }
     // A command with gaps and its front have the same tuples, routes and parts.
@@ -168,6 +197,12 @@ fn drive_plan<R: Routable, N: Nodes>(
         × ((before : List Reply) → N.gave nodes.old before
         → N.gave nodes.new (before ++ in_order replies order.now))
         × (joined plan.entry.split replies ≡ Ok (view value))) }
+    ensures unjoined { IfErr result
+        (λ e. (error : ErrorParts) → e.fault ≡ DriveFault.Reply error → (replies : List Reply)
+        × (length replies ≡ length plan.entry.split.routes)
+        × ((before : List Reply) → N.gave nodes.old before
+        → N.gave nodes.new (before ++ in_order replies order.now))
+        × (joined plan.entry.split replies ≡ Err error.kind)) }
     ensures stopped { IfErr result
         (λ e. AreEndedEarly (N.kept nodes.new) N.step (N.may_refuse nodes.old) plan.entry order.now
         (N.keyspace nodes.old) (N.keyspace nodes.new) (N.trace nodes.old) (N.trace nodes.new)

@@ -34,7 +34,17 @@ use std::marker::Model;
 /// part, and room for the reply. Once each reply is told it gives the one reply of the command.
 ///
 /// `drive` is a loop over it. A client with connections of its own sends the parts itself, at once
-/// or in any order, and tells each reply as it comes.
+/// or in any order, and tells each reply as it comes. Never tell an error as a reply: where parts
+/// answer `OK`, the reply of route 0 is the whole reply, whatever the others are.
+///
+/// ```
+/// for (number, reply) in replies.into_iter().enumerate() {
+///     if plan.tell(number, reply).is_err() {
+///         return Err(not_combined("an answer to no part"));
+///     }
+/// }
+/// plan.combine(alloc).map_err(BatchError::NotCombined)
+/// ```
 #[derive(Drop)]
 pub struct SplitPlan<'a, R: Routable> {
     split: SplitCommand<'a, R>,

@@ -1,9 +1,9 @@
-ghost use Rattle.std.specs.Prelude.{◌≡◌, ◌<◌, ◌++◌, ◌∷◌, ◌↔◌, [], ℕ, List, Some, None, map, length, slice_get, slice_set, IfOk, OnOk, IfErr, IsSome};
+ghost use Rattle.std.specs.Prelude.{◌≡◌, ◌<◌, ◌++◌, ◌∷◌, ◌↔◌, [], ℕ, List, Some, None, map, length, slice_get, slice_set, IfOk, OnOk, IfErr};
 ghost use Rattle.resp_core.specs.Reply.{Reply};
 ghost use Rattle.resp_core.specs.View.{view};
-ghost use Rattle.redis_nodes.specs.MultiKey.{MultiKey, multi_key};
+ghost use Rattle.redis_nodes.specs.MultiKey.{MultiKey, multi_key, IsPart};
 ghost use Rattle.redis_nodes.specs.Orders.{NamesOnce, in_order};
-ghost use Rattle.redis_nodes.specs.Sent.{IsUnanswered, ending_of};
+ghost use Rattle.redis_nodes.specs.Sent.{IsLeft, IsUnanswered, ending_of};
 ghost use Rattle.redis_nodes.specs.Trace.{Ending, answered};
 ghost use Rattle.redis_nodes.specs.Unsplit.{keyspace_after, reply_to, results_of};
 ghost use Rattle.redis_driver.specs.Faults.{fault_of_send};
@@ -71,7 +71,7 @@ fn send_part<R: Routable, N: Nodes>(
     nodes: &mut N,
 ) -> Result<Value, SendError>
     requires there { (target : Target) × (slice_get (targets plan.now) number ≡ Some target)
-        × IsSome (multi_key (map Some target.1)) }
+        × IsPart (map Some target.1) }
     ensures reply { IfOk result
         (λ value. (target : Target) (command : MultiKey)
         → slice_get (targets plan.now) number ≡ Some target
@@ -91,9 +91,12 @@ fn send_part<R: Routable, N: Nodes>(
         → N.trace nodes.new ≡ N.trace nodes.old ++ target_entry answered target ∷ []) }
     ensures unanswered { IfErr result
         (λ error. (target : Target) → slice_get (targets plan.now) number ≡ Some target
-        → IsUnanswered (N.may_refuse nodes.old) (N.keyspace nodes.old) (N.keyspace nodes.new)
-        (N.trace nodes.old) (N.trace nodes.new) (N.mark nodes.new) target.0 target.1
-        (ending_of error)) }
+        → IsUnanswered (N.may_refuse nodes.old) (N.trace nodes.old) (N.trace nodes.new)
+        (N.mark nodes.new) target.0 target.1 (ending_of error)) }
+    ensures left { IfErr result (λ error. (target : Target) (command : MultiKey)
+        → slice_get (targets plan.now) number ≡ Some target
+        → multi_key (map Some target.1) ≡ Some command → N.kept nodes.new
+        → IsLeft N.step command (N.keyspace nodes.old) (N.keyspace nodes.new) (ending_of error)) }
     ensures may_refuse { (count : ℕ) (ending : Ending) → N.may_refuse nodes.new count ending
         ↔ N.may_refuse nodes.old count ending }
 {

@@ -4,6 +4,8 @@
 #[cfg(test)]
 mod driving;
 #[cfg(test)]
+mod error_texts;
+#[cfg(test)]
 mod faults;
 #[cfg(test)]
 mod given;
@@ -11,6 +13,8 @@ mod given;
 mod hostile;
 #[cfg(test)]
 mod json_paths;
+#[cfg(test)]
+mod lost_replies;
 #[cfg(test)]
 mod nodes_in_memory;
 #[cfg(test)]
@@ -23,3 +27,5 @@ mod short_of_memory;
 mod split_plan;
 #[cfg(test)]
 mod texts;
+#[cfg(test)]
+mod turns;

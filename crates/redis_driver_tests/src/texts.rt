@@ -24,6 +24,7 @@ fn fault_text(alloc: Global, fault: &DriveFault) -> Result<String, AllocError> {
         DriveFault::BadOrder => format!(in alloc; "BadOrder"),
         DriveFault::Memory => format!(in alloc; "Memory"),
         DriveFault::Node(error) => error_text(alloc, "Node", error),
+        DriveFault::Lost(error) => error_text(alloc, "Lost", error),
         DriveFault::Reply(error) => error_text(alloc, "Reply", error),
     }
 }

@@ -5,3 +5,4 @@ pub mod SlotResults
 pub mod Trace
 pub mod Sent
 pub mod Front
+pub mod SendErrorText

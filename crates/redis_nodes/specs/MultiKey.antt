@@ -1,6 +1,7 @@
 -- A command over many keys as what it means: its name, its keys with what goes with each, and what
 -- they share.
-use Rattle.std.specs.Prelude.{ℕ, List, Option, None, Some, cond, map, filter, length, nat_eq, slice_get}
+use Rattle.std.specs.Prelude.{◌≡◌, ℕ, List, Option, None, Some, cond, map, filter, length, nat_eq, slice_get}
+use Rattle.std.specs.List.{All}
 use Rattle.cluster_slots.specs.KeySlot.{key_slot}
 use Rattle.redis_commands.specs.Command.{Arguments, command_of}
 use Rattle.redis_commands.specs.NameTables.{NameTables, own_tables}
@@ -90,3 +91,10 @@ part_of command slot =
       tuples = tuples_of_slot slot command.tuples;
       form = command.form;
     }
+
+-- the arguments of the part of one slot: a complete command over many keys, all of that slot
+pub record IsPart (args : Arguments) : Type 0 where
+  pub command : MultiKey
+  pub command_is : multi_key args ≡ Some command
+  pub slot : ℕ
+  pub of_slot : All (λ t. key_slot t.key ≡ slot) command.tuples

@@ -3,10 +3,12 @@ use Rattle.std.specs.Prelude.{ℕ, List}
 use Rattle.resp_core.specs.ErrorParts.{ErrorParts}
 use Rattle.cluster_slots.specs.Address.{Address}
 
--- how a send ended: with an answer, or refused with an error
+-- how a send ended: with an answer, refused with an error, or with no reply but an error that tells
+-- why, where nobody knows whether it took effect
 pub data Ending : Type 0 where
   answered : Ending
   refused : ErrorParts → Ending
+  lost : ErrorParts → Ending
 
 -- where a command was sent, its arguments, and how the send ended
 pub record Entry : Type 0 where

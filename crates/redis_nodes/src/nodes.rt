@@ -1,22 +1,43 @@
-ghost use Rattle.std.specs.Prelude.{◌≡◌, ℕ, List, [], ◌∷◌, ◌++◌, Bool, false, Some, map, IfOk, OnOk, OnErr, IfErr, IfSome, IsSome, ◌↔◌};
+ghost use Rattle.std.specs.Prelude.{◌≡◌, ℕ, List, [], ◌∷◌, ◌++◌, Bool, false, Some, map, IfOk, OnOk, OnErr, IfErr, IfSome, ◌↔◌};
 ghost use Rattle.resp_core.specs.Reply.{Reply};
 ghost use Rattle.resp_core.specs.View.{view};
-ghost use Rattle.redis_nodes.specs.MultiKey.{multi_key};
+ghost use Rattle.redis_nodes.specs.MultiKey.{multi_key, IsPart};
 ghost use Rattle.redis_nodes.specs.Unsplit.{Step, Keyspace, keyspace_after, reply_to};
 ghost use Rattle.redis_nodes.specs.Trace.{Entry, Ending, answered, entry};
-ghost use Rattle.redis_nodes.specs.Sent.{IsUnanswered, ending_of};
+ghost use Rattle.redis_nodes.specs.Sent.{IsLeft, IsUnanswered, ending_of};
 
 use cluster_slots::NodeAddress;
 use resp_core::{Cmd, RedisError, Value};
+use std::error::Error;
+use std::fmt;
 
 /// Why a node did not answer.
 #[derive(Debug, Drop)]
 pub enum SendError {
     /// The node refused the command, and did nothing.
     Refused(RedisError),
+    /// No reply came, as where time ran out after the command was written. Whether it took effect is
+    /// not known.
+    Lost(RedisError),
     /// Memory ran out before anything was sent.
     Memory,
 }
+
+impl fmt::Display for SendError {
+    ghost use Rattle.redis_nodes.specs.SendErrorText.{send_error_text};
+
+    ghost output = { λ error. Some (send_error_text error) };
+
+    fn fmt<W: fmt::Write>(&self, f: &mut fmt::Formatter<W>) -> fmt::Result {
+        match self {
+            SendError::Refused(error) => write!(f, "node refused: {error}"),
+            SendError::Lost(error) => write!(f, "reply lost: {error}"),
+            SendError::Memory => write!(f, "out of memory"),
+        }
+    }
+}
+
+impl Error for SendError {}
 
 /// Nodes of one cluster, to which commands over many keys are sent.
 ///
@@ -42,22 +63,24 @@ pub trait Nodes {
     /// Whether the send that finds so many entries in the trace may end so, without an answer.
     ghost may_refuse: { Self → ℕ → Ending → Type 0 };
 
-    /// So far the nodes answered by that meaning, over one keyspace. What a connection gives nobody
-    /// can prove, so for a real client this is a premise; where an `impl` does not write it, its
-    /// `send` ensures it always.
+    /// So far the nodes answered by that meaning, over one keyspace, and what they refused did
+    /// nothing. What a connection gives nobody can prove, so for a real client this is a premise;
+    /// where an `impl` does not write it, its `send` ensures it always.
     ghost kept: { Self → Type 0 } = { λ _. Unit {0} };
 
     /// Whether these may be the replies so far, in the order in which they came.
     ghost gave: { Self → List Reply → Type 0 } = { λ _ _. Unit {0} };
 
-    /// Sends a command over many keys, complete and without gaps, to a node.
+    /// Sends the part of one slot to a node: a command over many keys that all have the slot,
+    /// complete and without gaps.
     ///
     /// # Errors
     ///
-    /// `Refused` where the node refused the command: the keyspace stays. `Memory` where memory ran
-    /// out: nothing was sent.
+    /// `Refused` where the node refused the command: the keyspace stays. `Lost` where no reply came:
+    /// the keyspace is as it was, or as the command leaves it. `Memory` where memory ran out:
+    /// nothing was sent.
     fn send(&mut self, node: &NodeAddress, cmd: &Cmd) -> Result<Value, SendError>
-        requires whole { IsSome (multi_key (map Some cmd.now)) }
+        requires part { IsPart (map Some cmd.now) }
         ensures reply { IfOk result
             (λ value. IfSome (multi_key (map Some cmd.now))
             (λ command. kept self.new → view value ≡ reply_to step command (keyspace self.old))) }
@@ -73,8 +96,13 @@ pub trait Nodes {
             (trace self.new ≡ trace self.old ++ entry node.now cmd.now answered ∷ []) }
         ensures mark { OnOk result (mark self.new ≡ false) }
         ensures unanswered { IfErr result
-            (λ error. IsUnanswered (may_refuse self.old) (keyspace self.old) (keyspace self.new)
-            (trace self.old) (trace self.new) (mark self.new) node.now cmd.now (ending_of error)) }
+            (λ error. IsUnanswered (may_refuse self.old) (trace self.old) (trace self.new)
+            (mark self.new) node.now cmd.now (ending_of error)) }
+        ensures memory { IfErr result (λ error. error ≡ SendError.Memory
+            → keyspace self.new ≡ keyspace self.old) }
+        ensures left { IfErr result (λ error. IfSome (multi_key (map Some cmd.now))
+            (λ command. kept self.new
+            → IsLeft step command (keyspace self.old) (keyspace self.new) (ending_of error))) }
         ensures may_refuse { (count : ℕ) (ending : Ending) → may_refuse self.new count ending
             ↔ may_refuse self.old count ending };
 }

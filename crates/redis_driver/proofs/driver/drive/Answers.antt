@@ -1,14 +1,15 @@
-use Rattle.std.proofs.Common.{map, Result, Ok, Err, IfOk}
+use Rattle.std.proofs.Common.{map, Result, Ok, Err, IfOk, subst}
 use Rattle.std.specs.Prelude.{OnOk}
 use Rattle.std.proofs.lemmas.Result.{IfErr-weaker, IfOk-weaker}
 use Rattle.cluster_slots.specs.Address.{Address}
 use Rattle.cluster_slots.specs.SlotRoute.{SlotRoute}
 use Rattle.redis_commands.specs.ReadOnly.{is_among}
 use Rattle.redis_driver.specs.Driven.{request, state}
-use Rattle.redis_driver.specs.Faults.{unseen}
+use Rattle.redis_driver.specs.Faults.{unseen, IsEarly}
+use Rattle.redis_driver.specs.declared.fault.DriveFault.{DriveFault}
 use Rattle.redis_nodes.proofs.Gaps.{same_command}
-use Rattle.redis_driver.proofs.Ended.{drivable, sent_all, ended_fault, cut_fault, early_fault, early_cut}
-use Rattle.redis_driver.proofs.Headline.{headline_fault}
+use Rattle.redis_driver.proofs.Ended.{drivable, sent_all, ended_fault, cut_fault, early_fault, early_cut, ended_late}
+use Rattle.redis_driver.proofs.Headline.{headline_fault, carried_fault}
 use Rattle.redis_driver.proofs.driver.drive.Goals as goal
 
 -- what three clauses say of an answer
@@ -110,3 +111,37 @@ returns-in-Ok-clause-joined g c =
     IfOk-weaker c.drive_plan.result _ _
     (λ value is. record { split = c.in-Ok.plan.split; split_is = c.in-Ok.ensures.split; replies = is.0; each = is.1; gave = is.2; joined_is = is.3 })
     c.drive_plan.ensures.joined
+
+pub returns-in-Ok-clause-untouched : goal.returns-in-Ok-clause-untouched
+returns-in-Ok-clause-untouched g c =
+    IfErr-weaker c.drive_plan.result _ _
+    (λ e ended before. absurd (ended_late _ _ _ _ _ _ _ _ _ _ e.fault e.answered ended before))
+    c.drive_plan.ensures.stopped
+
+pub returns-in-Ok-clause-unjoined : goal.returns-in-Ok-clause-unjoined
+returns-in-Ok-clause-unjoined g c =
+    IfErr-weaker c.drive_plan.result _ _
+    (λ e is error at. let told = is error at in record { split = c.in-Ok.plan.split; split_is = c.in-Ok.ensures.split; replies = told.0; each = told.1; gave = told.2; joined_is = told.3 })
+    c.drive_plan.ensures.unjoined
+
+pub returns-in-Err-clause-unjoined : goal.returns-in-Err-clause-unjoined
+returns-in-Err-clause-unjoined g c = λ error is.
+    let asked = request (g.R.Routable.args c.args.command.now) (is_among c.args.read_only.now) c.args.slot_map.now c.args.order.now in
+    absurd (subst (λ (f : DriveFault). IsEarly asked f) is c.in-Err.ensures.early)
+
+pub returns-in-Ok-clause-carried : goal.returns-in-Ok-clause-carried
+returns-in-Ok-clause-carried g c =
+    let asked = request (g.R.Routable.args c.args.command.now) (is_among c.args.read_only.now) c.args.slot_map.now c.args.order.now in
+    let old = state (g.N.Nodes.keyspace c.args.nodes.now) (g.N.Nodes.trace c.args.nodes.now) (g.N.Nodes.mark c.args.nodes.now) in
+    let new = state (g.N.Nodes.keyspace c.drive_plan.new.nodes) (g.N.Nodes.trace c.drive_plan.new.nodes) (g.N.Nodes.mark c.drive_plan.new.nodes) in
+    λ routes command can all. IfErr-weaker c.drive_plan.result _ _
+    (λ e fault now. carried_fault _ g.N.Nodes.step asked old new (g.N.Nodes.may_refuse c.args.nodes.now) routes command can all e.fault e.answered (fault now))
+    (returns-in-Ok-clause-fault g c)
+
+pub returns-in-Err-clause-carried : goal.returns-in-Err-clause-carried
+returns-in-Err-clause-carried g c =
+    let asked = request (g.R.Routable.args c.args.command.now) (is_among c.args.read_only.now) c.args.slot_map.now c.args.order.now in
+    let old = state (g.N.Nodes.keyspace c.args.nodes.now) (g.N.Nodes.trace c.args.nodes.now) (g.N.Nodes.mark c.args.nodes.now) in
+    let IsNode : SlotRoute → Address → Type 0 = λ route address. Unit {0} in
+    λ routes command can all now. carried_fault IsNode g.N.Nodes.step asked old old (g.N.Nodes.may_refuse c.args.nodes.now) routes command can all c.in-Err.fault 0
+    (early_fault IsNode g.N.Nodes.step asked old (g.N.Nodes.may_refuse c.args.nodes.now) c.in-Err.fault c.in-Err.ensures.early)

@@ -8,6 +8,7 @@ use Rattle.redis_nodes.specs.Unsplit.{results_of}
 use Rattle.redis_nodes.proofs.Once.{length-names_once}
 use Rattle.redis_routing.specs.Split.{Split}
 use Rattle.redis_driver.specs.Joined.{joined}
+use Rattle.redis_driver.proofs.Ended.{no_reply_fault, memory_is_no_reply, same_reply}
 use Rattle.redis_driver.proofs.Joined.{arrays_make_lists, memory_makes_lists}
 use Rattle.redis_driver.proofs.driver.drive_plan.Goals as goal
 
@@ -52,3 +53,26 @@ returns-in-Ok-clause-joined g c =
     let told = c.in_default.ensures.told in
     let is = c.in-Ok.ensures.joined told.values told.all_told in
     (map view told.values, length-map told.values view ∙ told.each, told.gave, ap (λ (s : Split). joined s (map view told.values)) (sym c.in_default.ensures.plan) ∙ is)
+
+pub returns-in-Err-clause-unjoined : goal.returns-in-Err-clause-unjoined
+returns-in-Err-clause-unjoined g c = λ error is.
+    let stopped = c.in-Err.ensures.stopped in
+    absurd (no_reply_fault stopped.0 error (sym stopped.1 ∙ is))
+
+pub returns-in-Err-combine-clause-unjoined : goal.returns-in-Err-combine-clause-unjoined
+returns-in-Err-combine-clause-unjoined g c = λ error is.
+    let told = c.in_default.ensures.told in
+    let failed = c.in-Err-combine.ensures.joined told.values told.all_told in
+    ⊎_elim
+    (λ memory. absurd (memory_is_no_reply error (sym memory.1 ∙ is)))
+    (λ misfit. (
+      map view told.values,
+      length-map told.values view ∙ told.each,
+      told.gave,
+      ap (λ (s : Split). joined s (map view told.values)) (sym c.in_default.ensures.plan)
+          ∙ ⊎_elim
+          (λ arrays. absurd (misfit.0 (ap (λ (e : ErrorParts). e.kind) arrays.0)))
+          (λ refused. refused ∙ ap (λ (e : ErrorParts). Err e.kind) (same_reply c.in-Err-combine.error error (sym misfit.1 ∙ is)))
+          failed,
+    ))
+    c.of_combining.ensures

@@ -1,5 +1,5 @@
 use Rattle.std.proofs.Common.{◌≡◌, ◌<◌, ℕ, ◌+◌, List, [], ◌∷◌, ◌++◌, Some, None, All, refl, sym, ap, ◌∙◌, arith, subst, length, map, take, get_or}
-use Rattle.std.specs.Prelude.{IsSome, slice_get, slice_set, option_and_then}
+use Rattle.std.specs.Prelude.{slice_get, slice_set, option_and_then}
 use Rattle.std.proofs.lemmas.Slice.Zip.{AllZip-long}
 use Rattle.std.proofs.lemmas.List.{append-nil, length-map, map_push, length-set}
 use Rattle.std.proofs.lemmas.Option.{slice_get-get_or, slice_get_within}
@@ -20,7 +20,7 @@ use Rattle.redis_driver.specs.Plan.{Plan, tuples_in_split}
 use Rattle.redis_routing.specs.Split.{slots_of, Split}
 use Rattle.redis_driver.specs.Sends.{Target, targets, target_entry, IsPlanOf, AreStopped}
 use Rattle.redis_driver.proofs.Zips.{zip_long}
-use Rattle.redis_driver.proofs.Sending.{RouteTarget, route_target, none_at, not_yet, AreTold, AreSomeTold, AreUntold, told_more, some_told_more, all_some_told, AreGivenSo, given_more, given_all, untold_less, all_told, last_is, same_keys}
+use Rattle.redis_driver.proofs.Sending.{RouteTarget, route_target, none_at, not_yet, AreTold, AreSomeTold, AreUntold, told_more, some_told_more, all_some_told, AreGivenSo, given_more, given_all, untold_less, all_told, last_is, left_at, of_one_slot}
 use Rattle.redis_driver.proofs.send.send_all.Goals as goal
 
 -- the routes have as many slots
@@ -61,7 +61,13 @@ send_part-requires g c =
     let is = c.requires.command.1 in
     let below : k < length plan.split.routes = c.requires.order.below c.loop-number.number-index 0 c.loop-number-test.true in
     let t = route_target command (slots_of plan.split.routes) plan.nodes plan.parts k (is.nodes ∙ sym (many plan)) is.parts (omega (arith, below, many plan)) in
-    record { there = (t.target, ap (λ ts. slice_get ts k) c.loop-number.invariant.same_targets ∙ t.target_at, subst IsSome (sym t.part) refl) }
+    record {
+      there = (
+        t.target,
+        ap (λ ts. slice_get ts k) c.loop-number.invariant.same_targets ∙ t.target_at,
+        record { command = part_of command t.slot; command_is = t.part; slot = t.slot; of_slot = of_one_slot t.slot command.tuples },
+      );
+    }
 
 pub tell_first-requires : goal.tell_first-requires
 tell_first-requires g c =
@@ -157,9 +163,15 @@ returns-in-Err-clause-stopped g c =
           record {
             before = nodes.trace c.loop-number.nodes;
             trace = inv.trace;
-            keyspace = λ now. same_keys (nodes.may_refuse c.loop-number.nodes) (nodes.keyspace c.loop-number.nodes) (nodes.keyspace c.send_part.new.nodes) (nodes.trace c.loop-number.nodes) (nodes.trace c.send_part.new.nodes) (nodes.mark c.send_part.new.nodes) t.target ending unanswered
-                ∙ inv.keyspace command is (c.send_part.ensures.kept now) ∙ keyspace_at_stop (act_of nodes.step command) slots order command.tuples old i names is.at_most_once;
-            last = last_is (nodes.may_refuse c.args.nodes.now) (nodes.may_refuse c.loop-number.nodes) (nodes.keyspace c.loop-number.nodes) (nodes.keyspace c.send_part.new.nodes) (nodes.trace c.loop-number.nodes) (nodes.trace c.send_part.new.nodes) (nodes.mark c.send_part.new.nodes) t.target (slice_get (in_order (targets plan) order) i) ending inv.may_refuse next unanswered;
+            keyspace = λ now.
+                let act = act_of nodes.step command in
+                let was = inv.keyspace command is (c.send_part.ensures.kept now) in
+                left_at nodes.step act command.tuples (part_of command t.slot) (in_order slots (take i order)) (in_order slots (take (i + 1) order)) old (nodes.keyspace c.loop-number.nodes) (nodes.keyspace c.send_part.new.nodes) ending
+                (was ∙ keyspace_at_stop act slots order command.tuples old i names is.at_most_once)
+                (ap (λ ks. after act (tuples_of_slot t.slot command.tuples) ks) was ∙ keyspace_more act slots order command.tuples old i k t.slot inside refl t.slot_at
+                ∙ keyspace_at_stop act slots order command.tuples old (i + 1) names is.at_most_once)
+                (c.in-Err.ensures.left t.target (part_of command t.slot) (ap (λ ts. slice_get ts k) inv.same_targets ∙ t.target_at) t.part now);
+            last = last_is (nodes.may_refuse c.args.nodes.now) (nodes.may_refuse c.loop-number.nodes) (nodes.trace c.loop-number.nodes) (nodes.trace c.send_part.new.nodes) (nodes.mark c.send_part.new.nodes) t.target (slice_get (in_order (targets plan) order) i) ending inv.may_refuse next unanswered;
           } in
           subst (λ n. AreStopped (nodes.kept c.send_part.new.nodes) nodes.step (nodes.may_refuse c.args.nodes.now) command plan order n old (nodes.keyspace c.send_part.new.nodes) (nodes.trace c.args.nodes.now) (nodes.trace c.send_part.new.nodes) (nodes.mark c.send_part.new.nodes) ending) (sym inv.answered) stopped,
     )

@@ -1,10 +1,10 @@
 use Rattle.std.proofs.Common.{◌≡◌, ◌++◌, ◌∷◌, [], ℕ, List, Option, Some, None, ap, sym, ◌∙◌, option_map, map, subst}
-use Rattle.std.specs.Prelude.{slice_get, IsSome, IfSome}
+use Rattle.std.specs.Prelude.{slice_get, IfSome}
 use Rattle.std.proofs.lemmas.Result.{IfOk-weaker, on_ok_weaker, IfErr-weaker}
 use Rattle.cluster_slots.specs.Address.{Address}
 use Rattle.resp_core.specs.View.{view}
-use Rattle.redis_nodes.specs.MultiKey.{MultiKey, multi_key}
-use Rattle.redis_nodes.specs.Sent.{IsUnanswered, ending_of}
+use Rattle.redis_nodes.specs.MultiKey.{MultiKey, multi_key, IsPart}
+use Rattle.redis_nodes.specs.Sent.{IsLeft, IsUnanswered, ending_of}
 use Rattle.redis_nodes.specs.Trace.{answered}
 use Rattle.redis_nodes.specs.Unsplit.{keyspace_after, reply_to}
 use Rattle.redis_driver.specs.Sends.{Target, target_entry}
@@ -33,7 +33,7 @@ pub send-requires : goal.send-requires
 send-requires g c =
     let t : Target = c.requires.there.0 in
     let part_is : c.in-Some-part.part.now ≡ t.1 = one_of (λ p. p.now) c.part.result c.in-Some-part.part (slice_get c.args.plan.now.parts c.args.number) t.1 c.part.ensures c.in-Some-part.is (zip_at c.args.plan.now.nodes c.args.plan.now.parts c.args.number t c.requires.there.1).1 in
-    record { whole = subst (λ (a : List (List ℕ)). IsSome (multi_key (map Some a))) (sym part_is) c.requires.there.2 }
+    record { part = subst (λ (a : List (List ℕ)). IsPart (map Some a)) (sym part_is) c.requires.there.2 }
 
 pub returns-clause-reply : goal.returns-clause-reply
 returns-clause-reply g c =
@@ -67,6 +67,14 @@ returns-clause-unanswered g c =
     let both = zip_at c.args.plan.now.nodes c.args.plan.now.parts c.args.number target at in
     let node_is : c.in-Some.node.now ≡ target.0 = one_of (λ n. n.now) c.node.result c.in-Some.node (slice_get c.args.plan.now.nodes c.args.number) target.0 c.node.ensures c.in-Some.is both.0 in
     let part_is : c.in-Some-part.part.now ≡ target.1 = one_of (λ p. p.now) c.part.result c.in-Some-part.part (slice_get c.args.plan.now.parts c.args.number) target.1 c.part.ensures c.in-Some-part.is both.1 in
-    let Unsent : Address → List (List ℕ) → Type 0 = λ n a. IsUnanswered (g.N.Nodes.may_refuse c.args.nodes.now) (g.N.Nodes.keyspace c.args.nodes.now) (g.N.Nodes.keyspace c.send.new.self) (g.N.Nodes.trace c.args.nodes.now) (g.N.Nodes.trace c.send.new.self) (g.N.Nodes.mark c.send.new.self) n a (ending_of error) in
+    let Unsent : Address → List (List ℕ) → Type 0 = λ n a. IsUnanswered (g.N.Nodes.may_refuse c.args.nodes.now) (g.N.Nodes.trace c.args.nodes.now) (g.N.Nodes.trace c.send.new.self) (g.N.Nodes.mark c.send.new.self) n a (ending_of error) in
     subst (λ (n : Address). Unsent n target.1) node_is (subst (λ (a : List (List ℕ)). Unsent c.in-Some.node.now a) part_is told))
     c.send.ensures.unanswered
+
+pub returns-clause-left : goal.returns-clause-left
+returns-clause-left g c =
+    IfErr-weaker c.send.result _ _ (λ error told target command at is.
+    let part_is : c.in-Some-part.part.now ≡ target.1 = one_of (λ p. p.now) c.part.result c.in-Some-part.part (slice_get c.args.plan.now.parts c.args.number) target.1 c.part.ensures c.in-Some-part.is (zip_at c.args.plan.now.nodes c.args.plan.now.parts c.args.number target at).1 in
+    let whole : multi_key (map Some c.in-Some-part.part.now) ≡ Some command = ap (λ a. multi_key (map Some a)) part_is ∙ is in
+    subst (λ (o : Option MultiKey). IfSome o (λ m. g.N.Nodes.kept c.send.new.self → IsLeft g.N.Nodes.step m (g.N.Nodes.keyspace c.args.nodes.now) (g.N.Nodes.keyspace c.send.new.self) (ending_of error))) whole told)
+    c.send.ensures.left

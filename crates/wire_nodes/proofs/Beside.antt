@@ -1,0 +1,68 @@
+-- What others write at other keys does no harm.
+use Rattle.std.proofs.Common.{◌≡◌, ℕ, suc, List, [], ◌∷◌, Bool, true, false, cond, Option, None, Some, All, map, refl, sym, ap, ◌∙◌}
+use Rattle.std.specs.Prelude.{IfSome}
+use Rattle.std.specs.Str.{bytes_eq}
+use Rattle.std.proofs.lemmas.List.Elements.{All-head, All-tail}
+use Rattle.resp_core.proofs.Cases.{by_test}
+use Rattle.redis_nodes.specs.MultiKey.{KeyTuple, MultiKey, multi_key}
+use Rattle.redis_nodes.specs.Unsplit.{Act, Step, Keyspace, act_of, after, put, reply_by, results}
+use Rattle.wire_nodes.specs.Said.{Said, Outcome, answer, refusal, loss}
+use Rattle.wire_nodes.specs.Replay.{after_effect, after_outcome, after_said, IsKept, AreKept}
+use Rattle.wire_nodes.specs.Beside.{IsAmong, AreSameAt, AreKeptBeside}
+
+-- the key of a tuple is among some
+abbrev IsOwn : (List ℕ → Bool) → KeyTuple → Type 0
+IsOwn own t = own t.key ≡ true
+
+module _ {C : Type 0} (own : List ℕ → Bool) where
+  put_same : (key : List ℕ) (one other : Option C) (a b : Keyspace C) → one ≡ other → AreSameAt own a b → AreSameAt own (put key one a) (put key other b)
+  put_same key one other a b same all k is =
+      by_test (bytes_eq key k)
+      (λ t. ap (λ x. cond x one (a k)) t ∙ same ∙ sym (ap (λ x. cond x other (b k)) t))
+      (λ f. ap (λ x. cond x one (a k)) f ∙ all k is ∙ sym (ap (λ x. cond x other (b k)) f))
+
+  module _ (act : Act C) where
+    after_same : (ts : List KeyTuple) (a b : Keyspace C) → All (IsOwn own) ts → AreSameAt own a b → AreSameAt own (after act ts a) (after act ts b)
+    after_same [] a b among same = same
+    after_same (t ∷ ts) a b among same =
+        let here = same t.key (All-head (IsOwn own) t ts among) in
+        after_same ts (put t.key (act t (a t.key)).cell a) (put t.key (act t (b t.key)).cell b) (All-tail (IsOwn own) t ts among)
+        (put_same t.key (act t (a t.key)).cell (act t (b t.key)).cell a b (ap (λ c. (act t c).cell) here) same)
+
+    results_same : (ts : List KeyTuple) (a b : Keyspace C) → All (IsOwn own) ts → AreSameAt own a b → results act ts a ≡ results act ts b
+    results_same [] a b among same = refl
+    results_same (t ∷ ts) a b among same =
+        let here = same t.key (All-head (IsOwn own) t ts among) in
+        ap (λ c. (act t c).result ∷ results act ts (put t.key (act t (a t.key)).cell a)) here
+        ∙ ap (λ rs. (act t (b t.key)).result ∷ rs)
+        (results_same ts (put t.key (act t (a t.key)).cell a) (put t.key (act t (b t.key)).cell b) (All-tail (IsOwn own) t ts among)
+        (put_same t.key (act t (a t.key)).cell (act t (b t.key)).cell a b (ap (λ c. (act t c).cell) here) same))
+
+  module _ (step : Step C) where
+    effect_same : (found : Option MultiKey) (a b : Keyspace C) → IfSome found (λ command. All (IsOwn own) command.tuples) → AreSameAt own a b → AreSameAt own (after_effect step found a) (after_effect step found b)
+    effect_same None a b among same = same
+    effect_same (Some command) a b among same = after_same (act_of step command) command.tuples a b among same
+
+    outcome_same : (took : Bool) (outcome : Outcome) (found : Option MultiKey) (a b : Keyspace C) → IfSome found (λ command. All (IsOwn own) command.tuples) → AreSameAt own a b
+        → AreSameAt own (after_outcome step took outcome found a) (after_outcome step took outcome found b)
+    outcome_same took (answer reply) found a b among same = effect_same found a b among same
+    outcome_same true (refusal error) found a b among same = effect_same found a b among same
+    outcome_same false (refusal error) found a b among same = same
+    outcome_same true (loss error) found a b among same = effect_same found a b among same
+    outcome_same false (loss error) found a b among same = same
+
+    kept_same : (took : Bool) (outcome : Outcome) (found : Option MultiKey) (a b : Keyspace C) → IfSome found (λ command. All (IsOwn own) command.tuples) → AreSameAt own a b → IsKept step took outcome found a → IsKept step took outcome found b
+    kept_same took (answer reply) None a b among same kept = tt
+    kept_same took (answer reply) (Some command) a b among same kept = kept ∙ ap (reply_by command.form) (results_same (act_of step command) command.tuples a b among same)
+    kept_same took (refusal error) found a b among same kept = kept
+    kept_same took (loss error) found a b among same kept = tt
+
+    pub kept_beside : (took : ℕ → Bool) (ss : List Said) (a b : Keyspace C) → All (IsAmong own) ss → AreSameAt own a b → AreKeptBeside own step took ss a → AreKept step took ss b
+    kept_beside took [] a b among same kept = tt
+    kept_beside took (s ∷ ss) a b among same kept =
+        let one = All-head (IsAmong own) s ss among in
+        let now : AreSameAt own kept.0 b = λ key is. sym (kept.1 key is) ∙ same key is in (
+          kept_same (took 0) s.outcome (multi_key (map Some s.args)) kept.0 b one now kept.2,
+          kept_beside (λ n. took (suc n)) ss (after_said step (took 0) s kept.0) (after_said step (took 0) s b) (All-tail (IsAmong own) s ss among)
+              (outcome_same (took 0) s.outcome (multi_key (map Some s.args)) kept.0 b one now) kept.3,
+        )
