@@ -10,6 +10,8 @@
 //! `first`, `pick=N` or `shard` says which nodes serve reads.
 #![tactic(auto)]
 
+ghost use Rattle.std.specs.Prelude.{◌≤◌, IfOk};
+
 use cluster_map::ReadRoutingStrategy;
 use example_strategies::{FirstReplica, PickIndex, ShardAware};
 use slotroute_serve::{USAGE, serve};
@@ -43,7 +45,9 @@ fn strategy_of(words: &[String]) -> Option<Strategy> {
     }
 }
 
-fn run(rt: &HostRuntime, alloc: Global) -> io::Result<u8> {
+fn run(rt: &HostRuntime, alloc: Global) -> io::Result<u8>
+    ensures { IfOk result (λ status. status ≤ 2) }
+{
     let mut words = Vec::new(alloc);
     for word in env::args(rt)?.skip(1) {
         words.push(word)?;
@@ -60,11 +64,13 @@ fn run(rt: &HostRuntime, alloc: Global) -> io::Result<u8> {
     Ok(serve(alloc, &words, &mut reader, &mut out, &mut err, strategy))
 }
 
-fn main(rt: HostRuntime) -> ExitCode {
-    let status = match run(&rt, rt.alloc()) {
+/// Runs the program, and tells where its words are not text or there is no memory for them.
+fn status(rt: &HostRuntime) -> u8
+    ensures { result ≤ 2 }
+{
+    match run(rt, rt.alloc()) {
         Ok(status) => status,
         Err(error) => {
-            // The words are not text, or there is no memory.
             let line = match error.kind() {
                 io::ErrorKind::InvalidData => USAGE,
                 _ => "slotroute: no memory\n",
@@ -72,6 +78,9 @@ fn main(rt: HostRuntime) -> ExitCode {
             let _ = eprint!(rt; "{line}");
             2
         }
-    };
-    ExitCode::from(status)
+    }
+}
+
+fn main(rt: HostRuntime) -> ExitCode {
+    ExitCode::from(status(&rt))
 }

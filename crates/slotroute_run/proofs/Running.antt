@@ -18,7 +18,7 @@ use Rattle.redis_cluster.specs.Driven.{Request, State, request, routes_by, IsEnt
 use Rattle.redis_cluster.specs.Faults.{IsFault}
 use Rattle.redis_cluster.specs.Orders.{NamesOnce}
 use Rattle.redis_cluster.specs.ReadOnly.{is_among}
-use Rattle.redis_cluster.specs.Trace.{Entry, Ending, refused}
+use Rattle.redis_cluster.specs.Trace.{Entry, Ending, refused, lost}
 use Rattle.redis_driver.specs.declared.fault.DriveFault.{DriveFault}
 use Rattle.redis_driver.specs.declared.fault.DriveFault.TheVariants as drive
 use Rattle.resp_core.specs.Reply.{Reply}
@@ -83,6 +83,7 @@ module _ (IsNode : SlotRoute → Address → Type 0) (names words : List (List �
   why_not_run are willing drive.BadOrder count other f = absurd (other refl)
   why_not_run are willing drive.Memory count other f = tt
   why_not_run are willing (drive.Node error) count other f = absurd (willing (length f.before) (refused error) f.allowed)
+  why_not_run are willing (drive.Lost error) count other f = absurd (willing (length f.before) (lost error) f.allowed)
   why_not_run are willing (drive.Reply error) count other f = absurd f
 
   -- what the driver refuses before it sends leaves keys and trace, and no node refuses
@@ -93,6 +94,7 @@ module _ (IsNode : SlotRoute → Address → Type 0) (names words : List (List �
   unsent willing drive.BadOrder count f = (f.1.keyspace, f.1.trace)
   unsent willing drive.Memory count f = tt
   unsent willing (drive.Node error) count f = absurd (willing (length f.before) (refused error) f.allowed)
+  unsent willing (drive.Lost error) count f = absurd (willing (length f.before) (lost error) f.allowed)
   unsent willing (drive.Reply error) count f = absurd f
 
   -- an order of the direction is not refused

@@ -22,7 +22,7 @@ use Rattle.slotroute_run.specs.declared.direction.Direction.{Direction}
 use Rattle.slotroute_run.specs.declared.refusal.CommandFault.{CommandFault}
 use Rattle.slotroute_run.specs.declared.refusal.CommandFault.TheVariants.{Refused, Memory}
 use Rattle.slotroute_run.specs.declared.refusal.Refusal.{Refusal}
-use Rattle.slotroute_run.specs.declared.refusal.Refusal.TheVariants.{NotMultiKey, NotCovered, NodeRefused, BadReply}
+use Rattle.slotroute_run.specs.declared.refusal.Refusal.TheVariants.{NotMultiKey, NotCovered, NodeRefused, ReplyLost, BadReply}
 
 -- the names of the commands that only read
 abbrev pub only_reads : List ℕ → Bool
@@ -47,13 +47,15 @@ pub record IsCommandRun (handed : Bool) (direction : Direction) (entries : List 
   pub printed : text ≡ command_lines sent answer
 
 -- Why a command with these words is refused: it is not a complete one over many keys, or the first
--- of its routes that has no node has this slot. Nodes in memory refuse none, and their replies fit.
+-- of its routes that has no node has this slot. Nodes in memory refuse none and lose no reply, and
+-- their replies fit.
 abbrev pub IsRefused : List (Entry SlotNodes) → List (List ℕ) → Refusal → Type 0
 IsRefused entries words NotMultiKey = routes_by only_reads (map Some words) ≡ None
 IsRefused entries words (NotCovered slot) =
     (routes : List SlotRoute) × (routes_by only_reads (map Some words) ≡ Some routes)
     × IsFirstUncovered entries routes slot
 IsRefused entries words NodeRefused = ⊥
+IsRefused entries words ReplyLost = ⊥
 IsRefused entries words BadReply = ⊥
 
 -- why a command is not run, but for memory

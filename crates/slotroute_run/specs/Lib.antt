@@ -2,3 +2,4 @@ pub mod Direction
 pub mod Printed
 pub mod Commands
 pub mod Refusals
+pub mod RefusalText

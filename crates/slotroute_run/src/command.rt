@@ -145,6 +145,7 @@ fn command_fault(fault: DriveFault) -> CommandFault
         DriveFault::BadOrder => unreachable!(),
         DriveFault::Memory => CommandFault::Memory,
         DriveFault::Node(_) => CommandFault::Refused(Refusal::NodeRefused),
+        DriveFault::Lost(_) => CommandFault::Refused(Refusal::ReplyLost),
         DriveFault::Reply(_) => CommandFault::Refused(Refusal::BadReply),
     }
 }

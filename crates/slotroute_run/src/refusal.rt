@@ -1,6 +1,8 @@
-ghost use Rattle.std.specs.Prelude.{◌≡◌};
+ghost use Rattle.std.specs.Prelude.{◌≡◌, Some};
 
 use std::alloc::{AllocError, AllocFailed};
+use std::error::Error;
+use std::fmt;
 
 /// Why a command is refused.
 #[derive(Debug, Drop)]
@@ -11,9 +13,29 @@ pub enum Refusal {
     NotCovered(u16),
     /// A node refused a part of it.
     NodeRefused,
+    /// The reply to a part of it was lost.
+    ReplyLost,
     /// The replies to its parts do not make one.
     BadReply,
 }
+
+impl fmt::Display for Refusal {
+    ghost use Rattle.slotroute_run.specs.RefusalText.{refusal_text};
+
+    ghost output = { λ refusal. Some (refusal_text refusal) };
+
+    fn fmt<W: fmt::Write>(&self, f: &mut fmt::Formatter<W>) -> fmt::Result {
+        match self {
+            Refusal::NotMultiKey => write!(f, "not a multi-key command"),
+            Refusal::NotCovered(slot) => write!(f, "slot {slot} not covered"),
+            Refusal::NodeRefused => write!(f, "node refused"),
+            Refusal::ReplyLost => write!(f, "reply lost"),
+            Refusal::BadReply => write!(f, "bad reply"),
+        }
+    }
+}
+
+impl Error for Refusal {}
 
 /// Why a command was not run.
 #[derive(Debug, Drop)]
@@ -23,6 +45,21 @@ pub enum CommandFault {
     /// Memory ran out.
     Memory,
 }
+
+impl fmt::Display for CommandFault {
+    ghost use Rattle.slotroute_run.specs.RefusalText.{command_fault_text};
+
+    ghost output = { λ fault. Some (command_fault_text fault) };
+
+    fn fmt<W: fmt::Write>(&self, f: &mut fmt::Formatter<W>) -> fmt::Result {
+        match self {
+            CommandFault::Refused(refusal) => write!(f, "{refusal}"),
+            CommandFault::Memory => write!(f, "out of memory"),
+        }
+    }
+}
+
+impl Error for CommandFault {}
 
 impl From<AllocError> for CommandFault {
     ghost use Rattle.slotroute_run.specs.declared.refusal.CommandFault.TheVariants.{Memory};

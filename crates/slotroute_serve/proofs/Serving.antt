@@ -1,6 +1,7 @@
 -- What the words and the input call for.
-use Rattle.std.proofs.Common.{◌≡◌, ◌≢◌, ℕ, ◌+◌, Bool, length, map, string_bytes, Bor, String, Global, Vec, append_assoc, decimal, List, [], ◌∷◌, ◌++◌, refl, subst, rules, take, inl, inr, ◌⊎◌}
+use Rattle.std.proofs.Common.{◌≡◌, ◌≢◌, ◌≤◌, ℕ, ◌+◌, Bool, true, false, if◌then◌else◌, arith, is_none, length, map, string_bytes, Bor, String, Global, Vec, append_assoc, decimal, List, [], ◌∷◌, ◌++◌, refl, subst, rules, take, inl, inr, ◌⊎◌}
 use Rattle.std.specs.Prelude.{Option, Some, None, Result, Ok, Err, OnOk, OnErr, IfErr, IfSome, MatchResult, codes, ⊤}
+use Rattle.std.specs.List.{list_any}
 use Rattle.std.specs.Result.{IsErrAnd}
 use Rattle.std.specs.Io.KnownBytes.{Appends}
 use Rattle.cluster_map.specs.Address.{Address, display_text}
@@ -53,6 +54,19 @@ pub answers_split : (entries : List (Entry SlotNodes)) (asked : Question) (comma
     → MatchResult r (λ a. IsSplitAnswer entries (map string_bytes command.now) a.0.items a.1) (WhyNoSplit (map string_bytes command.now)) → MatchResult r (λ a. (words : List (List ℕ)) → Asks words asked → IsAnswer entries words a.0.items a.1) (WhyNoAnswer asked)
 answers_split entries asked command (Ok x) is h = λ words a. let b : Asks words (Split command) = subst (Asks words) is a in rw b.0 (split_answer (map string_bytes command.now) x.0.items x.1 h)
 answers_split entries asked command (Err e) is h = rw is h
+
+-- The status of an answer is 0, or 1 where there is no node.
+node_status : (entries : List (Entry SlotNodes)) (key line : List ℕ) (status : ℕ) → IsNodeAnswer entries key line status → status ≤ 1
+node_status entries key line status (served slot pick address at node) = omega arith
+node_status entries key line status (unserved slot at none) = omega arith
+
+cond_status : (none : Bool) → (if none then 1 else 0) ≤ 1
+cond_status true = omega arith
+cond_status false = omega arith
+
+pub answer_status : (entries : List (Entry SlotNodes)) (words : List (List ℕ)) (text : List ℕ) (status : ℕ) → IsAnswer entries words text status → status ≤ 1
+answer_status entries words text status (node_answer key line of h) = node_status entries key line of h
+answer_status entries words text status (split_answer command lines of h) = rw h.answered.ended (cond_status (list_any (λ part. is_none part.node) h.answered.parts))
 
 -- Nothing is written where nothing is.
 pub nothing : (out : Option (List ℕ)) → Appends out out []

@@ -10,7 +10,7 @@ use Rattle.cluster_slots.specs.declared.slot.SlotAddr.TheVariants.{Master}
 use Rattle.slotroute_run.specs.declared.direction.Direction.{Direction}
 use Rattle.slotroute_run.specs.declared.direction.Direction.TheVariants.{Forward, Reverse}
 use Rattle.slotroute_run.specs.declared.refusal.Refusal.{Refusal}
-use Rattle.slotroute_run.specs.declared.refusal.Refusal.TheVariants.{NotMultiKey, NotCovered, NodeRefused, BadReply}
+use Rattle.slotroute_run.specs.RefusalText.{refusal_text}
 use Rattle.slotroute_serve.specs.Lines.{line_feed, space, leading_lines, after_lines, after_map}
 use Rattle.slotroute_serve.specs.MapLines.{IsMap, IsFirstBadLine}
 use Rattle.slotroute_serve.specs.Runs.{AllRun, RefusedAt}
@@ -70,13 +70,6 @@ bad_map_line number = codes "slotroute: bad map line " ++ decimal number ++ line
 
 abbrev pub not_multi_key_line : List ℕ
 not_multi_key_line = codes "slotroute: not a multi-key command\n"
-
--- why a command is refused, as its line tells it
-abbrev pub refusal_text : Refusal → List ℕ
-refusal_text NotMultiKey = codes "not a multi-key command"
-refusal_text (NotCovered slot) = codes "slot " ++ decimal slot ++ codes " not covered"
-refusal_text NodeRefused = codes "node refused"
-refusal_text BadReply = codes "bad reply"
 
 abbrev pub refused_line : ℕ → Refusal → List ℕ
 refused_line number refusal =

@@ -1,6 +1,6 @@
-ghost use Rattle.std.specs.Prelude.{◌≡◌, ◌⊎◌, ℕ, List, ⊤, map, string_bytes, is_some, IfOk, IfErr, OnErr, MatchResult};
+ghost use Rattle.std.specs.Prelude.{◌≡◌, ◌≤◌, ◌⊎◌, ℕ, List, ⊤, map, string_bytes, is_some, IfOk, IfErr, OnErr, MatchResult};
 ghost use Rattle.std.specs.Cow.{cow_str_bytes};
-ghost use Rattle.slotroute_serve.specs.Output.{IsRequest, IsAnswer, IsNodeAnswer, refused_line};
+ghost use Rattle.slotroute_serve.specs.Output.{IsRequest, IsAnswer, IsNodeAnswer};
 ghost use Rattle.slotroute_serve.specs.Faults.{fault_line, IsCaused};
 ghost use Rattle.slotroute_serve.specs.Requests.{Asks, WhyNoAnswer};
 ghost use Rattle.slotroute_serve.specs.RunFaults.{RunEnds, RunStops};
@@ -15,7 +15,7 @@ use crate::run::run_commands;
 use crate::split::split_answer;
 use crate::streams::{Sink, Source};
 use cluster_map::{ReadRoutingStrategy, Route, SlotAddr, SlotMap};
-use slotroute_run::{Direction, Refusal};
+use slotroute_run::Direction;
 use std::alloc::{AllocError, Global};
 use std::borrow::CowStr;
 use std::io::{BufRead, Write};
@@ -26,7 +26,9 @@ pub const USAGE: &str =
 
 /// Runs the program on the words after its name, and gives its status.
 ///
-/// Answers go to `out`, and a fault goes to `err` as one line. A strategy that is handed in picks
+/// Answers go to `out`, and a fault goes to `err` as one line. The status is 0, 1 or 2, as for a
+/// fault. Streams may tell contracts nothing of their bytes, as standard input and output do: the
+/// status is bounded and other words are refused there too. A strategy that is handed in picks
 /// the nodes that the reads of `run` go to, whatever its last word is; it is told the shards of the
 /// map once, before the first command.
 pub fn serve<R: BufRead, O: Write, E: Write>(
@@ -40,6 +42,8 @@ pub fn serve<R: BufRead, O: Write, E: Write>(
     ensures served { Serves ⊤ ⊤ ⊤ (is_some strategy) (map string_bytes words.now)
         (R.remaining reader.old) (R.remaining reader.new)
         (O.contents out.old) (O.contents out.new) (E.contents err.old) (E.contents err.new) result }
+    ensures status { result ≤ 2 }
+    ensures misused { ¬ (IsRequest (map string_bytes words.now)) → result ≡ 2 }
     ensures untouched { ¬ (IsRequest (map string_bytes words.now)) → reader.new ≡ reader.old }
 {
     serve_streams(alloc, words, reader, out, err, strategy)
@@ -67,6 +71,8 @@ pub fn serve_streams<R: Source, O: Sink, E: Sink>(
         ⊎ RanOutOfMemory (is_some strategy) (map string_bytes words.now) (R.remaining reader.old)
         (R.remaining reader.new) (O.contents out.old) (O.contents out.new) (E.contents err.old)
         (E.contents err.new) result }
+    ensures status { result ≤ 2 }
+    ensures misused { ¬ (IsRequest (map string_bytes words.now)) → result ≡ 2 }
     ensures untouched { ¬ (IsRequest (map string_bytes words.now)) → reader.new ≡ reader.old }
 {
     match run(alloc, words, reader, out, strategy) {
@@ -91,6 +97,8 @@ fn run<R: Source, O: Sink>(
         (Explains (is_some strategy) (map string_bytes words.now) (R.remaining reader.old)
         (R.remaining reader.new) (O.contents out.old) (O.contents out.new)) }
     ensures cause { IfErr result (IsCaused (MayFailToRead R.fails) (MayFailToWrite O.fails)) }
+    ensures status { IfOk result (λ status. status ≤ 1) }
+    ensures asked { IfOk result (λ _. IsRequest (map string_bytes words.now)) }
     ensures untouched { ¬ (IsRequest (map string_bytes words.now)) → reader.new ≡ reader.old }
 {
     let Some(request) = request_of(words) else {
@@ -215,27 +223,12 @@ fn fault_text(alloc: Global, fault: &Fault) -> Result<CowStr<'static>, AllocErro
         }
         Fault::NotMultiKey => "slotroute: not a multi-key command\n",
         Fault::Command(number, refusal) => {
-            return Ok(CowStr::Owned(refused_line(alloc, *number, refusal)?));
+            let line = format!(in alloc; "slotroute: line {number}: {refusal}\n")?;
+            return Ok(CowStr::Owned(line));
         }
         Fault::Memory => "slotroute: no memory\n",
         Fault::Input => "slotroute: input failed\n",
         Fault::Output => "slotroute: output failed\n",
     };
     Ok(CowStr::Borrowed(text))
-}
-
-/// The line of a command that is refused.
-fn refused_line(alloc: Global, number: u64, refusal: &Refusal) -> Result<String, AllocError>
-    ensures { IfOk result (λ line. string_bytes line ≡ refused_line number refusal.now) }
-{
-    match refusal {
-        Refusal::NotMultiKey => {
-            format!(in alloc; "slotroute: line {number}: not a multi-key command\n")
-        }
-        Refusal::NotCovered(slot) => {
-            format!(in alloc; "slotroute: line {number}: slot {slot} not covered\n")
-        }
-        Refusal::NodeRefused => format!(in alloc; "slotroute: line {number}: node refused\n"),
-        Refusal::BadReply => format!(in alloc; "slotroute: line {number}: bad reply\n"),
-    }
 }

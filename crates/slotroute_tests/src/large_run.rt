@@ -101,3 +101,101 @@ fn a_value_of_a_million_bytes(rt: HostRuntime) -> Result<(), Fail> {
     let runs: [Run; 1] = [(&["run", "forward"], &input, &answer, b"", 0)];
     check(&rt, alloc, &runs)
 }
+
+/// What stands behind the map: bytes, a piece so many times, and more bytes; what is printed, in the
+/// same way; and the error stream.
+type Hostile<'a> = (
+    (&'a [u8], &'a [u8], usize, &'a [u8]),
+    (&'a [u8], &'a [u8], usize, &'a [u8]),
+    &'a [u8],
+);
+
+const NOTHING: (&[u8], &[u8], usize, &[u8]) = (b"", b"", 0, b"");
+
+// As only a hostile user writes them.
+const HOSTILE: [Hostile<'static>; 15] = [
+    (NOTHING, NOTHING, b""),
+    (
+        (b"x", b"", 0, b""),
+        NOTHING,
+        b"slotroute: line 3: not a multi-key command\n",
+    ),
+    (
+        (b"\xff", b"", 0, b""),
+        NOTHING,
+        b"slotroute: line 3: not a multi-key command\n",
+    ),
+    ((b"", b" ", 1_000_000, b""), NOTHING, b""),
+    (
+        (b"", b"\n", 65_536, b"x"),
+        NOTHING,
+        b"slotroute: line 65539: not a multi-key command\n",
+    ),
+    (
+        (b"", b"\r", 65_536, b""),
+        NOTHING,
+        b"slotroute: line 3: not a multi-key command\n",
+    ),
+    (
+        (b"", b"\x00", 65_536, b""),
+        NOTHING,
+        b"slotroute: line 3: not a multi-key command\n",
+    ),
+    (
+        (b"", b"DEL", 65_536, b" a"),
+        NOTHING,
+        b"slotroute: line 3: not a multi-key command\n",
+    ),
+    (
+        (b"DEL", b" ", 65_536, b"\n"),
+        NOTHING,
+        b"slotroute: line 3: not a multi-key command\n",
+    ),
+    (
+        (b"MSET", b" a", 65_535, b""),
+        NOTHING,
+        b"slotroute: line 3: not a multi-key command\n",
+    ),
+    (
+        (b"DEL", b" a", 65_536, b""),
+        (b"p:1 DEL", b" a", 65_536, b"\n0\n"),
+        b"",
+    ),
+    (
+        (b"", b"DEL a\n", 65_536, b"x"),
+        (b"", b"p:1 DEL a\n0\n", 65_536, b""),
+        b"slotroute: line 65539: not a multi-key command\n",
+    ),
+    (
+        (b"DEL ", b"\xff", 65_536, b"\x00"),
+        (b"p:1 DEL ", b"\xff", 65_536, b"\x00\n0\n"),
+        b"",
+    ),
+    (
+        (b"MSET a ", b"9", 65_536, b"\nMGET a"),
+        (b"p:1 MSET a ", b"9", 65_536, b"\nOK\np:1 MGET a\n"),
+        b"",
+    ),
+    (
+        (b"WATCH {", b"}", 65_536, b"\n"),
+        (b"p:1 WATCH {", b"}", 65_536, b"\nOK\n"),
+        b"",
+    ),
+];
+
+#[test]
+fn hostile_command_lines(rt: HostRuntime) -> Result<(), Fail> {
+    let alloc = rt.alloc();
+    for ((start, piece, times, end), (out, printed, count, rest), fault) in HOSTILE {
+        let mut input = Vec::from_slice(alloc, b"0 16383 p:1\n\n")?;
+        input.extend_from_slice(&repeated(alloc, start, piece, times, end)?)?;
+        let mut answer = repeated(alloc, out, printed, count, rest)?;
+        if start == b"MSET a ".as_slice() {
+            answer.extend_from_slice(&repeated(alloc, b"[", piece, times, b"]\n")?)?;
+        }
+        let status = if fault.is_empty() { 0 } else { 2 };
+        let run: Run = (&["run", "forward"], &input, &answer, fault, status);
+        check(&rt, alloc, &[run])?;
+    }
+    Ok(())
+}

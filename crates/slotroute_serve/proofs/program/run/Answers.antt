@@ -1,4 +1,4 @@
-use Rattle.slotroute_serve.proofs.Serving.{usage_fault, is_request, touched, no_map, no_memory, no_answer, answered, not_written, run_stopped, ran_to_end}
+use Rattle.slotroute_serve.proofs.Serving.{answer_status, usage_fault, is_request, touched, no_map, no_memory, no_answer, answered, not_written, run_stopped, ran_to_end}
 use Rattle.slotroute_serve.specs.Requests.{Asks, AsksFor}
 use Rattle.slotroute_serve.specs.Output.{IsRunWords}
 use Rattle.std.proofs.Common.{arith, is_some, subst, map, string_bytes}
@@ -47,6 +47,14 @@ returns-clause-answer g c =
     answered (is_some c.args.strategy) _ (g.R.Source.remaining c.args.reader.now) (g.R.Source.remaining c.read_map.new.source) (g.O.Sink.contents c.args.out.now) (g.O.Sink.contents c.emit.new.writer) c.in_ok-ranges.ranges.items c.deref.result.now c.in_ok-text.status
     c.in_ok-ranges.ensures.map c.in_ok-ranges.ensures.rest (rw (c.in_ok-map.ensures.put, ← c.deref.ensures.value) at (c.in_ok-text.ensures _ asks)) c.in_ok-emit.ensures.ok
 
+pub returns-clause-status : goal.returns-clause-status
+returns-clause-status g c =
+    let asks : Asks (map string_bytes c.args.words.now) c.in-Answer.question = subst (AsksFor (map string_bytes c.args.words.now)) c.in-Answer.is c.in-Some.ensures in
+    answer_status _ _ _ _ (c.in_ok-text.ensures _ asks)
+
+pub returns-clause-asked : goal.returns-clause-asked
+returns-clause-asked g c = is_request (is_some c.args.strategy) _ c.in-Some.request c.in-Some.ensures
+
 pub returns-clause-untouched : goal.returns-clause-untouched
 returns-clause-untouched g c = touched (is_some c.args.strategy) _ _ _ (is_request (is_some c.args.strategy) _ c.in-Some.request c.in-Some.ensures)
 
@@ -64,6 +72,9 @@ returns-in-Run-clause-answer g c =
     let asks : IsRunWords c.in-Run.direction (map string_bytes c.args.words.now) = subst (AsksFor (map string_bytes c.args.words.now)) c.in-Run.is c.in-Some.ensures in
     ran_to_end (is_some c.args.strategy) _ c.in-Run.direction (g.R.Source.remaining c.args.reader.now) (g.R.Source.remaining c.read_map.new.source) (g.R.Source.remaining c.run_told.new.reader) (g.O.Sink.contents c.args.out.now) (g.O.Sink.contents c.run_told.new.out) c.in_ok-ranges.ranges.items
     asks c.in_ok-ranges.ensures.map c.in_ok-ranges.ensures.rest (rw c.in_ok-map.ensures.put at c.in_ok-run_told-in-Run.ensures.run)
+
+pub returns-in-Run-clause-asked : goal.returns-in-Run-clause-asked
+returns-in-Run-clause-asked g c = is_request (is_some c.args.strategy) _ c.in-Some.request c.in-Some.ensures
 
 pub returns-in-Run-clause-untouched : goal.returns-in-Run-clause-untouched
 returns-in-Run-clause-untouched g c = touched (is_some c.args.strategy) _ _ _ (is_request (is_some c.args.strategy) _ c.in-Some.request c.in-Some.ensures)
