@@ -1,0 +1,147 @@
+//! A client that sends the parts of a command side by side.
+ghost use Rattle.std.specs.Prelude.{◌≡◌, Ok, map, IfOk, OnOk, List};
+ghost use Rattle.resp_core.specs.declared.value.Value.{Value};
+
+use cluster_map::{NodeAddress, SlotMap};
+use redis_cluster::driver::{PlanFault, SplitPlan};
+use redis_cluster::routing::ReadOnlyNames;
+use resp_core::{Cmd, ErrorKind, RedisError, Value};
+use std::alloc::{AllocError, AllocFailed, Global};
+use std::error::Error;
+use std::fmt;
+
+/// Why there is no reply to a part.
+#[derive(Debug, Drop)]
+pub enum NoReply {
+    /// The node answered with an error, and did nothing.
+    Refused(RedisError),
+    /// Nothing came in time. Whether the part took effect is not known.
+    TimedOut,
+}
+
+/// What came back for a part.
+pub type Answer = Result<Value, NoReply>;
+
+/// Connections to the nodes of a cluster.
+pub trait Connections {
+    /// Sends each part to its node, waits for none in between, and gives an answer for each, in
+    /// their order.
+    fn exchange(&mut self, parts: &[(&NodeAddress, &Cmd)]) -> Result<Vec<Answer>, AllocError>;
+}
+
+/// Why there is no reply to a command.
+#[derive(Debug, Drop)]
+pub enum BatchError {
+    /// It has no plan. Nothing was sent.
+    NotPlanned(PlanFault),
+    /// There is no reply to this part. Other parts may have taken effect.
+    NotAnswered(usize, NoReply),
+    /// The answers make no reply. All parts took effect.
+    NotCombined(RedisError),
+    /// Memory ran out. Parts may have taken effect.
+    Memory,
+}
+
+impl fmt::Display for NoReply {
+    fn fmt<W: fmt::Write>(&self, f: &mut fmt::Formatter<W>) -> fmt::Result {
+        match self {
+            NoReply::Refused(error) => write!(f, "refused: {error}"),
+            NoReply::TimedOut => write!(f, "timed out"),
+        }
+    }
+}
+
+impl Error for NoReply {}
+
+impl fmt::Display for BatchError {
+    fn fmt<W: fmt::Write>(&self, f: &mut fmt::Formatter<W>) -> fmt::Result {
+        match self {
+            BatchError::NotPlanned(fault) => write!(f, "{fault}"),
+            BatchError::NotAnswered(number, cause) => write!(f, "part {number}: {cause}"),
+            BatchError::NotCombined(error) => write!(f, "bad reply: {error}"),
+            BatchError::Memory => write!(f, "out of memory"),
+        }
+    }
+}
+
+impl Error for BatchError {}
+
+impl From<AllocError> for BatchError {
+    fn from(_: AllocError) -> Self {
+        BatchError::Memory
+    }
+}
+
+impl<T: Drop> From<AllocFailed<T>> for BatchError {
+    fn from(_: AllocFailed<T>) -> Self {
+        BatchError::Memory
+    }
+}
+
+/// Sends the parts of a command side by side, and makes one reply of what comes back.
+pub fn batch<C: Connections>(
+    alloc: Global,
+    command: &Cmd,
+    slot_map: &SlotMap,
+    connections: &mut C,
+) -> Result<Value, BatchError> {
+    let none_only_reads = ReadOnlyNames::new(alloc);
+    let plan = match SplitPlan::new(alloc, command, &none_only_reads, slot_map, None, 0) {
+        Ok(plan) => plan,
+        Err(fault) => return Err(BatchError::NotPlanned(fault)),
+    };
+    let answers = send_parts(alloc, &plan, connections)?;
+    gather(alloc, plan, answers)
+}
+
+/// Sends each part to its node, and gives what came back for each.
+fn send_parts<C: Connections>(
+    alloc: Global,
+    plan: &SplitPlan<'_, Cmd>,
+    connections: &mut C,
+) -> Result<Vec<Answer>, AllocError> {
+    let mut parts = Vec::with_capacity(alloc, plan.len())?;
+    for number in 0..plan.len() {
+        if let (Some(node), Some(part)) = (plan.node(number), plan.part(number)) {
+            parts.push((node, part))?;
+        }
+    }
+    connections.exchange(&parts)
+}
+
+/// The one reply to a command, by the answers to its parts. Where there is one, each answer is a
+/// reply: no error is told as one.
+pub fn gather(
+    alloc: Global,
+    mut plan: SplitPlan<'_, Cmd>,
+    answers: Vec<Answer>,
+) -> Result<Value, BatchError>
+    ensures answered { OnOk result
+        ((replies : List Value) × (answers.items ≡ map Ok replies)) }
+{
+    let replies = replies_in(alloc, answers)?;
+    for (number, reply) in replies.into_iter().enumerate() {
+        if plan.tell(number, reply).is_err() {
+            return Err(not_combined("an answer to no part"));
+        }
+    }
+    plan.combine(alloc).map_err(BatchError::NotCombined)
+}
+
+fn not_combined(text: &'static str) -> BatchError {
+    BatchError::NotCombined(RedisError::from((ErrorKind::Client, text)))
+}
+
+/// The replies, if each answer is one.
+fn replies_in(alloc: Global, answers: Vec<Answer>) -> Result<Vec<Value>, BatchError>
+    ensures { IfOk result (λ replies. answers.items ≡ map Ok replies.items) }
+{
+    let mut replies = Vec::with_capacity(alloc, answers.len())?;
+    for answer in answers {
+        match answer {
+            Ok(reply) => replies.push(reply)?,
+            Err(cause) => return Err(BatchError::NotAnswered(replies.len(), cause)),
+        }
+    }
+    Ok(replies)
+}

@@ -1,0 +1,38 @@
+//! A multi-key command, driven.
+ghost use Rattle.std.specs.Prelude.{◌≡◌, Some, map, IfOk, IfSome};
+ghost use Rattle.resp_core.specs.View.{view};
+ghost use Rattle.redis_cluster.specs.MultiKey.{multi_key};
+ghost use Rattle.redis_cluster.specs.Unsplit.{keyspace_after, reply_to};
+
+use cluster_map::SlotMap;
+use redis_cluster::driver::{DriveError, Nodes, drive};
+use redis_cluster::routing::ReadOnlyNames;
+use resp_core::{Cmd, Value};
+use std::alloc::Global;
+
+/// Deletes the keys of a `DEL`, each at its node, and answers how many there were: as one server
+/// would that has all keys, whatever the nodes' keys hold, where the nodes keep to one meaning.
+pub fn delete<N: Nodes>(
+    alloc: Global,
+    command: &Cmd,
+    slot_map: &SlotMap,
+    order: &[usize],
+    nodes: &mut N,
+) -> Result<Value, DriveError>
+    ensures unsplit { IfOk result (λ count. N.kept nodes.new
+        → IfSome (multi_key (map Some command.now)) (λ whole.
+        (view count ≡ reply_to N.step whole (N.keyspace nodes.old))
+        × (N.keyspace nodes.new ≡ keyspace_after N.step whole (N.keyspace nodes.old)))) }
+{
+    let none_only_reads = ReadOnlyNames::new(alloc);
+    drive(
+        alloc,
+        command,
+        &none_only_reads,
+        slot_map,
+        None,
+        0,
+        order,
+        nodes,
+    )
+}
