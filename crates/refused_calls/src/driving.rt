@@ -1,0 +1,142 @@
+//! Calls of `redis_driver` and of the nodes that it sends to.
+use crate::fault::Fault;
+use crate::inputs::{address, bulks, cmd, map, read_only};
+use crate::page::Page;
+use crate::values::error;
+use cluster_map::NodeAddress;
+use memory_nodes::MemoryNodes;
+use redis_cluster::driver::{DriveError, DriveFault, PlanFault, SendError, SplitPlan, drive};
+use resp_core::{Cmd, Value};
+use std::alloc::{AllocError, Global};
+use wire_nodes::{Logged, Meaning, Transport, Wire, WireNodes};
+
+/// Calls of `redis_driver`.
+pub fn call(page: &Page<'_>, alloc: Global, name: &str) -> Result<(), Fault> {
+    match name {
+        "drive" => driven(page, alloc, "MSET a 1 b 2 c 3", &[2, 0, 1]),
+        "SplitPlan::new" => plan(page, alloc),
+        "SplitPlan::tell" => tell(page, alloc),
+        "SplitPlan::combine" => combine(page, alloc),
+        "PlanFault::Display" => page.given(&format!(in alloc; "{}", PlanFault::NotCovered(5061))),
+        "DriveFault::Display" => page.given(&format!(in alloc; "{}", node_fault(alloc)?)),
+        "DriveError::Display" => {
+            let fault = node_fault(alloc)?;
+            page.given(&format!(in alloc; "{}", DriveError { fault, answered: 2 }))
+        }
+        _ => Err(Fault::Words),
+    }
+}
+
+/// Calls of nodes, which are made by the driver, one part each.
+pub fn call_of_nodes(page: &Page<'_>, alloc: Global, name: &str) -> Result<(), Fault> {
+    match name {
+        "SendError::Display" => {
+            page.given(&format!(in alloc; "{}", SendError::Refused(error(alloc)?)))
+        }
+        "MemoryNodes::new" => page.answer(&MemoryNodes::new(alloc).trace().len()),
+        "MemoryNodes::send" => driven(page, alloc, "MSET a 1", &[0]),
+        "Logged::exchange" => page.given(&exchanged(alloc)?),
+        "WireNodes::send" => driven_over_wire(page, alloc),
+        _ => Err(Fault::Words),
+    }
+}
+
+fn node_fault(alloc: Global) -> Result<DriveFault, AllocError> {
+    Ok(DriveFault::Node(error(alloc)?))
+}
+
+/// Prints the trace, a line for each entry, with the value that its first key has now.
+fn print_sends(page: &Page<'_>, nodes: &MemoryNodes) -> Result<(), Fault> {
+    for entry in nodes.trace() {
+        let key = entry.args.get(1).map(|key| key.as_slice());
+        let value = key.and_then(|key| nodes.get(key, b""));
+        page.after(&(&entry.node, &entry.args, entry.answered, value))?;
+    }
+    Ok(())
+}
+
+/// The driver over nodes in memory.
+fn driven(page: &Page<'_>, alloc: Global, text: &str, order: &[usize]) -> Result<(), Fault> {
+    let command = cmd(alloc, text)?;
+    let (map, names) = (map(alloc)?, read_only(alloc)?);
+    let mut nodes = MemoryNodes::new(alloc);
+    let given = drive(alloc, &command, &names, &map, None, 0, order, &mut nodes);
+    page.driven(&given)?;
+    print_sends(page, &nodes)
+}
+
+fn plan(page: &Page<'_>, alloc: Global) -> Result<(), Fault> {
+    let command = cmd(alloc, "MGET a b")?;
+    let (map, names) = (map(alloc)?, read_only(alloc)?);
+    match SplitPlan::new(alloc, &command, &names, &map, None, 0) {
+        Ok(plan) => page.answer(&(plan.routes(), plan.node(1), plan.part(1))),
+        Err(fault) => page.given(&Err::<(), _>(fault)),
+    }
+}
+
+/// A plan of `MGET a b` whose first part has its reply.
+fn tell(page: &Page<'_>, alloc: Global) -> Result<(), Fault> {
+    let command = cmd(alloc, "MGET a b")?;
+    let (map, names) = (map(alloc)?, read_only(alloc)?);
+    let Ok(mut plan) = SplitPlan::new(alloc, &command, &names, &map, None, 0) else {
+        return Err(Fault::Memory);
+    };
+    let reply = bulks(alloc, "1")?;
+    page.answer(&plan.tell(0, reply))
+}
+
+fn combine(page: &Page<'_>, alloc: Global) -> Result<(), Fault> {
+    let command = cmd(alloc, "MGET a b")?;
+    let (map, names) = (map(alloc)?, read_only(alloc)?);
+    let Ok(mut plan) = SplitPlan::new(alloc, &command, &names, &map, None, 0) else {
+        return Err(Fault::Memory);
+    };
+    for (number, reply) in [(0, "1"), (1, "2")] {
+        let _ = plan.tell(number, bulks(alloc, reply)?);
+    }
+    page.given(&plan.combine(alloc))
+}
+
+/// Connections whose servers answer each command with `OK`.
+#[derive(Drop)]
+struct Agreeing;
+
+impl Transport for Agreeing {
+    fn exchange(&mut self, _: &NodeAddress, _: &Cmd) -> Result<Value, SendError> {
+        Ok(Value::Okay)
+    }
+}
+
+/// Stands for any meaning: no code reads it.
+struct Any;
+
+impl Meaning for Any {
+    ghost use Rattle.std.specs.Prelude.{None, false};
+    ghost use Rattle.resp_core.specs.Reply.{nil};
+
+    ghost Cell = { Unit {0} };
+
+    ghost step = { λ name shared key extras cell. record { cell = None; result = record { value = nil; counts = false } } };
+
+    ghost initial = { λ key. None };
+
+    ghost took = { λ number. false };
+}
+
+fn exchanged(alloc: Global) -> Result<Result<Value, SendError>, AllocError> {
+    let (node, command) = (address(alloc, "n1")?, cmd(alloc, "MSET a 1")?);
+    let mut wire = Logged::new(Agreeing);
+    let given = wire.exchange(&node, &command);
+    let _ = wire.into_transport();
+    Ok(given)
+}
+
+/// The driver over connections.
+fn driven_over_wire(page: &Page<'_>, alloc: Global) -> Result<(), Fault> {
+    let command = cmd(alloc, "MSET a 1")?;
+    let (map, names) = (map(alloc)?, read_only(alloc)?);
+    let mut nodes = WireNodes::<Logged<Agreeing>, Any>::over(Agreeing);
+    let given = drive(alloc, &command, &names, &map, None, 0, &[0], &mut nodes);
+    let _ = nodes.into_wire().into_transport();
+    page.driven(&given)
+}

@@ -1,0 +1,43 @@
+//! Calls of `cluster_map`.
+use crate::fault::Fault;
+use crate::inputs::{map, range, ranges, routes, slots_reply};
+use crate::page::Page;
+use cluster_map::{Route, SlotAddr, SlotMap};
+use std::alloc::Global;
+
+pub fn call(page: &Page<'_>, alloc: Global, name: &str) -> Result<(), Fault> {
+    match name {
+        "SlotMap::new" => page.answer(&SlotMap::new(alloc)),
+        "SlotMap::default" => page.answer(&SlotMap::default(alloc)),
+        "SlotMap::fill_slots" => fill_slots(page, alloc),
+        "SlotMap::from_slots" => page.given(&SlotMap::from_slots(alloc, ranges(alloc)?)),
+        "SlotMap::from_reply" => {
+            page.given(&SlotMap::from_reply(alloc, &slots_reply(alloc)?, "seed"))
+        }
+        "SlotMap::addresses_for_multi_slot" => {
+            let routes = routes(alloc)?;
+            page.given(&map(alloc)?.addresses_for_multi_slot(alloc, &routes, None, 0))
+        }
+        "SlotMap::shard_fallback_addrs" => {
+            let route = Route::new(0, SlotAddr::ReplicaOptional);
+            page.given(&map(alloc)?.shard_fallback_addrs(alloc, route))
+        }
+        "SlotMap::addresses_for_all_primaries" => {
+            page.given(&map(alloc)?.addresses_for_all_primaries(alloc))
+        }
+        "SlotMap::addresses_for_all_nodes" => {
+            page.given(&map(alloc)?.addresses_for_all_nodes(alloc))
+        }
+        "SlotMap::topology" => page.given(&map(alloc)?.topology(alloc)),
+        _ => Err(Fault::Words),
+    }
+}
+
+fn fill_slots(page: &Page<'_>, alloc: Global) -> Result<(), Fault> {
+    let mut map = map(alloc)?;
+    let more = vec![in alloc; range(alloc, 0, 99, "n3")?, range(alloc, 0, 8191, "n4")?]?;
+    page.before(&map)?;
+    let given = map.fill_slots(more);
+    page.given(&given)?;
+    page.after(&map)
+}

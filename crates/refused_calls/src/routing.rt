@@ -1,0 +1,89 @@
+//! Calls of `redis_commands` and `redis_routing`.
+use crate::fault::Fault;
+use crate::inputs::{LONG_HOST, address, cmd, read_only, routes};
+use crate::page::Page;
+use redis_cluster::routing::{
+    MultiSlotArgPattern, MultipleNodeRoutingInfo, ReadOnlyNames, Redirect, Routable, RoutingInfo,
+    SingleNodeRoutingInfo, SplitCommand, command_for_multi_slot_indices, multi_slot_routes,
+};
+use std::alloc::{AllocError, Global};
+
+/// Calls of `redis_commands`.
+pub fn call_of_names(page: &Page<'_>, alloc: Global, name: &str) -> Result<(), Fault> {
+    match name {
+        "ReadOnlyNames::new" => page.answer(&has_names(&ReadOnlyNames::new(alloc))),
+        "ReadOnlyNames::insert" => insert(page, alloc),
+        "Routable::command" => page.given(&cmd(alloc, "cluster info")?.command(alloc)),
+        _ => Err(Fault::Words),
+    }
+}
+
+/// Whether `MGET` and `GET` are among the names.
+fn has_names(names: &ReadOnlyNames) -> (bool, bool) {
+    (names.contains(b"MGET"), names.contains(b"GET"))
+}
+
+fn insert(page: &Page<'_>, alloc: Global) -> Result<(), Fault> {
+    let mut names = read_only(alloc)?;
+    page.before(&has_names(&names))?;
+    let given = names.insert(alloc, b"get");
+    page.given(&given)?;
+    page.after(&has_names(&names))
+}
+
+/// Calls of `redis_routing`.
+pub fn call(page: &Page<'_>, alloc: Global, name: &str) -> Result<(), Fault> {
+    match name {
+        "Redirect::clone" => page.given(&Redirect::Moved(address(alloc, LONG_HOST)?).clone()),
+        "SingleNodeRoutingInfo::clone" => page.given(&by_address(alloc)?.clone()),
+        "MultipleNodeRoutingInfo::clone" => page.given(&multi_slot(alloc)?.clone()),
+        "RoutingInfo::clone" => {
+            page.given(&RoutingInfo::MultiNode((multi_slot(alloc)?, None)).clone())
+        }
+        "RoutingInfo::for_routable" => {
+            let command = cmd(alloc, "MGET a b a")?;
+            page.given(&RoutingInfo::for_routable(alloc, &command, &read_only(alloc)?))
+        }
+        "multi_slot_routes" => {
+            let command = cmd(alloc, "MGET a b a")?;
+            page.given(&multi_slot_routes(alloc, &command, &read_only(alloc)?))
+        }
+        "command_for_multi_slot_indices" => {
+            let command = cmd(alloc, "MGET a b a")?;
+            page.given(&command_for_multi_slot_indices(alloc, &command, &[0, 2]))
+        }
+        "SplitCommand::new" => split(page, alloc),
+        "SplitCommand::part" => part(page, alloc),
+        _ => Err(Fault::Words),
+    }
+}
+
+fn by_address(alloc: Global) -> Result<SingleNodeRoutingInfo, AllocError> {
+    let host = format!(in alloc; "n1")?;
+    Ok(SingleNodeRoutingInfo::ByAddress { host, port: 1 })
+}
+
+fn multi_slot(alloc: Global) -> Result<MultipleNodeRoutingInfo, AllocError> {
+    let pattern = MultiSlotArgPattern::KeysOnly;
+    Ok(MultipleNodeRoutingInfo::MultiSlot((routes(alloc)?, pattern)))
+}
+
+fn split(page: &Page<'_>, alloc: Global) -> Result<(), Fault> {
+    let command = cmd(alloc, "MSET a 1 b 2 a 3")?;
+    let names = read_only(alloc)?;
+    match SplitCommand::new(alloc, &command, &names) {
+        Ok(Some(split)) => page.answer(&split.routes()),
+        Ok(None) => page.answer(&"not split"),
+        Err(_) => page.out_of_memory(""),
+    }
+}
+
+fn part(page: &Page<'_>, alloc: Global) -> Result<(), Fault> {
+    let command = cmd(alloc, "MSET a 1 b 2 a 3")?;
+    let names = read_only(alloc)?;
+    let split = SplitCommand::new(alloc, &command, &names)?.ok_or(Fault::Refused)?;
+    if split.len() < 2 {
+        return Err(Fault::Refused);
+    }
+    page.given(&split.part(alloc, 0))
+}

@@ -1,0 +1,105 @@
+//! Calls of `slotroute_run` and `slotroute_serve`.
+use crate::fault::Fault;
+use crate::inputs::map;
+use crate::page::Page;
+use memory_nodes::MemoryNodes;
+use slotroute_run::{CommandFault, Direction, Refusal, read_only_names, run_command};
+use slotroute_serve::{Sink, Source, serve, serve_streams};
+use std::alloc::Global;
+
+/// Calls of `slotroute_run`.
+pub fn call_of_run(page: &Page<'_>, alloc: Global, name: &str) -> Result<(), Fault> {
+    match name {
+        "read_only_names" => {
+            let names = read_only_names(alloc).map(|names| names.contains(b"EXISTS"));
+            page.given(&names)
+        }
+        "run_command" => run(page, alloc),
+        "Refusal::Display" => page.given(&format!(in alloc; "{}", Refusal::NotCovered(5061))),
+        "CommandFault::Display" => {
+            let fault = CommandFault::Refused(Refusal::NotCovered(5061));
+            page.given(&format!(in alloc; "{fault}"))
+        }
+        _ => Err(Fault::Words),
+    }
+}
+
+fn run(page: &Page<'_>, alloc: Global) -> Result<(), Fault> {
+    let map = map(alloc)?;
+    let names = read_only_names(alloc)?;
+    let mut nodes = MemoryNodes::new(alloc);
+    let words: [&[u8]; 5] = [b"MSET", b"a", b"1", b"b", b"2"];
+    let given = run_command(
+        alloc,
+        &Direction::Reverse,
+        &words,
+        &names,
+        &map,
+        None,
+        &mut nodes,
+    );
+    if given.is_err() {
+        page.out_of_memory(", any number of parts sent")?;
+    } else {
+        page.given(&given)?;
+    }
+    for entry in nodes.trace() {
+        page.after(&(&entry.node, &entry.args, entry.answered))?;
+    }
+    Ok(())
+}
+
+/// Calls of `slotroute_serve`.
+pub fn call(page: &Page<'_>, alloc: Global, name: &str) -> Result<(), Fault> {
+    match name {
+        "serve" => served(page, alloc, false),
+        "serve_streams" => served(page, alloc, true),
+        "Source::append_line" => append_line(page, alloc),
+        "Sink::write_some" => write_some(page, alloc),
+        "Sink::send_off" => page.given(&Vec::<u8>::new(alloc).send_off()),
+        _ => Err(Fault::Words),
+    }
+}
+
+const INPUT: &[u8] = b"0 16383 p:1\n\nMSET a 1 b 2\nMGET b a\n";
+
+/// The program, over an input in memory and outputs that have room.
+fn served(page: &Page<'_>, alloc: Global, by_streams: bool) -> Result<(), Fault> {
+    let words = vec![in alloc; format!(in alloc; "run")?, format!(in alloc; "forward")?]?;
+    let mut reader = INPUT;
+    let mut out: Vec<u8> = Vec::with_capacity(alloc, 1000)?;
+    let mut err: Vec<u8> = Vec::with_capacity(alloc, 1000)?;
+    let status = if by_streams {
+        serve_streams(alloc, &words, &mut reader, &mut out, &mut err, None)
+    } else {
+        serve(alloc, &words, &mut reader, &mut out, &mut err, None)
+    };
+    if err.as_slice() == b"slotroute: no memory\n".as_slice() {
+        page.out_of_memory(", what was printed before stays")?;
+    } else {
+        page.answer(&(status, err))?;
+    }
+    for line in out.split(|byte| *byte == b'\n') {
+        if !line.is_empty() {
+            page.after(&line)?;
+        }
+    }
+    Ok(())
+}
+
+fn append_line(page: &Page<'_>, alloc: Global) -> Result<(), Fault> {
+    let mut reader: &[u8] = b"ab\ncd\n";
+    let mut line = Vec::new(alloc);
+    page.before(&line)?;
+    let given = reader.append_line(&mut line);
+    page.given(&given)?;
+    page.after(&line)
+}
+
+fn write_some(page: &Page<'_>, alloc: Global) -> Result<(), Fault> {
+    let mut out: Vec<u8> = Vec::new(alloc);
+    page.before(&out)?;
+    let given = out.write_some(b"ab");
+    page.given(&given)?;
+    page.after(&out)
+}
