@@ -2,8 +2,10 @@
 #![tactic(auto)]
 
 mod host_text;
+/// Addresses of nodes: a host and a port.
 pub mod node_address;
 mod numbers;
+/// Slots of keys, and routes to them.
 pub mod slot;
 
 pub use node_address::{NodeAddress, split_node_address};

@@ -24,6 +24,11 @@ use std::sync::ArcStr;
 ///
 /// Addresses are ordered by the bytes of the host, then by port. `Display` and `Debug` print
 /// `host:port`.
+///
+/// ```
+/// let low = NodeAddress::try_from(alloc, "10.0.0.1:6379")?;
+/// let high = NodeAddress::try_from(alloc, "10.0.0.2:6379")?;
+/// ```
 #[derive(Drop)]
 pub struct NodeAddress {
     host: HostText,

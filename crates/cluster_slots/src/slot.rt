@@ -82,6 +82,10 @@ pub enum SlotAddr {
 }
 
 /// Where a command goes: a slot, and which of its nodes.
+///
+/// ```
+/// map.slot_addr_for_route(Route::with_key(key, SlotAddr::Master), None, 0)
+/// ```
 #[derive(Clone, Copy, Debug, PartialEq, Eq, Hash)]
 pub struct Route {
     slot: u16,
@@ -118,6 +122,7 @@ impl Route {
         ensures slot { IsKeySlot key.now result.slot }
         ensures value { result.slot ≡ key_slot key.now }
         ensures addr { result.addr ≡ slot_addr }
+        ensures route { result ≡ record { slot = key_slot key.now; addr = slot_addr } }
     {
         Route::with_slot(Slot::for_key(key), slot_addr)
     }

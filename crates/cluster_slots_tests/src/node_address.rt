@@ -59,6 +59,66 @@ fn a_text_that_names_no_address_is_refused(rt: HostRuntime) -> Result<(), Fail> 
     Ok(())
 }
 
+/// A text of a piece so many times, and an end.
+fn repeated(alloc: Global, piece: &str, times: usize, end: &str) -> Result<String, AllocError> {
+    let mut text = piece.repeat(alloc, times)?;
+    text.push_str(end)?;
+    Ok(text)
+}
+
+/// How long the host is that a text names, and the port; or -1 and 0, if it is refused.
+fn cut(text: &str) -> (i64, u16) {
+    match split_node_address(text) {
+        Ok((host, port)) => (host.len() as i64, port),
+        Err(_) => (-1, 0),
+    }
+}
+
+// As only a hostile server or user writes them.
+#[test]
+fn hostile_texts_are_cut_or_refused(rt: HostRuntime) -> Result<(), Fail> {
+    let table = [
+        ("", 0, "", (-1, 0)),
+        ("", 0, ":", (-1, 0)),
+        ("", 0, "7", (-1, 0)),
+        (" ", 1, ":1", (1, 1)),
+        (" ", 65_536, "", (-1, 0)),
+        (" ", 65_536, ":1", (65_536, 1)),
+        (":", 65_536, "", (-1, 0)),
+        (":", 65_536, "1", (65_535, 1)),
+        ("[", 1_000_000, "]:1", (-1, 0)),
+        ("[", 1_000_000, "h:1", (1, 1)),
+        ("]", 65_536, ":1", (-1, 0)),
+        ("[]", 65_536, ":1", (131_070, 1)),
+        ("h:", 1, "65535", (1, 65_535)),
+        ("h:", 1, "65536", (-1, 0)),
+        ("h:", 1, "18446744073709551616", (-1, 0)),
+        ("h:", 1, "-0", (-1, 0)),
+        ("h:", 1, "+", (-1, 0)),
+        ("h:", 1, "++1", (-1, 0)),
+        ("h:", 1, " 1", (-1, 0)),
+        ("h:", 1, "1\0", (-1, 0)),
+        ("\0", 1, ":1", (1, 1)),
+        ("\u{10ffff}", 65_536, ":1", (262_144, 1)),
+    ];
+    for (piece, times, end, want) in table {
+        let text = repeated(rt.alloc(), piece, times, end)?;
+        assert_eq!(rt;
+            cut(text.as_str()),
+            want,
+            "{times} times {piece:?}, {end:?}"
+        );
+    }
+    let zeros = repeated(
+        rt.alloc(),
+        "h:",
+        1,
+        "0".repeat(rt.alloc(), 65_536)?.as_str(),
+    )?;
+    assert_eq!(rt; cut(zeros.as_str()), (1, 0), "65536 zeros");
+    Ok(())
+}
+
 #[test]
 fn an_address_matches_the_texts_that_name_it(rt: HostRuntime) -> Result<(), Fail> {
     let address = NodeAddress::new(rt.alloc(), "h", 80)?;
@@ -95,20 +155,24 @@ fn addresses_print_as_host_colon_port(rt: HostRuntime) -> Result<(), Fail> {
     Ok(())
 }
 
-/// Whether an address of a host of so many bytes prints it whole.
-fn prints_whole(alloc: Global, length: usize) -> Result<bool, AllocError> {
+/// Whether an address of a host of so many bytes, its clone and the address that its text names
+/// print the host whole and are equal.
+fn keeps_host(alloc: Global, length: usize) -> RedisResult<bool> {
     let host = "h".repeat(alloc, length)?;
-    let text = format!(in alloc; "{host}:6379 {host}:6379")?;
-    Ok(printed(alloc, host.as_str(), 6379)? == text)
+    let text = format!(in alloc; "{host}:6379")?;
+    let address = NodeAddress::new(alloc, host.as_str(), 6379)?;
+    let copy = address.clone()?;
+    let named = NodeAddress::try_from(alloc, text.as_str())?;
+    let printed = format!(in alloc; "{address} {address:?} {copy} {named}")?;
+    let want = format!(in alloc; "{text} {text} {text} {text}")?;
+    Ok(printed == want && copy == address && named == address)
 }
 
+// Up to 16 bytes a host stands in the address itself.
 #[test]
-fn long_hosts_print_whole(rt: HostRuntime) -> Result<(), Fail> {
-    for length in [1, 16, 300, 70_000] {
-        assert!(rt;
-            prints_whole(rt.alloc(), length)?,
-            "a host of {length} bytes"
-        );
+fn hosts_of_each_length_are_kept_whole(rt: HostRuntime) -> Result<(), Fail> {
+    for length in [1, 15, 16, 17, 18, 300, 70_000] {
+        assert!(rt; keeps_host(rt.alloc(), length)?, "a host of {length} bytes");
     }
     Ok(())
 }

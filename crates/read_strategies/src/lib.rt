@@ -2,6 +2,7 @@
 //! a strategy is told of.
 #![tactic(auto)]
 
+/// Strategies that say where reads go, and what they are told.
 pub mod read_routing;
 
 pub use read_routing::{

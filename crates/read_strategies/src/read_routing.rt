@@ -18,6 +18,15 @@ pub use shard::Shard;
 pub use shards::Shards;
 
 /// Where reads go that need not go to the primary.
+///
+/// ```
+/// fn route_read<'a>(&self, candidates: &ReadCandidates<'a>) -> &'a NodeAddress {
+///     match candidates {
+///         ReadCandidates::AnyNode(candidates) => candidates.replicas().first(),
+///         ReadCandidates::ReplicasOnly(candidates) => candidates.replicas().first(),
+///     }
+/// }
+/// ```
 pub trait ReadRoutingStrategy: Drop {
     /// The addresses that a read of these candidates may go to.
     ghost picks: { Self → Candidates → Address → Type 0 };
@@ -40,6 +49,7 @@ pub trait ReadRoutingStrategy: Drop {
 
 /// What makes strategies.
 pub trait ReadRoutingStrategyFactory {
+    /// What is made.
     type Strategy: ReadRoutingStrategy;
 
     /// The strategies that it may make: any, where an implementation does not say it.

@@ -1,8 +1,9 @@
 //! Arguments as only a hostile or broken client writes them.
 use crate::helpers::{read_only_names, to_specific_node, value_of, words_of};
 use cluster_map::{Route, SlotAddr};
-use redis_cluster::routing::RoutingInfo;
-use std::alloc::Global;
+use redis_cluster::routing::{Routable, RoutingInfo, SingleNodeRoutingInfo, SplitCommand};
+use resp_core::Value;
+use std::alloc::{AllocError, Global};
 use std::test::Fail;
 
 /// Whether an array of the words, of which each `#` is a gap, goes to this key's node, or nowhere.
@@ -27,5 +28,136 @@ fn gaps_among_the_arguments(rt: HostRuntime) -> Result<(), Fail> {
     for (text, key, nodes) in table {
         assert!(rt; goes(rt.alloc(), text, key, nodes)?, "{text}");
     }
+    Ok(())
+}
+
+/// Words, of which each `#` is a gap, and a last one so many times.
+type Words = (&'static [&'static [u8]], &'static [u8], usize);
+
+/// An array of these words.
+fn array_of(alloc: Global, (words, last, times): Words) -> Result<Value, AllocError> {
+    let mut all = Vec::from_slice(alloc, words)?;
+    for _ in 0..times {
+        all.push(last)?;
+    }
+    value_of(alloc, &all)
+}
+
+/// Where a command goes, as a text, and in how many parts it is split, which is none where it is
+/// not.
+fn routed<R: Routable>(alloc: Global, command: &R) -> Result<(String, usize), Fail> {
+    let names = read_only_names(alloc, &[b"MGET"])?;
+    let text = match RoutingInfo::for_routable(alloc, command, &names)? {
+        None => format!(in alloc; "none")?,
+        Some(RoutingInfo::SingleNode(SingleNodeRoutingInfo::SpecificNode(route))) => {
+            format!(in alloc; "slot {}", route.slot())?
+        }
+        Some(RoutingInfo::SingleNode(_)) => format!(in alloc; "any")?,
+        Some(RoutingInfo::MultiNode(_)) => format!(in alloc; "many")?,
+    };
+    let split = SplitCommand::new(alloc, command, &names)?;
+    Ok((text, split.map_or(0, |split| split.len())))
+}
+
+const MANY: usize = 65_536;
+
+const HOSTILE: [(Words, &str, usize); 31] = [
+    ((&[], b"", 0), "none", 0),
+    ((&[b""], b"", 0), "any", 0),
+    ((&[b"G"], b"", 0), "any", 0),
+    ((&[b"\xff"], b"", 0), "any", 0),
+    ((&[b"\xff"], b"\xfe", 1), "slot 3793", 0),
+    ((&[], b"#", MANY), "none", 0),
+    ((&[b"GET"], b"#", MANY), "any", 0),
+    ((&[b"DEL"], b"#", MANY), "none", 0),
+    ((&[b"DEL"], b"", 1), "slot 0", 1),
+    ((&[b"DEL"], b"\xff\xfe", 1), "slot 3374", 1),
+    ((&[b"DEL"], b"a", MANY), "slot 15495", 1),
+    ((&[b"del", b"b"], b"a", MANY), "many", 2),
+    ((&[b"MGET", b"b", b"a"], b"#", MANY), "many", 2),
+    ((&[b"MSET"], b"a", MANY - 1), "none", 0),
+    ((&[b"MSET"], b"a", MANY), "slot 15495", 1),
+    ((&[b"JSON.MSET"], b"a", MANY - 1), "slot 15495", 1),
+    ((&[b"JSON.MSET"], b"a", MANY), "none", 0),
+    ((&[b"JSON.MGET"], b"a", 1), "slot 15495", 0),
+    ((&[b"JSON.MGET"], b"a", MANY), "slot 15495", 1),
+    ((&[b"EVAL", b"s", b"0"], b"a", MANY), "any", 0),
+    ((&[b"EVAL", b"s", b"65536"], b"a", MANY), "slot 15495", 0),
+    (
+        (&[b"EVAL", b"s", b"18446744073709551615"], b"a", 1),
+        "slot 15495",
+        0,
+    ),
+    (
+        (&[b"EVAL", b"s", b"18446744073709551616"], b"a", 1),
+        "none",
+        0,
+    ),
+    ((&[b"EVAL", b"s", b"-1"], b"a", 1), "none", 0),
+    ((&[b"EVAL", b"s", b"\xff"], b"a", 1), "none", 0),
+    ((&[b"EVAL", b"s", b""], b"a", 1), "none", 0),
+    ((&[b"CLUSTER", b"SETSLOT", b"0"], b"", 0), "slot 0", 0),
+    ((&[b"CLUSTER", b"SETSLOT", b"65536"], b"", 0), "none", 0),
+    ((&[b"CLUSTER", b"SETSLOT", b"\xff"], b"", 0), "none", 0),
+    ((&[b"XREAD"], b"STREAMS", MANY), "slot 15571", 0),
+    ((&[b"XREAD"], b"COUNT", MANY), "none", 0),
+];
+
+#[test]
+fn hostile_commands_go_somewhere_or_nowhere(rt: HostRuntime) -> Result<(), Fail> {
+    for (words, want, parts) in HOSTILE {
+        let (text, count) = routed(rt.alloc(), &array_of(rt.alloc(), words)?)?;
+        let (front, last, times) = words;
+        assert_eq!(rt; text.as_str(), want, "{front:?} and {times} times {last:?}");
+        assert_eq!(rt;
+            count,
+            parts,
+            "parts of {front:?} and {times} times {last:?}"
+        );
+    }
+    Ok(())
+}
+
+/// Arrays in arrays, so many levels deep.
+fn deep(alloc: Global, levels: usize) -> Result<Value, AllocError> {
+    let mut value = Value::Nil;
+    for _ in 0..levels {
+        value = Value::Array(vec![in alloc; value]?);
+    }
+    Ok(value)
+}
+
+/// The words of a text, of which `deep` is a deep array.
+fn deep_at(alloc: Global, text: &str) -> Result<Value, AllocError> {
+    let mut items = Vec::new(alloc);
+    for word in text.split(' ') {
+        items.push(if word == "deep" {
+            deep(alloc, 10_000)?
+        } else {
+            Value::BulkString(word.as_bytes().to_vec(alloc)?)
+        })?;
+    }
+    Ok(Value::Array(items))
+}
+
+#[test]
+fn a_deep_argument_is_a_gap(rt: HostRuntime) -> Result<(), Fail> {
+    let table = [
+        ("deep", "none", 0),
+        ("deep a", "none", 0),
+        ("GET deep", "any", 0),
+        ("DEL deep a", "none", 0),
+        ("DEL a deep b", "slot 15495", 1),
+        ("MSET a deep", "none", 0),
+        ("EVAL s deep a", "none", 0),
+        ("XREAD deep STREAMS a", "slot 15495", 0),
+    ];
+    for (text, want, parts) in table {
+        let (found, count) = routed(rt.alloc(), &deep_at(rt.alloc(), text)?)?;
+        assert_eq!(rt; found.as_str(), want, "{text}");
+        assert_eq!(rt; count, parts, "parts of {text}");
+    }
+    let (found, _) = routed(rt.alloc(), &deep(rt.alloc(), 1_000_000)?)?;
+    assert_eq!(rt; found.as_str(), "none", "a deep reply");
     Ok(())
 }

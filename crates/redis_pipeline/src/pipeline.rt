@@ -27,6 +27,13 @@ pub fn cluster_pipe(alloc: Global) -> ClusterPipeline
 /// Commands that are to be sent to a cluster together, in the order in which they are added.
 ///
 /// Each has a mark, which says that its reply is to be left out of what the pipeline answers.
+///
+/// ```
+/// let mut pipeline = cluster_pipe(alloc);
+/// pipeline.cmd(alloc, b"SET")?.arg(key)?.arg(value)?.ignore()?;
+/// pipeline.cmd(alloc, b"GET")?.arg(key)?;
+/// pipeline.check(alloc)?;
+/// ```
 #[derive(Debug, Drop)]
 pub struct ClusterPipeline {
     commands: Vec<Cmd>,

@@ -185,3 +185,58 @@ fn a_clone_has_the_commands_and_the_marks(rt: HostRuntime) -> Result<(), Fail> {
     assert!(rt; !pipeline.ignored(2));
     Ok(())
 }
+
+/// A pipeline of a command so many times, whose name is a piece so many times and an end.
+fn repeated(
+    alloc: Global,
+    commands: usize,
+    piece: &[u8],
+    times: usize,
+    end: &[u8],
+) -> Result<ClusterPipeline, AllocError> {
+    let mut name = Vec::new(alloc);
+    for _ in 0..times {
+        name.extend_from_slice(piece)?;
+    }
+    name.extend_from_slice(end)?;
+    let mut pipeline = cluster_pipe(alloc);
+    for _ in 0..commands {
+        pipeline.push_cmd(alloc, &name)?;
+    }
+    Ok(pipeline)
+}
+
+// As only a hostile user names commands: the name is trimmed, and tells of none where it is long.
+#[test]
+fn hostile_names_pass_or_are_told(rt: HostRuntime) -> Result<(), Fail> {
+    type Row = (usize, &'static [u8], usize, &'static [u8], &'static str);
+    let table: [Row; 15] = [
+        (1, b"", 0, b"", ""),
+        (1, b"", 0, b"x", ""),
+        (1, b" ", 1, b"", ""),
+        (1, b" ", 1_000_000, b"", ""),
+        (1, b" ", 1_000_000, b"mget", "MGET"),
+        (1, b"\xe3\x80\x80", 65_536, b"mget", "MGET"),
+        (1, b"mget ", 65_536, b"", ""),
+        (1, b"mget", 65_536, b"", ""),
+        (1, b"\x00", 65_536, b"mget", ""),
+        (1, b"\xff", 65_536, b"", ""),
+        (1, b" ", 1, b"mget\xff", ""),
+        (1, b"\xc3", 1, b"mget", ""),
+        (65_536, b"", 0, b"get", ""),
+        (65_536, b"", 0, b"\xff", ""),
+        (65_536, b"", 0, b"time", "TIME"),
+    ];
+    for (commands, piece, times, end, name) in table {
+        let answer = repeated(rt.alloc(), commands, piece, times, end)?.check(rt.alloc());
+        let is_right = match &answer {
+            Ok(()) => name.is_empty(),
+            Err(error) => is_refusal_of(rt.alloc(), name, error)?,
+        };
+        assert!(rt;
+            is_right,
+            "{commands} of {times} times {piece:?} and {end:?}"
+        );
+    }
+    Ok(())
+}

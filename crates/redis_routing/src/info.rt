@@ -16,6 +16,14 @@ pub enum Redirect {
 }
 
 /// Where a command goes.
+///
+/// ```
+/// let mut read_only = ReadOnlyNames::new(alloc);
+/// read_only.insert(alloc, b"MGET")?;
+/// let mut command = Cmd::new(alloc);
+/// command.arg(b"MGET")?.arg(key1)?.arg(key2)?;
+/// RoutingInfo::for_routable(alloc, &command, &read_only)
+/// ```
 #[derive(Debug, PartialEq, Eq, Drop)]
 pub enum RoutingInfo {
     /// To one node.

@@ -1,5 +1,5 @@
 -- What a contract sees of an error.
-use Rattle.std.specs.Prelude.{ℕ, Bool, List, Option, None, codes, nat_eq}
+use Rattle.std.specs.Prelude.{ℕ, Bool, List, Option, None, Some, ◌++◌, codes, nat_eq}
 use Rattle.std.specs.Option.{option_eq}
 use Rattle.std.specs.Ordering.{on, eq_of_both}
 use Rattle.std.specs.Cmp.Lexicographic.{pointwise}
@@ -15,6 +15,14 @@ pub record ErrorParts : Type 0 where
 -- out of memory
 abbrev pub out_of_memory : ErrorParts
 out_of_memory = record { kind = OutOfMemory; desc = codes "out of memory"; detail = None }
+
+-- what is printed of an error: its text, and after a colon the detail, where there is one
+abbrev pub error_text : ErrorParts → List ℕ
+error_text e = e.desc ++ printed_detail e.detail
+  where
+    printed_detail : Option (List ℕ) → List ℕ
+    printed_detail None = codes ""
+    printed_detail (Some detail) = codes ": " ++ detail
 
 -- the place of a kind among the four
 abbrev pub kind_place : ErrorKind → ℕ

@@ -9,6 +9,11 @@ use std::marker::Model;
 use std::{fmt, slice};
 
 /// A command: its name and what follows, each a byte string.
+///
+/// ```
+/// let mut command = Cmd::new(alloc);
+/// command.arg(b"SET")?.arg(key)?.arg(value)?;
+/// ```
 #[derive(Drop)]
 pub struct Cmd {
     /// The items one after another.
@@ -64,7 +69,7 @@ impl Cmd {
         })
     }
 
-    /// Adds an item at the end, and gives the command back for the next.
+    /// Adds an item at the end, and lends the command back for the next.
     ///
     /// # Errors
     ///

@@ -1,9 +1,11 @@
 ghost use Rattle.std.specs.Prelude.{◌≡◌, ◌↔◌, IsTrue, Some, None, ◌==◌, option_copied, option_map, string_bytes};
-ghost use Rattle.resp_core.specs.ErrorParts.{ErrorParts, out_of_memory, same_error};
+ghost use Rattle.resp_core.specs.ErrorParts.{ErrorParts, out_of_memory, error_text, same_error};
 ghost use Rattle.std.specs.Cmp.Rules.{comparing};
 ghost use Rattle.std.proofs.Common.{rules};
 
 use std::alloc::{AllocError, AllocFailed};
+use std::error::Error;
+use std::fmt;
 use std::marker::Model;
 
 /// What kind of thing went wrong.
@@ -19,7 +21,8 @@ pub enum ErrorKind {
     OutOfMemory,
 }
 
-/// An error: its kind, a fixed text, and in some cases a detail.
+/// An error: its kind, a fixed text, and in some cases a detail. `Display` prints the text, and after a
+/// colon the detail.
 #[derive(Debug, Drop)]
 pub struct RedisError {
     kind: ErrorKind,
@@ -40,7 +43,7 @@ impl Model for RedisError {
     } };
 }
 
-/// An answer of the layer, or why there is none.
+/// What a call of the layer gives, or why it gives nothing.
 pub type RedisResult<T> = Result<T, RedisError>;
 
 impl RedisError {
@@ -65,6 +68,20 @@ impl RedisError {
         self.detail.as_deref()
     }
 }
+
+impl fmt::Display for RedisError {
+    ghost output = { λ e. Some (error_text e) };
+
+    fn fmt<W: fmt::Write>(&self, f: &mut fmt::Formatter<W>) -> fmt::Result {
+        let RedisError { desc, detail, .. } = self;
+        match detail {
+            Some(detail) => write!(f, "{desc}: {detail}"),
+            None => write!(f, "{desc}"),
+        }
+    }
+}
+
+impl Error for RedisError {}
 
 impl PartialEq for RedisError {
     ghost eq = { same_error };

@@ -1,8 +1,11 @@
 //! What the layer speaks of: errors, values and commands.
 #![tactic(auto)]
 
+/// Commands: a name and what follows, each a byte string.
 pub mod cmd;
+/// Errors: a kind, a text and perhaps a detail.
 pub mod error;
+/// Replies, as trees.
 pub mod value;
 
 pub use cmd::{Args, Cmd};

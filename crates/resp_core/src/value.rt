@@ -19,6 +19,11 @@ use std::alloc::AllocError;
 /// memory either, and to clone it memory for the copy and for lists of what is under way, to
 /// compare it a list of the arrays and maps inside arrays and maps; where there is none for that
 /// list, `==` recurses. `Debug` recurses.
+///
+/// ```
+/// let not_a_count = (ErrorKind::UnexpectedReturnType, "the reply is not a count");
+/// reply.as_int().ok_or(RedisError::from(not_a_count))
+/// ```
 #[derive(Debug)]
 pub enum Value {
     /// No value.

@@ -75,3 +75,18 @@ fn errors_are_equal_where_kind_text_and_detail_are(rt: HostRuntime) -> Result<()
     }
     Ok(())
 }
+
+#[test]
+fn errors_print_their_text_and_their_detail(rt: HostRuntime) -> Result<(), Fail> {
+    let alloc = rt.alloc();
+    let table = [
+        (None, "bad text"),
+        (Some("at 7"), "bad text: at 7"),
+        (Some(""), "bad text: "),
+    ];
+    for (detail, text) in table {
+        let error = error_of(alloc, ErrorKind::Client, "bad text", detail)?;
+        assert_eq!(rt; format!(in alloc; "{error}")?.as_str(), text, "{detail:?}");
+    }
+    Ok(())
+}

@@ -10,9 +10,13 @@ use std::marker::Model;
 /// A range of slots, both ends included, and the nodes that serve it.
 #[derive(Clone, Debug, Drop)]
 pub struct SlotRange {
+    /// The first slot.
     pub start: u16,
+    /// The last slot, which belongs to the range.
     pub end: u16,
+    /// The primary.
     pub master: NodeAddress,
+    /// The replicas in order.
     pub replicas: Vec<NodeAddress>,
 }
 

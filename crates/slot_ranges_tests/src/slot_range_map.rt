@@ -223,3 +223,46 @@ fn many_ranges_are_put_in_as_one_after_the_other(rt: HostRuntime) -> Result<(), 
     }
     Ok(())
 }
+
+// So many ranges of one slot each, the last one first, with the number of a range as its value;
+// past the last slot they begin again.
+fn one_for_each(alloc: Global, count: usize) -> Result<Vec<(u16, u16, usize)>, AllocError> {
+    let mut ranges = Vec::with_capacity(alloc, count)?;
+    for number in (0..count).rev() {
+        let slot = (number % 65_536) as u16;
+        ranges.push((slot, slot, number))?;
+    }
+    Ok(ranges)
+}
+
+// The map of so many ranges, put in together, of which the first so many are there before.
+fn extended(alloc: Global, before: usize, count: usize) -> Result<SlotRangeMap<usize>, AllocError> {
+    let mut map = SlotRangeMap::new(alloc);
+    map.extend(one_for_each(alloc, before)?)?;
+    map.extend(one_for_each(alloc, count)?)?;
+    Ok(map)
+}
+
+#[test]
+fn as_many_ranges_as_there_are_slots_and_more(rt: HostRuntime) -> Result<(), Fail> {
+    for (before, count, slots) in [
+        (0, 16_384, 16_384),
+        (0, 16_385, 16_385),
+        (16_384, 1, 16_384),
+        (16_384, 16_385, 16_385),
+        (1, 65_536, 65_536),
+        (65_536, 100_000, 65_536),
+    ] {
+        let map = extended(rt.alloc(), before, count)?;
+        assert_eq!(rt;
+            map.values().count(),
+            slots,
+            "{count} ranges after {before}"
+        );
+        for ((start, end, number), slot) in map.iter().zip(0..slots) {
+            assert_eq!(rt; (usize::from(start), usize::from(end)), (slot, slot));
+            assert_eq!(rt; *number, slot, "the last of the ranges that are equal");
+        }
+    }
+    Ok(())
+}

@@ -124,6 +124,35 @@ const REPLIES: [Row; 27] = [
     ),
 ];
 
+// Replies as only a hostile or broken server writes them.
+const HOSTILE_REPLIES: [Row; 12] = [
+    ("node", "nil nil nil", ""),
+    ("node", "[ nil nil nil nil ]", ""),
+    ("node", "[ 0 1 nil nil ]", ""),
+    ("node", "[ 0 1 [ nil nil ] ]", ""),
+    ("node", "[ 0 1 [ nil 1 ] ]", "(0 1 node:1)"),
+    ("n", "[ 0 0 [ `` 0 ] ]", "(0 0 n:0)"),
+    ("node", "[ 0 0 [ `h` 0 ] ]", "(0 0 h:0)"),
+    ("node", "[ -9223372036854775808 1 [ `h` 1 ] ]", ""),
+    ("node", "[ 0 9223372036854775807 [ `h` 1 ] ]", ""),
+    ("node", "[ 0 1 [ `h` -9223372036854775808 ] ]", ""),
+    (
+        "node",
+        "[ 65535 65535 [ `h` 65535 ] ]",
+        "(65535 65535 h:65535)",
+    ),
+    ("node", "[ [ [ [ ] ] ] ] [ 0 1 [ `h` 1 ] ]", "(0 1 h:1)"),
+];
+
+#[test]
+fn hostile_replies_are_read_as_far_as_they_say_something(rt: HostRuntime) -> Result<(), Fail> {
+    for (answering, text, want) in HOSTILE_REPLIES {
+        let found = read(rt.alloc(), text, answering)?;
+        assert_eq!(rt; found.as_str(), want, "{text} from {answering:?}");
+    }
+    Ok(())
+}
+
 #[test]
 fn a_reply_is_read_item_by_item(rt: HostRuntime) -> Result<(), Fail> {
     for (answering, text, want) in REPLIES {
@@ -231,10 +260,10 @@ fn a_reply_makes_a_map(rt: HostRuntime) -> Result<(), Fail> {
     Ok(())
 }
 
-// A reply with an item for each slot, whose node has the slot as its port.
-fn item_for_each_slot(alloc: Global) -> Result<Value, Fail> {
+// A reply with so many items, each of one slot, whose node has the slot as its port.
+fn item_for_each_slot(alloc: Global, count: i64) -> Result<Value, Fail> {
     let mut items = Vec::new(alloc);
-    for slot in 0..16384 {
+    for slot in 0..count {
         let node = Value::Array(vec![in alloc; word(alloc, "`h`")?, Value::Int(slot)]?);
         items.push(Value::Array(vec![in alloc; Value::Int(slot), Value::Int(slot), node]?))?;
     }
@@ -243,7 +272,7 @@ fn item_for_each_slot(alloc: Global) -> Result<Value, Fail> {
 
 #[test]
 fn a_reply_may_have_an_item_for_each_slot(rt: HostRuntime) -> Result<(), Fail> {
-    let reply = item_for_each_slot(rt.alloc())?;
+    let reply = item_for_each_slot(rt.alloc(), 16384)?;
     let number = parse_slots(rt.alloc(), &reply, "node")?.len();
     assert_eq!(rt; number, 16384);
     let map = SlotMap::from_reply(rt.alloc(), &reply, "node")?;
@@ -254,10 +283,24 @@ fn a_reply_may_have_an_item_for_each_slot(rt: HostRuntime) -> Result<(), Fail> {
     Ok(())
 }
 
-fn item_of_many_nodes(alloc: Global) -> Result<Value, AllocError> {
+// Past the last number of 16 bits nothing is read.
+#[test]
+fn a_reply_may_have_more_items_than_there_are_slots(rt: HostRuntime) -> Result<(), Fail> {
+    for (items, number) in [(16_385, 16_385), (65_536, 65_536), (70_000, 65_536)] {
+        let reply = item_for_each_slot(rt.alloc(), items)?;
+        let ranges = parse_slots(rt.alloc(), &reply, "node")?;
+        assert_eq!(rt; ranges.len(), number, "{items} items");
+        let map = SlotMap::from_reply(rt.alloc(), &reply, "node")?;
+        assert_eq!(rt; map.values().count(), number, "the map of {items} items");
+    }
+    Ok(())
+}
+
+// An item of one node so many times, each with its place as its port, and a host of so many bytes.
+fn item_of_many_nodes(alloc: Global, nodes: i64, bytes: usize) -> Result<Value, AllocError> {
     let mut item = vec![in alloc; Value::Int(0), Value::Int(16383)]?;
-    for port in 0..100 {
-        let host = Value::BulkString(vec![in alloc; b'h'; 300]?);
+    for port in 0..nodes {
+        let host = Value::BulkString(vec![in alloc; b'h'; bytes]?);
         item.push(Value::Array(vec![in alloc; host, Value::Int(port)]?))?;
     }
     Ok(Value::Array(item))
@@ -266,14 +309,16 @@ fn item_of_many_nodes(alloc: Global) -> Result<Value, AllocError> {
 #[test]
 fn an_item_may_have_many_nodes_and_long_hosts(rt: HostRuntime) -> Result<(), Fail> {
     let alloc = rt.alloc();
-    let reply = Value::Array(vec![in alloc; item_of_many_nodes(alloc)?]?);
-    let ranges = parse_slots(alloc, &reply, "node")?;
-    assert_eq!(rt; ranges.len(), 1);
-    for range in &ranges {
-        assert_eq!(rt; range.master.host().len(), 300);
-        assert_eq!(rt; range.replicas.len(), 99);
-        for (place, replica) in range.replicas.iter().enumerate() {
-            assert_eq!(rt; usize::from(replica.port()), place + 1, "replica {place}");
+    for (nodes, bytes) in [(100, 300), (65_536, 1), (2, 1_000_000)] {
+        let reply = Value::Array(vec![in alloc; item_of_many_nodes(alloc, nodes, bytes)?]?);
+        let ranges = parse_slots(alloc, &reply, "node")?;
+        assert_eq!(rt; ranges.len(), 1);
+        for range in &ranges {
+            assert_eq!(rt; range.master.host().len(), bytes);
+            assert_eq!(rt; (range.replicas.len() as i64).saturating_add(1), nodes);
+            for (place, replica) in range.replicas.iter().enumerate() {
+                assert_eq!(rt; usize::from(replica.port()), place + 1, "replica {place}");
+            }
         }
     }
     Ok(())
@@ -282,7 +327,7 @@ fn an_item_may_have_many_nodes_and_long_hosts(rt: HostRuntime) -> Result<(), Fai
 // An item whose first node is an array in an array, and so on, and whose second is one.
 fn deep_item(alloc: Global) -> Result<Value, Fail> {
     let mut deep = Value::Nil;
-    for _ in 0..1000 {
+    for _ in 0..1_000_000 {
         deep = Value::Array(vec![in alloc; deep]?);
     }
     let node = array(alloc, "`h` 1")?;

@@ -64,7 +64,9 @@ impl<'a> ReplicasOnlyCandidates<'a> {
 /// The nodes that a strategy picks from.
 #[derive(Clone, Copy)]
 pub enum ReadCandidates<'a> {
+    /// The primary and its replicas.
     AnyNode(AnyNodeCandidates<'a>),
+    /// The replicas alone.
     ReplicasOnly(ReplicasOnlyCandidates<'a>),
 }
 
