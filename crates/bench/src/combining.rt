@@ -1,6 +1,6 @@
 use crate::fault::Fault;
 use crate::watch::Watch;
-use bench_inputs::{bulks, cmd, counts, ints, read_only, repeated};
+use bench_inputs::{bulks, cmd, counts, ints, read_only, repeated, turned_counts};
 use redis_cluster::routing::{
     AggregateOp, LogicalAggregateOp, SplitCommand, aggregate, combine_and_sort_array_results,
     combine_array_results, combine_map_results, logical_aggregate,
@@ -15,6 +15,7 @@ pub enum Combining {
     Least,
     Logical,
     Maps,
+    TurnedMaps,
     Arrays,
     Sorted,
 }
@@ -39,6 +40,12 @@ pub fn call(
         Combining::Maps => {
             let counts = counts(alloc, size)?;
             maps(watch, alloc, &repeated(alloc, REPLIES, counts)?)
+        }
+        Combining::TurnedMaps => {
+            let turned = Value::Array(turned_counts(alloc, size)?);
+            let mut replies = repeated(alloc, REPLIES - 1, counts(alloc, size)?)?;
+            replies.insert(1, turned)?;
+            maps(watch, alloc, &replies)
         }
         Combining::Arrays => {
             let items = bulks(alloc, size)?;

@@ -1,6 +1,6 @@
 use crate::fault::Fault;
 use crate::watch::Watch;
-use bench_inputs::{cmd, map, read_only};
+use bench_inputs::{Hosts, cmd, map, read_only};
 use memory_nodes::MemoryNodes;
 use redis_cluster::driver::{SplitPlan, drive};
 use redis_cluster::routing::SplitCommand;
@@ -29,7 +29,7 @@ const RANGES: usize = 16384;
 
 /// The plan of a command.
 fn plan(watch: &mut Watch<'_>, alloc: Global, command: &Cmd) -> Result<(), Fault> {
-    let map = map(alloc, RANGES)?;
+    let map = map(alloc, Hosts::Shared, RANGES)?;
     let read_only = read_only(alloc)?;
     watch.time(|_| {
         let plan = SplitPlan::new(alloc, command, &read_only, &map, None, 0);
@@ -50,7 +50,7 @@ fn order_of(alloc: Global, command: &Cmd) -> Result<Vec<usize>, Fault> {
 
 /// A command, driven over nodes in memory that hold no key.
 fn driven(watch: &mut Watch<'_>, alloc: Global, command: &Cmd) -> Result<(), Fault> {
-    let map = map(alloc, RANGES)?;
+    let map = map(alloc, Hosts::Shared, RANGES)?;
     let read_only = read_only(alloc)?;
     let order = order_of(alloc, command)?;
     watch.time(|_| {

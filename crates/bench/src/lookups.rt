@@ -1,6 +1,6 @@
 use crate::fault::Fault;
 use crate::watch::Watch;
-use bench_inputs::{keys, map, ranges, slots_reply};
+use bench_inputs::{Hosts, keys, map, ranges, slots_reply};
 use cluster_map::{Route, Slot, SlotAddr, SlotMap};
 use std::alloc::Global;
 
@@ -11,7 +11,8 @@ pub enum Lookups {
     Node,
     FromSlots,
     FromReply,
-    Topology,
+    Topology(Hosts),
+    Nodes(Hosts),
     Shard,
 }
 
@@ -19,11 +20,12 @@ pub enum Lookups {
 pub fn call(what: Lookups, watch: &mut Watch<'_>, alloc: Global, size: usize) -> Result<(), Fault> {
     match what {
         Lookups::KeySlot => key_slot(watch, &keys(alloc, KEYS, size)?),
-        Lookups::Node => node_of_slot(watch, &map(alloc, size)?),
+        Lookups::Node => node_of_slot(watch, &map(alloc, Hosts::Shared, size)?),
         Lookups::FromSlots => from_slots(watch, alloc, size),
         Lookups::FromReply => from_reply(watch, alloc, size),
-        Lookups::Topology => topology(watch, alloc, &map(alloc, size)?),
-        Lookups::Shard => shard_of_slot(watch, alloc, &map(alloc, size)?),
+        Lookups::Topology(hosts) => topology(watch, alloc, &map(alloc, hosts, size)?),
+        Lookups::Nodes(hosts) => nodes(watch, alloc, &map(alloc, hosts, size)?),
+        Lookups::Shard => shard_of_slot(watch, alloc, &map(alloc, Hosts::Shared, size)?),
     }
 }
 
@@ -60,7 +62,7 @@ fn node_of_slot(watch: &mut Watch<'_>, map: &SlotMap) -> Result<(), Fault> {
 fn from_slots(watch: &mut Watch<'_>, alloc: Global, count: usize) -> Result<(), Fault> {
     watch.time_with(
         alloc,
-        || Ok(ranges(alloc, count)?),
+        || Ok(ranges(alloc, Hosts::Shared, count)?),
         |ranges| Ok(port_at(&SlotMap::from_slots(alloc, ranges)?, 0)),
     )
 }
@@ -77,6 +79,11 @@ fn topology(watch: &mut Watch<'_>, alloc: Global, map: &SlotMap) -> Result<(), F
         let topology = map.topology(alloc)?;
         Ok(usize::from(topology.shard_for_slot(slot_of(turn)).is_some()))
     })
+}
+
+/// All nodes of a map.
+fn nodes(watch: &mut Watch<'_>, alloc: Global, map: &SlotMap) -> Result<(), Fault> {
+    watch.time(|_| Ok(map.addresses_for_all_nodes(alloc)?.len()))
 }
 
 /// The shard of each slot in turn, in the topology of a map.

@@ -7,6 +7,7 @@ use crate::splitting::{self, Splitting};
 use crate::values::{self, Values};
 use crate::watch::Watch;
 use Operation::{Combine, Drive, LookUp, Route, Split, Value};
+use bench_inputs::Hosts;
 use std::alloc::Global;
 
 /// What can be timed.
@@ -46,12 +47,28 @@ const ONE: Sizes = ("call", &[1]);
 /// An operation, its name and its sizes.
 pub type Row = (Operation, &'static str, Sizes);
 
-pub static ROWS: [Row; 36] = [
+pub static ROWS: [Row; 41] = [
     (LookUp(Lookups::KeySlot), "key-slot", BYTES),
     (LookUp(Lookups::Node), "look-up", RANGES),
     (LookUp(Lookups::FromSlots), "map-from-slots", RANGES),
     (LookUp(Lookups::FromReply), "map-from-reply", RANGES),
-    (LookUp(Lookups::Topology), "topology", RANGES),
+    (LookUp(Lookups::Topology(Hosts::Shared)), "topology", RANGES),
+    (
+        LookUp(Lookups::Topology(Hosts::Own)),
+        "topology-own-nodes",
+        RANGES,
+    ),
+    (
+        LookUp(Lookups::Topology(Hosts::OneHash)),
+        "topology-one-hash",
+        RANGES,
+    ),
+    (LookUp(Lookups::Nodes(Hosts::Shared)), "nodes", RANGES),
+    (
+        LookUp(Lookups::Nodes(Hosts::OneHash)),
+        "nodes-one-hash",
+        RANGES,
+    ),
     (LookUp(Lookups::Shard), "shard-of-slot", RANGES),
     (Route(Routing::Name), "name-get", BYTES),
     (Route(Routing::TwoWordName), "name-cluster-info", ONE),
@@ -70,6 +87,7 @@ pub static ROWS: [Row; 36] = [
     (Combine(Combining::Least), "combine-least", REPLIES),
     (Combine(Combining::Logical), "combine-logical", BITS),
     (Combine(Combining::Maps), "combine-maps", PAIRS),
+    (Combine(Combining::TurnedMaps), "combine-maps-turned", PAIRS),
     (Combine(Combining::Arrays), "combine-arrays", ITEMS),
     (Combine(Combining::Sorted), "combine-sorted", KEYS),
     (Value(Values::Command), "command", WORDS),

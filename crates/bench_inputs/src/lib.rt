@@ -80,18 +80,35 @@ fn ends(number: usize, count: usize) -> (u16, u16) {
     (first_slot(number, count), after.saturating_sub(1))
 }
 
+/// Which hosts the nodes of a map have.
+#[derive(Clone, Copy)]
+pub enum Hosts {
+    /// Those of at most 1000 nodes.
+    Shared,
+    /// One for each range.
+    Own,
+    /// One for each range, and all with one hash.
+    OneHash,
+}
+
 /// The host of the node of a range.
-fn host(alloc: Global, number: usize) -> Result<String, AllocError> {
-    let node = number % NODES;
-    format!(in alloc; "10.0.{}.{}", node / 250, node % 250)
+fn host(alloc: Global, hosts: Hosts, number: usize) -> Result<String, AllocError> {
+    match hosts {
+        Hosts::Shared => {
+            let node = number % NODES;
+            format!(in alloc; "10.0.{}.{}", node / 250, node % 250)
+        }
+        Hosts::Own => format!(in alloc; "10.1.{}.{}", number / 250, number % 250),
+        Hosts::OneHash => format!(in alloc; "collidehostcxkzgMOsKSBRA{number:08}"),
+    }
 }
 
 /// Ranges that share all slots, each with a primary and a replica.
-pub fn ranges(alloc: Global, count: usize) -> Result<Vec<SlotRange>, AllocError> {
+pub fn ranges(alloc: Global, hosts: Hosts, count: usize) -> Result<Vec<SlotRange>, AllocError> {
     let mut ranges = Vec::with_capacity(alloc, count)?;
     for number in 0..count {
         let (start, end) = ends(number, count);
-        let host = host(alloc, number)?;
+        let host = host(alloc, hosts, number)?;
         let primary = NodeAddress::new(alloc, host.as_str(), 6379)?;
         let replica = NodeAddress::new(alloc, host.as_str(), 6380)?;
         let replicas = vec![in alloc; replica]?;
@@ -101,8 +118,8 @@ pub fn ranges(alloc: Global, count: usize) -> Result<Vec<SlotRange>, AllocError>
 }
 
 /// The map of so many ranges.
-pub fn map(alloc: Global, count: usize) -> Result<SlotMap, AllocError> {
-    SlotMap::from_slots(alloc, ranges(alloc, count)?)
+pub fn map(alloc: Global, hosts: Hosts, count: usize) -> Result<SlotMap, AllocError> {
+    SlotMap::from_slots(alloc, ranges(alloc, hosts, count)?)
 }
 
 /// A node as a reply to `CLUSTER SLOTS` has it: host, port and identity.
@@ -120,7 +137,7 @@ pub fn slots_reply(alloc: Global, count: usize) -> Result<Value, AllocError> {
     let mut items = Vec::with_capacity(alloc, count)?;
     for number in 0..count {
         let (start, end) = ends(number, count);
-        let host = host(alloc, number)?;
+        let host = host(alloc, Hosts::Shared, number)?;
         let range = vec![in alloc;
             Value::Int(i64::from(start)),
             Value::Int(i64::from(end)),
@@ -154,6 +171,16 @@ pub fn ints(alloc: Global, count: usize, below: usize) -> Result<Vec<Value>, All
 pub fn counts(alloc: Global, count: usize) -> Result<Vec<Value>, AllocError> {
     let mut items = Vec::new(alloc);
     for number in 0..count {
+        items.push(Value::BulkString(key(alloc, number)?))?;
+        items.push(int(number))?;
+    }
+    Ok(items)
+}
+
+/// The pairs of `counts` in the reverse order.
+pub fn turned_counts(alloc: Global, count: usize) -> Result<Vec<Value>, AllocError> {
+    let mut items = Vec::new(alloc);
+    for number in (0..count).rev() {
         items.push(Value::BulkString(key(alloc, number)?))?;
         items.push(int(number))?;
     }
