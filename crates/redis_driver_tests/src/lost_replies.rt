@@ -107,14 +107,14 @@ fn driven(alloc: Global, sends: usize) -> Result<String, Fail> {
 #[test]
 fn no_part_is_sent_after_a_lost_reply(rt: HostRuntime) -> Result<(), Fail> {
     for (sends, want) in [
-        (0, "Lost Client no reply after 0; n1:1 MSET c 3 lost;"),
+        (0, "Lost Client 'no reply' after 0; n1:1 MSET c 3 lost;"),
         (
             1,
-            "Lost Client no reply after 1; n1:1 MSET c 3;n2:2 MSET a 1 lost;",
+            "Lost Client 'no reply' after 1; n1:1 MSET c 3;n2:2 MSET a 1 lost;",
         ),
         (
             2,
-            "Lost Client no reply after 2; n1:1 MSET c 3;n2:2 MSET a 1;n1:1 MSET b 2 lost;",
+            "Lost Client 'no reply' after 2; n1:1 MSET c 3;n2:2 MSET a 1;n1:1 MSET b 2 lost;",
         ),
         (3, "OK; n1:1 MSET c 3;n2:2 MSET a 1;n1:1 MSET b 2;"),
     ] {
