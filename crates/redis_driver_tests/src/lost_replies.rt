@@ -1,16 +1,29 @@
-//! Nodes that lose the reply to one send.
-ghost use Rattle.std.specs.Prelude.{◌≡◌, IfOk, None, false, codes, cond, map};
-ghost use Rattle.resp_core.specs.Reply.{nil};
-ghost use Rattle.resp_core.specs.declared.error.ErrorKind.TheVariants.{Client};
-ghost use Rattle.redis_cluster.specs.Trace.{answered, lost, entry};
-
+//! A transport that loses the reply to one send.
 use crate::given::{Given, TWO_NODES, cmd_of};
 use cluster_map::NodeAddress;
-use redis_cluster::driver::{Nodes, SendError};
+use redis_cluster::driver::SendError;
 use resp_core::{Cmd, ErrorKind, RedisError, Value};
 use std::alloc::{AllocError, Global};
 use std::str;
 use std::test::Fail;
+use wire_nodes::{Logged, Meaning, Transport, WireNodes};
+
+impl Meaning for Any {
+    ghost use Rattle.std.specs.Prelude.{None, false};
+    ghost use Rattle.resp_core.specs.Reply.{nil};
+
+    ghost Cell = { Unit {0} };
+
+    ghost step = { λ name shared key extras cell. record { cell = None; result = record { value = nil; counts = false } } };
+
+    ghost initial = { λ key. None };
+
+    ghost took = { λ number. false };
+}
+
+/// Stands for any meaning: no code reads it.
+#[derive(Drop)]
+struct Any;
 
 /// A command that was sent to a node.
 #[derive(Drop)]
@@ -20,11 +33,7 @@ struct Sent {
     lost: bool,
 }
 
-fn sent_to(node: &NodeAddress, cmd: &Cmd, lost: bool) -> Result<Sent, AllocError>
-    ensures node { IfOk result (λ sent. sent.node ≡ node.now) }
-    ensures cmd { IfOk result (λ sent. sent.cmd ≡ cmd.now) }
-    ensures lost { IfOk result (λ sent. sent.lost ≡ lost) }
-{
+fn sent_to(node: &NodeAddress, cmd: &Cmd, lost: bool) -> Result<Sent, AllocError> {
     Ok(Sent {
         node: node.clone()?,
         cmd: cmd.clone()?,
@@ -32,41 +41,22 @@ fn sent_to(node: &NodeAddress, cmd: &Cmd, lost: bool) -> Result<Sent, AllocError
     })
 }
 
-/// Nodes that answer so many sends with `OK`, lose the reply to the next, and answer again. They
-/// keep to no meaning.
+/// Answers so many sends with `OK`, loses the reply to the next, and answers again.
 #[derive(Drop)]
 struct LosesReply {
     sends_left: usize,
     sent: Vec<Sent>,
-    mark: bool,
 }
 
-impl Nodes for LosesReply {
-    ghost Cell = { Unit {0} };
-
-    ghost step = { λ name shared key extras cell. record { cell = None; result = record { value = nil; counts = false } } };
-
-    ghost keyspace = { λ nodes key. None };
-
-    ghost trace = { λ nodes. map (λ s. entry s.node s.cmd (cond s.lost (lost (record { kind = Client; desc = codes "no reply"; detail = None })) answered)) nodes.sent.items };
-
-    ghost mark = { λ nodes. nodes.mark };
-
-    ghost may_refuse = { λ nodes count ending. ending ≡ lost (record { kind = Client; desc = codes "no reply"; detail = None }) };
-
-    ghost kept = { λ nodes. ⊥ };
-
-    fn send(&mut self, node: &NodeAddress, cmd: &Cmd) -> Result<Value, SendError> {
+impl Transport for LosesReply {
+    fn exchange(&mut self, node: &NodeAddress, cmd: &Cmd) -> Result<Value, SendError> {
         let loses = self.sends_left == 0;
         let Ok(sent) = sent_to(node, cmd, loses) else {
-            self.mark = true;
             return Err(SendError::Memory);
         };
         if self.sent.push(sent).is_err() {
-            self.mark = true;
             return Err(SendError::Memory);
         }
-        self.mark = false;
         if loses {
             self.sends_left = usize::MAX;
             return Err(SendError::Lost(RedisError::from((ErrorKind::Client, "no reply"))));
@@ -89,18 +79,30 @@ fn sent_text(alloc: Global, sent: &[Sent]) -> Result<String, Fail> {
     Ok(text)
 }
 
+// Drives a command over a transport, that of the third key first.
+fn driven_over(
+    alloc: Global,
+    given: &Given,
+    cmd: &Cmd,
+    transport: &mut LosesReply,
+) -> Result<String, Fail> {
+    let mut nodes = WireNodes::<Logged<&mut LosesReply>, Any>::over(transport);
+    let text = given.drive(alloc, cmd, None, &[2, 0, 1], &mut nodes);
+    let _ = nodes.into_wire().into_transport();
+    text
+}
+
 // What comes of `MSET a 1 b 2 c 3`, and what was sent, where the reply after so many is lost.
 fn driven(alloc: Global, sends: usize) -> Result<String, Fail> {
-    let mut nodes = LosesReply {
+    let mut transport = LosesReply {
         sends_left: sends,
         sent: Vec::new(alloc),
-        mark: false,
     };
     let given = Given::new(alloc, &TWO_NODES)?;
     let cmd = cmd_of(alloc, "MSET a 1 b 2 c 3")?;
-    let mut text = given.drive(alloc, &cmd, None, &[2, 0, 1], &mut nodes)?;
+    let mut text = driven_over(alloc, &given, &cmd, &mut transport)?;
     text.push_str("; ")?;
-    text.push_str(&sent_text(alloc, &nodes.sent)?)?;
+    text.push_str(&sent_text(alloc, &transport.sent)?)?;
     Ok(text)
 }
 

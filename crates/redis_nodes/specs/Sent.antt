@@ -30,3 +30,8 @@ IsLeft step command old new (Some answered) = new ≡ old
 IsLeft step command old new (Some (refused error)) = new ≡ old
 IsLeft step command old new (Some (lost error)) =
     (new ≡ old) ⊎ (new ≡ keyspace_after step command old)
+
+-- a refused send did nothing; of one that ended otherwise this says nothing
+abbrev pub IsIdleIfRefused : {C : Type 0} → (old new : Keyspace C) → SendError → Type 0
+IsIdleIfRefused old new (sent.Refused error) = new ≡ old
+IsIdleIfRefused old new error = Unit {0}

@@ -4,7 +4,7 @@ ghost use Rattle.resp_core.specs.View.{view};
 ghost use Rattle.redis_nodes.specs.MultiKey.{multi_key, IsPart};
 ghost use Rattle.redis_nodes.specs.Unsplit.{Step, Keyspace, keyspace_after, reply_to};
 ghost use Rattle.redis_nodes.specs.Trace.{Entry, Ending, answered, entry};
-ghost use Rattle.redis_nodes.specs.Sent.{IsLeft, IsUnanswered, ending_of};
+ghost use Rattle.redis_nodes.specs.Sent.{IsIdleIfRefused, IsLeft, IsUnanswered, ending_of};
 
 use cluster_slots::NodeAddress;
 use resp_core::{Cmd, RedisError, Value};
@@ -65,7 +65,8 @@ pub trait Nodes {
 
     /// So far the nodes answered by that meaning, over one keyspace, and what they refused did
     /// nothing. What a connection gives nobody can prove, so for a real client this is a premise;
-    /// where an `impl` does not write it, its `send` ensures it always.
+    /// where an `impl` does not write it, its `send` ensures it always. It holds before the first
+    /// send, and ends only with a value of another meaning, or a refusal that changed the keyspace.
     ghost kept: { Self → Type 0 } = { λ _. Unit {0} };
 
     /// Whether these may be the replies so far, in the order in which they came.
@@ -88,6 +89,15 @@ pub trait Nodes {
             (λ command. kept self.new
             → keyspace self.new ≡ keyspace_after step command (keyspace self.old))) }
         ensures kept { kept self.new → kept self.old }
+        // Nodes to which nothing was sent kept to the meaning.
+        ensures kept_at_first { trace self.old ≡ [] → kept self.old }
+        // They still do after a value that is the one by it,
+        ensures stays_kept { IfOk result (λ value. IfSome (multi_key (map Some cmd.now))
+            (λ command. kept self.old → view value ≡ reply_to step command (keyspace self.old)
+            → kept self.new)) }
+        // and where no value came, unless a refused command did something.
+        ensures kept_unanswered { IfErr result (λ error. kept self.old
+            → IsIdleIfRefused (keyspace self.old) (keyspace self.new) error → kept self.new) }
         ensures gave { IfOk result (λ value. (replies : List Reply) → gave self.old replies
             → gave self.new (replies ++ view value ∷ [])) }
         ensures gave_none { OnErr result ((replies : List Reply) → gave self.old replies

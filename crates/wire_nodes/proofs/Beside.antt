@@ -1,9 +1,12 @@
 -- What others write at other keys does no harm.
-use Rattle.std.proofs.Common.{◌≡◌, ℕ, suc, List, [], ◌∷◌, Bool, true, false, cond, Option, None, Some, All, map, refl, sym, ap, ◌∙◌}
+use Rattle.std.proofs.Common.{◌≡◌, ℕ, suc, List, [], ◌∷◌, Bool, true, false, cond, Option, None, Some, All, map, true≢false, refl, sym, ap, ◌∙◌}
 use Rattle.std.specs.Prelude.{IfSome}
 use Rattle.std.specs.Str.{bytes_eq}
 use Rattle.std.proofs.lemmas.List.Elements.{All-head, All-tail}
+use Rattle.std.proofs.Math.Path.{fun_ext}
+use Rattle.std.proofs.lemmas.Slice.Eq.{bytes_eq-Decides}
 use Rattle.resp_core.proofs.Cases.{by_test}
+use Rattle.resp_core.specs.ErrorParts.{ErrorParts}
 use Rattle.redis_nodes.specs.MultiKey.{KeyTuple, MultiKey, multi_key}
 use Rattle.redis_nodes.specs.Unsplit.{Act, Step, Keyspace, act_of, after, put, reply_by, results}
 use Rattle.wire_nodes.specs.Said.{Said, Outcome, answer, refusal, loss}
@@ -21,7 +24,20 @@ module _ {C : Type 0} (own : List ℕ → Bool) where
       (λ t. ap (λ x. cond x one (a k)) t ∙ same ∙ sym (ap (λ x. cond x other (b k)) t))
       (λ f. ap (λ x. cond x one (a k)) f ∙ all k is ∙ sym (ap (λ x. cond x other (b k)) f))
 
+  -- a tuple of an own key leaves any other as it was
+  put_other : (key other : List ℕ) (cell : Option C) (a : Keyspace C) → own key ≡ true → own other ≡ false → put key cell a other ≡ a other
+  put_other key other cell a is not =
+      by_test (bytes_eq key other)
+      (λ t. absurd (true≢false (sym is ∙ ap own ((bytes_eq-Decides key other).0 t) ∙ not)))
+      (λ f. ap (λ x. cond x cell (a other)) f)
+
   module _ (act : Act C) where
+    after_other : (ts : List KeyTuple) (a : Keyspace C) (other : List ℕ) → All (IsOwn own) ts → own other ≡ false → after act ts a other ≡ a other
+    after_other [] a other among not = refl
+    after_other (t ∷ ts) a other among not =
+        after_other ts (put t.key (act t (a t.key)).cell a) other (All-tail (IsOwn own) t ts among) not
+        ∙ put_other t.key other (act t (a t.key)).cell a (All-head (IsOwn own) t ts among) not
+
     after_same : (ts : List KeyTuple) (a b : Keyspace C) → All (IsOwn own) ts → AreSameAt own a b → AreSameAt own (after act ts a) (after act ts b)
     after_same [] a b among same = same
     after_same (t ∷ ts) a b among same =
@@ -43,6 +59,19 @@ module _ {C : Type 0} (own : List ℕ → Bool) where
     effect_same None a b among same = same
     effect_same (Some command) a b among same = after_same (act_of step command) command.tuples a b among same
 
+    effect_other : (found : Option MultiKey) (a : Keyspace C) (other : List ℕ) → IfSome found (λ command. All (IsOwn own) command.tuples) → own other ≡ false → after_effect step found a other ≡ a other
+    effect_other None a other among not = refl
+    effect_other (Some command) a other among not = after_other (act_of step command) command.tuples a other among not
+
+    -- what changes nothing in one keyspace changes nothing in the other
+    idle_same : (took : Bool) (error : ErrorParts) (found : Option MultiKey) (a b : Keyspace C) → IfSome found (λ command. All (IsOwn own) command.tuples) → AreSameAt own a b
+        → after_outcome step took (refusal error) found a ≡ a → after_outcome step took (refusal error) found b ≡ b
+    idle_same false error found a b among same idle = refl
+    idle_same true error found a b among same idle =
+        fun_ext (λ key. by_test (own key)
+        (λ is. sym (effect_same found a b among same key is) ∙ ap (λ (ks : Keyspace C). ks key) idle ∙ same key is)
+        (λ not. effect_other found b key among not))
+
     outcome_same : (took : Bool) (outcome : Outcome) (found : Option MultiKey) (a b : Keyspace C) → IfSome found (λ command. All (IsOwn own) command.tuples) → AreSameAt own a b
         → AreSameAt own (after_outcome step took outcome found a) (after_outcome step took outcome found b)
     outcome_same took (answer reply) found a b among same = effect_same found a b among same
@@ -54,7 +83,7 @@ module _ {C : Type 0} (own : List ℕ → Bool) where
     kept_same : (took : Bool) (outcome : Outcome) (found : Option MultiKey) (a b : Keyspace C) → IfSome found (λ command. All (IsOwn own) command.tuples) → AreSameAt own a b → IsKept step took outcome found a → IsKept step took outcome found b
     kept_same took (answer reply) None a b among same kept = tt
     kept_same took (answer reply) (Some command) a b among same kept = kept ∙ ap (reply_by command.form) (results_same (act_of step command) command.tuples a b among same)
-    kept_same took (refusal error) found a b among same kept = kept
+    kept_same took (refusal error) found a b among same kept = idle_same took error found a b among same kept
     kept_same took (loss error) found a b among same kept = tt
 
     pub kept_beside : (took : ℕ → Bool) (ss : List Said) (a b : Keyspace C) → All (IsAmong own) ss → AreSameAt own a b → AreKeptBeside own step took ss a → AreKept step took ss b
