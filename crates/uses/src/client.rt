@@ -1,13 +1,15 @@
 //! A client with connections of its own, which writes two keys of two slots and reads them.
-ghost use Rattle.std.specs.Prelude.{◌≡◌, [], ◌∷◌, List, Some, map, IfOk, IfSome};
+ghost use Rattle.std.specs.Prelude.{◌≡◌, [], ◌∷◌, List, Bool, Ok, Some, map, IfOk, IfErr, IfSome, ⊤};
+ghost use Rattle.resp_core.specs.Reply.{Reply};
 ghost use Rattle.resp_core.specs.View.{view};
-ghost use Rattle.cluster_map.specs.RouteNode.{IsNodeOfRoute};
-ghost use Rattle.redis_cluster.specs.Driven.{IsDelivered, request};
+ghost use Rattle.redis_cluster.specs.Driven.{state};
+ghost use Rattle.redis_cluster.specs.Faults.{IsCut, IsFault, unseen};
+ghost use Rattle.redis_cluster.specs.Joined.{IsJoined};
 ghost use Rattle.redis_cluster.specs.MultiKey.{multi_key};
 ghost use Rattle.redis_cluster.specs.ReadOnly.{is_among};
 ghost use Rattle.redis_cluster.specs.Trace.{Entry};
 ghost use Rattle.redis_cluster.specs.Unsplit.{keyspace_after, reply_to};
-ghost use Rattle.uses.specs.Client.{read, write};
+ghost use Rattle.uses.specs.Client.{asked, read, write, AreSentOnce, IsPrimary};
 
 use cluster_map::{NodeAddress, SlotMap};
 use redis_cluster::driver::{DriveError, Nodes, SendError, drive};
@@ -61,23 +63,71 @@ pub fn client_over<T: Transport, M: Meaning>(transport: T) -> WireNodes<Logged<T
 /// Writes `a` and `b`, which have two slots, and reads them.
 ///
 /// Whatever the servers answer, a value comes only where each part went once, in order, to the
-/// primary of its slot. Where they answered as one server would, it is what was written.
+/// primary of its slot, and it is made of what came. Where they answered as one server would, it is
+/// what was written.
+///
+/// # Errors
+///
+/// `Memory` where nothing was sent. `Write` where the keys were not written, or not all, and `Read`
+/// where they were written and not read, each with the number of parts that were answered.
 pub fn write_and_read<W: Wire, M: Meaning>(
     alloc: Global,
     slot_map: &SlotMap,
     client: &mut WireNodes<W, M>,
 ) -> Result<Value, ClientFault>
+    // A value comes only where each part of both commands went once, and was answered.
     ensures once { IfOk result (λ value. (between : List Entry)
-        × IsDelivered (λ route address. IsNodeOfRoute slot_map.now route 0 address)
-        (request (map Some write) (is_among []) slot_map.now (0 ∷ 1 ∷ []))
+        × AreSentOnce slot_map.now write (0 ∷ 1 ∷ [])
         (⟦<WireNodes<W, M> as Nodes>⟧.trace client.old) between
-        × IsDelivered (λ route address. IsNodeOfRoute slot_map.now route 0 address)
-        (request (map Some read) (is_among []) slot_map.now (1 ∷ 0 ∷ []))
+        × AreSentOnce slot_map.now read (1 ∷ 0 ∷ [])
         between (⟦<WireNodes<W, M> as Nodes>⟧.trace client.new)) }
+    // It is made of the values that came to the read, as the policy of `MGET` says.
+    ensures joined { IfOk result (λ value. (before : List Reply)
+        × IsJoined (is_among []) (map Some read) (1 ∷ 0 ∷ [])
+        (λ replies. replies ≡ before) (⟦<WireNodes<W, M> as Nodes>⟧.gave client.new) (Ok (view value))) }
+    // Where the servers answered as one would, it is what was written.
     ensures as_one { IfOk result (λ value. ⟦<WireNodes<W, M> as Nodes>⟧.kept client.new
         → IfSome (multi_key (map Some write)) (λ set. IfSome (multi_key (map Some read)) (λ get.
         view value ≡ reply_to M.step get (keyspace_after M.step set
         (⟦<WireNodes<W, M> as Nodes>⟧.keyspace client.old))))) }
+    // Memory that ran out before the first send leaves the client as it was.
+    ensures unsent { IfErr result (λ fault. fault ≡ ClientFault.Memory → client.new ≡ client.old) }
+    // Of a write that failed, so many parts were answered, and no later one was sent.
+    ensures not_written { IfErr result (λ fault. (error : DriveError)
+        → fault ≡ ClientFault.Write error
+        → IsCut (IsPrimary slot_map.now) (asked slot_map.now write (0 ∷ 1 ∷ []))
+        (unseen (⟦<WireNodes<W, M> as Nodes>⟧.trace client.old) (⟦<WireNodes<W, M> as Nodes>⟧.mark client.old))
+        (unseen (⟦<WireNodes<W, M> as Nodes>⟧.trace client.new) (⟦<WireNodes<W, M> as Nodes>⟧.mark client.new))
+        (λ count ending. ⊤) error.fault error.answered) }
+    // Of a read that failed, too, after each part of the write was answered.
+    ensures not_read { IfErr result (λ fault. (error : DriveError)
+        → fault ≡ ClientFault.Read error → (between : List Entry) × (mark : Bool)
+        × AreSentOnce slot_map.now write (0 ∷ 1 ∷ [])
+        (⟦<WireNodes<W, M> as Nodes>⟧.trace client.old) between
+        × IsCut (IsPrimary slot_map.now) (asked slot_map.now read (1 ∷ 0 ∷ []))
+        (unseen between mark)
+        (unseen (⟦<WireNodes<W, M> as Nodes>⟧.trace client.new) (⟦<WireNodes<W, M> as Nodes>⟧.mark client.new))
+        (λ count ending. ⊤) error.fault error.answered) }
+    // Where the servers answered as one would, the keys hold what the answered parts wrote,
+    ensures written_so_far { IfErr result (λ fault. (error : DriveError)
+        → fault ≡ ClientFault.Write error → ⟦<WireNodes<W, M> as Nodes>⟧.kept client.new
+        → IsFault (IsPrimary slot_map.now) M.step (asked slot_map.now write (0 ∷ 1 ∷ []))
+        (state (⟦<WireNodes<W, M> as Nodes>⟧.keyspace client.old) (⟦<WireNodes<W, M> as Nodes>⟧.trace client.old)
+        (⟦<WireNodes<W, M> as Nodes>⟧.mark client.old))
+        (state (⟦<WireNodes<W, M> as Nodes>⟧.keyspace client.new) (⟦<WireNodes<W, M> as Nodes>⟧.trace client.new)
+        (⟦<WireNodes<W, M> as Nodes>⟧.mark client.new))
+        (λ count ending. ⊤) error.fault error.answered) }
+    // and after a read that failed, all that the write leaves, with what its parts do.
+    ensures written { IfErr result (λ fault. (error : DriveError)
+        → fault ≡ ClientFault.Read error → ⟦<WireNodes<W, M> as Nodes>⟧.kept client.new
+        → IfSome (multi_key (map Some write)) (λ set. (between : List Entry) × (mark : Bool)
+        × IsFault (IsPrimary slot_map.now) M.step (asked slot_map.now read (1 ∷ 0 ∷ []))
+        (state (keyspace_after M.step set (⟦<WireNodes<W, M> as Nodes>⟧.keyspace client.old)) between mark)
+        (state (⟦<WireNodes<W, M> as Nodes>⟧.keyspace client.new) (⟦<WireNodes<W, M> as Nodes>⟧.trace client.new)
+        (⟦<WireNodes<W, M> as Nodes>⟧.mark client.new))
+        (λ count ending. ⊤) error.fault error.answered)) }
+    // Servers that answered so until now did so before.
+    ensures kept { ⟦<WireNodes<W, M> as Nodes>⟧.kept client.new → ⟦<WireNodes<W, M> as Nodes>⟧.kept client.old }
 {
     let write = write_command(alloc)?;
     let read = read_command(alloc)?;
@@ -98,19 +148,31 @@ fn drive_over<W: Wire, M: Meaning>(
     order: &[usize],
     client: &mut WireNodes<W, M>,
 ) -> Result<Value, DriveError>
-    ensures once { IfOk result (λ value.
-        IsDelivered (λ route address. IsNodeOfRoute slot_map.now route 0 address)
-        (request (map Some command.now) (is_among []) slot_map.now order.now)
-        (⟦<WireNodes<W, M> as Nodes>⟧.trace client.old)
-        (⟦<WireNodes<W, M> as Nodes>⟧.trace client.new)) }
+    ensures once { IfOk result (λ value. AreSentOnce slot_map.now command.now order.now
+        (⟦<WireNodes<W, M> as Nodes>⟧.trace client.old) (⟦<WireNodes<W, M> as Nodes>⟧.trace client.new)) }
+    ensures joined { IfOk result (λ value.
+        IsJoined (is_among []) (map Some command.now) order.now
+        (⟦<WireNodes<W, M> as Nodes>⟧.gave client.old) (⟦<WireNodes<W, M> as Nodes>⟧.gave client.new)
+        (Ok (view value))) }
     ensures as_one { IfOk result (λ value. ⟦<WireNodes<W, M> as Nodes>⟧.kept client.new
         → IfSome (multi_key (map Some command.now)) (λ whole.
         (view value ≡ reply_to M.step whole
         (⟦<WireNodes<W, M> as Nodes>⟧.keyspace client.old))
         × (⟦<WireNodes<W, M> as Nodes>⟧.keyspace client.new ≡ keyspace_after M.step whole
         (⟦<WireNodes<W, M> as Nodes>⟧.keyspace client.old)))) }
-    ensures kept { ⟦<WireNodes<W, M> as Nodes>⟧.kept client.new
-        → ⟦<WireNodes<W, M> as Nodes>⟧.kept client.old }
+    ensures cut { IfErr result (λ error.
+        IsCut (IsPrimary slot_map.now) (asked slot_map.now command.now order.now)
+        (unseen (⟦<WireNodes<W, M> as Nodes>⟧.trace client.old) (⟦<WireNodes<W, M> as Nodes>⟧.mark client.old))
+        (unseen (⟦<WireNodes<W, M> as Nodes>⟧.trace client.new) (⟦<WireNodes<W, M> as Nodes>⟧.mark client.new))
+        (λ count ending. ⊤) error.fault error.answered) }
+    ensures fault { IfErr result (λ error. ⟦<WireNodes<W, M> as Nodes>⟧.kept client.new
+        → IsFault (IsPrimary slot_map.now) M.step (asked slot_map.now command.now order.now)
+        (state (⟦<WireNodes<W, M> as Nodes>⟧.keyspace client.old) (⟦<WireNodes<W, M> as Nodes>⟧.trace client.old)
+        (⟦<WireNodes<W, M> as Nodes>⟧.mark client.old))
+        (state (⟦<WireNodes<W, M> as Nodes>⟧.keyspace client.new) (⟦<WireNodes<W, M> as Nodes>⟧.trace client.new)
+        (⟦<WireNodes<W, M> as Nodes>⟧.mark client.new))
+        (λ count ending. ⊤) error.fault error.answered) }
+    ensures kept { ⟦<WireNodes<W, M> as Nodes>⟧.kept client.new → ⟦<WireNodes<W, M> as Nodes>⟧.kept client.old }
 {
     let none_only_reads = ReadOnlyNames::new(alloc);
     drive(
