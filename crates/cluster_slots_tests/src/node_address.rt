@@ -66,6 +66,18 @@ fn repeated(alloc: Global, piece: &str, times: usize, end: &str) -> Result<Strin
     Ok(text)
 }
 
+/// Whether a text makes an address, which it matches, or makes none and matches none.
+fn is_taken(alloc: Global, text: &str) -> RedisResult<bool> {
+    let other = NodeAddress::new(alloc, "no host", 0)?;
+    match NodeAddress::try_from(alloc, text) {
+        Ok(address) => Ok(address.matches_text(text) && !other.matches_text(text)),
+        Err(error) => match error.kind() {
+            ErrorKind::InvalidClientConfig => Ok(other.matches_text(text)),
+            _ => Err(error),
+        },
+    }
+}
+
 /// How long the host is that a text names, and the port; or -1 and 0, if it is refused.
 fn cut(text: &str) -> (i64, u16) {
     match split_node_address(text) {
@@ -92,7 +104,9 @@ fn hostile_texts_are_cut_or_refused(rt: HostRuntime) -> Result<(), Fail> {
         ("[]", 65_536, ":1", (131_070, 1)),
         ("h:", 1, "65535", (1, 65_535)),
         ("h:", 1, "65536", (-1, 0)),
+        ("h:", 1, "0", (1, 0)),
         ("h:", 1, "18446744073709551616", (-1, 0)),
+        ("h:", 1, "-9223372036854775808", (-1, 0)),
         ("h:", 1, "-0", (-1, 0)),
         ("h:", 1, "+", (-1, 0)),
         ("h:", 1, "++1", (-1, 0)),
@@ -107,6 +121,11 @@ fn hostile_texts_are_cut_or_refused(rt: HostRuntime) -> Result<(), Fail> {
             cut(text.as_str()),
             want,
             "{times} times {piece:?}, {end:?}"
+        );
+        assert_eq!(rt;
+            is_taken(rt.alloc(), text.as_str())?,
+            want.0 >= 0,
+            "an address of {times} times {piece:?}, {end:?}"
         );
     }
     let zeros = repeated(

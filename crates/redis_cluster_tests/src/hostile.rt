@@ -118,10 +118,10 @@ fn hostile_commands_go_somewhere_or_nowhere(rt: HostRuntime) -> Result<(), Fail>
     Ok(())
 }
 
-/// Arrays in arrays, so many levels deep.
-fn deep(alloc: Global, levels: usize) -> Result<Value, AllocError> {
+/// Arrays in arrays, a million levels deep.
+fn deep(alloc: Global) -> Result<Value, AllocError> {
     let mut value = Value::Nil;
-    for _ in 0..levels {
+    for _ in 0..1_000_000 {
         value = Value::Array(vec![in alloc; value]?);
     }
     Ok(value)
@@ -132,7 +132,7 @@ fn deep_at(alloc: Global, text: &str) -> Result<Value, AllocError> {
     let mut items = Vec::new(alloc);
     for word in text.split(' ') {
         items.push(if word == "deep" {
-            deep(alloc, 10_000)?
+            deep(alloc)?
         } else {
             Value::BulkString(word.as_bytes().to_vec(alloc)?)
         })?;
@@ -157,7 +157,7 @@ fn a_deep_argument_is_a_gap(rt: HostRuntime) -> Result<(), Fail> {
         assert_eq!(rt; found.as_str(), want, "{text}");
         assert_eq!(rt; count, parts, "parts of {text}");
     }
-    let (found, _) = routed(rt.alloc(), &deep(rt.alloc(), 1_000_000)?)?;
+    let (found, _) = routed(rt.alloc(), &deep(rt.alloc())?)?;
     assert_eq!(rt; found.as_str(), "none", "a deep reply");
     Ok(())
 }

@@ -12,17 +12,52 @@ use std::test::Fail;
 
 const MANY: usize = 65_536;
 
+const DEPTH: usize = 1_000_000;
+
 fn one(alloc: Global, item: Value) -> Result<Value, AllocError> {
     Ok(Value::Array(vec![in alloc; item]?))
 }
 
-/// Arrays in arrays, so many levels deep.
-fn deep(alloc: Global, levels: usize) -> Result<Value, AllocError> {
+/// Arrays in arrays, a million levels deep.
+fn deep(alloc: Global) -> Result<Value, AllocError> {
     let mut value = Value::Nil;
-    for _ in 0..levels {
+    for _ in 0..DEPTH {
         value = one(alloc, value)?;
     }
     Ok(value)
+}
+
+/// Maps in maps, a million levels deep.
+fn deep_map(alloc: Global) -> Result<Value, AllocError> {
+    let mut value = Value::Nil;
+    for _ in 0..DEPTH {
+        value = Value::Map(vec![in alloc; (value, Value::Int(1))]?);
+    }
+    Ok(value)
+}
+
+/// An array of these two.
+fn two(alloc: Global, first: Value, second: Value) -> Result<Value, AllocError> {
+    Ok(Value::Array(vec![in alloc; first, second]?))
+}
+
+/// An array of one number, so many times.
+fn numbers(alloc: Global, number: i64, times: usize) -> Result<Value, AllocError> {
+    let mut items = Vec::new(alloc);
+    for _ in 0..times {
+        items.push(Value::Int(number))?;
+    }
+    Ok(Value::Array(items))
+}
+
+/// An array of so many keys, each with a 1.
+fn keys(alloc: Global, count: usize) -> Result<Value, AllocError> {
+    let mut items = Vec::new(alloc);
+    for key in 0..count {
+        items.push(bulk(alloc, format!(in alloc; "{key}")?.as_str())?)?;
+        items.push(Value::Int(1))?;
+    }
+    Ok(Value::Array(items))
 }
 
 /// An array of a key that is not UTF-8 and a number, so many times.
@@ -49,12 +84,24 @@ fn reply(alloc: Global, kind: &str) -> Result<(Value, usize), AllocError> {
         "least" => (Value::Int(i64::MIN), 1),
         "bit" => (one(alloc, Value::Int(1))?, MANY),
         "number" => (one(alloc, Value::Int(i64::MIN))?, 1),
-        "deep" => (deep(alloc, 100_000)?, 1),
-        "deepest" => (deep(alloc, 1_000_000)?, 1),
+        "long" => (numbers(alloc, 1, MANY)?, 2),
+        "keys" => (keys(alloc, MANY)?, 2),
         "bytes" => (one(alloc, Value::BulkString(b"\xff".to_vec(alloc)?))?, 1),
         "pair" => (pairs(alloc, 1, 1)?, MANY),
         "great pair" => (pairs(alloc, i64::MAX, 2)?, 1),
-        _ => (pairs(alloc, i64::MIN, 1)?, 1),
+        "least pair" => (pairs(alloc, i64::MIN, 1)?, 1),
+        _ => (deep_reply(alloc, kind)?, 1),
+    })
+}
+
+/// A reply with something deep in it, or at its place.
+fn deep_reply(alloc: Global, kind: &str) -> Result<Value, AllocError> {
+    Ok(match kind {
+        "deep map" => deep_map(alloc)?,
+        "deep key" => two(alloc, deep(alloc)?, Value::Int(1))?,
+        "deep number" => two(alloc, bulk(alloc, "k")?, deep_map(alloc)?)?,
+        "deep bit" => two(alloc, Value::Int(1), deep(alloc)?)?,
+        _ => deep(alloc)?,
     })
 }
 
@@ -182,17 +229,60 @@ const MANY_REPLIES: [Row; 5] = [
     ),
 ];
 
-// Sees what comes of the replies of some kinds.
+/// Replies of a kind, a combiner, and what comes of them.
+type Single = (&'static str, usize, &'static str);
+
+const LONG_REPLIES: [Single; 5] = [
+    ("long", 2, "[65536]"),
+    ("long", 3, "[65536]"),
+    ("keys", 4, "map 65536"),
+    ("long", 5, "[131072]"),
+    ("long", 6, "Client"),
+];
+
+const DEEP_REPLIES: [Single; 7] = [
+    ("deep", 0, SHAPE),
+    ("deep", 1, SHAPE),
+    ("deep", 2, SHAPE),
+    ("deep", 3, SHAPE),
+    ("deep", 4, SHAPE),
+    ("deep", 5, "[1]"),
+    ("deep", 6, "[1]"),
+];
+
+const DEEP_INSIDE: [Single; 6] = [
+    ("deep map", 4, SHAPE),
+    ("deep key", 4, SHAPE),
+    ("deep number", 4, SHAPE),
+    ("deep bit", 2, SHAPE),
+    ("deep bit", 3, SHAPE),
+    ("deep number", 6, "Client"),
+];
+
+// Sees what comes of the replies of a kind.
+fn check_single(rt: &impl Abort, alloc: Global, row: Single) -> Result<(), Fail> {
+    let (kind, combiner, want) = row;
+    let given = combined(alloc, combiner, replies(alloc, kind)?);
+    assert_eq!(rt;
+        text_of(alloc, &given)?.as_str(),
+        want,
+        "{kind}, by combiner {combiner}"
+    );
+    Ok(())
+}
+
 fn check(rt: &impl Abort, alloc: Global, table: &[Row]) -> Result<(), Fail> {
     for (kind, wanted) in table {
         for (combiner, want) in wanted.iter().enumerate() {
-            let given = combined(alloc, combiner, replies(alloc, *kind)?);
-            assert_eq!(rt;
-                text_of(alloc, &given)?.as_str(),
-                *want,
-                "{kind}, by combiner {combiner}"
-            );
+            check_single(rt, alloc, (*kind, combiner, *want))?;
         }
+    }
+    Ok(())
+}
+
+fn check_each(rt: &impl Abort, alloc: Global, table: &[Single]) -> Result<(), Fail> {
+    for row in table {
+        check_single(rt, alloc, *row)?;
     }
     Ok(())
 }
@@ -208,14 +298,16 @@ fn many_replies_are_combined_or_refused(rt: HostRuntime) -> Result<(), Fail> {
 }
 
 #[test]
-fn a_deep_reply_is_combined_or_refused(rt: HostRuntime) -> Result<(), Fail> {
-    let wanted = [SHAPE, SHAPE, SHAPE, SHAPE, SHAPE, "[1]", "[1]"];
-    check(&rt, rt.alloc(), &[("deep", wanted)])?;
-    let deepest = combined(rt.alloc(), 5, replies(rt.alloc(), "deepest")?);
-    assert_eq!(rt;
-        text_of(rt.alloc(), &deepest)?.as_str(),
-        "[1]",
-        "a million levels"
-    );
-    Ok(())
+fn long_replies_are_combined_or_refused(rt: HostRuntime) -> Result<(), Fail> {
+    check_each(&rt, rt.alloc(), &LONG_REPLIES)
+}
+
+#[test]
+fn deep_replies_are_combined_or_refused(rt: HostRuntime) -> Result<(), Fail> {
+    check_each(&rt, rt.alloc(), &DEEP_REPLIES)
+}
+
+#[test]
+fn replies_with_something_deep_are_combined_or_refused(rt: HostRuntime) -> Result<(), Fail> {
+    check_each(&rt, rt.alloc(), &DEEP_INSIDE)
 }

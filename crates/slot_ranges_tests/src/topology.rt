@@ -1,12 +1,26 @@
 use cluster_map::{Route, SlotAddr, SlotMap, SlotRange, parse_slots, slot_cmd};
 use resp_core::{RedisResult, Value};
 use std::alloc::{AllocError, Global};
+use std::process::Abort;
 use std::test::Fail;
 
-// Texts stand in backquotes, a status after a plus, and any other word is a number.
+// Arrays in arrays, a million levels deep.
+fn deep(alloc: Global) -> Result<Value, AllocError> {
+    let mut value = Value::Nil;
+    for _ in 0..1_000_000 {
+        value = Value::Array(vec![in alloc; value]?);
+    }
+    Ok(value)
+}
+
+// Texts stand in backquotes, a status after a plus, `bytes` is a text that is not UTF-8, `deep` a
+// deep array, and any other word is a number.
 fn word(alloc: Global, text: &str) -> Result<Value, Fail> {
-    if text == "nil" {
-        return Ok(Value::Nil);
+    match text {
+        "nil" => return Ok(Value::Nil),
+        "bytes" => return Ok(Value::BulkString(b"\xff".to_vec(alloc)?)),
+        "deep" => return Ok(deep(alloc)?),
+        _ => {}
     }
     if let Some(bulk) = text.strip_prefix('`') {
         let bytes = bulk.trim_end_matches('`').as_bytes();
@@ -124,31 +138,97 @@ const REPLIES: [Row; 27] = [
     ),
 ];
 
+// The nodes of each range of the map of a reply, and how many shards its topology has.
+fn mapped(alloc: Global, reply: &Value, answering: &str) -> Result<String, Fail> {
+    let map = SlotMap::from_reply(alloc, reply, answering)?;
+    let mut text = String::new(alloc);
+    for nodes in map.values() {
+        for node in nodes {
+            text.push_str(format!(in alloc; "{node} ")?.as_str())?;
+        }
+    }
+    let shards = map.topology(alloc)?.shards().count();
+    text.push_str(format!(in alloc; "in {shards}")?.as_str())?;
+    Ok(text)
+}
+
+// The answering node, a reply's items, its ranges, and its map.
+type HostileRow = (&'static str, &'static str, &'static str, &'static str);
+
 // Replies as only a hostile or broken server writes them.
-const HOSTILE_REPLIES: [Row; 12] = [
-    ("node", "nil nil nil", ""),
-    ("node", "[ nil nil nil nil ]", ""),
-    ("node", "[ 0 1 nil nil ]", ""),
-    ("node", "[ 0 1 [ nil nil ] ]", ""),
-    ("node", "[ 0 1 [ nil 1 ] ]", "(0 1 node:1)"),
-    ("n", "[ 0 0 [ `` 0 ] ]", "(0 0 n:0)"),
-    ("node", "[ 0 0 [ `h` 0 ] ]", "(0 0 h:0)"),
-    ("node", "[ -9223372036854775808 1 [ `h` 1 ] ]", ""),
-    ("node", "[ 0 9223372036854775807 [ `h` 1 ] ]", ""),
-    ("node", "[ 0 1 [ `h` -9223372036854775808 ] ]", ""),
+const HOSTILE_REPLIES: [HostileRow; 17] = [
+    ("node", "", "", "in 0"),
+    ("node", "[ ] [ ] [ ]", "", "in 0"),
+    ("node", "`1`", "", "in 0"),
+    ("node", "nil nil nil", "", "in 0"),
+    ("node", "[ nil nil nil nil ]", "", "in 0"),
+    ("node", "[ 0 1 nil nil ]", "", "in 0"),
+    ("node", "[ 0 1 [ nil nil ] ]", "", "in 0"),
+    ("node", "[ 0 1 [ nil 1 ] ]", "(0 1 node:1)", "node:1 in 1"),
+    ("n", "[ 0 0 [ `` 0 ] ]", "(0 0 n:0)", "n:0 in 1"),
+    ("node", "[ 0 0 [ `h` 0 ] ]", "(0 0 h:0)", "h:0 in 1"),
+    ("node", "[ -9223372036854775808 1 [ `h` 1 ] ]", "", "in 0"),
+    ("node", "[ 0 9223372036854775807 [ `h` 1 ] ]", "", "in 0"),
+    ("node", "[ 0 1 [ `h` -9223372036854775808 ] ]", "", "in 0"),
     (
         "node",
         "[ 65535 65535 [ `h` 65535 ] ]",
         "(65535 65535 h:65535)",
+        "h:65535 in 1",
     ),
-    ("node", "[ [ [ [ ] ] ] ] [ 0 1 [ `h` 1 ] ]", "(0 1 h:1)"),
+    (
+        "node",
+        "[ [ [ [ ] ] ] ] [ 0 1 [ `h` 1 ] ]",
+        "(0 1 h:1)",
+        "h:1 in 1",
+    ),
+    (
+        "node",
+        "[ 0 1 [ bytes 1 ] ]",
+        "(0 1 \u{fffd}:1)",
+        "\u{fffd}:1 in 1",
+    ),
+    ("node", "[ bytes 1 [ `h` 1 ] ]", "", "in 0"),
 ];
+
+// The same, with something deep at each place that is read.
+const DEEP_REPLIES: [HostileRow; 8] = [
+    ("node", "deep", "", "in 0"),
+    ("node", "deep [ 0 1 [ `h` 1 ] ]", "(0 1 h:1)", "h:1 in 1"),
+    ("node", "[ deep 1 [ `h` 1 ] ]", "", "in 0"),
+    ("node", "[ 0 deep [ `h` 1 ] ]", "", "in 0"),
+    ("node", "[ 0 1 deep [ `h` 1 ] ]", "(0 1 h:1)", "h:1 in 1"),
+    ("node", "[ 0 1 [ deep 1 ] ]", "", "in 0"),
+    ("node", "[ 0 1 [ `h` deep ] ]", "", "in 0"),
+    ("node", "[ 0 1 [ `h` 1 deep ] ]", "(0 1 h:1)", "h:1 in 1"),
+];
+
+fn check_hostile(rt: &impl Abort, alloc: Global, row: HostileRow) -> Result<(), Fail> {
+    let (answering, text, ranges, nodes) = row;
+    let reply = array(alloc, text)?;
+    let found = printed(alloc, &parse_slots(alloc, &reply, answering)?)?;
+    assert_eq!(rt; found.as_str(), ranges, "{text} from {answering:?}");
+    let found = mapped(alloc, &reply, answering)?;
+    assert_eq!(rt;
+        found.as_str(),
+        nodes,
+        "the map of {text} from {answering:?}"
+    );
+    Ok(())
+}
 
 #[test]
 fn hostile_replies_are_read_as_far_as_they_say_something(rt: HostRuntime) -> Result<(), Fail> {
-    for (answering, text, want) in HOSTILE_REPLIES {
-        let found = read(rt.alloc(), text, answering)?;
-        assert_eq!(rt; found.as_str(), want, "{text} from {answering:?}");
+    for row in HOSTILE_REPLIES {
+        check_hostile(&rt, rt.alloc(), row)?;
+    }
+    Ok(())
+}
+
+#[test]
+fn deep_replies_are_read_as_far_as_they_say_something(rt: HostRuntime) -> Result<(), Fail> {
+    for row in DEEP_REPLIES {
+        check_hostile(&rt, rt.alloc(), row)?;
     }
     Ok(())
 }
@@ -201,7 +281,11 @@ fn other_replies(alloc: Global) -> Result<Vec<Value>, Fail> {
         Value::Nil,
         Value::Okay,
         Value::Int(0),
+        Value::Int(i64::MIN),
+        Value::Int(i64::MAX),
         word(alloc, "`h`")?,
+        word(alloc, "``")?,
+        word(alloc, "bytes")?,
         word(alloc, "+h")?,
         Value::Map(vec![in alloc; (Value::Int(0), item)]?),
     ]?;
@@ -213,6 +297,8 @@ fn a_reply_that_is_not_an_array_has_no_ranges(rt: HostRuntime) -> Result<(), Fai
     for reply in &other_replies(rt.alloc())? {
         let number = parse_slots(rt.alloc(), reply, "node")?.len();
         assert_eq!(rt; number, 0, "{reply:?}");
+        let nodes = mapped(rt.alloc(), reply, "node")?;
+        assert_eq!(rt; nodes.as_str(), "in 0", "the map of {reply:?}");
     }
     Ok(())
 }
@@ -292,6 +378,8 @@ fn a_reply_may_have_more_items_than_there_are_slots(rt: HostRuntime) -> Result<(
         assert_eq!(rt; ranges.len(), number, "{items} items");
         let map = SlotMap::from_reply(rt.alloc(), &reply, "node")?;
         assert_eq!(rt; map.values().count(), number, "the map of {items} items");
+        let shards = map.topology(rt.alloc())?.shards().count();
+        assert_eq!(rt; shards, number, "the shards of {items} items");
     }
     Ok(())
 }
@@ -321,24 +409,6 @@ fn an_item_may_have_many_nodes_and_long_hosts(rt: HostRuntime) -> Result<(), Fai
             }
         }
     }
-    Ok(())
-}
-
-// An item whose first node is an array in an array, and so on, and whose second is one.
-fn deep_item(alloc: Global) -> Result<Value, Fail> {
-    let mut deep = Value::Nil;
-    for _ in 0..1_000_000 {
-        deep = Value::Array(vec![in alloc; deep]?);
-    }
-    let node = array(alloc, "`h` 1")?;
-    Ok(Value::Array(vec![in alloc; Value::Int(0), Value::Int(10), deep, node]?))
-}
-
-#[test]
-fn a_reply_may_be_nested_deeply(rt: HostRuntime) -> Result<(), Fail> {
-    let item = deep_item(rt.alloc())?;
-    let found = read_item(rt.alloc(), item)?;
-    assert_eq!(rt; found.as_str(), "(0 10 h:1)");
     Ok(())
 }
 
