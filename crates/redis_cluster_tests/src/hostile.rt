@@ -1,9 +1,12 @@
 //! Arguments as only a hostile or broken client writes them.
 use crate::helpers::{read_only_names, to_specific_node, value_of, words_of};
 use cluster_map::{Route, SlotAddr};
-use redis_cluster::routing::{Routable, RoutingInfo, SingleNodeRoutingInfo, SplitCommand};
+use redis_cluster::routing::{
+    Routable, RoutingInfo, SingleNodeRoutingInfo, SplitCommand, command_for_multi_slot_indices,
+};
 use resp_core::Value;
 use std::alloc::{AllocError, Global};
+use std::process::Abort;
 use std::test::Fail;
 
 /// Whether an array of the words, of which each `#` is a gap, goes to this key's node, or nowhere.
@@ -55,8 +58,10 @@ fn routed<R: Routable>(alloc: Global, command: &R) -> Result<(String, usize), Fa
         Some(RoutingInfo::SingleNode(_)) => format!(in alloc; "any")?,
         Some(RoutingInfo::MultiNode(_)) => format!(in alloc; "many")?,
     };
-    let split = SplitCommand::new(alloc, command, &names)?;
-    Ok((text, split.map_or(0, |split| split.len())))
+    match SplitCommand::new(alloc, command, &names)? {
+        Some(split) => Ok((text, split.len())),
+        None => Ok((text, 0)),
+    }
 }
 
 const MANY: usize = 65_536;
@@ -103,17 +108,29 @@ const HOSTILE: [(Words, &str, usize); 31] = [
     ((&[b"XREAD"], b"COUNT", MANY), "none", 0),
 ];
 
+// Sees where a command of these words goes, and in how many parts.
+fn check_words(
+    rt: &impl Abort,
+    alloc: Global,
+    words: Words,
+    want: &str,
+    parts: usize,
+) -> Result<(), Fail> {
+    let (text, count) = routed(alloc, &array_of(alloc, words)?)?;
+    let (front, last, times) = words;
+    assert_eq!(rt; text.as_str(), want, "{front:?} and {times} times {last:?}");
+    assert_eq!(rt;
+        count,
+        parts,
+        "parts of {front:?} and {times} times {last:?}"
+    );
+    Ok(())
+}
+
 #[test]
 fn hostile_commands_go_somewhere_or_nowhere(rt: HostRuntime) -> Result<(), Fail> {
     for (words, want, parts) in HOSTILE {
-        let (text, count) = routed(rt.alloc(), &array_of(rt.alloc(), words)?)?;
-        let (front, last, times) = words;
-        assert_eq!(rt; text.as_str(), want, "{front:?} and {times} times {last:?}");
-        assert_eq!(rt;
-            count,
-            parts,
-            "parts of {front:?} and {times} times {last:?}"
-        );
+        check_words(&rt, rt.alloc(), words, want, parts)?;
     }
     Ok(())
 }
@@ -127,17 +144,25 @@ fn deep(alloc: Global) -> Result<Value, AllocError> {
     Ok(value)
 }
 
+fn deep_or_word(alloc: Global, word: &str) -> Result<Value, AllocError> {
+    if word == "deep" {
+        return deep(alloc);
+    }
+    Ok(Value::BulkString(word.as_bytes().to_vec(alloc)?))
+}
+
 /// The words of a text, of which `deep` is a deep array.
 fn deep_at(alloc: Global, text: &str) -> Result<Value, AllocError> {
     let mut items = Vec::new(alloc);
     for word in text.split(' ') {
-        items.push(if word == "deep" {
-            deep(alloc)?
-        } else {
-            Value::BulkString(word.as_bytes().to_vec(alloc)?)
-        })?;
+        items.push(deep_or_word(alloc, word)?)?;
     }
     Ok(Value::Array(items))
+}
+
+/// Where the words of a text go, and in how many parts.
+fn routed_with_deep(alloc: Global, text: &str) -> Result<(String, usize), Fail> {
+    routed(alloc, &deep_at(alloc, text)?)
 }
 
 #[test]
@@ -153,11 +178,46 @@ fn a_deep_argument_is_a_gap(rt: HostRuntime) -> Result<(), Fail> {
         ("XREAD deep STREAMS a", "slot 15495", 0),
     ];
     for (text, want, parts) in table {
-        let (found, count) = routed(rt.alloc(), &deep_at(rt.alloc(), text)?)?;
+        let (found, count) = routed_with_deep(rt.alloc(), text)?;
         assert_eq!(rt; found.as_str(), want, "{text}");
         assert_eq!(rt; count, parts, "parts of {text}");
     }
-    let (found, _) = routed(rt.alloc(), &deep(rt.alloc())?)?;
-    assert_eq!(rt; found.as_str(), "none", "a deep reply");
+    Ok(())
+}
+
+/// What the calls on a command's arguments tell of a text's words: its name, the index of `a`, and
+/// whether there is an argument 1.
+fn told(alloc: Global, text: &str) -> Result<String, Fail> {
+    let value = deep_at(alloc, text)?;
+    let name = value.command(alloc)?;
+    let has_name = name.is_some();
+    let index = value.position(b"a");
+    let has_argument = value.arg_idx(1).is_some();
+    Ok(format!(in alloc; "{has_name} {index:?} {has_argument}")?)
+}
+
+/// Whether a part of argument 0 is refused, and one of argument 1.
+fn refused(alloc: Global, text: &str) -> Result<(bool, bool), Fail> {
+    let value = deep_at(alloc, text)?;
+    let first = command_for_multi_slot_indices(alloc, &value, &[0]);
+    let second = command_for_multi_slot_indices(alloc, &value, &[1]);
+    Ok((first.is_err(), second.is_err()))
+}
+
+#[test]
+fn the_calls_on_arguments_pass_over_what_is_deep(rt: HostRuntime) -> Result<(), Fail> {
+    for (text, want) in [
+        ("deep a", "false Some(1) true"),
+        ("DEL deep a", "true Some(2) false"),
+    ] {
+        assert_eq!(rt; told(rt.alloc(), text)?.as_str(), want, "{text}");
+    }
+    for (text, want) in [
+        ("DEL deep a", (true, false)),
+        ("DEL a deep", (false, true)),
+        ("deep a b", (true, true)),
+    ] {
+        assert_eq!(rt; refused(rt.alloc(), text)?, want, "{text}");
+    }
     Ok(())
 }

@@ -210,7 +210,7 @@ fn repeated(
 #[test]
 fn hostile_names_pass_or_are_told(rt: HostRuntime) -> Result<(), Fail> {
     type Row = (usize, &'static [u8], usize, &'static [u8], &'static str);
-    let table: [Row; 15] = [
+    let table: [Row; 18] = [
         (1, b"", 0, b"", ""),
         (1, b"", 0, b"x", ""),
         (1, b" ", 1, b"", ""),
@@ -219,6 +219,9 @@ fn hostile_names_pass_or_are_told(rt: HostRuntime) -> Result<(), Fail> {
         (1, b"\xe3\x80\x80", 65_536, b"mget", "MGET"),
         (1, b"mget ", 65_536, b"", ""),
         (1, b"mget", 65_536, b"", ""),
+        (1, b"9", 65_536, b"", ""),
+        (1, b"", 0, b"-9223372036854775808", ""),
+        (1, b"(", 1_000_000, b"mget", ""),
         (1, b"\x00", 65_536, b"mget", ""),
         (1, b"\xff", 65_536, b"", ""),
         (1, b" ", 1, b"mget\xff", ""),

@@ -113,7 +113,7 @@ type Hostile<'a> = (
 const NOTHING: (&[u8], &[u8], usize, &[u8]) = (b"", b"", 0, b"");
 
 // As only a hostile user writes them.
-const HOSTILE: [Hostile<'static>; 15] = [
+const HOSTILE: [Hostile<'static>; 17] = [
     (NOTHING, NOTHING, b""),
     (
         (b"x", b"", 0, b""),
@@ -179,6 +179,26 @@ const HOSTILE: [Hostile<'static>; 15] = [
     (
         (b"WATCH {", b"}", 65_536, b"\n"),
         (b"p:1 WATCH {", b"}", 65_536, b"\nOK\n"),
+        b"",
+    ),
+    (
+        (b"DEL ", b"{", 1_000_000, b"}"),
+        (b"p:1 DEL ", b"{", 1_000_000, b"}\n0\n"),
+        b"",
+    ),
+    (
+        (
+            b"MSET -9223372036854775808 18446744073709551616",
+            b"",
+            0,
+            b"",
+        ),
+        (
+            b"p:1 MSET -9223372036854775808 18446744073709551616\nOK\n",
+            b"",
+            0,
+            b"",
+        ),
         b"",
     ),
 ];

@@ -143,7 +143,7 @@ type Hostile<'a> = (&'a [u8], &'a [u8], usize, &'a [u8], &'a [u8]);
 fn hostile_map_lines(rt: HostRuntime) -> Result<(), Fail> {
     let first: &[u8] = b"slotroute: bad map line 1\n";
     let last: &[u8] = b"slotroute: bad map line 65537\n";
-    let table: [Hostile; 22] = [
+    let table: [Hostile; 23] = [
         (b"", b"", 0, b"", b""),
         (b"", b"", 0, b"x", first),
         (b"", b"", 0, b"\xff", first),
@@ -155,7 +155,8 @@ fn hostile_map_lines(rt: HostRuntime) -> Result<(), Fail> {
         (b"", b"0 1 h:1\n", 65_536, b"", b""),
         (b"", b"0 1 h:1\n", 65_536, b"x", last),
         (b"0 1 h:1", b" h:1", 65_536, b" h", first),
-        (b"0 1 ", b"[", 65_536, b"]:1", first),
+        (b"0 1 ", b"[", 1_000_000, b"]:1", first),
+        (b"0 1 ", b"[", 1_000_000, b"h:1", b""),
         (b"0 1 h:", b"0", 65_536, b"1", b""),
         (b"", b"0", 65_536, b" 1 h:1", b""),
         (b"", b"9", 65_536, b" 1 h:1", first),

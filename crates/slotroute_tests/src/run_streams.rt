@@ -86,7 +86,11 @@ fn each_write_fails_in_turn(rt: HostRuntime) -> Result<(), Fail> {
     let first = b"p:1 MSET a 1\np:1 MSET b 2\nOK\n".len();
     let needed = OUTPUT.len() + 3;
     for calls in 0..needed + 1 {
-        let count = if calls <= first { calls } else { calls.saturating_sub(2).max(first) };
+        let count = if calls <= first {
+            calls
+        } else {
+            calls.saturating_sub(2).max(first)
+        };
         let taken = OUTPUT.get(..count).unwrap_or(OUTPUT);
         let want: Written = if calls < needed {
             (taken, b"slotroute: output failed\n", 2)
