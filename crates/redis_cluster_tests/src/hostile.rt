@@ -1,9 +1,7 @@
 //! Arguments as only a hostile or broken client writes them.
-use crate::helpers::{read_only_names, to_specific_node, value_of, words_of};
+use crate::helpers::{read_only_names, to_any, to_specific_node, value_of, words_of};
 use cluster_map::{Route, SlotAddr};
-use redis_cluster::routing::{
-    Routable, RoutingInfo, SingleNodeRoutingInfo, SplitCommand, command_for_multi_slot_indices,
-};
+use redis_cluster::routing::{Routable, RoutingInfo, SplitCommand, command_for_multi_slot_indices};
 use resp_core::Value;
 use std::alloc::{AllocError, Global};
 use std::process::Abort;
@@ -46,21 +44,35 @@ fn array_of(alloc: Global, (words, last, times): Words) -> Result<Value, AllocEr
     value_of(alloc, &all)
 }
 
-/// Where a command goes, as a text, and in how many parts it is split, which is none where it is
-/// not.
-fn routed<R: Routable>(alloc: Global, command: &R) -> Result<(String, usize), Fail> {
+/// The routing that a text says: `none`, `any`, or the primary of a slot.
+fn routing_of(text: &str) -> Result<Option<RoutingInfo>, Fail> {
+    if text == "none" {
+        return Ok(None);
+    }
+    if text == "any" {
+        return Ok(Some(to_any()));
+    }
+    let number = text.strip_prefix("slot ").ok_or("no slot")?;
+    let slot: u16 = number.parse()?;
+    Ok(Some(to_specific_node(Route::new(slot, SlotAddr::Master))))
+}
+
+/// Whether a command goes where a text says, of which `many` is several nodes.
+fn goes_as<R: Routable>(alloc: Global, command: &R, text: &str) -> Result<bool, Fail> {
     let names = read_only_names(alloc, &[b"MGET"])?;
-    let text = match RoutingInfo::for_routable(alloc, command, &names)? {
-        None => format!(in alloc; "none")?,
-        Some(RoutingInfo::SingleNode(SingleNodeRoutingInfo::SpecificNode(route))) => {
-            format!(in alloc; "slot {}", route.slot())?
-        }
-        Some(RoutingInfo::SingleNode(_)) => format!(in alloc; "any")?,
-        Some(RoutingInfo::MultiNode(_)) => format!(in alloc; "many")?,
-    };
+    let info = RoutingInfo::for_routable(alloc, command, &names)?;
+    if text == "many" {
+        return Ok(matches!(info, Some(RoutingInfo::MultiNode(_))));
+    }
+    Ok(info == routing_of(text)?)
+}
+
+/// In how many parts a command is split, which is none where it is not.
+fn part_count<R: Routable>(alloc: Global, command: &R) -> Result<usize, Fail> {
+    let names = read_only_names(alloc, &[b"MGET"])?;
     match SplitCommand::new(alloc, command, &names)? {
-        Some(split) => Ok((text, split.len())),
-        None => Ok((text, 0)),
+        Some(split) => Ok(split.len()),
+        None => Ok(0),
     }
 }
 
@@ -116,11 +128,14 @@ fn check_words(
     want: &str,
     parts: usize,
 ) -> Result<(), Fail> {
-    let (text, count) = routed(alloc, &array_of(alloc, words)?)?;
+    let command = array_of(alloc, words)?;
     let (front, last, times) = words;
-    assert_eq!(rt; text.as_str(), want, "{front:?} and {times} times {last:?}");
+    assert!(rt;
+        goes_as(alloc, &command, want)?,
+        "{front:?} and {times} times {last:?} goes to {want}"
+    );
     assert_eq!(rt;
-        count,
+        part_count(alloc, &command)?,
         parts,
         "parts of {front:?} and {times} times {last:?}"
     );
@@ -160,9 +175,13 @@ fn deep_at(alloc: Global, text: &str) -> Result<Value, AllocError> {
     Ok(Value::Array(items))
 }
 
-/// Where the words of a text go, and in how many parts.
-fn routed_with_deep(alloc: Global, text: &str) -> Result<(String, usize), Fail> {
-    routed(alloc, &deep_at(alloc, text)?)
+/// Whether the words of a text go where another text says, and in how many parts.
+fn deep_goes(alloc: Global, text: &str, want: &str) -> Result<(bool, usize), Fail> {
+    let command = deep_at(alloc, text)?;
+    Ok((
+        goes_as(alloc, &command, want)?,
+        part_count(alloc, &command)?,
+    ))
 }
 
 #[test]
@@ -178,9 +197,12 @@ fn a_deep_argument_is_a_gap(rt: HostRuntime) -> Result<(), Fail> {
         ("XREAD deep STREAMS a", "slot 15495", 0),
     ];
     for (text, want, parts) in table {
-        let (found, count) = routed_with_deep(rt.alloc(), text)?;
-        assert_eq!(rt; found.as_str(), want, "{text}");
-        assert_eq!(rt; count, parts, "parts of {text}");
+        let found = deep_goes(rt.alloc(), text, want)?;
+        assert_eq!(rt;
+            found,
+            (true, parts),
+            "{text} goes to {want}, and its parts"
+        );
     }
     Ok(())
 }
