@@ -2,6 +2,8 @@
 #![tactic(auto)]
 
 #[cfg(test)]
+mod all_slots;
+#[cfg(test)]
 mod driving;
 #[cfg(test)]
 mod error_texts;

@@ -125,6 +125,19 @@ fn commands_of_many_items(rt: HostRuntime) -> Result<(), Fail> {
     Ok(())
 }
 
+#[test]
+fn room_for_many_items_and_bytes(rt: HostRuntime) -> Result<(), Fail> {
+    for count in [255, 256, 65_535, 65_536, 100_000] {
+        let items = Cmd::with_capacity(rt.alloc(), count)?;
+        let bytes = Cmd::with_room(rt.alloc(), 1, count)?;
+        assert!(rt;
+            items.is_empty() && bytes.is_empty(),
+            "{count} items or bytes"
+        );
+    }
+    Ok(())
+}
+
 /// Whether a command keeps an item of so many bytes between two others, and so does its clone.
 fn keeps_bytes(alloc: Global, bytes: usize) -> Result<bool, AllocError> {
     let long = vec![in alloc; 7u8; bytes]?;
