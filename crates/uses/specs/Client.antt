@@ -1,5 +1,5 @@
 -- What a client writes, and then reads, and what it asks for.
-use Rattle.std.specs.Prelude.{◌≡◌, ℕ, List, [], ◌∷◌, Some, map, codes}
+use Rattle.std.specs.Prelude.{ℕ, List, [], ◌∷◌, Some, map, codes}
 use Rattle.cluster_map.specs.Address.{Address}
 use Rattle.cluster_map.specs.RangeMap as ranges
 use Rattle.cluster_map.specs.RouteNode.{IsNodeOfRoute}

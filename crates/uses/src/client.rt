@@ -46,6 +46,10 @@ pub enum ClientFault {
 }
 
 impl From<AllocError> for ClientFault {
+    ghost use Rattle.uses.specs.declared.client.ClientFault.TheVariants as client;
+
+    ghost from_gives = { λ _ fault. fault ≡ client.Memory };
+
     fn from(_: AllocError) -> Self {
         ClientFault::Memory
     }
@@ -99,7 +103,7 @@ pub fn write_and_read<W: Wire, M: Meaning>(
         (unseen (⟦<WireNodes<W, M> as Nodes>⟧.trace client.old) (⟦<WireNodes<W, M> as Nodes>⟧.mark client.old))
         (unseen (⟦<WireNodes<W, M> as Nodes>⟧.trace client.new) (⟦<WireNodes<W, M> as Nodes>⟧.mark client.new))
         (λ count ending. ⊤) error.fault error.answered) }
-    // Of a read that failed, too, after each part of the write was answered.
+    // So it is with a read that failed, and each part of the write was answered.
     ensures not_read { IfErr result (λ fault. (error : DriveError)
         → fault ≡ ClientFault.Read error → (between : List Entry) × (mark : Bool)
         × AreSentOnce slot_map.now write (0 ∷ 1 ∷ [])
@@ -117,7 +121,7 @@ pub fn write_and_read<W: Wire, M: Meaning>(
         (state (⟦<WireNodes<W, M> as Nodes>⟧.keyspace client.new) (⟦<WireNodes<W, M> as Nodes>⟧.trace client.new)
         (⟦<WireNodes<W, M> as Nodes>⟧.mark client.new))
         (λ count ending. ⊤) error.fault error.answered) }
-    // and after a read that failed, all that the write leaves, with what its parts do.
+    // and after a read that failed what the write leaves, as the answered parts of the read leave it.
     ensures written { IfErr result (λ fault. (error : DriveError)
         → fault ≡ ClientFault.Read error → ⟦<WireNodes<W, M> as Nodes>⟧.kept client.new
         → IfSome (multi_key (map Some write)) (λ set. (between : List Entry) × (mark : Bool)

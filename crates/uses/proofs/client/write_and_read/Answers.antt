@@ -1,16 +1,86 @@
-use Rattle.std.proofs.Common.{[], ◌∷◌, List, ℕ, Some, map, subst}
-use Rattle.cluster_map.specs.RouteNode.{IsNodeOfRoute}
-use Rattle.redis_cluster.specs.Driven.{IsDelivered, request}
+use Rattle.std.proofs.Common.{◌≡◌, [], ◌∷◌, List, ℕ, Bool, Ok, Option, None, Some, ap, map, subst}
+use Rattle.std.specs.Prelude.{IfSome, ⊤}
+use Rattle.resp_core.specs.View.{view}
+use Rattle.redis_cluster.specs.Driven.{state}
+use Rattle.redis_cluster.specs.Faults.{IsCut, IsFault, unseen}
+use Rattle.redis_cluster.specs.Joined.{IsJoined}
+use Rattle.redis_cluster.specs.MultiKey.{MultiKey, multi_key}
 use Rattle.redis_cluster.specs.ReadOnly.{is_among}
 use Rattle.redis_cluster.specs.Trace.{Entry}
-use Rattle.wire_nodes.specs.Said.{entry_by}
+use Rattle.redis_cluster.specs.Unsplit.{Keyspace, keyspace_after, reply_to}
+use Rattle.redis_cluster.specs.declared.driver.DriveError.{DriveError}
+use Rattle.wire_nodes.specs.Said.{Said, entry_by, replies_in}
+use Rattle.wire_nodes.specs.Replay.{replay}
+use Rattle.uses.specs.Client.{asked, read, write, AreSentOnce, IsPrimary}
+use Rattle.uses.specs.declared.client.ClientFault.{ClientFault}
+use Rattle.uses.specs.declared.client.ClientFault.TheVariants.{Memory, Write, Read}
 use Rattle.uses.proofs.client.write_and_read.Goals as goal
 
 pub returns-in-Ok-clause-once : goal.returns-in-Ok-clause-once
 returns-in-Ok-clause-once g c =
-    let Delivered : List (List ℕ) → List ℕ → List Entry → List Entry → Type 0 = λ words order old new. IsDelivered (λ route address. IsNodeOfRoute c.args.slot_map.now route 0 address) (request (map Some words) (is_among []) c.args.slot_map.now order) old new in
     let between = map entry_by (g.W.Wire.log c.drive_over.new.client.wire) in (
       between,
-      subst (λ (words : List (List ℕ)). Delivered words (0 ∷ 1 ∷ []) (map entry_by (g.W.Wire.log c.args.client.now.wire)) between) c.in_ok-write.ensures c.in_default.ensures.once,
-      subst (λ (words : List (List ℕ)). Delivered words (1 ∷ 0 ∷ []) between (map entry_by (g.W.Wire.log c.drive_over-2.new.client.wire))) c.in_ok-read.ensures c.in-Ok.ensures.once,
+      subst (λ (words : List (List ℕ)). AreSentOnce c.args.slot_map.now words (0 ∷ 1 ∷ []) (map entry_by (g.W.Wire.log c.args.client.now.wire)) between) c.in_ok-write.ensures c.in_default.ensures.once,
+      subst (λ (words : List (List ℕ)). AreSentOnce c.args.slot_map.now words (1 ∷ 0 ∷ []) between (map entry_by (g.W.Wire.log c.drive_over-2.new.client.wire))) c.in_ok-read.ensures c.in-Ok.ensures.once,
     )
+
+pub returns-in-Ok-clause-joined : goal.returns-in-Ok-clause-joined
+returns-in-Ok-clause-joined g c =
+    let before = replies_in (g.W.Wire.log c.drive_over.new.client.wire) in (
+      before,
+      subst (λ (words : List (List ℕ)). IsJoined (is_among []) (map Some words) (1 ∷ 0 ∷ []) (λ replies. replies ≡ before) (λ replies. replies ≡ replies_in (g.W.Wire.log c.drive_over-2.new.client.wire)) (Ok (view c.in-Ok.value))) c.in_ok-read.ensures c.in-Ok.ensures.joined,
+    )
+
+-- the error that a fault has
+abbrev error_of : ClientFault → DriveError → DriveError
+error_of Memory other = other
+error_of (Write error) other = error
+error_of (Read error) other = error
+
+-- what follows from what is known of a value, where there is one
+if_some : {X : Type 0} (found : Option X) (P Q : X → Type 0) → ((x : X) → P x → Q x) → IfSome found P → IfSome found Q
+if_some None P Q so known = tt
+if_some (Some x) P Q so known = so x known
+
+pub returns-clause-not_read : goal.returns-clause-not_read
+returns-clause-not_read g c =
+    λ error is.
+    let slots = c.args.slot_map.now in
+    let between = map entry_by (g.W.Wire.log c.drive_over.new.client.wire) in
+    let mark = c.drive_over.new.client.mark in
+    let last = map entry_by (g.W.Wire.log c.drive_over-2.new.client.wire) in
+    let stop = c.in-Err-drive_over.error in
+    let same : stop ≡ error = ap (λ fault. error_of fault error) is in
+    let cut =
+    subst (λ (words : List (List ℕ)). IsCut (IsPrimary slots) (asked slots words (1 ∷ 0 ∷ [])) (unseen between mark) (unseen last c.drive_over-2.new.client.mark) (λ count ending. ⊤) stop.fault stop.answered)
+    c.in_ok-read.ensures c.in-Err-drive_over.ensures.cut in (
+      between,
+      mark,
+      subst (λ (words : List (List ℕ)). AreSentOnce slots words (0 ∷ 1 ∷ []) (map entry_by (g.W.Wire.log c.args.client.now.wire)) between) c.in_ok-write.ensures c.in_default.ensures.once,
+      subst (λ (e : DriveError). IsCut (IsPrimary slots) (asked slots read (1 ∷ 0 ∷ [])) (unseen between mark) (unseen last c.drive_over-2.new.client.mark) (λ count ending. ⊤) e.fault e.answered) same cut,
+    )
+
+pub returns-clause-written : goal.returns-clause-written
+returns-clause-written g c =
+    λ error is kept.
+    let slots = c.args.slot_map.now in
+    let step = g.M.Meaning.step in
+    let keys : List Said → Keyspace g.M.Meaning.Cell = λ log. replay step g.M.Meaning.took log g.M.Meaning.initial in
+    let old = keys (g.W.Wire.log c.args.client.now.wire) in
+    let middle = keys (g.W.Wire.log c.drive_over.new.client.wire) in
+    let between = map entry_by (g.W.Wire.log c.drive_over.new.client.wire) in
+    let mark = c.drive_over.new.client.mark in
+    let last = state (keys (g.W.Wire.log c.drive_over-2.new.client.wire)) (map entry_by (g.W.Wire.log c.drive_over-2.new.client.wire)) c.drive_over-2.new.client.mark in
+    let stop = c.in-Err-drive_over.error in
+    let same : stop ≡ error = ap (λ fault. error_of fault error) is in
+    let of_read =
+    subst (λ (words : List (List ℕ)). IsFault (IsPrimary slots) step (asked slots words (1 ∷ 0 ∷ [])) (state middle between mark) last (λ count ending. ⊤) stop.fault stop.answered)
+    c.in_ok-read.ensures (c.in-Err-drive_over.ensures.fault kept) in
+    let of_error =
+    subst (λ (e : DriveError). IsFault (IsPrimary slots) step (asked slots read (1 ∷ 0 ∷ [])) (state middle between mark) last (λ count ending. ⊤) e.fault e.answered) same of_read in
+    let Written : MultiKey → Type 0 = λ whole. (view c.in_default.field-0 ≡ reply_to step whole old) × (middle ≡ keyspace_after step whole old) in
+    let written =
+    subst (λ (words : List (List ℕ)). IfSome (multi_key (map Some words)) Written) c.in_ok-write.ensures (c.in_default.ensures.as_one (c.in-Err-drive_over.ensures.kept kept)) in
+    let Left : MultiKey → Type 0 = λ set. (between : List Entry) × (mark : Bool) × IsFault (IsPrimary slots) step (asked slots read (1 ∷ 0 ∷ [])) (state (keyspace_after step set old) between mark) last (λ count ending. ⊤) error.fault error.answered in
+    if_some (multi_key (map Some write)) Written Left
+    (λ set both. (between, mark, subst (λ (ks : Keyspace g.M.Meaning.Cell). IsFault (IsPrimary slots) step (asked slots read (1 ∷ 0 ∷ [])) (state ks between mark) last (λ count ending. ⊤) error.fault error.answered) both.1 of_error)) written
