@@ -1,6 +1,7 @@
 //! A client that sends the parts of a command side by side.
-ghost use Rattle.std.specs.Prelude.{◌≡◌, Ok, map, IfOk, OnOk, List};
-ghost use Rattle.resp_core.specs.declared.value.Value.{Value};
+ghost use Rattle.std.specs.Prelude.{◌≡◌, Some, Ok, map, IfOk, IfErr};
+ghost use Rattle.resp_core.specs.View.{view};
+ghost use Rattle.uses.specs.Batch.{IsClientRefusal, IsGathered, IsUngathered, IsUnread, IsUnplanned};
 
 use cluster_map::{NodeAddress, SlotMap};
 use redis_cluster::driver::{PlanFault, SplitPlan};
@@ -36,7 +37,7 @@ pub enum BatchError {
     NotPlanned(PlanFault),
     /// There is no reply to this part. Other parts may have taken effect.
     NotAnswered(usize, NoReply),
-    /// The answers make no reply. All parts took effect.
+    /// The answers make no reply, or memory ran out for it. All parts took effect.
     NotCombined(RedisError),
     /// Memory ran out. Parts may have taken effect.
     Memory,
@@ -67,12 +68,20 @@ impl fmt::Display for BatchError {
 impl Error for BatchError {}
 
 impl From<AllocError> for BatchError {
+    ghost use Rattle.uses.specs.declared.batcher.BatchError.TheVariants as batch;
+
+    ghost from_gives = { λ _ error. error ≡ batch.Memory };
+
     fn from(_: AllocError) -> Self {
         BatchError::Memory
     }
 }
 
 impl<T: Drop> From<AllocFailed<T>> for BatchError {
+    ghost use Rattle.uses.specs.declared.batcher.BatchError.TheVariants as batch;
+
+    ghost from_gives = { λ _ error. error ≡ batch.Memory };
+
     fn from(_: AllocFailed<T>) -> Self {
         BatchError::Memory
     }
@@ -84,7 +93,10 @@ pub fn batch<C: Connections>(
     command: &Cmd,
     slot_map: &SlotMap,
     connections: &mut C,
-) -> Result<Value, BatchError> {
+) -> Result<Value, BatchError>
+    ensures unplanned { IfErr result (λ error.
+        IsUnplanned slot_map.now (map Some command.now) (connections.new ≡ connections.old) error) }
+{
     let none_only_reads = ReadOnlyNames::new(alloc);
     let plan = match SplitPlan::new(alloc, command, &none_only_reads, slot_map, None, 0) {
         Ok(plan) => plan,
@@ -109,15 +121,17 @@ fn send_parts<C: Connections>(
     connections.exchange(&parts)
 }
 
-/// The one reply to a command, by the answers to its parts. Where there is one, each answer is a
-/// reply: no error is told as one.
+/// The one reply to a command, by the answers to its parts, in the order of the routes.
+///
+/// Where there is one, each answer is a reply: no error is told as one. To a plan that was told none
+/// before, it is the one that the command's policy makes of them.
 pub fn gather(
     alloc: Global,
     mut plan: SplitPlan<'_, Cmd>,
     answers: Vec<Answer>,
 ) -> Result<Value, BatchError>
-    ensures answered { OnOk result
-        ((replies : List Value) × (answers.items ≡ map Ok replies)) }
+    ensures gathered { IfOk result (λ reply. IsGathered plan.entry answers.items (view reply)) }
+    ensures cause { IfErr result (λ error. IsUngathered plan.entry answers.items error) }
 {
     let replies = replies_in(alloc, answers)?;
     for (number, reply) in replies.into_iter().enumerate() {
@@ -128,13 +142,16 @@ pub fn gather(
     plan.combine(alloc).map_err(BatchError::NotCombined)
 }
 
-fn not_combined(text: &'static str) -> BatchError {
+fn not_combined(text: &'static str) -> BatchError
+    ensures { IsClientRefusal result }
+{
     BatchError::NotCombined(RedisError::from((ErrorKind::Client, text)))
 }
 
 /// The replies, if each answer is one.
 fn replies_in(alloc: Global, answers: Vec<Answer>) -> Result<Vec<Value>, BatchError>
-    ensures { IfOk result (λ replies. answers.items ≡ map Ok replies.items) }
+    ensures replies { IfOk result (λ replies. answers.items ≡ map Ok replies.items) }
+    ensures cause { IfErr result (λ error. IsUnread answers.items error) }
 {
     let mut replies = Vec::with_capacity(alloc, answers.len())?;
     for answer in answers {

@@ -1,0 +1,79 @@
+-- Why a client has one reply to the parts of a command, or none.
+use Rattle.std.proofs.Common.{◌≡◌, ◌⊎◌, inl, inr, List, Some, Result, Ok, Err, map, sym, ◌∙◌, ap, true, false, MatchResult, IfOk, IfErr, subst}
+use Rattle.std.specs.Prelude.{is_none}
+use Rattle.std.specs.List.{list_any}
+use Rattle.std.specs.Result.{IsErrAnd}
+use Rattle.resp_core.specs.ErrorParts.{ErrorParts, out_of_memory}
+use Rattle.resp_core.specs.View.{view}
+use Rattle.resp_core.specs.declared.error.ErrorKind.TheVariants.{Client}
+use Rattle.resp_core.specs.declared.value.Value.{Value}
+use Rattle.redis_commands.specs.declared.policy.ResponsePolicy.TheVariants.{CombineArrays}
+use Rattle.redis_cluster.specs.Joined.{joined}
+use Rattle.redis_cluster.specs.Plan.{Plan}
+use Rattle.uses.specs.Batch.{Answers, after_telling, IsGathered, IsNotCombined, IsUngathered, IsClientRefusal, IsUntold}
+use Rattle.uses.specs.declared.batcher.BatchError.{BatchError}
+use Rattle.uses.specs.declared.batcher.BatchError.TheVariants.{NotPlanned, NotAnswered, NotCombined, Memory}
+use Rattle.resp_core.proofs.Cases.{by_test}
+use Rattle.uses.proofs.Telling.{told_each}
+
+-- an answer to no part is refused so
+pub refused_so : (plan : Plan) (answers : Answers) (replies : List Value) (e : BatchError)
+    → answers ≡ map Ok replies → IsClientRefusal e → IsUngathered plan answers e
+refused_so plan answers replies (NotPlanned fault) each is = is
+refused_so plan answers replies (NotAnswered number cause) each is = absurd is
+refused_so plan answers replies (NotCombined error) each is =
+    record { replies = replies; each = each; cause = λ untold. inl is }
+refused_so plan answers replies Memory each is = tt
+
+-- what a plan says of the replies that it was told
+abbrev pub Joins : Plan → Result Value ErrorParts → Type 0
+Joins final r = (replies : List Value) → final.replies ≡ map Some replies
+    → MatchResult r (λ value. joined final.split (map view replies) ≡ Ok (view value))
+    (λ error. ((error ≡ out_of_memory) × (final.split.policy ≡ CombineArrays))
+    ⊎ (joined final.split (map view replies) ≡ Err error.kind))
+
+module _ (plan final : Plan) (answers : Answers) (values : List Value)
+    (each : answers ≡ map Ok values) (split_is : final.split ≡ plan.split)
+    (replies_are : final.replies ≡ after_telling plan.replies values) where
+  all_of : IsUntold plan → list_any is_none final.replies ≡ false → final.replies ≡ map Some values
+  all_of none_before all = told_each plan.split.routes plan.replies final.replies values none_before replies_are all
+
+  pub ended : (r : Result Value ErrorParts) → Joins final r
+      → (list_any is_none final.replies ≡ true → IsErrAnd r (λ (error : ErrorParts). error.kind ≡ Client))
+      → MatchResult r (λ value. IsGathered plan answers (view value)) (λ error. IsNotCombined plan answers error)
+  ended (Ok value) joins untold = record {
+    replies = values;
+    each = each;
+    joined_is = λ none_before.
+        by_test (list_any is_none final.replies)
+        (λ some. absurd (untold some))
+        (λ all. ap (λ s. joined s (map view values)) (sym split_is) ∙ joins values (all_of none_before all));
+  }
+  ended (Err error) joins untold = record {
+    replies = values;
+    each = each;
+    cause = λ none_before.
+        by_test (list_any is_none final.replies)
+        (λ some. inl (untold some))
+        (λ all. elim (joins values (all_of none_before all)) [
+          | inl memory ↦ inr (inl memory.0)
+          | inr refused ↦ inr (inr (ap (λ s. joined s (map view values)) (sym split_is) ∙ refused))
+        ]);
+  }
+
+-- of an outcome whose error was turned into another, what is said of a value
+pub if_ok : {A E F : Type 0} (M : E → F → Type 0) (P : A → Type 0) (Q : E → Type 0) (r : Result A E) (s : Result A F)
+    → MatchResult r P Q → MatchResult r (λ x. s ≡ Ok x) (λ e. IsErrAnd s (M e)) → IfOk s P
+if_ok M P Q (Ok x) (Ok y) is same = let e : x ≡ y = cc same in subst P e is
+if_ok M P Q (Ok x) (Err f) is same = tt
+if_ok M P Q (Err e) (Ok y) is made = absurd made
+if_ok M P Q (Err e) (Err f) is made = tt
+
+-- and of the error
+pub if_err : {A E F : Type 0} (U : F → Type 0) (make : E → F) (P : A → Type 0) (Q : E → Type 0) (r : Result A E) (s : Result A F)
+    → ((e : E) → Q e → U (make e)) → MatchResult r P Q
+    → MatchResult r (λ x. s ≡ Ok x) (λ e. IsErrAnd s (λ f. f ≡ make e)) → IfErr s U
+if_err U make P Q (Ok x) (Ok y) of is same = tt
+if_err U make P Q (Ok x) (Err f) of is same = absurd (cc same)
+if_err U make P Q (Err e) (Ok y) of is made = tt
+if_err U make P Q (Err e) (Err f) of is made = subst U (sym made) (of e is)

@@ -1,0 +1,2 @@
+mod Ended
+mod Telling

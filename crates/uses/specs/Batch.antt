@@ -1,0 +1,81 @@
+-- What a client that sends the parts of a command side by side makes of the answers to them.
+use Rattle.std.specs.Prelude.{◌≡◌, ◌⊎◌, ℕ, List, [], ◌∷◌, ◌++◌, Option, Some, None, Result, Ok, Err, map, length}
+use Rattle.resp_core.specs.ErrorParts.{ErrorParts, out_of_memory}
+use Rattle.resp_core.specs.Reply.{Reply}
+use Rattle.resp_core.specs.View.{view}
+use Rattle.resp_core.specs.declared.error.ErrorKind.TheVariants.{Client}
+use Rattle.resp_core.specs.declared.value.Value.{Value}
+use Rattle.cluster_map.specs.RangeMap as ranges
+use Rattle.cluster_map.specs.SlotNodes.{SlotNodes}
+use Rattle.redis_commands.specs.Command.{Arguments}
+use Rattle.redis_commands.specs.ReadOnly.{is_among}
+use Rattle.redis_cluster.specs.Faults.{IsPlanFault}
+use Rattle.redis_cluster.specs.Joined.{joined}
+use Rattle.redis_cluster.specs.Plan.{Plan}
+use Rattle.uses.specs.declared.batcher.BatchError.{BatchError}
+use Rattle.uses.specs.declared.batcher.BatchError.TheVariants.{NotPlanned, NotAnswered, NotCombined, Memory}
+use Rattle.uses.specs.declared.batcher.NoReply.{NoReply}
+
+-- what came back for the parts, in the order of the routes
+abbrev pub Answers : Type 0
+Answers = List (Result Value NoReply)
+
+-- the replies of a plan after these were told to its first routes, one after the other
+abbrev pub after_telling : {V : Type 0} → List (Option V) → List V → List (Option V)
+after_telling slots [] = slots
+after_telling [] (r ∷ rs) = Some r ∷ after_telling [] rs
+after_telling (s ∷ ss) (r ∷ rs) = Some r ∷ after_telling ss rs
+
+-- no reply was told yet
+abbrev pub IsUntold : Plan → Type 0
+IsUntold plan = plan.replies ≡ map (λ route. None) plan.split.routes
+
+-- Each answer is a reply, and to a plan that was told none before, the one reply is that which the
+-- command's policy makes of them.
+pub record IsGathered (plan : Plan) (answers : Answers) (reply : Reply) : Type 0 where
+  pub replies : List Value
+  pub each : answers ≡ map Ok replies
+  pub joined_is : IsUntold plan → joined plan.split (map view replies) ≡ Ok reply
+
+-- the part of this number has no reply, for this cause, and each part before it has one
+pub record IsNotAnswered (answers : Answers) (number : ℕ) (cause : NoReply) : Type 0 where
+  pub before : List Value
+  pub rest : Answers
+  pub answers_are : answers ≡ map Ok before ++ Err cause ∷ rest
+  pub number_is : number ≡ length before
+
+-- Each answer is a reply. They are not one for each route, or the policy refuses them with an error
+-- of that kind, or memory ran out in making one of them.
+pub record IsNotCombined (plan : Plan) (answers : Answers) (error : ErrorParts) : Type 0 where
+  pub replies : List Value
+  pub each : answers ≡ map Ok replies
+  pub cause : IsUntold plan → (error.kind ≡ Client)
+      ⊎ ((error ≡ out_of_memory) ⊎ (joined plan.split (map view replies) ≡ Err error.kind))
+
+-- a refusal of kind Client
+abbrev pub IsClientRefusal : BatchError → Type 0
+IsClientRefusal (NotPlanned fault) = ⊥
+IsClientRefusal (NotAnswered number cause) = ⊥
+IsClientRefusal (NotCombined error) = error.kind ≡ Client
+IsClientRefusal Memory = ⊥
+
+-- why there are no replies to tell
+abbrev pub IsUnread : Answers → BatchError → Type 0
+IsUnread answers (NotPlanned fault) = ⊥
+IsUnread answers (NotAnswered number cause) = IsNotAnswered answers number cause
+IsUnread answers (NotCombined error) = ⊥
+IsUnread answers Memory = Unit {0}
+
+-- why there is no reply to the command
+abbrev pub IsUngathered : Plan → Answers → BatchError → Type 0
+IsUngathered plan answers (NotPlanned fault) = ⊥
+IsUngathered plan answers (NotAnswered number cause) = IsNotAnswered answers number cause
+IsUngathered plan answers (NotCombined error) = IsNotCombined plan answers error
+IsUngathered plan answers Memory = Unit {0}
+
+-- a command that has no plan has the plan's fault, and nothing was sent
+abbrev pub IsUnplanned : List (ranges.Entry SlotNodes) → Arguments → Type 0 → BatchError → Type 0
+IsUnplanned entries args Unsent (NotPlanned fault) = IsPlanFault entries (is_among []) args fault × Unsent
+IsUnplanned entries args Unsent (NotAnswered number cause) = Unit {0}
+IsUnplanned entries args Unsent (NotCombined error) = Unit {0}
+IsUnplanned entries args Unsent Memory = Unit {0}
