@@ -42,10 +42,10 @@ pub fn call(
             maps(watch, alloc, &repeated(alloc, REPLIES, counts)?)
         }
         Combining::TurnedMaps => {
+            let first = Value::Array(counts(alloc, size)?);
             let turned = Value::Array(turned_counts(alloc, size)?);
-            let mut replies = repeated(alloc, REPLIES - 1, counts(alloc, size)?)?;
-            replies.insert(1, turned)?;
-            maps(watch, alloc, &replies)
+            let last = first.clone()?;
+            maps(watch, alloc, &vec![in alloc; first, turned, last]?)
         }
         Combining::Arrays => {
             let items = bulks(alloc, size)?;
