@@ -116,7 +116,7 @@ fn combined(alloc: Global, text: &str, kind: &str) -> Result<RedisResult<Value>,
 
 /// How many items it has, or the kind of the error.
 fn combined_text(alloc: Global, text: &str, kind: &str) -> Result<String, Fail> {
-    match combined(alloc, text, kind)? {
+    match &combined(alloc, text, kind)? {
         Ok(Value::Array(items)) => Ok(format!(in alloc; "[{}]", items.len())?),
         Ok(Value::Int(number)) => Ok(format!(in alloc; "{number}")?),
         Ok(Value::Nil) => Ok(format!(in alloc; "nil")?),
