@@ -1,4 +1,4 @@
--- A command over many keys as it is taken apart.
+-- A multi-key command as it is taken apart.
 use Rattle.std.specs.Prelude.{ℕ, List, Option, map, option_map, slice_get}
 use Rattle.std.specs.declared.vec.Vec.{Vec}
 use Rattle.std.specs.declared.alloc.Global.{Global}

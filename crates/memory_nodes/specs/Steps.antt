@@ -1,4 +1,4 @@
--- What each command over many keys does to the cell of a key and adds to the reply.
+-- What each multi-key command does to the cell of a key and adds to the reply.
 use Rattle.std.specs.Prelude.{ℕ, List, [], ◌∷◌, Bool, false, Option, None, Some, is_some, codes, slice_index_or}
 use Rattle.std.specs.Option.{unwrap_or}
 use Rattle.redis_commands.specs.Lookup.{lookup}

@@ -16,7 +16,7 @@ use crate::whole_command::WholeCommand;
 use resp_core::{Cmd, Value};
 use std::alloc::{AllocError, Global};
 
-/// Runs a command over many keys whose arguments are these, and answers it. Where memory runs out,
+/// Runs a multi-key command whose arguments are these, and answers it. Where memory runs out,
 /// the keyspace is as it was.
 pub(super) fn run(
     alloc: Global,

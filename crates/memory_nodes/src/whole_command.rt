@@ -9,7 +9,7 @@ use redis_commands::{MultiSlotArgPattern, ResponsePolicy, Routable, RouteBy, bas
 use resp_core::Cmd;
 use std::alloc::{AllocError, Global};
 
-/// A command over many keys, taken apart.
+/// A multi-key command, taken apart.
 #[derive(Drop)]
 pub(super) struct WholeCommand<'a> {
     /// The name in upper case.

@@ -1,4 +1,4 @@
--- One array for the replies to the parts of a command over many keys, each item at the place of its
+-- One array for the replies to the parts of a multi-key command, each item at the place of its
 -- key.
 use Rattle.std.specs.Prelude.{ℕ, ◌==◌, List, length, map, Option, Some, None, Result, Ok, Err, option_and_then, if◌then◌else◌}
 use Rattle.resp_core.specs.Reply.{Reply, array, replies_of}

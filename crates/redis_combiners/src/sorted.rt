@@ -20,7 +20,7 @@ use std::alloc::Global;
 /// # Errors
 ///
 /// In this order: `Client` where a list is not of whole tuples, or is empty though it should end in
-/// a shared place; `Client` where there are not as many replies as lists; for the first reply that
+/// a shared index; `Client` where there are not as many replies as lists; for the first reply that
 /// does not fit, `UnexpectedReturnType` where it is not an array, and `Client` where it does not
 /// have as many items as its list has places; `Client` where the places are not the numbers from 0
 /// on, each once. Out of memory may come in place of any of these.

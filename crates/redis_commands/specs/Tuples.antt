@@ -1,4 +1,4 @@
--- The tuples that the present arguments of a command over many keys make: a key each, and the
+-- The tuples that the present arguments of a multi-key command make: a key each, and the
 -- arguments that go with it. Places count them from 0.
 use Rattle.std.specs.Prelude.{ℕ, ◌+◌, ◌-◌, ◌%◌, Bool, ◌&&◌, cond, nat_eq, nat_lt, List, [], ◌∷◌, length, take, drop}
 use Rattle.std.specs.List.{range_with_len}

@@ -34,7 +34,7 @@ pub enum ResponsePolicy {
     AggregateLogical(LogicalAggregateOp),
     /// Numbers, made into one: `DEL key1 key2`.
     Aggregate(AggregateOp),
-    /// Arrays, joined into one: `KEYS *`, or `MGET key1 key2` by the places of its keys.
+    /// Arrays, joined into one: `KEYS *`, or `MGET key1 key2` by the indices of its keys.
     CombineArrays,
     /// Left to the caller: `INFO`.
     Special,

@@ -39,12 +39,12 @@ pub trait Routable {
         Ok(Some(name))
     }
 
-    /// The argument at a place, unless it is a gap or not there.
+    /// The argument at an index, unless it is a gap or not there.
     fn arg_idx(&self, index: usize) -> Option<&[u8]>
         ensures argument { option_copied result ≡ argument (args self.now) index }
         ensures few { length (args self.now) < 2 ^ 63 };
 
-    /// The place of the first argument that is this word, in any ASCII case.
+    /// The index of the first argument that is this word, in any ASCII case.
     fn position(&self, candidate: &[u8]) -> Option<usize>
         ensures place { result ≡ position (is_word candidate.now) (args self.now) }
         ensures few { IfSome result (λ place. place < 2 ^ 63) };

@@ -9,7 +9,7 @@ use super::places::NAME_PLACES;
 use super::policy::ResponsePolicy;
 use super::tables::NAMES;
 
-/// How the arguments of a command over many keys make tuples of a key and what goes with it.
+/// How the arguments of a multi-key command make tuples of a key and what goes with it.
 #[derive(Clone, Copy, Debug, PartialEq, Eq)]
 pub enum MultiSlotArgPattern {
     /// Each argument is a key: `DEL key1 key2`.

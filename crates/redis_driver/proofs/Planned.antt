@@ -1,4 +1,4 @@
--- A plan that was made of a command over many keys has a part for each slot of its keys, and a node for each.
+-- A plan that was made of a multi-key command has a part for each slot of its keys, and a node for each.
 use Rattle.std.proofs.Common.{◌≡◌, ℕ, Bool, true, List, [], ◌∷◌, Some, option_map, All, sym, ap, ◌∙◌, map}
 use Rattle.std.specs.List.{AllZip, list_any, zip}
 use Rattle.std.specs.Prelude.{nat_eq}

@@ -1,4 +1,4 @@
--- What a command over many keys leaves at the nodes, and answers, when it was sent part by part.
+-- What a multi-key command leaves at the nodes, and answers, when it was sent part by part.
 use Rattle.std.specs.Prelude.{◌≡◌, ◌<◌, ◌≤◌, ◌⊎◌, ◌+◌, ℕ, Bool, List, ◌∷◌, ◌++◌, Option, Some, map, option_map, length}
 use Rattle.std.specs.List.{All, AllZip}
 use Rattle.resp_core.specs.ErrorParts.{ErrorParts}

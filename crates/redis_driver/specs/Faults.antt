@@ -50,7 +50,7 @@ IsEarly r (Node error) = ⊥
 IsEarly r (Lost error) = ⊥
 IsEarly r (Reply error) = ⊥
 
--- the fault is told before the first send, and not for lack of memory
+-- the fault is told before the first send, and not because memory ran out
 abbrev pub IsBefore : DriveFault → Type 0
 IsBefore NotMultiKey = Unit {0}
 IsBefore (NotCovered slot) = Unit {0}

@@ -1,4 +1,4 @@
--- The plan of a command over many keys: a part for each of its routes, the node that it goes to,
+-- The plan of a multi-key command: a part for each of its routes, the node that it goes to,
 -- and the reply to it.
 use Rattle.std.specs.Prelude.{◌≡◌, ℕ, Bool, cond, List, Option, None, Some, map, length, ◌++◌}
 use Rattle.std.specs.List.{zip}

@@ -115,7 +115,7 @@ pub fn drive<R: Routable, N: Nodes>(
         (unseen (N.trace nodes.old) (N.mark nodes.old))
         (unseen (N.trace nodes.new) (N.mark nodes.new))
         (N.may_refuse nodes.old) e.fault e.answered) }
-    // Each fault but a lack of memory before any answer has its cause, and what was answered
+    // Each fault but out of memory before any answer has its cause, and what was answered
     // stands.
     ensures fault { IfErr result (λ e. N.kept nodes.new →
         IsFault (IsRouteNode strategy.entry (λ s. picks s.now) slot_map.now pick) N.step

@@ -1,4 +1,4 @@
-//! Sends a command over many keys slot by slot, so that the nodes' keyspace and the reply are those
+//! Sends a multi-key command slot by slot, so that the nodes' keyspace and the reply are those
 //! of the unsplit command.
 #![tactic(auto)]
 

@@ -30,7 +30,7 @@ use resp_core::{Cmd, ErrorKind, RedisError, RedisResult, Value};
 use std::alloc::{AllocError, Global};
 use std::marker::Model;
 
-/// A command over many keys, ready to be sent part by part: for each of its routes the node and the
+/// A multi-key command, ready to be sent part by part: for each of its routes the node and the
 /// part, and room for the reply. Once each reply is told it gives the one reply of the command.
 ///
 /// `drive` is a loop over it. A client with connections of its own sends the parts itself, at once
@@ -136,7 +136,7 @@ impl<'a, R: Routable> SplitPlan<'a, R> {
         })
     }
 
-    /// The routes, with the places of their parts.
+    /// The routes, each with the indices of its part's arguments.
     pub fn routes(&self) -> &[(Route, Vec<usize>)]
         ensures routes { route_lists result.now ≡ self.now.split.routes }
         ensures plan { IsPlan self.now }

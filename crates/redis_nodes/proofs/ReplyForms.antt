@@ -1,4 +1,4 @@
--- The forms of the replies of the nine commands over many keys, by the policies of their names.
+-- The forms of the replies of the nine multi-key commands, by the policies of their names.
 use Rattle.std.proofs.Common.{◌≡◌, List, ℕ, Option, Some, refl}
 use Rattle.std.specs.Prelude.{codes}
 use Rattle.redis_commands.specs.Policies.{policy_of}

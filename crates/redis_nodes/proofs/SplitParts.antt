@@ -1,4 +1,4 @@
--- The parts of a command over many keys: the part of a slot means the command with that slot's tuples alone, and each slot of a key has one route.
+-- The parts of a multi-key command: the part of a slot means the command with that slot's tuples alone, and each slot of a key has one route.
 use Rattle.std.proofs.Common.{◌≡◌, ℕ, ◌<◌, ◌≤◌, List, [], ◌∷◌, ◌++◌, Bool, true, false, cond, ◌||◌, Option, None, Some, map, length, take, get_or, refl, sym, ap, ◌∙◌, subst, arith, ◌↔◌}
 use Rattle.std.specs.Prelude.{nat_eq, count_by, slice_get, is_some, All}
 use Rattle.std.specs.List.{filter, list_any}
@@ -40,7 +40,7 @@ module _ {X Y : Type 0} (test : Y → Bool) (f : X → Y) where
   list_any-map [] = refl
   list_any-map (x ∷ xs) = ap (λ b. test (f x) || b) (list_any-map xs)
 
--- what makes a command over many keys: the name has a way that splits it by slot, its policy a form of the reply, and the arguments after it are complete
+-- what makes a multi-key command: the name has a way that splits it by slot, its policy a form of the reply, and the arguments after it are complete
 pub record IsMade (words : ℕ) (tables : NameTables) (args : Arguments) (pattern : MultiSlotArgPattern) (command : MultiKey) : Type 0 where
   pub name : command_of args ≡ Some command.name
   pub split : tables.route_by command.name ≡ Some (route_by.MultiSlot pattern)
@@ -253,7 +253,7 @@ module _ (words : ℕ) (tables : NameTables) (forms : HasForms tables) (only_rea
   pub routed_is_command : multi_slot_routes_with words tables only_reads args ≡ Some routes → (command : MultiKey) × (multi_key_with words tables args ≡ Some command)
   routed_is_command is = with_name (command_of args) refl is
 
--- a command over many keys and its routes
+-- a multi-key command and its routes
 pub routes_of_command_with : (words : ℕ) (tables : NameTables) (only_reads : List ℕ → Bool) (args : Arguments) (command : MultiKey) (routes : List (SlotRoute × List ℕ))
     → multi_key_with words tables args ≡ Some command → multi_slot_routes_with words tables only_reads args ≡ Some routes → AreRoutesOf command routes
 routes_of_command_with words tables only_reads args command routes is routed =

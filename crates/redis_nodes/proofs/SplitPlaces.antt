@@ -1,4 +1,4 @@
--- The places of the parts of a command over many keys: those of the slot's tuples, by their numbers, and the place that all keys share.
+-- The places of the parts of a multi-key command: those of the slot's tuples, by their numbers, and the place that all keys share.
 use Rattle.std.proofs.Common.{◌≡◌, ℕ, ◌+◌, ◌-◌, ◌*◌, ◌%◌, ◌≤◌, List, [], ◌∷◌, ◌++◌, Bool, true, Some, map, length, take, drop, refl, sym, ap, ◌∙◌, subst, add-one, suc-mul, zero-mul, arith}
 use Rattle.std.specs.Prelude.{nat_eq, All}
 use Rattle.std.specs.List.{flat_map, range_with_len}

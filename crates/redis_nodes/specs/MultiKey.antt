@@ -1,4 +1,4 @@
--- A command over many keys as what it means: its name, its keys with what goes with each, and what
+-- A multi-key command as what it means: its name, its keys with what goes with each, and what
 -- they share.
 use Rattle.std.specs.Prelude.{◌≡◌, ℕ, List, Option, None, Some, cond, map, filter, length, nat_eq, slice_get}
 use Rattle.std.specs.List.{All}
@@ -65,7 +65,7 @@ abbrev pub form_of_policy : Option ResponsePolicy → Option ReplyForm
 form_of_policy None = None
 form_of_policy (Some policy) = form_by_policy policy
 
--- A complete command over many keys, whose name has so many words, by some tables of names. There
+-- A complete multi-key command, whose name has so many words, by some tables of names. There
 -- is none where the name is not one of those that split by slot, where the arguments after it, up
 -- to the first gap, make no whole tuples, or where the argument that all keys share is missing.
 abbrev pub multi_key_with : ℕ → NameTables → Arguments → Option MultiKey
@@ -92,7 +92,7 @@ part_of command slot =
       form = command.form;
     }
 
--- the arguments of the part of one slot: a complete command over many keys, all of that slot
+-- the arguments of the part of one slot: a complete multi-key command, all of that slot
 pub record IsPart (args : Arguments) : Type 0 where
   pub command : MultiKey
   pub command_is : multi_key args ≡ Some command

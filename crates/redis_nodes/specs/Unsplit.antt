@@ -1,4 +1,4 @@
--- What a command over many keys does to a keyspace and answers where one server runs it whole: its
+-- What a multi-key command does to a keyspace and answers where one server runs it whole: its
 -- tuples one after the other, each on the cell of its own key.
 use Rattle.std.specs.Prelude.{ℕ, pos, List, [], ◌∷◌, map, cond, Bool, Option, count_by}
 use Rattle.std.specs.Str.{bytes_eq}

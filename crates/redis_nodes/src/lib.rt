@@ -1,4 +1,4 @@
-//! Nodes that commands over many keys are sent to.
+//! Nodes that multi-key commands are sent to.
 #![tactic(auto)]
 
 mod nodes;

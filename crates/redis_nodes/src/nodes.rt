@@ -39,7 +39,7 @@ impl fmt::Display for SendError {
 
 impl Error for SendError {}
 
-/// Nodes of one cluster, to which commands over many keys are sent.
+/// Nodes of one cluster, to which multi-key commands are sent.
 ///
 /// `send` is all that a client writes. The rest is named by contracts alone: what commands mean,
 /// and what the nodes hold, have been sent and may refuse. All nodes share one keyspace: a command
@@ -72,7 +72,7 @@ pub trait Nodes {
     /// Whether these may be the replies so far, in the order in which they came.
     ghost gave: { Self → List Reply → Type 0 } = { λ _ _. Unit {0} };
 
-    /// Sends the part of one slot to a node: a command over many keys that all have the slot,
+    /// Sends the part of one slot to a node: a multi-key command whose keys have that slot,
     /// complete and without gaps.
     ///
     /// # Errors

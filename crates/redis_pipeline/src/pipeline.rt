@@ -187,7 +187,7 @@ impl ClusterPipeline {
         Ok(())
     }
 
-    /// Whether the reply to the command at a place, counted from 0, is ignored. Past the end none
+    /// Whether the reply to the command at an index, counted from 0, is ignored. Past the end none
     /// is.
     pub fn ignored(&self, index: usize) -> bool
         ensures { result ≡ is_ignored self.now index }

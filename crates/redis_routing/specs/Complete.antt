@@ -1,4 +1,4 @@
--- Commands over many keys that are complete, and so can be split and sent.
+-- Multi-key commands that are complete, and so can be split and sent.
 use Rattle.std.specs.Prelude.{◌≡◌, ℕ, All, map, option_map, Bool, cond, List, [], Option, None, Some, length}
 use Rattle.cluster_slots.specs.SlotRoute.{SlotRoute}
 use Rattle.redis_commands.specs.Command.{Arguments, command_of}
@@ -31,7 +31,7 @@ abbrev pub part_by_pattern : ℕ → Option MultiSlotArgPattern → Arguments �
 part_by_pattern words None args slot = []
 part_by_pattern words (Some pattern) args slot = part_of_slot_after words pattern args slot
 
--- the part of a slot of a command over many keys, whose name has so many words, as a command of its
+-- the part of a slot of a multi-key command, whose name has so many words, as a command of its
 -- own
 abbrev pub part_by_name_with : ℕ → NameTables → Arguments → ℕ → Arguments
 part_by_name_with words tables args slot =

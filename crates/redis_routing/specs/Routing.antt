@@ -59,7 +59,7 @@ abbrev pub route_of_slot : Bool → MultiSlotArgPattern → List (List ℕ) → 
 route_of_slot reads pattern present slot =
     (record { slot = slot; addr = nodes_for reads }, places_in_slot pattern present slot)
 
--- one route for each slot of a key, by the first key of each
+-- one route for each slot of a key, by the first key of each slot
 abbrev pub routes_of : Bool → MultiSlotArgPattern → List (List ℕ) → List (SlotRoute × List ℕ)
 routes_of reads pattern present =
     map (route_of_slot reads pattern present)

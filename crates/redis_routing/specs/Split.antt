@@ -1,4 +1,4 @@
--- A complete command over many keys, split by slot.
+-- A complete multi-key command, split by slot.
 use Rattle.std.specs.Prelude.{◌≡◌, ◌<◌, ◌^◌, ℕ, Bool, true, false, List, Option, None, Some, length, map, option_map, slice_get}
 use Rattle.cluster_slots.specs.SlotRoute.{SlotRoute}
 use Rattle.redis_commands.specs.Command.{Arguments, HasWords}

@@ -52,9 +52,9 @@ pub enum MultipleNodeRoutingInfo {
     AllNodes,
     /// Each primary: `DBSIZE`.
     AllMasters,
-    /// Each route gets the part of the command that these places are, counted from 0 after the
+    /// Each route gets the part of the command that these indices make, counted from 0 after the
     /// name, under the pattern. `MSET foo bar foo2 bar2 {foo}foo3 bar3` has the routes 12182 with
-    /// places 0, 1, 4, 5, and 1044 with places 2, 3.
+    /// indices 0, 1, 4, 5, and 1044 with indices 2, 3.
     MultiSlot((Vec<(Route, Vec<usize>)>, MultiSlotArgPattern)),
 }
 

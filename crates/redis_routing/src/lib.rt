@@ -1,4 +1,4 @@
-//! Where a Redis command goes in a cluster, and how a command over many keys is split by slot.
+//! Where a Redis command goes in a cluster, and how a multi-key command is split by slot.
 #![tactic(auto)]
 
 mod info;

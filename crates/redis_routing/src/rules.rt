@@ -20,8 +20,8 @@ impl RoutingInfo {
     /// commands of its name go nowhere. A name that no table has goes to the slot of argument 1, or
     /// without one to any node.
     ///
-    /// A command over many keys goes to one node where all keys have one slot, and else has a route
-    /// for each slot of a key, by the first key of each, with the places of its part as
+    /// A multi-key command goes to one node where all keys have one slot, and else has a route
+    /// for each slot of a key, by the first key of each slot, with the indices of its part as
     /// `command_for_multi_slot_indices` takes them. Its arguments end at the first gap. The ASCII
     /// case of the first word changes nothing.
     ///

@@ -17,7 +17,7 @@ use resp_core::Cmd;
 use std::alloc::{AllocError, Global};
 use std::marker::Model;
 
-/// A complete command over many keys, split by slot: its routes, how its arguments make tuples, and
+/// A complete multi-key command, split by slot: its routes, how its arguments make tuples, and
 /// how the replies to its parts make one.
 ///
 /// `DEL foo bar baz {bar}vaz` has three routes, to the slots of `foo`, of `bar` and `{bar}vaz`, and
@@ -98,8 +98,8 @@ impl<'a, R: Routable> SplitCommand<'a, R> {
         }))
     }
 
-    /// The routes: one for each slot of a key, by the first key of each, with the places of its
-    /// part as `command_for_multi_slot_indices` takes them.
+    /// The routes: one for each slot of a key, by the first key of each slot, with the indices of
+    /// its part as `command_for_multi_slot_indices` takes them.
     pub fn routes(&self) -> &[(Route, Vec<usize>)]
         ensures routes { route_lists result.now ≡ self.now.routes }
         ensures split { IsSplit self.now }
@@ -164,8 +164,8 @@ fn pattern_and_policy(name: &[u8]) -> Option<(MultiSlotArgPattern, ResponsePolic
     Some((pattern, policy))
 }
 
-/// The routes of a command over many keys: one for each slot of a key, by the first key of each,
-/// with the places of its part as `command_for_multi_slot_indices` takes them.
+/// The routes of a multi-key command: one for each slot of a key, by the first key of each
+/// slot, with the indices of its part as `command_for_multi_slot_indices` takes them.
 ///
 /// There are none where the name is not one of those that split by slot, where the arguments after
 /// it, up to the first gap, make no whole tuples, or where the last argument that all keys share is

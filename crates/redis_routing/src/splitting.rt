@@ -15,7 +15,7 @@ use indexmap::IndexMap;
 use redis_commands::{MultiSlotArgPattern, ResponsePolicy, Routable};
 use std::alloc::{AllocError, Global};
 
-/// How many arguments are the name of a command over many keys.
+/// How many arguments are the name of a multi-key command.
 pub(super) const NAME_WORDS: usize = 1;
 
 /// For how many slots there is room from the start, where there are as many keys.

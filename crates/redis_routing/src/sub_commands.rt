@@ -12,7 +12,7 @@ use resp_core::{Cmd, ErrorKind, RedisError, RedisResult};
 use std::alloc::{AllocError, Global};
 
 /// The part of a command that has these arguments: its first word as it is spelt, and then the
-/// arguments at these places, which are counted from 0 after that word.
+/// arguments at these indices, which are counted from 0 after that word.
 ///
 /// # Errors
 ///

@@ -97,7 +97,7 @@ impl Cmd {
         Ok(())
     }
 
-    /// The item at a place, of which 0 is the name. An empty item is bytes of length 0.
+    /// The item at an index, of which 0 is the name. An empty item is bytes of length 0.
     pub fn arg_idx(&self, index: usize) -> Option<&[u8]>
         ensures item { option_copied result ≡ slice_get self.now index }
         ensures few { length self.now < 2 ^ 63 }

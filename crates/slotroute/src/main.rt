@@ -3,8 +3,8 @@
 //!
 //! `slotroute node KEY` reads a slot map from standard input, one range a line as
 //! `START END HOST:PORT [HOST:PORT ..]`, and prints the slot of the key and the primary that
-//! serves it. `slotroute split WORD ..` reads such a map too, and prints the parts of a command
-//! over many keys, one for each slot: its slot, its node, and its words. `slotroute run forward`
+//! serves it. `slotroute split WORD ..` reads such a map too, and prints the parts of a multi-key
+//! command, one for each slot: its slot, its node, and its words. `slotroute run forward`
 //! runs the commands of the lines that follow the map and a line with no field, and prints the parts
 //! that it sends and the replies; `run reverse` sends the parts in the other order. A last word
 //! `first`, `pick=N` or `shard` says which nodes serve reads.

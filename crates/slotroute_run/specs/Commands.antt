@@ -1,4 +1,4 @@
--- What a command over many keys does on nodes in memory.
+-- What a multi-key command does on nodes in memory.
 use Rattle.std.specs.Prelude.{◌≡◌, ℕ, Bool, true, false, List, [], ◌∷◌, None, Some, codes, map, length, ⊤}
 use Rattle.cluster_map.specs.Address.{Address}
 use Rattle.cluster_map.specs.Candidates.{IsCandidate}
@@ -46,7 +46,7 @@ pub record IsCommandRun (handed : Bool) (direction : Direction) (entries : List 
   pub ordered : order ≡ send_order direction (length driven.routes)
   pub printed : text ≡ command_lines sent answer
 
--- Why a command with these words is refused: it is not a complete one over many keys, or the first
+-- Why a command with these words is refused: it is no complete multi-key command, or the first
 -- of its routes that has no node has this slot. Nodes in memory refuse none and lose no reply, and
 -- their replies fit.
 abbrev pub IsRefused : List (Entry SlotNodes) → List (List ℕ) → Refusal → Type 0

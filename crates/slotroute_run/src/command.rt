@@ -34,7 +34,7 @@ pub fn read_only_names(alloc: Global) -> Result<ReadOnlyNames, AllocError>
 ///
 /// # Errors
 ///
-/// `Refused` where the command is not one over many keys, is not complete, or has a key whose slot
+/// `Refused` where it is no multi-key command, is not complete, or has a key whose slot
 /// has no node. Nothing was sent then. `Memory` where memory ran out, after any number of parts.
 pub fn run_command(
     alloc: Global,
@@ -91,7 +91,7 @@ fn command_of(alloc: Global, words: &[&[u8]]) -> Result<Cmd, AllocError>
     Ok(command)
 }
 
-/// How many routes a command has, which are none where it is not a complete one over many keys.
+/// How many routes a command has, which are none where it is no complete multi-key command.
 fn route_count(alloc: Global, command: &Cmd, read_only: &ReadOnlyNames) -> Result<usize, AllocError>
     ensures { IfOk result (λ count. IfSome (routes_by (is_among read_only.now)
         (map Some command.now)) (λ routes. count ≡ length routes)) }

@@ -1,4 +1,4 @@
-//! Runs commands over many keys on nodes in memory, and prints what was sent and the reply.
+//! Runs multi-key commands on nodes in memory, and prints what was sent and the reply.
 #![tactic(auto)]
 
 mod command;

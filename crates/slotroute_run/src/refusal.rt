@@ -7,7 +7,7 @@ use std::fmt;
 /// Why a command is refused.
 #[derive(Debug, Drop)]
 pub enum Refusal {
-    /// It is not a command over many keys, or not a complete one.
+    /// It is not a multi-key command, or not a complete one.
     NotMultiKey,
     /// No node serves this slot of one of its keys.
     NotCovered(u16),

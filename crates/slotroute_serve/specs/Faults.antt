@@ -66,7 +66,7 @@ IsLeftAt input left Memory = StopsInMap input left
 IsLeftAt input left Input = StopsInMap input left
 IsLeftAt input left OutputFailed = left ≡ after_map input
 
--- why there are no lines for a command: it is not a complete one over many keys, or memory was
+-- why there are no lines for a command: it is no complete multi-key command, or memory was
 -- refused
 abbrev pub WhyNoSplit : List (List ℕ) → Fault → Type 0
 WhyNoSplit command Usage = ⊥

@@ -1,4 +1,4 @@
--- What the program answers for a command over many keys.
+-- What the program answers for a multi-key command.
 use Rattle.std.specs.Prelude.{◌≡◌, ℕ, List, ◌∷◌, [], ◌++◌, if◌then◌else◌, Option, None, Some, MatchOption, codes, decimal, map, is_none}
 use Rattle.std.specs.List.{AllZip, flat_map, list_any}
 use Rattle.cluster_map.specs.Address.{Address, display_text}
@@ -11,7 +11,7 @@ use Rattle.redis_cluster.specs.Complete.{multi_slot_routes, part_by_name}
 use Rattle.slotroute_run.specs.Commands.{only_reads}
 use Rattle.slotroute_serve.specs.Lines.{line_feed, space}
 
--- the routes of the parts of a command with these words, if it is a complete one over many keys
+-- the routes of the parts of a command with these words, if it is a complete multi-key command
 abbrev pub split_routes : List (List ℕ) → Option (List (SlotRoute × List ℕ))
 split_routes words = multi_slot_routes only_reads (map Some words)
 

@@ -4,7 +4,7 @@ use Rattle.std.specs.IoError.{error_kind}
 use Rattle.std.specs.declared.io.Error.{Error}
 use Rattle.std.specs.declared.io.ErrorKind.TheVariants.{OutOfMemory}
 
--- some read may fail, and not for lack of memory
+-- some read may fail, and not because memory ran out
 abbrev pub MayFailToRead : {S : Type 0} → (S → Error → Type 0) → Type 0
 MayFailToRead {S} fails =
     (at : S) × (error : Error) × fails at error × (error_kind error ≢ OutOfMemory)

@@ -12,7 +12,7 @@ pub enum Fault {
     Usage,
     /// This line, counted from 1, is not a map line.
     BadMapLine(u64),
-    /// The command of `split` is not one over many keys, or not a complete one.
+    /// The command of `split` is no multi-key command, or not a complete one.
     NotMultiKey,
     /// The command of this line of `run`, counted from 1, is refused.
     Command(u64, Refusal),

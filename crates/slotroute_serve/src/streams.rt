@@ -10,10 +10,10 @@ use std::io::{self, BufRead, ErrorKind, Write};
 
 /// What lines are read from.
 pub trait Source {
-    // The bytes that reads will give, where they are known.
+    /// The bytes that reads will give, where they are known.
     ghost remaining: { Self → Option (List ℕ) };
 
-    // Whether a read may fail with this error. Of any source only a read that failed shows that.
+    /// Whether a read may fail with this error. Of any source only a read that failed shows that.
     ghost fails: { Self → Error → Type 0 };
 
     /// Adds the next line with its line feed to `line`, and answers the number of its bytes, which
@@ -31,10 +31,10 @@ pub trait Source {
 
 /// What bytes are written to.
 pub trait Sink {
-    // The bytes that were written, where they are known.
+    /// The bytes that were written, where they are known.
     ghost contents: { Self → Option (List ℕ) };
 
-    // Whether a write may fail with this error. Of any sink only a write that failed shows that.
+    /// Whether a write may fail with this error. Of any sink only a write that failed shows that.
     ghost fails: { Self → Error → Type 0 };
 
     /// Writes the first of the bytes, at least one if there are any, and answers their number.

@@ -43,7 +43,7 @@ impl<'a> Replicas<'a> {
         &self.nodes[0]
     }
 
-    /// The replica at a place, counted from 0, if there is one.
+    /// The replica at an index, counted from 0, if there is one.
     pub fn get(&self, index: usize) -> Option<&'a NodeAddress>
         ensures { option_copied result ≡ slice_get (addresses_of self.now) index }
     {
