@@ -85,7 +85,7 @@ unroutable name =
 abbrev pub empty_command : ErrorParts
 empty_command = record { kind = Client; desc = codes "empty command"; detail = None }
 
--- why a pipeline is refused: for its first refused name, or for lack of memory to tell of that
+-- why a pipeline is refused: for its first refused name, or out of memory in telling of that
 -- name; where no name is refused, because it has no command
 abbrev pub IsRefusalBy : Option (List ℕ) → MarkedCommands → ErrorParts → Type 0
 IsRefusalBy (Some name) pipeline fault = (fault ≡ unroutable name) ⊎ (fault ≡ out_of_memory)

@@ -22,6 +22,7 @@ use wire_nodes::{Logged, Meaning, Transport, Wire, WireNodes};
 /// write the command to a socket of the node, and read.
 #[derive(Drop)]
 pub struct Connections {
+    /// What they give, the last one first.
     pub replies: Vec<Value>,
 }
 
