@@ -3,7 +3,8 @@ use Rattle.std.proofs.Common.{◌≡◌, ℕ, ◌+◌, ◌<◌, ◌≤◌, List,
 use Rattle.redis_commands.specs.Tuples.{keys_alone, keys_and_values, keys_and_two, width_of}
 use Rattle.redis_commands.specs.declared.route_by.MultiSlotArgPattern.{MultiSlotArgPattern}
 use Rattle.redis_commands.specs.declared.route_by.MultiSlotArgPattern.TheVariants.{KeysOnly, KeyValuePairs, KeysAndLastArg, KeyWithTwoArgTriples}
-use Rattle.redis_nodes.specs.MultiKey.{KeyTuple, unplaced}
+use Rattle.redis_nodes.specs.MultiKey.{KeyTuple}
+use Rattle.redis_nodes.specs.PlacedTuples.{unplaced}
 use Rattle.memory_nodes.specs.Parts.{key_tuples}
 
 -- without their places, tuples are the same wherever they begin

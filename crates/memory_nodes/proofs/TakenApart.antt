@@ -13,7 +13,8 @@ use Rattle.redis_commands.specs.declared.policy.ResponsePolicy.{ResponsePolicy}
 use Rattle.redis_commands.specs.declared.route_by.MultiSlotArgPattern.{MultiSlotArgPattern}
 use Rattle.redis_routing.specs.Complete.{pattern_of, pattern_by_name}
 use Rattle.redis_routing.specs.Split.{policy_by_name}
-use Rattle.redis_nodes.specs.MultiKey.{MultiKey, ReplyForm, multi_key, command_with, form_of_policy, form_by_policy, tuples_of}
+use Rattle.redis_nodes.specs.MultiKey.{MultiKey, ReplyForm, multi_key, command_with, form_of_policy, form_by_policy}
+use Rattle.redis_nodes.specs.PlacedTuples.{tuples_of}
 use Rattle.memory_nodes.specs.Parts.{words, key_tuples}
 
 -- the command of a name, its arguments, a pattern, and a form

@@ -4,7 +4,8 @@ use Rattle.std.specs.declared.vec.Vec.{Vec}
 use Rattle.std.specs.declared.alloc.Global.{Global}
 use Rattle.redis_commands.specs.Tuples.{tuples_from}
 use Rattle.redis_commands.specs.declared.route_by.MultiSlotArgPattern.{MultiSlotArgPattern}
-use Rattle.redis_nodes.specs.MultiKey.{KeyTuple, MultiKey, ReplyForm, unplaced, form_by_policy}
+use Rattle.redis_nodes.specs.MultiKey.{KeyTuple, MultiKey, ReplyForm, form_by_policy}
+use Rattle.redis_nodes.specs.PlacedTuples.{unplaced}
 use Rattle.redis_nodes.specs.Unsplit.{Act}
 use Rattle.memory_nodes.specs.Cells.{Cell}
 use Rattle.memory_nodes.specs.Steps.{step}

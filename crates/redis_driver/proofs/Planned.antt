@@ -13,7 +13,8 @@ use Rattle.redis_commands.specs.PresentArguments.{present_arguments_after}
 use Rattle.redis_routing.specs.Complete.{multi_slot_routes, part_by_name, part_by_pattern, pattern_by_name, pattern_of}
 use Rattle.redis_routing.specs.Parts.{part_of_slot_after}
 use Rattle.redis_routing.specs.Split.{Split, split_part, policy_by_name, slots_of}
-use Rattle.redis_nodes.specs.MultiKey.{MultiKey, form_of_policy, multi_key, part_of, tuples_of}
+use Rattle.redis_nodes.specs.MultiKey.{MultiKey, form_of_policy, multi_key, part_of}
+use Rattle.redis_nodes.specs.PlacedTuples.{tuples_of}
 use Rattle.redis_nodes.proofs.SplitParts.{command_of_routes, is_made, part_means}
 use Rattle.redis_driver.specs.Driven.{Request}
 use Rattle.redis_driver.specs.Plan.{Plan, IsPlan}

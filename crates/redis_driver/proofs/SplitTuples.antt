@@ -13,7 +13,8 @@ use Rattle.redis_commands.specs.declared.route_by.MultiSlotArgPattern.TheVariant
 use Rattle.redis_commands.specs.declared.route_by.RouteBy.TheVariants as route_by
 use Rattle.redis_routing.specs.Complete.{pattern_by_name_with, multi_slot_routes_with}
 use Rattle.redis_routing.specs.Split.{Split, IsSplit, slots_of}
-use Rattle.redis_nodes.specs.MultiKey.{MultiKey, list, tuples_of}
+use Rattle.redis_nodes.specs.MultiKey.{MultiKey, list}
+use Rattle.redis_nodes.specs.PlacedTuples.{tuples_of}
 use Rattle.redis_nodes.proofs.Fold.{NamesSlots}
 use Rattle.redis_nodes.proofs.SplitParts.{AreRoutesOf, IsMade, are_routes_of, made_is, routes_made}
 use Rattle.redis_nodes.proofs.SplitPlaces.{places_of_part, route_places_with, tuples_few_with}

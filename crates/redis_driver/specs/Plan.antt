@@ -9,7 +9,8 @@ use Rattle.cluster_slots.specs.Address.{Address}
 use Rattle.cluster_slots.specs.SlotRoute.{SlotRoute}
 use Rattle.redis_commands.specs.PresentArguments.{present_arguments_after}
 use Rattle.redis_routing.specs.Split.{Split, IsSplit, slots_of, split_part}
-use Rattle.redis_nodes.specs.MultiKey.{KeyTuple, ReplyForm, tuples_of, form_by_policy}
+use Rattle.redis_nodes.specs.MultiKey.{KeyTuple, ReplyForm, form_by_policy}
+use Rattle.redis_nodes.specs.PlacedTuples.{tuples_of}
 use Rattle.redis_nodes.specs.Orders.{in_order}
 use Rattle.redis_nodes.specs.SlotResults.{results_of_slot}
 use Rattle.redis_nodes.specs.Unsplit.{TupleResult, reply_by}

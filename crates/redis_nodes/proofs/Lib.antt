@@ -1,4 +1,6 @@
+pub mod Shapes
 pub mod SplitParts
+pub mod CommandParts
 pub mod SplitPlaces
 pub mod Counts
 pub mod Fold

@@ -28,11 +28,13 @@ use Rattle.redis_routing.proofs.Picks.{complete_fits, has_first}
 use Rattle.redis_commands.proofs.Patterns.{fits_some}
 use Rattle.redis_routing.proofs.SelfRouting.{All-first_appearances, all_there, complete_again, first_names, present_arguments-part, same_contents, shared_again, tuples_again}
 use Rattle.redis_routing.proofs.SomeRoutes.{some_route}
-use Rattle.redis_nodes.specs.MultiKey.{MultiKey, ReplyForm, command_with, form_of_policy, multi_key_with, multi_key, part_of, tuples_of, tuples_of_slot, unplaced}
+use Rattle.redis_nodes.specs.MultiKey.{MultiKey, ReplyForm, command_with, form_of_policy, is_whole, multi_key_with, multi_key, part_of, shape_of, shared_by, tuples_by, tuples_of_slot}
+use Rattle.redis_nodes.specs.PlacedTuples.{tuples_of, unplaced}
+use Rattle.redis_nodes.proofs.Shapes.{whole_is, tuples_are_placed, shared_is}
 use Rattle.resp_core.proofs.Cases.{by_test}
 
 module _ {X Y : Type 0} (test : Y → Bool) (f : X → Y) where
-  filter-map : (xs : List X) → filter test (map f xs) ≡ map f (filter (λ x. test (f x)) xs)
+  pub filter-map : (xs : List X) → filter test (map f xs) ≡ map f (filter (λ x. test (f x)) xs)
   filter-map [] = refl
   filter-map (x ∷ xs) = by_test (test (f x)) (λ kept. rw kept (ap (λ ys. f x ∷ ys) (filter-map xs))) (λ dropped. rw dropped (filter-map xs))
 
@@ -54,20 +56,21 @@ module _ (words : ℕ) (tables : NameTables) (args : Arguments) where
   present = present_arguments_after words args
 
   abbrev by_parts : List ℕ → MultiSlotArgPattern → ReplyForm → MultiKey
-  by_parts name pattern form = record { name = name; shared = slice_get (shared_in pattern present) 0; tuples = tuples_of pattern present; form = form }
+  by_parts name pattern form = record { name = name; shared = shared_by (shape_of pattern) present; tuples = tuples_by (shape_of pattern) present; form = form }
 
   of_length : (command : MultiKey) (name : List ℕ) (pattern : MultiSlotArgPattern) (form : ReplyForm)
       → command_of args ≡ Some name → tables.route_by name ≡ Some (route_by.MultiSlot pattern) → form_of_policy (tables.policy name) ≡ Some form
-      → (complete : Bool) → is_complete pattern (length present) ≡ complete → cond complete (Some (by_parts name pattern form)) None ≡ Some command → (pattern : MultiSlotArgPattern) × IsMade words tables args pattern command
+      → (complete : Bool) → is_whole (shape_of pattern) (length present) ≡ complete → cond complete (Some (by_parts name pattern form)) None ≡ Some command → (pattern : MultiSlotArgPattern) × IsMade words tables args pattern command
   of_length command name pattern form named split formed true complete is =
       let same : by_parts name pattern form ≡ command = cc is in
-      (pattern, subst (IsMade words tables args pattern) same (record { name = named; split = split; form = formed; complete = complete; shared = refl; tuples = refl }))
+      let whole : is_complete pattern (length present) ≡ true = sym (whole_is pattern (length present)) ∙ complete in
+      (pattern, subst (IsMade words tables args pattern) same (record { name = named; split = split; form = formed; complete = whole; shared = shared_is pattern present whole; tuples = tuples_are_placed pattern present whole }))
   of_length command name pattern form named split formed false complete is = absurd (cc is)
 
   of_form : (command : MultiKey) (name : List ℕ) (pattern : MultiSlotArgPattern) → command_of args ≡ Some name → tables.route_by name ≡ Some (route_by.MultiSlot pattern)
       → (form : Option ReplyForm) → form_of_policy (tables.policy name) ≡ form → command_with (Some name) present (Some pattern) form ≡ Some command → (pattern : MultiSlotArgPattern) × IsMade words tables args pattern command
   of_form command name pattern named split None formed is = absurd (cc is)
-  of_form command name pattern named split (Some form) formed is = of_length command name pattern form named split formed (is_complete pattern (length present)) refl is
+  of_form command name pattern named split (Some form) formed is = of_length command name pattern form named split formed (is_whole (shape_of pattern) (length present)) refl is
 
   of_route_by : (command : MultiKey) (name : List ℕ) → command_of args ≡ Some name
       → (w : Option RouteBy) → tables.route_by name ≡ w → command_with (Some name) present (pattern_of w) (form_of_policy (tables.policy name)) ≡ Some command → (pattern : MultiSlotArgPattern) × IsMade words tables args pattern command
@@ -97,9 +100,9 @@ module _ (words : ℕ) (tables : NameTables) (args : Arguments) where
       ap (λ n. command_with n present (pattern_by_name_with tables n) (form_of_policy (policy_by_name_with tables n))) made.name
       ∙ ap (λ w. command_with (Some command.name) present (pattern_of w) (form_of_policy (tables.policy command.name))) made.split
       ∙ ap (command_with (Some command.name) present (Some pattern)) made.form
-      ∙ ap (λ complete. cond complete (Some (by_parts command.name pattern command.form)) None) made.complete
-      ∙ ap (λ s. Some (record { name = command.name; shared = s; tuples = tuples_of pattern present; form = command.form })) (sym made.shared)
-      ∙ ap (λ ts. Some (record { name = command.name; shared = command.shared; tuples = ts; form = command.form })) (sym made.tuples)
+      ∙ ap (λ complete. cond complete (Some (by_parts command.name pattern command.form)) None) (whole_is pattern (length present) ∙ made.complete)
+      ∙ ap (λ s. Some (record { name = command.name; shared = s; tuples = tuples_by (shape_of pattern) present; form = command.form })) (shared_is pattern present made.complete ∙ sym made.shared)
+      ∙ ap (λ ts. Some (record { name = command.name; shared = command.shared; tuples = ts; form = command.form })) (tuples_are_placed pattern present made.complete ∙ sym made.tuples)
 
 -- the part of a slot that a key of the command has
 module _ (words : ℕ) (tables : NameTables) (args : Arguments) (pattern : MultiSlotArgPattern) (command : MultiKey) (made : IsMade words tables args pattern command)
@@ -189,7 +192,7 @@ module _ (words : ℕ) (tables : NameTables) (args : Arguments) (pattern : Multi
   abbrev numbers : List ℕ
   numbers = map (λ t. key_slot t.key) command.tuples
 
-  same_slots : map slot_of (tuples_in pattern (present_arguments_after words args)) ≡ numbers
+  pub same_slots : map slot_of (tuples_in pattern (present_arguments_after words args)) ≡ numbers
   same_slots = sym (ap (map (λ t. key_slot t.key)) made.tuples ∙ map-map (λ t. key_slot t.key) unplaced (tuples_in pattern (present_arguments_after words args)))
 
   module _ (reads : Bool) where

@@ -19,7 +19,8 @@ use Rattle.redis_commands.proofs.Patterns.{length-own, own_few}
 use Rattle.redis_routing.proofs.Cover.{own_whole}
 use Rattle.redis_routing.proofs.Picks.{complete_fits}
 use Rattle.redis_routing.proofs.SelfRouting.{before_gap_short}
-use Rattle.redis_nodes.specs.MultiKey.{KeyTuple, MultiKey, multi_key_with, multi_key, unplaced}
+use Rattle.redis_nodes.specs.MultiKey.{KeyTuple, MultiKey, multi_key_with, multi_key}
+use Rattle.redis_nodes.specs.PlacedTuples.{unplaced}
 use Rattle.redis_nodes.proofs.Places.{numbers_from}
 use Rattle.redis_nodes.proofs.SplitParts.{IsMade, is_made, routes_made}
 use Rattle.resp_core.proofs.Cases.{by_test}

@@ -1,4 +1,5 @@
 pub mod MultiKey
+pub mod PlacedTuples
 pub mod Unsplit
 pub mod Orders
 pub mod SlotResults

@@ -1,17 +1,22 @@
 -- A multi-key command as what it means: its name, its keys with what goes with each, and what
--- they share.
-use Rattle.std.specs.Prelude.{◌≡◌, ℕ, List, Option, None, Some, cond, map, filter, length, nat_eq, slice_get}
-use Rattle.std.specs.List.{All}
+-- they share. Its slots, its routes and the part of each slot are read off that.
+use Rattle.std.specs.Prelude.{◌≡◌, ◌-◌, ◌%◌, ◌/◌, ◌++◌, ◌∷◌, [], ℕ, Bool, ◌&&◌, List, Option, None, Some, cond, map, filter, length, nat_eq, nat_lt, slice_get, take}
+use Rattle.std.specs.List.{All, flat_map}
+use Rattle.std.specs.Option.{option_to_list}
+use Rattle.std.specs.Simd.{first_chunks}
 use Rattle.cluster_slots.specs.KeySlot.{key_slot}
+use Rattle.cluster_slots.specs.SlotRoute.{SlotRoute}
 use Rattle.redis_commands.specs.Command.{Arguments, command_of}
 use Rattle.redis_commands.specs.NameTables.{NameTables, own_tables}
 use Rattle.redis_commands.specs.PresentArguments.{present_arguments_after}
-use Rattle.redis_commands.specs.Tuples.{Tuple, tuples_in, shared_in, is_complete}
 use Rattle.redis_commands.specs.declared.policy.AggregateOp.TheVariants.{Sum}
 use Rattle.redis_commands.specs.declared.policy.ResponsePolicy.{ResponsePolicy}
 use Rattle.redis_commands.specs.declared.policy.ResponsePolicy.TheVariants.{AllSucceeded, Aggregate, CombineArrays}
 use Rattle.redis_commands.specs.declared.route_by.MultiSlotArgPattern.{MultiSlotArgPattern}
+use Rattle.redis_commands.specs.declared.route_by.MultiSlotArgPattern.TheVariants.{KeysOnly, KeyValuePairs, KeysAndLastArg, KeyWithTwoArgTriples}
 use Rattle.redis_routing.specs.Complete.{pattern_by_name_with}
+use Rattle.redis_routing.specs.Parts.{first_appearances}
+use Rattle.redis_routing.specs.Routing.{nodes_for}
 use Rattle.redis_routing.specs.Split.{policy_by_name_with}
 
 -- a key, and the arguments that go with it
@@ -40,22 +45,46 @@ form_by_policy (Aggregate Sum) = Some count
 form_by_policy AllSucceeded = Some okay
 form_by_policy _ = None
 
--- a tuple without its place
-abbrev pub unplaced : Tuple → KeyTuple
-unplaced t = record { key = t.key; extras = t.extras }
+-- how many arguments a tuple has, its key among them, and how many at the end all tuples share
+pub record Shape : Type 0 where
+  pub width : ℕ
+  pub shared : ℕ
 
-abbrev pub tuples_of : MultiSlotArgPattern → List (List ℕ) → List KeyTuple
-tuples_of pattern present = map unplaced (tuples_in pattern present)
+abbrev pub shape_of : MultiSlotArgPattern → Shape
+shape_of KeysOnly = record { width = 1; shared = 0 }
+shape_of KeyValuePairs = record { width = 2; shared = 0 }
+shape_of KeysAndLastArg = record { width = 1; shared = 1 }
+shape_of KeyWithTwoArgTriples = record { width = 3; shared = 0 }
+
+-- whether so many arguments are complete: without the shared ones they make whole tuples, and at
+-- least one
+abbrev pub is_whole : Shape → ℕ → Bool
+is_whole shape len =
+    nat_lt shape.shared len && nat_eq ((len - shape.shared) % shape.width) 0
+
+-- a tuple by its arguments, of which the first is the key
+abbrev pub tuple_by : List (List ℕ) → KeyTuple
+tuple_by [] = record { key = []; extras = [] }
+tuple_by (key ∷ extras) = record { key = key; extras = extras }
+
+-- the tuples of some arguments, one after the other
+abbrev pub tuples_by : Shape → List (List ℕ) → List KeyTuple
+tuples_by shape args =
+    map tuple_by (first_chunks shape.width ((length args - shape.shared) / shape.width) args)
+
+-- the argument that all of them share, if there is one
+abbrev pub shared_by : Shape → List (List ℕ) → Option (List ℕ)
+shared_by shape args = slice_get args (length args - shape.shared)
 
 -- the command of a name with these arguments, if they are complete
 abbrev pub command_with : Option (List ℕ) → List (List ℕ) → Option MultiSlotArgPattern
     → Option ReplyForm → Option MultiKey
 command_with (Some name) present (Some pattern) (Some form) =
-    cond (is_complete pattern (length present))
+    cond (is_whole (shape_of pattern) (length present))
     (Some (record {
       name = name;
-      shared = slice_get (shared_in pattern present) 0;
-      tuples = tuples_of pattern present;
+      shared = shared_by (shape_of pattern) present;
+      tuples = tuples_by (shape_of pattern) present;
       form = form;
     })) None
 command_with name present pattern form = None
@@ -91,6 +120,35 @@ part_of command slot =
       tuples = tuples_of_slot slot command.tuples;
       form = command.form;
     }
+
+-- the slots of its keys, each once, in the order of the first key of each
+abbrev pub slots_in : MultiKey → List ℕ
+slots_in command = first_appearances (map (λ t. key_slot t.key) command.tuples)
+
+-- one route for each of its slots, to a replica too where the name only reads
+abbrev pub command_routes : (List ℕ → Bool) → MultiKey → List SlotRoute
+command_routes only_reads command =
+    map (λ slot. record { slot = slot; addr = nodes_for (only_reads command.name) })
+    (slots_in command)
+
+-- the arguments of a tuple
+abbrev pub tuple_args : KeyTuple → List (List ℕ)
+tuple_args t = t.key ∷ t.extras
+
+-- the arguments of a slot's part: the name as the command spells it, the tuples of the slot, and
+-- what all tuples share
+abbrev pub part_args : Arguments → MultiKey → ℕ → Arguments
+part_args args command slot =
+    take 1 args ++ map Some
+    (flat_map tuple_args (tuples_of_slot slot command.tuples) ++ option_to_list command.shared)
+
+abbrev pub part_args_in : Arguments → Option MultiKey → ℕ → Arguments
+part_args_in args None slot = []
+part_args_in args (Some command) slot = part_args args command slot
+
+-- the arguments of a slot's part of these arguments, where they are a multi-key command
+abbrev pub part_by_slot : Arguments → ℕ → Arguments
+part_by_slot args slot = part_args_in args (multi_key args) slot
 
 -- the arguments of the part of one slot: a complete multi-key command, all of that slot
 pub record IsPart (args : Arguments) : Type 0 where
