@@ -13,8 +13,9 @@ use Rattle.redis_commands.specs.PresentArguments.{present_arguments_after}
 use Rattle.redis_routing.specs.Complete.{multi_slot_routes, part_by_name, part_by_pattern, pattern_by_name, pattern_of}
 use Rattle.redis_routing.specs.Parts.{part_of_slot_after}
 use Rattle.redis_routing.specs.Split.{Split, split_part, policy_by_name, slots_of}
-use Rattle.redis_nodes.specs.MultiKey.{MultiKey, form_of_policy, multi_key, part_of}
+use Rattle.redis_nodes.specs.MultiKey.{MultiKey, form_of_policy, multi_key, part_by_slot, part_of}
 use Rattle.redis_nodes.specs.PlacedTuples.{tuples_of}
+use Rattle.redis_nodes.proofs.CommandParts.{part_by_command, routes_are}
 use Rattle.redis_nodes.proofs.SplitParts.{command_of_routes, is_made, part_means}
 use Rattle.redis_driver.specs.Driven.{Request}
 use Rattle.redis_driver.specs.Plan.{Plan, IsPlan}
@@ -67,7 +68,7 @@ module _ (only_reads : List ℕ → Bool) (args : Arguments) (plan : Plan) (argu
       )
 
 targets_by : (IsNode : SlotRoute → Address → Type 0) (args : Arguments) (part_at : ℕ → Arguments) (routes : List (SlotRoute × List ℕ)) (nodes : List Address) (parts : List (List (List ℕ)))
-    → ((slot : ℕ) → part_at slot ≡ part_by_name args slot) → AllZip (λ r a. IsNode r.0 a) routes nodes → map (map Some) parts ≡ map part_at (slots_of routes)
+    → ((slot : ℕ) → part_at slot ≡ part_by_slot args slot) → AllZip (λ r a. IsNode r.0 a) routes nodes → map (map Some) parts ≡ map part_at (slots_of routes)
     → AllZip (IsTarget IsNode args) (map (λ r. r.0) routes) (zip nodes parts)
 targets_by IsNode args part_at [] [] parts same each parts_are = tt
 targets_by IsNode args part_at [] (n ∷ nodes) parts same each parts_are = absurd each
@@ -85,8 +86,8 @@ ready IsNode r plan arguments words routes pattern policy whole nodes covered =
       record {
         plan_is = found.2;
         command_is = found.1;
-        routes_are = ap (λ o. option_map (map (λ t. t.0)) o) (sym routes);
+        routes_are = sym (routes_are r.only_reads r.arguments) ∙ ap (λ o. option_map (map (λ t. t.0)) o) (sym routes);
         covered = All-map (λ (route : SlotRoute). IsCovered r.map route.slot) (λ t. t.0) plan.split.routes covered;
-        targets_are = targets_by IsNode r.arguments (split_part plan.split) plan.split.routes plan.nodes plan.parts (λ slot. part_is r.arguments plan.split slot arguments words pattern) nodes whole.parts;
+        targets_are = targets_by IsNode r.arguments (split_part plan.split) plan.split.routes plan.nodes plan.parts (λ slot. part_is r.arguments plan.split slot arguments words pattern ∙ part_by_command r.arguments found.0 slot found.1) nodes whole.parts;
       },
     )

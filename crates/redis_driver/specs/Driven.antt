@@ -10,8 +10,7 @@ use Rattle.slot_ranges.specs.RangeMap.{IsUncovered}
 use Rattle.slot_ranges.specs.RangeMap as ranges
 use Rattle.cluster_map.specs.ReplyNode.{IsCovered}
 use Rattle.redis_commands.specs.Command.{Arguments}
-use Rattle.redis_routing.specs.Complete.{multi_slot_routes, part_by_name}
-use Rattle.redis_nodes.specs.MultiKey.{MultiKey, multi_key}
+use Rattle.redis_nodes.specs.MultiKey.{MultiKey, command_routes, multi_key, part_by_slot}
 use Rattle.redis_nodes.specs.Orders.{NamesOnce, in_order, tuples_of_slots}
 use Rattle.redis_nodes.specs.Trace.{Entry, Ending, answered, refused, lost}
 use Rattle.redis_nodes.specs.Unsplit.{Step, Keyspace, act_of, after, keyspace_after, reply_to}
@@ -39,7 +38,7 @@ state keyspace trace mark = record { keyspace = keyspace; trace = trace; mark = 
 
 -- the routes of a command, by their numbers, if it is complete
 abbrev pub routes_by : (List ℕ → Bool) → Arguments → Option (List SlotRoute)
-routes_by only_reads args = option_map (map (λ r. r.0)) (multi_slot_routes only_reads args)
+routes_by only_reads args = option_map (command_routes only_reads) (multi_key args)
 
 -- the first of the routes that has no node has this slot
 pub record IsFirstUncovered (entries : List (ranges.Entry SlotNodes)) (routes : List SlotRoute)
@@ -68,7 +67,7 @@ module _ (IsNode : SlotRoute → Address → Type 0) (args : Arguments) where
   -- the entry of the part of a route's slot, sent to a node of the route
   abbrev pub IsEntryOf : Ending → SlotRoute → Entry → Type 0
   IsEntryOf ending route e =
-      IsNode route e.node × (map Some e.args ≡ part_by_name args route.slot) × (e.ending ≡ ending)
+      IsNode route e.node × (map Some e.args ≡ part_by_slot args route.slot) × (e.ending ≡ ending)
 
   -- the trace grew by an answered entry for each of these routes, in their order
   pub record AreSent (routes : List SlotRoute) (old new : List Entry) : Type 0 where

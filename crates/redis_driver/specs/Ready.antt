@@ -5,8 +5,7 @@ use Rattle.cluster_slots.specs.Address.{Address}
 use Rattle.cluster_slots.specs.SlotRoute.{SlotRoute}
 use Rattle.cluster_map.specs.ReplyNode.{IsCovered}
 use Rattle.redis_commands.specs.Command.{Arguments}
-use Rattle.redis_routing.specs.Complete.{part_by_name}
-use Rattle.redis_nodes.specs.MultiKey.{MultiKey, multi_key}
+use Rattle.redis_nodes.specs.MultiKey.{MultiKey, multi_key, part_by_slot}
 use Rattle.redis_driver.specs.Driven.{Request, routes_by}
 use Rattle.redis_driver.specs.Plan.{Plan}
 use Rattle.redis_driver.specs.Sends.{Target, targets, IsPlanOf}
@@ -14,7 +13,7 @@ use Rattle.redis_driver.specs.Sends.{Target, targets, IsPlanOf}
 -- a route's node, and its part
 abbrev pub IsTarget : (SlotRoute → Address → Type 0) → Arguments → SlotRoute → Target → Type 0
 IsTarget IsNode args route target =
-    IsNode route target.0 × (map Some target.1 ≡ part_by_name args route.slot)
+    IsNode route target.0 × (map Some target.1 ≡ part_by_slot args route.slot)
 
 -- the plan is of the command that is asked for, and each of its routes has a node
 pub record IsReady (IsNode : SlotRoute → Address → Type 0) (r : Request) (plan : Plan)

@@ -5,6 +5,7 @@ use Rattle.cluster_slots.specs.SlotRoute.{SlotRoute}
 use Rattle.cluster_map.specs.ReplyNode.{IsCovered}
 use Rattle.redis_commands.specs.ReadOnly.{is_among}
 use Rattle.redis_nodes.specs.Orders.{NamesOnce}
+use Rattle.redis_nodes.proofs.CommandParts.{routes_are}
 use Rattle.redis_driver.specs.Driven.{request}
 use Rattle.redis_driver.proofs.Planned.{planned, ready}
 use Rattle.redis_driver.proofs.driver.plan_in_order.Goals as goal
@@ -25,7 +26,7 @@ returns-in-Ok-false-clause-early g c =
       map (λ t. t.0) plan.split.routes,
       found.0,
       record {
-        routes_are = ap (λ o. option_map (map (λ t. t.0)) o) (sym new.routes);
+        routes_are = sym (routes_are only_reads (g.R.Routable.args c.args.command.now)) ∙ ap (λ o. option_map (map (λ t. t.0)) o) (sym new.routes);
         command_is = found.1;
         covered = All-map (λ (route : SlotRoute). IsCovered c.args.slot_map.now route.slot) (λ t. t.0) plan.split.routes new.covered;
       },

@@ -9,6 +9,7 @@ use Rattle.redis_commands.specs.Command.{Arguments}
 use Rattle.redis_commands.specs.ReadOnly.{is_among}
 use Rattle.redis_routing.specs.Complete.{multi_slot_routes}
 use Rattle.redis_routing.specs.RoutingInfo.{route_lists}
+use Rattle.redis_nodes.proofs.CommandParts.{routes_are}
 use Rattle.redis_driver.specs.Driven.{IsFirstUncovered}
 use Rattle.redis_driver.specs.Faults.{IsPlanFault}
 use Rattle.redis_driver.specs.declared.fault.PlanFault.{PlanFault}
@@ -27,7 +28,7 @@ fault_of_nodes : (entries : List (Entry SlotNodes)) (only_reads : List ℕ → B
 fault_of_nodes entries only_reads args routes of_command fault (inl e) = subst (IsPlanFault entries only_reads args) (sym e) tt
 fault_of_nodes entries only_reads args routes of_command fault (inr cause) =
     subst (IsPlanFault entries only_reads args) (sym cause.1)
-    (map (λ r. r.0) routes, ap (option_map (map (λ r. r.0))) (sym of_command) ∙ ap Some (firsts-route_lists routes), cause.2)
+    (map (λ r. r.0) routes, sym (routes_are only_reads args) ∙ ap (option_map (map (λ r. r.0))) (sym of_command) ∙ ap Some (firsts-route_lists routes), cause.2)
 
 -- what holds of the error of a result that is one
 err_from : {T E : Type 0} (P Q : E → Type 0) (r : Result T E) → IsErrAnd r P → ((e : E) → P e → Q e) → IfErr r Q
