@@ -13,7 +13,8 @@ use Rattle.redis_commands.specs.declared.policy.ResponsePolicy.{ResponsePolicy}
 use Rattle.redis_commands.specs.declared.route_by.MultiSlotArgPattern.{MultiSlotArgPattern}
 use Rattle.redis_routing.specs.Complete.{pattern_of, pattern_by_name}
 use Rattle.redis_routing.specs.Split.{policy_by_name}
-use Rattle.redis_nodes.specs.MultiKey.{MultiKey, ReplyForm, multi_key, command_with, form_of_policy, form_by_policy}
+use Rattle.redis_nodes.specs.MultiKey.{MultiKey, ReplyForm, multi_key, command_with, form_of_policy, form_by_policy, is_whole, shape_of, shared_by, tuples_by}
+use Rattle.redis_nodes.proofs.Shapes.{shared_is, tuples_are_placed, whole_is}
 use Rattle.redis_nodes.specs.PlacedTuples.{tuples_of}
 use Rattle.memory_nodes.specs.Parts.{words, key_tuples}
 
@@ -24,11 +25,19 @@ shaped name run pattern form = record { name = name; shared = slice_get (shared_
 -- where there is a command, it has the form
 with_shape : (name : List ℕ) (run : List (List ℕ)) (pattern : MultiSlotArgPattern) (form : Option ReplyForm) → IsSome (command_with (Some name) run (Some pattern) form) → command_with (Some name) run (Some pattern) form ≡ option_map (shaped name run pattern) form
 with_shape name run pattern None h = refl
-with_shape name run pattern (Some form) h = complete (is_complete pattern (length run)) h
+with_shape name run pattern (Some form) h = complete (is_whole (shape_of pattern) (length run)) refl h
   where
-    complete : (b : Bool) → IsSome (cond b (Some (shaped name run pattern form)) None) → cond b (Some (shaped name run pattern form)) None ≡ Some (shaped name run pattern form)
-    complete true s = refl
-    complete false s = absurd (cc s)
+    by_shape_of : MultiKey
+    by_shape_of = record { name = name; shared = shared_by (shape_of pattern) run; tuples = tuples_by (shape_of pattern) run; form = form }
+
+    same : is_complete pattern (length run) ≡ true → by_shape_of ≡ shaped name run pattern form
+    same whole =
+        ap (λ s. record { name = name; shared = s; tuples = tuples_by (shape_of pattern) run; form = form }) (shared_is pattern run whole)
+        ∙ ap (λ ts. record { name = name; shared = slice_get (shared_in pattern run) 0; tuples = ts; form = form }) (tuples_are_placed pattern run whole)
+
+    complete : (b : Bool) → is_whole (shape_of pattern) (length run) ≡ b → IsSome (cond b (Some by_shape_of) None) → cond b (Some by_shape_of) None ≡ Some (shaped name run pattern form)
+    complete true whole s = ap Some (same (sym (whole_is pattern (length run)) ∙ whole))
+    complete false whole s = absurd (cc s)
 
 -- a command without gaps has all its arguments before the first
 front_all : (args : List (List ℕ)) → arguments_before_gap (map Some args) ≡ args
