@@ -63,3 +63,10 @@ pub record AreGiven (old new : List Reply → Type 0) (routes : List (SlotRoute 
   pub all_told : replies ≡ map Some values
   pub each : length values ≡ length routes
   pub gave : (before : List Reply) → old before → new (before ++ in_order (map view values) order)
+
+-- The nodes gave so many replies after what they gave before: these may be they, in the order in
+-- which they came.
+pub record HaveGiven (old new : List Reply → Type 0) (count : ℕ) : Type 0 where
+  pub replies : List Reply
+  pub each : length replies ≡ count
+  pub gave : (before : List Reply) → old before → new (before ++ replies)

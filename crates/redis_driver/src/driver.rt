@@ -14,6 +14,7 @@ ghost use Rattle.redis_nodes.specs.Unsplit.{keyspace_after, reply_to};
 ghost use Rattle.redis_driver.specs.Driven.{request, state, AreAllAnswered, IsDelivered, IsDrivable, IsDriven, IsHeadline};
 ghost use Rattle.redis_driver.specs.Faults.{IsBefore, IsEarly, IsFault, IsCut, unseen};
 ghost use Rattle.redis_driver.specs.Joined.{joined, IsJoined, IsSplitOf};
+ghost use Rattle.redis_driver.specs.Plan.{HaveGiven};
 ghost use Rattle.redis_driver.specs.Ready.{IsReady};
 ghost use Rattle.redis_driver.specs.Ended.{AreEndedEarly};
 ghost use Rattle.redis_driver.specs.Sends.{targets, target_entry, IsPlanOf};
@@ -123,6 +124,9 @@ pub fn drive<R: Routable, N: Nodes>(
         (state (N.keyspace nodes.old) (N.trace nodes.old) (N.mark nodes.old))
         (state (N.keyspace nodes.new) (N.trace nodes.new) (N.mark nodes.new))
         (N.may_refuse nodes.old) e.fault e.answered) }
+    // The nodes gave a reply to each part that was answered, and no other.
+    ensures given { IfErr result
+        (λ e. HaveGiven (N.gave nodes.old) (N.gave nodes.new) e.answered) }
     // The nodes are as they were where the command, the map or the order is at fault.
     ensures untouched { IfErr result (λ e. IsBefore e.fault → nodes.new ≡ nodes.old) }
     // Nodes that kept to it now did so before.
@@ -203,6 +207,8 @@ fn drive_plan<R: Routable, N: Nodes>(
         × ((before : List Reply) → N.gave nodes.old before
         → N.gave nodes.new (before ++ in_order replies order.now))
         × (joined plan.entry.split replies ≡ Err error.kind)) }
+    ensures given { IfErr result
+        (λ e. HaveGiven (N.gave nodes.old) (N.gave nodes.new) e.answered) }
     ensures stopped { IfErr result
         (λ e. AreEndedEarly (N.kept nodes.new) N.step (N.may_refuse nodes.old) plan.entry order.now
         (N.keyspace nodes.old) (N.keyspace nodes.new) (N.trace nodes.old) (N.trace nodes.new)

@@ -1,4 +1,4 @@
-ghost use Rattle.std.specs.Prelude.{◌≡◌, ◌<◌, ◌++◌, ◌∷◌, ◌↔◌, [], ℕ, List, Some, None, map, length, slice_get, slice_set, IfOk, OnOk, IfErr};
+ghost use Rattle.std.specs.Prelude.{◌≡◌, ◌<◌, ◌++◌, ◌∷◌, ◌↔◌, [], ℕ, List, Some, None, map, length, slice_get, slice_set, IfOk, OnOk, OnErr, IfErr};
 ghost use Rattle.resp_core.specs.Reply.{Reply};
 ghost use Rattle.resp_core.specs.View.{view};
 ghost use Rattle.redis_nodes.specs.MultiKey.{MultiKey, multi_key, IsPart};
@@ -7,7 +7,7 @@ ghost use Rattle.redis_nodes.specs.Sent.{IsLeft, IsUnanswered, ending_of};
 ghost use Rattle.redis_nodes.specs.Trace.{Ending, answered};
 ghost use Rattle.redis_nodes.specs.Unsplit.{keyspace_after, reply_to, results_of};
 ghost use Rattle.redis_driver.specs.Faults.{fault_of_send};
-ghost use Rattle.redis_driver.specs.Plan.{ArePartReplies, AreGiven};
+ghost use Rattle.redis_driver.specs.Plan.{ArePartReplies, AreGiven, HaveGiven};
 ghost use Rattle.redis_driver.specs.Sends.{Target, targets, target_entry, IsPlanOf, AreStopped};
 
 use crate::fault::{DriveError, DriveFault};
@@ -39,6 +39,8 @@ pub(super) fn send_all<R: Routable, N: Nodes>(
         → N.keyspace nodes.new ≡ keyspace_after N.step command (N.keyspace nodes.old)) }
     ensures kept { N.kept nodes.new → N.kept nodes.old }
     ensures within { IfErr result (λ stop. stop.answered < length order.now) }
+    ensures given { IfErr result
+        (λ stop. HaveGiven (N.gave nodes.old) (N.gave nodes.new) stop.answered) }
     ensures stopped { IfErr result
         (λ stop. (error : SendError) × (stop.fault ≡ fault_of_send error)
         × ((command : MultiKey) → IsPlanOf command plan.old
@@ -81,6 +83,8 @@ fn send_part<R: Routable, N: Nodes>(
     ensures gave { IfOk result
         (λ value. (replies : List Reply) → N.gave nodes.old replies
         → N.gave nodes.new (replies ++ view value ∷ [])) }
+    ensures gave_none { OnErr result
+        ((replies : List Reply) → N.gave nodes.old replies → N.gave nodes.new replies) }
     ensures keyspace { OnOk result ((target : Target) (command : MultiKey)
         → slice_get (targets plan.now) number ≡ Some target
         → multi_key (map Some target.1) ≡ Some command

@@ -1,4 +1,5 @@
-use Rattle.std.proofs.Common.{map, Result, Ok, Err, IfOk, subst}
+use Rattle.std.proofs.Common.{[], map, refl, sym, Result, Ok, Err, IfOk, subst}
+use Rattle.std.proofs.lemmas.List.{append-nil}
 use Rattle.std.specs.Prelude.{OnOk}
 use Rattle.std.proofs.lemmas.Result.{IfErr-weaker, IfOk-weaker}
 use Rattle.cluster_slots.specs.Address.{Address}
@@ -145,3 +146,7 @@ returns-in-Err-clause-carried g c =
     let IsNode : SlotRoute → Address → Type 0 = λ route address. Unit {0} in
     λ routes command can all now. carried_fault IsNode g.N.Nodes.step asked old old (g.N.Nodes.may_refuse c.args.nodes.now) routes command can all c.in-Err.fault 0
     (early_fault IsNode g.N.Nodes.step asked old (g.N.Nodes.may_refuse c.args.nodes.now) c.in-Err.fault c.in-Err.ensures.early)
+
+pub returns-in-Err-clause-given : goal.returns-in-Err-clause-given
+returns-in-Err-clause-given g c =
+    record { replies = []; each = refl; gave = λ before was. subst (g.N.Nodes.gave c.args.nodes.now) (sym (append-nil before)) was }

@@ -1,4 +1,6 @@
-use Rattle.std.proofs.Common.{◌≡◌, inl, inr, length, arith, ap, sym, ◌∙◌, ⊎_elim, map, Err}
+use Rattle.std.proofs.Common.{◌≡◌, ◌<◌, All, inl, inr, length, arith, ap, subst, sym, ◌∙◌, ⊎_elim, map, Err}
+use Rattle.redis_nodes.specs.Orders.{in_order}
+use Rattle.redis_nodes.proofs.Orders.{length-in_order}
 use Rattle.std.proofs.lemmas.List.{length-map}
 use Rattle.resp_core.specs.View.{view}
 use Rattle.resp_core.specs.ErrorParts.{ErrorParts}
@@ -76,3 +78,17 @@ returns-in-Err-combine-clause-unjoined g c = λ error is.
           failed,
     ))
     c.of_combining.ensures
+
+pub returns-in-Err-combine-clause-given : goal.returns-in-Err-combine-clause-given
+returns-in-Err-combine-clause-given g c =
+    let told = c.in_default.ensures.told in
+    let routes : length c.send_all.new.plan.split.routes ≡ length c.args.plan.split.routes = ap (λ (s : Split). length s.routes) c.in_default.ensures.plan in
+    let many : length (map view told.values) ≡ length c.args.plan.split.routes = length-map told.values view ∙ told.each in
+    let same : length c.args.order.now ≡ length c.args.plan.split.routes = length-names_once (length c.args.plan.split.routes) c.args.order.now c.requires.order in
+    let sent = in_order (map view told.values) c.args.order.now in
+    let below : All (λ k. k < length (map view told.values)) c.args.order.now = subst (λ n. All (λ k. k < n) c.args.order.now) (sym many) c.requires.order.below in
+    record {
+      replies = sent;
+      each = length-in_order (map view told.values) c.args.order.now below ∙ same ∙ sym routes ∙ sym c.len-answered.ensures.len;
+      gave = told.gave;
+    }

@@ -1,7 +1,8 @@
 use Rattle.std.proofs.Common.{◌≡◌, ◌<◌, ℕ, ◌+◌, List, [], ◌∷◌, ◌++◌, Some, None, All, refl, sym, ap, ◌∙◌, arith, subst, length, map, take, get_or}
 use Rattle.std.specs.Prelude.{slice_get, slice_set, option_and_then}
 use Rattle.std.proofs.lemmas.Slice.Zip.{AllZip-long}
-use Rattle.std.proofs.lemmas.List.{append-nil, length-map, map_push, length-set}
+use Rattle.std.proofs.lemmas.List.{append-nil, length-map, length-take-le, map_push, length-set}
+use Rattle.std.proofs.lemmas.List.Elements.{All-take}
 use Rattle.std.proofs.lemmas.Option.{slice_get-get_or, slice_get_within}
 use Rattle.std.proofs.Common.{append_assoc, take_all}
 use Rattle.resp_core.specs.Reply.{Reply}
@@ -13,7 +14,7 @@ use Rattle.redis_nodes.specs.Sent.{ending_of}
 use Rattle.redis_nodes.specs.Trace.{answered}
 use Rattle.redis_nodes.specs.Unsplit.{act_of, after, reply_by, results, results_of}
 use Rattle.redis_nodes.proofs.Fold.{joined}
-use Rattle.redis_nodes.proofs.Orders.{in_order_more, get-in_order}
+use Rattle.redis_nodes.proofs.Orders.{in_order_more, get-in_order, length-in_order}
 use Rattle.redis_nodes.proofs.Whole.{keyspace_of_all, keyspace_at_stop, keyspace_more, results_more, names_slots_from}
 use Rattle.redis_nodes.proofs.Parts.{length-results}
 use Rattle.redis_driver.specs.Plan.{Plan, tuples_in_split}
@@ -236,4 +237,24 @@ returns-clause-told g c =
       each = sym (length-map all.0 Some) ∙ ap length (sym all.1) ∙ inv.room ∙ many plan;
       gave = given_all (g.N.Nodes.gave c.args.nodes.now) (g.N.Nodes.gave c.loop-number.nodes) c.loop-number.plan.replies order all.0 all.1
           (subst (AreGivenSo (g.N.Nodes.gave c.args.nodes.now) (g.N.Nodes.gave c.loop-number.nodes) c.loop-number.plan.replies) whole inv.given);
+    }
+
+pub returns-in-Err-clause-given : goal.returns-in-Err-clause-given
+returns-in-Err-clause-given g c =
+    let plan = c.args.plan.now in
+    let order = c.args.order.now in
+    let inv = c.loop-number.invariant in
+    let i = c.loop-number.number-index in
+    let given = inv.given in
+    let room = inv.room in
+    let long : length plan.split.routes ≡ length c.loop-number.plan.replies = sym (room ∙ many plan) in
+    let below : All (λ k. k < length c.loop-number.plan.replies) (take i order) =
+    All-take (λ k. k < length c.loop-number.plan.replies) i order (subst (λ n. All (λ k. k < n) order) long c.requires.order.below) in
+    let first : length (take i order) ≡ i = length-take-le i order (omega (arith, c.loop-number-test.true)) in
+    let each : length given.values ≡ i =
+    sym (length-map given.values Some) ∙ ap length (sym given.told) ∙ length-in_order c.loop-number.plan.replies (take i order) below ∙ first in
+    record {
+      replies = map view given.values;
+      each = length-map given.values view ∙ each ∙ sym inv.answered;
+      gave = λ before was. c.in-Err.ensures.gave_none (before ++ map view given.values) (given.gave before was);
     }
