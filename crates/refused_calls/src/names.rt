@@ -89,9 +89,9 @@ pub static NAMES: [&str; 94] = [
     "slotroute_run::CommandFault::Display",
     "slotroute_serve::serve",
     "slotroute_serve::serve_streams",
-    "slotroute_serve::Source::append_line",
-    "slotroute_serve::Sink::write_some",
-    "slotroute_serve::Sink::send_off",
+    "slotroute_serve::Source::read_line",
+    "slotroute_serve::Sink::write",
+    "slotroute_serve::Sink::flush",
     "wire_nodes::Logged::exchange",
     "wire_nodes::WireNodes::send",
 ];

@@ -54,9 +54,9 @@ pub fn call(page: &Page<'_>, alloc: Global, name: &str) -> Result<(), Fault> {
     match name {
         "serve" => served(page, alloc, false),
         "serve_streams" => served(page, alloc, true),
-        "Source::append_line" => append_line(page, alloc),
-        "Sink::write_some" => write_some(page, alloc),
-        "Sink::send_off" => page.given(&Vec::<u8>::new(alloc).send_off()),
+        "Source::read_line" => read_line(page, alloc),
+        "Sink::write" => write(page, alloc),
+        "Sink::flush" => page.given(&Sink::flush(&mut Vec::<u8>::new(alloc))),
         _ => Err(Fault::Words),
     }
 }
@@ -87,19 +87,19 @@ fn served(page: &Page<'_>, alloc: Global, by_streams: bool) -> Result<(), Fault>
     Ok(())
 }
 
-fn append_line(page: &Page<'_>, alloc: Global) -> Result<(), Fault> {
+fn read_line(page: &Page<'_>, alloc: Global) -> Result<(), Fault> {
     let mut reader: &[u8] = b"ab\ncd\n";
     let mut line = Vec::new(alloc);
     page.before(&line)?;
-    let given = reader.append_line(&mut line);
+    let given = Source::read_line(&mut reader, &mut line);
     page.given(&given)?;
     page.after(&line)
 }
 
-fn write_some(page: &Page<'_>, alloc: Global) -> Result<(), Fault> {
+fn write(page: &Page<'_>, alloc: Global) -> Result<(), Fault> {
     let mut out: Vec<u8> = Vec::new(alloc);
     page.before(&out)?;
-    let given = out.write_some(b"ab");
+    let given = Sink::write(&mut out, b"ab");
     page.given(&given)?;
     page.after(&out)
 }

@@ -52,7 +52,7 @@ pub(super) fn next_line<S: Source>(source: &mut S, line: &mut Vec<u8>) -> io::Re
     ensures failed { IfErr result (S.fails source.old) }
 {
     line.clear();
-    if source.append_line(line)? == 0 {
+    if source.read_line(line)? == 0 {
         return Ok(false);
     }
     strip(line, b'\n');

@@ -29,7 +29,7 @@ fn put<W: Sink>(writer: &mut W, text: &[u8]) -> io::Result<()>
     while done < text.len() {
         done += write_retrying(writer, &text[done..])?;
     }
-    writer.send_off()
+    writer.flush()
 }
 
 /// Writes some of the bytes. A call that was interrupted is made again, up to 2^64 times.
@@ -40,10 +40,10 @@ fn write_retrying<W: Sink>(writer: &mut W, bytes: &[u8]) -> io::Result<usize>
     ensures failed { OnErr result (MayFailToWrite W.fails) }
 {
     for _ in 0..u64::MAX {
-        match writer.write_some(bytes) {
+        match writer.write(bytes) {
             Err(error) if error.kind() == ErrorKind::Interrupted => {}
             answer => return answer,
         }
     }
-    writer.write_some(bytes)
+    writer.write(bytes)
 }

@@ -18,7 +18,7 @@ pub trait Source {
 
     /// Adds the next line with its line feed to `line`, and answers the number of its bytes, which
     /// is 0 at the end.
-    fn append_line(&mut self, line: &mut Vec<u8>) -> io::Result<usize>
+    fn read_line(&mut self, line: &mut Vec<u8>) -> io::Result<usize>
         ensures ok { IfOk result (λ n. vec_len line.new ≡ vec_len line.old + n) }
         ensures bytes { OnOk result (IfSome (remaining self.old)
             (λ input. line.new.items ≡ line.old.items ++ take_through 10 input)) }
@@ -38,14 +38,14 @@ pub trait Sink {
     ghost fails: { Self → Error → Type 0 };
 
     /// Writes the first of the bytes, at least one if there are any, and answers their number.
-    fn write_some(&mut self, bytes: &[u8]) -> io::Result<usize>
+    fn write(&mut self, bytes: &[u8]) -> io::Result<usize>
         ensures bound { WritesAtMost result bytes.now }
         ensures some { IfOk result (λ n. 0 < length bytes.now → 0 < n) }
         ensures bytes { WriteAppends (contents self.old) (contents self.new) result bytes.now }
         ensures failed { IfErr result (fails self.old) };
 
     /// Sends off what was written.
-    fn send_off(&mut self) -> io::Result<()>
+    fn flush(&mut self) -> io::Result<()>
         ensures bytes { Keeps (contents self.old) (contents self.new) }
         ensures failed { IfErr result (fails self.old) };
 }
@@ -56,7 +56,7 @@ impl<R: BufRead> Source for R {
 
     ghost fails = { λ _ _. ⊤ };
 
-    fn append_line(&mut self, line: &mut Vec<u8>) -> io::Result<usize> {
+    fn read_line(&mut self, line: &mut Vec<u8>) -> io::Result<usize> {
         self.read_until(b'\n', line)
     }
 }
@@ -66,14 +66,14 @@ impl<W: Write> Sink for W {
 
     ghost fails = { λ _ _. ⊤ };
 
-    fn write_some(&mut self, bytes: &[u8]) -> io::Result<usize> {
-        match self.write(bytes) {
+    fn write(&mut self, bytes: &[u8]) -> io::Result<usize> {
+        match Write::write(self, bytes) {
             Ok(0) if !bytes.is_empty() => Err(io::Error::from(ErrorKind::WriteZero)),
             answer => answer,
         }
     }
 
-    fn send_off(&mut self) -> io::Result<()> {
-        self.flush()
+    fn flush(&mut self) -> io::Result<()> {
+        Write::flush(self)
     }
 }

@@ -17,7 +17,7 @@ impl Source for Nothing {
 
     ghost fails = { λ _ _. ⊥ };
 
-    fn append_line(&mut self, _line: &mut Vec<u8>) -> io::Result<usize> {
+    fn read_line(&mut self, _line: &mut Vec<u8>) -> io::Result<usize> {
         Ok(0)
     }
 }
@@ -33,12 +33,12 @@ impl Sink for Counter {
 
     ghost fails = { λ _ _. ⊥ };
 
-    fn write_some(&mut self, bytes: &[u8]) -> io::Result<usize> {
+    fn write(&mut self, bytes: &[u8]) -> io::Result<usize> {
         self.count = self.count.saturating_add(bytes.len());
         Ok(bytes.len())
     }
 
-    fn send_off(&mut self) -> io::Result<()> {
+    fn flush(&mut self) -> io::Result<()> {
         Ok(())
     }
 }

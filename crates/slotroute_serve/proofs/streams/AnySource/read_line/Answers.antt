@@ -1,5 +1,5 @@
 use Rattle.slotroute_serve.proofs.Leaving.{stopped}
-use Rattle.slotroute_serve.proofs.streams.AnySource.append_line.Goals as goal
+use Rattle.slotroute_serve.proofs.streams.AnySource.read_line.Goals as goal
 
 pub returns-clause-stops : goal.returns-clause-stops
 returns-clause-stops g c =
