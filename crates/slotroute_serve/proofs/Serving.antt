@@ -14,7 +14,7 @@ use Rattle.cluster_slots.specs.declared.slot.SlotAddr.{SlotAddr}
 use Rattle.cluster_slots.specs.declared.slot.SlotAddr.TheVariants.{Master}
 use Rattle.slotroute_serve.specs.Lines.{leading_lines, after_map}
 use Rattle.slotroute_serve.specs.MapLines.{IsMap}
-use Rattle.slotroute_serve.specs.Faults.{fault_line, WhyNoMap, WhyNoSplit, IsMapFault, IsCaused, IsLeftAt}
+use Rattle.slotroute_serve.specs.Faults.{fault_line, fault_of_map, fault_of_answer, fault_of_run, WhyNoMap, WhyNoSplit, IsCaused, IsLeftAt}
 use Rattle.slotroute_serve.specs.Output.{Output, IsAnswer, IsNodeAnswer, IsRequest, split_words, slot_line, usage_line, bad_map_line, not_multi_key_line, IsRunWords, refused_line, usage, bad_map, not_multi_key, answer, run_to_end, run_refused, served, unserved, node_request, split_request, run_request, node_answer, split_answer}
 use Rattle.slotroute_serve.specs.Requests.{Asks, AsksFor, WhyNoAnswer}
 use Rattle.slotroute_serve.specs.RunFaults.{RunEnds, RunStops}
@@ -23,8 +23,14 @@ use Rattle.slotroute_serve.specs.Split.{IsSplitAnswer}
 use Rattle.slotroute_serve.specs.Serves.{IsSoFar, IsUnfinished, HasAnswer, HasOutput, RanOutOfMemory, Explains, IsNumbered, IsTold, TellsOf, Reports, Serves}
 use Rattle.slotroute_serve.specs.Streams.{Leaves}
 use Rattle.slotroute_serve.proofs.Leaving.{left_after_map}
+use Rattle.slotroute_serve.specs.declared.fault.AnswerFault.{AnswerFault}
+use Rattle.slotroute_serve.specs.declared.fault.AnswerFault.TheVariants as answer_fault
 use Rattle.slotroute_serve.specs.declared.fault.Fault.{Fault}
 use Rattle.slotroute_serve.specs.declared.fault.Fault.TheVariants as fault
+use Rattle.slotroute_serve.specs.declared.fault.MapFault.{MapFault}
+use Rattle.slotroute_serve.specs.declared.fault.MapFault.TheVariants as map_fault
+use Rattle.slotroute_serve.specs.declared.fault.RunFault.{RunFault}
+use Rattle.slotroute_serve.specs.declared.fault.RunFault.TheVariants as run_fault
 use Rattle.slotroute_serve.specs.declared.request.Question.{Question}
 use Rattle.slotroute_serve.specs.declared.request.Question.TheVariants.{Node, Split}
 use Rattle.slotroute_serve.specs.declared.request.Request.{Request}
@@ -50,7 +56,7 @@ found_none entries key line route slot s e uncovered text = rw (text, e) (unserv
 pub answers_node : (entries : List (Entry SlotNodes)) (asked : Question) (key : Bor (List ℕ)) (text line : List ℕ) (status : ℕ) → asked ≡ Node key → text ≡ line → IsNodeAnswer entries key.now line status → (words : List (List ℕ)) → Asks words asked → IsAnswer entries words text status
 answers_node entries asked key text line status is t h words a = let b : Asks words (Node key) = subst (Asks words) is a in rw (b, t) (node_answer key.now line status h)
 
-pub answers_split : (entries : List (Entry SlotNodes)) (asked : Question) (command : Bor (List (String Global))) (r : Result (Vec ℕ Global × ℕ) Fault) → asked ≡ Split command
+pub answers_split : (entries : List (Entry SlotNodes)) (asked : Question) (command : Bor (List (String Global))) (r : Result (Vec ℕ Global × ℕ) AnswerFault) → asked ≡ Split command
     → MatchResult r (λ a. IsSplitAnswer entries (map string_bytes command.now) a.0.items a.1) (WhyNoSplit (map string_bytes command.now)) → MatchResult r (λ a. (words : List (List ℕ)) → Asks words asked → IsAnswer entries words a.0.items a.1) (WhyNoAnswer asked)
 answers_split entries asked command (Ok x) is h = λ words a. let b : Asks words (Split command) = subst (Asks words) is a in rw b.0 (split_answer (map string_bytes command.now) x.0.items x.1 h)
 answers_split entries asked command (Err e) is h = rw is h
@@ -75,16 +81,16 @@ nothing (Some x) = search rules
 
 -- The report of a fault.
 -- a line was written, or a beginning of it
-told : (failed : Type 0) (old new : Option (List ℕ)) (text line : List ℕ) (r : Result (Unit {0}) Fault) → text ≡ line → OnOk r (Appends old new text) → OnErr r ((k : ℕ) × Appends old new (take k text)) → OnErr r failed
+told : {E : Type 0} (failed : Type 0) (old new : Option (List ℕ)) (text line : List ℕ) (r : Result (Unit {0}) E) → text ≡ line → OnOk r (Appends old new text) → OnErr r ((k : ℕ) × Appends old new (take k text)) → OnErr r failed
     → (errs : List ℕ) × Appends old new errs × IsTold failed errs line
 told failed old new text line (Ok x) t whole part f = (text, whole, inl t)
 told failed old new text line (Err x) t whole (k, part) f = (take k line, rw t at part, inr (f, (k, refl)))
 
-pub reported_line : (failed : Type 0) (old new : Option (List ℕ)) (e : Fault) (text : List ℕ) (r : Result (Unit {0}) Fault) → text ≡ fault_line e → OnOk r (Appends old new text) → OnErr r ((k : ℕ) × Appends old new (take k text)) → OnErr r failed → Reports failed old new e
+pub reported_line : {E : Type 0} (failed : Type 0) (old new : Option (List ℕ)) (e : Fault) (text : List ℕ) (r : Result (Unit {0}) E) → text ≡ fault_line e → OnOk r (Appends old new text) → OnErr r ((k : ℕ) × Appends old new (take k text)) → OnErr r failed → Reports failed old new e
 reported_line failed old new e text r t whole part f = let (errs, grown, is) = told failed old new text (fault_line e) r t whole part f in (errs, grown, inl is)
 
 -- out of memory was reported in the place of a bad map line
-pub reported_memory : (failed : Type 0) (old new : Option (List ℕ)) (e : Fault) (text : List ℕ) (r : Result (Unit {0}) Fault) → IsNumbered e → text ≡ fault_line fault.Memory → OnOk r (Appends old new text) → OnErr r ((k : ℕ) × Appends old new (take k text)) → OnErr r failed
+pub reported_memory : {E : Type 0} (failed : Type 0) (old new : Option (List ℕ)) (e : Fault) (text : List ℕ) (r : Result (Unit {0}) E) → IsNumbered e → text ≡ fault_line fault.Memory → OnOk r (Appends old new text) → OnErr r ((k : ℕ) × Appends old new (take k text)) → OnErr r failed
     → Reports failed old new e
 reported_memory failed old new e text r b t whole part f = let (errs, grown, is) = told failed old new text (fault_line fault.Memory) r t whole part f in (errs, grown, inr (b, is))
 
@@ -103,34 +109,25 @@ module _ (handed : Bool) where
   pub touched : {S : Type 0} (words : List (List ℕ)) (old new : S) → IsRequest words → ¬ (IsRequest words) → new ≡ old
   touched words old new w other = absurd (other w)
 
-  no_map_of : (reads : Type 0) (words : List (List ℕ)) (input left out : Option (List ℕ)) (e : Fault) → IsRequest words → IfSome input (λ bytes. WhyNoMap (leading_lines bytes) e) → Leaves input left (λ bytes rest. IsLeftAt bytes rest e) → IsMapFault reads e
-      → Explains handed words input left out out e
-  no_map_of reads words input left out fault.Memory w h l c = ([], nothing out, w, inl (refl, l))
-  no_map_of reads words input left out fault.Input w h l c = ([], nothing out, w, inl (refl, l))
-  no_map_of reads words None left out (fault.BadMapLine n) w h l c = (nothing out, tt)
-  no_map_of reads words (Some bytes) None out (fault.BadMapLine n) w h l c = absurd l
-  no_map_of reads words (Some bytes) (Some rest) out (fault.BadMapLine n) w h l c = (nothing out, rw l (bad_map words bytes n w h))
-  no_map_of reads words input left out fault.Usage w h l c = absurd c
-  no_map_of reads words input left out fault.NotMultiKey w h l c = absurd c
-  no_map_of reads words input left out (fault.Command n r) w h l c = absurd c
-  no_map_of reads words input left out fault.Output w h l c = absurd c
+  no_map_of : (words : List (List ℕ)) (input left out : Option (List ℕ)) (e : MapFault) → IsRequest words → IfSome input (λ bytes. WhyNoMap (leading_lines bytes) e) → Leaves input left (λ bytes rest. IsLeftAt bytes rest e) → Explains handed words input left out out (fault_of_map e)
+  no_map_of words input left out map_fault.Memory w h l = ([], nothing out, w, inl (refl, l))
+  no_map_of words input left out map_fault.Input w h l = ([], nothing out, w, inl (refl, l))
+  no_map_of words None left out (map_fault.BadLine n) w h l = (nothing out, tt)
+  no_map_of words (Some bytes) None out (map_fault.BadLine n) w h l = absurd l
+  no_map_of words (Some bytes) (Some rest) out (map_fault.BadLine n) w h l = (nothing out, rw l (bad_map words bytes n w h))
 
-  pub no_map : (reads : Type 0) (words : List (List ℕ)) (input left out : Option (List ℕ)) (e : Fault) (r : Result ℕ Fault) → IsRequest words → IfSome input (λ bytes. WhyNoMap (leading_lines bytes) e) → Leaves input left (λ bytes rest. IsLeftAt bytes rest e) → IsMapFault reads e
-      → IsErrAnd r (λ x. x ≡ e) → MatchResult r (HasAnswer handed words input left out out) (Explains handed words input left out out)
-  no_map reads words input left out e (Ok x) w h l c is = absurd is
-  no_map reads words input left out e (Err x) w h l c is = rw is (no_map_of reads words input left out e w h l c)
+  pub no_map : (words : List (List ℕ)) (input left out : Option (List ℕ)) (e : MapFault) (r : Result ℕ Fault) → IsRequest words → IfSome input (λ bytes. WhyNoMap (leading_lines bytes) e) → Leaves input left (λ bytes rest. IsLeftAt bytes rest e)
+      → IsErrAnd r (λ x. x ≡ fault_of_map e) → MatchResult r (HasAnswer handed words input left out out) (Explains handed words input left out out)
+  no_map words input left out e (Ok x) w h l is = absurd is
+  no_map words input left out e (Err x) w h l is = rw is (no_map_of words input left out e w h l)
 
   -- a fault of the map that is caused
-  cause_of : (reads writes : Type 0) (e : Fault) → IsMapFault reads e → IsCaused reads writes e
-  cause_of reads writes fault.Usage h = tt
-  cause_of reads writes (fault.BadMapLine n) h = tt
-  cause_of reads writes fault.NotMultiKey h = tt
-  cause_of reads writes (fault.Command n r) h = tt
-  cause_of reads writes fault.Memory h = tt
-  cause_of reads writes fault.Input h = h
-  cause_of reads writes fault.Output h = absurd h
+  cause_of : (reads writes : Type 0) (e : MapFault) → (e ≡ map_fault.Input → reads) → IsCaused reads writes (fault_of_map e)
+  cause_of reads writes (map_fault.BadLine n) h = tt
+  cause_of reads writes map_fault.Memory h = tt
+  cause_of reads writes map_fault.Input h = h refl
 
-  pub caused_by_map : (reads writes : Type 0) (e : Fault) (r : Result ℕ Fault) → IsMapFault reads e → IsErrAnd r (λ x. x ≡ e) → IfErr r (IsCaused reads writes)
+  pub caused_by_map : (reads writes : Type 0) (e : MapFault) (r : Result ℕ Fault) → (e ≡ map_fault.Input → reads) → IsErrAnd r (λ x. x ≡ fault_of_map e) → IfErr r (IsCaused reads writes)
   caused_by_map reads writes e (Ok x) h is = absurd is
   caused_by_map reads writes e (Err x) h is = rw is (cause_of reads writes e h)
 
@@ -140,45 +137,31 @@ module _ (handed : Bool) where
   no_memory words input left out (Err x) w l is = rw is ([], nothing out, w, inl (refl, left_after_map input left l))
 
   -- what explains that a command has no lines
-  no_split_of : (command : List (List ℕ)) (input left out : Option (List ℕ)) (ranges : List RangeNodes) (e : Fault) → command ≢ [] → IfSome input (λ bytes. IsMap (leading_lines bytes) ranges) → Leaves input left (λ bytes rest. rest ≡ after_map bytes) → WhyNoSplit command e
-      → Explains handed (split_words command) input left out out e
-  no_split_of command input left out ranges fault.Memory some m l h = ([], nothing out, split_request command some, inl (refl, left_after_map input left l))
-  no_split_of command None left out ranges fault.NotMultiKey some m l h = (nothing out, tt)
-  no_split_of command (Some bytes) None out ranges fault.NotMultiKey some m l h = absurd l
-  no_split_of command (Some bytes) (Some rest) out ranges fault.NotMultiKey some m l h = (nothing out, rw l (not_multi_key command bytes ranges some m h))
-  no_split_of command input left out ranges fault.Usage some m l h = absurd h
-  no_split_of command input left out ranges (fault.BadMapLine n) some m l h = absurd h
-  no_split_of command input left out ranges (fault.Command n r) some m l h = absurd h
-  no_split_of command input left out ranges fault.Input some m l h = absurd h
-  no_split_of command input left out ranges fault.Output some m l h = absurd h
+  no_split_of : (command : List (List ℕ)) (input left out : Option (List ℕ)) (ranges : List RangeNodes) (e : AnswerFault) → command ≢ [] → IfSome input (λ bytes. IsMap (leading_lines bytes) ranges) → Leaves input left (λ bytes rest. rest ≡ after_map bytes) → WhyNoSplit command e
+      → Explains handed (split_words command) input left out out (fault_of_answer e)
+  no_split_of command input left out ranges answer_fault.Memory some m l h = ([], nothing out, split_request command some, inl (refl, left_after_map input left l))
+  no_split_of command None left out ranges answer_fault.NotMultiKey some m l h = (nothing out, tt)
+  no_split_of command (Some bytes) None out ranges answer_fault.NotMultiKey some m l h = absurd l
+  no_split_of command (Some bytes) (Some rest) out ranges answer_fault.NotMultiKey some m l h = (nothing out, rw l (not_multi_key command bytes ranges some m h))
 
-  no_answer_of : (words : List (List ℕ)) (asked : Question) (input left out : Option (List ℕ)) (ranges : List RangeNodes) (e : Fault) → Asks words asked → IfSome input (λ bytes. IsMap (leading_lines bytes) ranges) → Leaves input left (λ bytes rest. rest ≡ after_map bytes) → WhyNoAnswer asked e
-      → Explains handed words input left out out e
+  no_answer_of : (words : List (List ℕ)) (asked : Question) (input left out : Option (List ℕ)) (ranges : List RangeNodes) (e : AnswerFault) → Asks words asked → IfSome input (λ bytes. IsMap (leading_lines bytes) ranges) → Leaves input left (λ bytes rest. rest ≡ after_map bytes) → WhyNoAnswer asked e
+      → Explains handed words input left out out (fault_of_answer e)
   no_answer_of words (Node key) input left out ranges e a m l h = rw (a, h) ([], nothing out, node_request key.now, inl (refl, left_after_map input left l))
   no_answer_of words (Split command) input left out ranges e (a, some) m l h = rw a (no_split_of (map string_bytes command.now) input left out ranges e some m l h)
 
-  pub no_answer : (words : List (List ℕ)) (asked : Question) (input left out : Option (List ℕ)) (ranges : List RangeNodes) (e : Fault) (r : Result ℕ Fault) → Asks words asked → IfSome input (λ bytes. IsMap (leading_lines bytes) ranges) → Leaves input left (λ bytes rest. rest ≡ after_map bytes) → WhyNoAnswer asked e
-      → IsErrAnd r (λ x. x ≡ e) → MatchResult r (HasAnswer handed words input left out out) (Explains handed words input left out out)
+  pub no_answer : (words : List (List ℕ)) (asked : Question) (input left out : Option (List ℕ)) (ranges : List RangeNodes) (e : AnswerFault) (r : Result ℕ Fault) → Asks words asked → IfSome input (λ bytes. IsMap (leading_lines bytes) ranges) → Leaves input left (λ bytes rest. rest ≡ after_map bytes) → WhyNoAnswer asked e
+      → IsErrAnd r (λ x. x ≡ fault_of_answer e) → MatchResult r (HasAnswer handed words input left out out) (Explains handed words input left out out)
   no_answer words asked input left out ranges e (Ok x) a m l h is = absurd is
   no_answer words asked input left out ranges e (Err x) a m l h is = rw is (no_answer_of words asked input left out ranges e a m l h)
 
-  -- what refuses a split is no failure of a stream
-  cause_of_split : (reads writes : Type 0) (command : List (List ℕ)) (e : Fault) → WhyNoSplit command e → IsCaused reads writes e
-  cause_of_split reads writes command fault.Usage h = tt
-  cause_of_split reads writes command (fault.BadMapLine n) h = tt
-  cause_of_split reads writes command fault.NotMultiKey h = tt
-  cause_of_split reads writes command (fault.Command n r) h = tt
-  cause_of_split reads writes command fault.Memory h = tt
-  cause_of_split reads writes command fault.Input h = absurd h
-  cause_of_split reads writes command fault.Output h = absurd h
+  -- what refuses an answer is no failure of a stream
+  cause_of_answer : (reads writes : Type 0) (e : AnswerFault) → IsCaused reads writes (fault_of_answer e)
+  cause_of_answer reads writes answer_fault.NotMultiKey = tt
+  cause_of_answer reads writes answer_fault.Memory = tt
 
-  cause_of_answer : (reads writes : Type 0) (asked : Question) (e : Fault) → WhyNoAnswer asked e → IsCaused reads writes e
-  cause_of_answer reads writes (Node key) e h = rw h tt
-  cause_of_answer reads writes (Split command) e h = cause_of_split reads writes (map string_bytes command.now) e h
-
-  pub caused_by_answer : (reads writes : Type 0) (asked : Question) (e : Fault) (r : Result ℕ Fault) → WhyNoAnswer asked e → IsErrAnd r (λ x. x ≡ e) → IfErr r (IsCaused reads writes)
-  caused_by_answer reads writes asked e (Ok x) h is = absurd is
-  caused_by_answer reads writes asked e (Err x) h is = rw is (cause_of_answer reads writes asked e h)
+  pub caused_by_answer : (reads writes : Type 0) (e : AnswerFault) (r : Result ℕ Fault) → IsErrAnd r (λ x. x ≡ fault_of_answer e) → IfErr r (IsCaused reads writes)
+  caused_by_answer reads writes e (Ok x) is = absurd is
+  caused_by_answer reads writes e (Err x) is = rw is (cause_of_answer reads writes e)
 
   pub answered : (words : List (List ℕ)) (input left out new : Option (List ℕ)) (ranges : List RangeNodes) (text : List ℕ) (status : ℕ) → IfSome input (λ bytes. IsMap (leading_lines bytes) ranges) → Leaves input left (λ bytes rest. rest ≡ after_map bytes)
       → IsAnswer (insert_ranges [] ranges) words text status → Appends out new text → HasAnswer handed words input left out new status
@@ -194,14 +177,14 @@ module _ (handed : Bool) where
   begun words (Some bytes) (Some rest) out new ranges text status k m l a t =
       (take k text, t, inl (rw l record { whole = text; status = status; called_for = answer words bytes text status ranges m a; count = k; begins = refl }))
 
-  pub not_written : (words : List (List ℕ)) (input left out new : Option (List ℕ)) (ranges : List RangeNodes) (text : List ℕ) (status k : ℕ) (e : Fault) (r : Result ℕ Fault) → IfSome input (λ bytes. IsMap (leading_lines bytes) ranges)
-      → Leaves input left (λ bytes rest. rest ≡ after_map bytes) → IsAnswer (insert_ranges [] ranges) words text status → Appends out new (take k text) → e ≡ fault.Output → IsErrAnd r (λ x. x ≡ e) → MatchResult r (HasAnswer handed words input left out new) (Explains handed words input left out new)
-  not_written words input left out new ranges text status k e (Ok x) m l a t f is = absurd is
-  not_written words input left out new ranges text status k e (Err x) m l a t f is = rw (is, f) (begun words input left out new ranges text status k m l a t)
+  pub not_written : (words : List (List ℕ)) (input left out new : Option (List ℕ)) (ranges : List RangeNodes) (text : List ℕ) (status k : ℕ) (r : Result ℕ Fault) → IfSome input (λ bytes. IsMap (leading_lines bytes) ranges)
+      → Leaves input left (λ bytes rest. rest ≡ after_map bytes) → IsAnswer (insert_ranges [] ranges) words text status → Appends out new (take k text) → IsErrAnd r (λ x. x ≡ fault.Output) → MatchResult r (HasAnswer handed words input left out new) (Explains handed words input left out new)
+  not_written words input left out new ranges text status k (Ok x) m l a t is = absurd is
+  not_written words input left out new ranges text status k (Err x) m l a t is = rw is (begun words input left out new ranges text status k m l a t)
 
-  pub caused_by_output : (reads writes : Type 0) (e : Fault) (r : Result ℕ Fault) → e ≡ fault.Output → writes → IsErrAnd r (λ x. x ≡ e) → IfErr r (IsCaused reads writes)
-  caused_by_output reads writes e (Ok x) f h is = absurd is
-  caused_by_output reads writes e (Err x) f h is = rw (is, f) h
+  pub caused_by_output : (reads writes : Type 0) (r : Result ℕ Fault) → writes → IsErrAnd r (λ x. x ≡ fault.Output) → IfErr r (IsCaused reads writes)
+  caused_by_output reads writes (Ok x) h is = absurd is
+  caused_by_output reads writes (Err x) h is = rw is h
 
   -- The run of commands.
   pub ran_to_end : (words : List (List ℕ)) (direction : Direction) (input mid left out new : Option (List ℕ)) (ranges : List RangeNodes) → IsRunWords direction words → IfSome input (λ bytes. IsMap (leading_lines bytes) ranges) → Leaves input mid (λ bytes rest. rest ≡ after_map bytes)
@@ -209,30 +192,27 @@ module _ (handed : Bool) where
   ran_to_end words direction input mid left out new ranges asked m l (text, written, all) =
       (text, written, after_the_map _ _ _ input mid left m l all (λ bytes rest is_map run. run_to_end words direction bytes rest text ranges asked is_map run))
 
-  stopped_early : (words : List (List ℕ)) (direction : Direction) (first : ℕ) (input mid left out new : Option (List ℕ)) (ranges : List RangeNodes) (e : Fault) → IsRunWords direction words → first ≡ length ranges + 2 → IfSome input (λ bytes. IsMap (leading_lines bytes) ranges)
-      → Leaves input mid (λ bytes rest. rest ≡ after_map bytes) → RunStops handed direction (insert_ranges [] ranges) first mid left out new e → Explains handed words input left out new e
-  stopped_early words direction first input mid left out new ranges fault.Usage asked f m l (text, written, stopped) = absurd stopped
-  stopped_early words direction first input mid left out new ranges (fault.BadMapLine n) asked f m l (text, written, stopped) = absurd stopped
-  stopped_early words direction first input mid left out new ranges fault.NotMultiKey asked f m l (text, written, stopped) = absurd stopped
-  stopped_early words direction first input mid left out new ranges (fault.Command n r) asked f m l (text, written, stopped) = (
+  stopped_early : (words : List (List ℕ)) (direction : Direction) (first : ℕ) (input mid left out new : Option (List ℕ)) (ranges : List RangeNodes) (e : RunFault) → IsRunWords direction words → first ≡ length ranges + 2 → IfSome input (λ bytes. IsMap (leading_lines bytes) ranges)
+      → Leaves input mid (λ bytes rest. rest ≡ after_map bytes) → RunStops handed direction (insert_ranges [] ranges) first mid left out new e → Explains handed words input left out new (fault_of_run e)
+  stopped_early words direction first input mid left out new ranges (run_fault.Command n r) asked f m l (text, written, stopped) = (
     text,
     written,
     (direction, asked, after_the_map _ _ _ input mid left m l stopped (λ bytes rest is_map at. record { ranges = ranges; is_map = is_map; stops = begins_at_refused handed direction _ first _ rest text n r at })),
     after_the_map _ _ _ input mid left m l stopped (λ bytes rest is_map at. run_refused words direction bytes rest text ranges n r asked is_map (subst (λ (number : ℕ). RefusedAt handed direction (insert_ranges [] ranges) number (after_map bytes) rest text n r) (first_line bytes ranges first f is_map) at)),
   )
-  stopped_early words direction first input mid left out new ranges fault.Memory asked f m l (text, written, stopped) =
+  stopped_early words direction first input mid left out new ranges run_fault.Memory asked f m l (text, written, stopped) =
       (text, written, run_request direction words asked, inr (direction, asked, after_the_map _ _ _ input mid left m l stopped (λ bytes rest is_map stops. record { ranges = ranges; is_map = is_map; stops = stops })))
-  stopped_early words direction first input mid left out new ranges fault.Input asked f m l (text, written, stopped) =
+  stopped_early words direction first input mid left out new ranges run_fault.Input asked f m l (text, written, stopped) =
       (text, written, run_request direction words asked, inr (direction, asked, after_the_map _ _ _ input mid left m l stopped (λ bytes rest is_map stops. record { ranges = ranges; is_map = is_map; stops = stops })))
-  stopped_early words direction first input mid left out new ranges fault.Output asked f m l (text, written, stopped) =
+  stopped_early words direction first input mid left out new ranges run_fault.Output asked f m l (text, written, stopped) =
       (text, written, inr (direction, asked, after_the_map _ _ _ input mid left m l stopped (λ bytes rest is_map cut. record { ranges = ranges; is_map = is_map; cut = cut })))
 
-  pub run_stopped : (words : List (List ℕ)) (direction : Direction) (first : ℕ) (input mid left out new : Option (List ℕ)) (ranges : List RangeNodes) (e : Fault) (r : Result ℕ Fault) → IsRunWords direction words → first ≡ length ranges + 2 → IfSome input (λ bytes. IsMap (leading_lines bytes) ranges)
-      → Leaves input mid (λ bytes rest. rest ≡ after_map bytes) → RunStops handed direction (insert_ranges [] ranges) first mid left out new e → IsErrAnd r (λ x. x ≡ e) → MatchResult r (HasAnswer handed words input left out new) (Explains handed words input left out new)
+  pub run_stopped : (words : List (List ℕ)) (direction : Direction) (first : ℕ) (input mid left out new : Option (List ℕ)) (ranges : List RangeNodes) (e : RunFault) (r : Result ℕ Fault) → IsRunWords direction words → first ≡ length ranges + 2 → IfSome input (λ bytes. IsMap (leading_lines bytes) ranges)
+      → Leaves input mid (λ bytes rest. rest ≡ after_map bytes) → RunStops handed direction (insert_ranges [] ranges) first mid left out new e → IsErrAnd r (λ x. x ≡ fault_of_run e) → MatchResult r (HasAnswer handed words input left out new) (Explains handed words input left out new)
   run_stopped words direction first input mid left out new ranges e (Ok x) asked f m l h is = absurd is
   run_stopped words direction first input mid left out new ranges e (Err x) asked f m l h is = rw is (stopped_early words direction first input mid left out new ranges e asked f m l h)
 
-  pub caused_as : (reads writes : Type 0) (e : Fault) (r : Result ℕ Fault) → IsCaused reads writes e → IsErrAnd r (λ x. x ≡ e) → IfErr r (IsCaused reads writes)
+  pub caused_as : (reads writes : Type 0) (e : RunFault) (r : Result ℕ Fault) → IsCaused reads writes (fault_of_run e) → IsErrAnd r (λ x. x ≡ fault_of_run e) → IfErr r (IsCaused reads writes)
   caused_as reads writes e (Ok x) h is = absurd is
   caused_as reads writes e (Err x) h is = rw is h
 

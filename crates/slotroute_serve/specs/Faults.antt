@@ -2,12 +2,22 @@
 use Rattle.std.specs.Prelude.{◌≡◌, ◌≢◌, ℕ, List, None, codes, ⊤}
 use Rattle.std.specs.declared.io.ErrorKind.{ErrorKind}
 use Rattle.std.specs.declared.io.ErrorKind.TheVariants.{OutOfMemory}
-use Rattle.slotroute_serve.specs.Lines.{after_lines, after_map, StopsInMap}
+use Rattle.slotroute_run.specs.declared.refusal.CommandFault.{CommandFault}
+use Rattle.slotroute_run.specs.declared.refusal.CommandFault.TheVariants as command
+use Rattle.slotroute_serve.specs.Lines.{after_lines, StopsInMap}
 use Rattle.slotroute_serve.specs.MapLines.{IsFirstBadLine}
 use Rattle.slotroute_serve.specs.Output.{usage_line, bad_map_line, not_multi_key_line, refused_line}
 use Rattle.slotroute_serve.specs.Split.{split_routes}
+use Rattle.slotroute_serve.specs.declared.fault.AnswerFault.{AnswerFault}
+use Rattle.slotroute_serve.specs.declared.fault.AnswerFault.TheVariants as answer
 use Rattle.slotroute_serve.specs.declared.fault.Fault.{Fault}
 use Rattle.slotroute_serve.specs.declared.fault.Fault.TheVariants.{Usage, BadMapLine, NotMultiKey, Command, Memory, Input, Output as OutputFailed}
+use Rattle.slotroute_serve.specs.declared.fault.MapFault.{MapFault}
+use Rattle.slotroute_serve.specs.declared.fault.MapFault.TheVariants as map
+use Rattle.slotroute_serve.specs.declared.fault.ReadFault.{ReadFault}
+use Rattle.slotroute_serve.specs.declared.fault.ReadFault.TheVariants as read
+use Rattle.slotroute_serve.specs.declared.fault.RunFault.{RunFault}
+use Rattle.slotroute_serve.specs.declared.fault.RunFault.TheVariants as run
 
 -- the line that tells of a fault
 abbrev pub fault_line : Fault → List ℕ
@@ -19,60 +29,60 @@ fault_line Memory = codes "slotroute: no memory\n"
 fault_line Input = codes "slotroute: input failed\n"
 fault_line OutputFailed = codes "slotroute: output failed\n"
 
--- what an error of the reader becomes, by its kind: out of memory, or a failed input
-pub record IsReaderFault (kind : ErrorKind) (fault : Fault) : Type 0 where
-  pub memory : kind ≡ OutOfMemory → fault ≡ Memory
-  pub input : kind ≢ OutOfMemory → fault ≡ Input
-
--- why there is no map of these leading lines: one of them is bad, or there was trouble
-abbrev pub WhyNoMap : List (List (List ℕ)) → Fault → Type 0
-WhyNoMap lines Usage = ⊥
-WhyNoMap lines (BadMapLine number) = IsFirstBadLine lines number
-WhyNoMap lines NotMultiKey = ⊥
-WhyNoMap lines (Command number refusal) = ⊥
-WhyNoMap lines Memory = ⊤
-WhyNoMap lines Input = ⊤
-WhyNoMap lines OutputFailed = ⊥
-
--- what may go wrong with the leading lines: one of them is bad, or there was trouble, where a read
--- may fail for that of the input
-abbrev pub IsMapFault : Type 0 → Fault → Type 0
-IsMapFault reading Usage = ⊥
-IsMapFault reading (BadMapLine number) = ⊤
-IsMapFault reading NotMultiKey = ⊥
-IsMapFault reading (Command number refusal) = ⊥
-IsMapFault reading Memory = ⊤
-IsMapFault reading Input = reading
-IsMapFault reading OutputFailed = ⊥
-
 -- what calls for a fault besides the input: a read that may fail for that of the input, a write
 -- that may for that of the output
 abbrev pub IsCaused : Type 0 → Type 0 → Fault → Type 0
-IsCaused reading writing Usage = ⊤
-IsCaused reading writing (BadMapLine number) = ⊤
-IsCaused reading writing NotMultiKey = ⊤
-IsCaused reading writing (Command number refusal) = ⊤
-IsCaused reading writing Memory = ⊤
 IsCaused reading writing Input = reading
 IsCaused reading writing OutputFailed = writing
+IsCaused reading writing other = ⊤
 
--- what is left of the input at a fault of the map, or of an answer on it
-abbrev pub IsLeftAt : List ℕ → List ℕ → Fault → Type 0
-IsLeftAt input left Usage = left ≡ input
-IsLeftAt input left (BadMapLine number) = left ≡ after_lines number input
-IsLeftAt input left NotMultiKey = left ≡ after_map input
-IsLeftAt input left (Command number refusal) = ⊥
-IsLeftAt input left Memory = StopsInMap input left
-IsLeftAt input left Input = StopsInMap input left
-IsLeftAt input left OutputFailed = left ≡ after_map input
+-- The fault of each stage, as one of the program.
+abbrev pub fault_of_map : MapFault → Fault
+fault_of_map (map.BadLine number) = BadMapLine number
+fault_of_map map.Memory = Memory
+fault_of_map map.Input = Input
+
+abbrev pub fault_of_answer : AnswerFault → Fault
+fault_of_answer answer.NotMultiKey = NotMultiKey
+fault_of_answer answer.Memory = Memory
+
+abbrev pub fault_of_run : RunFault → Fault
+fault_of_run (run.Command number refusal) = Command number refusal
+fault_of_run run.Memory = Memory
+fault_of_run run.Input = Input
+fault_of_run run.Output = OutputFailed
+
+-- what a line that could not be read is to the map, and to a run
+abbrev pub map_unread : ReadFault → MapFault
+map_unread read.Memory = map.Memory
+map_unread read.Input = map.Input
+
+abbrev pub run_unread : ReadFault → RunFault
+run_unread read.Memory = run.Memory
+run_unread read.Input = run.Input
+
+-- what it is to a run that the command of the line with this number was not run
+abbrev pub fault_at_line : ℕ → CommandFault → RunFault
+fault_at_line number (command.Refused refusal) = run.Command number refusal
+fault_at_line number command.Memory = run.Memory
+
+-- what an error of the reader becomes, by its kind: out of memory, or a failed input
+pub record IsReaderFault (kind : ErrorKind) (fault : ReadFault) : Type 0 where
+  pub memory : kind ≡ OutOfMemory → fault ≡ read.Memory
+  pub input : kind ≢ OutOfMemory → fault ≡ read.Input
+
+-- why there is no map of these leading lines: one of them is bad, or there was trouble
+abbrev pub WhyNoMap : List (List (List ℕ)) → MapFault → Type 0
+WhyNoMap lines (map.BadLine number) = IsFirstBadLine lines number
+WhyNoMap lines trouble = ⊤
+
+-- what is left of the input where there is no map
+abbrev pub IsLeftAt : List ℕ → List ℕ → MapFault → Type 0
+IsLeftAt input left (map.BadLine number) = left ≡ after_lines number input
+IsLeftAt input left trouble = StopsInMap input left
 
 -- why there are no lines for a command: it is no complete multi-key command, or memory was
 -- refused
-abbrev pub WhyNoSplit : List (List ℕ) → Fault → Type 0
-WhyNoSplit command Usage = ⊥
-WhyNoSplit command (BadMapLine number) = ⊥
-WhyNoSplit command NotMultiKey = split_routes command ≡ None
-WhyNoSplit command (Command number refusal) = ⊥
-WhyNoSplit command Memory = ⊤
-WhyNoSplit command Input = ⊥
-WhyNoSplit command OutputFailed = ⊥
+abbrev pub WhyNoSplit : List (List ℕ) → AnswerFault → Type 0
+WhyNoSplit command answer.NotMultiKey = split_routes command ≡ None
+WhyNoSplit command answer.Memory = ⊤

@@ -2,8 +2,8 @@
 use Rattle.std.specs.Prelude.{◌≡◌, ◌≢◌, ℕ, List, [], map, string_bytes}
 use Rattle.slotroute_serve.specs.Faults.{WhyNoSplit}
 use Rattle.slotroute_serve.specs.Output.{node_words, split_words, IsRunWords}
-use Rattle.slotroute_serve.specs.declared.fault.Fault.{Fault}
-use Rattle.slotroute_serve.specs.declared.fault.Fault.TheVariants.{Memory}
+use Rattle.slotroute_serve.specs.declared.fault.AnswerFault.{AnswerFault}
+use Rattle.slotroute_serve.specs.declared.fault.AnswerFault.TheVariants.{Memory}
 use Rattle.slotroute_serve.specs.declared.request.Question.{Question}
 use Rattle.slotroute_serve.specs.declared.request.Question.TheVariants.{Node, Split}
 use Rattle.slotroute_serve.specs.declared.request.Request.{Request}
@@ -21,6 +21,6 @@ AsksFor words (Answer question) = Asks words question
 AsksFor words (Run direction) = IsRunWords direction words
 
 -- why a question has no answer on a map
-abbrev pub WhyNoAnswer : Question → Fault → Type 0
+abbrev pub WhyNoAnswer : Question → AnswerFault → Type 0
 WhyNoAnswer (Node key) fault = fault ≡ Memory
 WhyNoAnswer (Split command) fault = WhyNoSplit (map string_bytes command.now) fault

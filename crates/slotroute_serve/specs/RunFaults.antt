@@ -5,42 +5,33 @@ use Rattle.cluster_map.specs.RangeMap.{Entry}
 use Rattle.cluster_map.specs.SlotNodes.{SlotNodes}
 use Rattle.slotroute_run.specs.Commands.{IsRefused}
 use Rattle.slotroute_run.specs.declared.direction.Direction.{Direction}
+use Rattle.slotroute_run.specs.declared.refusal.CommandFault.{CommandFault}
+use Rattle.slotroute_run.specs.declared.refusal.CommandFault.TheVariants.{Refused, Memory as NoMemory}
 use Rattle.slotroute_serve.specs.Runs.{AllRun, RefusedAt, StopsAfter, CutShort}
 use Rattle.slotroute_serve.specs.Streams.{Leaves}
-use Rattle.slotroute_serve.specs.declared.fault.Fault.{Fault}
-use Rattle.slotroute_serve.specs.declared.fault.Fault.TheVariants.{Usage, BadMapLine, NotMultiKey, Command, Memory, Input, Output as OutputFailed}
+use Rattle.slotroute_serve.specs.declared.fault.RunFault.{RunFault}
+use Rattle.slotroute_serve.specs.declared.fault.RunFault.TheVariants.{Command, Output as OutputFailed}
 
--- why the line of this number, with these fields, has no text
-abbrev pub WhyNoText : List (Entry SlotNodes) → ℕ → List (List ℕ) → Fault → Type 0
-WhyNoText entries line fields Usage = ⊥
-WhyNoText entries line fields (BadMapLine number) = ⊥
-WhyNoText entries line fields NotMultiKey = ⊥
-WhyNoText entries line fields (Command number refusal) =
-    (number ≡ line) × (fields ≢ []) × IsRefused entries fields refusal
-WhyNoText entries line fields Memory = ⊤
-WhyNoText entries line fields Input = ⊥
-WhyNoText entries line fields OutputFailed = ⊥
+-- why a line with these fields has no text: its command is refused, or memory was
+abbrev pub WhyNoText : List (Entry SlotNodes) → List (List ℕ) → CommandFault → Type 0
+WhyNoText entries fields (Refused refusal) = (fields ≢ []) × IsRefused entries fields refusal
+WhyNoText entries fields NoMemory = ⊤
 
 module _ (handed : Bool) (direction : Direction) (entries : List (Entry SlotNodes))
     (first : ℕ) where
   -- what was read and printed when a run ended with a fault, where the first line has this number
-  abbrev pub WhyStopped : Option (List ℕ) → Option (List ℕ) → List ℕ → Fault → Type 0
-  WhyStopped input left text Usage = ⊥
-  WhyStopped input left text (BadMapLine number) = ⊥
-  WhyStopped input left text NotMultiKey = ⊥
+  abbrev pub WhyStopped : Option (List ℕ) → Option (List ℕ) → List ℕ → RunFault → Type 0
   WhyStopped input left text (Command number refusal) =
       Leaves input left
       (λ bytes rest. RefusedAt handed direction entries first bytes rest text number refusal)
-  WhyStopped input left text Memory =
-      Leaves input left (λ bytes rest. StopsAfter handed direction entries bytes rest text)
-  WhyStopped input left text Input =
-      Leaves input left (λ bytes rest. StopsAfter handed direction entries bytes rest text)
   WhyStopped input left text OutputFailed =
       Leaves input left (λ bytes rest. CutShort handed direction entries bytes rest text)
+  WhyStopped input left text trouble =
+      Leaves input left (λ bytes rest. StopsAfter handed direction entries bytes rest text)
 
   -- a run that ended with a fault
   abbrev pub RunStops : Option (List ℕ) → Option (List ℕ) → Option (List ℕ) → Option (List ℕ)
-      → Fault → Type 0
+      → RunFault → Type 0
   RunStops input left out_old out_new fault =
       (text : List ℕ) × Appends out_old out_new text × WhyStopped input left text fault
 

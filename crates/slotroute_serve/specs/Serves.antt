@@ -10,7 +10,7 @@ use Rattle.slotroute_serve.specs.Output.{Output, IsRequest, IsRunWords, usage_li
 use Rattle.slotroute_serve.specs.Runs.{StopsAfter, CutShort}
 use Rattle.slotroute_serve.specs.Streams.{Leaves}
 use Rattle.slotroute_serve.specs.declared.fault.Fault.{Fault}
-use Rattle.slotroute_serve.specs.declared.fault.Fault.TheVariants.{Usage, BadMapLine, NotMultiKey, Command, Memory, Input, Output as OutputFailed}
+use Rattle.slotroute_serve.specs.declared.fault.Fault.TheVariants.{Usage, BadMapLine, NotMultiKey, Command, Memory, Output as OutputFailed}
 
 -- text is the first bytes of an output that is called for, perhaps all of it
 pub record BeginsOutput (handed : Bool) (words : List (List ℕ)) (input left text : List ℕ)
@@ -68,13 +68,9 @@ IsCutShort handed words input left text =
 
 -- the fault's line has a number, which takes memory to write
 abbrev pub IsNumbered : Fault → Type 0
-IsNumbered Usage = ⊥
 IsNumbered (BadMapLine number) = ⊤
-IsNumbered NotMultiKey = ⊥
 IsNumbered (Command number refusal) = ⊤
-IsNumbered Memory = ⊥
-IsNumbered Input = ⊥
-IsNumbered OutputFailed = ⊥
+IsNumbered other = ⊥
 
 -- text is the line, or where a write may fail, its first bytes
 abbrev pub IsTold : Type 0 → List ℕ → List ℕ → Type 0
@@ -104,14 +100,11 @@ Explains handed words input left out_old out_new (Command number refusal) =
     × Leaves input left (λ bytes rest. BeginsRun handed direction bytes rest outs))
     × Leaves input left
     (λ bytes rest. Output handed words bytes rest outs (refused_line number refusal) 2)
-Explains handed words input left out_old out_new Memory =
-    (outs : List ℕ) × Appends out_old out_new outs × IsRequest words
-    × IsUnfinished handed words input left outs
-Explains handed words input left out_old out_new Input =
-    (outs : List ℕ) × Appends out_old out_new outs × IsRequest words
-    × IsUnfinished handed words input left outs
 Explains handed words input left out_old out_new OutputFailed =
     (outs : List ℕ) × Appends out_old out_new outs × IsCutShort handed words input left outs
+Explains handed words input left out_old out_new trouble =
+    (outs : List ℕ) × Appends out_old out_new outs × IsRequest words
+    × IsUnfinished handed words input left outs
 
 -- memory was refused or a stream failed, where calls that read, write or tell may fail: what was
 -- read and written till then, and what was told of it

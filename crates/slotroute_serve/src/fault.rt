@@ -1,7 +1,7 @@
 ghost use Rattle.std.specs.Prelude.{◌≡◌};
-ghost use Rattle.slotroute_serve.specs.declared.fault.Fault.TheVariants.{Memory};
+ghost use Rattle.slotroute_serve.specs.Faults.{fault_at_line};
 
-use slotroute_run::Refusal;
+use slotroute_run::{CommandFault, Refusal};
 use std::alloc::{AllocError, AllocFailed};
 use std::io;
 
@@ -24,24 +24,56 @@ pub enum Fault {
     Output,
 }
 
-impl From<AllocError> for Fault {
-    ghost from_gives = { λ _ fault. fault ≡ Memory };
+/// Why a line could not be read.
+#[derive(Debug, Drop)]
+pub enum ReadFault {
+    Memory,
+    Input,
+}
 
-    fn from(_error: AllocError) -> Self {
-        Fault::Memory
+/// A text could not be written.
+#[derive(Debug, Drop)]
+pub struct WriteFault;
+
+/// Why there is no map.
+#[derive(Debug, Drop)]
+pub enum MapFault {
+    /// This line, counted from 1, is not a map line.
+    BadLine(u64),
+    Memory,
+    Input,
+}
+
+/// Why a question has no answer.
+#[derive(Debug, Drop)]
+pub enum AnswerFault {
+    NotMultiKey,
+    Memory,
+}
+
+/// Why a run of commands ends before the input does.
+#[derive(Debug, Drop)]
+pub enum RunFault {
+    /// The command of this line, counted from 1, is refused.
+    Command(u64, Refusal),
+    Memory,
+    Input,
+    Output,
+}
+
+impl RunFault {
+    /// What it is to the run that the command of the line with this number was not run.
+    pub fn at_line(number: u64, fault: CommandFault) -> RunFault
+        ensures { result ≡ fault_at_line number fault }
+    {
+        match fault {
+            CommandFault::Refused(refusal) => RunFault::Command(number, refusal),
+            CommandFault::Memory => RunFault::Memory,
+        }
     }
 }
 
-impl<T: Drop> From<AllocFailed<T>> for Fault {
-    ghost from_gives = { λ _ fault. fault ≡ Memory };
-
-    fn from(_error: AllocFailed<T>) -> Self {
-        Fault::Memory
-    }
-}
-
-/// A failure of the reader.
-impl From<io::Error> for Fault {
+impl From<io::Error> for ReadFault {
     ghost use Rattle.std.specs.IoError.{error_kind};
     ghost use Rattle.slotroute_serve.specs.Faults.{IsReaderFault};
 
@@ -49,9 +81,147 @@ impl From<io::Error> for Fault {
 
     fn from(error: io::Error) -> Self {
         if error.kind() == io::ErrorKind::OutOfMemory {
-            Fault::Memory
+            ReadFault::Memory
         } else {
-            Fault::Input
+            ReadFault::Input
+        }
+    }
+}
+
+impl From<AllocError> for MapFault {
+    ghost use Rattle.slotroute_serve.specs.declared.fault.MapFault.TheVariants.{Memory};
+
+    ghost from_gives = { λ _ fault. fault ≡ Memory };
+
+    fn from(_error: AllocError) -> Self {
+        MapFault::Memory
+    }
+}
+
+impl<T: Drop> From<AllocFailed<T>> for MapFault {
+    ghost use Rattle.slotroute_serve.specs.declared.fault.MapFault.TheVariants.{Memory};
+
+    ghost from_gives = { λ _ fault. fault ≡ Memory };
+
+    fn from(_error: AllocFailed<T>) -> Self {
+        MapFault::Memory
+    }
+}
+
+impl From<ReadFault> for MapFault {
+    ghost use Rattle.slotroute_serve.specs.Faults.{map_unread};
+
+    ghost from_gives = { λ read fault. fault ≡ map_unread read };
+
+    fn from(read: ReadFault) -> Self {
+        match read {
+            ReadFault::Memory => MapFault::Memory,
+            ReadFault::Input => MapFault::Input,
+        }
+    }
+}
+
+impl From<AllocError> for AnswerFault {
+    ghost use Rattle.slotroute_serve.specs.declared.fault.AnswerFault.TheVariants.{Memory};
+
+    ghost from_gives = { λ _ fault. fault ≡ Memory };
+
+    fn from(_error: AllocError) -> Self {
+        AnswerFault::Memory
+    }
+}
+
+impl From<AllocError> for RunFault {
+    ghost use Rattle.slotroute_serve.specs.declared.fault.RunFault.TheVariants.{Memory};
+
+    ghost from_gives = { λ _ fault. fault ≡ Memory };
+
+    fn from(_error: AllocError) -> Self {
+        RunFault::Memory
+    }
+}
+
+impl From<ReadFault> for RunFault {
+    ghost use Rattle.slotroute_serve.specs.Faults.{run_unread};
+
+    ghost from_gives = { λ read fault. fault ≡ run_unread read };
+
+    fn from(read: ReadFault) -> Self {
+        match read {
+            ReadFault::Memory => RunFault::Memory,
+            ReadFault::Input => RunFault::Input,
+        }
+    }
+}
+
+impl From<WriteFault> for RunFault {
+    ghost use Rattle.slotroute_serve.specs.declared.fault.RunFault.TheVariants.{Output};
+
+    ghost from_gives = { λ _ fault. fault ≡ Output };
+
+    fn from(_unwritten: WriteFault) -> Self {
+        RunFault::Output
+    }
+}
+
+impl From<AllocError> for Fault {
+    ghost use Rattle.slotroute_serve.specs.declared.fault.Fault.TheVariants.{Memory};
+
+    ghost from_gives = { λ _ fault. fault ≡ Memory };
+
+    fn from(_error: AllocError) -> Self {
+        Fault::Memory
+    }
+}
+
+impl From<WriteFault> for Fault {
+    ghost use Rattle.slotroute_serve.specs.declared.fault.Fault.TheVariants.{Output};
+
+    ghost from_gives = { λ _ fault. fault ≡ Output };
+
+    fn from(_unwritten: WriteFault) -> Self {
+        Fault::Output
+    }
+}
+
+impl From<MapFault> for Fault {
+    ghost use Rattle.slotroute_serve.specs.Faults.{fault_of_map};
+
+    ghost from_gives = { λ stage fault. fault ≡ fault_of_map stage };
+
+    fn from(stage: MapFault) -> Self {
+        match stage {
+            MapFault::BadLine(number) => Fault::BadMapLine(number),
+            MapFault::Memory => Fault::Memory,
+            MapFault::Input => Fault::Input,
+        }
+    }
+}
+
+impl From<AnswerFault> for Fault {
+    ghost use Rattle.slotroute_serve.specs.Faults.{fault_of_answer};
+
+    ghost from_gives = { λ stage fault. fault ≡ fault_of_answer stage };
+
+    fn from(stage: AnswerFault) -> Self {
+        match stage {
+            AnswerFault::NotMultiKey => Fault::NotMultiKey,
+            AnswerFault::Memory => Fault::Memory,
+        }
+    }
+}
+
+impl From<RunFault> for Fault {
+    ghost use Rattle.slotroute_serve.specs.Faults.{fault_of_run};
+
+    ghost from_gives = { λ stage fault. fault ≡ fault_of_run stage };
+
+    fn from(stage: RunFault) -> Self {
+        match stage {
+            RunFault::Command(number, refusal) => Fault::Command(number, refusal),
+            RunFault::Memory => Fault::Memory,
+            RunFault::Input => Fault::Input,
+            RunFault::Output => Fault::Output,
         }
     }
 }

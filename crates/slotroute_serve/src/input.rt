@@ -5,23 +5,22 @@ ghost use Rattle.cluster_map.specs.Address.{Address};
 ghost use Rattle.cluster_map.specs.SlotNodes.{RangeNodes};
 ghost use Rattle.slotroute_serve.specs.Lines.{line_of, fields_of, leading_lines, after_map, StopsInLine};
 ghost use Rattle.slotroute_serve.specs.MapLines.{IsNodeField, IsMapLine, IsMap};
-ghost use Rattle.slotroute_serve.specs.Faults.{WhyNoMap, IsMapFault, IsLeftAt};
+ghost use Rattle.slotroute_serve.specs.Faults.{WhyNoMap, IsLeftAt};
 ghost use Rattle.slotroute_serve.specs.Streams.{MayFailToRead, Leaves};
 
-use crate::fault::Fault;
+use crate::fault::{MapFault, ReadFault};
 use crate::streams::Source;
 use cluster_map::node_address::split_node_address;
 use cluster_map::{NodeAddress, SlotRange};
 use cluster_slots::parse_u16;
 use std::alloc::{AllocError, Global};
-use std::io;
 
 /// Reads the ranges of the leading lines, and the line with no field that ends them.
-pub fn read_map<S: Source>(alloc: Global, source: &mut S) -> Result<Vec<SlotRange>, Fault>
+pub fn read_map<S: Source>(alloc: Global, source: &mut S) -> Result<Vec<SlotRange>, MapFault>
     ensures map { IfSome (S.remaining source.old) (λ input. MatchResult result
         (λ ranges. IsMap (leading_lines input) ranges.items)
         (WhyNoMap (leading_lines input))) }
-    ensures cause { IfErr result (IsMapFault (MayFailToRead S.fails)) }
+    ensures cause { IfErr result (λ fault. fault ≡ MapFault.Input → MayFailToRead S.fails) }
     ensures rest { Leaves (S.remaining source.old) (S.remaining source.new) (λ input left.
         MatchResult result (λ _. left ≡ after_map input) (IsLeftAt input left)) }
 {
@@ -34,14 +33,14 @@ pub fn read_map<S: Source>(alloc: Global, source: &mut S) -> Result<Vec<SlotRang
         }
         match map_line(alloc, &fields)? {
             Some(range) => ranges.push(range)?,
-            None => return Err(Fault::BadMapLine(ranges.len() as u64 + 1)),
+            None => return Err(MapFault::BadLine(ranges.len() as u64 + 1)),
         }
     }
     Ok(ranges)
 }
 
 /// Reads one line in place of what `line` held, or answers that the input is at its end.
-pub(super) fn next_line<S: Source>(source: &mut S, line: &mut Vec<u8>) -> io::Result<bool>
+pub(super) fn next_line<S: Source>(source: &mut S, line: &mut Vec<u8>) -> Result<bool, ReadFault>
     ensures text { OnOk result
         (IfSome (S.remaining source.old) (λ input. line.new.items ≡ line_of input)) }
     ensures there { IfOk result (λ there. IfSome (S.remaining source.old)
@@ -49,7 +48,7 @@ pub(super) fn next_line<S: Source>(source: &mut S, line: &mut Vec<u8>) -> io::Re
     ensures rest { OnOk result (DropsThrough (S.remaining source.old) (S.remaining source.new) 10) }
     ensures stops { OnErr result
         (Leaves (S.remaining source.old) (S.remaining source.new) StopsInLine) }
-    ensures failed { IfErr result (S.fails source.old) }
+    ensures failed { IfErr result (λ fault. fault ≡ ReadFault.Input → MayFailToRead S.fails) }
 {
     line.clear();
     if source.read_line(line)? == 0 {

@@ -3,19 +3,18 @@ ghost use Rattle.std.specs.Io.{WritesAtMost};
 ghost use Rattle.std.specs.Io.KnownBytes.{Appends, WriteAppends};
 ghost use Rattle.slotroute_serve.specs.Streams.{MayFailToWrite};
 
-use crate::fault::Fault;
+use crate::fault::WriteFault;
 use crate::streams::Sink;
 use std::io::{self, ErrorKind};
 
 /// Writes a text and sends it off. Where the writer fails, a beginning of the text may be written.
-pub fn emit<W: Sink>(writer: &mut W, text: &[u8]) -> Result<(), Fault>
+pub fn emit<W: Sink>(writer: &mut W, text: &[u8]) -> Result<(), WriteFault>
     ensures ok { OnOk result (Appends (W.contents writer.old) (W.contents writer.new) text.now) }
-    ensures fault { IfErr result (λ fault. fault ≡ Fault.Output) }
     ensures failed { OnErr result (MayFailToWrite W.fails) }
     ensures begun { OnErr result
         ((k : ℕ) × Appends (W.contents writer.old) (W.contents writer.new) (take k text.now)) }
 {
-    put(writer, text).map_err(|_| Fault::Output)
+    put(writer, text).map_err(|_| WriteFault)
 }
 
 /// Writes a text and sends it off, as `write_all` and `flush` do.

@@ -1,13 +1,13 @@
 ghost use Rattle.std.specs.Prelude.{◌≡◌, ◌≤◌, ◌⊎◌, ℕ, List, ⊤, map, string_bytes, is_some, IfOk, IfErr, OnErr, MatchResult};
 ghost use Rattle.std.specs.Cow.{cow_str_bytes};
 ghost use Rattle.slotroute_serve.specs.Output.{IsRequest, IsAnswer, IsNodeAnswer};
-ghost use Rattle.slotroute_serve.specs.Faults.{fault_line, IsCaused};
+ghost use Rattle.slotroute_serve.specs.Faults.{fault_line, fault_of_run, IsCaused};
 ghost use Rattle.slotroute_serve.specs.Requests.{Asks, WhyNoAnswer};
 ghost use Rattle.slotroute_serve.specs.RunFaults.{RunEnds, RunStops};
 ghost use Rattle.slotroute_serve.specs.Serves.{Serves, HasOutput, RanOutOfMemory, HasAnswer, Explains, Reports, IsNumbered};
 ghost use Rattle.slotroute_serve.specs.Streams.{MayFailToRead, MayFailToWrite};
 
-use crate::fault::Fault;
+use crate::fault::{AnswerFault, Fault, RunFault};
 use crate::input::read_map;
 use crate::output::emit;
 use crate::request::{Question, Request, request_of};
@@ -120,7 +120,7 @@ fn run<R: Source, O: Sink>(
 }
 
 /// The text and the status that answer a question.
-fn answer(alloc: Global, map: &SlotMap, question: &Question) -> Result<(Vec<u8>, u8), Fault>
+fn answer(alloc: Global, map: &SlotMap, question: &Question) -> Result<(Vec<u8>, u8), AnswerFault>
     ensures { MatchResult result
         (λ answer. (words : List (List ℕ)) → Asks words question.now
         → IsAnswer map.now words answer.0.items answer.1)
@@ -144,14 +144,15 @@ fn run_told<R: Source, O: Sink>(
     mut strategy: Option<Box<dyn ReadRoutingStrategy>>,
     reader: &mut R,
     out: &mut O,
-) -> Result<(), Fault>
+) -> Result<(), RunFault>
     ensures run { MatchResult result
         (λ _. RunEnds (is_some strategy) direction.now slot_map.now
         (R.remaining reader.old) (R.remaining reader.new) (O.contents out.old) (O.contents out.new))
         (RunStops (is_some strategy) direction.now slot_map.now first
         (R.remaining reader.old) (R.remaining reader.new) (O.contents out.old)
         (O.contents out.new)) }
-    ensures cause { IfErr result (IsCaused (MayFailToRead R.fails) (MayFailToWrite O.fails)) }
+    ensures cause { IfErr result (λ fault. IsCaused (MayFailToRead R.fails) (MayFailToWrite O.fails)
+        (fault_of_run fault)) }
 {
     tell(alloc, slot_map, &mut strategy)?;
     run_commands(

@@ -1,13 +1,13 @@
 ghost use Rattle.std.specs.Prelude.{[], ◌∷◌, is_some, IfOk, IfErr, MatchResult};
 ghost use Rattle.memory_nodes.specs.Nodes.{keyspace_in};
 ghost use Rattle.slotroute_run.specs.Commands.{AreReadOnly, AreWilling};
-ghost use Rattle.slotroute_serve.specs.Faults.{IsCaused};
+ghost use Rattle.slotroute_serve.specs.Faults.{IsCaused, fault_of_run};
 ghost use Rattle.slotroute_serve.specs.Lines.{fields_of};
 ghost use Rattle.slotroute_serve.specs.Runs.{AreRun};
 ghost use Rattle.slotroute_serve.specs.RunFaults.{RunEnds, RunStops, WhyNoText};
 ghost use Rattle.slotroute_serve.specs.Streams.{MayFailToRead, MayFailToWrite};
 
-use crate::fault::Fault;
+use crate::fault::RunFault;
 use crate::input::{fields_in, next_line};
 use crate::output::emit;
 use crate::streams::{Sink, Source};
@@ -27,14 +27,15 @@ pub fn run_commands<R: Source, O: Sink>(
     strategy: Option<&dyn ReadRoutingStrategy>,
     reader: &mut R,
     out: &mut O,
-) -> Result<(), Fault>
+) -> Result<(), RunFault>
     ensures run { MatchResult result
         (λ _. RunEnds (is_some strategy.entry) direction.now slot_map.now
         (R.remaining reader.old) (R.remaining reader.new) (O.contents out.old) (O.contents out.new))
         (RunStops (is_some strategy.entry) direction.now slot_map.now first
         (R.remaining reader.old) (R.remaining reader.new) (O.contents out.old)
         (O.contents out.new)) }
-    ensures cause { IfErr result (IsCaused (MayFailToRead R.fails) (MayFailToWrite O.fails)) }
+    ensures cause { IfErr result (λ fault. IsCaused (MayFailToRead R.fails) (MayFailToWrite O.fails)
+        (fault_of_run fault)) }
 {
     let read_only = read_only_names(alloc)?;
     let mut nodes = MemoryNodes::new(alloc);
@@ -43,42 +44,39 @@ pub fn run_commands<R: Source, O: Sink>(
         if !next_line(reader, &mut line)? {
             return Ok(());
         }
-        let text = line_text(
-            alloc, direction, number, &line, &read_only, slot_map, strategy, &mut nodes,
-        )?;
-        emit(out, &text)?;
+        match line_text(
+            alloc, direction, &line, &read_only, slot_map, strategy, &mut nodes,
+        ) {
+            Ok(text) => emit(out, &text)?,
+            Err(fault) => return Err(RunFault::at_line(number, fault)),
+        }
     }
     // There is no number for a further line.
-    Err(Fault::Memory)
+    Err(RunFault::Memory)
 }
 
 /// What the command of a line prints, which is nothing where the line has no field.
 fn line_text(
     alloc: Global,
     direction: &Direction,
-    number: u64,
     line: &[u8],
     read_only: &ReadOnlyNames,
     slot_map: &SlotMap,
     strategy: Option<&dyn ReadRoutingStrategy>,
     nodes: &mut MemoryNodes,
-) -> Result<Vec<u8>, Fault>
+) -> Result<Vec<u8>, CommandFault>
     requires names { AreReadOnly read_only.now }
     requires willing { AreWilling nodes.old }
     ensures run { IfOk result (λ text. AreRun (is_some strategy.entry) direction.now slot_map.now
         (fields_of line.now ∷ []) (keyspace_in nodes.old) (keyspace_in nodes.new) text.items) }
-    ensures refused { IfErr result (WhyNoText slot_map.now number (fields_of line.now)) }
+    ensures refused { IfErr result (WhyNoText slot_map.now (fields_of line.now)) }
     ensures willing { AreWilling nodes.new }
 {
     let fields = fields_in(alloc, line)?;
     if fields.is_empty() {
         return Ok(Vec::new(alloc));
     }
-    match run_command(
+    run_command(
         alloc, direction, &fields, read_only, slot_map, strategy, nodes,
-    ) {
-        Ok(text) => Ok(text),
-        Err(CommandFault::Refused(refusal)) => Err(Fault::Command(number, refusal)),
-        Err(CommandFault::Memory) => Err(Fault::Memory),
-    }
+    )
 }

@@ -5,7 +5,7 @@ ghost use Rattle.slotroute_serve.specs.Faults.{WhyNoSplit};
 ghost use Rattle.slotroute_serve.specs.Lines.{space};
 ghost use Rattle.slotroute_serve.specs.Split.{part_line, ArePartLines, IsSplitAnswer};
 
-use crate::fault::Fault;
+use crate::fault::AnswerFault;
 use cluster_map::{NodeAddress, SlotMap};
 use redis_cluster::routing::SplitCommand;
 use resp_core::Cmd;
@@ -17,7 +17,7 @@ pub fn split_answer(
     alloc: Global,
     slot_map: &SlotMap,
     words: &[String],
-) -> Result<(Vec<u8>, u8), Fault>
+) -> Result<(Vec<u8>, u8), AnswerFault>
     ensures { MatchResult result
         (λ answer. IsSplitAnswer slot_map.now (map string_bytes words.now) answer.0.items answer.1)
         (WhyNoSplit (map string_bytes words.now)) }
@@ -25,7 +25,7 @@ pub fn split_answer(
     let command = command_of(alloc, words)?;
     let read_only = read_only_names(alloc)?;
     let Some(split) = SplitCommand::new(alloc, &command, &read_only)? else {
-        return Err(Fault::NotMultiKey);
+        return Err(AnswerFault::NotMultiKey);
     };
     Ok(lines_of(alloc, slot_map, &split)?)
 }

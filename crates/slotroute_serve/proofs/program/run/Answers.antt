@@ -9,8 +9,8 @@ returns-in_default-clause-answer g c = usage_fault (is_some c.args.strategy) _ (
 
 pub returns-in_err-ranges-clause-answer : goal.returns-in_err-ranges-clause-answer
 returns-in_err-ranges-clause-answer g c =
-    no_map (is_some c.args.strategy) _ _ (g.R.Source.remaining c.args.reader.now) (g.R.Source.remaining c.read_map.new.source) (g.O.Sink.contents c.args.out.now) c.in_err-ranges.field-0.0 c.from_residual.result
-    (is_request (is_some c.args.strategy) _ c.in-Some.request c.in-Some.ensures) c.in_err-ranges.ensures.map c.in_err-ranges.ensures.rest c.in_err-ranges.ensures.cause c.from_residual.ensures.1
+    no_map (is_some c.args.strategy) _ (g.R.Source.remaining c.args.reader.now) (g.R.Source.remaining c.read_map.new.source) (g.O.Sink.contents c.args.out.now) c.in_err-ranges.field-0.0 c.from_residual.result
+    (is_request (is_some c.args.strategy) _ c.in-Some.request c.in-Some.ensures) c.in_err-ranges.ensures.map c.in_err-ranges.ensures.rest c.from_residual.ensures.1
 
 pub returns-in_err-ranges-clause-untouched : goal.returns-in_err-ranges-clause-untouched
 returns-in_err-ranges-clause-untouched g c = touched (is_some c.args.strategy) _ _ _ (is_request (is_some c.args.strategy) _ c.in-Some.request c.in-Some.ensures)
@@ -35,8 +35,8 @@ pub returns-in_err-emit-clause-answer : goal.returns-in_err-emit-clause-answer
 returns-in_err-emit-clause-answer g c =
     let asks : Asks (map string_bytes c.args.words.now) c.in-Answer.question = subst (AsksFor (map string_bytes c.args.words.now)) c.in-Answer.is c.in-Some.ensures in
     let (k, part) = c.in_err-emit.ensures.begun in
-    not_written (is_some c.args.strategy) _ (g.R.Source.remaining c.args.reader.now) (g.R.Source.remaining c.read_map.new.source) (g.O.Sink.contents c.args.out.now) (g.O.Sink.contents c.emit.new.writer) c.in_ok-ranges.ranges.items c.deref.result.now c.in_ok-text.status k c.in_err-emit.field-0.0 c.from_residual-in_err-emit.result
-    c.in_ok-ranges.ensures.map c.in_ok-ranges.ensures.rest (rw (c.in_ok-map.ensures.put, ← c.deref.ensures.value) at (c.in_ok-text.ensures _ asks)) part c.in_err-emit.ensures.fault c.from_residual-in_err-emit.ensures.1
+    not_written (is_some c.args.strategy) _ (g.R.Source.remaining c.args.reader.now) (g.R.Source.remaining c.read_map.new.source) (g.O.Sink.contents c.args.out.now) (g.O.Sink.contents c.emit.new.writer) c.in_ok-ranges.ranges.items c.deref.result.now c.in_ok-text.status k c.from_residual-in_err-emit.result
+    c.in_ok-ranges.ensures.map c.in_ok-ranges.ensures.rest (rw (c.in_ok-map.ensures.put, ← c.deref.ensures.value) at (c.in_ok-text.ensures _ asks)) part c.from_residual-in_err-emit.ensures.1
 
 pub returns-in_err-emit-clause-untouched : goal.returns-in_err-emit-clause-untouched
 returns-in_err-emit-clause-untouched g c = touched (is_some c.args.strategy) _ _ _ (is_request (is_some c.args.strategy) _ c.in-Some.request c.in-Some.ensures)
