@@ -1,9 +1,7 @@
 -- Taking one line off the input, and what the lines so far say of its map.
 use Rattle.std.proofs.Common.{◌≡◌, ◌≢◌, ℕ, ◌+◌, ◌-◌, ◌<◌, List, [], ◌∷◌, ◌++◌, map, length, refl, sym, ◌∙◌, ap, true, false, Bool, arith, rules, cond, take, drop, nat_lt, ◌==◌, get_or, suc, zero, Bor, append_assoc, subst, length-append, ◌≤◌}
-use Rattle.std.specs.Prelude.{Option, Some, None, Result, Ok, Err, ⊤, IfSome, IfErr, MatchResult}
+use Rattle.std.specs.Prelude.{Option, Some, None, Result, Ok, Err, ⊤, IfSome, MatchResult}
 use Rattle.std.specs.Result.{IsErrAnd}
-use Rattle.std.specs.declared.io.ErrorKind.{ErrorKind}
-use Rattle.std.specs.declared.io.ErrorKind.TheVariants.{OutOfMemory}
 use Rattle.std.specs.List.{AllZip}
 use Rattle.std.specs.Io.BufRead.{take_through, drop_through, strip_last, first_piece, ends_with_byte, DropsThrough}
 use native.Mathlib.Numerals.{unary_clauses}
@@ -13,12 +11,10 @@ use Rattle.cluster_map.specs.Address.{Address}
 use Rattle.cluster_map.specs.SlotNodes.{RangeNodes}
 use Rattle.slotroute_serve.specs.Lines.{onto_first_line, raw_lines, lines_of, line_of, fields_of, until_blank, leading_lines, after_lines, after_map, StopsInLine, StopsInMap}
 use Rattle.slotroute_serve.specs.MapLines.{IsNodeField, IsMapLine, IsMap, IsFirstBadLine}
-use Rattle.slotroute_serve.specs.Faults.{IsLeftAt, IsReaderFault, WhyNoMap, map_unread}
+use Rattle.slotroute_serve.specs.Faults.{IsLeftAt}
 use Rattle.slotroute_serve.specs.Streams.{Leaves}
 use Rattle.slotroute_serve.specs.declared.fault.MapFault.{MapFault}
 use Rattle.slotroute_serve.specs.declared.fault.MapFault.TheVariants as map_fault
-use Rattle.slotroute_serve.specs.declared.fault.ReadFault.{ReadFault}
-use Rattle.slotroute_serve.specs.declared.fault.ReadFault.TheVariants as read_fault
 use Rattle.slotroute_serve.proofs.Leaving.{after_lines-more, line_read}
 
 -- the bytes before the first line feed
@@ -186,32 +182,6 @@ pub no_memory_after_line : {T : Type 0} (r : Result T MapFault) (old left new : 
     → Leaves old new (λ input rest. MatchResult r (λ _. rest ≡ after_map input) (IsLeftAt input rest))
 no_memory_after_line (Ok x) old left new ranges is s d = absurd is
 no_memory_after_line (Err e) old left new ranges is s d = rw is (left_after_line old left new ranges s d)
-
--- an error that is not out of memory makes a failed input
-pub reader_failed : {T : Type 0} (reads : Type 0) (kind : ErrorKind) (r : Result T ReadFault) → IsErrAnd r (λ e. IsReaderFault kind e) → (kind ≢ OutOfMemory → reads) → IfErr r (λ e. e ≡ read_fault.Input → reads)
-reader_failed reads kind (Ok x) is may = absurd is
-reader_failed reads kind (Err e) is may = λ failed. may (λ memory. let clash : read_fault.Input ≡ read_fault.Memory = sym failed ∙ is.memory memory in cc clash)
-
--- a line of the map that could not be read
-unread_fault : (P : MapFault → Type 0) (read : ReadFault) → P map_fault.Memory → P map_fault.Input → P (map_unread read)
-unread_fault P read_fault.Memory m i = m
-unread_fault P read_fault.Input m i = i
-
-pub unread_map : {T : Type 0} (r : Result T MapFault) (read : ReadFault) (input : Option (List ℕ)) (P : List ℕ → T → Type 0) → IsErrAnd r (λ e. e ≡ map_unread read) → IfSome input (λ bytes. MatchResult r (P bytes) (WhyNoMap (leading_lines bytes)))
-unread_map r read None P is = tt
-unread_map (Ok x) read (Some bytes) P is = absurd is
-unread_map (Err e) read (Some bytes) P is = rw is (unread_fault (WhyNoMap (leading_lines bytes)) read tt tt)
-
-pub unread_cause : {T : Type 0} (reads : Type 0) (r : Result T MapFault) (read : ReadFault) → IsErrAnd r (λ e. e ≡ map_unread read) → (read ≡ read_fault.Input → reads) → IfErr r (λ e. e ≡ map_fault.Input → reads)
-unread_cause reads (Ok x) read is may = absurd is
-unread_cause reads (Err e) read_fault.Memory is may = λ failed. (let clash : map_fault.Memory ≡ map_fault.Input = sym is ∙ failed in cc clash)
-unread_cause reads (Err e) read_fault.Input is may = λ failed. may refl
-
-pub unread_rest : {T : Type 0} (r : Result T MapFault) (read : ReadFault) (old left new : Option (List ℕ)) (ranges : List RangeNodes) → IsErrAnd r (λ e. e ≡ map_unread read) → StillReads old left ranges → Leaves left new StopsInLine
-    → Leaves old new (λ input rest. MatchResult r (λ _. rest ≡ after_map input) (IsLeftAt input rest))
-unread_rest (Ok x) read old left new ranges is s l = absurd is
-unread_rest (Err e) read_fault.Memory old left new ranges is s l = rw is (left_in_line old left new ranges s l)
-unread_rest (Err e) read_fault.Input old left new ranges is s l = rw is (left_in_line old left new ranges s l)
 
 -- one more pair at the end
 pub AllZip-more : {A B : Type 0} (R : A → B → Type 0) (xs : List A) (ys : List B) (x : A) (y : B) → AllZip R xs ys → R x y → AllZip R (xs ++ x ∷ []) (ys ++ y ∷ [])
