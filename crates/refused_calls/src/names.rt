@@ -87,6 +87,8 @@ pub static NAMES: [&str; 94] = [
     "slotroute_run::run_command",
     "slotroute_run::Refusal::Display",
     "slotroute_run::CommandFault::Display",
+    "slotroute_run::cmd_from_words",
+    "slotroute_run::push_word",
     "slotroute_serve::serve",
     "slotroute_serve::serve_streams",
     "slotroute_serve::Source::read_line",

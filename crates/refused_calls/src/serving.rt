@@ -3,7 +3,9 @@ use crate::fault::Fault;
 use crate::inputs::map;
 use crate::page::Page;
 use memory_nodes::MemoryNodes;
-use slotroute_run::{CommandFault, Direction, Refusal, read_only_names, run_command};
+use slotroute_run::{
+    CommandFault, Direction, Refusal, cmd_from_words, push_word, read_only_names, run_command,
+};
 use slotroute_serve::{Sink, Source, serve, serve_streams};
 use std::alloc::Global;
 
@@ -20,6 +22,11 @@ pub fn call_of_run(page: &Page<'_>, alloc: Global, name: &str) -> Result<(), Fau
             let fault = CommandFault::Refused(Refusal::NotCovered(5061));
             page.given(&format!(in alloc; "{fault}"))
         }
+        "cmd_from_words" => {
+            let words: [&[u8]; 2] = [b"GET", b"a"];
+            page.given(&cmd_from_words(alloc, &words).map(|cmd| cmd.len()))
+        }
+        "push_word" => push(page, alloc),
         _ => Err(Fault::Words),
     }
 }
@@ -47,6 +54,14 @@ fn run(page: &Page<'_>, alloc: Global) -> Result<(), Fault> {
         page.after(&(&entry.node, &entry.args, entry.answered))?;
     }
     Ok(())
+}
+
+fn push(page: &Page<'_>, alloc: Global) -> Result<(), Fault> {
+    let mut text = Vec::new(alloc);
+    page.before(&text)?;
+    let given = push_word(&mut text, b"ab");
+    page.given(&given)?;
+    page.after(&text)
 }
 
 /// Calls of `slotroute_serve`.

@@ -11,6 +11,7 @@ ghost use Rattle.slotroute_run.specs.Refusals.{fault_of_drive};
 use crate::direction::{Direction, send_order};
 use crate::printing::command_lines;
 use crate::refusal::{CommandFault, Refusal};
+use crate::words::cmd_from_words;
 use cluster_map::{ReadRoutingStrategy, SlotMap};
 use memory_nodes::MemoryNodes;
 use redis_cluster::driver::{DriveFault, drive};
@@ -75,20 +76,10 @@ fn prepare(
     ensures order { IfOk result (λ ready. IsOrderOf direction.now (is_among read_only.now) ready.0
         ready.1.items) }
 {
-    let command = command_of(alloc, words)?;
+    let command = cmd_from_words(alloc, words)?;
     let count = route_count(alloc, &command, read_only)?;
     let order = send_order(alloc, direction, count)?;
     Ok((command, order))
-}
-
-fn command_of(alloc: Global, words: &[&[u8]]) -> Result<Cmd, AllocError>
-    ensures { IfOk result (λ command. command ≡ map (λ word. word.now) words.now) }
-{
-    let mut command = Cmd::with_capacity(alloc, words.len())?;
-    for word in words {
-        command.write_arg(word)?;
-    }
-    Ok(command)
 }
 
 /// How many routes a command has, which are none where it is no complete multi-key command.

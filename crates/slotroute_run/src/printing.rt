@@ -6,6 +6,7 @@ ghost use Rattle.memory_nodes.specs.Nodes.{entry_of};
 ghost use Rattle.memory_nodes.specs.Parts.{words};
 ghost use Rattle.slotroute_run.specs.Printed.{space, send_line, printed, printed_items, command_lines};
 
+use crate::words::push_word;
 use memory_nodes::TraceEntry;
 use resp_core::Value;
 use std::alloc::{AllocError, Global};
@@ -45,8 +46,7 @@ fn push_words(text: &mut Vec<u8>, args: &[Vec<u8>]) -> Result<(), AllocError>
         ≡ text.old.items ++ flat_map (λ word. space ∷ word) (words args.now)) }
 {
     for word in args {
-        text.push(b' ')?;
-        text.extend_from_slice(word)?;
+        push_word(text, word)?;
     }
     Ok(())
 }
