@@ -14,36 +14,11 @@ ghost use Rattle.std.specs.Prelude.{◌≤◌, IfOk};
 
 use cluster_map::ReadRoutingStrategy;
 use example_strategies::{FirstReplica, PickIndex, ShardAware};
-use slotroute_serve::{USAGE, serve};
+use slotroute_serve::{StrategyName, USAGE, serve, strategy_of};
 use std::alloc::Global;
 use std::env;
 use std::io::{self, BufReader, BufWriter};
 use std::process::ExitCode;
-
-/// The strategy that the last word of `run` names.
-enum Strategy {
-    First,
-    Pick(usize),
-    Shard,
-}
-
-/// The strategy of the words `run DIRECTION STRATEGY`.
-fn strategy_of(words: &[String]) -> Option<Strategy> {
-    let [command, _, strategy] = words else {
-        return None;
-    };
-    if command.as_str() != "run" {
-        return None;
-    }
-    match strategy.as_str() {
-        "first" => Some(Strategy::First),
-        "shard" => Some(Strategy::Shard),
-        word => {
-            let index = word.strip_prefix("pick=")?;
-            Some(Strategy::Pick(index.parse::<usize>().ok()?))
-        }
-    }
-}
 
 fn run(rt: &HostRuntime, alloc: Global) -> io::Result<u8>
     ensures { IfOk result (λ status. status ≤ 2) }
@@ -56,9 +31,9 @@ fn run(rt: &HostRuntime, alloc: Global) -> io::Result<u8>
     let mut out = BufWriter::new(alloc, rt.stdout())?;
     let mut err = rt.stderr();
     let strategy: Option<Box<dyn ReadRoutingStrategy>> = match strategy_of(&words) {
-        Some(Strategy::First) => Some(Box::new(alloc, FirstReplica)?),
-        Some(Strategy::Pick(index)) => Some(Box::new(alloc, PickIndex::new(index))?),
-        Some(Strategy::Shard) => Some(Box::new(alloc, ShardAware::new())?),
+        Some(StrategyName::First) => Some(Box::new(alloc, FirstReplica)?),
+        Some(StrategyName::Pick(index)) => Some(Box::new(alloc, PickIndex::new(index as usize))?),
+        Some(StrategyName::Shard) => Some(Box::new(alloc, ShardAware::new())?),
         None => None,
     };
     Ok(serve(alloc, &words, &mut reader, &mut out, &mut err, strategy))

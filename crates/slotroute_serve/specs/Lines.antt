@@ -2,15 +2,10 @@
 use Rattle.std.specs.Prelude.{◌≡◌, ◌≤◌, ℕ, ◌+◌, zero, suc, List, [], ◌∷◌, ◌++◌, ◌==◌, if◌then◌else◌, length, map, filter, nat_lt}
 use Rattle.std.specs.Io.BufRead.{strip_last, first_piece, drop_through}
 use Rattle.std.specs.List.{slice_split}
-
-abbrev pub line_feed : ℕ
-line_feed = 10
+use Rattle.slotroute_run.specs.Printed.{line_feed, space}
 
 abbrev pub carriage_return : ℕ
 carriage_return = 13
-
-abbrev pub space : ℕ
-space = 32
 
 -- a byte at the front of the first line
 abbrev pub onto_first_line : ℕ → List (List ℕ) → List (List ℕ)

@@ -1,5 +1,5 @@
 -- What the program reads and writes, and its status, for its words and its input.
-use Rattle.std.specs.Prelude.{◌≡◌, ◌≢◌, ◌⊎◌, ⊤, ℕ, ◌+◌, Bool, List, [], ◌∷◌, ◌++◌, None, Some, codes, decimal, length}
+use Rattle.std.specs.Prelude.{◌≡◌, ◌≢◌, ⊤, ℕ, ◌+◌, Bool, List, [], ◌∷◌, ◌++◌, None, Some, codes, decimal, length}
 use Rattle.cluster_map.specs.Address.{Address, display_text}
 use Rattle.cluster_map.specs.KeySlot.{IsKeySlot}
 use Rattle.cluster_map.specs.Number.{number_in}
@@ -11,10 +11,13 @@ use Rattle.slotroute_run.specs.declared.direction.Direction.{Direction}
 use Rattle.slotroute_run.specs.declared.direction.Direction.TheVariants.{Forward, Reverse}
 use Rattle.slotroute_run.specs.declared.refusal.Refusal.{Refusal}
 use Rattle.slotroute_run.specs.RefusalText.{refusal_text}
-use Rattle.slotroute_serve.specs.Lines.{line_feed, space, leading_lines, after_lines, after_map}
+use Rattle.slotroute_run.specs.Printed.{line_feed, space}
+use Rattle.slotroute_serve.specs.Lines.{leading_lines, after_lines, after_map}
 use Rattle.slotroute_serve.specs.MapLines.{IsMap, IsFirstBadLine}
 use Rattle.slotroute_serve.specs.Runs.{AllRun, RefusedAt}
 use Rattle.slotroute_serve.specs.Split.{IsSplitAnswer, split_routes}
+use Rattle.slotroute_serve.specs.declared.strategy.StrategyName.{StrategyName}
+use Rattle.slotroute_serve.specs.declared.strategy.StrategyName.TheVariants.{First, Pick, Shard}
 
 -- the words `node KEY`
 abbrev pub node_words : List ℕ → List (List ℕ)
@@ -24,12 +27,15 @@ node_words key = codes "node" ∷ key ∷ []
 abbrev pub split_words : List (List ℕ) → List (List ℕ)
 split_words command = codes "split" ∷ command
 
--- the word names a strategy: `first`, `shard`, or `pick=N` with a number of 64 bits
+-- the word names the strategy: `first`, `shard`, or `pick=N` with a number of 64 bits
+abbrev pub NamesStrategy : List ℕ → StrategyName → Type 0
+NamesStrategy word First = word ≡ codes "first"
+NamesStrategy word Shard = word ≡ codes "shard"
+NamesStrategy word (Pick index) =
+    (digits : List ℕ) × (word ≡ codes "pick=" ++ digits) × (number_in 64 digits ≡ Some index)
+
 abbrev pub IsStrategyWord : List ℕ → Type 0
-IsStrategyWord word =
-    (word ≡ codes "first") ⊎ (word ≡ codes "shard")
-    ⊎ ((digits : List ℕ) × (index : ℕ) × (word ≡ codes "pick=" ++ digits)
-    × (number_in 64 digits ≡ Some index))
+IsStrategyWord word = (strategy : StrategyName) × NamesStrategy word strategy
 
 -- there is no word, or one that names a strategy
 abbrev pub MayNameStrategy : List (List ℕ) → Type 0
@@ -50,6 +56,12 @@ IsDirected direction (word ∷ words) = (word ≡ direction_word direction) × M
 abbrev pub IsRunWords : Direction → List (List ℕ) → Type 0
 IsRunWords direction [] = ⊥
 IsRunWords direction (word ∷ words) = (word ≡ codes "run") × IsDirected direction words
+
+-- three words: `run`, one more, and one that names the strategy
+abbrev pub IsRunBy : StrategyName → List (List ℕ) → Type 0
+IsRunBy strategy (command ∷ direction ∷ word ∷ []) =
+    (command ≡ codes "run") × NamesStrategy word strategy
+IsRunBy strategy words = ⊥
 
 -- the words are `node KEY`, `split WORD ..` with one word or more, or those of `run`
 pub data IsRequest : List (List ℕ) → Type 0 where

@@ -9,7 +9,7 @@ use Rattle.cluster_map.specs.SlotRoute.{SlotRoute}
 use Rattle.redis_cluster.specs.Command.{Arguments}
 use Rattle.redis_cluster.specs.Complete.{multi_slot_routes, part_by_name}
 use Rattle.slotroute_run.specs.Commands.{only_reads}
-use Rattle.slotroute_serve.specs.Lines.{line_feed, space}
+use Rattle.slotroute_run.specs.Printed.{line_feed, space}
 
 -- the routes of the parts of a command with these words, if it is a complete multi-key command
 abbrev pub split_routes : List (List ℕ) → Option (List (SlotRoute × List ℕ))

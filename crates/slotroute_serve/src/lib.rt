@@ -8,7 +8,9 @@ mod program;
 mod request;
 mod run;
 mod split;
+mod strategy;
 mod streams;
 
 pub use program::{USAGE, serve, serve_streams};
+pub use strategy::{StrategyName, strategy_of};
 pub use streams::{Sink, Source};

@@ -1,9 +1,9 @@
 ghost use Rattle.std.specs.Prelude.{◌≡◌, ◌≢◌, ℕ, List, ◌∷◌, [], ◌↔◌, codes, map, string_bytes, IsTrue, MatchOption};
 ghost use Rattle.slotroute_run.specs.declared.direction.Direction.{Direction as Way};
-ghost use Rattle.slotroute_serve.specs.Output.{IsRequest, IsDirected, MayNameStrategy, IsStrategyWord};
+ghost use Rattle.slotroute_serve.specs.Output.{IsRequest, IsDirected, MayNameStrategy};
 ghost use Rattle.slotroute_serve.specs.Requests.{AsksFor};
 
-use cluster_slots::parse_u64;
+use crate::strategy::named_strategy;
 use slotroute_run::Direction;
 
 /// What the words ask for.
@@ -99,19 +99,7 @@ fn may_name_strategy(words: &[String]) -> bool
 {
     match words {
         [] => true,
-        [word] => names_strategy(word.as_bytes()),
+        [word] => named_strategy(word.as_bytes()).is_some(),
         _ => false,
-    }
-}
-
-fn names_strategy(word: &[u8]) -> bool
-    ensures { IsTrue result ↔ IsStrategyWord word.now }
-{
-    if word == b"first".as_slice() || word == b"shard".as_slice() {
-        return true;
-    }
-    match word.strip_prefix(b"pick=") {
-        Some(digits) => parse_u64(digits).is_some(),
-        None => false,
     }
 }

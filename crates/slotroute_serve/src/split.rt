@@ -2,14 +2,14 @@ ghost use Rattle.std.specs.Prelude.{◌≡◌, Some, ◌∷◌, ◌++◌, map, s
 ghost use Rattle.std.specs.List.{flat_map};
 ghost use Rattle.redis_cluster.specs.Split.{split_part};
 ghost use Rattle.slotroute_serve.specs.Faults.{WhyNoSplit};
-ghost use Rattle.slotroute_serve.specs.Lines.{space};
+ghost use Rattle.slotroute_run.specs.Printed.{space};
 ghost use Rattle.slotroute_serve.specs.Split.{part_line, ArePartLines, IsSplitAnswer};
 
 use crate::fault::AnswerFault;
 use cluster_map::{NodeAddress, SlotMap};
 use redis_cluster::routing::SplitCommand;
 use resp_core::Cmd;
-use slotroute_run::read_only_names;
+use slotroute_run::{cmd_from_words, push_word, read_only_names};
 use std::alloc::{AllocError, Global};
 
 /// The lines and the status that answer for a command with these words.
@@ -22,22 +22,12 @@ pub fn split_answer(
         (λ answer. IsSplitAnswer slot_map.now (map string_bytes words.now) answer.0.items answer.1)
         (WhyNoSplit (map string_bytes words.now)) }
 {
-    let command = command_of(alloc, words)?;
+    let command = cmd_from_words(alloc, words)?;
     let read_only = read_only_names(alloc)?;
     let Some(split) = SplitCommand::new(alloc, &command, &read_only)? else {
         return Err(AnswerFault::NotMultiKey);
     };
     Ok(lines_of(alloc, slot_map, &split)?)
-}
-
-fn command_of(alloc: Global, words: &[String]) -> Result<Cmd, AllocError>
-    ensures { IfOk result (λ command. command ≡ map string_bytes words.now) }
-{
-    let mut command = Cmd::with_capacity(alloc, words.len())?;
-    for word in words {
-        command.write_arg(word.as_bytes())?;
-    }
-    Ok(command)
 }
 
 /// A line for the part of each route, and whether each has a node, as a status.
@@ -89,8 +79,7 @@ fn push_words(line: &mut Vec<u8>, words: &Cmd) -> Result<(), AllocError>
         (line.new.items ≡ line.old.items ++ flat_map (λ word. space ∷ word) words.now) }
 {
     for word in words.args() {
-        line.push(b' ')?;
-        line.extend_from_slice(word)?;
+        push_word(line, word)?;
     }
     Ok(())
 }
