@@ -4,6 +4,8 @@ pub mod CommandNames
 pub mod NameSets
 pub mod Patterns
 pub mod Placed
+pub mod RegisteredNames
+pub mod Registrations
 pub mod Rows
 pub mod Search
 pub mod TableRows

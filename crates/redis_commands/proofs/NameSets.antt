@@ -10,7 +10,8 @@ use Rattle.std.proofs.lemmas.Slice.Eq.{bytes_eq-Decides}
 use Rattle.redis_commands.specs.ReadOnly.{is_among}
 use Rattle.resp_core.proofs.Cases.{or_swap}
 
-by_order : {P : Type 0} (o : Ordering) → (o ≡ Ordering.Less → P) → (o ≡ Ordering.Equal → P) → (o ≡ Ordering.Greater → P) → P
+-- what follows for each of the three orders holds
+pub by_order : {P : Type 0} (o : Ordering) → (o ≡ Ordering.Less → P) → (o ≡ Ordering.Equal → P) → (o ≡ Ordering.Greater → P) → P
 by_order Ordering.Less f g h = f refl
 by_order Ordering.Equal f g h = g refl
 by_order Ordering.Greater f g h = h refl

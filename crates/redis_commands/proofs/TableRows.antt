@@ -1,10 +1,15 @@
 -- The tables in the code have the rows of those in specs/.
-use Rattle.std.proofs.Common.{◌≡◌, ℕ, List, Some, refl, map}
+use Rattle.std.proofs.Common.{◌≡◌, ℕ, List, [], Option, None, Some, refl, sym, ◌∙◌, map}
+use Rattle.std.proofs.Math.Path.{fun_ext}
 use Rattle.std.specs.Prelude.{option_and_then}
 use Rattle.redis_commands.specs.Lookup.{lookup, has_name}
 use Rattle.redis_commands.specs.RouteBy.{base_routings, base_routing}
 use Rattle.redis_commands.specs.Policies.{policies, policy_of}
 use Rattle.redis_commands.specs.TwoWords.{two_word_names, takes_second}
+use Rattle.redis_commands.specs.NameTables.{own_tables}
+use Rattle.redis_commands.specs.Registry.{tables_with, routing_or, policy_or}
+use Rattle.redis_commands.specs.declared.policy.ResponsePolicy.{ResponsePolicy}
+use Rattle.redis_commands.specs.declared.route_by.RouteBy.{RouteBy}
 use Rattle.redis_commands.specs.declared.tables.TheConstants.{NAMES, TWO_WORD_NAMES}
 use Rattle.redis_commands.proofs.Agree.{agree, agree_names}
 
@@ -19,3 +24,26 @@ policy-NAMES name = agree (λ v. v.1) (map (λ row. (row.0.now, row.1)) NAMES) p
 pub has_name-TWO_WORD_NAMES : (name : List ℕ) → has_name (map (λ n. n.now) TWO_WORD_NAMES) name ≡ takes_second name
 unfolding takes_second
 has_name-TWO_WORD_NAMES name = agree_names (map (λ n. n.now) TWO_WORD_NAMES) two_word_names refl refl name
+
+none_of : (o : Option (RouteBy × Option ResponsePolicy)) → option_and_then (λ v. Some v.0) o ≡ None → option_and_then (λ v. v.1) o ≡ None
+none_of None h = refl
+none_of (Some v) h = cc
+
+-- a name that is not routed by the tables has no policy there
+pub policy-none : (name : List ℕ) → base_routing name ≡ None → policy_of name ≡ None
+policy-none name none = sym (policy-NAMES name) ∙ none_of (lookup (map (λ row. (row.0.now, row.1)) NAMES) name) (routing-NAMES name ∙ none)
+
+routing_alone : (o : Option RouteBy) → routing_or o None ≡ o
+routing_alone None = refl
+routing_alone (Some route_by) = refl
+
+policy_alone : (o : Option RouteBy) (policy : Option ResponsePolicy) → (o ≡ None → policy ≡ None) → policy_or o policy None ≡ policy
+policy_alone None policy h = sym (h refl)
+policy_alone (Some route_by) policy h = refl
+
+-- an empty registry leaves the project's own tables
+pub tables_with-empty : tables_with [] ≡ own_tables
+tables_with-empty =
+    let routings : (λ name. routing_or (base_routing name) None) ≡ base_routing = fun_ext (λ name. routing_alone (base_routing name)) in
+    let policies : (λ name. policy_or (base_routing name) (policy_of name) None) ≡ policy_of = fun_ext (λ name. policy_alone (base_routing name) (policy_of name) (policy-none name)) in
+    λ i. record { route_by = routings i; policy = policies i }

@@ -3,10 +3,13 @@ pub use Rattle.resp_core.specs.View
 pub mod Command
 pub mod Lists
 pub mod NameTables
+pub mod NameWords
 pub mod Places
 pub mod Policies
 pub mod PresentArguments
 pub mod ReadOnly
+pub mod Refusal
+pub mod Registry
 pub mod Lookup
 pub mod Tuples
 pub mod TwoWords

@@ -101,7 +101,7 @@ fn is_candidate(arg: Option<&[u8]>, candidate: &[u8]) -> bool
 }
 
 /// Whether a second word belongs to a name with this first word in upper case.
-fn takes_second(first: &[u8]) -> bool
+pub(super) fn takes_second(first: &[u8]) -> bool
     ensures { result ≡ takes_second first.now }
 {
     is_placed(&TWO_WORD_NAMES, &TWO_WORD_PLACES, first)
