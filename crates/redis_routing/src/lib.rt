@@ -9,4 +9,4 @@ mod sub_commands;
 
 pub use info::{MultipleNodeRoutingInfo, Redirect, RoutingInfo, SingleNodeRoutingInfo};
 pub use split_command::{SplitCommand, multi_slot_routes};
-pub use sub_commands::command_for_multi_slot_indices;
+pub use sub_commands::{command_for_multi_slot_indices, command_for_multi_slot_indices_with};

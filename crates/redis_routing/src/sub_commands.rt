@@ -28,7 +28,32 @@ pub fn command_for_multi_slot_indices<R: Routable>(
         × (fault.kind ≡ Client))
         ⊎ (fault ≡ out_of_memory)) }
 {
-    sub_command(alloc, original, NAME_WORDS, indices)?.ok_or_else(missing_argument)
+    command_for_multi_slot_indices_with(alloc, original, NAME_WORDS, indices)
+}
+
+/// The part of a command whose name has so many words, as `name_words` counts them, that has these
+/// arguments: the words of the name as they are spelt, and then the arguments at these indices,
+/// which are counted from 0 after these words. `command_for_multi_slot_indices` is this call for
+/// names of one word.
+///
+/// # Errors
+///
+/// Of kind `Client` where one of the words or of the arguments is a gap or not there, and else if
+/// memory runs out.
+pub fn command_for_multi_slot_indices_with<R: Routable>(
+    alloc: Global,
+    original: &R,
+    words: usize,
+    indices: &[usize],
+) -> RedisResult<Cmd>
+    ensures made { IfOk result (λ cmd.
+        sub_command_after words (R.args original.now) indices.now ≡ Some cmd) }
+    ensures refused { IfErr result (λ fault.
+        ((sub_command_after words (R.args original.now) indices.now ≡ None)
+        × (fault.kind ≡ Client))
+        ⊎ (fault ≡ out_of_memory)) }
+{
+    sub_command(alloc, original, words, indices)?.ok_or_else(missing_argument)
 }
 
 /// The part of a command that has these arguments after a name of so many words, if none of them
