@@ -5,9 +5,10 @@ pub use redis_combiners::{
     logical_aggregate,
 };
 pub use redis_commands::{
-    AggregateOp, LogicalAggregateOp, MultiSlotArgPattern, ReadOnlyNames, ResponsePolicy, Routable,
+    AggregateOp, LogicalAggregateOp, MultiSlotArgPattern, ReadOnlyNames, RegisterError, Registry,
+    ResponsePolicy, Routable, name_words,
 };
 pub use redis_routing::{
     MultipleNodeRoutingInfo, Redirect, RoutingInfo, SingleNodeRoutingInfo, SplitCommand,
-    command_for_multi_slot_indices, multi_slot_routes,
+    command_for_multi_slot_indices, command_for_multi_slot_indices_with, multi_slot_routes,
 };

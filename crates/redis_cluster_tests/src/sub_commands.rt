@@ -1,5 +1,7 @@
 use crate::helpers::{cmd_of, words_of};
-use redis_cluster::routing::{Routable, command_for_multi_slot_indices};
+use redis_cluster::routing::{
+    Routable, command_for_multi_slot_indices, command_for_multi_slot_indices_with,
+};
 use resp_core::{Cmd, ErrorKind, Value};
 use std::alloc::Global;
 use std::test::Fail;
@@ -73,5 +75,38 @@ fn a_gap_in_a_part_is_refused(rt: HostRuntime) -> Result<(), Fail> {
     assert!(rt; makes(alloc, &value, &[0], "MGET a")?);
     assert!(rt; makes(alloc, &value, &[2], "MGET b")?);
     assert!(rt; is_refused(alloc, &value, &[1]));
+    Ok(())
+}
+
+// Both words of the name stand before the arguments, which are counted after them.
+#[test]
+fn a_part_of_a_name_of_two_words(rt: HostRuntime) -> Result<(), Fail> {
+    let alloc = rt.alloc();
+    let cmd = cmd_of(alloc, &words_of(alloc, "object put a 1 b 2")?)?;
+    let table: [(usize, &[usize], &str); 5] = [
+        (2, &[0, 1], "object put a 1"),
+        (2, &[3, 2], "object put 2 b"),
+        (2, &[], "object put"),
+        (1, &[0, 1], "object put a"),
+        (0, &[1], "put"),
+    ];
+    for (words, indices, text) in table {
+        let part = command_for_multi_slot_indices_with(alloc, &cmd, words, indices)?;
+        assert!(rt; part == cmd_of(alloc, &words_of(alloc, text)?)?, "{text}");
+    }
+    let missing: [(usize, &[usize]); 5] = [
+        (2, &[4]),
+        (2, &[usize::MAX]),
+        (2, &[usize::MAX - 1]),
+        (7, &[]),
+        (usize::MAX, &[usize::MAX]),
+    ];
+    for (words, indices) in missing {
+        let part = command_for_multi_slot_indices_with(alloc, &cmd, words, indices);
+        assert!(rt;
+            part.is_err_and(|error| error.kind() == ErrorKind::Client),
+            "{words} words"
+        );
+    }
     Ok(())
 }

@@ -1,3 +1,4 @@
+use redis_cluster::routing::RegisterError;
 use resp_core::{ErrorKind, RedisError};
 use std::alloc::{AllocError, AllocFailed};
 use std::io;
@@ -24,6 +25,15 @@ impl From<AllocError> for Fault {
 impl<T: Drop> From<AllocFailed<T>> for Fault {
     fn from(_: AllocFailed<T>) -> Self {
         Fault::Memory
+    }
+}
+
+impl From<RegisterError> for Fault {
+    fn from(error: RegisterError) -> Self {
+        match error {
+            RegisterError::Memory => Fault::Memory,
+            _ => Fault::Refused,
+        }
     }
 }
 

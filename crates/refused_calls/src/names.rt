@@ -1,5 +1,5 @@
 /// Each public call that may take memory. `tools/memory-calls` prints those that have to be here.
-pub static NAMES: [&str; 94] = [
+pub static NAMES: [&str; 98] = [
     "cluster_map::SlotMap::new",
     "cluster_map::SlotMap::default",
     "cluster_map::SlotMap::fill_slots",
@@ -32,6 +32,10 @@ pub static NAMES: [&str; 94] = [
     "redis_combiners::aggregate",
     "redis_commands::ReadOnlyNames::new",
     "redis_commands::ReadOnlyNames::insert",
+    "redis_commands::RegisterError::Display",
+    "redis_commands::Registry::new",
+    "redis_commands::Registry::register",
+    "redis_commands::Registry::clone",
     "redis_commands::Routable::command",
     "redis_driver::drive",
     "redis_driver::SplitPlan::new",
@@ -61,6 +65,7 @@ pub static NAMES: [&str; 94] = [
     "redis_routing::SplitCommand::part",
     "redis_routing::multi_slot_routes",
     "redis_routing::command_for_multi_slot_indices",
+    "redis_routing::command_for_multi_slot_indices_with",
     "resp_core::Cmd::new",
     "resp_core::Cmd::with_capacity",
     "resp_core::Cmd::with_room",

@@ -1,5 +1,6 @@
 use crate::fault::Fault;
 use redis_cluster::driver::{DriveError, DriveFault, PlanFault, SendError};
+use redis_cluster::routing::RegisterError;
 use resp_core::{ErrorKind, RedisError};
 use slotroute_run::CommandFault;
 use std::alloc::AllocError;
@@ -19,6 +20,12 @@ impl TellsMemory for AllocError {
 impl TellsMemory for RedisError {
     fn is_memory(&self) -> bool {
         self.kind() == ErrorKind::OutOfMemory
+    }
+}
+
+impl TellsMemory for RegisterError {
+    fn is_memory(&self) -> bool {
+        *self == RegisterError::Memory
     }
 }
 

@@ -3,16 +3,25 @@ use crate::fault::Fault;
 use crate::inputs::{LONG_HOST, address, cmd, read_only, routes};
 use crate::page::Page;
 use redis_cluster::routing::{
-    MultiSlotArgPattern, MultipleNodeRoutingInfo, ReadOnlyNames, Redirect, Routable, RoutingInfo,
-    SingleNodeRoutingInfo, SplitCommand, command_for_multi_slot_indices, multi_slot_routes,
+    AggregateOp, MultiSlotArgPattern, MultipleNodeRoutingInfo, ReadOnlyNames, Redirect,
+    RegisterError, Registry, ResponsePolicy, Routable, RoutingInfo, SingleNodeRoutingInfo,
+    SplitCommand, command_for_multi_slot_indices, command_for_multi_slot_indices_with,
+    multi_slot_routes,
 };
 use std::alloc::{AllocError, Global};
+
+/// What a name is registered with.
+type Registered = (MultiSlotArgPattern, ResponsePolicy);
 
 /// Calls of `redis_commands`.
 pub fn call_of_names(page: &Page<'_>, alloc: Global, name: &str) -> Result<(), Fault> {
     match name {
         "ReadOnlyNames::new" => page.answer(&has_names(&ReadOnlyNames::new(alloc))),
         "ReadOnlyNames::insert" => insert(page, alloc),
+        "RegisterError::Display" => page.given(&format!(in alloc; "{}", RegisterError::Taken)),
+        "Registry::new" => page.answer(&standing(&Registry::new(alloc))),
+        "Registry::register" => register(page, alloc),
+        "Registry::clone" => page.given(&registry(alloc)?.clone().map(|copy| standing(&copy))),
         "Routable::command" => page.given(&cmd(alloc, "cluster info")?.command(alloc)),
         _ => Err(Fault::Words),
     }
@@ -29,6 +38,32 @@ fn insert(page: &Page<'_>, alloc: Global) -> Result<(), Fault> {
     let given = names.insert(alloc, b"get");
     page.given(&given)?;
     page.after(&has_names(&names))
+}
+
+/// How many names are registered, and what `OBJECT PUT` and `COUNTKEYS` are registered with.
+fn standing(registry: &Registry) -> (usize, Option<Registered>, Option<Registered>) {
+    let names = registry.len();
+    (
+        names,
+        registry.get(b"OBJECT PUT"),
+        registry.get(b"COUNTKEYS"),
+    )
+}
+
+fn registry(alloc: Global) -> Result<Registry, Fault> {
+    let mut registry = Registry::new(alloc);
+    let pattern = MultiSlotArgPattern::KeyValuePairs;
+    registry.register(alloc, b"object put", pattern, ResponsePolicy::AllSucceeded)?;
+    Ok(registry)
+}
+
+fn register(page: &Page<'_>, alloc: Global) -> Result<(), Fault> {
+    let mut registry = registry(alloc)?;
+    page.before(&standing(&registry))?;
+    let policy = ResponsePolicy::Aggregate(AggregateOp::Sum);
+    let given = registry.register(alloc, b"countkeys", MultiSlotArgPattern::KeysOnly, policy);
+    page.given(&given)?;
+    page.after(&standing(&registry))
 }
 
 /// Calls of `redis_routing`.
@@ -51,6 +86,10 @@ pub fn call(page: &Page<'_>, alloc: Global, name: &str) -> Result<(), Fault> {
         "command_for_multi_slot_indices" => {
             let command = cmd(alloc, "MGET a b a")?;
             page.given(&command_for_multi_slot_indices(alloc, &command, &[0, 2]))
+        }
+        "command_for_multi_slot_indices_with" => {
+            let command = cmd(alloc, "OBJECT PUT a 1 b 2")?;
+            page.given(&command_for_multi_slot_indices_with(alloc, &command, 2, &[0, 1]))
         }
         "SplitCommand::new" => split(page, alloc),
         "SplitCommand::part" => part(page, alloc),

@@ -9,7 +9,8 @@ use redis_cluster::driver::{DriveError, DriveFault, PlanFault, SendError, SplitP
 use redis_cluster::pipeline::ClusterPipeline;
 use redis_cluster::routing::{
     AggregateOp, LogicalAggregateOp, MultiSlotArgPattern, MultipleNodeRoutingInfo, ReadOnlyNames,
-    Redirect, ResponsePolicy, RoutingInfo, SingleNodeRoutingInfo, SplitCommand,
+    Redirect, RegisterError, Registry, ResponsePolicy, RoutingInfo, SingleNodeRoutingInfo,
+    SplitCommand,
 };
 use resp_core::{Cmd, ErrorKind, RedisError, Value};
 
@@ -37,6 +38,8 @@ pub fn types_that_threads_share() {
     is_shared::<ReplicasOnlyCandidates<'_>>();
     is_shared::<ReadCandidates<'_>>();
     is_shared::<ReadOnlyNames>();
+    is_shared::<Registry>();
+    is_shared::<RegisterError>();
     is_shared::<RoutingInfo>();
     is_shared::<SingleNodeRoutingInfo>();
     is_shared::<MultipleNodeRoutingInfo>();
