@@ -14,6 +14,8 @@ mod policy;
 #[cfg(test)]
 mod read_only;
 #[cfg(test)]
+mod redirect_texts;
+#[cfg(test)]
 mod registry;
 #[cfg(test)]
 mod routable;

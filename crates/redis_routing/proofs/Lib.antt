@@ -1,5 +1,6 @@
 pub mod Cover
 pub mod Picks
+pub mod RedirectTexts
 pub mod Respelt
 pub mod Routes
 pub mod SelfRouting

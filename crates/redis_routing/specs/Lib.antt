@@ -14,3 +14,4 @@ pub mod Routing
 pub mod RoutingInfo
 pub mod Split
 pub mod SubCommand
+pub mod RedirectText

@@ -2,6 +2,7 @@
 #![tactic(auto)]
 
 mod info;
+mod redirect;
 mod rules;
 mod split_command;
 mod splitting;

@@ -1,0 +1,73 @@
+use cluster_map::NodeAddress;
+use redis_cluster::routing::Redirect;
+use std::alloc::{AllocError, Global};
+use std::process::Abort;
+use std::test::Fail;
+
+// What the text tells a client whose node answered from `n1`: `moved` or `ask`, slot, host and port.
+fn told(alloc: Global, text: &str) -> Result<String, AllocError> {
+    match Redirect::from_error_text(alloc, text, "n1")? {
+        None => String::from_str(alloc, "none"),
+        Some((slot, Redirect::Moved(address))) => shown(alloc, "moved", slot.number(), &address),
+        Some((slot, Redirect::Ask(address))) => shown(alloc, "ask", slot.number(), &address),
+    }
+}
+
+fn shown(alloc: Global, word: &str, slot: u16, to: &NodeAddress) -> Result<String, AllocError> {
+    let (host, port) = (to.host(), to.port());
+    format!(in alloc; "{word} {slot} {host} {port}")
+}
+
+#[test]
+fn texts_of_servers_are_read(rt: HostRuntime) -> Result<(), Fail> {
+    for (text, want) in [
+        ("MOVED 12182 127.0.0.1:7001", "moved 12182 127.0.0.1 7001"),
+        ("MOVED 3999 127.0.0.1:6381", "moved 3999 127.0.0.1 6381"),
+        ("ASK 3999 127.0.0.1:6381", "ask 3999 127.0.0.1 6381"),
+        ("MOVED 3999 ::1:7001", "moved 3999 ::1 7001"),
+        ("MOVED 3999 [::1]:7001", "moved 3999 ::1 7001"),
+        ("ASK 0 node1.example:1", "ask 0 node1.example 1"),
+        ("MOVED 16383 h:65535", "moved 16383 h 65535"),
+        ("MOVED 3999 :6381", "moved 3999 n1 6381"),
+        ("ASK 3999 :6381", "ask 3999 n1 6381"),
+    ] {
+        let given = told(rt.alloc(), text)?;
+        assert_eq!(rt; given.as_str(), want, "text {text}");
+    }
+    Ok(())
+}
+
+#[test]
+fn other_texts_are_no_redirect(rt: HostRuntime) -> Result<(), Fail> {
+    for text in [
+        "",
+        "MOVED",
+        "MOVED ",
+        "MOVED 3999",
+        "MOVED 3999 ",
+        "MOVED 3999 :",
+        "MOVED 3999 h",
+        "MOVED 3999 h:",
+        "MOVED 3999 []:1",
+        "MOVED 3999 h:65536",
+        "MOVED 16384 h:1",
+        "MOVED +1 h:1",
+        "MOVED -1 h:1",
+        "MOVED  3999 h:1",
+        "MOVED 3999  h:1",
+        "MOVED 3999 h:1 ",
+        "MOVED 3999 h:1 more",
+        "MOVED 3999 two words:1",
+        "MOVED h:1",
+        "MOVED99 h:1",
+        "moved 3999 h:1",
+        " MOVED 3999 h:1",
+        "-MOVED 3999 h:1",
+        "TRYAGAIN Multiple keys request during rehashing of slot",
+        "CLUSTERDOWN Hash slot not served",
+    ] {
+        let given = told(rt.alloc(), text)?;
+        assert_eq!(rt; given.as_str(), "none", "text {text}");
+    }
+    Ok(())
+}

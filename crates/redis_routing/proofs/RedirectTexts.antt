@@ -1,0 +1,69 @@
+-- The one way to read the text of a redirect.
+use Rattle.std.proofs.Common.{◌≡◌, ◌≢◌, ◌<◌, ℕ, zero, suc, inl, inr, List, [], ◌∷◌, ◌++◌, length, get_or, drop, Option, Some, None, MatchOption, Bor, refl, ap, sym, ◌∙◌, subst, arith, lit<}
+use Rattle.std.specs.Prelude.{codes}
+use Rattle.std.specs.Str.Pattern.{StripsPrefix, FindsTextPrefix}
+use Rattle.std.proofs.lemmas.Str.Pattern.{IsSplitOnceResult, split_parts}
+use Rattle.cluster_slots.specs.AddressText.{IsNoAddress}
+use Rattle.cluster_slots.specs.Number.{number_in}
+use Rattle.cluster_slots.proofs.Lists.{Lacks, lacks_from, has, first_cut}
+use Rattle.redis_routing.specs.declared.info.Redirect.TheVariants.{Moved, Ask}
+use Rattle.redis_routing.specs.RedirectText.{IsNodeText, IsNoRedirect, TellsNode}
+
+-- spaces
+pub lacks_each : (c : ℕ) (bs : List ℕ) → ((i : ℕ) → i < length bs → get_or bs i 0 ≢ c) → Lacks c bs
+lacks_each c [] f = tt
+lacks_each c (b ∷ bs) f = (f 0 (omega arith), lacks_each c bs (λ i h. f (suc i) (omega arith)))
+
+pub lacks_at : (c : ℕ) (bs : List ℕ) (k : ℕ) → Lacks c bs → k < length bs → get_or bs k 0 ≢ c
+lacks_at c [] k h l e = absurd (omega arith)
+lacks_at c (b ∷ bs) zero h l e = h.0 e
+lacks_at c (b ∷ bs) (suc k) h l e = lacks_at c bs k h.1 (omega arith) e
+
+pub at_space : (text : List ℕ) (r : Option (Bor (List ℕ) × Bor (List ℕ))) → IsSplitOnceResult 32 text r → MatchOption r (Lacks 32 text) (λ x. (text ≡ x.0.now ++ 32 ∷ x.1.now) × Lacks 32 x.0.now)
+at_space text None h = lacks_each 32 text (split_parts 32 text None h (lit< tt))
+at_space text (Some x) h = let w = split_parts 32 text (Some x) h (lit< tt) in (w.0, lacks_each 32 x.0.now w.1)
+
+-- a text without a space tells nothing
+pub no_space : (answering text : List ℕ) → Lacks 32 text → (slot : ℕ) (host : List ℕ) (port : ℕ) → ¬ (TellsNode answering text slot host port)
+no_space answering text none slot host port t = has 32 t.number t.node (subst (Lacks 32) t.whole none)
+
+-- a text with one is cut there
+pub same_cut : (answering text number node : List ℕ) (slot : ℕ) (host : List ℕ) (port : ℕ) → text ≡ number ++ 32 ∷ node → Lacks 32 number → (t : TellsNode answering text slot host port) → (number ≡ t.number) × (node ≡ t.node)
+same_cut answering text number node slot host port e none t = first_cut 32 number node t.number t.node (sym e ∙ t.whole) none (lacks_from 32 t.number t.first)
+
+-- the node
+pub no_node : (answering text : List ℕ) → IsNoAddress text → ((rest : List ℕ) → text ≢ 58 ∷ rest) → (host : List ℕ) (port : ℕ) → ¬ (IsNodeText answering text host port)
+no_node answering text none bare host port (inl named) = none host port named
+no_node answering text none bare host port (inr alone) = bare alone.digits alone.whole
+
+pub no_port : (answering text rest : List ℕ) → IsNoAddress text → text ≡ 58 ∷ rest → None ≡ number_in 16 rest → (host : List ℕ) (port : ℕ) → ¬ (IsNodeText answering text host port)
+no_port answering text rest none e bad host port (inl named) = none host port named
+no_port answering text rest none e bad host port (inr alone) =
+    let same : 58 ∷ rest ≡ 58 ∷ alone.digits = sym e ∙ alone.whole in
+    let tail : rest ≡ alone.digits = cc in
+    let both : None ≡ Some port = bad ∙ ap (number_in 16) tail ∙ alone.number in
+    absurd (cc)
+
+-- the word
+pub stripped : (word text rest : List ℕ) → StripsPrefix (FindsTextPrefix word) text rest → text ≡ word ++ rest
+stripped word text rest (n, (k, whole, edge), back, long) = whole ∙ ap (λ y. word ++ y) (sym back)
+
+pub no_moved : (answering text told : List ℕ) → text ≡ codes "MOVED " ++ told → ((slot : ℕ) (host : List ℕ) (port : ℕ) → ¬ (TellsNode answering told slot host port)) → IsNoRedirect answering text
+no_moved answering text told e none slot (Moved address) (back, whole, t) =
+    let same : codes "MOVED " ++ back ≡ codes "MOVED " ++ told = sym whole ∙ e in
+    let tail : back ≡ told = ap (drop 6) same in
+    none slot address.host address.port (subst (λ x. TellsNode answering x slot address.host address.port) tail t)
+no_moved answering text told e none slot (Ask address) (back, whole, t) =
+    let both : codes "ASK " ++ back ≡ codes "MOVED " ++ told = sym whole ∙ e in
+    let first : 65 ≡ 77 = ap (λ xs. get_or xs 0 0) both in
+    absurd (omega (arith, first))
+
+pub no_ask : (answering text told : List ℕ) → text ≡ codes "ASK " ++ told → ((slot : ℕ) (host : List ℕ) (port : ℕ) → ¬ (TellsNode answering told slot host port)) → IsNoRedirect answering text
+no_ask answering text told e none slot (Ask address) (back, whole, t) =
+    let same : codes "ASK " ++ back ≡ codes "ASK " ++ told = sym whole ∙ e in
+    let tail : back ≡ told = ap (drop 4) same in
+    none slot address.host address.port (subst (λ x. TellsNode answering x slot address.host address.port) tail t)
+no_ask answering text told e none slot (Moved address) (back, whole, t) =
+    let both : codes "MOVED " ++ back ≡ codes "ASK " ++ told = sym whole ∙ e in
+    let first : 77 ≡ 65 = ap (λ xs. get_or xs 0 0) both in
+    absurd (omega (arith, first))
