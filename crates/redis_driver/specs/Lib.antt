@@ -6,3 +6,4 @@ pub mod Faults
 pub mod Joined
 pub mod Ended
 pub mod FaultText
+pub mod Retry

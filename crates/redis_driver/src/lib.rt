@@ -6,9 +6,11 @@ mod driver;
 mod fault;
 mod order;
 mod plan;
+mod retry;
 mod send;
 
 pub use driver::drive;
 pub use fault::{DriveError, DriveFault, PlanFault};
 pub use plan::SplitPlan;
 pub use redis_nodes::{Nodes, SendError};
+pub use retry::Retry;

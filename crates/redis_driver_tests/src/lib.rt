@@ -24,6 +24,8 @@ mod refusals;
 #[cfg(test)]
 mod replicas;
 #[cfg(test)]
+mod retry;
+#[cfg(test)]
 mod short_of_memory;
 #[cfg(test)]
 mod split_plan;
