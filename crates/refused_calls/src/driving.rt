@@ -3,9 +3,12 @@ use crate::fault::Fault;
 use crate::inputs::{address, bulks, cmd, map, read_only};
 use crate::page::Page;
 use crate::values::error;
-use cluster_map::NodeAddress;
+use cluster_map::{NodeAddress, Route, SlotAddr};
 use memory_nodes::MemoryNodes;
-use redis_cluster::driver::{DriveError, DriveFault, PlanFault, SendError, SplitPlan, drive};
+use redis_cluster::driver::{
+    DriveError, DriveFault, PlanFault, Retry, SendError, SplitPlan, drive,
+};
+use redis_cluster::routing::Redirect;
 use resp_core::{Cmd, Value};
 use std::alloc::{AllocError, Global};
 use wire_nodes::{Logged, Meaning, Transport, Wire, WireNodes};
@@ -17,6 +20,8 @@ pub fn call(page: &Page<'_>, alloc: Global, name: &str) -> Result<(), Fault> {
         "SplitPlan::new" => plan(page, alloc),
         "SplitPlan::tell" => tell(page, alloc),
         "SplitPlan::combine" => combine(page, alloc),
+        "Retry::new" => retry(page, alloc),
+        "Retry::on_redirect" => redirected(page, alloc),
         "PlanFault::Display" => page.given(&format!(in alloc; "{}", PlanFault::NotCovered(5061))),
         "DriveFault::Display" => page.given(&format!(in alloc; "{}", node_fault(alloc)?)),
         "DriveError::Display" => {
@@ -95,6 +100,32 @@ fn combine(page: &Page<'_>, alloc: Global) -> Result<(), Fault> {
         let _ = plan.tell(number, bulks(alloc, reply)?);
     }
     page.given(&plan.combine(alloc))
+}
+
+/// A retry for reads of a slot, of which a replica is asked first.
+fn retry_of(alloc: Global) -> Result<Option<Retry>, AllocError> {
+    let route = Route::new(7, SlotAddr::ReplicaRequired);
+    Retry::new(alloc, &map(alloc)?, route, None, 0, 2)
+}
+
+fn retry(page: &Page<'_>, alloc: Global) -> Result<(), Fault> {
+    match retry_of(alloc) {
+        Ok(Some(retry)) => page.answer(&(retry.target(), retry.left())),
+        Ok(None) => Err(Fault::Words),
+        Err(error) => page.given(&Err::<(), _>(error)),
+    }
+}
+
+/// A retry whose first target redirects.
+fn redirected(page: &Page<'_>, alloc: Global) -> Result<(), Fault> {
+    let Some(mut retry) = retry_of(alloc)? else {
+        return Err(Fault::Words);
+    };
+    let redirect = Redirect::Moved(address(alloc, "n9")?);
+    page.before(&(retry.target(), retry.left()))?;
+    let given = retry.on_redirect(redirect);
+    page.answer(&given)?;
+    page.after(&(retry.target(), retry.left()))
 }
 
 /// Connections whose servers answer each command with `OK`.

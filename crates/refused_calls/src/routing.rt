@@ -70,6 +70,7 @@ fn register(page: &Page<'_>, alloc: Global) -> Result<(), Fault> {
 pub fn call(page: &Page<'_>, alloc: Global, name: &str) -> Result<(), Fault> {
     match name {
         "Redirect::clone" => page.given(&Redirect::Moved(address(alloc, LONG_HOST)?).clone()),
+        "Redirect::from_error_text" => page.given(&redirect(alloc)),
         "SingleNodeRoutingInfo::clone" => page.given(&by_address(alloc)?.clone()),
         "MultipleNodeRoutingInfo::clone" => page.given(&multi_slot(alloc)?.clone()),
         "RoutingInfo::clone" => {
@@ -94,6 +95,15 @@ pub fn call(page: &Page<'_>, alloc: Global, name: &str) -> Result<(), Fault> {
         "SplitCommand::new" => split(page, alloc),
         "SplitCommand::part" => part(page, alloc),
         _ => Err(Fault::Words),
+    }
+}
+
+/// The number of the slot, and the redirect, that a text of a long host tells.
+fn redirect(alloc: Global) -> Result<Option<(u16, Redirect)>, AllocError> {
+    let text = format!(in alloc; "MOVED 3999 {LONG_HOST}:6381")?;
+    match Redirect::from_error_text(alloc, text.as_str(), "n1")? {
+        Some((slot, redirect)) => Ok(Some((slot.number(), redirect))),
+        None => Ok(None),
     }
 }
 
