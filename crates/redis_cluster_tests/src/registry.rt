@@ -120,7 +120,7 @@ fn refusals_are_printed(rt: HostRuntime) -> Result<(), Fail> {
         (RegisterError::Memory, "out of memory"),
     ];
     for (error, text) in table {
-        assert!(rt; format!(in alloc; "{error}")? == text, "{text}");
+        assert!(rt; format!(in alloc; "{error}")?.as_str() == text, "{text}");
     }
     Ok(())
 }

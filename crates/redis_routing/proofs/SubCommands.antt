@@ -1,5 +1,5 @@
 -- A sub-command as far as it is made.
-use Rattle.std.proofs.Common.{◌≡◌, ℕ, suc, ◌<◌, ◌+◌, ◌-◌, List, [], ◌∷◌, ◌++◌, Option, None, Some, map, option_map, refl, sym, ap, ◌∙◌, arith}
+use Rattle.std.proofs.Common.{◌≡◌, ℕ, zero, suc, ◌<◌, ◌+◌, ◌-◌, List, [], ◌∷◌, ◌++◌, Option, None, Some, map, option_map, refl, sym, ap, ◌∙◌, arith}
 use Rattle.std.specs.List.{range_with_len}
 use Rattle.redis_commands.specs.Command.{Arguments, argument}
 use Rattle.redis_commands.specs.Lists.{all_some}
@@ -52,3 +52,22 @@ name_before first rest texts is = ap (λ o. both o (all_some rest)) is ∙ sym (
 
 pub name_gap : (first rest : Arguments) → None ≡ all_some first → None ≡ all_some (first ++ rest)
 name_gap first rest is = ap (λ o. both o (all_some rest)) is ∙ sym (all_some-append first rest)
+
+gap_after : (arg : Option (List ℕ)) (rest : Arguments) → all_some rest ≡ None → all_some (arg ∷ rest) ≡ None
+gap_after None rest gap = refl
+gap_after (Some text) rest gap = ap (option_map (λ texts. text ∷ texts)) gap
+
+last_gap : (args : Arguments) (start n : ℕ) → argument args (start + n) ≡ None → all_some (map (λ place. argument args place) (range_with_len start (suc n))) ≡ None
+last_gap args start zero gap =
+    let here : argument args start ≡ None = ap (argument args) (omega arith) ∙ gap in
+    ap (λ a. all_some (a ∷ [])) here
+last_gap args start (suc n) gap =
+    let there : argument args ((start + 1) + n) ≡ None = ap (argument args) (omega arith) ∙ gap in
+    gap_after (argument args start) (map (λ place. argument args place) (range_with_len (start + 1) (suc n))) (last_gap args (start + 1) n there)
+
+-- the last word of the name is not there
+pub no_last_word : (args rest : Arguments) (words : ℕ) → 0 < words → argument args (words - 1) ≡ None → None ≡ all_some (map (λ place. argument args place) (range_with_len 0 words) ++ rest)
+no_last_word args rest zero some gap = absurd (omega arith)
+no_last_word args rest (suc n) some gap =
+    let last : argument args (0 + n) ≡ None = ap (argument args) (omega arith) ∙ gap in
+    name_gap (map (λ place. argument args place) (range_with_len 0 (suc n))) rest (sym (last_gap args 0 n last))

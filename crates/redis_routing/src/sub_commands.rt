@@ -1,4 +1,4 @@
-ghost use Rattle.std.specs.Prelude.{◌≡◌, ◌⊎◌, ◌<◌, ◌+◌, Some, None, IfOk, IfErr, map, option_copied};
+ghost use Rattle.std.specs.Prelude.{◌≡◌, ◌⊎◌, ◌<◌, ◌+◌, Some, None, IfOk, IfErr, IsTrue, ◌-◌, map, option_copied};
 ghost use Rattle.std.specs.List.{range_with_len};
 ghost use Rattle.resp_core.specs.ErrorParts.{out_of_memory};
 ghost use Rattle.resp_core.specs.declared.error.ErrorKind.TheVariants.{Client};
@@ -53,7 +53,19 @@ pub fn command_for_multi_slot_indices_with<R: Routable>(
         × (fault.kind ≡ Client))
         ⊎ (fault ≡ out_of_memory)) }
 {
+    // No more words are gone over than the command has arguments.
+    if lacks_last_word(original, words) {
+        return Err(missing_argument());
+    }
     sub_command(alloc, original, words, indices)?.ok_or_else(missing_argument)
+}
+
+/// Whether the last of so many words is a gap or not there.
+fn lacks_last_word<R: Routable>(original: &R, words: usize) -> bool
+    ensures { IsTrue result
+        → (0 < words) × (argument (R.args original.now) (words - 1) ≡ None) }
+{
+    words > 0 && original.arg_idx(words - 1).is_none()
 }
 
 /// The part of a command that has these arguments after a name of so many words, if none of them

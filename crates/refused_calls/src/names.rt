@@ -1,5 +1,5 @@
 /// Each public call that may take memory. `tools/memory-calls` prints those that have to be here.
-pub static NAMES: [&str; 98] = [
+pub static NAMES: [&str; 99] = [
     "cluster_map::SlotMap::new",
     "cluster_map::SlotMap::default",
     "cluster_map::SlotMap::fill_slots",
