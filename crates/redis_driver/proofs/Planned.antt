@@ -91,3 +91,20 @@ ready IsNode r plan arguments words routes pattern policy whole nodes covered =
         targets_are = targets_by IsNode r.arguments (split_part plan.split) plan.split.routes plan.nodes plan.parts (λ slot. part_is r.arguments plan.split slot arguments words pattern ∙ part_by_command r.arguments found.0 slot found.1) nodes whole.parts;
       },
     )
+
+parts_by : (args : Arguments) (part_at : ℕ → Arguments) (routes : List (SlotRoute × List ℕ)) (parts : List (List (List ℕ)))
+    → ((slot : ℕ) → part_at slot ≡ part_by_slot args slot) → map (map Some) parts ≡ map part_at (slots_of routes)
+    → AllZip (λ r part. map Some part ≡ part_by_slot args r.0.slot) routes parts
+parts_by args part_at [] [] same parts_are = tt
+parts_by args part_at [] (p ∷ parts) same parts_are = absurd (cc parts_are)
+parts_by args part_at (r ∷ routes) [] same parts_are = absurd (cc parts_are)
+parts_by args part_at (r ∷ routes) (p ∷ parts) same parts_are =
+    (same_head parts_are ∙ same r.0.slot, parts_by args part_at routes parts same (same_tail parts_are))
+
+-- the parts of a split command, as they were made, are those of its tuples
+pub made_parts : (only_reads : List ℕ → Bool) (args : Arguments) (split : Split) (parts : List (List (List ℕ))) → split.arguments ≡ args → split.words ≡ 1 → Some split.routes ≡ multi_slot_routes only_reads args
+    → Some split.pattern ≡ pattern_by_name (command_of args) → map (map Some) parts ≡ map (split_part split) (slots_of split.routes)
+    → AllZip (λ r part. map Some part ≡ part_by_slot args r.0.slot) split.routes parts
+made_parts only_reads args split parts arguments words routes pattern made =
+    let found = command_of_routes only_reads args split.routes (sym routes) in
+    parts_by args (split_part split) split.routes parts (λ slot. part_is args split slot arguments words pattern ∙ part_by_command args found.0 slot found.1) made

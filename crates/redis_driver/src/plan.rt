@@ -12,7 +12,7 @@ ghost use Rattle.redis_commands.specs.ReadOnly.{is_among};
 ghost use Rattle.redis_routing.specs.Complete.{multi_slot_routes, pattern_by_name};
 ghost use Rattle.redis_routing.specs.Split.{policy_by_name, split_part, slots_of};
 ghost use Rattle.redis_routing.specs.RoutingInfo.{route_lists};
-ghost use Rattle.redis_nodes.specs.MultiKey.{ReplyForm, list};
+ghost use Rattle.redis_nodes.specs.MultiKey.{ReplyForm, list, part_by_slot};
 ghost use Rattle.redis_nodes.specs.Unsplit.{reply_by};
 ghost use Rattle.redis_nodes.specs.Unsplit.{TupleResult};
 ghost use Rattle.redis_driver.specs.Driven.{IsFirstUncovered};
@@ -110,6 +110,12 @@ impl<'a, R: Routable> SplitPlan<'a, R> {
             (λ plan. AllZip (λ route address.
             IsRouteNode strategy.entry (λ s. picks s.now) slot_map.now pick route.0 address)
             plan.split.routes plan.nodes) }
+        // The part of a route is that of its slot: the name as spelt, the slot's tuples in order, and
+        // what all tuples share.
+        ensures parts { IfOk result
+            (λ plan. AllZip (λ route part.
+            map Some part ≡ part_by_slot (R.args command.now) route.0.slot)
+            plan.split.routes plan.parts) }
         // So each route's slot has a node.
         ensures covered { IfOk result
             (λ plan. All (λ route. IsCovered slot_map.now route.0.slot) plan.split.routes) }

@@ -1,4 +1,4 @@
-use Rattle.std.proofs.Common.{◌≡◌, ◌⊎◌, ℕ, Bool, List, Some, Result, Ok, Err, IsErrAnd, IfErr, inl, inr, ap, sym, subst, ◌∙◌, false, length, map, option_map, replicate}
+use Rattle.std.proofs.Common.{◌≡◌, ◌⊎◌, ℕ, Bool, List, Option, Some, IfSome, Result, Ok, Err, IsErrAnd, IfErr, inl, inr, ap, sym, subst, ◌∙◌, false, length, map, option_map, replicate}
 use Rattle.std.specs.List.{AllZip}
 use Rattle.std.specs.declared.alloc.Global.{Global}
 use Rattle.std.specs.declared.vec.Vec.{Vec}
@@ -17,6 +17,7 @@ use Rattle.redis_driver.specs.declared.fault.PlanFault.TheVariants.{Memory, NotC
 use Rattle.std.proofs.lemmas.List.{length-replicate}
 use Rattle.std.proofs.lemmas.Slice.Zip.{AllZip-long}
 use Rattle.redis_driver.proofs.Covered.{IsNode, covered_by_nodes, firsts-route_lists}
+use Rattle.redis_driver.proofs.Planned.{made_parts}
 use Rattle.redis_driver.proofs.Telling.{length-told, none_told}
 use Rattle.redis_driver.proofs.plan.SplitPlan.new.Goals as goal
 
@@ -76,3 +77,18 @@ pub returns-clause-untold : goal.returns-clause-untold
 returns-clause-untold g c =
     let unmarked : c.in_ok-answered.answered.items ≡ replicate c.len-count.result false = c.in_ok-answered.ensures.items_if_clones_equal (λ y is. is) in
     rw unmarked (none_told c.len-count.result c.in_ok-replies.replies.items c.in-Some.split.routes c.in_ok-replies.ensures (sym c.len-count.ensures.len))
+
+-- what holds of an option that is there
+of_some : {X : Type 0} (P : X → Type 0) (o : Option X) (x : X) → o ≡ Some x → IfSome o P → P x
+of_some P o x is holds = subst (λ v. IfSome v P) is holds
+
+pub returns-clause-parts : goal.returns-clause-parts
+returns-clause-parts g c =
+    let args = g.R.Routable.args c.args.command.now in
+    let only_reads = is_among c.args.read_only.now in
+    let new = c.in_ok-split.ensures in
+    let split = c.in-Some.split in
+    let found = c.in_ok-split.field-0 in
+    made_parts only_reads args split c.in_ok-parts.parts.items
+    (of_some _ found split c.in-Some.is new.arguments) (of_some _ found split c.in-Some.is new.words)
+    (sym (ap (option_map (λ s. s.routes)) c.in-Some.is) ∙ new.routes) (of_some _ found split c.in-Some.is new.pattern) c.in_ok-parts.ensures
