@@ -15,7 +15,7 @@ ghost use Rattle.redis_routing.specs.RoutingInfo.{route_lists};
 ghost use Rattle.redis_nodes.specs.MultiKey.{ReplyForm, list, part_by_slot};
 ghost use Rattle.redis_nodes.specs.Unsplit.{reply_by};
 ghost use Rattle.redis_nodes.specs.Unsplit.{TupleResult};
-ghost use Rattle.redis_driver.specs.Driven.{IsFirstUncovered};
+ghost use Rattle.redis_driver.specs.Driven.{routes_by, IsFirstUncovered};
 ghost use Rattle.redis_driver.specs.Faults.{IsPlanFault};
 ghost use Rattle.redis_driver.specs.Joined.{joined};
 ghost use Rattle.redis_driver.specs.Plan.{IsPlan, ArePartReplies};
@@ -110,6 +110,9 @@ impl<'a, R: Routable> SplitPlan<'a, R> {
             (λ plan. AllZip (λ route address.
             IsRouteNode strategy.entry (λ s. picks s.now) slot_map.now pick route.0 address)
             plan.split.routes plan.nodes) }
+        // There is one for each slot of a key, in the order of the first key of each.
+        ensures slots { IfOk result (λ plan. Some (map (λ route. route.0) plan.split.routes)
+            ≡ routes_by (is_among read_only.now) (R.args command.now)) }
         // The part of a route is that of its slot: the name as spelt, the slot's tuples in order, and
         // what all tuples share.
         ensures parts { IfOk result

@@ -92,3 +92,8 @@ returns-clause-parts g c =
     made_parts only_reads args split c.in_ok-parts.parts.items
     (of_some _ found split c.in-Some.is new.arguments) (of_some _ found split c.in-Some.is new.words)
     (sym (ap (option_map (λ s. s.routes)) c.in-Some.is) ∙ new.routes) (of_some _ found split c.in-Some.is new.pattern) c.in_ok-parts.ensures
+
+pub returns-clause-slots : goal.returns-clause-slots
+returns-clause-slots g c =
+    let args = g.R.Routable.args c.args.command.now in
+    ap (option_map (map (λ r. r.0))) (sym (ap (option_map (λ s. s.routes)) c.in-Some.is) ∙ c.in_ok-split.ensures.routes) ∙ routes_are (is_among c.args.read_only.now) args
