@@ -12,6 +12,12 @@ use Rattle.redis_commands.specs.ReadOnly.{is_among}
 use Rattle.redis_cluster.specs.Faults.{IsPlanFault}
 use Rattle.redis_cluster.specs.Joined.{joined}
 use Rattle.redis_cluster.specs.Plan.{Plan}
+use Rattle.redis_cluster.specs.Driven.{routes_by}
+use Rattle.redis_cluster.specs.MultiKey.{part_by_slot}
+use Rattle.redis_cluster.specs.Sends.{Target}
+use Rattle.cluster_map.specs.RouteNode.{IsNodeOfRoute}
+use Rattle.cluster_map.specs.SlotRoute.{SlotRoute}
+use Rattle.std.specs.List.{AllZip}
 use Rattle.uses.specs.declared.batcher.BatchError.{BatchError}
 use Rattle.uses.specs.declared.batcher.BatchError.TheVariants.{NotPlanned, NotAnswered, NotCombined, Memory}
 use Rattle.uses.specs.declared.batcher.NoReply.{NoReply}
@@ -79,3 +85,22 @@ IsUnplanned entries args Unsent (NotPlanned fault) = IsPlanFault entries (is_amo
 IsUnplanned entries args Unsent (NotAnswered number cause) = Unit {0}
 IsUnplanned entries args Unsent (NotCombined error) = Unit {0}
 IsUnplanned entries args Unsent Memory = Unit {0}
+
+-- In one call the part of each slot was handed over, to the primary of the slot.
+pub record AreHanded (entries : List (ranges.Entry SlotNodes)) (args : Arguments)
+    (old new : List (List Target)) : Type 0 where
+  pub routes : List SlotRoute
+  pub parts : List Target
+  pub routes_are : routes_by (is_among []) args ≡ Some routes
+  pub grew : new ≡ old ++ parts ∷ []
+  pub each : AllZip (λ route part. IsNodeOfRoute entries route 0 part.0
+      × (map Some part.1 ≡ part_by_slot args route.slot)) routes parts
+
+-- They were handed over so, too, where there is no reply; where memory ran out, they were or were
+-- not.
+abbrev pub AreHandedOrNone : List (ranges.Entry SlotNodes) → Arguments → (old new : List (List Target))
+    → BatchError → Type 0
+AreHandedOrNone entries args old new (NotPlanned fault) = new ≡ old
+AreHandedOrNone entries args old new (NotAnswered number cause) = AreHanded entries args old new
+AreHandedOrNone entries args old new (NotCombined error) = AreHanded entries args old new
+AreHandedOrNone entries args old new Memory = (new ≡ old) ⊎ AreHanded entries args old new

@@ -1,7 +1,8 @@
 //! A client that sends the parts of a command side by side.
-ghost use Rattle.std.specs.Prelude.{◌≡◌, Some, Ok, map, IfOk, IfErr};
+ghost use Rattle.std.specs.Prelude.{◌≡◌, ◌++◌, ◌∷◌, [], List, Some, Ok, map, IfOk, OnOk, OnErr, IfErr, ◌⊎◌};
 ghost use Rattle.resp_core.specs.View.{view};
-ghost use Rattle.uses.specs.Batch.{IsClientRefusal, IsGathered, IsUngathered, IsUnread, IsUnplanned};
+ghost use Rattle.redis_cluster.specs.Sends.{Target, targets};
+ghost use Rattle.uses.specs.Batch.{AreHanded, AreHandedOrNone, IsClientRefusal, IsGathered, IsUngathered, IsUnread, IsUnplanned};
 
 use cluster_map::{NodeAddress, SlotMap};
 use redis_cluster::driver::{PlanFault, SplitPlan};
@@ -25,9 +26,14 @@ pub type Answer = Result<Value, NoReply>;
 
 /// Connections to the nodes of a cluster.
 pub trait Connections {
+    /// The parts that were handed over so far, each with its node: a list for each call.
+    ghost handed: { Self → List (List Target) };
+
     /// Sends each part to its node, waits for none in between, and gives an answer for each, in
     /// their order.
-    fn exchange(&mut self, parts: &[(&NodeAddress, &Cmd)]) -> Result<Vec<Answer>, AllocError>;
+    fn exchange(&mut self, parts: &[(&NodeAddress, &Cmd)]) -> Result<Vec<Answer>, AllocError>
+        ensures handed { handed self.new
+            ≡ handed self.old ++ map (λ part. (part.0.now, part.1.now)) parts.now ∷ [] };
 }
 
 /// Why there is no reply to a command.
@@ -94,6 +100,11 @@ pub fn batch<C: Connections>(
     slot_map: &SlotMap,
     connections: &mut C,
 ) -> Result<Value, BatchError>
+    // The part of each slot was handed over once, to the primary of the slot.
+    ensures handed { OnOk result (AreHanded slot_map.now (map Some command.now)
+        (C.handed connections.old) (C.handed connections.new)) }
+    ensures handed_once { IfErr result (λ error. AreHandedOrNone slot_map.now (map Some command.now)
+        (C.handed connections.old) (C.handed connections.new) error) }
     ensures unplanned { IfErr result (λ error.
         IsUnplanned slot_map.now (map Some command.now) (connections.new ≡ connections.old) error) }
 {
@@ -111,7 +122,12 @@ fn send_parts<C: Connections>(
     alloc: Global,
     plan: &SplitPlan<'_, Cmd>,
     connections: &mut C,
-) -> Result<Vec<Answer>, AllocError> {
+) -> Result<Vec<Answer>, AllocError>
+    ensures handed { OnOk result
+        (C.handed connections.new ≡ C.handed connections.old ++ targets plan.now ∷ []) }
+    ensures handed_or_none { OnErr result ((C.handed connections.new ≡ C.handed connections.old)
+        ⊎ (C.handed connections.new ≡ C.handed connections.old ++ targets plan.now ∷ [])) }
+{
     let mut parts = Vec::with_capacity(alloc, plan.len())?;
     for number in 0..plan.len() {
         if let (Some(node), Some(part)) = (plan.node(number), plan.part(number)) {
