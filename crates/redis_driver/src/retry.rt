@@ -20,10 +20,7 @@ use std::marker::Model;
 /// lost, nothing is told and nothing is sent again: the command may have taken effect.
 ///
 /// ```
-/// let Some(mut retry) = Retry::new(alloc, &map, route, None, 0, 3)? else {
-///     return Ok(());
-/// };
-/// retry.on_redirect(redirect)
+/// Retry::new(alloc, map, route, None, 0, 3)
 /// ```
 #[derive(Drop)]
 pub struct Retry {

@@ -9,6 +9,7 @@ pub mod commands;
 pub mod deleting;
 pub mod node_of_key;
 pub mod pipelines;
+pub mod redirects;
 pub mod replies;
 pub mod routing;
 pub mod sending;

@@ -5,7 +5,7 @@ use cluster_map::{
     ReplicasOnlyCandidates, Route, Shard, Slot, SlotAddr, SlotAddrs, SlotMap, SlotRange,
     SlotRangeMap,
 };
-use redis_cluster::driver::{DriveError, DriveFault, PlanFault, SendError, SplitPlan};
+use redis_cluster::driver::{DriveError, DriveFault, PlanFault, Retry, SendError, SplitPlan};
 use redis_cluster::pipeline::ClusterPipeline;
 use redis_cluster::routing::{
     AggregateOp, LogicalAggregateOp, MultiSlotArgPattern, MultipleNodeRoutingInfo, ReadOnlyNames,
@@ -50,6 +50,7 @@ pub fn types_that_threads_share() {
     is_shared::<Redirect>();
     is_shared::<SplitCommand<'_, Cmd>>();
     is_shared::<SplitPlan<'_, Cmd>>();
+    is_shared::<Retry>();
     is_shared::<PlanFault>();
     is_shared::<SendError>();
     is_shared::<DriveFault>();
