@@ -69,13 +69,19 @@ impl fmt::Display for RegisterError {
 
 impl Error for RegisterError {}
 
-/// Names of commands over many keys that the tables don't have, as those of a module. Commands of
-/// these names are split by slot, as `MGET` is.
+/// Names of multi-key commands that the tables don't have, as those of a module. Splitting and
+/// `drive` take no registry yet: `routing_and_policy` tells what a client needs that splits such a
+/// command by itself.
 ///
 /// ```
 /// let mut registry = Registry::new(alloc);
-/// registry.register(alloc, b"JSON.MDEL", MultiSlotArgPattern::KeysOnly,
-///     ResponsePolicy::Aggregate(AggregateOp::Sum))?;
+/// registry.register(
+///     alloc,
+///     b"JSON.MDEL",
+///     MultiSlotArgPattern::KeysOnly,
+///     ResponsePolicy::Aggregate(AggregateOp::Sum),
+/// )?;
+/// Ok(registry)
 /// ```
 #[derive(Drop)]
 pub struct Registry {

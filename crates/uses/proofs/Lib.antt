@@ -1,2 +1,3 @@
 mod Ended
 mod Telling
+pub mod Handing

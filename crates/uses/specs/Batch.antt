@@ -86,21 +86,33 @@ IsUnplanned entries args Unsent (NotAnswered number cause) = Unit {0}
 IsUnplanned entries args Unsent (NotCombined error) = Unit {0}
 IsUnplanned entries args Unsent Memory = Unit {0}
 
+-- what may have been handed over, call by call
+abbrev pub Handed : Type 0
+Handed = List (List Target)
+
+-- these were handed over in one call more
+abbrev pub AreAdded : (old new : Handed → Type 0) → List Target → Type 0
+AreAdded old new parts = (before : Handed) → old before → new (before ++ parts ∷ [])
+
+-- nothing was handed over
+abbrev pub IsSame : (old new : Handed → Type 0) → Type 0
+IsSame old new = (before : Handed) → old before → new before
+
 -- In one call the part of each slot was handed over, to the primary of the slot.
 pub record AreHanded (entries : List (ranges.Entry SlotNodes)) (args : Arguments)
-    (old new : List (List Target)) : Type 0 where
+    (old new : Handed → Type 0) : Type 0 where
   pub routes : List SlotRoute
   pub parts : List Target
   pub routes_are : routes_by (is_among []) args ≡ Some routes
-  pub grew : new ≡ old ++ parts ∷ []
+  pub added : AreAdded old new parts
   pub each : AllZip (λ route part. IsNodeOfRoute entries route 0 part.0
       × (map Some part.1 ≡ part_by_slot args route.slot)) routes parts
 
 -- They were handed over so, too, where there is no reply; where memory ran out, they were or were
 -- not.
-abbrev pub AreHandedOrNone : List (ranges.Entry SlotNodes) → Arguments → (old new : List (List Target))
-    → BatchError → Type 0
-AreHandedOrNone entries args old new (NotPlanned fault) = new ≡ old
+abbrev pub AreHandedOrNone : List (ranges.Entry SlotNodes) → Arguments
+    → (old new : Handed → Type 0) → BatchError → Type 0
+AreHandedOrNone entries args old new (NotPlanned fault) = IsSame old new
 AreHandedOrNone entries args old new (NotAnswered number cause) = AreHanded entries args old new
 AreHandedOrNone entries args old new (NotCombined error) = AreHanded entries args old new
-AreHandedOrNone entries args old new Memory = (new ≡ old) ⊎ AreHanded entries args old new
+AreHandedOrNone entries args old new Memory = IsSame old new ⊎ AreHanded entries args old new

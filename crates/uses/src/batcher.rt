@@ -1,8 +1,8 @@
 //! A client that sends the parts of a command side by side.
-ghost use Rattle.std.specs.Prelude.{◌≡◌, ◌++◌, ◌∷◌, [], List, Some, Ok, map, IfOk, OnOk, OnErr, IfErr, ◌⊎◌};
+ghost use Rattle.std.specs.Prelude.{◌≡◌, ◌++◌, ◌∷◌, [], List, Some, Ok, map, option_map, slice_get, IfOk, OnOk, OnErr, IfErr, ◌⊎◌};
 ghost use Rattle.resp_core.specs.View.{view};
 ghost use Rattle.redis_cluster.specs.Sends.{Target, targets};
-ghost use Rattle.uses.specs.Batch.{AreHanded, AreHandedOrNone, IsClientRefusal, IsGathered, IsUngathered, IsUnread, IsUnplanned};
+ghost use Rattle.uses.specs.Batch.{AreAdded, AreHanded, AreHandedOrNone, IsSame, IsClientRefusal, IsGathered, IsUngathered, IsUnread, IsUnplanned};
 
 use cluster_map::{NodeAddress, SlotMap};
 use redis_cluster::driver::{PlanFault, SplitPlan};
@@ -26,14 +26,15 @@ pub type Answer = Result<Value, NoReply>;
 
 /// Connections to the nodes of a cluster.
 pub trait Connections {
-    /// The parts that were handed over so far, each with its node: a list for each call.
-    ghost handed: { Self → List (List Target) };
+    /// Whether these may be the parts that were handed over so far, each with its node: a list for
+    /// each call.
+    ghost handed: { Self → List (List Target) → Type 0 } = { λ _ _. Unit {0} };
 
     /// Sends each part to its node, waits for none in between, and gives an answer for each, in
     /// their order.
     fn exchange(&mut self, parts: &[(&NodeAddress, &Cmd)]) -> Result<Vec<Answer>, AllocError>
-        ensures handed { handed self.new
-            ≡ handed self.old ++ map (λ part. (part.0.now, part.1.now)) parts.now ∷ [] };
+        ensures handed { (before : List (List Target)) → handed self.old before
+            → handed self.new (before ++ map (λ part. (part.0.now, part.1.now)) parts.now ∷ []) };
 }
 
 /// Why there is no reply to a command.
@@ -124,17 +125,28 @@ fn send_parts<C: Connections>(
     connections: &mut C,
 ) -> Result<Vec<Answer>, AllocError>
     ensures handed { OnOk result
-        (C.handed connections.new ≡ C.handed connections.old ++ targets plan.now ∷ []) }
-    ensures handed_or_none { OnErr result ((C.handed connections.new ≡ C.handed connections.old)
-        ⊎ (C.handed connections.new ≡ C.handed connections.old ++ targets plan.now ∷ [])) }
+        (AreAdded (C.handed connections.old) (C.handed connections.new) (targets plan.now)) }
+    ensures handed_or_none { OnErr result
+        (IsSame (C.handed connections.old) (C.handed connections.new)
+        ⊎ AreAdded (C.handed connections.old) (C.handed connections.new) (targets plan.now)) }
 {
     let mut parts = Vec::with_capacity(alloc, plan.len())?;
     for number in 0..plan.len() {
-        if let (Some(node), Some(part)) = (plan.node(number), plan.part(number)) {
-            parts.push((node, part))?;
+        if let Some(target) = target_of(plan, number) {
+            parts.push(target)?;
         }
     }
     connections.exchange(&parts)
+}
+
+/// The node and the part of a route, where there is such a route.
+fn target_of<'a>(plan: &'a SplitPlan<'_, Cmd>, number: usize) -> Option<(&'a NodeAddress, &'a Cmd)>
+    ensures { option_map (λ target. (target.0.now, target.1.now)) result
+        ≡ slice_get (targets plan.now) number }
+{
+    let node = plan.node(number)?;
+    let part = plan.part(number)?;
+    Some((node, part))
 }
 
 /// The one reply to a command, by the answers to its parts, in the order of the routes.

@@ -10,6 +10,7 @@ pub mod deleting;
 pub mod node_of_key;
 pub mod pipelines;
 pub mod redirects;
+pub mod registering;
 pub mod replies;
 pub mod routing;
 pub mod sending;
