@@ -1,0 +1,212 @@
+-- Numbers, digit by digit.
+use Rattle.std.proofs.Common.{◌≡◌, ◌≢◌, ℕ, ℤ, pos, negsuc, zero, suc, ◌+◌, ◌*◌, ◌-◌, ◌<◌, ◌≤◌, ◌^◌, Bool, true, false, ◌&&◌, cond, eqb, ltb, List, [], ◌∷◌, ◌++◌, length, get_or, drop, Option, Some, None, refl, sym, ap, subst, ◌∙◌, arith, decimal, inl, inr}
+use Rattle.std.specs.Char.{is_ascii_digit, digit_value}
+use Rattle.std.specs.Str.{all_ascii_digits}
+use Rattle.std.specs.List.{AllByRecursion}
+use Rattle.std.specs.Str.Parse.{digits_value, digits_value_after, AllDigits}
+use Rattle.std.specs.Fmt.{signed_decimal}
+use Rattle.std.proofs.lemmas.Bool.Decides.{nat_tests}
+use Rattle.std.proofs.lemmas.List.{drop_more, drop_all}
+use Rattle.std.proofs.lemmas.Str.Parse.{IsNumeralModel, numerals_by_value, tells_all_ascii_digits, digit_at, digit_from_value}
+use Rattle.std.proofs.lemmas.Str.{digit_value_digit}
+use Rattle.std.proofs.lemmas.Bool.{ltb-true}
+use Rattle.resp.proofs.Steps.{chosen, both}
+use Rattle.std.proofs.lemmas.Fmt.{digits_decimal, digits_value-decimal, decimal_nonempty}
+use Rattle.resp_core.proofs.Cases.{by_test}
+use Rattle.resp.specs.Forms.{number_in, int_in, length_in, below_zero, not_below_zero, IsShort, IsInLine}
+
+abbrev some : ℕ → Option ℕ
+some n = Some n
+
+some_is : (x y : ℕ) → some x ≡ some y → x ≡ y
+some_is x y e = cc
+
+pub own : IsNumeralModel (λ ds. all_ascii_digits ds ≡ true) (digits_value 10)
+own = numerals_by_value (λ ds. all_ascii_digits ds ≡ true) tells_all_ascii_digits
+
+-- the number that digits write after those that write n
+abbrev pub number_after : ℕ → ℕ → List ℕ → Option ℕ
+number_after limit n [] = Some n
+number_after limit n (d ∷ ds) = cond (is_ascii_digit d && ltb (n * 10 + digit_value d) limit) (number_after limit (n * 10 + digit_value d) ds) None
+
+value_grows : (n : ℕ) (ds : List ℕ) → n ≤ digits_value_after 10 n ds
+value_grows n [] = omega arith
+value_grows n (d ∷ ds) = let later = value_grows (n * 10 + digit_value d) ds in omega (arith, later)
+
+and_false : (a : Bool) → (a && false) ≡ false
+and_false true = refl
+and_false false = refl
+
+number_after_is : (limit n : ℕ) (ds : List ℕ) → n < limit → number_after limit n ds ≡ cond (all_ascii_digits ds && ltb (digits_value_after 10 n ds) limit) (Some (digits_value_after 10 n ds)) None
+number_after_is limit n [] low = let t : ltb n limit ≡ true = grind (arith, nat_tests) in rw t refl
+number_after_is limit n (d ∷ ds) low =
+    let m = n * 10 + digit_value d in
+    by_test (is_ascii_digit d)
+    (λ t. by_test (ltb m limit)
+      (λ u. let lt : m < limit = grind (arith, nat_tests) in rw (t, u) (number_after_is limit m ds lt))
+      (λ f.
+        let grows : m ≤ digits_value_after 10 m ds = value_grows m ds in
+        let g : ltb (digits_value_after 10 m ds) limit ≡ false = grind (arith, nat_tests) in
+        rw (t, f, g, and_false (all_ascii_digits ds)) refl))
+    (λ f. rw f refl)
+
+-- a text of at least one byte
+pub number_in_is : (limit : ℕ) (text : List ℕ) → 0 < limit → 0 < length text → number_in limit text ≡ number_after limit 0 text
+unfolding number_in
+number_in_is limit text some long =
+    let t : ltb 0 (length text) ≡ true = grind (arith, nat_tests) in
+    rw t (sym (number_after_is limit 0 text some))
+
+pub number_in_none : (limit : ℕ) (text : List ℕ) → length text ≡ 0 → number_in limit text ≡ None
+unfolding number_in
+number_in_none limit text none =
+    let f : ltb 0 (length text) ≡ false = grind (arith, nat_tests) in
+    rw f refl
+
+-- ---- a loop over the digits
+
+pub digit_more : (limit n i : ℕ) (text : List ℕ) → i < length text → is_ascii_digit (get_or text i 0) ≡ true → n * 10 + digit_value (get_or text i 0) < limit
+    → number_after limit n (drop i text) ≡ number_after limit (n * 10 + digit_value (get_or text i 0)) (drop (i + 1) text)
+digit_more limit n i text lt digit low =
+    let t : ltb (n * 10 + digit_value (get_or text i 0)) limit ≡ true = grind (arith, nat_tests) in
+    ap (number_after limit n) (drop_more text i 0 lt) ∙ rw (digit, t) refl
+
+pub no_digit : (limit n i : ℕ) (text : List ℕ) → i < length text → is_ascii_digit (get_or text i 0) ≡ false → number_after limit n (drop i text) ≡ None
+no_digit limit n i text lt digit = ap (number_after limit n) (drop_more text i 0 lt) ∙ rw digit refl
+
+pub too_large : (limit n i : ℕ) (text : List ℕ) → i < length text → limit ≤ n * 10 + digit_value (get_or text i 0) → number_after limit n (drop i text) ≡ None
+too_large limit n i text lt large =
+    let d = get_or text i 0 in
+    let f : ltb (n * 10 + digit_value d) limit ≡ false = grind (arith, nat_tests) in
+    ap (number_after limit n) (drop_more text i 0 lt) ∙ rw (f, and_false (is_ascii_digit d)) refl
+
+pub number_ends : (limit n i : ℕ) (text : List ℕ) → length text ≤ i → number_after limit n (drop i text) ≡ Some n
+number_ends limit n i text le = ap (number_after limit n) (drop_all i text le)
+
+pub digit_is : (d : ℕ) → is_ascii_digit d ≡ true → digit_value d + 48 ≡ d
+digit_is d t =
+    let low : 48 ≤ d = grind (arith, nat_tests) in
+    let high : d ≤ 57 = grind (arith, nat_tests) in
+    digit_value_digit d (low, high)
+
+-- a number that was read is below the limit
+pub number_below : (limit : ℕ) (text : List ℕ) (n : ℕ) → Some n ≡ number_in limit text → n < limit
+unfolding number_in
+number_below limit text n e =
+    elim (chosen (ltb 0 (length text) && (all_ascii_digits text && ltb (digits_value 10 text) limit)) (Some (digits_value 10 text)) None (some n) (sym e)) [
+      | inl p ↦
+          let t = both (all_ascii_digits text) (ltb (digits_value 10 text) limit) (both (ltb 0 (length text)) _ p.0).1 in
+          let value : digits_value 10 text ≡ n = some_is (digits_value 10 text) n p.1 in
+          let low : digits_value 10 text < limit = ltb-true _ _ t.1 in
+          omega (arith, value, low)
+      | inr p ↦ absurd cc
+    ]
+
+-- ---- no number stays none, whatever follows
+
+after_none : (limit n : ℕ) (ds more : List ℕ) → number_after limit n ds ≡ None → number_after limit n (ds ++ more) ≡ None
+after_none limit n [] more e = absurd cc
+after_none limit n (d ∷ ds) more e =
+    let m = n * 10 + digit_value d in
+    by_test (is_ascii_digit d && ltb m limit)
+    (λ t. rw t (after_none limit m ds more (rw t at e)))
+    (λ f. rw f refl)
+
+pub none_longer : (limit : ℕ) (text more : List ℕ) → 0 < limit → 0 < length text → number_in limit text ≡ None → number_in limit (text ++ more) ≡ None
+none_longer limit [] more some long e = absurd (omega (arith, long))
+none_longer limit (d ∷ ds) more some long e =
+    number_in_is limit (d ∷ (ds ++ more)) some (omega arith)
+    ∙ after_none limit 0 (d ∷ ds) more (sym (number_in_is limit (d ∷ ds) some (omega arith)) ∙ e)
+
+above_none : {n : Option ℕ} → n ≡ None → not_below_zero n ≡ None
+above_none e = rw e refl
+
+none_above : (n : Option ℕ) → not_below_zero n ≡ None → n ≡ None
+none_above None e = refl
+none_above (Some n) e = absurd cc
+
+none_below : (n : Option ℕ) → below_zero n ≡ None → n ≡ None
+none_below None e = refl
+none_below (Some zero) e = absurd cc
+none_below (Some (suc n)) e = absurd cc
+
+-- a text that is more than a sign
+abbrev pub HasDigits : List ℕ → Type 0
+HasDigits text = (text ≢ []) × (text ≢ 45 ∷ []) × (text ≢ 43 ∷ [])
+
+some_follow : (b : ℕ) (text : List ℕ) → (b ∷ text ≢ b ∷ []) → 0 < length text
+some_follow b [] other = absurd (other refl)
+some_follow b (c ∷ text) other = omega arith
+
+pub int_longer : (text more : List ℕ) → HasDigits text → int_in text ≡ None → int_in (text ++ more) ≡ None
+unfolding int_in
+int_longer [] more has e = absurd (has.0 refl)
+int_longer (first ∷ text) more has e =
+    by_test (eqb first 45)
+    (λ t.
+      let is : first ≡ 45 = grind (arith, nat_tests) in
+      let other : first ∷ text ≢ first ∷ [] = λ h. has.1 (h ∙ ap (λ (b : ℕ). b ∷ []) is) in
+      let none = none_below (number_in (2 ^ 63 + 1) text) (rw t at e) in
+      rw t (ap below_zero (none_longer (2 ^ 63 + 1) text more (omega arith) (some_follow first text other) none)))
+    (λ f. by_test (eqb first 43)
+      (λ t.
+        let is : first ≡ 43 = grind (arith, nat_tests) in
+        let other : first ∷ text ≢ first ∷ [] = λ h. has.2 (h ∙ ap (λ (b : ℕ). b ∷ []) is) in
+        let none = none_above (number_in (2 ^ 63) text) (rw (f, t) at e) in
+        rw (f, t) (ap not_below_zero (none_longer (2 ^ 63) text more (omega arith) (some_follow first text other) none)))
+      (λ g.
+        let none = none_above (number_in (2 ^ 63) (first ∷ text)) (rw (f, g) at e) in
+        rw (f, g) (ap not_below_zero (none_longer (2 ^ 63) (first ∷ text) more (omega arith) (omega arith) none))))
+
+pub length_longer : (text more : List ℕ) → text ≢ [] → length_in text ≡ None → length_in (text ++ more) ≡ None
+length_longer [] more some e = absurd (some refl)
+length_longer (d ∷ ds) more some e = none_longer (2 ^ 63) (d ∷ ds) more (omega arith) (omega arith) e
+
+-- ---- what is written is read
+
+pub number_decimal : (limit n : ℕ) → n < limit → n < 2 ^ 64 → number_in limit (decimal n) ≡ Some n
+unfolding number_in
+number_decimal limit n low short =
+    let value : digits_value 10 (decimal n) ≡ n = digits_value-decimal own n short in
+    let long : 0 < length (decimal n) = decimal_nonempty n short in
+    let a : ltb 0 (length (decimal n)) ≡ true = grind (arith, nat_tests) in
+    let b : ltb n limit ≡ true = grind (arith, nat_tests) in
+    let d : all_ascii_digits (decimal n) ≡ true = digits_decimal own n short in
+    rw (value, a, b, d) refl
+
+no_sign : (text : List ℕ) (n : ℕ) → text ≡ decimal n → n < 2 ^ 63 → int_in text ≡ Some (pos n)
+unfolding int_in
+no_sign [] n e low = absurd (omega (arith, ap (length {A = ℕ}) e, decimal_nonempty n (omega (arith, low))))
+no_sign (first ∷ more) n e low =
+    let short : n < 2 ^ 64 = omega (arith, low) in
+    let all : all_ascii_digits (first ∷ more) ≡ true = subst (λ (ds : List ℕ). all_ascii_digits ds ≡ true) (sym e) (digits_decimal own n short) in
+    let digit = digit_at (first ∷ more) 0 (own.to (first ∷ more) all) (omega arith) in
+    let minus : first ≢ 45 = omega (arith, digit.0) in
+    let plus : first ≢ 43 = omega (arith, digit.0) in
+    let f : eqb first 45 ≡ false = grind (arith, nat_tests) in
+    let g : eqb first 43 ≡ false = grind (arith, nat_tests) in
+    rw (f, g) (ap not_below_zero (ap (number_in (2 ^ 63)) e ∙ number_decimal (2 ^ 63) n low short))
+
+pub int_decimal : (z : ℤ) → IsShort z → int_in (signed_decimal z) ≡ Some z
+unfolding int_in
+int_decimal (pos n) short = no_sign (decimal n) n refl short
+int_decimal (negsuc n) short = ap below_zero (number_decimal (2 ^ 63 + 1) (suc n) (omega (arith, short)) (omega (arith, short)))
+
+-- no end of a line stands in the text of a number
+in_line : (ds : List ℕ) → AllDigits 10 ds → AllByRecursion IsInLine ds
+in_line [] h = tt
+in_line (d ∷ ds) h =
+    let range = digit_from_value d h.0 in
+    let a : d ≢ 13 = omega (arith, range.0) in
+    let b : d ≢ 10 = omega (arith, range.0) in
+    ((a, b), in_line ds h.1)
+
+pub in_line_decimal : (n : ℕ) → n < 2 ^ 64 → AllByRecursion IsInLine (decimal n)
+in_line_decimal n low = in_line (decimal n) (own.to (decimal n) (digits_decimal own n low))
+
+pub in_line_int : (z : ℤ) → IsShort z → AllByRecursion IsInLine (signed_decimal z)
+in_line_int (pos n) short = in_line_decimal n (omega (arith, short))
+in_line_int (negsuc n) short =
+    let a : 45 ≢ 13 = omega arith in
+    let b : 45 ≢ 10 = omega arith in
+    ((a, b), in_line_decimal (suc n) (omega (arith, short)))

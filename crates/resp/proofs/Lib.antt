@@ -1,0 +1,9 @@
+pub mod Steps
+pub mod Digits
+pub mod Lines
+pub mod Longer
+pub mod Grammar
+pub mod Complete
+pub mod Times
+pub mod Fronts
+pub mod Written

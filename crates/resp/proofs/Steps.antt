@@ -1,0 +1,31 @@
+-- Steps of reading.
+use Rattle.std.proofs.Common.{◌≡◌, Bool, true, false, ◌&&◌, cond, Option, Some, None, Result, Ok, Err, refl, ◌⊎◌, inl, inr}
+use Rattle.resp.specs.declared.fault.Fault.{Fault}
+use Rattle.resp.specs.Reading.{◌>>=◌, or_malformed}
+
+pub bind_ok : {A B : Type 0} (r : Result A Fault) (f : A → Result B Fault) (y : B) → (r >>= f) ≡ Ok y → (x : A) × (r ≡ Ok x) × (f x ≡ Ok y)
+bind_ok (Ok x) f y e = (x, refl, e)
+bind_ok (Err d) f y e = absurd cc
+
+abbrev pub done : {A : Type 0} → A → Result A Fault
+done x = Ok x
+
+abbrev pub failed : {A : Type 0} → Fault → Result A Fault
+failed e = Err e
+
+pub ok_is : {A : Type 0} (x y : A) → done x ≡ done y → x ≡ y
+ok_is x y e = cc
+
+-- which way a test went
+pub chosen : {A : Type 0} (b : Bool) (x y z : A) → cond b x y ≡ z → ((b ≡ true) × (x ≡ z)) ⊎ ((b ≡ false) × (y ≡ z))
+chosen true x y z e = inl (refl, e)
+chosen false x y z e = inr (refl, e)
+
+pub some_of : {A : Type 0} (o : Option A) (x : A) → or_malformed o ≡ done x → o ≡ Some x
+some_of None x e = absurd cc
+some_of (Some y) x e = cc
+
+pub both : (a b : Bool) → (a && b) ≡ true → (a ≡ true) × (b ≡ true)
+both true true e = (refl, refl)
+both true false e = absurd cc
+both false b e = absurd cc

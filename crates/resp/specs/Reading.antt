@@ -1,0 +1,135 @@
+-- Reading an answer from left to right, with the first fault that is met. What a whole answer is, says
+-- `IsForm`; the contract of `read` joins the two.
+use Rattle.std.specs.Prelude.{◌≡◌, ◌==◌, ◌++◌, ℕ, ℤ, zero, suc, Bool, true, false, ◌&&◌, ◌||◌, nat_lt, if◌then◌else◌, List, [], ◌∷◌, length, take, drop, codes, bytes_eq, Option, Some, None, Result, Ok, Err}
+use Rattle.resp_core.specs.Reply.{Reply, nil, int, bulk}
+use Rattle.resp.specs.declared.fault.Fault.{Fault}
+use Rattle.resp.specs.declared.fault.Fault.TheVariants.{Incomplete, Malformed, TooDeep}
+use Rattle.resp.specs.declared.fault.ReadError.{ReadError}
+use Rattle.resp.specs.declared.fault.ReadError.TheVariants as errors
+use Rattle.resp.specs.Forms.{Answer, IsForm, answer_before, array_of_all, simple_of, int_in, length_in}
+
+infixl 10 ◌>>=◌
+abbrev pub ◌>>=◌ : {A B : Type 0} → Result A Fault → (A → Result B Fault) → Result B Fault
+(Ok x) >>= f = f x
+(Err e) >>= f = Err e
+
+-- What a function returned, seen by view, is what reading gives, unless memory ran out.
+abbrev pub Fails : {Y : Type 0} → ReadError → Result Y Fault → Type 0
+Fails errors.Memory read = Unit {0}
+Fails (errors.Fault f) read = read ≡ Err f
+
+abbrev pub Gives : {X Y : Type 0} → (X → Y) → Result X ReadError → Result Y Fault → Type 0
+Gives view (Ok x) read = read ≡ Ok (view x)
+Gives view (Err e) read = Fails e read
+
+-- ---- a line
+
+-- the text of the line that begins here, and what follows the text
+unfoldable pub text_of : List ℕ → List ℕ
+text_of [] = []
+text_of (b ∷ bytes) = if b == 13 || b == 10 then [] else b ∷ text_of bytes
+
+unfoldable pub after_text : List ℕ → List ℕ
+after_text [] = []
+after_text (b ∷ bytes) = if b == 13 || b == 10 then b ∷ bytes else after_text bytes
+
+-- what follows the line's end that stands here
+abbrev pub ended : List ℕ → Result (List ℕ) Fault
+ended [] = Err Incomplete
+ended (b ∷ []) = if b == 13 then Err Incomplete else Err Malformed
+ended (b ∷ c ∷ rest) = if b == 13 && c == 10 then Ok rest else Err Malformed
+
+abbrev pub or_malformed : {A : Type 0} → Option A → Result A Fault
+or_malformed None = Err Malformed
+or_malformed (Some x) = Ok x
+
+-- whether a number may still begin: the bytes end where its first digit would stand
+abbrev pub is_before_digits : List ℕ → List ℕ → Bool
+is_before_digits text after =
+    length after == 0 && (length text == 0 || (bytes_eq text (codes "-") || bytes_eq text (codes "+")))
+
+abbrev pub is_before_length : List ℕ → List ℕ → Bool
+is_before_length text after = length after == 0 && (length text == 0 || bytes_eq text (codes "-"))
+
+-- a number's line by its text and what follows that
+unfoldable pub int_at : List ℕ → List ℕ → Result (ℤ × List ℕ) Fault
+int_at text after =
+    if is_before_digits text after then Err Incomplete
+    else (or_malformed (int_in text) >>= λ n. ended after >>= λ rest. Ok (n, rest))
+
+-- the line of a length, which is none for -1
+unfoldable pub length_at : List ℕ → List ℕ → Result (Option ℕ × List ℕ) Fault
+length_at text after =
+    if bytes_eq text (codes "-1") then (ended after >>= λ rest. Ok (None, rest))
+    else (if is_before_length text after then Err Incomplete
+    else (or_malformed (length_in text) >>= λ n. ended after >>= λ rest. Ok (Some n, rest)))
+
+-- ---- an answer
+
+abbrev pub nothing_at : List ℕ → Result (Answer × List ℕ) Fault
+nothing_at rest = Ok (Ok nil, rest)
+
+-- a bulk string of so many bytes, or nil
+unfoldable pub bytes_at : Option ℕ → List ℕ → Result (Answer × List ℕ) Fault
+bytes_at None rest = nothing_at rest
+bytes_at (Some n) rest =
+    if nat_lt (length rest) n then Err Incomplete
+    else (ended (drop n rest) >>= λ after. Ok (Ok (bulk (take n rest)), after))
+
+-- an answer that is no array, by its mark, the text of its first line, and what follows that
+unfoldable pub flat_at : ℕ → List ℕ → List ℕ → Result (Answer × List ℕ) Fault
+flat_at mark text after =
+    if mark == 36 then (length_at text after >>= λ x. bytes_at x.0 x.1)
+    else (if mark == 58 then (int_at text after >>= λ x. Ok (Ok (int x.0), x.1))
+    else (if mark == 43 then (ended after >>= λ rest. Ok (Ok (simple_of text), rest))
+    else (if mark == 45 then (ended after >>= λ rest. Ok (Err text, rest))
+    else Err Malformed)))
+
+abbrev pub Items : Type 0
+Items = Result (List Reply) (List ℕ)
+
+-- so many answers, one after the other
+unfoldable pub times_at : (List ℕ → Result (Answer × List ℕ) Fault) → ℕ → List ℕ
+    → Result (Items × List ℕ) Fault
+times_at read zero bytes = Ok (Ok [], bytes)
+times_at read (suc n) bytes = read bytes >>= λ first.
+    times_at read n first.1 >>= λ others. Ok (answer_before first.0 others.0, others.1)
+
+-- an array of so many items, or nil
+unfoldable pub items_at : (ℕ → List ℕ → Result (Items × List ℕ) Fault) → Option ℕ → List ℕ
+    → Result (Answer × List ℕ) Fault
+items_at items None rest = nothing_at rest
+items_at items (Some n) rest = items n rest >>= λ x. Ok (array_of_all x.0, x.1)
+
+-- an array, from behind its mark
+unfoldable pub array_at : (ℕ → List ℕ → Result (Items × List ℕ) Fault) → List ℕ
+    → Result (Answer × List ℕ) Fault
+array_at items bytes = length_at (text_of bytes) (after_text bytes) >>= λ x. items_at items x.0 x.1
+
+unfoldable pub front_at : (List ℕ → Result (Answer × List ℕ) Fault) → List ℕ
+    → Result (Answer × List ℕ) Fault
+front_at nested [] = Err Incomplete
+front_at nested (mark ∷ bytes) =
+    if mark == 42 then nested bytes else flat_at mark (text_of bytes) (after_text bytes)
+
+-- the answer at the front, in which arrays stand at most so deep in arrays, and what follows it
+unfoldable pub answer_at : ℕ → List ℕ → Result (Answer × List ℕ) Fault
+answer_at zero bytes = front_at (λ rest. Err TooDeep) bytes
+answer_at (suc levels) bytes = front_at (array_at (times_at (answer_at levels))) bytes
+
+-- ---- why nothing was read
+
+-- some more bytes make a whole answer of these
+abbrev pub CanBeCompleted : List ℕ → Type 0
+CanBeCompleted bytes = (more : List ℕ) × (a : Answer) × IsForm 32 a (bytes ++ more)
+
+-- whatever follows these bytes, no answer stands at the front
+abbrev pub BeginsNone : List ℕ → Type 0
+BeginsNone bytes = (more : List ℕ) (a : Answer) (form rest : List ℕ)
+    → IsForm 32 a form → bytes ++ more ≡ form ++ rest → ⊥
+
+abbrev pub Cause : List ℕ → ReadError → Type 0
+Cause bytes errors.Memory = Unit {0}
+Cause bytes (errors.Fault Incomplete) = CanBeCompleted bytes
+Cause bytes (errors.Fault Malformed) = BeginsNone bytes
+Cause bytes (errors.Fault TooDeep) = BeginsNone bytes

@@ -1,0 +1,148 @@
+ghost use Rattle.std.specs.Prelude.{◌≡◌, IfOk};
+ghost use Rattle.resp.specs.Forms.{answer, simple_of};
+ghost use Rattle.resp.specs.Reading.{Gives, text_of, after_text, ended, is_before_digits, is_before_length, int_at, length_at, bytes_at, flat_at};
+ghost use Rattle.resp_core.specs.View.{view};
+
+use crate::fault::{Fault, ReadError};
+use crate::numbers::{int_of, length_of};
+use crate::response::Response;
+use resp_core::Value;
+use std::alloc::{AllocError, Global};
+
+/// The text of the line that begins here, and what follows the text.
+pub(super) fn line_of(bytes: &[u8]) -> (&[u8], &[u8])
+    ensures text { result.0.now ≡ text_of bytes.now }
+    ensures after { result.1.now ≡ after_text bytes.now }
+{
+    for (end, b) in bytes.iter().enumerate() {
+        if *b == b'\r' || *b == b'\n' {
+            return bytes.split_at(end);
+        }
+    }
+    bytes.split_at(bytes.len())
+}
+
+/// What follows the line's end that stands here.
+fn end_of(after: &[u8]) -> Result<&[u8], ReadError>
+    ensures { Gives (λ x. x.now) result (ended after.now) }
+{
+    match after {
+        [b'\r', b'\n', rest @ ..] => Ok(rest),
+        [] | [b'\r'] => Err(ReadError::Fault(Fault::Incomplete)),
+        _ => Err(ReadError::Fault(Fault::Malformed)),
+    }
+}
+
+fn is_before_digits(text: &[u8], after: &[u8]) -> bool
+    ensures { result ≡ is_before_digits text.now after.now }
+{
+    after.is_empty()
+        && (text.is_empty() || text == b"-".as_slice() || text == b"+".as_slice())
+}
+
+fn is_before_length(text: &[u8], after: &[u8]) -> bool
+    ensures { result ≡ is_before_length text.now after.now }
+{
+    after.is_empty() && (text.is_empty() || text == b"-".as_slice())
+}
+
+/// A number's line by its text and what follows that.
+#[tactic(auto, unfolding(crate::specs::Reading::int_at))]
+fn int_at<'a>(text: &[u8], after: &'a [u8]) -> Result<(i64, &'a [u8]), ReadError>
+    ensures { Gives (λ x. (x.0, x.1.now)) result (int_at text.now after.now) }
+{
+    if is_before_digits(text, after) {
+        return Err(ReadError::Fault(Fault::Incomplete));
+    }
+    let Some(number) = int_of(text) else {
+        return Err(ReadError::Fault(Fault::Malformed));
+    };
+    let rest = end_of(after)?;
+    Ok((number, rest))
+}
+
+/// The line of a length, which is none for -1.
+#[tactic(auto, unfolding(crate::specs::Reading::length_at))]
+pub(super) fn length_at<'a>(
+    text: &[u8],
+    after: &'a [u8],
+) -> Result<(Option<u64>, &'a [u8]), ReadError>
+    ensures { Gives (λ x. (x.0, x.1.now)) result (length_at text.now after.now) }
+{
+    if text == b"-1".as_slice() {
+        let rest = end_of(after)?;
+        return Ok((None, rest));
+    }
+    if is_before_length(text, after) {
+        return Err(ReadError::Fault(Fault::Incomplete));
+    }
+    let Some(length) = length_of(text) else {
+        return Err(ReadError::Fault(Fault::Malformed));
+    };
+    let rest = end_of(after)?;
+    Ok((Some(length), rest))
+}
+
+/// A bulk string of so many bytes, or nil.
+#[tactic(auto, unfolding(crate::specs::Reading::bytes_at))]
+fn bytes_of(
+    alloc: Global,
+    length: Option<u64>,
+    rest: &[u8],
+) -> Result<(Response, &[u8]), ReadError>
+    ensures { Gives (λ x. (answer x.0, x.1.now)) result (bytes_at length rest.now) }
+{
+    let Some(length) = length else {
+        return Ok((Response::Value(Value::Nil), rest));
+    };
+    if (rest.len() as u64) < length {
+        return Err(ReadError::Fault(Fault::Incomplete));
+    }
+    let (bytes, after) = rest.split_at(length as usize);
+    let rest = end_of(after)?;
+    Ok((Response::Value(Value::BulkString(Vec::from_slice(alloc, bytes)?)), rest))
+}
+
+/// What the text of a line with + means.
+fn simple_of(alloc: Global, text: &[u8]) -> Result<Value, AllocError>
+    ensures { IfOk result (λ value. view value ≡ simple_of text.now) }
+{
+    if text == b"OK".as_slice() {
+        return Ok(Value::Okay);
+    }
+    match str::from_utf8(text) {
+        Ok(text) => Ok(Value::SimpleString(String::from_str(alloc, text)?)),
+        Err(_) => Ok(Value::BulkString(Vec::from_slice(alloc, text)?)),
+    }
+}
+
+/// An answer that is no array, by its mark, the text of its first line, and what follows that.
+#[tactic(auto, unfolding(crate::specs::Reading::flat_at))]
+pub(super) fn flat_of<'a>(
+    alloc: Global,
+    mark: u8,
+    text: &[u8],
+    after: &'a [u8],
+) -> Result<(Response, &'a [u8]), ReadError>
+    ensures { Gives (λ x. (answer x.0, x.1.now)) result (flat_at mark text.now after.now) }
+{
+    match mark {
+        b'$' => {
+            let (length, rest) = length_at(text, after)?;
+            bytes_of(alloc, length, rest)
+        }
+        b':' => {
+            let (number, rest) = int_at(text, after)?;
+            Ok((Response::Value(Value::Int(number)), rest))
+        }
+        b'+' => {
+            let rest = end_of(after)?;
+            Ok((Response::Value(simple_of(alloc, text)?), rest))
+        }
+        b'-' => {
+            let rest = end_of(after)?;
+            Ok((Response::Error(Vec::from_slice(alloc, text)?), rest))
+        }
+        _ => Err(ReadError::Fault(Fault::Malformed)),
+    }
+}

@@ -1,0 +1,15 @@
+//! Replies and requests as the bytes of the Redis serialization protocol, version 2: read from any
+//! bytes, and written.
+#![tactic(auto)]
+
+mod fault;
+mod fields;
+mod numbers;
+mod reading;
+mod response;
+mod writing;
+
+pub use fault::{Fault, ReadError, WriteError};
+pub use reading::{MAX_LEVELS, read};
+pub use response::Response;
+pub use writing::{write, write_command};

@@ -1,0 +1,143 @@
+ghost use Rattle.std.specs.Prelude.{◌≡◌, ◌++◌, ◌≤◌, ◌↔◌, length, decimal, map, OnOk, IfOk, IfErr, IsTrue, Ok};
+ghost use Rattle.std.specs.List.{flat_map, AllByRecursion};
+ghost use Rattle.resp_core.specs.Reply.{simple, replies_of};
+ghost use Rattle.resp_core.specs.View.{view};
+ghost use Rattle.resp.specs.Forms.{line, form, forms, bulk_form, request, depth, depth_items, HasForm, HaveForm, IsInLine, IsForm};
+
+use crate::fault::WriteError;
+use crate::reading::MAX_LEVELS;
+use itoa::Buffer;
+use resp_core::{Cmd, Value};
+use std::alloc::{AllocError, Global};
+
+/// The bytes of a value, which `read` reads as this value.
+///
+/// # Errors
+///
+/// `NoForm` where the value is or holds a map, a simple string that is `OK` (which is
+/// `Value::Okay`) or has a byte that ends lines, or arrays deeper than `MAX_LEVELS`. `Memory` if
+/// memory runs out.
+pub fn write(alloc: Global, value: &Value) -> Result<Vec<u8>, WriteError>
+    ensures bytes { IfOk result (λ bytes. bytes.items ≡ form (view value.now)) }
+    // They are a form of the value: `read` reads them, whatever follows.
+    ensures readable { IfOk result (λ bytes. IsForm 32 (Ok (view value.now)) bytes.items) }
+    ensures form { IfOk result (λ bytes. HasForm (view value.now)) }
+    ensures depth { IfOk result (λ bytes. depth (view value.now) ≤ 32) }
+    // It is refused for its form only where it has none.
+    ensures refused { HasForm (view value.now) → depth (view value.now) ≤ 32
+        → IfErr result (λ e. e ≡ WriteError.Memory) }
+{
+    let mut out = Vec::new(alloc);
+    push_value(&mut out, value, MAX_LEVELS)?;
+    Ok(out)
+}
+
+/// The bytes of a request: an array of bulk strings.
+///
+/// # Errors
+///
+/// If memory runs out.
+pub fn write_command(alloc: Global, command: &Cmd) -> Result<Vec<u8>, AllocError>
+    ensures { IfOk result (λ bytes. bytes.items ≡ request command.now) }
+{
+    let mut out = Vec::new(alloc);
+    push_count(&mut out, b'*', command.len())?;
+    for index in 0..command.len() {
+        if let Some(arg) = command.arg_idx(index) {
+            push_bulk(&mut out, arg)?;
+        }
+    }
+    Ok(out)
+}
+
+fn push_bulk(out: &mut Vec<u8>, bytes: &[u8]) -> Result<(), AllocError>
+    ensures { OnOk result (out.new.items ≡ out.old.items ++ bulk_form bytes.now) }
+{
+    push_count(out, b'$', bytes.len())?;
+    out.extend_from_slice(bytes)?;
+    out.extend_from_slice(b"\r\n")
+}
+
+fn push_count(out: &mut Vec<u8>, mark: u8, count: usize) -> Result<(), AllocError>
+    ensures { OnOk result (out.new.items ≡ out.old.items ++ line mark (decimal count)) }
+{
+    let mut buffer = Buffer::new();
+    push_line(out, mark, buffer.format(count).as_bytes())
+}
+
+fn push_line(out: &mut Vec<u8>, mark: u8, text: &[u8]) -> Result<(), AllocError>
+    ensures { OnOk result (out.new.items ≡ out.old.items ++ line mark text.now) }
+{
+    out.push(mark)?;
+    out.extend_from_slice(text)?;
+    out.extend_from_slice(b"\r\n")
+}
+
+/// Whether no end of a line stands in a text.
+fn is_one_line(text: &[u8]) -> bool
+    ensures { IsTrue result ↔ AllByRecursion IsInLine text.now }
+{
+    for b in text {
+        if *b == b'\r' || *b == b'\n' {
+            return false;
+        }
+    }
+    true
+}
+
+fn push_simple(out: &mut Vec<u8>, text: &str) -> Result<(), WriteError>
+    ensures bytes { OnOk result (out.new.items ≡ out.old.items ++ form (simple text.now)) }
+    ensures form { OnOk result (HasForm (simple text.now)) }
+    ensures refused { HasForm (simple text.now) → IfErr result (λ e. e ≡ WriteError.Memory) }
+{
+    if text == "OK" || !is_one_line(text.as_bytes()) {
+        return Err(WriteError::NoForm);
+    }
+    push_line(out, b'+', text.as_bytes())?;
+    Ok(())
+}
+
+#[cycle(writing)]
+fn push_value(out: &mut Vec<u8>, value: &Value, levels: u8) -> Result<(), WriteError>
+    ensures bytes { OnOk result (out.new.items ≡ out.old.items ++ form (view value.now)) }
+    ensures form { OnOk result (HasForm (view value.now)) }
+    ensures depth { OnOk result (depth (view value.now) ≤ levels) }
+    ensures refused { HasForm (view value.now) → depth (view value.now) ≤ levels
+        → IfErr result (λ e. e ≡ WriteError.Memory) }
+{
+    match value {
+        Value::Nil => out.extend_from_slice(b"$-1\r\n")?,
+        Value::Okay => out.extend_from_slice(b"+OK\r\n")?,
+        Value::Int(n) => {
+            let mut buffer = Buffer::new();
+            push_line(out, b':', buffer.format(*n).as_bytes())?;
+        }
+        Value::BulkString(bytes) => push_bulk(out, bytes)?,
+        Value::SimpleString(text) => push_simple(out, text)?,
+        Value::Array(items) => {
+            if levels == 0 {
+                return Err(WriteError::NoForm);
+            }
+            push_count(out, b'*', items.len())?;
+            push_values(out, items, levels - 1)?;
+        }
+        Value::Map(_) => return Err(WriteError::NoForm),
+    }
+    Ok(())
+}
+
+#[cycle(writing)]
+fn push_values(out: &mut Vec<u8>, values: &[Value], levels: u8) -> Result<(), WriteError>
+    ensures bytes { OnOk result (out.new.items
+        ≡ out.old.items ++ forms (replies_of (map view values.now))) }
+    ensures form { OnOk result (HaveForm (replies_of (map view values.now))) }
+    ensures depth { OnOk result (depth_items (replies_of (map view values.now)) ≤ levels) }
+    ensures refused { HaveForm (replies_of (map view values.now))
+        → depth_items (replies_of (map view values.now)) ≤ levels
+        → IfErr result (λ e. e ≡ WriteError.Memory) }
+{
+    for value in values {
+        push_value(out, value, levels)?;
+    }
+    Ok(())
+}
