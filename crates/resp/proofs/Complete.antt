@@ -1,11 +1,11 @@
 -- What is incomplete can be completed.
-use Rattle.std.proofs.Common.{◌≡◌, ◌≢◌, ℕ, ℤ, pos, zero, suc, ◌+◌, ◌-◌, ◌<◌, ◌≤◌, ◌^◌, Bool, true, false, ◌&&◌, ◌||◌, cond, eqb, ltb, List, [], ◌∷◌, ◌++◌, length, take, drop, codes, append_assoc, append-nil, Option, Some, None, Result, Ok, Err, refl, sym, ap, subst, ◌∙◌, arith, ◌⊎◌, inl, inr}
+use Rattle.std.proofs.Common.{◌≡◌, ℕ, ℤ, pos, zero, suc, ◌-◌, ◌<◌, ◌≤◌, Bool, true, false, ◌&&◌, ◌||◌, eqb, ltb, List, [], ◌∷◌, ◌++◌, length, take, drop, codes, append_assoc, append-nil, Option, Some, None, Result, Ok, Err, refl, sym, ap, subst, ◌∙◌, arith, ◌⊎◌, inl, inr}
 use Rattle.std.specs.Prelude.{bytes_eq}
 use Rattle.std.proofs.lemmas.Bool.{eqb-true, ltb-true, ltb-false}
 use Rattle.std.proofs.lemmas.Bool.Decides.{nat_tests}
 use Rattle.std.proofs.lemmas.Slice.Eq.{bytes_eq-Decides}
 use Rattle.std.proofs.lemmas.List.{length-append, nil_from_length}
-use Rattle.resp_core.specs.Reply.{Reply, nil, int, bulk}
+use Rattle.resp_core.specs.Reply.{nil, int, bulk}
 use Rattle.resp.specs.declared.fault.Fault.{Fault}
 use Rattle.resp.specs.declared.fault.Fault.TheVariants.{Incomplete, Malformed, TooDeep}
 use Rattle.resp.specs.Forms.{Answer, IsForm, answer_before, array_of_all, simple_of, number_in, int_in, length_in, crlf}
@@ -13,7 +13,7 @@ use Rattle.resp.specs.Reading.{◌>>=◌, or_malformed, Items, ended, text_of, a
 use Rattle.resp_core.proofs.Cases.{by_test}
 use Rattle.resp.proofs.Steps.{chosen, done, failed, both}
 use Rattle.resp.proofs.Lines.{ended_longer, open_longer, ended_takes}
-use Rattle.resp.proofs.Longer.{Continues, Continuous, continues_bind, take_front, drop_front, cases_of, ints_continue, lengths_continue, bytes_continue, times_continue, array_continues, answer_continues}
+use Rattle.resp.proofs.Longer.{Continues, Continuous, drop_front, cases_of, ints_continue, lengths_continue, times_continue, answer_continues}
 use Rattle.resp.proofs.Grammar.{int_again, length_again, nothing_again, bytes_again, nil_front, answer_takes, answer_again}
 
 -- these bytes and more are read, to the last
@@ -253,12 +253,12 @@ unfolding flat_at
 flat_complete mark bytes e = by_test (eqb mark 36)
     (λ t. rw t (complete_bind (λ bs. length_at (text_of bs) (after_text bs)) bytes_at lengths_continue lengths_complete bytes_complete bytes_begin bytes (rw t at e)))
     (λ f. by_test (eqb mark 58)
-      (λ t. rw (f, t) (complete_bind (λ bs. int_at (text_of bs) (after_text bs)) (λ n rest. Ok (Ok (int n), rest)) ints_continue ints_complete (λ n rest h. absurd (no_ok (Ok (int n), rest) h)) (λ n. ([], Ok (int n), refl)) bytes (rw (f, t) at e)))
-      (λ g. by_test (eqb mark 43)
-        (λ t. rw (f, g, t) (text_complete (λ text. Ok (simple_of text)) bytes (rw (f, g, t) at e)))
-        (λ h. by_test (eqb mark 45)
-          (λ t. rw (f, g, h, t) (text_complete (λ text. Err text) bytes (rw (f, g, h, t) at e)))
-          (λ k. absurd (no_malformed (rw (f, g, h, k) at e))))))
+    (λ t. rw (f, t) (complete_bind (λ bs. int_at (text_of bs) (after_text bs)) (λ n rest. Ok (Ok (int n), rest)) ints_continue ints_complete (λ n rest h. absurd (no_ok (Ok (int n), rest) h)) (λ n. ([], Ok (int n), refl)) bytes (rw (f, t) at e)))
+    (λ g. by_test (eqb mark 43)
+    (λ t. rw (f, g, t) (text_complete (λ text. Ok (simple_of text)) bytes (rw (f, g, t) at e)))
+    (λ h. by_test (eqb mark 45)
+    (λ t. rw (f, g, h, t) (text_complete (λ text. Err text) bytes (rw (f, g, h, t) at e)))
+    (λ k. absurd (no_malformed (rw (f, g, h, k) at e))))))
 
 module _ (read : List ℕ → Result (Answer × List ℕ) Fault) (goes : Continuous read) (first : Completable read) (begins : Filled read []) where
   abbrev rest_of : ℕ → Answer → List ℕ → Result (Items × List ℕ) Fault

@@ -1,5 +1,5 @@
 -- Numbers, digit by digit.
-use Rattle.std.proofs.Common.{◌≡◌, ◌≢◌, ℕ, ℤ, pos, negsuc, zero, suc, ◌+◌, ◌*◌, ◌-◌, ◌<◌, ◌≤◌, ◌^◌, Bool, true, false, ◌&&◌, cond, eqb, ltb, List, [], ◌∷◌, ◌++◌, length, get_or, drop, Option, Some, None, refl, sym, ap, subst, ◌∙◌, arith, decimal, inl, inr}
+use Rattle.std.proofs.Common.{◌≡◌, ◌≢◌, ℕ, ℤ, pos, negsuc, zero, suc, ◌+◌, ◌*◌, ◌<◌, ◌≤◌, ◌^◌, Bool, true, false, ◌&&◌, cond, eqb, ltb, List, [], ◌∷◌, ◌++◌, length, get_or, drop, Option, Some, None, refl, sym, ap, subst, ◌∙◌, arith, decimal, inl, inr}
 use Rattle.std.specs.Char.{is_ascii_digit, digit_value}
 use Rattle.std.specs.Str.{all_ascii_digits}
 use Rattle.std.specs.List.{AllByRecursion}
@@ -43,11 +43,11 @@ number_after_is limit n (d ∷ ds) low =
     let m = n * 10 + digit_value d in
     by_test (is_ascii_digit d)
     (λ t. by_test (ltb m limit)
-      (λ u. let lt : m < limit = grind (arith, nat_tests) in rw (t, u) (number_after_is limit m ds lt))
-      (λ f.
-        let grows : m ≤ digits_value_after 10 m ds = value_grows m ds in
-        let g : ltb (digits_value_after 10 m ds) limit ≡ false = grind (arith, nat_tests) in
-        rw (t, f, g, and_false (all_ascii_digits ds)) refl))
+    (λ u. let lt : m < limit = grind (arith, nat_tests) in rw (t, u) (number_after_is limit m ds lt))
+    (λ f.
+    let grows : m ≤ digits_value_after 10 m ds = value_grows m ds in
+    let g : ltb (digits_value_after 10 m ds) limit ≡ false = grind (arith, nat_tests) in
+    rw (t, f, g, and_false (all_ascii_digits ds)) refl))
     (λ f. rw f refl)
 
 -- a text of at least one byte
@@ -144,19 +144,19 @@ int_longer [] more has e = absurd (has.0 refl)
 int_longer (first ∷ text) more has e =
     by_test (eqb first 45)
     (λ t.
-      let is : first ≡ 45 = grind (arith, nat_tests) in
-      let other : first ∷ text ≢ first ∷ [] = λ h. has.1 (h ∙ ap (λ (b : ℕ). b ∷ []) is) in
-      let none = none_below (number_in (2 ^ 63 + 1) text) (rw t at e) in
-      rw t (ap below_zero (none_longer (2 ^ 63 + 1) text more (omega arith) (some_follow first text other) none)))
+    let is : first ≡ 45 = grind (arith, nat_tests) in
+    let other : first ∷ text ≢ first ∷ [] = λ h. has.1 (h ∙ ap (λ (b : ℕ). b ∷ []) is) in
+    let none = none_below (number_in (2 ^ 63 + 1) text) (rw t at e) in
+    rw t (ap below_zero (none_longer (2 ^ 63 + 1) text more (omega arith) (some_follow first text other) none)))
     (λ f. by_test (eqb first 43)
-      (λ t.
-        let is : first ≡ 43 = grind (arith, nat_tests) in
-        let other : first ∷ text ≢ first ∷ [] = λ h. has.2 (h ∙ ap (λ (b : ℕ). b ∷ []) is) in
-        let none = none_above (number_in (2 ^ 63) text) (rw (f, t) at e) in
-        rw (f, t) (ap not_below_zero (none_longer (2 ^ 63) text more (omega arith) (some_follow first text other) none)))
-      (λ g.
-        let none = none_above (number_in (2 ^ 63) (first ∷ text)) (rw (f, g) at e) in
-        rw (f, g) (ap not_below_zero (none_longer (2 ^ 63) (first ∷ text) more (omega arith) (omega arith) none))))
+    (λ t.
+    let is : first ≡ 43 = grind (arith, nat_tests) in
+    let other : first ∷ text ≢ first ∷ [] = λ h. has.2 (h ∙ ap (λ (b : ℕ). b ∷ []) is) in
+    let none = none_above (number_in (2 ^ 63) text) (rw (f, t) at e) in
+    rw (f, t) (ap not_below_zero (none_longer (2 ^ 63) text more (omega arith) (some_follow first text other) none)))
+    (λ g.
+    let none = none_above (number_in (2 ^ 63) (first ∷ text)) (rw (f, g) at e) in
+    rw (f, g) (ap not_below_zero (none_longer (2 ^ 63) (first ∷ text) more (omega arith) (omega arith) none))))
 
 pub length_longer : (text more : List ℕ) → text ≢ [] → length_in text ≡ None → length_in (text ++ more) ≡ None
 length_longer [] more some e = absurd (some refl)

@@ -1,13 +1,12 @@
 -- Where the text of a line ends.
-use Rattle.std.proofs.Common.{◌≡◌, ◌≢◌, ℕ, ◌+◌, ◌<◌, ◌≤◌, Bool, true, false, ◌&&◌, ◌||◌, cond, eqb, List, [], ◌∷◌, ◌++◌, length, get_or, take, drop, append_assoc, append-nil, Result, Ok, Err, refl, sym, ap, subst, ◌∙◌, arith, ◌⊎◌, inl, inr}
+use Rattle.std.proofs.Common.{◌≡◌, ◌≢◌, ℕ, ◌+◌, ◌<◌, ◌≤◌, Bool, true, false, ◌&&◌, ◌||◌, eqb, List, [], ◌∷◌, ◌++◌, length, get_or, take, drop, append_assoc, append-nil, Ok, Err, refl, sym, ap, ◌∙◌, arith, inl, inr}
 use Rattle.std.specs.List.{AllByRecursion}
 use Rattle.std.proofs.lemmas.Bool.{eqb-true}
 use Rattle.std.proofs.lemmas.Bool.Decides.{nat_tests}
 use Rattle.std.proofs.lemmas.List.{take_all, take_more, drop_more, drop_all}
 use Rattle.resp_core.proofs.Cases.{by_test}
-use Rattle.resp.specs.declared.fault.Fault.{Fault}
 use Rattle.resp.specs.declared.fault.Fault.TheVariants.{Incomplete, Malformed}
-use Rattle.resp.specs.Forms.{crlf, IsInLine}
+use Rattle.resp.specs.Forms.{IsInLine}
 use Rattle.resp.specs.Reading.{ended, text_of, after_text}
 use Rattle.resp.proofs.Steps.{done, ok_is, chosen, both}
 
@@ -18,10 +17,10 @@ in_line_from_test : (b : ℕ) → is_end b ≡ false → IsInLine b
 in_line_from_test b f = by_test (eqb b 13)
     (λ t. absurd (no (rw t at f)))
     (λ g.
-      let h : eqb b 10 ≡ false = rw g at f in
-      let one : b ≢ 13 = grind (arith, nat_tests) in
-      let two : b ≢ 10 = grind (arith, nat_tests) in
-      (one, two))
+    let h : eqb b 10 ≡ false = rw g at f in
+    let one : b ≢ 13 = grind (arith, nat_tests) in
+    let two : b ≢ 10 = grind (arith, nat_tests) in
+    (one, two))
   where
     no : true ≡ false → ⊥
     no e = absurd cc
@@ -71,11 +70,11 @@ unfolding text_of after_text
 ended_longer [] more b rest e = absurd cc
 ended_longer (c ∷ bytes) more b rest e = by_test (is_end c)
     (λ t.
-      let is : c ∷ bytes ≡ b ∷ rest = rw t at e in
-      rw t (refl, ap (λ (bs : List ℕ). bs ++ more) is))
+    let is : c ∷ bytes ≡ b ∷ rest = rw t at e in
+    rw t (refl, ap (λ (bs : List ℕ). bs ++ more) is))
     (λ f.
-      let later = ended_longer bytes more b rest (rw f at e) in
-      rw f (ap (λ (bs : List ℕ). c ∷ bs) later.0, later.1))
+    let later = ended_longer bytes more b rest (rw f at e) in
+    rw f (ap (λ (bs : List ℕ). c ∷ bs) later.0, later.1))
 
 -- more bytes after a line's text that goes on
 pub open_longer : (bytes more : List ℕ) → after_text bytes ≡ []
@@ -85,8 +84,8 @@ open_longer [] more e = (refl, refl, refl)
 open_longer (c ∷ bytes) more e = by_test (is_end c)
     (λ t. absurd (no (rw t at e)))
     (λ f.
-      let later = open_longer bytes more (rw f at e) in
-      rw f (ap (λ (bs : List ℕ). c ∷ bs) later.0, ap (λ (bs : List ℕ). c ∷ bs) later.1, later.2))
+    let later = open_longer bytes more (rw f at e) in
+    rw f (ap (λ (bs : List ℕ). c ∷ bs) later.0, ap (λ (bs : List ℕ). c ∷ bs) later.1, later.2))
   where
     no : c ∷ bytes ≡ [] → ⊥
     no h = absurd cc

@@ -1,16 +1,16 @@
 -- What more bytes change in reading: nothing but that what was incomplete may be complete.
-use Rattle.std.proofs.Common.{◌≡◌, ◌≢◌, ℕ, ℤ, pos, negsuc, zero, suc, ◌+◌, ◌-◌, ◌<◌, ◌≤◌, ◌^◌, Bool, true, false, ◌&&◌, ◌||◌, cond, eqb, ltb, List, [], ◌∷◌, ◌++◌, length, get_or, take, drop, codes, append_assoc, append-nil, Option, Some, None, Result, Ok, Err, refl, sym, ap, subst, ◌∙◌, arith, ◌⊎◌, inl, inr}
+use Rattle.std.proofs.Common.{◌≡◌, ◌≢◌, ℕ, zero, suc, ◌≤◌, Bool, true, false, ◌&&◌, ◌||◌, eqb, ltb, List, [], ◌∷◌, ◌++◌, length, get_or, take, drop, codes, Option, Some, None, Result, Ok, Err, refl, sym, ap, ◌∙◌, arith, ◌⊎◌, inl, inr}
 use Rattle.std.specs.Prelude.{bytes_eq}
-use Rattle.std.proofs.lemmas.Bool.{eqb-true, false_from_ne_true}
+use Rattle.std.proofs.lemmas.Bool.{false_from_ne_true}
 use Rattle.std.proofs.lemmas.Bool.Decides.{nat_tests, not_from_Decides}
 use Rattle.std.proofs.lemmas.Slice.Eq.{bytes_eq-Decides}
 use Rattle.std.proofs.lemmas.List.{length-append}
 use Rattle.resp_core.proofs.Cases.{by_test}
-use Rattle.resp_core.specs.Reply.{Reply, int, bulk}
+use Rattle.resp_core.specs.Reply.{int, bulk}
 use Rattle.resp.specs.declared.fault.Fault.{Fault}
 use Rattle.resp.specs.declared.fault.Fault.TheVariants.{Incomplete, Malformed, TooDeep}
 use Rattle.resp.specs.Forms.{Answer, answer_before, array_of_all, simple_of, int_in, length_in}
-use Rattle.resp.specs.Reading.{◌>>=◌, or_malformed, Items, ended, text_of, after_text, is_before_digits, is_before_length, int_at, length_at, bytes_at, flat_at, times_at, items_at, array_at, front_at, answer_at}
+use Rattle.resp.specs.Reading.{◌>>=◌, or_malformed, Items, ended, text_of, after_text, is_before_digits, int_at, length_at, bytes_at, flat_at, times_at, items_at, array_at, front_at, answer_at}
 use Rattle.resp.proofs.Digits.{HasDigits, int_longer, length_longer}
 use Rattle.resp.proofs.Lines.{ended_longer, open_longer}
 
@@ -144,8 +144,8 @@ int_steady = (λ text b rest more. rw (eqb_zero b rest, eqb_zero b (rest ++ more
     unended text t after more = by_test (eqb (length text) 0 || (bytes_eq text (codes "-") || bytes_eq text (codes "+")))
         (λ y. rw y tt)
         (λ f.
-          let has = has_digits text f in
-          rw (f, digits_off (text ++ t) after (has_longer text t has)) (open_number (int_in text) (int_in (text ++ t)) (λ n. n) after more (int_longer text t has)))
+        let has = has_digits text f in
+        rw (f, digits_off (text ++ t) after (has_longer text t has)) (open_number (int_in text) (int_in (text ++ t)) (λ n. n) after more (int_longer text t has)))
 
 pub ints_continue : Continuous (λ bytes. int_at (text_of bytes) (after_text bytes))
 ints_continue = line_continues int_at int_steady
@@ -165,16 +165,16 @@ length_steady = (ended_text, unended)
     unended text t after more = by_test (bytes_eq text (codes "-1"))
         (λ y. rw y tt)
         (λ f. by_test (eqb (length text) 0 || bytes_eq text (codes "-"))
-          (λ y. rw (f, y) tt)
-          (λ g.
-            let a = or_false (eqb (length text) 0) (bytes_eq text (codes "-")) g in
-            let some = not_empty text a.0 in
-            let one : text ≢ codes "-" = not_from_Decides _ (bytes_eq-Decides text (codes "-")) a.1 in
-            let two : text ≢ codes "-1" = not_from_Decides _ (bytes_eq-Decides text (codes "-1")) f in
-            let p = off (text ++ t) (codes "-1") (two_longer 45 49 text t some one two) in
-            let q = off (text ++ t) (codes "-") (one_longer 45 text t some one) in
-            let r = empty_off (text ++ t) (not_empty_longer text t some) in
-            rw (f, g, p, q, r, and_false (eqb (length after) 0)) (open_number (length_in text) (length_in (text ++ t)) (λ n. Some n) after more (length_longer text t some))))
+        (λ y. rw (f, y) tt)
+        (λ g.
+        let a = or_false (eqb (length text) 0) (bytes_eq text (codes "-")) g in
+        let some = not_empty text a.0 in
+        let one : text ≢ codes "-" = not_from_Decides _ (bytes_eq-Decides text (codes "-")) a.1 in
+        let two : text ≢ codes "-1" = not_from_Decides _ (bytes_eq-Decides text (codes "-1")) f in
+        let p = off (text ++ t) (codes "-1") (two_longer 45 49 text t some one two) in
+        let q = off (text ++ t) (codes "-") (one_longer 45 text t some one) in
+        let r = empty_off (text ++ t) (not_empty_longer text t some) in
+        rw (f, g, p, q, r, and_false (eqb (length after) 0)) (open_number (length_in text) (length_in (text ++ t)) (λ n. Some n) after more (length_longer text t some))))
 
 pub lengths_continue : Continuous (λ bytes. length_at (text_of bytes) (after_text bytes))
 lengths_continue = line_continues length_at length_steady
@@ -197,10 +197,10 @@ bytes_continue None rest more = refl
 bytes_continue (Some n) rest more = by_test (ltb (length rest) n)
     (λ t. rw t tt)
     (λ f.
-      let le : n ≤ length rest = grind (arith, nat_tests) in
-      let long : n ≤ length (rest ++ more) = omega (arith, le, length-append rest more) in
-      let g : ltb (length (rest ++ more)) n ≡ false = grind (arith, nat_tests) in
-      rw (f, g, take_front n rest more le, drop_front n rest more le) (end_continues (Ok (bulk (take n rest))) (drop n rest) more))
+    let le : n ≤ length rest = grind (arith, nat_tests) in
+    let long : n ≤ length (rest ++ more) = omega (arith, le, length-append rest more) in
+    let g : ltb (length (rest ++ more)) n ≡ false = grind (arith, nat_tests) in
+    rw (f, g, take_front n rest more le, drop_front n rest more le) (end_continues (Ok (bulk (take n rest))) (drop n rest) more))
 
 text_steady : {A : Type 0} (means : List ℕ → A) → Steady (λ text after. ended after >>= λ rest. Ok (means text, rest))
 text_steady means = (λ text b rest more. end_continues (means text) (b ∷ rest) more, λ text t after more. tt)
@@ -210,12 +210,12 @@ unfolding flat_at
 flat_continues mark bytes more = by_test (eqb mark 36)
     (λ t. rw t (continues_bind (length_at (text_of bytes) (after_text bytes)) (length_at (text_of (bytes ++ more)) (after_text (bytes ++ more))) (λ x. bytes_at x.0 x.1) more (lengths_continue bytes more) (λ n rest. bytes_continue n rest more)))
     (λ f. by_test (eqb mark 58)
-      (λ t. rw (f, t) (continues_bind (int_at (text_of bytes) (after_text bytes)) (int_at (text_of (bytes ++ more)) (after_text (bytes ++ more))) (λ x. Ok (Ok (int x.0), x.1)) more (ints_continue bytes more) (λ n rest. refl)))
-      (λ g. by_test (eqb mark 43)
-        (λ t. rw (f, g, t) (line_continues (λ text after. ended after >>= λ rest. Ok (Ok (simple_of text), rest)) (text_steady (λ text. Ok (simple_of text))) bytes more))
-        (λ h. by_test (eqb mark 45)
-          (λ t. rw (f, g, h, t) (line_continues (λ text after. ended after >>= λ rest. Ok (Err text, rest)) (text_steady (λ text. Err text)) bytes more))
-          (λ k. rw (f, g, h, k) refl))))
+    (λ t. rw (f, t) (continues_bind (int_at (text_of bytes) (after_text bytes)) (int_at (text_of (bytes ++ more)) (after_text (bytes ++ more))) (λ x. Ok (Ok (int x.0), x.1)) more (ints_continue bytes more) (λ n rest. refl)))
+    (λ g. by_test (eqb mark 43)
+    (λ t. rw (f, g, t) (line_continues (λ text after. ended after >>= λ rest. Ok (Ok (simple_of text), rest)) (text_steady (λ text. Ok (simple_of text))) bytes more))
+    (λ h. by_test (eqb mark 45)
+    (λ t. rw (f, g, h, t) (line_continues (λ text after. ended after >>= λ rest. Ok (Err text, rest)) (text_steady (λ text. Err text)) bytes more))
+    (λ k. rw (f, g, h, k) refl))))
 
 pub times_continue : (read : List ℕ → Result (Answer × List ℕ) Fault) → Continuous read → (n : ℕ) → Continuous (times_at read n)
 unfolding times_at

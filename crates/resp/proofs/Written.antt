@@ -4,11 +4,11 @@ use Rattle.std.specs.List.{flat_map}
 use Rattle.std.proofs.lemmas.List.{length-map, take_more}
 use Rattle.std.proofs.lemmas.List.Concat.{flat_map-append}
 use Rattle.std.proofs.lemmas.Option.{get_or_from_slice_get, slice_get-get_or}
-use Rattle.resp_core.specs.Reply.{Reply, reply, replies_of}
+use Rattle.resp_core.specs.Reply.{Reply, replies_of}
 use Rattle.resp_core.specs.View.{view}
 use Rattle.resp_core.specs.declared.value.Value.{Value, Array}
 use Rattle.resp_core.proofs.Views.{view-Array}
-use Rattle.resp.specs.Forms.{line, form, forms, bulk_form, request, count, depth, depth_items, HasForm, HaveForm}
+use Rattle.resp.specs.Forms.{line, form, forms, bulk_form, count, depth, depth_items, HasForm, HaveForm}
 
 count_is : (rs : List Reply) → count (replies_of rs) ≡ length rs
 count_is [] = refl

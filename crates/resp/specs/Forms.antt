@@ -1,5 +1,5 @@
 -- The bytes of replies and requests (Redis serialization protocol, version 2).
-use Rattle.std.specs.Prelude.{◌≡◌, ◌+◌, ◌-◌, ◌<◌, ◌≤◌, ◌^◌, ◌≢◌, ◌⊎◌, ◌==◌, max, ℕ, ℤ, zero, suc, pos, negsuc, Bool, ◌&&◌, if◌then◌else◌, nat_lt, List, [], ◌∷◌, ◌++◌, length, codes, decimal, bytes_eq, map, Vec, Option, Some, None, Result, Ok, Err}
+use Rattle.std.specs.Prelude.{◌≡◌, ◌+◌, ◌<◌, ◌^◌, ◌≢◌, ◌⊎◌, ◌==◌, max, ℕ, ℤ, zero, suc, pos, negsuc, ◌&&◌, if◌then◌else◌, nat_lt, List, [], ◌∷◌, ◌++◌, length, codes, decimal, bytes_eq, map, Vec, Option, Some, None, Result, Ok, Err}
 use Rattle.std.specs.Global.{Global}
 use Rattle.std.specs.Fmt.{signed_decimal}
 use Rattle.std.specs.List.{flat_map, AllByRecursion}
@@ -110,7 +110,7 @@ IsFlat a mark text body =
     ⊎ ((mark ≡ 58) × (body ≡ []) × (n : ℤ) × (int_in text ≡ Some n) × (a ≡ Ok (int n)))
     ⊎ ((mark ≡ 36) × (body ≡ []) × (text ≡ codes "-1") × (a ≡ Ok nil))
     ⊎ ((mark ≡ 36) × (bytes : List ℕ) × (length_in text ≡ Some (length bytes))
-        × (body ≡ bytes ++ crlf) × (a ≡ Ok (bulk bytes)))
+    × (body ≡ bytes ++ crlf) × (a ≡ Ok (bulk bytes)))
 
 -- each of these is a form of the one at its place, in the order of the list
 abbrev pub InOrder : (Answer → List ℕ → Type 0) → List Answer → List ℕ → Type 0
@@ -123,7 +123,7 @@ abbrev pub IsNested : (Answer → List ℕ → Type 0) → Answer → ℕ → Li
 IsNested Each a mark text body =
     ((mark ≡ 42) × (body ≡ []) × (text ≡ codes "-1") × (a ≡ Ok nil))
     ⊎ ((mark ≡ 42) × (answers : List Answer) × (length_in text ≡ Some (length answers))
-        × InOrder Each answers body × (a ≡ array_of_all (all_of answers)))
+    × InOrder Each answers body × (a ≡ array_of_all (all_of answers)))
 
 -- The bytes are a form of the answer, in which lines with * stand at most so deep.
 unfoldable pub IsForm : ℕ → Answer → List ℕ → Type 0

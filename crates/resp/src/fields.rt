@@ -36,8 +36,7 @@ fn end_of(after: &[u8]) -> Result<&[u8], ReadError>
 fn is_before_digits(text: &[u8], after: &[u8]) -> bool
     ensures { result ≡ is_before_digits text.now after.now }
 {
-    after.is_empty()
-        && (text.is_empty() || text == b"-".as_slice() || text == b"+".as_slice())
+    after.is_empty() && (text.is_empty() || text == b"-".as_slice() || text == b"+".as_slice())
 }
 
 fn is_before_length(text: &[u8], after: &[u8]) -> bool
@@ -85,11 +84,7 @@ pub(super) fn length_at<'a>(
 
 /// A bulk string of so many bytes, or nil.
 #[tactic(auto, unfolding(crate::specs::Reading::bytes_at))]
-fn bytes_of(
-    alloc: Global,
-    length: Option<u64>,
-    rest: &[u8],
-) -> Result<(Response, &[u8]), ReadError>
+fn bytes_of(alloc: Global, length: Option<u64>, rest: &[u8]) -> Result<(Response, &[u8]), ReadError>
     ensures { Gives (λ x. (answer x.0, x.1.now)) result (bytes_at length rest.now) }
 {
     let Some(length) = length else {
@@ -100,7 +95,10 @@ fn bytes_of(
     }
     let (bytes, after) = rest.split_at(length as usize);
     let rest = end_of(after)?;
-    Ok((Response::Value(Value::BulkString(Vec::from_slice(alloc, bytes)?)), rest))
+    Ok((
+        Response::Value(Value::BulkString(Vec::from_slice(alloc, bytes)?)),
+        rest,
+    ))
 }
 
 /// What the text of a line with + means.

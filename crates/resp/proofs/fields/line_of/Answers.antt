@@ -1,4 +1,4 @@
-use Rattle.std.proofs.Common.{◌≡◌, ◌≢◌, true, ◌<◌, ◌≤◌, ℕ, length, get_or, ◌∙◌, arith}
+use Rattle.std.proofs.Common.{◌≡◌, true, ◌<◌, ◌≤◌, length, get_or, ◌∙◌, arith}
 use Rattle.resp.proofs.Lines.{is_end, end_13, end_10, open_more, open_stops, open_to_the_end}
 use Rattle.resp.proofs.fields.line_of.Goals as goal
 use Rattle.resp.proofs.fields.line_of.Goals.{then-b-eq13-via-then-b-eq13, then-b-eq13-via-else-b-eq13+then-b-eq10}

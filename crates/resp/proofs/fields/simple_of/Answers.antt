@@ -4,9 +4,7 @@ use Rattle.std.specs.Str.{is_utf8}
 use Rattle.std.proofs.lemmas.Bool.{false_from_ne_true}
 use Rattle.std.proofs.lemmas.Str.{IsUtf8-from_is_utf8, is_utf8-from_IsUtf8}
 use Rattle.resp_core.specs.Reply.{bulk}
-use Rattle.resp_core.specs.View.{view}
 use Rattle.resp_core.proofs.Views.{view-SimpleString, view-BulkString}
-use Rattle.resp.specs.Forms.{simple_of}
 use Rattle.resp.proofs.fields.simple_of.Goals as goal
 
 pub returns-in_ok-from_str-in-Ok : goal.returns-in_ok-from_str-in-Ok

@@ -1,4 +1,4 @@
-use Rattle.std.proofs.Common.{◌≡◌, ◌+◌, ◌^◌, arith}
+use Rattle.std.proofs.Common.{◌+◌, ◌^◌, arith}
 use Rattle.resp.proofs.Digits.{number_below}
 use Rattle.resp.proofs.numbers.int_of.Goals as goal
 

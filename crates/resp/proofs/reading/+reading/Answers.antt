@@ -1,10 +1,10 @@
-use Rattle.std.proofs.Common.{◌≡◌, ℕ, ◌-◌, ◌<◌, List, Result, Ok, ap, subst, sym, ◌∙◌, arith}
+use Rattle.std.proofs.Common.{◌≡◌, ℕ, ◌<◌, List, Result, Ok, ap, subst, sym, ◌∙◌, arith}
 use Rattle.std.proofs.lemmas.Result.{err_from_is_err_and}
 use Rattle.resp_core.specs.Reply.{Reply}
 use Rattle.resp_core.proofs.Views.{view-Nil}
 use Rattle.resp.specs.declared.fault.Fault.{Fault}
 use Rattle.resp.specs.Forms.{Answer, answer, answers_in, answer_after}
-use Rattle.resp.specs.Reading.{Gives, Fails, answer_at, times_at}
+use Rattle.resp.specs.Reading.{Gives, answer_at, times_at}
 use Rattle.resp.proofs.Steps.{ok_is}
 use Rattle.resp.proofs.Times.{goes_on, ends, is_done}
 use Rattle.resp.proofs.Fronts.{empty, is_flat, too_deep, count_fails, nothing, items_fail, items_read}

@@ -1,4 +1,4 @@
-use Rattle.std.proofs.Common.{◌≡◌, ◌++◌, ◌<◌, ◌≤◌, ◌^◌, List, ℕ, ap, sym, subst, ◌∙◌, length, decimal, map, take, append_assoc, arith, rules}
+use Rattle.std.proofs.Common.{◌≡◌, ◌++◌, ◌<◌, ◌≤◌, ◌^◌, List, ℕ, ap, sym, subst, ◌∙◌, length, decimal, map, append_assoc, arith, rules}
 use Rattle.std.proofs.lemmas.Grind.{common_steps}
 use Rattle.std.specs.List.{flat_map}
 use Rattle.std.proofs.lemmas.List.{take_all}
@@ -46,8 +46,9 @@ push_values-loop-value-preserved t c =
     let vs = c.args.values.now in
     let i = c.loop-value.value-index in
     let v = c.value-item.result in
-    let lt : i < length vs = omega arith in
-    (c.in_ok-push_value.ensures.bytes
-      ∙ ap (λ (b : List ℕ). b ++ form (view v)) c.loop-value.invariant.0
-      ∙ values_more c.args.out.now.items vs i v lt c.value-item.is,
-    written_more vs i c.args.levels v lt c.value-item.is c.in_ok-push_value.ensures.form c.in_ok-push_value.ensures.depth c.loop-value.invariant.1)
+    let lt : i < length vs = omega arith in (
+      c.in_ok-push_value.ensures.bytes
+          ∙ ap (λ (b : List ℕ). b ++ form (view v)) c.loop-value.invariant.0
+          ∙ values_more c.args.out.now.items vs i v lt c.value-item.is,
+      written_more vs i c.args.levels v lt c.value-item.is c.in_ok-push_value.ensures.form c.in_ok-push_value.ensures.depth c.loop-value.invariant.1,
+    )

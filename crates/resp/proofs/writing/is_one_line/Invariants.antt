@@ -1,4 +1,4 @@
-use Rattle.std.proofs.Common.{◌≡◌, take}
+use Rattle.std.proofs.Common.{take}
 use Rattle.std.specs.List.{AllByRecursion}
 use Rattle.resp.specs.Forms.{IsInLine}
 use Rattle.resp.proofs.writing.is_one_line.Given as goal

@@ -1,5 +1,4 @@
-use Rattle.std.proofs.Common.{Vec, Global, ◌≡◌, ◌++◌, ◌∷◌, [], ◌+◌, ◌<◌, ℕ, List, length, decimal, take, get_or, ap, sym, ◌∙◌, append_assoc, arith}
-use Rattle.std.specs.List.{flat_map}
+use Rattle.std.proofs.Common.{Vec, Global, ◌≡◌, ◌++◌, [], ◌<◌, ℕ, List, length, decimal, get_or, ap, ◌∙◌, arith}
 use Rattle.resp.specs.Forms.{line, bulk_form}
 use Rattle.resp.proofs.Written.{words_more, word_at, none_at}
 use Rattle.resp.proofs.writing.write_command.Goals as goal
