@@ -1,0 +1,9 @@
+//! Tests of the public calls of `resp`.
+#![tactic(auto)]
+
+#[cfg(test)]
+mod hostile;
+#[cfg(test)]
+mod reading;
+#[cfg(test)]
+mod writing;
