@@ -2,6 +2,7 @@
 #![tactic(auto)]
 
 pub mod batcher;
+pub mod bytes;
 pub mod client;
 #[cfg(test)]
 mod client_tests;
