@@ -7,6 +7,7 @@
 #![tactic(auto)]
 
 mod addresses;
+mod bytes;
 mod combining;
 mod driving;
 mod fault;
@@ -31,6 +32,7 @@ use std::process::ExitCode;
 fn call(page: &Page<'_>, alloc: Global, library: &str, name: &str) -> Result<(), Fault> {
     match library {
         "resp_core" => values::call(page, alloc, name),
+        "resp" => bytes::call(page, alloc, name),
         "cluster_slots" => addresses::call(page, alloc, name),
         "slot_ranges" => ranges::call(page, alloc, name),
         "read_strategies" => ranges::call_of_shards(page, alloc, name),

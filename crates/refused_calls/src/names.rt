@@ -1,5 +1,5 @@
 /// Each public call that may take memory. `tools/memory-calls` prints those that have to be here.
-pub static NAMES: [&str; 99] = [
+pub static NAMES: [&str; 110] = [
     "cluster_map::SlotMap::new",
     "cluster_map::SlotMap::default",
     "cluster_map::SlotMap::fill_slots",
@@ -69,6 +69,12 @@ pub static NAMES: [&str; 99] = [
     "redis_routing::multi_slot_routes",
     "redis_routing::command_for_multi_slot_indices",
     "redis_routing::command_for_multi_slot_indices_with",
+    "resp::Fault::Display",
+    "resp::ReadError::Display",
+    "resp::WriteError::Display",
+    "resp::read",
+    "resp::write",
+    "resp::write_command",
     "resp_core::Cmd::new",
     "resp_core::Cmd::with_capacity",
     "resp_core::Cmd::with_room",

@@ -1,6 +1,7 @@
 use crate::fault::Fault;
 use redis_cluster::driver::{DriveError, DriveFault, PlanFault, SendError};
 use redis_cluster::routing::RegisterError;
+use resp::{ReadError, WriteError};
 use resp_core::{ErrorKind, RedisError};
 use slotroute_run::CommandFault;
 use std::alloc::AllocError;
@@ -26,6 +27,18 @@ impl TellsMemory for RedisError {
 impl TellsMemory for RegisterError {
     fn is_memory(&self) -> bool {
         *self == RegisterError::Memory
+    }
+}
+
+impl TellsMemory for ReadError {
+    fn is_memory(&self) -> bool {
+        matches!(self, ReadError::Memory)
+    }
+}
+
+impl TellsMemory for WriteError {
+    fn is_memory(&self) -> bool {
+        matches!(self, WriteError::Memory)
     }
 }
 

@@ -1,0 +1,18 @@
+//! Calls of `resp`.
+use crate::fault::Fault;
+use crate::inputs::{bulks, cmd};
+use crate::page::Page;
+use resp::{ReadError, WriteError, read, write, write_command};
+use std::alloc::Global;
+
+pub fn call(page: &Page<'_>, alloc: Global, name: &str) -> Result<(), Fault> {
+    match name {
+        "Fault::Display" => page.given(&format!(in alloc; "{}", resp::Fault::Malformed)),
+        "ReadError::Display" => page.given(&format!(in alloc; "{}", ReadError::Memory)),
+        "WriteError::Display" => page.given(&format!(in alloc; "{}", WriteError::Memory)),
+        "read" => page.given(&read(alloc, b"*2\r\n$3\r\nfoo\r\n:1\r\n+")),
+        "write" => page.given(&write(alloc, &bulks(alloc, "foo bar")?)),
+        "write_command" => page.given(&write_command(alloc, &cmd(alloc, "DEL a")?)),
+        _ => Err(Fault::Words),
+    }
+}
