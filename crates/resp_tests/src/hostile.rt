@@ -1,5 +1,5 @@
 use resp::{Fault, ReadError, read};
-use std::alloc::Global;
+use std::alloc::{AllocError, Global};
 use std::test::Fail;
 
 fn fault_of(alloc: Global, bytes: &[u8]) -> Option<Fault> {
@@ -87,14 +87,22 @@ fn each_cut_is_incomplete(rt: HostRuntime) -> Result<(), Fail> {
     Ok(())
 }
 
+// The bytes with another one at this index.
+fn with_byte(alloc: Global, whole: &[u8], index: usize, value: u8) -> Result<Vec<u8>, AllocError> {
+    let mut bytes = Vec::from_slice(alloc, whole)?;
+    if let Some(byte) = bytes.get_mut(index) {
+        *byte = value;
+    }
+    Ok(bytes)
+}
+
 #[test]
 fn each_flipped_byte_is_answered(rt: HostRuntime) -> Result<(), Fail> {
     let alloc = rt.alloc();
     let whole = b"*2\r\n$3\r\nGET\r\n$1\r\nk\r\n";
-    for place in 0..whole.len() {
-        let mut bytes = Vec::from_slice(alloc, whole.as_slice())?;
+    for index in 0..whole.len() {
         for value in 0..=255u8 {
-            bytes[place] = value;
+            let bytes = with_byte(alloc, whole.as_slice(), index, value)?;
             assert!(rt; !matches!(read(alloc, &bytes), Err(ReadError::Memory)));
         }
     }

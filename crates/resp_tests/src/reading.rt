@@ -4,16 +4,22 @@ use std::alloc::Global;
 use std::test::Fail;
 
 fn is_value(alloc: Global, bytes: &[u8], want: &Value, left: usize) -> bool {
-    match read(alloc, bytes) {
-        Ok((Response::Value(value), rest)) => value == *want && rest.len() == left,
-        _ => false,
+    let Ok((response, rest)) = read(alloc, bytes) else {
+        return false;
+    };
+    match response {
+        Response::Value(value) => value == *want && rest.len() == left,
+        Response::Error(_) => false,
     }
 }
 
 fn is_error(alloc: Global, bytes: &[u8], want: &[u8], left: usize) -> bool {
-    match read(alloc, bytes) {
-        Ok((Response::Error(text), rest)) => text.as_slice() == want && rest.len() == left,
-        _ => false,
+    let Ok((response, rest)) = read(alloc, bytes) else {
+        return false;
+    };
+    match response {
+        Response::Error(text) => text.as_slice() == want && rest.len() == left,
+        Response::Value(_) => false,
     }
 }
 

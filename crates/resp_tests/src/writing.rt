@@ -10,6 +10,16 @@ fn is_written(alloc: Global, value: &Value, want: &[u8]) -> bool {
     }
 }
 
+fn is_read(alloc: Global, bytes: &[u8], value: &Value) -> bool {
+    let Ok((response, rest)) = read(alloc, bytes) else {
+        return false;
+    };
+    match response {
+        Response::Value(found) => found == *value && rest.is_empty(),
+        Response::Error(_) => false,
+    }
+}
+
 fn has_no_form(alloc: Global, value: &Value) -> bool {
     matches!(write(alloc, value), Err(WriteError::NoForm))
 }
@@ -26,10 +36,7 @@ fn values_as_bytes(rt: HostRuntime) -> Result<(), Fail> {
     let array = Value::Array(items);
     let want: &[u8] = b"*2\r\n$3\r\nabc\r\n+PONG\r\n";
     assert!(rt; is_written(alloc, &array, want));
-    match read(alloc, want) {
-        Ok((Response::Value(value), rest)) => assert!(rt; value == array && rest.is_empty()),
-        _ => assert!(rt; false),
-    }
+    assert!(rt; is_read(alloc, want, &array));
     Ok(())
 }
 
