@@ -1,4 +1,4 @@
-ghost use Rattle.std.specs.Prelude.{map, string_bytes, IfSome, MatchOption};
+ghost use Rattle.std.specs.Prelude.{map, string_bytes, MatchOption};
 ghost use Rattle.slotroute_serve.specs.Output.{IsStrategyWord, NamesStrategy, IsRunBy};
 
 use cluster_slots::parse_u64;
@@ -14,9 +14,12 @@ pub enum StrategyName {
     Shard,
 }
 
-/// The strategy that the words `run DIRECTION WORD` name.
+/// The strategy that the words `run DIRECTION WORD` name; none where other words are given, or the
+/// last one names none.
 pub fn strategy_of(words: &[String]) -> Option<StrategyName>
-    ensures { IfSome result (λ strategy. IsRunBy strategy (map string_bytes words.now)) }
+    ensures { MatchOption result
+        ((strategy : StrategyName) → ¬ (IsRunBy strategy (map string_bytes words.now)))
+        (λ strategy. IsRunBy strategy (map string_bytes words.now)) }
 {
     let [command, _, word] = words else {
         return None;
