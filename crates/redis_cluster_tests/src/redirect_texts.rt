@@ -6,11 +6,15 @@ use std::test::Fail;
 
 // What the text tells a client whose node answered from `n1`: `moved` or `ask`, slot, host and port.
 fn told(alloc: Global, text: &str) -> Result<String, AllocError> {
-    match Redirect::from_error_text(alloc, text, "n1")? {
-        None => String::from_str(alloc, "none"),
-        Some((slot, Redirect::Moved(address))) => shown(alloc, "moved", slot.number(), &address),
-        Some((slot, Redirect::Ask(address))) => shown(alloc, "ask", slot.number(), &address),
-    }
+    let Some((slot, redirect)) = Redirect::from_error_text(alloc, text, "n1")? else {
+        return String::from_str(alloc, "none");
+    };
+    let word = match &redirect {
+        Redirect::Moved(_) => "moved",
+        Redirect::Ask(_) => "ask",
+    };
+    let address = redirect.into_address();
+    shown(alloc, word, slot.number(), &address)
 }
 
 fn shown(alloc: Global, word: &str, slot: u16, to: &NodeAddress) -> Result<String, AllocError> {
