@@ -7,27 +7,28 @@ use Rattle.std.specs.List.{list_any}
 use Rattle.std.specs.Prelude.{option_to_list}
 use Rattle.cluster_slots.specs.Address.{Address, same_address}
 use Rattle.cluster_slots.proofs.Orders.{same_from_address}
-use Rattle.slot_ranges.specs.SlotNodes.{SlotNodes}
-use Rattle.slot_ranges.specs.RangeMap.{Entry, EndsAfter, Ascends, IsUncovered, end_of, insert_entries}
-use Rattle.read_strategies.specs.Shards.{ShardNodes}
-use Rattle.read_strategies.specs.Topology.{Topology, IsShardAt, primary_of, entry_primary, has_primary, ends_of, shard_of, shards_of, place_entry, place_entries, topology_of, Agrees}
+use Rattle.cluster_map.specs.SlotNodes.{SlotNodes}
+use Rattle.cluster_map.specs.RangeMap.{RangeEntry, EndsAfter, Ascends, IsUncovered, end_of, insert_entries}
+use Rattle.cluster_map.specs.Shards.{ShardNodes}
+use Rattle.cluster_map.specs.Topology.{Topology, IsShardAt, entry_primary, has_primary, range_of_entry, shard_of, shards_of, place_entry, place_entries, topology_of, Agrees}
+use Rattle.cluster_map.specs.Inner.Topology.{primary_of}
 use Rattle.cluster_map.proofs.Groups.{primaries, primary_shards, primary_shards-are, primaries_cover, same_refl, same_sym}
 use Rattle.cluster_map.proofs.Inserts.{insert_steps, insert_steps-is, answer, answer-some, answer-is, by_option, with_value, with_value-insert_steps, with_value-answer}
 use Rattle.resp_core.proofs.Cases.{by_test}
-use Rattle.slot_ranges.proofs.Finds.{find, last_of, ends_with, same_ranges, Ascends-insert_entries, find-insert_entries}
-use Rattle.slot_ranges.proofs.Ranges.{EndsAfter-smaller}
+use Rattle.cluster_map.proofs.Finds.{find, last_of, ends_with, same_ranges, Ascends-insert_entries, find-insert_entries}
+use Rattle.cluster_map.proofs.Ranges.{EndsAfter-smaller}
 
-Ascends-insert_steps : {V : Type 0} (es more : List (Entry V)) → Ascends es → Ascends (insert_steps es more)
+Ascends-insert_steps : {V : Type 0} (es more : List (RangeEntry V)) → Ascends es → Ascends (insert_steps es more)
 Ascends-insert_steps es more ascends = rw (← insert_steps-is es more ascends) (Ascends-insert_entries es more ascends)
 
-find-insert_steps : {V : Type 0} (e : ℕ) (more : List (Entry V)) → find e (insert_steps [] more) ≡ last_of None (filter (ends_with e) more)
+find-insert_steps : {V : Type 0} (e : ℕ) (more : List (RangeEntry V)) → find e (insert_steps [] more) ≡ last_of None (filter (ends_with e) more)
 find-insert_steps e more = ap (find e) (sym (insert_steps-is [] more tt)) ∙ find-insert_entries e [] more tt
 
 -- the ranges of shards, with their primaries in place of the places
-abbrev with_key : Address → ℕ × ℕ → Entry (Option Address)
+abbrev with_key : Address → ℕ × ℕ → RangeEntry (Option Address)
 with_key p b = (b.0, b.1, Some p)
 
-abbrev shard_entries : List ShardNodes → List (Entry (Option Address))
+abbrev shard_entries : List ShardNodes → List (RangeEntry (Option Address))
 shard_entries [] = []
 shard_entries (s ∷ ss) = map (with_key s.primary) s.ranges ++ shard_entries ss
 
@@ -58,20 +59,20 @@ shard_entries_are pre ps n (s ∷ ss) e q =
     ∙ ap (λ z. map (with_key s.primary) s.ranges ++ z) (shard_entries_are (pre ++ s.primary ∷ []) ps (suc n) ss m w)
 
 -- at an end, the ranges of one primary
-abbrev part : Address → List (Entry SlotNodes) → List (Entry (Option Address))
-part k rs = map (with_key k) (map ends_of (filter (has_primary k) rs))
+abbrev part : Address → List (RangeEntry SlotNodes) → List (RangeEntry (Option Address))
+part k rs = map (with_key k) (map range_of_entry (filter (has_primary k) rs))
 
-part_ends : (e : ℕ) (k : Address) (rs : List (Entry SlotNodes)) → filter (ends_with e) (part k rs) ≡ part k (filter (ends_with e) rs)
+part_ends : (e : ℕ) (k : Address) (rs : List (RangeEntry SlotNodes)) → filter (ends_with e) (part k rs) ≡ part k (filter (ends_with e) rs)
 part_ends e k [] = refl
 part_ends e k (r ∷ rs) = by_test (has_primary k r)
     (λ h. rw h (by_test (nat_eq r.1 e) (λ t. rw (t, h) (ap (λ z. (r.0, r.1, Some k) ∷ z) (part_ends e k rs))) (λ t. rw t (part_ends e k rs))))
     (λ h. rw h (by_test (nat_eq r.1 e) (λ t. rw (t, h) (part_ends e k rs)) (λ t. rw t (part_ends e k rs))))
 
-none_ends : {V : Type 0} (e : ℕ) (rs : List (Entry V)) → EndsAfter e rs → Ascends rs → filter (ends_with e) rs ≡ []
+none_ends : {V : Type 0} (e : ℕ) (rs : List (RangeEntry V)) → EndsAfter e rs → Ascends rs → filter (ends_with e) rs ≡ []
 none_ends e [] s up = refl
 none_ends e (r ∷ rs) s up = let m : nat_eq r.1 e ≡ false = grind (arith, nat_tests) in rw m (none_ends e rs (EndsAfter-smaller e r.1 rs s up.0) up.1)
 
-one_ends : {V : Type 0} (e : ℕ) (rs : List (Entry V)) → Ascends rs → filter (ends_with e) rs ≡ option_to_list (find e rs)
+one_ends : {V : Type 0} (e : ℕ) (rs : List (RangeEntry V)) → Ascends rs → filter (ends_with e) rs ≡ option_to_list (find e rs)
 one_ends e [] up = refl
 one_ends e (r ∷ rs) up = by_test (nat_eq r.1 e)
     (λ h. let k : r.1 ≡ e = grind (arith, nat_tests) in rw h (ap (λ z. r ∷ z) (none_ends e rs (subst (λ z. EndsAfter z rs) k up.0) up.1)))
@@ -82,7 +83,7 @@ last_of-append o [] ys = refl
 last_of-append o (x ∷ xs) ys = last_of-append (Some x) xs ys
 
 -- at an end that no range has
-last_none : (e : ℕ) (rs : List (Entry SlotNodes)) → filter (ends_with e) rs ≡ [] → (ks : List Address) (o : Option (Entry (Option Address))) → last_of o (filter (ends_with e) (shard_entries (map (shard_of rs) ks))) ≡ o
+last_none : (e : ℕ) (rs : List (RangeEntry SlotNodes)) → filter (ends_with e) rs ≡ [] → (ks : List Address) (o : Option (RangeEntry (Option Address))) → last_of o (filter (ends_with e) (shard_entries (map (shard_of rs) ks))) ≡ o
 last_none e rs h [] o = refl
 last_none e rs h (k ∷ ks) o =
     ap (last_of o) (filter-append (ends_with e) (part k rs) (shard_entries (map (shard_of rs) ks)))
@@ -93,11 +94,11 @@ same_cond : {X : Type 0} (b : Bool) (x : X) → cond b x x ≡ x
 same_cond true x = refl
 same_cond false x = refl
 
-abbrev pub with_primary : Entry SlotNodes → Entry (Option Address)
+abbrev pub with_primary : RangeEntry SlotNodes → RangeEntry (Option Address)
 with_primary r = with_value (λ n. Some n.primary) r
 
 -- at an end that r has
-last_one : (e : ℕ) (rs : List (Entry SlotNodes)) (r : Entry SlotNodes) → filter (ends_with e) rs ≡ r ∷ [] → (ks : List Address) (o : Option (Entry (Option Address))) → last_of o (filter (ends_with e) (shard_entries (map (shard_of rs) ks))) ≡ cond (list_any (same_address (entry_primary r)) ks) (Some (with_primary r)) o
+last_one : (e : ℕ) (rs : List (RangeEntry SlotNodes)) (r : RangeEntry SlotNodes) → filter (ends_with e) rs ≡ r ∷ [] → (ks : List Address) (o : Option (RangeEntry (Option Address))) → last_of o (filter (ends_with e) (shard_entries (map (shard_of rs) ks))) ≡ cond (list_any (same_address (entry_primary r)) ks) (Some (with_primary r)) o
 last_one e rs r h [] o = refl
 last_one e rs r h (k ∷ ks) o =
     ap (last_of o) (filter-append (ends_with e) (part k rs) (shard_entries (map (shard_of rs) ks)))
@@ -110,11 +111,11 @@ last_one e rs r h (k ∷ ks) o =
     rw (t, q) (ap (λ z. cond (list_any (same_address (entry_primary r)) ks) (Some (with_primary r)) z) w ∙ same_cond (list_any (same_address (entry_primary r)) ks) (Some (with_primary r))))
     (λ t. let q : same_address k (entry_primary r) ≡ false = same_sym k (entry_primary r) ∙ t in rw (t, q) refl)
 
-find-with_primary : (e : ℕ) (rs : List (Entry SlotNodes)) → find e (map with_primary rs) ≡ option_map with_primary (find e rs)
+find-with_primary : (e : ℕ) (rs : List (RangeEntry SlotNodes)) → find e (map with_primary rs) ≡ option_map with_primary (find e rs)
 find-with_primary e [] = refl
 find-with_primary e (r ∷ rs) = by_test (nat_eq r.1 e) (λ h. rw h refl) (λ h. rw h (find-with_primary e rs))
 
-there : (e : ℕ) (rs : List (Entry SlotNodes)) (r : Entry SlotNodes) (q : Entry SlotNodes → Bool) → find e rs ≡ Some r → list_any q rs ≡ false → q r ≡ false
+there : (e : ℕ) (rs : List (RangeEntry SlotNodes)) (r : RangeEntry SlotNodes) (q : RangeEntry SlotNodes → Bool) → find e rs ≡ Some r → list_any q rs ≡ false → q r ≡ false
 there e [] r q = λ h k. cc
 there e (x ∷ xs) r q = by_test (q x)
     (λ t. rw t (λ h k. cc))
@@ -122,12 +123,12 @@ there e (x ∷ xs) r q = by_test (q x)
     (λ s. rw s (λ h k. let i : x ≡ r = cc in ap q (sym i) ∙ t))
     (λ s. rw s (λ h k. there e xs r q h k))))
 
-primary_is_listed : (e : ℕ) (rs : List (Entry SlotNodes)) (r : Entry SlotNodes) → find e rs ≡ Some r → list_any (same_address (entry_primary r)) (primaries rs) ≡ true
+primary_is_listed : (e : ℕ) (rs : List (RangeEntry SlotNodes)) (r : RangeEntry SlotNodes) → find e rs ≡ Some r → list_any (same_address (entry_primary r)) (primaries rs) ≡ true
 primary_is_listed e rs r h = by_test (list_any (same_address (entry_primary r)) (primaries rs)) (λ t. t)
     (λ t. let f : has_primary (entry_primary r) r ≡ false = there e rs r (has_primary (entry_primary r)) h (primaries_cover rs (entry_primary r) t) in
     let k : true ≡ false = sym (same_refl (entry_primary r)) ∙ f in cc)
 
-look : (rs : List (Entry SlotNodes)) → Ascends rs → (e : ℕ) → find e (insert_steps [] (shard_entries (primary_shards rs))) ≡ find e (map with_primary rs)
+look : (rs : List (RangeEntry SlotNodes)) → Ascends rs → (e : ℕ) → find e (insert_steps [] (shard_entries (primary_shards rs))) ≡ find e (map with_primary rs)
 look rs up e =
     find-insert_steps e (shard_entries (primary_shards rs))
     ∙ by_option (find e rs)
@@ -136,11 +137,11 @@ look rs up e =
     ∙ ap (λ b. cond b (Some (with_primary r)) None) (primary_is_listed e rs r h)
     ∙ sym (find-with_primary e rs ∙ ap (option_map with_primary) h))
 
-EndsAfter-with_primary : (e : ℕ) (rs : List (Entry SlotNodes)) → EndsAfter e rs → EndsAfter e (map with_primary rs)
+EndsAfter-with_primary : (e : ℕ) (rs : List (RangeEntry SlotNodes)) → EndsAfter e rs → EndsAfter e (map with_primary rs)
 EndsAfter-with_primary e [] h = tt
 EndsAfter-with_primary e (r ∷ rs) h = h
 
-Ascends-with_primary : (rs : List (Entry SlotNodes)) → Ascends rs → Ascends (map with_primary rs)
+Ascends-with_primary : (rs : List (RangeEntry SlotNodes)) → Ascends rs → Ascends (map with_primary rs)
 Ascends-with_primary [] up = tt
 Ascends-with_primary (r ∷ rs) up = (EndsAfter-with_primary r.1 rs up.0, Ascends-with_primary rs up.1)
 
@@ -152,7 +153,7 @@ flat ss (Some i) None h = cc
 flat ss (Some i) (Some n) h = let k : slice_get (map primary_of ss) i ≡ Some n.primary = cc in sym (slice_get-map primary_of ss i) ∙ k
 
 -- the ranges of the shards are those of the map, each with its primary
-pub resolved : (rs : List (Entry SlotNodes)) → Ascends rs → map (with_value (slice_get (map primary_of (shards_of rs)))) (insert_steps [] (place_entries 0 (shards_of rs))) ≡ map with_primary rs
+pub resolved : (rs : List (RangeEntry SlotNodes)) → Ascends rs → map (with_value (slice_get (map primary_of (shards_of rs)))) (insert_steps [] (place_entries 0 (shards_of rs))) ≡ map with_primary rs
 resolved rs up =
     let ss = shards_of rs in
     let ps = map primary_of ss in
@@ -161,7 +162,7 @@ resolved rs up =
     ∙ same_ranges _ _ (Ascends-insert_steps [] (shard_entries ss) tt) (Ascends-with_primary rs up) looked
 
 -- at each number the shard's primary is the map's, or there is neither
-same_answers : (rs : List (Entry SlotNodes)) → Ascends rs → (slot : ℕ) → option_map primary_of (option_and_then (slice_get (shards_of rs)) (answer (insert_entries [] (place_entries 0 (shards_of rs))) slot)) ≡ option_map (λ (n : SlotNodes). n.primary) (answer rs slot)
+same_answers : (rs : List (RangeEntry SlotNodes)) → Ascends rs → (slot : ℕ) → option_map primary_of (option_and_then (slice_get (shards_of rs)) (answer (insert_entries [] (place_entries 0 (shards_of rs))) slot)) ≡ option_map (λ (n : SlotNodes). n.primary) (answer rs slot)
 same_answers rs up slot =
     let ss = shards_of rs in
     let ps = map primary_of ss in
@@ -170,7 +171,7 @@ same_answers rs up slot =
     ∙ flat ss (answer ranges slot) (answer rs slot)
     (sym (with_value-answer (slice_get ps) ranges slot) ∙ ap (λ z. answer z slot) (resolved rs up) ∙ with_value-answer (λ n. Some n.primary) rs slot)
 
-pub agrees : (rs : List (Entry SlotNodes)) → Ascends rs → Agrees rs (topology_of (shards_of rs))
+pub agrees : (rs : List (RangeEntry SlotNodes)) → Ascends rs → Agrees rs (topology_of (shards_of rs))
 agrees rs up slot address =
     let ss = shards_of rs in
     let ranges = insert_entries [] (place_entries 0 ss) in
@@ -198,9 +199,9 @@ agrees rs up slot address =
     )
 
 -- past all ends, neither entries nor a topology that agrees with them have an answer
-pub none_past : (es : List (Entry SlotNodes)) → All (λ (e : Entry SlotNodes). end_of e < 65536) es → (t : Topology) → Agrees es t → (slot : ℕ) → 65536 ≤ slot → IsUncovered es slot × ((s : ShardNodes) → ¬ (IsShardAt t slot s))
+pub none_past : (es : List (RangeEntry SlotNodes)) → All (λ (e : RangeEntry SlotNodes). end_of e < 65536) es → (t : Topology) → Agrees es t → (slot : ℕ) → 65536 ≤ slot → IsUncovered es slot × ((s : ShardNodes) → ¬ (IsShardAt t slot s))
 none_past es below t same slot past =
     let uncovered : IsUncovered es slot = λ value answer.
-    let small : answer.end < 65536 = All-contains (λ (e : Entry SlotNodes). end_of e < 65536) es (answer.start, answer.end, value) below answer.there in
+    let small : answer.end < 65536 = All-contains (λ (e : RangeEntry SlotNodes). end_of e < 65536) es (answer.start, answer.end, value) below answer.there in
     absurd (omega (arith, answer.before_end)) in
     (uncovered, λ s there. let found = (same slot s.primary).1 (s, there, refl) in uncovered found.0 found.1)

@@ -2,12 +2,12 @@
 use Rattle.std.proofs.Common.{◌≡◌, ◌<◌, ◌≤◌, ℕ, inl, inr, ◌⊎◌, ◌↔◌, List, [], ◌∷◌, map, Contains, IsPermutation, refl, sym, ap, ◌∙◌, arith}
 use Rattle.std.proofs.lemmas.Bool.{cases_order}
 use Rattle.std.proofs.lemmas.List.Sorted.{IsPermutation-map, IsPermutation-sym, Contains-permutation}
-use Rattle.slot_ranges.specs.RangeMap.{Entry, end_of, Ascends, insert_entry, AreDisjoint}
-use Rattle.slot_ranges.specs.SlotNodes.{SlotNodes, RangeNodes, nodes_of, range_entry, insert_ranges}
-use Rattle.slot_ranges.proofs.Ranges.{Contains-cons_cases, Contains-cons_head, Contains-cons_tail, Contains-nil, EndsAfter-contains, insert_entry-front, insert_entry-place, insert_entry-later, Ascends-insert_entry}
+use Rattle.cluster_map.specs.RangeMap.{RangeEntry, end_of, Ascends, insert_entry, AreDisjoint}
+use Rattle.cluster_map.specs.SlotNodes.{SlotNodes, RangeNodes, nodes_of, range_entry, insert_ranges}
+use Rattle.cluster_map.proofs.Ranges.{Contains-cons_cases, Contains-cons_head, Contains-cons_tail, Contains-nil, EndsAfter-contains, insert_entry-front, insert_entry-place, insert_entry-later, Ascends-insert_entry}
 
 -- after an insert there is the new entry
-Contains-insert_entry : {V : Type 0} (es : List (Entry V)) (start end : ℕ) (value : V) → Ascends es → Contains (insert_entry es start end value) (start, end, value)
+Contains-insert_entry : {V : Type 0} (es : List (RangeEntry V)) (start end : ℕ) (value : V) → Ascends es → Contains (insert_entry es start end value) (start, end, value)
 Contains-insert_entry [] start end value ascends = Contains-cons_head (start, end, value) []
 Contains-insert_entry (r ∷ rs) start end value ascends = elim (cases_order end (end_of r)) [
   | inl same ↦ rw (insert_entry-place r rs start end value ascends same) (Contains-cons_head (start, end, value) rs)
@@ -18,7 +18,7 @@ Contains-insert_entry (r ∷ rs) start end value ascends = elim (cases_order end
 ]
 
 -- no other entry comes in
-Contains-insert_cases : {V : Type 0} (es : List (Entry V)) (start end : ℕ) (value : V) (e : Entry V) → Ascends es → Contains (insert_entry es start end value) e → ((start, end, value) ≡ e) ⊎ Contains es e
+Contains-insert_cases : {V : Type 0} (es : List (RangeEntry V)) (start end : ℕ) (value : V) (e : RangeEntry V) → Ascends es → Contains (insert_entry es start end value) e → ((start, end, value) ≡ e) ⊎ Contains es e
 Contains-insert_cases [] start end value e ascends there = Contains-cons_cases (start, end, value) [] e there
 Contains-insert_cases (r ∷ rs) start end value e ascends there = elim (cases_order end (end_of r)) [
   | inl same ↦ elim (Contains-cons_cases (start, end, value) rs e (rw (insert_entry-place r rs start end value ascends same) at there)) [
@@ -38,7 +38,7 @@ Contains-insert_cases (r ∷ rs) start end value e ascends there = elim (cases_o
 ]
 
 -- an entry stays, unless another one comes in with its end
-Contains-insert_kept : {V : Type 0} (es : List (Entry V)) (start end : ℕ) (value : V) (e : Entry V) → Ascends es → (end ≡ end_of e → (start, end, value) ≡ e) → Contains es e → Contains (insert_entry es start end value) e
+Contains-insert_kept : {V : Type 0} (es : List (RangeEntry V)) (start end : ℕ) (value : V) (e : RangeEntry V) → Ascends es → (end ≡ end_of e → (start, end, value) ≡ e) → Contains es e → Contains (insert_entry es start end value) e
 Contains-insert_kept [] start end value e ascends same_end there = absurd (Contains-nil e there)
 Contains-insert_kept (r ∷ rs) start end value e ascends same_end there = elim (cases_order end (end_of r)) [
   | inl same ↦ elim (Contains-cons_cases r rs e there) [
@@ -55,7 +55,7 @@ Contains-insert_kept (r ∷ rs) start end value e ascends same_end there = elim 
 ]
 
 -- the heads of two lists by ascending ends that have the same entries are one
-same_heads : {V : Type 0} (e f : Entry V) (es fs : List (Entry V)) → Ascends (e ∷ es) → Ascends (f ∷ fs) → Contains (f ∷ fs) e → Contains (e ∷ es) f → e ≡ f
+same_heads : {V : Type 0} (e f : RangeEntry V) (es fs : List (RangeEntry V)) → Ascends (e ∷ es) → Ascends (f ∷ fs) → Contains (f ∷ fs) e → Contains (e ∷ es) f → e ≡ f
 same_heads e f es fs up_es up_fs at_e at_f = elim (Contains-cons_cases f fs e at_e) [
   | inl same ↦ sym same
   | inr later_e ↦ elim (Contains-cons_cases e es f at_f) [
@@ -68,21 +68,21 @@ same_heads e f es fs up_es up_fs at_e at_f = elim (Contains-cons_cases f fs e at
 ]
 
 -- an entry that ends after the head is in the tail
-in_tail : {V : Type 0} (e g : Entry V) (es : List (Entry V)) → end_of e < end_of g → Contains (e ∷ es) g → Contains es g
+in_tail : {V : Type 0} (e g : RangeEntry V) (es : List (RangeEntry V)) → end_of e < end_of g → Contains (e ∷ es) g → Contains es g
 in_tail e g es after there = elim (Contains-cons_cases e es g there) [
   | inl same ↦ let ends : end_of e ≡ end_of g = ap end_of same in absurd (omega arith)
   | inr later ↦ later
 ]
 
 -- the entries of one tail are in the other
-tails : {V : Type 0} (e f : Entry V) (es fs : List (Entry V)) → e ≡ f → Ascends (e ∷ es) → ((g : Entry V) → Contains (e ∷ es) g → Contains (f ∷ fs) g) → (g : Entry V) → Contains es g → Contains fs g
+tails : {V : Type 0} (e f : RangeEntry V) (es fs : List (RangeEntry V)) → e ≡ f → Ascends (e ∷ es) → ((g : RangeEntry V) → Contains (e ∷ es) g → Contains (f ∷ fs) g) → (g : RangeEntry V) → Contains es g → Contains fs g
 tails e f es fs same up into g there =
     let after : end_of e < end_of g = EndsAfter-contains (end_of e) es g up.0 up.1 there in
     let ends : end_of e ≡ end_of f = ap end_of same in
     in_tail f g fs (omega arith) (into g (Contains-cons_tail e es g there))
 
 -- two lists by ascending ends that have the same entries are one
-same_entries : {V : Type 0} (es fs : List (Entry V)) → Ascends es → Ascends fs → ((e : Entry V) → Contains es e → Contains fs e) → ((e : Entry V) → Contains fs e → Contains es e) → es ≡ fs
+same_entries : {V : Type 0} (es fs : List (RangeEntry V)) → Ascends es → Ascends fs → ((e : RangeEntry V) → Contains es e → Contains fs e) → ((e : RangeEntry V) → Contains fs e → Contains es e) → es ≡ fs
 same_entries [] [] up_es up_fs into back = refl
 same_entries [] (f ∷ fs) up_es up_fs into back = absurd (Contains-nil f (back f (Contains-cons_head f fs)))
 same_entries (e ∷ es) [] up_es up_fs into back = absurd (Contains-nil e (into e (Contains-cons_head e es)))
@@ -92,18 +92,18 @@ same_entries (e ∷ es) (f ∷ fs) up_es up_fs into back =
     ap (λ z. z ∷ es) heads ∙ ap (λ z. f ∷ z) rest
 
 -- the entries with that of a range put in
-abbrev insert_range : List (Entry SlotNodes) → RangeNodes → List (Entry SlotNodes)
+abbrev insert_range : List (RangeEntry SlotNodes) → RangeNodes → List (RangeEntry SlotNodes)
 insert_range es r = insert_entry es r.start r.end (nodes_of r)
 
-insert_range-ascends : (es : List (Entry SlotNodes)) (r : RangeNodes) → Ascends es → Ascends (insert_range es r)
+insert_range-ascends : (es : List (RangeEntry SlotNodes)) (r : RangeNodes) → Ascends es → Ascends (insert_range es r)
 insert_range-ascends es r up = Ascends-insert_entry es r.start r.end (nodes_of r) up
 
-insert_ranges-ascends : (es : List (Entry SlotNodes)) (rs : List RangeNodes) → Ascends es → Ascends (insert_ranges es rs)
+insert_ranges-ascends : (es : List (RangeEntry SlotNodes)) (rs : List RangeNodes) → Ascends es → Ascends (insert_ranges es rs)
 insert_ranges-ascends es [] up = up
 insert_ranges-ascends es (r ∷ rs) up = insert_ranges-ascends (insert_range es r) rs (insert_range-ascends es r up)
 
 -- each entry was there before, or is that of a range
-insert_ranges-cases : (es : List (Entry SlotNodes)) (rs : List RangeNodes) (e : Entry SlotNodes) → Ascends es → Contains (insert_ranges es rs) e → Contains es e ⊎ Contains (map range_entry rs) e
+insert_ranges-cases : (es : List (RangeEntry SlotNodes)) (rs : List RangeNodes) (e : RangeEntry SlotNodes) → Ascends es → Contains (insert_ranges es rs) e → Contains es e ⊎ Contains (map range_entry rs) e
 insert_ranges-cases es [] e up there = inl there
 insert_ranges-cases es (r ∷ rs) e up there = elim (insert_ranges-cases (insert_range es r) rs e (insert_range-ascends es r up) there) [
   | inl now ↦ elim (Contains-insert_cases es r.start r.end (nodes_of r) e up now) [
@@ -114,18 +114,18 @@ insert_ranges-cases es (r ∷ rs) e up there = elim (insert_ranges-cases (insert
 ]
 
 -- entries with the same end are the same
-abbrev HaveOwnEnds : List (Entry SlotNodes) → Type 0
-HaveOwnEnds es = (e f : Entry SlotNodes) → Contains es e → Contains es f → end_of e ≡ end_of f → e ≡ f
+abbrev HaveOwnEnds : List (RangeEntry SlotNodes) → Type 0
+HaveOwnEnds es = (e f : RangeEntry SlotNodes) → Contains es e → Contains es f → end_of e ≡ end_of f → e ≡ f
 
 -- the entries of the ranges are among these
-abbrev AreAmong : List RangeNodes → List (Entry SlotNodes) → Type 0
-AreAmong rs all = (f : Entry SlotNodes) → Contains (map range_entry rs) f → Contains all f
+abbrev AreAmong : List RangeNodes → List (RangeEntry SlotNodes) → Type 0
+AreAmong rs all = (f : RangeEntry SlotNodes) → Contains (map range_entry rs) f → Contains all f
 
-among_later : (r : RangeNodes) (rs : List RangeNodes) (all : List (Entry SlotNodes)) → AreAmong (r ∷ rs) all → AreAmong rs all
+among_later : (r : RangeNodes) (rs : List RangeNodes) (all : List (RangeEntry SlotNodes)) → AreAmong (r ∷ rs) all → AreAmong rs all
 among_later r rs all among f later = among f (Contains-cons_tail (range_entry r) (map range_entry rs) f later)
 
 -- an entry stays where those that come in have ends of their own
-insert_ranges-keeps : (all es : List (Entry SlotNodes)) (rs : List RangeNodes) (e : Entry SlotNodes) → HaveOwnEnds all → Ascends es → AreAmong rs all → Contains all e → Contains es e → Contains (insert_ranges es rs) e
+insert_ranges-keeps : (all es : List (RangeEntry SlotNodes)) (rs : List RangeNodes) (e : RangeEntry SlotNodes) → HaveOwnEnds all → Ascends es → AreAmong rs all → Contains all e → Contains es e → Contains (insert_ranges es rs) e
 insert_ranges-keeps all es [] e own up among mine there = there
 insert_ranges-keeps all es (r ∷ rs) e own up among mine there =
     let head = among (range_entry r) (Contains-cons_head (range_entry r) (map range_entry rs)) in
@@ -133,7 +133,7 @@ insert_ranges-keeps all es (r ∷ rs) e own up among mine there =
     (Contains-insert_kept es r.start r.end (nodes_of r) e up (λ ends. own (range_entry r) e head mine ends) there)
 
 -- each range is there
-insert_ranges-has : (all es : List (Entry SlotNodes)) (rs : List RangeNodes) (e : Entry SlotNodes) → HaveOwnEnds all → Ascends es → AreAmong rs all → Contains (map range_entry rs) e → Contains (insert_ranges es rs) e
+insert_ranges-has : (all es : List (RangeEntry SlotNodes)) (rs : List RangeNodes) (e : RangeEntry SlotNodes) → HaveOwnEnds all → Ascends es → AreAmong rs all → Contains (map range_entry rs) e → Contains (insert_ranges es rs) e
 insert_ranges-has all es [] e own up among there = absurd (Contains-nil e there)
 insert_ranges-has all es (r ∷ rs) e own up among there =
     let later = among_later r rs all among in
@@ -143,21 +143,21 @@ insert_ranges-has all es (r ∷ rs) e own up among there =
       | inr rest ↦ insert_ranges-has all (insert_range es r) rs e own next later rest
     ]
 
-disjoint_own_ends : (es : List (Entry SlotNodes)) → AreDisjoint es → HaveOwnEnds es
+disjoint_own_ends : (es : List (RangeEntry SlotNodes)) → AreDisjoint es → HaveOwnEnds es
 disjoint_own_ends es disjoint e f at_e at_f ends =
     let e_straight : e.0 ≤ end_of e = disjoint.straight e at_e in
     let f_straight : f.0 ≤ end_of f = disjoint.straight f at_f in
     disjoint.apart e f (end_of e) at_e at_f (e_straight, omega arith) (omega arith, omega arith)
 
 -- each entry of a map is that of a range
-insert_ranges-only : (rs : List RangeNodes) (e : Entry SlotNodes) → Contains (insert_ranges [] rs) e → Contains (map range_entry rs) e
+insert_ranges-only : (rs : List RangeNodes) (e : RangeEntry SlotNodes) → Contains (insert_ranges [] rs) e → Contains (map range_entry rs) e
 insert_ranges-only rs e there = elim (insert_ranges-cases [] rs e tt there) [
   | inl none ↦ absurd (Contains-nil e none)
   | inr some ↦ some
 ]
 
 -- the map of disjoint ranges has the entries of the ranges
-pub disjoint_ranges_stay : (rs : List RangeNodes) (e : Entry SlotNodes) → AreDisjoint (map range_entry rs) → Contains (insert_ranges [] rs) e ↔ Contains (map range_entry rs) e
+pub disjoint_ranges_stay : (rs : List RangeNodes) (e : RangeEntry SlotNodes) → AreDisjoint (map range_entry rs) → Contains (insert_ranges [] rs) e ↔ Contains (map range_entry rs) e
 disjoint_ranges_stay rs e disjoint = (insert_ranges-only rs e, insert_ranges-has (map range_entry rs) [] rs e (disjoint_own_ends (map range_entry rs) disjoint) tt (λ f there. there))
 
 -- and is the same for every order of them

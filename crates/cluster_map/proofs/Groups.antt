@@ -6,33 +6,34 @@ use Rattle.std.proofs.lemmas.List.Sums.{fold-append}
 use Rattle.std.proofs.lemmas.List.Elements.{filter-append}
 use Rattle.cluster_slots.specs.Address.{Address, same_address}
 use Rattle.cluster_slots.proofs.Orders.{same_from_address, address_decides}
-use Rattle.slot_ranges.specs.SlotNodes.{SlotNodes}
-use Rattle.slot_ranges.specs.RangeMap.{Entry}
-use Rattle.read_strategies.specs.Shards.{ShardNodes}
-use Rattle.read_strategies.specs.Topology.{primary_of, entry_primary, has_primary, ends_of, first_replicas, shard_with, shard_of, shards_of}
-use Rattle.read_strategies.proofs.Members.{add_new, added_once, list_any-last}
+use Rattle.cluster_map.specs.SlotNodes.{SlotNodes}
+use Rattle.cluster_map.specs.RangeMap.{RangeEntry}
+use Rattle.cluster_map.specs.Shards.{ShardNodes}
+use Rattle.cluster_map.specs.Topology.{entry_primary, has_primary, range_of_entry, first_replicas, shard_with, shard_of, shards_of}
+use Rattle.cluster_map.specs.Inner.Topology.{primary_of}
+use Rattle.cluster_map.proofs.Members.{add_new, added_once, list_any-last}
 use Rattle.resp_core.proofs.Cases.{by_test, or_second}
 
 -- a shard with a range more
-abbrev pub with_range : ShardNodes → Entry SlotNodes → ShardNodes
+abbrev pub with_range : ShardNodes → RangeEntry SlotNodes → ShardNodes
 with_range s r = record { ranges = s.ranges ++ (r.0, r.1) ∷ []; primary = s.primary; replicas = s.replicas }
 
 -- an entry goes to the shard with its primary, or makes one
-abbrev pub add_range : List ShardNodes → Entry SlotNodes → List ShardNodes
+abbrev pub add_range : List ShardNodes → RangeEntry SlotNodes → List ShardNodes
 add_range [] r = shard_with (entry_primary r) (r ∷ []) ∷ []
 add_range (s ∷ ss) r = cond (same_address (entry_primary r) s.primary) (with_range s r ∷ ss) (s ∷ add_range ss r)
 
-abbrev pub add_ranges : List (Entry SlotNodes) → List ShardNodes
+abbrev pub add_ranges : List (RangeEntry SlotNodes) → List ShardNodes
 add_ranges es = fold add_range [] es
 
 -- each primary once, put in one at a time
-abbrev pub primaries : List (Entry SlotNodes) → List Address
+abbrev pub primaries : List (RangeEntry SlotNodes) → List Address
 primaries es = fold add_new [] (map entry_primary es)
 
-abbrev pub primary_shards : List (Entry SlotNodes) → List ShardNodes
+abbrev pub primary_shards : List (RangeEntry SlotNodes) → List ShardNodes
 primary_shards es = map (shard_of es) (primaries es)
 
-pub primary_shards-are : (es : List (Entry SlotNodes)) → primary_shards es ≡ shards_of es
+pub primary_shards-are : (es : List (RangeEntry SlotNodes)) → primary_shards es ≡ shards_of es
 primary_shards-are es = ap (map (shard_of es)) (added_once (map entry_primary es))
 
 pub same_refl : (a : Address) → same_address a a ≡ true
@@ -43,7 +44,7 @@ same_sym a b = by_test (same_address a b)
     (λ h. let e = same_from_address a b h in ap (λ z. same_address z b) e ∙ ap (same_address b) (sym e))
     (λ h. by_test (same_address b a) (λ k. let e = same_from_address b a k in ap (λ z. same_address z b) (sym e) ∙ ap (same_address b) e) (λ k. h ∙ sym k))
 
-pub add_to_none : (ss : List ShardNodes) (r : Entry SlotNodes) → list_any (same_address (entry_primary r)) (map primary_of ss) ≡ false → ss ++ shard_with (entry_primary r) (r ∷ []) ∷ [] ≡ add_range ss r
+pub add_to_none : (ss : List ShardNodes) (r : RangeEntry SlotNodes) → list_any (same_address (entry_primary r)) (map primary_of ss) ≡ false → ss ++ shard_with (entry_primary r) (r ∷ []) ∷ [] ≡ add_range ss r
 add_to_none [] r = λ h. refl
 add_to_none (s ∷ ss) r = by_test (same_address (entry_primary r) s.primary)
     (λ t. rw t (λ h. cc))
@@ -65,7 +66,7 @@ place_suc : (b : Bool) (n i : ℕ) → b ≡ false → i ≡ cond (not b) (1 + n
 place_suc true n i h e = cc
 place_suc false n i h e = omega arith
 
-pub add_to_one : (ss : List ShardNodes) (r : Entry SlotNodes) (i : ℕ) (x : ShardNodes) → list_any (same_address (entry_primary r)) (map primary_of ss) ≡ true → i ≡ position_or_len (same_address (entry_primary r)) (map primary_of ss) → x ≡ get_or ss i x → set ss i (with_range x r) ≡ add_range ss r
+pub add_to_one : (ss : List ShardNodes) (r : RangeEntry SlotNodes) (i : ℕ) (x : ShardNodes) → list_any (same_address (entry_primary r)) (map primary_of ss) ≡ true → i ≡ position_or_len (same_address (entry_primary r)) (map primary_of ss) → x ≡ get_or ss i x → set ss i (with_range x r) ≡ add_range ss r
 add_to_one [] r i x = λ h. cc
 add_to_one (s ∷ ss) r i x = by_test (same_address (entry_primary r) s.primary)
     (λ t. λ h e q.
@@ -82,22 +83,22 @@ keys_stay (s ∷ ss) zero x y q e = ap (λ a. a ∷ map primary_of ss) (e ∙ ap
 keys_stay (s ∷ ss) (suc i) x y q e = ap (λ z. s.primary ∷ z) (keys_stay ss i x y q e)
 
 -- the same, from what the set and the shard said
-pub add_fresh : (ss us : List ShardNodes) (r : Entry SlotNodes) (ks : List Address) (k : Address) (s : ShardNodes) (b : Bool) → ks ≡ map primary_of ss → k ≡ (entry_primary r) → b ≡ not (list_any (same_address k) ks) → b ≡ true → us ≡ ss ++ s ∷ [] → s ≡ shard_with (entry_primary r) (r ∷ []) → us ≡ add_range ss r
+pub add_fresh : (ss us : List ShardNodes) (r : RangeEntry SlotNodes) (ks : List Address) (k : Address) (s : ShardNodes) (b : Bool) → ks ≡ map primary_of ss → k ≡ (entry_primary r) → b ≡ not (list_any (same_address k) ks) → b ≡ true → us ≡ ss ++ s ∷ [] → s ≡ shard_with (entry_primary r) (r ∷ []) → us ≡ add_range ss r
 add_fresh ss us r ks k s b e q t h u w =
     let n : not (list_any (same_address (entry_primary r)) (map primary_of ss)) ≡ true = ap (λ z. not (list_any (same_address (entry_primary r)) z)) (sym e) ∙ ap (λ z. not (list_any (same_address z) ks)) (sym q) ∙ sym t ∙ h in
     u ∙ ap (λ z. ss ++ z ∷ []) w ∙ add_to_none ss r (not_true _ n)
 
-pub any_there : (ss : List ShardNodes) (r : Entry SlotNodes) (ks : List Address) (k : Address) (b : Bool) → ks ≡ map primary_of ss → k ≡ (entry_primary r) → b ≡ not (list_any (same_address k) ks) → b ≡ false → list_any (same_address (entry_primary r)) (map primary_of ss) ≡ true
+pub any_there : (ss : List ShardNodes) (r : RangeEntry SlotNodes) (ks : List Address) (k : Address) (b : Bool) → ks ≡ map primary_of ss → k ≡ (entry_primary r) → b ≡ not (list_any (same_address k) ks) → b ≡ false → list_any (same_address (entry_primary r)) (map primary_of ss) ≡ true
 any_there ss r ks k b e q t h =
     let n : not (list_any (same_address (entry_primary r)) (map primary_of ss)) ≡ false = ap (λ z. not (list_any (same_address (entry_primary r)) z)) (sym e) ∙ ap (λ z. not (list_any (same_address z) ks)) (sym q) ∙ sym t ∙ h in
     not_false _ n
 
-pub add_known : (ss : List ShardNodes) (r : Entry SlotNodes) (ks : List Address) (k : Address) (i : ℕ) (x y : ShardNodes) (b : Bool) → ks ≡ map primary_of ss → k ≡ (entry_primary r) → b ≡ not (list_any (same_address k) ks) → b ≡ false → i ≡ position_or_len (same_address k) ks → x ≡ get_or ss i x → y ≡ with_range x r → set ss i y ≡ add_range ss r
+pub add_known : (ss : List ShardNodes) (r : RangeEntry SlotNodes) (ks : List Address) (k : Address) (i : ℕ) (x y : ShardNodes) (b : Bool) → ks ≡ map primary_of ss → k ≡ (entry_primary r) → b ≡ not (list_any (same_address k) ks) → b ≡ false → i ≡ position_or_len (same_address k) ks → x ≡ get_or ss i x → y ≡ with_range x r → set ss i y ≡ add_range ss r
 add_known ss r ks k i x y b e q t h at read w =
     let place : i ≡ position_or_len (same_address (entry_primary r)) (map primary_of ss) = at ∙ ap (λ z. position_or_len (same_address z) ks) q ∙ ap (position_or_len (same_address (entry_primary r))) e in
     ap (set ss i) w ∙ add_to_one ss r i x (any_there ss r ks k b e q t h) place read
 
-pub keys_known : (ss : List ShardNodes) (r : Entry SlotNodes) (ks ms : List Address) (k : Address) (i : ℕ) (x y : ShardNodes) (b : Bool) → ks ≡ map primary_of ss → b ≡ not (list_any (same_address k) ks) → b ≡ false → ms ≡ cond (list_any (same_address k) ks) ks (ks ++ k ∷ []) → x ≡ get_or ss i x → y ≡ with_range x r → ms ≡ map primary_of (set ss i y)
+pub keys_known : (ss : List ShardNodes) (r : RangeEntry SlotNodes) (ks ms : List Address) (k : Address) (i : ℕ) (x y : ShardNodes) (b : Bool) → ks ≡ map primary_of ss → b ≡ not (list_any (same_address k) ks) → b ≡ false → ms ≡ cond (list_any (same_address k) ks) ks (ks ++ k ∷ []) → x ≡ get_or ss i x → y ≡ with_range x r → ms ≡ map primary_of (set ss i y)
 keys_known ss r ks ms k i x y b e t h m read w =
     let any : list_any (same_address k) ks ≡ true = not_false _ (sym t ∙ h) in
     m ∙ rw any (e ∙ sym (keys_stay ss i x y read (ap primary_of w)))
@@ -123,28 +124,28 @@ filter_none : {X : Type 0} (p : X → Bool) (xs : List X) → list_any p xs ≡ 
 filter_none p [] = λ h. refl
 filter_none p (x ∷ xs) = by_test (p x) (λ k. rw k (λ h. cc)) (λ k. rw k (λ h. filter_none p xs h))
 
-first_stays : (p : Entry SlotNodes → Bool) (rs : List (Entry SlotNodes)) (r : Entry SlotNodes) → list_any p rs ≡ true → first_replicas (filter p rs ++ r ∷ []) ≡ first_replicas (filter p rs)
+first_stays : (p : RangeEntry SlotNodes → Bool) (rs : List (RangeEntry SlotNodes)) (r : RangeEntry SlotNodes) → list_any p rs ≡ true → first_replicas (filter p rs ++ r ∷ []) ≡ first_replicas (filter p rs)
 first_stays p [] r = λ h. cc
 first_stays p (x ∷ xs) r = by_test (p x) (λ k. rw k (λ h. refl)) (λ k. rw k (λ h. first_stays p xs r h))
 
-filter_last : (k : Address) (rs : List (Entry SlotNodes)) (r : Entry SlotNodes) → has_primary k r ≡ true → filter (has_primary k) (rs ++ r ∷ []) ≡ filter (has_primary k) rs ++ r ∷ []
+filter_last : (k : Address) (rs : List (RangeEntry SlotNodes)) (r : RangeEntry SlotNodes) → has_primary k r ≡ true → filter (has_primary k) (rs ++ r ∷ []) ≡ filter (has_primary k) rs ++ r ∷ []
 filter_last k rs r h = filter-append (has_primary k) rs (r ∷ []) ∙ rw h refl
 
-filter_skip : (k : Address) (rs : List (Entry SlotNodes)) (r : Entry SlotNodes) → has_primary k r ≡ false → filter (has_primary k) (rs ++ r ∷ []) ≡ filter (has_primary k) rs
+filter_skip : (k : Address) (rs : List (RangeEntry SlotNodes)) (r : RangeEntry SlotNodes) → has_primary k r ≡ false → filter (has_primary k) (rs ++ r ∷ []) ≡ filter (has_primary k) rs
 filter_skip k rs r h = filter-append (has_primary k) rs (r ∷ []) ∙ rw h (append-nil (filter (has_primary k) rs))
 
 -- one range more
-shard_more : (k : Address) (rs : List (Entry SlotNodes)) (r : Entry SlotNodes) → has_primary k r ≡ true → list_any (has_primary k) rs ≡ true → with_range (shard_of rs k) r ≡ shard_of (rs ++ r ∷ []) k
+shard_more : (k : Address) (rs : List (RangeEntry SlotNodes)) (r : RangeEntry SlotNodes) → has_primary k r ≡ true → list_any (has_primary k) rs ≡ true → with_range (shard_of rs k) r ≡ shard_of (rs ++ r ∷ []) k
 shard_more k rs r h a =
     let f = filter_last k rs r h in
-    let b : map ends_of (filter (has_primary k) (rs ++ r ∷ [])) ≡ map ends_of (filter (has_primary k) rs) ++ (r.0, r.1) ∷ [] = ap (map ends_of) f ∙ map-append-one ends_of (filter (has_primary k) rs) r in
+    let b : map range_of_entry (filter (has_primary k) (rs ++ r ∷ [])) ≡ map range_of_entry (filter (has_primary k) rs) ++ (r.0, r.1) ∷ [] = ap (map range_of_entry) f ∙ map-append-one range_of_entry (filter (has_primary k) rs) r in
     let q : first_replicas (filter (has_primary k) (rs ++ r ∷ [])) ≡ first_replicas (filter (has_primary k) rs) = ap first_replicas f ∙ first_stays (has_primary k) rs r a in
     rw (b, q) refl
 
-shard_other : (k : Address) (rs : List (Entry SlotNodes)) (r : Entry SlotNodes) → has_primary k r ≡ false → shard_of rs k ≡ shard_of (rs ++ r ∷ []) k
+shard_other : (k : Address) (rs : List (RangeEntry SlotNodes)) (r : RangeEntry SlotNodes) → has_primary k r ≡ false → shard_of rs k ≡ shard_of (rs ++ r ∷ []) k
 shard_other k rs r h = ap (shard_with k) (sym (filter_skip k rs r h))
 
-shard_new : (k : Address) (rs : List (Entry SlotNodes)) (r : Entry SlotNodes) → has_primary k r ≡ true → list_any (has_primary k) rs ≡ false → shard_with k (r ∷ []) ≡ shard_of (rs ++ r ∷ []) k
+shard_new : (k : Address) (rs : List (RangeEntry SlotNodes)) (r : RangeEntry SlotNodes) → has_primary k r ≡ true → list_any (has_primary k) rs ≡ false → shard_with k (r ∷ []) ≡ shard_of (rs ++ r ∷ []) k
 shard_new k rs r h a = ap (shard_with k) (sym (filter_last k rs r h ∙ ap (λ z. z ++ r ∷ []) (filter_none (has_primary k) rs a)))
 
 -- the primaries are apart, each has a range, and no range has another
@@ -152,16 +153,16 @@ abbrev pub Distinct : List Address → Type 0
 Distinct [] = Unit {0}
 Distinct (k ∷ ks) = (list_any (same_address k) ks ≡ false) × Distinct ks
 
-abbrev AllHave : List (Entry SlotNodes) → List Address → Type 0
+abbrev AllHave : List (RangeEntry SlotNodes) → List Address → Type 0
 AllHave rs [] = Unit {0}
 AllHave rs (k ∷ ks) = (list_any (has_primary k) rs ≡ true) × AllHave rs ks
 
-record Good (rs : List (Entry SlotNodes)) (ks : List Address) : Type 0 where
+record Good (rs : List (RangeEntry SlotNodes)) (ks : List Address) : Type 0 where
   pub distinct : Distinct ks
   pub have : AllHave rs ks
   pub covers : (p : Address) → list_any (same_address p) ks ≡ false → list_any (has_primary p) rs ≡ false
 
-others_stay : (ks : List Address) (rs : List (Entry SlotNodes)) (r : Entry SlotNodes) → list_any (same_address (entry_primary r)) ks ≡ false → map (shard_of rs) ks ≡ map (shard_of (rs ++ r ∷ [])) ks
+others_stay : (ks : List Address) (rs : List (RangeEntry SlotNodes)) (r : RangeEntry SlotNodes) → list_any (same_address (entry_primary r)) ks ≡ false → map (shard_of rs) ks ≡ map (shard_of (rs ++ r ∷ [])) ks
 others_stay [] rs r = λ h. refl
 others_stay (k ∷ ks) rs r = by_test (same_address (entry_primary r) k)
     (λ t. rw t (λ h. cc))
@@ -171,7 +172,7 @@ cons_cond : {X : Type 0} (b : Bool) (x : X) (xs ys : List X) → x ∷ cond b xs
 cons_cond true x xs ys = refl
 cons_cond false x xs ys = refl
 
-step_at : (ks : List Address) (rs : List (Entry SlotNodes)) (r : Entry SlotNodes) → Distinct ks → AllHave rs ks → (list_any (same_address (entry_primary r)) ks ≡ false → list_any (has_primary (entry_primary r)) rs ≡ false) → add_range (map (shard_of rs) ks) r ≡ map (shard_of (rs ++ r ∷ [])) (add_new ks (entry_primary r))
+step_at : (ks : List Address) (rs : List (RangeEntry SlotNodes)) (r : RangeEntry SlotNodes) → Distinct ks → AllHave rs ks → (list_any (same_address (entry_primary r)) ks ≡ false → list_any (has_primary (entry_primary r)) rs ≡ false) → add_range (map (shard_of rs) ks) r ≡ map (shard_of (rs ++ r ∷ [])) (add_new ks (entry_primary r))
 step_at [] rs r d a = λ v. ap (λ z. z ∷ []) (shard_new (entry_primary r) rs r (same_refl (entry_primary r)) (v refl))
 step_at (k ∷ ks) rs r d a = by_test (same_address (entry_primary r) k)
     (λ t. rw t (λ v.
@@ -200,15 +201,15 @@ distinct_new (k ∷ ks) p d = by_test (same_address p k)
     (λ t. rw t d)
     (λ t. rw t (distinct_cond (list_any (same_address p) ks) k p ks d (same_sym k p ∙ t) (distinct_new ks p d.1)))
 
-have_more : (ks : List Address) (rs : List (Entry SlotNodes)) (r : Entry SlotNodes) → AllHave rs ks → AllHave (rs ++ r ∷ []) ks
+have_more : (ks : List Address) (rs : List (RangeEntry SlotNodes)) (r : RangeEntry SlotNodes) → AllHave rs ks → AllHave (rs ++ r ∷ []) ks
 have_more [] rs r a = tt
 have_more (k ∷ ks) rs r a = ((list_any-last (has_primary k) rs r ∙ ap (λ b. b || has_primary k r) a.0), have_more ks rs r a.1)
 
-have_last : (ks : List Address) (rs : List (Entry SlotNodes)) (p : Address) → AllHave rs ks → list_any (has_primary p) rs ≡ true → AllHave rs (ks ++ p ∷ [])
+have_last : (ks : List Address) (rs : List (RangeEntry SlotNodes)) (p : Address) → AllHave rs ks → list_any (has_primary p) rs ≡ true → AllHave rs (ks ++ p ∷ [])
 have_last [] rs p a h = (h, tt)
 have_last (k ∷ ks) rs p a h = (a.0, have_last ks rs p a.1 h)
 
-have_cond : (b : Bool) (ks : List Address) (rs : List (Entry SlotNodes)) (r : Entry SlotNodes) → AllHave rs ks → AllHave (rs ++ r ∷ []) (cond b ks (ks ++ (entry_primary r) ∷ []))
+have_cond : (b : Bool) (ks : List Address) (rs : List (RangeEntry SlotNodes)) (r : RangeEntry SlotNodes) → AllHave rs ks → AllHave (rs ++ r ∷ []) (cond b ks (ks ++ (entry_primary r) ∷ []))
 have_cond true ks rs r a = have_more ks rs r a
 have_cond false ks rs r a = have_last ks (rs ++ r ∷ []) (entry_primary r) (have_more ks rs r a) (list_any-last (has_primary (entry_primary r)) rs r ∙ or_second _ _ (same_refl (entry_primary r)))
 
@@ -220,7 +221,7 @@ none_right : (a b : Bool) → (a || b) ≡ false → b ≡ false
 none_right true b h = cc
 none_right false b h = h
 
-covers_new : (ks : List Address) (rs : List (Entry SlotNodes)) (r : Entry SlotNodes) → ((p : Address) → list_any (same_address p) ks ≡ false → list_any (has_primary p) rs ≡ false) → (p : Address) → list_any (same_address p) (add_new ks (entry_primary r)) ≡ false → list_any (has_primary p) (rs ++ r ∷ []) ≡ false
+covers_new : (ks : List Address) (rs : List (RangeEntry SlotNodes)) (r : RangeEntry SlotNodes) → ((p : Address) → list_any (same_address p) ks ≡ false → list_any (has_primary p) rs ≡ false) → (p : Address) → list_any (same_address p) (add_new ks (entry_primary r)) ≡ false → list_any (has_primary p) (rs ++ r ∷ []) ≡ false
 covers_new ks rs r v p = by_test (list_any (same_address (entry_primary r)) ks)
     (λ t. rw t (λ h. list_any-last (has_primary p) rs r ∙ both_false _ _ (v p h)
     (by_test (same_address p (entry_primary r)) (λ s. let e = same_from_address p (entry_primary r) s in let q : true ≡ false = sym t ∙ ap (λ z. list_any (same_address z) ks) (sym e) ∙ h in cc) (λ s. s))))
@@ -228,13 +229,13 @@ covers_new ks rs r v p = by_test (list_any (same_address (entry_primary r)) ks)
     let s : (list_any (same_address p) ks || same_address p (entry_primary r)) ≡ false = sym (list_any-last (same_address p) ks (entry_primary r)) ∙ h in
     list_any-last (has_primary p) rs r ∙ both_false _ _ (v p (none_left _ _ s)) (none_right _ _ s)))
 
-good_more : (rs : List (Entry SlotNodes)) (r : Entry SlotNodes) (ks : List Address) → Good rs ks → Good (rs ++ r ∷ []) (add_new ks (entry_primary r))
+good_more : (rs : List (RangeEntry SlotNodes)) (r : RangeEntry SlotNodes) (ks : List Address) → Good rs ks → Good (rs ++ r ∷ []) (add_new ks (entry_primary r))
 good_more rs r ks g = record { distinct = distinct_new ks (entry_primary r) g.distinct; have = have_cond (list_any (same_address (entry_primary r)) ks) ks rs r g.have; covers = covers_new ks rs r g.covers }
 
-primaries_more : (rs : List (Entry SlotNodes)) (r : Entry SlotNodes) → primaries (rs ++ r ∷ []) ≡ add_new (primaries rs) (entry_primary r)
+primaries_more : (rs : List (RangeEntry SlotNodes)) (r : RangeEntry SlotNodes) → primaries (rs ++ r ∷ []) ≡ add_new (primaries rs) (entry_primary r)
 primaries_more rs r = ap (fold add_new []) (map-append-one entry_primary rs r) ∙ fold-append add_new [] (map entry_primary rs) (entry_primary r ∷ [])
 
-grouped_from : (done rest : List (Entry SlotNodes)) → Good done (primaries done) → fold add_range (primary_shards done) rest ≡ primary_shards (done ++ rest)
+grouped_from : (done rest : List (RangeEntry SlotNodes)) → Good done (primaries done) → fold add_range (primary_shards done) rest ≡ primary_shards (done ++ rest)
 grouped_from done [] g = sym (ap primary_shards (append-nil done))
 grouped_from done (r ∷ rest) g =
     let more = primaries_more done r in
@@ -243,23 +244,23 @@ grouped_from done (r ∷ rest) g =
     ∙ grouped_from (done ++ r ∷ []) rest (rw more (good_more done r (primaries done) g))
     ∙ ap primary_shards (append_assoc done (r ∷ []) rest)
 
-pub grouped_is : (rs : List (Entry SlotNodes)) → add_ranges rs ≡ shards_of rs
+pub grouped_is : (rs : List (RangeEntry SlotNodes)) → add_ranges rs ≡ shards_of rs
 grouped_is rs = grouped_from [] rs (record { distinct = tt; have = tt; covers = λ p h. refl }) ∙ primary_shards-are rs
 
-good_from : (done rest : List (Entry SlotNodes)) → Good done (primaries done) → Good (done ++ rest) (primaries (done ++ rest))
+good_from : (done rest : List (RangeEntry SlotNodes)) → Good done (primaries done) → Good (done ++ rest) (primaries (done ++ rest))
 good_from done [] g = rw (append-nil done) g
 good_from done (r ∷ rest) g =
     let h = good_from (done ++ r ∷ []) rest (rw (primaries_more done r) (good_more done r (primaries done) g)) in
     rw append_assoc at h
 
-pub primaries_cover : (rs : List (Entry SlotNodes)) (p : Address) → list_any (same_address p) (primaries rs) ≡ false → list_any (has_primary p) rs ≡ false
+pub primaries_cover : (rs : List (RangeEntry SlotNodes)) (p : Address) → list_any (same_address p) (primaries rs) ≡ false → list_any (has_primary p) rs ≡ false
 primaries_cover rs = let g = good_from [] rs (record { distinct = tt; have = tt; covers = λ p h. refl }) in g.covers
 
-pub primaries-distinct : (rs : List (Entry SlotNodes)) → Distinct (primaries rs)
+pub primaries-distinct : (rs : List (RangeEntry SlotNodes)) → Distinct (primaries rs)
 primaries-distinct rs = let g = good_from [] rs (record { distinct = tt; have = tt; covers = λ p h. refl }) in g.distinct
 
 -- one entry more
-pub add_range-is : (es : List (Entry SlotNodes)) (e : Entry SlotNodes) → add_range (shards_of es) e ≡ shards_of (es ++ e ∷ [])
+pub add_range-is : (es : List (RangeEntry SlotNodes)) (e : RangeEntry SlotNodes) → add_range (shards_of es) e ≡ shards_of (es ++ e ∷ [])
 add_range-is es e =
     let g = good_from [] es (record { distinct = tt; have = tt; covers = λ p h. refl }) in
     ap (λ z. add_range z e) (sym (primary_shards-are es))

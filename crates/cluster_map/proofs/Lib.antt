@@ -1,4 +1,14 @@
-pub use Rattle.read_strategies.proofs.OneShard
+pub mod Bulk
+pub mod Clones
+pub mod Finds
+pub mod Pages
+pub mod Places
+pub mod Ranges
+pub mod SameRanges
+pub mod Elements
+pub mod Filling
+pub mod Members
+pub mod OneShard
 pub mod Agreement
 pub mod Disjoint
 pub mod Groups

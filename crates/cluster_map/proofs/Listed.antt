@@ -1,17 +1,18 @@
 -- The topology of a map lists just the map's shards.
 use Rattle.std.proofs.Common.{◌≡◌, ℕ, zero, suc, Bool, true, false, not, nat_eq, List, [], ◌∷◌, map, filter, slice_get, Some, refl, sym, ap, subst, ◌∙◌, arith}
-use Rattle.std.specs.List.{list_any}
+use Rattle.std.specs.List.{cons_option, list_any}
 use Rattle.std.proofs.lemmas.Bool.{eqb-true}
 use Rattle.std.proofs.lemmas.Bool.Decides.{nat_tests}
 use Rattle.std.proofs.lemmas.Option.{slice_get-map}
 use Rattle.cluster_slots.proofs.Orders.{same_from_address}
 use Rattle.cluster_slots.specs.Address.{Address, same_address}
 use Rattle.resp_core.proofs.Cases.{by_test}
-use Rattle.slot_ranges.specs.SlotNodes.{SlotNodes}
-use Rattle.slot_ranges.specs.RangeMap.{Entry, value_of, Ascends, insert_entries}
-use Rattle.read_strategies.specs.EachOnce.{once_by, each_once}
-use Rattle.read_strategies.specs.Topology.{primary_of, entry_primary, shard_of, shards_of, place_entries, topology_of, at_places, then_rest, shards_left}
-use Rattle.read_strategies.proofs.Members.{added_once}
+use Rattle.cluster_map.specs.SlotNodes.{SlotNodes}
+use Rattle.cluster_map.specs.RangeMap.{RangeEntry, value_of, Ascends, insert_entries}
+use Rattle.cluster_map.specs.EachOnce.{once_by, each_once}
+use Rattle.cluster_map.specs.Topology.{entry_primary, shard_of, shards_of, place_entries, topology_of, at_places, shards_left}
+use Rattle.cluster_map.specs.Inner.Topology.{primary_of}
+use Rattle.cluster_map.proofs.Members.{added_once}
 use Rattle.cluster_map.proofs.Groups.{Distinct, primaries-distinct, same_refl}
 use Rattle.cluster_map.proofs.Inserts.{insert_steps, insert_steps-is, by_option, with_value}
 use Rattle.cluster_map.proofs.Agreement.{with_primary, resolved}
@@ -65,7 +66,7 @@ once_places ps distinct (place ∷ places) [] is = cc
 once_places ps distinct (place ∷ places) (k ∷ keys) is =
     let first : slice_get ps place ≡ Some k = cc in
     let rest : map (slice_get ps) places ≡ map Some keys = cc in
-    ap (λ z. then_rest z (at_places ps (filter (λ q. not (nat_eq q place)) (once_by nat_eq places)))) first
+    ap (λ z. cons_option z (at_places ps (filter (λ q. not (nat_eq q place)) (once_by nat_eq places)))) first
     ∙ ap (λ z. k ∷ z) (without_place ps distinct place k first (once_by nat_eq places) ∙ ap (filter (λ b. not (same_address b k))) (once_places ps distinct places keys rest))
 
 at_places-map : {X Y : Type 0} (f : X → Y) (xs : List X) (places : List ℕ) → at_places (map f xs) places ≡ map f (at_places xs places)
@@ -76,19 +77,19 @@ at_places-map f xs (place ∷ places) =
     (λ none. rw none rest)
     (λ x there. rw there (ap (λ z. f x ∷ z) rest)))
 
-values_with : {A B : Type 0} (g : A → B) (es : List (Entry A)) → map value_of (map (with_value g) es) ≡ map g (map value_of es)
+values_with : {A B : Type 0} (g : A → B) (es : List (RangeEntry A)) → map value_of (map (with_value g) es) ≡ map g (map value_of es)
 values_with g [] = refl
 values_with g (e ∷ es) = ap (λ z. g (value_of e) ∷ z) (values_with g es)
 
-values-with_primary : (es : List (Entry SlotNodes)) → map value_of (map with_primary es) ≡ map Some (map entry_primary es)
+values-with_primary : (es : List (RangeEntry SlotNodes)) → map value_of (map with_primary es) ≡ map Some (map entry_primary es)
 values-with_primary [] = refl
 values-with_primary (e ∷ es) = ap (λ z. Some (entry_primary e) ∷ z) (values-with_primary es)
 
-primaries_of_shards : (es : List (Entry SlotNodes)) (ks : List Address) → map primary_of (map (shard_of es) ks) ≡ ks
+primaries_of_shards : (es : List (RangeEntry SlotNodes)) (ks : List Address) → map primary_of (map (shard_of es) ks) ≡ ks
 primaries_of_shards es [] = refl
 primaries_of_shards es (k ∷ ks) = ap (λ z. k ∷ z) (primaries_of_shards es ks)
 
-pub listed : (es : List (Entry SlotNodes)) → Ascends es → shards_left (topology_of (shards_of es)) ≡ shards_of es
+pub listed : (es : List (RangeEntry SlotNodes)) → Ascends es → shards_left (topology_of (shards_of es)) ≡ shards_of es
 listed es up =
     let keys = map entry_primary es in
     let ps = each_once keys in

@@ -8,8 +8,8 @@ use Rattle.std.specs.Cmp.Rules.{comparing}
 use Rattle.std.proofs.lemmas.Option.{slice_get_within}
 use Rattle.cluster_slots.proofs.Orders.{same_from_address}
 use Rattle.resp_core.proofs.Cases.{by_test, and_first, and_second, or_second}
-use Rattle.cluster_map.specs.Targets.{targets}
-use Rattle.cluster_map.specs.Windows.{hash_of, window, tag_of, start_of, is_node, is_at, is_here, first_of, seek, crowded_at, or_crowded, found_at, IsIndexed}
+use Rattle.cluster_map.specs.Targets.{addresses_behind}
+use Rattle.cluster_map.specs.Inner.Windows.{hash_of, window, tag_of, start_of, is_node, is_at, is_here, first_of, seek, crowded_at, or_crowded, found_at, IsIndexed}
 use Rattle.cluster_map.specs.declared.slot_map.node_set.Spot.{Spot}
 use Rattle.cluster_map.specs.declared.slot_map.node_set.Found.{Found}
 use Rattle.cluster_map.specs.declared.slot_map.node_set.Found.TheVariants.{At, Free, Full}
@@ -192,29 +192,29 @@ seek_none here spots place stop f past is = let none : stop - place ≡ zero = o
 
 -- of what is found
 
-at_listed : (nodes : List (Bor Address)) (i : ℕ) (a : Address) → is_at nodes i a ≡ true → list_any (same_address a) (targets nodes) ≡ true
+at_listed : (nodes : List (Bor Address)) (i : ℕ) (a : Address) → is_at nodes i a ≡ true → list_any (same_address a) (addresses_behind nodes) ≡ true
 at_listed [] i a h = cc
 at_listed (n ∷ nodes) zero a h = let same : same_address a n.now ≡ true = same_sym a n.now ∙ h in rw same refl
-at_listed (n ∷ nodes) (suc i) a h = or_second (same_address a n.now) (list_any (same_address a) (targets nodes)) (at_listed nodes i a h)
+at_listed (n ∷ nodes) (suc i) a h = or_second (same_address a n.now) (list_any (same_address a) (addresses_behind nodes)) (at_listed nodes i a h)
 
-not_listed : (nodes : List (Bor Address)) (i : ℕ) (a : Address) → list_any (same_address a) (targets nodes) ≡ false → is_at nodes i a ≡ false
+not_listed : (nodes : List (Bor Address)) (i : ℕ) (a : Address) → list_any (same_address a) (addresses_behind nodes) ≡ false → is_at nodes i a ≡ false
 not_listed nodes i a h = by_test (is_at nodes i a) (λ t. let no : true ≡ false = sym (at_listed nodes i a t) ∙ h in cc) (λ t. t)
 
 next_place : (b : Bool) (n i : ℕ) → b ≡ false → n ≡ i → cond (not b) (1 + n) 0 ≡ suc i
 next_place b n i h at = rw h (omega (arith, at))
 
-first_place : (nodes : List (Bor Address)) (a : Address) → list_any (same_address a) (targets nodes) ≡ true → (i : ℕ) × (n : Bor Address) × (slice_get nodes i ≡ Some n) × (same_address a n.now ≡ true) × (position_or_len (same_address a) (targets nodes) ≡ i)
+first_place : (nodes : List (Bor Address)) (a : Address) → list_any (same_address a) (addresses_behind nodes) ≡ true → (i : ℕ) × (n : Bor Address) × (slice_get nodes i ≡ Some n) × (same_address a n.now ≡ true) × (position_or_len (same_address a) (addresses_behind nodes) ≡ i)
 first_place [] a = λ h. cc
 first_place (n ∷ nodes) a = by_test (same_address a n.now)
     (λ t. λ h. (0, n, refl, t, rw t refl))
     (λ t. λ h. let (i, m, got, same, at) = first_place nodes a (sym (rw t refl) ∙ h) in
-    (suc i, m, got, same, next_place (same_address a n.now) (position_or_len (same_address a) (targets nodes)) i t at))
+    (suc i, m, got, same, next_place (same_address a n.now) (position_or_len (same_address a) (addresses_behind nodes)) i t at))
 
-no_place : (nodes : List (Bor Address)) (a : Address) → list_any (same_address a) (targets nodes) ≡ false → position_or_len (same_address a) (targets nodes) ≡ length nodes
+no_place : (nodes : List (Bor Address)) (a : Address) → list_any (same_address a) (addresses_behind nodes) ≡ false → position_or_len (same_address a) (addresses_behind nodes) ≡ length nodes
 no_place [] a = λ h. refl
 no_place (n ∷ nodes) a = by_test (same_address a n.now)
     (λ t. rw t (λ h. cc))
-    (λ t. λ h. next_place (same_address a n.now) (position_or_len (same_address a) (targets nodes)) (length nodes) t (no_place nodes a (sym (rw t refl) ∙ h)))
+    (λ t. λ h. next_place (same_address a n.now) (position_or_len (same_address a) (addresses_behind nodes)) (length nodes) t (no_place nodes a (sym (rw t refl) ∙ h)))
 
 -- an address that the nodes have at an index, or do not have
 pub record IsKnown (nodes : List Address) (a : Address) (index : ℕ) : Type 0 where
@@ -225,20 +225,20 @@ pub record IsNew (nodes : List Address) (a : Address) (len : ℕ) : Type 0 where
   pub listed : list_any (same_address a) nodes ≡ false
   pub first : position_or_len (same_address a) nodes ≡ len
 
-found_first : (nodes : List (Bor Address)) (spots : List Spot) (mask : ℕ) (crowded : List (Bor Address × ℕ)) → IsIndexed nodes spots mask crowded → (a : Address) → list_any (same_address a) (targets nodes) ≡ true → found_at nodes spots mask crowded a ≡ Some (position_or_len (same_address a) (targets nodes))
+found_first : (nodes : List (Bor Address)) (spots : List Spot) (mask : ℕ) (crowded : List (Bor Address × ℕ)) → IsIndexed nodes spots mask crowded → (a : Address) → list_any (same_address a) (addresses_behind nodes) ≡ true → found_at nodes spots mask crowded a ≡ Some (position_or_len (same_address a) (addresses_behind nodes))
 found_first nodes spots mask crowded indexed a h =
     let (i, n, got, same, at) = first_place nodes a h in
     ap (found_at nodes spots mask crowded) (same_from_address a n.now same) ∙ indexed.each i n got ∙ ap Some (sym at)
 
-known : (nodes : List (Bor Address)) (spots : List Spot) (mask : ℕ) (crowded : List (Bor Address × ℕ)) → IsIndexed nodes spots mask crowded → (a : Address) (i : ℕ) → found_at nodes spots mask crowded a ≡ Some i → is_at nodes i a ≡ true → IsKnown (targets nodes) a i
+known : (nodes : List (Bor Address)) (spots : List Spot) (mask : ℕ) (crowded : List (Bor Address × ℕ)) → IsIndexed nodes spots mask crowded → (a : Address) (i : ℕ) → found_at nodes spots mask crowded a ≡ Some i → is_at nodes i a ≡ true → IsKnown (addresses_behind nodes) a i
 known nodes spots mask crowded indexed a i found at =
     let listed = at_listed nodes i a at in
-    let one : Some i ≡ Some (position_or_len (same_address a) (targets nodes)) = sym found ∙ found_first nodes spots mask crowded indexed a listed in
+    let one : Some i ≡ Some (position_or_len (same_address a) (addresses_behind nodes)) = sym found ∙ found_first nodes spots mask crowded indexed a listed in
     record { listed = listed; first = cc }
 
-new : (nodes : List (Bor Address)) (spots : List Spot) (mask : ℕ) (crowded : List (Bor Address × ℕ)) → IsIndexed nodes spots mask crowded → (a : Address) → found_at nodes spots mask crowded a ≡ None → IsNew (targets nodes) a (length nodes)
-new nodes spots mask crowded indexed a found = by_test (list_any (same_address a) (targets nodes))
-    (λ t. let no : None ≡ Some (position_or_len (same_address a) (targets nodes)) = sym found ∙ found_first nodes spots mask crowded indexed a t in cc)
+new : (nodes : List (Bor Address)) (spots : List Spot) (mask : ℕ) (crowded : List (Bor Address × ℕ)) → IsIndexed nodes spots mask crowded → (a : Address) → found_at nodes spots mask crowded a ≡ None → IsNew (addresses_behind nodes) a (length nodes)
+new nodes spots mask crowded indexed a found = by_test (list_any (same_address a) (addresses_behind nodes))
+    (λ t. let no : None ≡ Some (position_or_len (same_address a) (addresses_behind nodes)) = sym found ∙ found_first nodes spots mask crowded indexed a t in cc)
     (λ t. record { listed = t; first = no_place nodes a t })
 
 -- what the window of an address says
@@ -251,25 +251,25 @@ window_is_sought nodes nodes' spots spots' mask hash start tag a f f' same is of
     let tags : tag ≡ tag_of a = tagged ∙ ap (λ z. z / 2 ^ 32) hashed in
     sym (sym same ∙ is ∙ rw (of, in_spots, started, tags) refl)
 
-pub known_in_window : (nodes : List (Bor Address)) (spots : List Spot) (mask : ℕ) (crowded : List (Bor Address × ℕ)) → IsIndexed nodes spots mask crowded → (a : Address) (i : ℕ) → window_of nodes spots mask a ≡ At i → IsKnown (targets nodes) a i
+pub known_in_window : (nodes : List (Bor Address)) (spots : List Spot) (mask : ℕ) (crowded : List (Bor Address × ℕ)) → IsIndexed nodes spots mask crowded → (a : Address) (i : ℕ) → window_of nodes spots mask a ≡ At i → IsKnown (addresses_behind nodes) a i
 known_in_window nodes spots mask crowded indexed a i is =
     let (spot, here, index) = seek_sound (is_here nodes (tag_of a) a) spots (start_of mask a) window i is in
     let at : is_at nodes spot.index a ≡ true = and_second (nat_eq spot.tag (tag_of a)) (is_at nodes spot.index a) here in
     known nodes spots mask crowded indexed a i (ap (λ z. or_crowded z (crowded_at crowded a)) is) (subst (λ z. is_at nodes z a ≡ true) index at)
 
-pub known_in_tree : (nodes : List (Bor Address)) (spots : List Spot) (mask : ℕ) (crowded : List (Bor Address × ℕ)) → IsIndexed nodes spots mask crowded → (node : Bor Address) (i : ℕ) → window_of nodes spots mask node.now ≡ Full → crowded_at crowded node.now ≡ Some i → IsKnown (targets nodes) node.now i
+pub known_in_tree : (nodes : List (Bor Address)) (spots : List Spot) (mask : ℕ) (crowded : List (Bor Address × ℕ)) → IsIndexed nodes spots mask crowded → (node : Bor Address) (i : ℕ) → window_of nodes spots mask node.now ≡ Full → crowded_at crowded node.now ≡ Some i → IsKnown (addresses_behind nodes) node.now i
 known_in_tree nodes spots mask crowded indexed node i full there =
     known nodes spots mask crowded indexed node.now i (ap (λ z. or_crowded z (crowded_at crowded node.now)) full ∙ there) (indexed.told node i there)
 
-pub new_in_window : (nodes : List (Bor Address)) (spots : List Spot) (mask : ℕ) (crowded : List (Bor Address × ℕ)) → IsIndexed nodes spots mask crowded → (a : Address) (q : ℕ) → window_of nodes spots mask a ≡ Free q → IsNew (targets nodes) a (length nodes)
+pub new_in_window : (nodes : List (Bor Address)) (spots : List Spot) (mask : ℕ) (crowded : List (Bor Address × ℕ)) → IsIndexed nodes spots mask crowded → (a : Address) (q : ℕ) → window_of nodes spots mask a ≡ Free q → IsNew (addresses_behind nodes) a (length nodes)
 new_in_window nodes spots mask crowded indexed a q is = new nodes spots mask crowded indexed a (ap (λ z. or_crowded z (crowded_at crowded a)) is)
 
-pub new_in_tree : (nodes : List (Bor Address)) (spots : List Spot) (mask : ℕ) (crowded : List (Bor Address × ℕ)) → IsIndexed nodes spots mask crowded → (a : Address) → window_of nodes spots mask a ≡ Full → crowded_at crowded a ≡ None → IsNew (targets nodes) a (length nodes)
+pub new_in_tree : (nodes : List (Bor Address)) (spots : List Spot) (mask : ℕ) (crowded : List (Bor Address × ℕ)) → IsIndexed nodes spots mask crowded → (a : Address) → window_of nodes spots mask a ≡ Full → crowded_at crowded a ≡ None → IsNew (addresses_behind nodes) a (length nodes)
 new_in_tree nodes spots mask crowded indexed a full none = new nodes spots mask crowded indexed a (ap (λ z. or_crowded z (crowded_at crowded a)) full ∙ none)
 
 -- of a node more
 
-other_than : (nodes : List (Bor Address)) (i : ℕ) (a : Address) (other : Bor Address) → list_any (same_address a) (targets nodes) ≡ false → slice_get nodes i ≡ Some other → same_address a other.now ≡ false
+other_than : (nodes : List (Bor Address)) (i : ℕ) (a : Address) (other : Bor Address) → list_any (same_address a) (addresses_behind nodes) ≡ false → slice_get nodes i ≡ Some other → same_address a other.now ≡ false
 other_than nodes i a other none got =
     same_sym a other.now ∙ sym (ap (is_node a) got) ∙ not_listed nodes i a none
 
@@ -349,14 +349,14 @@ known_in keys now a i same known = subst (λ z. IsKnown z a i) same known
 pub new_in : (keys now : List Address) (a : Address) (n : ℕ) → keys ≡ now → IsNew keys a n → IsNew now a n
 new_in keys now a n same new = subst (λ z. IsNew z a n) same new
 
-targets-push : (nodes : List (Bor Address)) (node : Bor Address) → targets (nodes ++ node ∷ []) ≡ targets nodes ++ node.now ∷ []
+targets-push : (nodes : List (Bor Address)) (node : Bor Address) → addresses_behind (nodes ++ node ∷ []) ≡ addresses_behind nodes ++ node.now ∷ []
 targets-push [] node = refl
 targets-push (n ∷ nodes) node = ap (λ z. n.now ∷ z) (targets-push nodes node)
 
 pub nodes_if_known : (now : List Address) (a : Address) (i : ℕ) → IsKnown now a i → now ≡ cond (list_any (same_address a) now) now (now ++ a ∷ [])
 nodes_if_known now a i known = ap (λ b. cond b now (now ++ a ∷ [])) (sym known.listed)
 
-pub nodes_if_new : (nodes nodes' : List (Bor Address)) (node : Bor Address) (now : List Address) (n : ℕ) → nodes' ≡ nodes ++ node ∷ [] → targets nodes ≡ now → IsNew now node.now n → targets nodes' ≡ cond (list_any (same_address node.now) now) now (now ++ node.now ∷ [])
+pub nodes_if_new : (nodes nodes' : List (Bor Address)) (node : Bor Address) (now : List Address) (n : ℕ) → nodes' ≡ nodes ++ node ∷ [] → addresses_behind nodes ≡ now → IsNew now node.now n → addresses_behind nodes' ≡ cond (list_any (same_address node.now) now) now (now ++ node.now ∷ [])
 nodes_if_new nodes nodes' node now n pushed same new =
-    ap targets pushed ∙ targets-push nodes node ∙ ap (λ z. z ++ node.now ∷ []) same
+    ap addresses_behind pushed ∙ targets-push nodes node ∙ ap (λ z. z ++ node.now ∷ []) same
     ∙ ap (λ b. cond b now (now ++ node.now ∷ [])) (sym new.listed)

@@ -3,22 +3,22 @@ use Rattle.std.specs.Prelude.{ℕ, List, [], Option, MatchOption, IsSome, IfSome
 use Rattle.resp_core.specs.Reply.{Reply}
 use Rattle.cluster_slots.specs.Address.{Address}
 use Rattle.cluster_slots.specs.SlotRoute.{SlotRoute}
-use Rattle.slot_ranges.specs.SlotNodes.{SlotNodes, insert_ranges}
-use Rattle.slot_ranges.specs.RangeMap.{Entry, IsAnswerAt, IsUncovered}
-use Rattle.read_strategies.specs.RouteNode.{IsNodeOfRoute}
-use Rattle.slot_ranges.specs.SlotsReply.{ranges_in}
+use Rattle.cluster_map.specs.SlotNodes.{SlotNodes, insert_ranges}
+use Rattle.cluster_map.specs.RangeMap.{RangeEntry, IsAnswerAt, IsUncovered}
+use Rattle.cluster_map.specs.RouteNode.{IsNodeOfRoute}
+use Rattle.cluster_map.specs.SlotsReply.{ranges_in}
 
 -- what `slot_addr_for_route` finds for a route in a map of these entries
-abbrev pub IsFound : List (Entry SlotNodes) → SlotRoute → ℕ → Option Address → Type 0
+abbrev pub IsFound : List (RangeEntry SlotNodes) → SlotRoute → ℕ → Option Address → Type 0
 IsFound entries route pick found =
     MatchOption found (IsUncovered entries route.slot) (IsNodeOfRoute entries route pick)
 
 -- an entry answers for the slot
-abbrev pub IsCovered : List (Entry SlotNodes) → ℕ → Type 0
+abbrev pub IsCovered : List (RangeEntry SlotNodes) → ℕ → Type 0
 IsCovered entries slot = (nodes : SlotNodes) × IsAnswerAt entries slot nodes
 
 -- the entries that the ranges of a reply leave, put in one after the other
-abbrev pub entries_in : List ℕ → Reply → List (Entry SlotNodes)
+abbrev pub entries_in : List ℕ → Reply → List (RangeEntry SlotNodes)
 entries_in answering reply = insert_ranges [] (ranges_in answering reply)
 
 -- an address is found exactly where an entry of the reply answers for the route's slot, and it is

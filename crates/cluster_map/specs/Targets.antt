@@ -4,8 +4,8 @@ use denote.Ref.{Bor}
 use Rattle.cluster_slots.specs.Address.{Address}
 use Rattle.cluster_map.specs.declared.slot_map.addresses.NodeAddresses.{NodeAddresses}
 
-abbrev pub targets : List (Bor Address) → List Address
-targets refs = map (λ r. r.now) refs
+abbrev pub addresses_behind : List (Bor Address) → List Address
+addresses_behind refs = map (λ r. r.now) refs
 
 abbrev pub then_all : Option (Bor Address) → List Address → List Address
 then_all None rest = rest

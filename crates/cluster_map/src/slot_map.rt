@@ -5,24 +5,24 @@ ghost use Rattle.resp_core.specs.Reply.{Reply};
 ghost use Rattle.resp_core.specs.View.{view};
 ghost use Rattle.cluster_slots.specs.Address.{Address};
 ghost use Rattle.cluster_slots.specs.SlotRoute.{SlotRoute};
-ghost use Rattle.slot_ranges.specs.SlotNodes.{SlotNodes, RangeNodes, nodes_of, range_entry, insert_ranges, nodes_in};
-ghost use Rattle.slot_ranges.specs.RangeMap.{Entry, Ascends, AreDisjoint, IsUncovered, value_of};
-ghost use Rattle.read_strategies.specs.EachOnce.{each_once};
+ghost use Rattle.cluster_map.specs.SlotNodes.{SlotNodes, RangeNodes, nodes_of, range_entry, insert_ranges, nodes_in};
+ghost use Rattle.cluster_map.specs.RangeMap.{RangeEntry, Ascends, AreDisjoint, IsUncovered, value_of};
+ghost use Rattle.cluster_map.specs.EachOnce.{each_once};
 ghost use Rattle.cluster_map.specs.Fallback.{fallback, IsFallback};
-ghost use Rattle.cluster_map.specs.Targets.{targets};
-ghost use Rattle.read_strategies.specs.RouteNode.{IsNodeFor, IsPicked, IsRouteNode};
+ghost use Rattle.cluster_map.specs.Targets.{addresses_behind};
+ghost use Rattle.cluster_map.specs.RouteNode.{IsNodeFor, IsPicked, IsRouteNode};
 ghost use Rattle.cluster_map.specs.ReplyNode.{IsFound, IsFoundByReply, entries_in};
-ghost use Rattle.read_strategies.specs.Shards.{ShardNodes};
-ghost use Rattle.read_strategies.specs.Topology.{shards_of, shards_left, topology_of, Agrees, IsShardAt};
+ghost use Rattle.cluster_map.specs.Shards.{ShardNodes};
+ghost use Rattle.cluster_map.specs.Topology.{shards_of, shards_left, topology_of, Agrees, IsShardAt};
 
+use crate::read_routing::{ClusterTopology, ReadCandidates, ReadRoutingStrategy, Replicas};
+use crate::slot_range_map::{SlotRangeMap, Values};
+use crate::topology::parse_slots;
 use addresses::{insert_all, node_count, range_count};
 use cluster_slots::{NodeAddress, Route, SlotAddr};
 use grouping::shards_of;
 use node_set::NodeSet;
-use read_strategies::{ClusterTopology, ReadCandidates, ReadRoutingStrategy, Replicas};
 use resp_core::{RedisResult, Value};
-use slot_ranges::slot_range_map::Values;
-use slot_ranges::{SlotRangeMap, parse_slots};
 use std::alloc::{AllocError, Global};
 use std::marker::Model;
 
@@ -30,8 +30,8 @@ mod addresses;
 mod grouping;
 mod node_set;
 
+pub use crate::slot_range::SlotRange;
 pub use addresses::NodeAddresses;
-pub use slot_ranges::SlotRange;
 
 /// The nodes that serve a range of slots: a primary and its replicas.
 #[derive(Debug, Drop)]
@@ -41,7 +41,7 @@ pub struct SlotAddrs {
 }
 
 impl Model for SlotAddrs {
-    ghost use Rattle.slot_ranges.specs.SlotNodes.{SlotNodes};
+    ghost use Rattle.cluster_map.specs.SlotNodes.{SlotNodes};
 
     ghost Value = { SlotNodes };
 
@@ -159,10 +159,10 @@ pub struct SlotMap {
 
 impl Model for SlotMap {
     ghost use Rattle.std.specs.Prelude.{List};
-    ghost use Rattle.slot_ranges.specs.RangeMap.{Entry};
-    ghost use Rattle.slot_ranges.specs.SlotNodes.{SlotNodes};
+    ghost use Rattle.cluster_map.specs.RangeMap.{RangeEntry};
+    ghost use Rattle.cluster_map.specs.SlotNodes.{SlotNodes};
 
-    ghost Value = { List (Entry SlotNodes) };
+    ghost Value = { List (RangeEntry SlotNodes) };
 
     ghost view = { λ m. m.slots };
 }
@@ -213,7 +213,7 @@ impl SlotMap {
         ensures put { IfOk result (λ map. map ≡ insert_ranges [] slots.items) }
         // Where no two of the ranges meet and none is reversed, each has its entry,
         ensures kept { AreDisjoint (map range_entry slots.items)
-            → IfOk result (λ m. (e : Entry SlotNodes)
+            → IfOk result (λ m. (e : RangeEntry SlotNodes)
             → Contains m e ↔ Contains (map range_entry slots.items) e) }
         // and their order does not count.
         ensures any_order { (others : List RangeNodes) → IsPermutation slots.items others
@@ -242,7 +242,7 @@ impl SlotMap {
         Ok(SlotMap::from_slots(alloc, slots)?)
     }
 
-    /// The node for a route, where a range answers for its slot: that of `SlotAddrs::slot_addr`.
+    /// The node for a route, where a range holds for its slot: that of `SlotAddrs::slot_addr`.
     pub fn slot_addr_for_route(
         &self,
         route: Route,
@@ -264,7 +264,7 @@ impl SlotMap {
         Some(addrs.slot_addr(route.slot(), route.slot_addr(), strategy, pick))
     }
 
-    /// The node of each route, in order, or `None` where no range answers for its slot. The strategy
+    /// The node of each route, in order, or `None` where no range holds for its slot. The strategy
     /// is asked in this order, and `pick` is the same for all.
     ///
     /// # Errors
@@ -292,7 +292,7 @@ impl SlotMap {
 
     /// The nodes that a read may go to where the one of its route fails: the replicas, and after
     /// them the primary where no replica is required. There is none for a primary's route, nor
-    /// where no range answers for the slot.
+    /// where no range holds for the slot.
     ///
     /// # Errors
     ///
@@ -335,8 +335,8 @@ impl SlotMap {
         &self,
         alloc: Global,
     ) -> Result<Vec<&NodeAddress>, AllocError>
-        ensures all { IfOk result (λ found. targets found.items
-            ≡ each_once (map (λ (e : Entry SlotNodes). (value_of e).primary) self.now)) }
+        ensures all { IfOk result (λ found. addresses_behind found.items
+            ≡ each_once (map (λ (e : RangeEntry SlotNodes). (value_of e).primary) self.now)) }
         ensures order { Ascends self.now }
     {
         let mut seen = NodeSet::with_room(alloc, range_count(self.values()))?;
@@ -352,8 +352,8 @@ impl SlotMap {
     ///
     /// If memory runs out.
     pub fn addresses_for_all_nodes(&self, alloc: Global) -> Result<Vec<&NodeAddress>, AllocError>
-        ensures all { IfOk result (λ found. targets found.items
-            ≡ each_once (flat_map (λ (e : Entry SlotNodes). nodes_in (value_of e)) self.now)) }
+        ensures all { IfOk result (λ found. addresses_behind found.items
+            ≡ each_once (flat_map (λ (e : RangeEntry SlotNodes). nodes_in (value_of e)) self.now)) }
         ensures order { Ascends self.now }
     {
         let mut seen = NodeSet::with_room(alloc, node_count(self.values()))?;

@@ -1,10 +1,10 @@
 //! Candidates of a read, and the strategy that a factory makes.
-use crate::given::nodes_of;
 use cluster_map::{
     ClusterTopology, DefaultFactory, NodeAddress, ReadCandidates, ReadRoutingStrategy,
     ReadRoutingStrategyFactory, Replicas,
 };
 use example_strategies::FirstReplica;
+use fixtures::nodes_of;
 use resp_core::RedisResult;
 use std::alloc::{AllocError, Global};
 use std::test::Fail;

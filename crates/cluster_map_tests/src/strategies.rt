@@ -1,9 +1,9 @@
 //! Strategies that are lent to a map.
-use crate::given::{Line, THREE_SHARDS, map_of};
 use cluster_map::{
     DefaultFactory, ReadRoutingStrategy, ReadRoutingStrategyFactory, Route, SlotAddr,
 };
 use example_strategies::{FirstReplica, PickIndex, ShardAware};
+use fixtures::{Line, THREE_SHARDS, map_of};
 use resp_core::RedisResult;
 use std::alloc::Global;
 use std::test::Fail;

@@ -1,6 +1,6 @@
 //! Shards, and the topologies that they and maps make.
-use crate::given::{Line, THREE_SHARDS, map_of, nodes_of};
 use cluster_map::{ClusterTopology, NodeAddress, Route, Shard, SlotAddr, SlotMap};
+use fixtures::{Line, THREE_SHARDS, map_of, nodes_of};
 use resp_core::RedisResult;
 use std::alloc::{AllocError, Global};
 use std::test::Fail;

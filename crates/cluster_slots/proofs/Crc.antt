@@ -1,5 +1,5 @@
 -- Division is linear, so the bits may come in at the top.
-use Rattle.std.proofs.Common.{◌≡◌, ◌<◌, ◌≤◌, inl, inr, ℕ, zero, suc, ◌+◌, ◌*◌, ◌-◌, ◌%◌, ◌/◌, ◌^◌, List, [], ◌∷◌, ◌++◌, fold, replicate, get_or, bit_xor, refl, ap, sym, ◌∙◌, subst, arith, lit<, lit≤, zero-add}
+use Rattle.std.proofs.Common.{◌≡◌, ◌<◌, ◌≤◌, inl, inr, ℕ, zero, suc, ◌+◌, ◌*◌, ◌-◌, ◌%◌, ◌/◌, ◌^◌, List, [], ◌∷◌, ◌++◌, fold, length, drop, replicate, get_or, bit_xor, refl, ap, sym, ◌∙◌, subst, arith, lit<, lit≤, zero-add}
 use Rattle.std.proofs.lemmas.Bool.{cases_lt}
 use Rattle.std.proofs.lemmas.Bool.Decides.{nat_tests}
 use Rattle.std.proofs.lemmas.Nat.{xor_block, xor_comm, xor_lt, mod_low}
@@ -263,31 +263,93 @@ register_down n c h =
     sym (zeros_down-more 8 n c) ∙ ap (λ y. zeros_down n (zeros_down 8 y)) cut ∙ byte_down n (c % 256) high (omega arith) (omega arith)
     ∙ xor_comm (zeros_down (8 + n) (c % 256)) (zeros_down (16 + n) high)
 
--- bytes that come in one after the other, each before the zeros that the later ones leave
-pub four_steps : (c x y z w : ℕ) → c < 2 ^ 16 → x < 2 ^ 8 → y < 2 ^ 8 → z < 2 ^ 8 → w < 2 ^ 8
-    → fold next_register c (x ∷ y ∷ z ∷ w ∷ [])
-    ≡ bit_xor (bit_xor (bit_xor (zeros_down 40 (bit_xor (c / 256 % 256) x)) (zeros_down 32 (bit_xor (c % 256) y))) (zeros_down 24 z)) (zeros_down 16 w)
-four_steps c x y z w hc hx hy hz hw =
-    let short : (r byte : ℕ) → r < 2 ^ 16 → byte < 2 ^ 8 → next_register r byte < 2 ^ 16 = λ r byte h k. zeros_down_lt 8 (bit_xor r (byte * 256)) (xor_lt 16 r (byte * 256) h (omega arith)) in
-    let c1 = next_register c x in
-    let c2 = next_register c1 y in
-    let c3 = next_register c2 z in
-    let h1 : c1 < 2 ^ 16 = short c x hc hx in
-    let h2 : c2 < 2 ^ 16 = short c1 y h1 hy in
-    let h3 : c3 < 2 ^ 16 = short c2 z h2 hz in
+next_lt : (r byte : ℕ) → r < 2 ^ 16 → byte < 2 ^ 8 → next_register r byte < 2 ^ 16
+next_lt r byte h k = zeros_down_lt 8 (bit_xor r (byte * 256)) (xor_lt 16 r (byte * 256) h (omega arith))
+
+-- two bytes that meet the bytes of the register, and n zeros
+pub two_steps : (n c x y : ℕ) → c < 2 ^ 16 → x < 2 ^ 8 → y < 2 ^ 8
+    → zeros_down n (fold next_register c (x ∷ y ∷ [])) ≡ bit_xor (zeros_down (24 + n) (bit_xor (c / 256 % 256) x)) (zeros_down (16 + n) (bit_xor (c % 256) y))
+two_steps n c x y hc hx hy =
     let high = c / 256 % 256 in
     let low = c % 256 in
-    let e4 : next_register c3 w ≡ bit_xor (zeros_down 8 c3) (zeros_down 16 w) = byte_down 0 c3 w h3 hw in
-    let e3 : zeros_down 8 c3 ≡ bit_xor (zeros_down 16 c2) (zeros_down 24 z) = byte_down 8 c2 z h2 hz in
-    let e2 : zeros_down 16 c2 ≡ bit_xor (zeros_down 24 c1) (zeros_down 32 y) = byte_down 16 c1 y h1 hy in
-    let e1 : zeros_down 24 c1 ≡ bit_xor (zeros_down 32 c) (zeros_down 40 x) = byte_down 24 c x hc hx in
-    let e0 : zeros_down 32 c ≡ bit_xor (zeros_down 40 high) (zeros_down 32 low) = register_down 24 c hc in
-    let first : zeros_down 40 (bit_xor high x) ≡ bit_xor (zeros_down 40 high) (zeros_down 40 x) = zeros_down-xor 40 high x (omega arith) (omega arith) in
-    let second : zeros_down 32 (bit_xor low y) ≡ bit_xor (zeros_down 32 low) (zeros_down 32 y) = zeros_down-xor 32 low y (omega arith) (omega arith) in
-    let met : zeros_down 16 c2 ≡ bit_xor (zeros_down 40 (bit_xor high x)) (zeros_down 32 (bit_xor low y)) =
-    e2 ∙ ap (λ r. bit_xor r (zeros_down 32 y)) (e1 ∙ ap (λ r. bit_xor r (zeros_down 40 x)) e0 ∙ swap_right (zeros_down 40 high) (zeros_down 32 low) (zeros_down 40 x) ∙ ap (λ r. bit_xor r (zeros_down 32 low)) (sym first))
-    ∙ xor_assoc (zeros_down 40 (bit_xor high x)) (zeros_down 32 low) (zeros_down 32 y) ∙ ap (bit_xor (zeros_down 40 (bit_xor high x))) (sym second) in
-    e4 ∙ ap (λ r. bit_xor r (zeros_down 16 w)) (e3 ∙ ap (λ r. bit_xor r (zeros_down 24 z)) met)
+    let once : 8 + (8 + n) ≡ 16 + n = omega arith in
+    let twice : 16 + (8 + n) ≡ 24 + n = omega arith in
+    let e2 : zeros_down n (next_register (next_register c x) y) ≡ bit_xor (zeros_down (8 + n) (next_register c x)) (zeros_down (16 + n) y) = byte_down n (next_register c x) y (next_lt c x hc hx) hy in
+    let e1 : zeros_down (8 + n) (next_register c x) ≡ bit_xor (zeros_down (16 + n) c) (zeros_down (24 + n) x) =
+    byte_down (8 + n) c x hc hx ∙ ap (λ k. bit_xor (zeros_down k c) (zeros_down (16 + (8 + n)) x)) once ∙ ap (λ k. bit_xor (zeros_down (16 + n) c) (zeros_down k x)) twice in
+    let e0 : zeros_down (16 + n) c ≡ bit_xor (zeros_down (24 + n) high) (zeros_down (16 + n) low) =
+    ap (λ k. zeros_down k c) (sym once) ∙ register_down (8 + n) c hc ∙ ap (λ k. bit_xor (zeros_down k high) (zeros_down (8 + (8 + n)) low)) twice ∙ ap (λ k. bit_xor (zeros_down (24 + n) high) (zeros_down k low)) once in
+    let first : zeros_down (24 + n) (bit_xor high x) ≡ bit_xor (zeros_down (24 + n) high) (zeros_down (24 + n) x) = zeros_down-xor (24 + n) high x (omega arith) (omega arith) in
+    let second : zeros_down (16 + n) (bit_xor low y) ≡ bit_xor (zeros_down (16 + n) low) (zeros_down (16 + n) y) = zeros_down-xor (16 + n) low y (omega arith) (omega arith) in
+    e2 ∙ ap (λ r. bit_xor r (zeros_down (16 + n) y)) (e1 ∙ ap (λ r. bit_xor r (zeros_down (24 + n) x)) e0 ∙ swap_right (zeros_down (24 + n) high) (zeros_down (16 + n) low) (zeros_down (24 + n) x) ∙ ap (λ r. bit_xor r (zeros_down (16 + n) low)) (sym first))
+    ∙ xor_assoc (zeros_down (24 + n) (bit_xor high x)) (zeros_down (16 + n) low) (zeros_down (16 + n) y) ∙ ap (bit_xor (zeros_down (24 + n) (bit_xor high x))) (sym second)
+
+-- a byte more
+pub one_more : (r x : ℕ) → r < 2 ^ 16 → x < 2 ^ 8 → next_register r x ≡ bit_xor (zeros_down 8 r) (zeros_down 16 x)
+one_more r x hr hx = byte_down 0 r x hr hx
+
+-- two and six bytes more, each before the zeros that the later ones leave
+pub two_more : (r x y : ℕ) → r < 2 ^ 16 → x < 2 ^ 8 → y < 2 ^ 8 → fold next_register r (x ∷ y ∷ []) ≡ bit_xor (zeros_down 16 r) (bit_xor (zeros_down 24 x) (zeros_down 16 y))
+two_more r x y hr hx hy =
+    one_more (next_register r x) y (next_lt r x hr hx) hy ∙ ap (λ z. bit_xor z (zeros_down 16 y)) (byte_down 8 r x hr hx) ∙ xor_assoc (zeros_down 16 r) (zeros_down 24 x) (zeros_down 16 y)
+
+pub six_more : (r c d e f g h : ℕ) → r < 2 ^ 16 → c < 2 ^ 8 → d < 2 ^ 8 → e < 2 ^ 8 → f < 2 ^ 8 → g < 2 ^ 8 → h < 2 ^ 8
+    → fold next_register r (c ∷ d ∷ e ∷ f ∷ g ∷ h ∷ [])
+    ≡ bit_xor (zeros_down 48 r) (bit_xor (bit_xor (bit_xor (bit_xor (bit_xor (zeros_down 56 c) (zeros_down 48 d)) (zeros_down 40 e)) (zeros_down 32 f)) (zeros_down 24 g)) (zeros_down 16 h))
+six_more r c d e f g h hr hc hd he hf hg hh =
+    let r1 = next_register r c in
+    let r2 = next_register r1 d in
+    let r3 = next_register r2 e in
+    let r4 = next_register r3 f in
+    let r5 = next_register r4 g in
+    let h1 : r1 < 2 ^ 16 = next_lt r c hr hc in
+    let h2 : r2 < 2 ^ 16 = next_lt r1 d h1 hd in
+    let h3 : r3 < 2 ^ 16 = next_lt r2 e h2 he in
+    let h4 : r4 < 2 ^ 16 = next_lt r3 f h3 hf in
+    let h5 : r5 < 2 ^ 16 = next_lt r4 g h4 hg in
+    let e1 : zeros_down 40 r1 ≡ bit_xor (zeros_down 48 r) (zeros_down 56 c) = byte_down 40 r c hr hc in
+    let e2 : zeros_down 32 r2 ≡ bit_xor (zeros_down 40 r1) (zeros_down 48 d) = byte_down 32 r1 d h1 hd in
+    let e3 : zeros_down 24 r3 ≡ bit_xor (zeros_down 32 r2) (zeros_down 40 e) = byte_down 24 r2 e h2 he in
+    let e4 : zeros_down 16 r4 ≡ bit_xor (zeros_down 24 r3) (zeros_down 32 f) = byte_down 16 r3 f h3 hf in
+    let e5 : zeros_down 8 r5 ≡ bit_xor (zeros_down 16 r4) (zeros_down 24 g) = byte_down 8 r4 g h4 hg in
+    let e6 : next_register r5 h ≡ bit_xor (zeros_down 8 r5) (zeros_down 16 h) = byte_down 0 r5 h h5 hh in
+    let w = zeros_down 48 r in
+    let c1 = zeros_down 56 c in
+    let d1 = bit_xor c1 (zeros_down 48 d) in
+    let f1 = bit_xor d1 (zeros_down 40 e) in
+    let g1 = bit_xor f1 (zeros_down 32 f) in
+    let k1 = bit_xor g1 (zeros_down 24 g) in
+    let a2 : zeros_down 32 r2 ≡ bit_xor w d1 = e2 ∙ ap (λ z. bit_xor z (zeros_down 48 d)) e1 ∙ xor_assoc w c1 (zeros_down 48 d) in
+    let a3 : zeros_down 24 r3 ≡ bit_xor w f1 = e3 ∙ ap (λ z. bit_xor z (zeros_down 40 e)) a2 ∙ xor_assoc w d1 (zeros_down 40 e) in
+    let a4 : zeros_down 16 r4 ≡ bit_xor w g1 = e4 ∙ ap (λ z. bit_xor z (zeros_down 32 f)) a3 ∙ xor_assoc w f1 (zeros_down 32 f) in
+    let a5 : zeros_down 8 r5 ≡ bit_xor w k1 = e5 ∙ ap (λ z. bit_xor z (zeros_down 24 g)) a4 ∙ xor_assoc w g1 (zeros_down 24 g) in
+    e6 ∙ ap (λ z. bit_xor z (zeros_down 16 h)) a5 ∙ xor_assoc w k1 (zeros_down 16 h)
+
+-- the register after two bytes is one
+pub two_lt : (r x y : ℕ) → r < 2 ^ 16 → x < 2 ^ 8 → y < 2 ^ 8 → fold next_register r (x ∷ y ∷ []) < 2 ^ 16
+two_lt r x y hr hx hy = next_lt (next_register r x) y (next_lt r x hr hx) hy
+
+pub three_steps : (c : ℕ) (bytes : List ℕ) (two third : ℕ) → c < 2 ^ 16 → ((i : ℕ) → get_or bytes i 0 < 2 ^ 8) → length bytes ≡ 3
+    → two ≡ zeros_down 8 (fold next_register c (get_or bytes 0 0 ∷ get_or bytes 1 0 ∷ [])) → third ≡ zeros_down 16 (get_or bytes 2 0) → bit_xor two third ≡ fold next_register c bytes
+three_steps c [] two third hc hb size e f = absurd (omega arith)
+three_steps c (x ∷ []) two third hc hb size e f = absurd (omega arith)
+three_steps c (x ∷ y ∷ []) two third hc hb size e f = absurd (omega arith)
+three_steps c (x ∷ y ∷ z ∷ []) two third hc hb size e f =
+    ap (λ r. bit_xor r third) e ∙ ap (bit_xor (zeros_down 8 (fold next_register c (x ∷ y ∷ [])))) f ∙ sym (one_more (fold next_register c (x ∷ y ∷ [])) z (two_lt c x y hc (hb 0) (hb 1)) (hb 2))
+three_steps c (x ∷ y ∷ z ∷ w ∷ bytes) two third hc hb size e f = absurd (omega arith)
+
+pub four_steps : (c : ℕ) (bytes : List ℕ) (two third fourth : ℕ) → c < 2 ^ 16 → ((i : ℕ) → get_or bytes i 0 < 2 ^ 8) → 4 ≤ length bytes
+    → two ≡ zeros_down 16 (fold next_register c (get_or bytes 0 0 ∷ get_or bytes 1 0 ∷ [])) → third ≡ zeros_down 24 (get_or bytes 2 0) → fourth ≡ zeros_down 16 (get_or bytes 3 0)
+    → fold next_register (bit_xor two (bit_xor third fourth)) (drop 4 bytes) ≡ fold next_register c bytes
+four_steps c [] two third fourth hc hb size e f g = absurd (omega arith)
+four_steps c (x ∷ []) two third fourth hc hb size e f g = absurd (omega arith)
+four_steps c (x ∷ y ∷ []) two third fourth hc hb size e f g = absurd (omega arith)
+four_steps c (x ∷ y ∷ z ∷ []) two third fourth hc hb size e f g = absurd (omega arith)
+four_steps c (x ∷ y ∷ z ∷ w ∷ bytes) two third fourth hc hb size e f g =
+    let two_bytes = fold next_register c (x ∷ y ∷ []) in
+    ap (λ r. fold next_register r bytes)
+    (ap (λ r. bit_xor r (bit_xor third fourth)) e ∙ ap (λ r. bit_xor (zeros_down 16 two_bytes) (bit_xor r fourth)) f ∙ ap (λ r. bit_xor (zeros_down 16 two_bytes) (bit_xor (zeros_down 24 z) r)) g
+    ∙ sym (two_more two_bytes z w (two_lt c x y hc (hb 0) (hb 1)) (hb 2) (hb 3)))
 
 by_bytes : (front bytes : List ℕ) (c : ℕ) → ((i : ℕ) → get_or bytes i 0 < 2 ^ 8) → c ≡ zeros_down 16 (fold bring_down 0 (bits_of front))
     → fold next_register c bytes ≡ zeros_down 16 (fold bring_down 0 (bits_of (front ++ bytes)))

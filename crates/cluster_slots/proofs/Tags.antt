@@ -1,5 +1,5 @@
 -- The hash tag as a value is what the relation says.
-use Rattle.std.proofs.Common.{◌≡◌, ◌≢◌, ℕ, suc, ◌+◌, ◌%◌, List, [], ◌∷◌, ◌++◌, Bool, true, false, refl, ap, ◌∙◌, inl, inr, arith, length, take, drop}
+use Rattle.std.proofs.Common.{◌≡◌, ◌≢◌, ℕ, suc, ◌+◌, ◌%◌, List, [], ◌∷◌, ◌++◌, true, false, refl, ap, ◌∙◌, inl, inr, arith, length, take, drop}
 use Rattle.std.specs.Prelude.{nat_eq, nat_lt}
 use Rattle.std.specs.List.{list_any, before_first, after_first, position_or_len}
 use Rattle.std.proofs.lemmas.Bool.Decides.{nat_tests}
@@ -24,7 +24,7 @@ module _ (b : ℕ) where
       rw e (ap (λ k. take k (x ∷ xs)) more)
 
   -- a list that has no b has nothing after the first one
-  lacking : (xs : List ℕ) → list_any (nat_eq b) xs ≡ false → Lacks b xs × (after_first (nat_eq b) xs ≡ [])
+  pub lacking : (xs : List ℕ) → list_any (nat_eq b) xs ≡ false → Lacks b xs × (after_first (nat_eq b) xs ≡ [])
   lacking [] h = (tt, refl)
   lacking (x ∷ xs) h = by_test (nat_eq b x) (λ e. cc (h, e)) (λ e.
       let rest : list_any (nat_eq b) xs ≡ false = rw e at h in

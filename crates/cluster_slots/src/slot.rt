@@ -1,4 +1,5 @@
-ghost use Rattle.std.specs.Prelude.{◌≡◌, ◌<◌, ◌+◌, ◌*◌, ◌↔◌, [], ◌∷◌, ◌++◌, ℕ, List, IsSome, IfSome, MatchOption, Contains, position, fold, replicate, ◌==◌, bit_xor};
+ghost use Rattle.std.specs.Prelude.{◌≡◌, ◌<◌, ◌+◌, ◌*◌, ◌↔◌, [], ◌∷◌, ◌++◌, ℕ, List, IsSome, IfSome, MatchOption, Contains, position, fold, length, replicate, nat_eq, ◌==◌, bit_xor};
+ghost use Rattle.std.specs.List.{list_any};
 ghost use Rattle.cluster_slots.specs.HashTag.{HasTag, HasNoTag, IsHashTag};
 ghost use Rattle.cluster_slots.specs.declared.slot.TheConstants.{SLOT_SIZE};
 ghost use Rattle.cluster_slots.specs.KeySlot.{rem, low_bits, zeros_down, crc_of, IsKeySlot, key_slot};
@@ -151,10 +152,24 @@ fn cut_at(bytes: &[u8], byte: u8) -> Option<(&[u8], &[u8])>
     Some((&bytes[..at], &bytes[at + 1..]))
 }
 
+/// Whether the byte is one of these. No step ends the search, so many are compared at once.
+fn has_byte(bytes: &[u8], byte: u8) -> bool
+    ensures { result ≡ list_any (nat_eq byte) bytes.now }
+{
+    let mut found = false;
+    for other in bytes {
+        found |= byte == *other;
+    }
+    found
+}
+
 /// What stands between the first braces of a key, if it is not empty.
 fn get_hashtag(key: &[u8]) -> Option<&[u8]>
     ensures { MatchOption result (HasNoTag key.now) (λ tag. HasTag key.now tag.now) }
 {
+    if !has_byte(key, b'{') {
+        return None;
+    }
     let (_, rest) = cut_at(key, b'{')?;
     let (tag, _) = cut_at(rest, b'}')?;
     if tag.is_empty() { None } else { Some(tag) }
@@ -162,7 +177,7 @@ fn get_hashtag(key: &[u8]) -> Option<&[u8]>
 
 /// The remainder of the bits of a byte followed by 16 zero bits, and 8 more for each byte after it.
 fn remainder(byte: u8, after: usize) -> u16
-    requires { after < 4 }
+    requires { after < 8 }
     ensures { result ≡ rem (low_bits byte 8 ++ replicate (16 + 8 * after) 0) }
 {
     REMAINDERS[after][usize::from(byte)]
@@ -175,27 +190,66 @@ fn update(crc: u16, byte: u8) -> u16
     (crc << 8) ^ remainder((crc >> 8) as u8 ^ byte, 0)
 }
 
-/// The register after four bytes.
-fn update_by_four(crc: u16, a: u8, b: u8, c: u8, d: u8) -> u16
-    ensures { result ≡ fold (λ r byte. zeros_down 8 (bit_xor r (byte * 256))) crc
-        (a ∷ b ∷ c ∷ d ∷ []) }
+/// The register after two bytes, and then so many bytes of zero bits.
+fn update_by_two(crc: u16, a: u8, b: u8, after: usize) -> u16
+    requires { after < 7 }
+    ensures { result ≡ zeros_down (8 * after) (fold (λ r byte. zeros_down 8 (bit_xor r (byte * 256)))
+        crc (a ∷ b ∷ [])) }
 {
     let [high, low] = crc.to_be_bytes();
-    remainder(high ^ a, 3) ^ remainder(low ^ b, 2) ^ remainder(c, 1) ^ remainder(d, 0)
+    remainder(high ^ a, after + 1) ^ remainder(low ^ b, after)
 }
 
-/// CRC-16/XMODEM, four bytes a step.
+/// The register after eight bytes. The look-ups of the last six need not wait for the register.
+fn update_by_eight(crc: u16, a: u8, b: u8, c: u8, d: u8, e: u8, f: u8, g: u8, h: u8) -> u16
+    ensures { result ≡ fold (λ r byte. zeros_down 8 (bit_xor r (byte * 256))) crc
+        (a ∷ b ∷ c ∷ d ∷ e ∷ f ∷ g ∷ h ∷ []) }
+{
+    let later = remainder(c, 5)
+        ^ remainder(d, 4)
+        ^ remainder(e, 3)
+        ^ remainder(f, 2)
+        ^ remainder(g, 1)
+        ^ remainder(h, 0);
+    update_by_two(crc, a, b, 6) ^ later
+}
+
+/// The register after fewer than four bytes.
+fn update_by_few(crc: u16, bytes: &[u8]) -> u16
+    requires { length bytes.now < 4 }
+    ensures { result ≡ fold (λ r byte. zeros_down 8 (bit_xor r (byte * 256))) crc bytes.now }
+{
+    match bytes {
+        [a] => update(crc, *a),
+        [a, b] => update_by_two(crc, *a, *b, 0),
+        [a, b, c] => update_by_two(crc, *a, *b, 1) ^ remainder(*c, 0),
+        _ => crc,
+    }
+}
+
+/// The register after fewer than eight bytes.
+fn update_by_last(crc: u16, bytes: &[u8]) -> u16
+    requires { length bytes.now < 8 }
+    ensures { result ≡ fold (λ r byte. zeros_down 8 (bit_xor r (byte * 256))) crc bytes.now }
+{
+    match bytes {
+        [a, b, c, d, after @ ..] => {
+            let four = update_by_two(crc, *a, *b, 2) ^ (remainder(*c, 1) ^ remainder(*d, 0));
+            update_by_few(four, after)
+        }
+        _ => update_by_few(crc, bytes),
+    }
+}
+
+/// CRC-16/XMODEM, eight bytes a step.
 fn crc16(bytes: &[u8]) -> u16
     ensures { result ≡ crc_of bytes.now }
 {
     let mut crc = 0;
     let mut rest = bytes;
-    while let [a, b, c, d, after @ ..] = rest {
-        crc = update_by_four(crc, *a, *b, *c, *d);
+    while let [a, b, c, d, e, f, g, h, after @ ..] = rest {
+        crc = update_by_eight(crc, *a, *b, *c, *d, *e, *f, *g, *h);
         rest = after;
     }
-    for byte in rest {
-        crc = update(crc, *byte);
-    }
-    crc
+    update_by_last(crc, rest)
 }

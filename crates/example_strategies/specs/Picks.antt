@@ -1,7 +1,7 @@
 -- Which candidate each strategy picks.
 use Rattle.std.specs.Prelude.{◌≡◌, ◌≤◌, ℕ, ◌-◌, ◌%◌, ◌⊎◌, length, Option, Some, None, slice_get}
 use Rattle.cluster_map.specs.Address.{Address}
-use Rattle.cluster_map.specs.Candidates.{Candidates, in_order}
+use Rattle.cluster_map.specs.Candidates.{Candidates, primary_then_replicas}
 use Rattle.cluster_map.specs.Shards.{ShardNodes}
 use Rattle.cluster_map.specs.Topology.{Topology, IsShardAt}
 
@@ -15,7 +15,7 @@ IsLastReplica c address = slice_get c.replicas (length c.replicas - 1) ≡ Some 
 
 -- the address is the candidate at the index modulo their number
 abbrev pub IsAtIndex : ℕ → Candidates → Address → Type 0
-IsAtIndex index c address = slice_get (in_order c) (index % length (in_order c)) ≡ Some address
+IsAtIndex index c address = slice_get (primary_then_replicas c) (index % length (primary_then_replicas c)) ≡ Some address
 
 -- the known topology has a shard for the slot, and this shard has two ranges or more
 abbrev pub HasManyRanges : Option Topology → ℕ → Type 0

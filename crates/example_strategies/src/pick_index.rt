@@ -1,5 +1,5 @@
 ghost use Rattle.std.specs.Prelude.{◌≡◌, ◌%◌, ◌∷◌, length, Some, slice_get};
-ghost use Rattle.cluster_map.specs.Candidates.{in_order};
+ghost use Rattle.cluster_map.specs.Candidates.{primary_then_replicas};
 ghost use Rattle.cluster_map.specs.ReadCandidates.{addresses_of};
 ghost use Rattle.cluster_map.specs.CandidatePlaces.{IsCandidate-in_order};
 ghost use Rattle.example_strategies.specs.Picks.{IsAtIndex};
@@ -24,7 +24,7 @@ impl ReadRoutingStrategy for PickIndex {
     ghost picks = { λ s c address. IsAtIndex s.0 c address };
 
     ghost picks_candidates = { λ s c address there.
-        IsCandidate-in_order c address (s.0 % length (in_order c)) there };
+        IsCandidate-in_order c address (s.0 % length (primary_then_replicas c)) there };
 
     /// Keeps its index, whatever the shards are.
     fn on_topology_changed(&mut self, topology: ClusterTopology)

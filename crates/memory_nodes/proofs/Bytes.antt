@@ -10,7 +10,7 @@ use Rattle.std.specs.Prelude.{IsSome}
 use Rattle.std.proofs.lemmas.Map.Text.{is_eq-slice_cmp}
 use Rattle.std.proofs.lemmas.Slice.Eq.{bytes_eq-Decides}
 use Rattle.resp_core.proofs.Cases.{by_test}
-use Rattle.redis_nodes.specs.Unsplit.{put}
+use Rattle.redis_cluster.specs.Unsplit.{put}
 use Rattle.memory_nodes.specs.Cells.{found}
 
 -- bytes that differ are not equal to one key

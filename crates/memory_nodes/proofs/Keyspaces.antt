@@ -4,7 +4,7 @@ use Rattle.std.specs.Ordering.{nat_cmp}
 use Rattle.std.specs.Cmp.Lexicographic.{slice_cmp}
 use Rattle.std.specs.BTreeMap.{BTreeMap, WritesThrough, is_at}
 use Rattle.std.specs.Map.{lookup}
-use Rattle.redis_nodes.specs.Unsplit.{put}
+use Rattle.redis_cluster.specs.Unsplit.{put}
 use Rattle.memory_nodes.specs.Cells.{found, cell_of, keyspace_of}
 use Rattle.memory_nodes.specs.Undo.{back}
 use Rattle.memory_nodes.proofs.Bytes.{found-lent}

@@ -3,7 +3,7 @@ use Rattle.std.proofs.Common.{◌≡◌, List, ℕ, Bool, true, false, cond, Opt
 use Rattle.std.specs.Str.{bytes_eq}
 use Rattle.std.proofs.lemmas.Slice.Eq.{bytes_eq-Decides}
 use Rattle.resp_core.proofs.Cases.{by_test}
-use Rattle.redis_nodes.specs.Unsplit.{Keyspace, put}
+use Rattle.redis_cluster.specs.Unsplit.{Keyspace, put}
 use Rattle.memory_nodes.specs.Undo.{back}
 
 module _ {X : Type 0} where

@@ -4,10 +4,10 @@ use Rattle.std.specs.Prelude.{count_by}
 use Rattle.std.proofs.lemmas.List.{length-map, take-map, drop-map, take_all}
 use Rattle.std.proofs.lemmas.List.Sums.{sum_by-cons}
 use Rattle.resp_core.specs.Reply.{Reply}
-use Rattle.redis_commands.specs.Tuples.{width_of}
-use Rattle.redis_commands.specs.declared.route_by.MultiSlotArgPattern.{MultiSlotArgPattern}
-use Rattle.redis_commands.specs.declared.route_by.MultiSlotArgPattern.TheVariants.{KeysOnly, KeyValuePairs, KeysAndLastArg, KeyWithTwoArgTriples}
-use Rattle.redis_nodes.specs.Unsplit.{Act, Keyspace, Outcome, TupleResult, put, after, results}
+use Rattle.redis_routing.specs.Tuples.{width_of}
+use Rattle.redis_routing.specs.declared.route_by.MultiSlotArgPattern.{MultiSlotArgPattern}
+use Rattle.redis_routing.specs.declared.route_by.MultiSlotArgPattern.TheVariants.{KeysOnly, KeyValuePairs, KeysAndLastArg, KeyWithTwoArgTriples}
+use Rattle.redis_cluster.specs.Unsplit.{Act, Keyspace, Outcome, TupleResult, put, after, results}
 use Rattle.memory_nodes.specs.Parts.{words, key_tuples}
 use Rattle.memory_nodes.proofs.KeyTuples.{first_tuple, next-tuple}
 

@@ -1,7 +1,7 @@
 -- Writes that are undone.
 use Rattle.std.proofs.Common.{◌≡◌, List, [], ◌∷◌, ◌++◌, Option, Some, option_map, refl, ap, ◌∙◌, Bor, ℕ, Vec, Global}
 use Rattle.std.specs.Prelude.{Result, Ok, Err, OnErr}
-use Rattle.redis_nodes.specs.Unsplit.{Keyspace, put}
+use Rattle.redis_cluster.specs.Unsplit.{Keyspace, put}
 use Rattle.memory_nodes.specs.Cells.{Cell, cell_of}
 use Rattle.memory_nodes.specs.Undo.{back, cell_before, undone, before_all}
 use Rattle.memory_nodes.specs.declared.change.Before.TheVariants.{AtKey, AtPath}

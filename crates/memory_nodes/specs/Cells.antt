@@ -5,7 +5,7 @@ use Rattle.std.specs.Cmp.Lexicographic.{slice_cmp}
 use Rattle.std.specs.BTreeMap.{BTreeMap, get_by}
 use Rattle.std.specs.declared.vec.Vec.{Vec}
 use Rattle.std.specs.declared.alloc.Global.{Global}
-use Rattle.redis_nodes.specs.Unsplit.{Keyspace}
+use Rattle.redis_cluster.specs.Unsplit.{Keyspace}
 
 -- the value at each path
 abbrev pub Cell : Type 0

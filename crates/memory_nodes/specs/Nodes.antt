@@ -1,12 +1,16 @@
 -- What nodes in memory hold, have been sent, and refuse.
-use Rattle.std.specs.Prelude.{◌≡◌, ℕ, ◌+◌, ◌≤◌, List, Bool, cond, Option, None, Some, map, codes}
+use Rattle.std.specs.Prelude.{◌≡◌, ◌⊎◌, ℕ, ◌+◌, ◌-◌, ◌≤◌, List, Bool, true, false, cond, Option, None, Some, map, codes, nat_le, slice_get}
 use Rattle.resp_core.specs.ErrorParts.{ErrorParts}
 use Rattle.resp_core.specs.declared.error.ErrorKind.TheVariants.{Client}
-use Rattle.redis_nodes.specs.Trace.{Entry, Ending, answered, refused, entry}
-use Rattle.redis_nodes.specs.Unsplit.{Keyspace}
+use Rattle.redis_routing.specs.Registry.{Registrations}
+use Rattle.redis_routing.specs.declared.info.Redirect.{Redirect}
+use Rattle.redis_cluster.specs.Trace.{Entry, Ending, answered, refused, redirected, entry}
+use Rattle.redis_cluster.specs.Unsplit.{Keyspace}
 use Rattle.memory_nodes.specs.Cells.{Cell, keyspace_of}
 use Rattle.memory_nodes.specs.Parts.{words}
 use Rattle.memory_nodes.specs.declared.nodes.MemoryNodes.{MemoryNodes}
+use Rattle.memory_nodes.specs.declared.planned.Planned.{Planned}
+use Rattle.memory_nodes.specs.declared.planned.Planned.TheVariants as planned
 use Rattle.memory_nodes.specs.declared.trace_entry.TraceEntry.{TraceEntry}
 
 -- the one error of a refusal
@@ -19,12 +23,38 @@ abbrev pub IsFused : Option ℕ → ℕ → Type 0
 IsFused None count = ⊥
 IsFused (Some limit) count = limit ≤ count + 1
 
+-- what is planned for the send that finds so many entries in the trace, where the plan was made
+-- when there were `base`: its items one after the other, and answers behind the last
+abbrev pub or_answer : Option Planned → Planned
+or_answer None = planned.Answer
+or_answer (Some item) = item
+
+abbrev pub planned_for : List Planned → (base count : ℕ) → Planned
+planned_for plan base count =
+    cond (nat_le base count) (or_answer (slice_get plan (count - base))) planned.Answer
+
+-- a send that is planned so ends so, without an answer
+abbrev pub EndsSo : Planned → Ending → Type 0
+EndsSo planned.Answer ending = ⊥
+EndsSo planned.Refuse ending = ending ≡ refused node_refused
+EndsSo (planned.Redirect redirect) ending = ending ≡ redirected redirect
+
+-- how a send ended, by whether the node answered and where it sent the client on
+abbrev pub ending_in : Bool → Option Redirect → Ending
+ending_in true redirect = answered
+ending_in false None = refused node_refused
+ending_in false (Some redirect) = redirected redirect
+
 -- what stands in the trace of one send
 abbrev pub entry_of : TraceEntry → Entry
-entry_of e = entry e.node (words e.args.items) (cond e.answered answered (refused node_refused))
+entry_of e = entry e.node (words e.args.items) (ending_in e.answered e.redirect)
 
 abbrev pub keyspace_in : MemoryNodes → Keyspace Cell
 keyspace_in nodes = keyspace_of nodes.cells
+
+-- the names that commands may have beside those of the tables
+abbrev pub registered_in : MemoryNodes → Registrations
+registered_in nodes = nodes.registry
 
 abbrev pub trace_in : MemoryNodes → List Entry
 trace_in nodes = map entry_of nodes.trace.items
@@ -33,6 +63,16 @@ trace_in nodes = map entry_of nodes.trace.items
 abbrev pub mark_in : MemoryNodes → Bool
 mark_in nodes = nodes.mark
 
--- a send that the fuse refuses ends with the one error
+-- the limit of the fuse, if one was set
+abbrev pub fuse_in : MemoryNodes → Option ℕ
+fuse_in nodes = nodes.fuse
+
+-- what the plan has for the send that finds so many entries
+abbrev pub planned_in : MemoryNodes → ℕ → Planned
+planned_in nodes count = planned_for nodes.plan.items nodes.base count
+
+-- A send that the fuse refuses ends with the one error, and any other as it is planned.
 abbrev pub MayRefuse : MemoryNodes → ℕ → Ending → Type 0
-MayRefuse nodes count ending = IsFused nodes.fuse count × (ending ≡ refused node_refused)
+MayRefuse nodes count ending =
+    (IsFused (fuse_in nodes) count × (ending ≡ refused node_refused))
+    ⊎ ((IsFused (fuse_in nodes) count → ⊥) × EndsSo (planned_in nodes count) ending)

@@ -2,11 +2,11 @@
 use Rattle.std.specs.Prelude.{ℕ, List, Option, map, option_map, slice_get}
 use Rattle.std.specs.declared.vec.Vec.{Vec}
 use Rattle.std.specs.declared.alloc.Global.{Global}
-use Rattle.redis_commands.specs.Tuples.{tuples_from}
-use Rattle.redis_commands.specs.declared.route_by.MultiSlotArgPattern.{MultiSlotArgPattern}
-use Rattle.redis_nodes.specs.MultiKey.{KeyTuple, MultiKey, ReplyForm, form_by_policy}
-use Rattle.redis_nodes.specs.PlacedTuples.{unplaced}
-use Rattle.redis_nodes.specs.Unsplit.{Act}
+use Rattle.redis_routing.specs.Tuples.{tuples_from}
+use Rattle.redis_routing.specs.declared.route_by.MultiSlotArgPattern.{MultiSlotArgPattern}
+use Rattle.redis_cluster.specs.MultiKey.{KeyTuple, MultiKey, ReplyForm, form_by_policy}
+use Rattle.redis_cluster.specs.PlacedTuples.{unplaced}
+use Rattle.redis_cluster.specs.Unsplit.{Act}
 use Rattle.memory_nodes.specs.Cells.{Cell}
 use Rattle.memory_nodes.specs.Steps.{step}
 use Rattle.memory_nodes.specs.declared.whole_command.WholeCommand.{WholeCommand}
@@ -24,6 +24,7 @@ abbrev pub with_form : WholeCommand → ReplyForm → MultiKey
 with_form whole form =
     record {
       name = whole.name.items;
+      registered = whole.registered;
       shared = slice_get (words whole.shared.now) 0;
       tuples = key_tuples whole.pattern (words whole.tuples.now);
       form = form;
@@ -35,4 +36,6 @@ command_by whole = option_map (with_form whole) (form_by_policy whole.policy)
 
 -- what each of its tuples does
 abbrev pub act_on : WholeCommand → Act Cell
-act_on whole = λ t. step whole.name.items (slice_get (words whole.shared.now) 0) t.key t.extras
+act_on whole =
+    λ t. step whole.registered whole.name.items (slice_get (words whole.shared.now) 0) t.key
+    t.extras

@@ -1,9 +1,15 @@
 -- What each multi-key command does to the cell of a key and adds to the reply.
 use Rattle.std.specs.Prelude.{ℕ, List, [], ◌∷◌, Bool, false, Option, None, Some, is_some, codes, slice_index_or}
 use Rattle.std.specs.Option.{unwrap_or}
-use Rattle.redis_commands.specs.Lookup.{lookup}
+use Rattle.redis_routing.specs.Lookup.{lookup}
+use Rattle.redis_routing.specs.Registry.{Registered}
+use Rattle.redis_routing.specs.declared.policy.AggregateOp.TheVariants.{Sum}
+use Rattle.redis_routing.specs.declared.policy.ResponsePolicy.{ResponsePolicy}
+use Rattle.redis_routing.specs.declared.policy.ResponsePolicy.TheVariants.{AllSucceeded, Aggregate, CombineArrays}
+use Rattle.redis_routing.specs.declared.route_by.MultiSlotArgPattern.{MultiSlotArgPattern}
+use Rattle.redis_routing.specs.declared.route_by.MultiSlotArgPattern.TheVariants.{KeyValuePairs, KeysAndLastArg, KeyWithTwoArgTriples}
 use Rattle.resp_core.specs.Reply.{Reply, nil, bulk}
-use Rattle.redis_nodes.specs.Unsplit.{Outcome, Step, put}
+use Rattle.redis_cluster.specs.Unsplit.{Outcome, Step, put}
 use Rattle.memory_nodes.specs.Cells.{Cell, value_at}
 use Rattle.memory_nodes.specs.declared.action.Action.{Action}
 use Rattle.memory_nodes.specs.declared.action.Action.TheVariants.{Read, ReadAtShared, Count, Remove, Leave, Write, WriteAtPath}
@@ -24,6 +30,22 @@ actions =
 -- any other name does nothing
 abbrev pub action_of : List ℕ → Action
 action_of name = unwrap_or (lookup actions name) Leave
+
+-- A registered name does by its policy what a name of the tables does that has the same: a list
+-- reads, at the path that all keys share where they share one, a count counts the keys that are
+-- there, and `OK` writes, where the pattern has a value, or a path and a value, for each key.
+abbrev pub registered_action : MultiSlotArgPattern → ResponsePolicy → Action
+registered_action KeysAndLastArg CombineArrays = ReadAtShared
+registered_action pattern CombineArrays = Read
+registered_action pattern (Aggregate Sum) = Count
+registered_action KeyValuePairs AllSucceeded = Write
+registered_action KeyWithTwoArgTriples AllSucceeded = WriteAtPath
+registered_action pattern policy = Leave
+
+-- by what the name is registered with, or where it is not, by the name
+abbrev pub action_by : Option Registered → List ℕ → Action
+action_by None name = action_of name
+action_by (Some registered) name = registered_action registered.0 registered.1
 
 -- the value at a path as a reply
 abbrev pub shown : Option (List ℕ) → Reply
@@ -60,6 +82,6 @@ act Write shared extras cell = counted (Some (alone (extra extras 0))) false
 act WriteAtPath shared extras cell =
     counted (Some (written (extra extras 0) (extra extras 1) cell)) false
 
--- what a key of a command does, by the command's name
+-- what a key of a command does, by what the command's name is registered with, or by the name
 abbrev pub step : Step Cell
-step name shared key extras cell = act (action_of name) shared extras cell
+step registered name shared key extras cell = act (action_by registered name) shared extras cell

@@ -1,7 +1,7 @@
 -- What undoing a write restores. It takes no memory, so it only writes over what is there, or
 -- removes it.
 use Rattle.std.specs.Prelude.{ℕ, List, [], ◌∷◌, Option, None, Some, option_map}
-use Rattle.redis_nodes.specs.Unsplit.{Keyspace, put}
+use Rattle.redis_cluster.specs.Unsplit.{Keyspace, put}
 use Rattle.memory_nodes.specs.Cells.{Cell, cell_of}
 use Rattle.memory_nodes.specs.declared.change.Before.{Before}
 use Rattle.memory_nodes.specs.declared.change.Before.TheVariants.{AtKey, AtPath}

@@ -1,5 +1,7 @@
 ghost use Rattle.std.specs.Prelude.{◌≡◌};
-ghost use Rattle.memory_nodes.specs.Steps.{action_of};
+ghost use Rattle.memory_nodes.specs.Steps.{action_of, action_by, registered_action};
+
+use redis_routing::{AggregateOp, MultiSlotArgPattern, ResponsePolicy};
 
 /// What a command does with each of its keys.
 #[derive(Clone, Copy)]
@@ -34,6 +36,37 @@ impl Action {
             b"UNLINK" => Action::Remove,
             b"MSET" => Action::Write,
             b"JSON.MSET" => Action::WriteAtPath,
+            _ => Action::Leave,
+        }
+    }
+
+    /// What a command does by what its name is registered with, or where it is not, by the name.
+    pub(super) fn by(
+        registered: Option<(MultiSlotArgPattern, ResponsePolicy)>,
+        name: &[u8],
+    ) -> Action
+        ensures { result ≡ action_by registered name.now }
+    {
+        match registered {
+            Some((pattern, policy)) => Action::of_registered(pattern, policy),
+            None => Action::of_name(name),
+        }
+    }
+
+    /// What a command does whose name is registered with these.
+    fn of_registered(pattern: MultiSlotArgPattern, policy: ResponsePolicy) -> Action
+        ensures { result ≡ registered_action pattern policy }
+    {
+        match (pattern, policy) {
+            (MultiSlotArgPattern::KeysAndLastArg, ResponsePolicy::CombineArrays) => {
+                Action::ReadAtShared
+            }
+            (_, ResponsePolicy::CombineArrays) => Action::Read,
+            (_, ResponsePolicy::Aggregate(AggregateOp::Sum)) => Action::Count,
+            (MultiSlotArgPattern::KeyValuePairs, ResponsePolicy::AllSucceeded) => Action::Write,
+            (MultiSlotArgPattern::KeyWithTwoArgTriples, ResponsePolicy::AllSucceeded) => {
+                Action::WriteAtPath
+            }
             _ => Action::Leave,
         }
     }

@@ -1,5 +1,5 @@
 ghost use Rattle.std.specs.Prelude.{◌≡◌, None, Some, IfOk, OnOk, OnErr, is_some, option_copied, option_map};
-ghost use Rattle.redis_nodes.specs.Unsplit.{put};
+ghost use Rattle.redis_cluster.specs.Unsplit.{put};
 ghost use Rattle.memory_nodes.specs.Cells.{cell_of, keyspace_of, value_at};
 ghost use Rattle.memory_nodes.specs.Steps.{alone, written};
 ghost use Rattle.memory_nodes.specs.Undo.{undone};
@@ -30,7 +30,7 @@ pub(super) fn is_there(cells: &Cells, key: &[u8]) -> bool
     cells.contains_key(key)
 }
 
-/// Removes a key, and answers whether it was there. Takes no memory.
+/// Removes a key, and tells whether it was there. Takes no memory.
 pub(super) fn remove(cells: &mut Cells, key: &[u8]) -> bool
     ensures cells { keyspace_of cells.new ≡ put key.now None (keyspace_of cells.old) }
     ensures there { result ≡ is_some (keyspace_of cells.old key.now) }

@@ -5,6 +5,7 @@ mod action;
 mod cells;
 mod change;
 mod nodes;
+mod planned;
 mod results;
 mod trace_entry;
 mod tree;
@@ -12,4 +13,5 @@ mod tuples;
 mod whole_command;
 
 pub use nodes::MemoryNodes;
+pub use planned::Planned;
 pub use trace_entry::TraceEntry;

@@ -1,60 +1,113 @@
-ghost use Rattle.std.specs.Prelude.{◌≡◌, ◌≤◌, ◌+◌, ◌++◌, ◌∷◌, ◌↔◌, ℕ, [], None, Some, false, IfOk, OnOk, IfErr, OnErr, IfSome, IsSome, IsTrue, option_copied, length, map};
+ghost use Rattle.std.specs.Prelude.{◌≡◌, ◌⊎◌, ◌<◌, ◌≤◌, ◌+◌, ◌++◌, ◌∷◌, ◌↔◌, ℕ, [], None, Some, false, IfOk, OnOk, IfErr, OnErr, IfSome, IsSome, IsTrue, option_copied, length, map};
 ghost use Rattle.resp_core.specs.View.{view};
-ghost use Rattle.redis_nodes.specs.MultiKey.{multi_key};
-ghost use Rattle.redis_nodes.specs.Sent.{IsLeft, IsUnanswered, ending_of};
-ghost use Rattle.redis_nodes.specs.Trace.{Ending, answered, refused, entry};
-ghost use Rattle.redis_nodes.specs.Unsplit.{keyspace_after, reply_to};
+ghost use Rattle.redis_cluster.specs.MultiKey.{multi_key};
+ghost use Rattle.redis_cluster.specs.Sent.{IsLeft, IsUnanswered, ending_of};
+ghost use Rattle.redis_cluster.specs.Trace.{Ending, answered, refused, redirected, entry};
+ghost use Rattle.redis_cluster.specs.Unsplit.{keyspace_after, reply_to};
 ghost use Rattle.memory_nodes.specs.Cells.{Cell, value_at};
-ghost use Rattle.memory_nodes.specs.Nodes.{keyspace_in, trace_in, mark_in, MayRefuse, IsFused, entry_of, node_refused};
+ghost use Rattle.memory_nodes.specs.Nodes.{registered_in, keyspace_in, trace_in, mark_in, fuse_in, planned_in, planned_for, EndsSo, MayRefuse, IsFused, entry_of, node_refused};
 ghost use Rattle.memory_nodes.specs.Steps.{step};
 
 use crate::cells::{Cells, value_at};
+use crate::planned::{Planned, next_planned};
 use crate::trace_entry::TraceEntry;
 use crate::tuples::run;
 use cluster_slots::NodeAddress;
-use redis_nodes::{Nodes, SendError};
+use redis_cluster::driver::{Nodes, SendError};
+use redis_routing::{Redirect, Registry};
 use resp_core::{Cmd, ErrorKind, RedisError, Value};
 use std::alloc::{AllocError, Global};
 
-/// Nodes that share one keyspace in memory, keep a trace of what they are sent, and refuse from the
-/// send on that their fuse names. A send looks each of its keys up in a tree, and touches no other
-/// key.
+/// Nodes that share one keyspace in memory, keep a trace of what they are sent, refuse from the
+/// send on that their fuse names, and else refuse or redirect as was planned. A send looks each of
+/// its keys up in a tree, and touches no other key.
 #[derive(Drop)]
 pub struct MemoryNodes {
     alloc: Global,
+    registry: Registry,
     cells: Cells,
     trace: Vec<TraceEntry>,
     fuse: Option<usize>,
+    plan: Vec<Planned>,
+    /// How many entries the trace had when the plan was made.
+    base: usize,
     mark: bool,
 }
 
 impl MemoryNodes {
-    /// Nodes that hold no key, have been sent nothing, and refuse nothing. Takes no memory.
+    /// Nodes that hold no key, have been sent nothing, refuse and redirect nothing, and know the
+    /// names of the tables alone. Takes no memory.
     pub fn new(alloc: Global) -> MemoryNodes
+        ensures registered { registered_in result ≡ [] }
         ensures keyspace { keyspace_in result ≡ (λ key. None) }
         ensures trace { trace_in result ≡ [] }
         ensures mark { mark_in result ≡ false }
+        ensures fuse { fuse_in result ≡ None }
+        ensures planned { (count : ℕ) → planned_in result count ≡ Planned.Answer }
+        ensures may_refuse { (count : ℕ) (ending : Ending) → ¬ (MayRefuse result count ending) }
+    {
+        MemoryNodes::with_registry(alloc, Registry::new(alloc))
+    }
+
+    /// `new`, for nodes that know registered names too. A command of such a name reads where its
+    /// policy is `CombineArrays`, at the path that all keys share where they share one. By
+    /// `Aggregate(Sum)` it counts the keys that are there. By `AllSucceeded` it writes as `MSET` or
+    /// `JSON.MSET` does, where each key has a value, or a path and a value. Takes no memory.
+    pub fn with_registry(alloc: Global, registry: Registry) -> MemoryNodes
+        ensures registered { registered_in result ≡ registry }
+        ensures keyspace { keyspace_in result ≡ (λ key. None) }
+        ensures trace { trace_in result ≡ [] }
+        ensures mark { mark_in result ≡ false }
+        ensures fuse { fuse_in result ≡ None }
+        ensures planned { (count : ℕ) → planned_in result count ≡ Planned.Answer }
         ensures may_refuse { (count : ℕ) (ending : Ending) → ¬ (MayRefuse result count ending) }
     {
         MemoryNodes {
             alloc,
+            registry,
             cells: Cells::new(alloc),
             trace: Vec::new(alloc),
             fuse: None,
+            plan: Vec::new(alloc),
+            base: 0,
             mark: false,
         }
     }
 
     /// From now on refuses each send that finds `limit - 1` or more entries in the trace: a limit
-    /// of 3 lets two sends through, and 1, as 0, lets none.
+    /// of 3 lets two sends through, and 1, as 0, lets none. The fuse goes before the plan.
     pub fn fuse(&mut self, limit: usize)
+        ensures registered { registered_in self.new ≡ registered_in self.old }
         ensures keyspace { keyspace_in self.new ≡ keyspace_in self.old }
         ensures trace { trace_in self.new ≡ trace_in self.old }
         ensures mark { mark_in self.new ≡ mark_in self.old }
+        ensures fuse { fuse_in self.new ≡ Some limit }
+        ensures planned { (count : ℕ) → planned_in self.new count ≡ planned_in self.old count }
         ensures may_refuse { (count : ℕ) (ending : Ending) → MayRefuse self.new count ending
-            ↔ ((limit ≤ count + 1) × (ending ≡ refused node_refused)) }
+            ↔ (((limit ≤ count + 1) × (ending ≡ refused node_refused))
+            ⊎ ((count + 1 < limit) × EndsSo (planned_in self.old count) ending)) }
     {
         self.fuse = Some(limit);
+    }
+
+    /// From now on each send does what its entry of this plan says, the next send the first one's,
+    /// and answers behind the last: `[Refuse, Answer]` refuses one send. An earlier plan is gone. The
+    /// fuse goes before the plan.
+    pub fn plan(&mut self, plan: Vec<Planned>)
+        ensures registered { registered_in self.new ≡ registered_in self.old }
+        ensures keyspace { keyspace_in self.new ≡ keyspace_in self.old }
+        ensures trace { trace_in self.new ≡ trace_in self.old }
+        ensures mark { mark_in self.new ≡ mark_in self.old }
+        ensures fuse { fuse_in self.new ≡ fuse_in self.old }
+        ensures planned { (count : ℕ)
+            → planned_in self.new count ≡ planned_for plan.items (length (trace_in self.old)) count }
+        ensures may_refuse { (count : ℕ) (ending : Ending) → MayRefuse self.new count ending
+            ↔ ((IsFused (fuse_in self.old) count × (ending ≡ refused node_refused))
+            ⊎ ((IsFused (fuse_in self.old) count → ⊥)
+            × EndsSo (planned_for plan.items (length (trace_in self.old)) count) ending)) }
+    {
+        self.base = self.trace.len();
+        self.plan = plan;
     }
 
     /// The value at a path of a key. Values that no path was given for stand at the empty one.
@@ -73,7 +126,7 @@ impl MemoryNodes {
 
     /// Whether the fuse refuses the next send.
     fn is_fused(&self) -> bool
-        ensures { IsTrue result ↔ IsFused self.now.fuse (length (trace_in self.now)) }
+        ensures { IsTrue result ↔ IsFused (fuse_in self.now) (length (trace_in self.now)) }
     {
         match self.fuse {
             Some(limit) => limit <= self.trace.len() + 1,
@@ -84,11 +137,12 @@ impl MemoryNodes {
     /// Answers a command, at the cost of the command alone. Where memory runs out, what it changed
     /// is undone.
     fn answer(&mut self, node: &NodeAddress, cmd: &Cmd) -> Result<Value, AllocError>
-        requires whole { IsSome (multi_key (map Some cmd.now)) }
+        requires whole { IsSome (multi_key (registered_in self.old) (map Some cmd.now)) }
         ensures reply { IfOk result
-            (λ value. IfSome (multi_key (map Some cmd.now))
+            (λ value. IfSome (multi_key (registered_in self.old) (map Some cmd.now))
             (λ command. view value ≡ reply_to step command (keyspace_in self.old))) }
-        ensures keyspace { OnOk result (IfSome (multi_key (map Some cmd.now))
+        ensures keyspace { OnOk result
+            (IfSome (multi_key (registered_in self.old) (map Some cmd.now))
             (λ command. keyspace_in self.new ≡ keyspace_after step command
             (keyspace_in self.old))) }
         ensures trace { OnOk result
@@ -96,10 +150,19 @@ impl MemoryNodes {
         ensures memory { OnErr result ((keyspace_in self.new ≡ keyspace_in self.old)
             × (trace_in self.new ≡ trace_in self.old)) }
         ensures fuse { self.new.fuse ≡ self.old.fuse }
+        ensures plan { self.new.plan ≡ self.old.plan }
+        ensures base { self.new.base ≡ self.old.base }
+        ensures registered { registered_in self.new ≡ registered_in self.old }
     {
-        let entry = TraceEntry::new(self.alloc, node, cmd, true)?;
+        let entry = TraceEntry::with_answer(self.alloc, node, cmd)?;
         self.trace.reserve(1)?;
-        let reply = run(self.alloc, &mut self.cells, cmd, &entry.args)?;
+        let reply = run(
+            self.alloc,
+            &self.registry,
+            &mut self.cells,
+            cmd,
+            &entry.args,
+        )?;
         self.trace.push_reserved(entry);
         Ok(reply)
     }
@@ -113,10 +176,48 @@ impl MemoryNodes {
         ensures memory { OnErr result (trace_in self.new ≡ trace_in self.old) }
         ensures keyspace { keyspace_in self.new ≡ keyspace_in self.old }
         ensures fuse { self.new.fuse ≡ self.old.fuse }
+        ensures plan { self.new.plan ≡ self.old.plan }
+        ensures base { self.new.base ≡ self.old.base }
+        ensures registered { registered_in self.new ≡ registered_in self.old }
     {
-        let entry = TraceEntry::new(self.alloc, node, cmd, false)?;
+        let entry = TraceEntry::without_answer(self.alloc, node, cmd, None)?;
         self.trace.push(entry)?;
         Ok(RedisError::from((ErrorKind::Client, "node refused")))
+    }
+
+    /// Notes that a command was sent on, and gives the redirect back.
+    fn redirect(
+        &mut self,
+        node: &NodeAddress,
+        cmd: &Cmd,
+        redirect: Redirect,
+    ) -> Result<Redirect, AllocError>
+        ensures redirect { IfOk result (λ told. told ≡ redirect) }
+        ensures trace { OnOk result
+            (trace_in self.new ≡ trace_in self.old ++ entry node.now cmd.now
+            (redirected redirect) ∷ []) }
+        ensures memory { OnErr result (trace_in self.new ≡ trace_in self.old) }
+        ensures keyspace { keyspace_in self.new ≡ keyspace_in self.old }
+        ensures fuse { self.new.fuse ≡ self.old.fuse }
+        ensures plan { self.new.plan ≡ self.old.plan }
+        ensures base { self.new.base ≡ self.old.base }
+        ensures registered { registered_in self.new ≡ registered_in self.old }
+    {
+        let noted = redirect.clone()?;
+        let entry = TraceEntry::without_answer(self.alloc, node, cmd, Some(noted))?;
+        self.trace.push(entry)?;
+        Ok(redirect)
+    }
+
+    /// What the next send does. The fuse goes before the plan.
+    fn next(&self) -> Result<Planned, AllocError>
+        ensures { IfOk result (λ next. (ending : Ending)
+            → MayRefuse self.now (length (trace_in self.now)) ending ↔ EndsSo next ending) }
+    {
+        if self.is_fused() {
+            return Ok(Planned::Refuse);
+        }
+        next_planned(&self.plan, self.base, self.trace.len())
     }
 }
 
@@ -124,6 +225,8 @@ impl Nodes for MemoryNodes {
     ghost Cell = { Cell };
 
     ghost step = { step };
+
+    ghost registered = { registered_in };
 
     ghost keyspace = { keyspace_in };
 
@@ -133,13 +236,18 @@ impl Nodes for MemoryNodes {
 
     ghost may_refuse = { MayRefuse };
 
-    /// Refuses where the fuse says so, and answers elsewhere.
+    fn registry(&self) -> &Registry {
+        &self.registry
+    }
+
+    /// Refuses where the fuse says so, and else does what was planned, or answers.
     fn send(&mut self, node: &NodeAddress, cmd: &Cmd) -> Result<Value, SendError>
-        requires whole { IsSome (multi_key (map Some cmd.now)) }
+        requires whole { IsSome (multi_key (registered_in self.old) (map Some cmd.now)) }
         ensures reply { IfOk result
-            (λ value. IfSome (multi_key (map Some cmd.now))
+            (λ value. IfSome (multi_key (registered_in self.old) (map Some cmd.now))
             (λ command. view value ≡ reply_to step command (keyspace_in self.old))) }
-        ensures keyspace { OnOk result (IfSome (multi_key (map Some cmd.now))
+        ensures keyspace { OnOk result
+            (IfSome (multi_key (registered_in self.old) (map Some cmd.now))
             (λ command. keyspace_in self.new ≡ keyspace_after step command
             (keyspace_in self.old))) }
         ensures trace { OnOk result
@@ -149,27 +257,48 @@ impl Nodes for MemoryNodes {
             (λ error. IsUnanswered (MayRefuse self.old) (trace_in self.old) (trace_in self.new)
             (mark_in self.new) node.now cmd.now (ending_of error)) }
         ensures stays { OnErr result (keyspace_in self.new ≡ keyspace_in self.old) }
-        ensures left { IfErr result (λ error. IfSome (multi_key (map Some cmd.now))
+        ensures left { IfErr result
+            (λ error. IfSome (multi_key (registered_in self.old) (map Some cmd.now))
             (λ command. IsLeft step command (keyspace_in self.old) (keyspace_in self.new)
             (ending_of error))) }
+        // The fuse and the plan are as they were, also where the fuse hides the plan.
+        ensures fuse { fuse_in self.new ≡ fuse_in self.old }
+        ensures planned { (count : ℕ) → planned_in self.new count ≡ planned_in self.old count }
         ensures may_refuse { (count : ℕ) (ending : Ending) → MayRefuse self.new count ending
             ↔ MayRefuse self.old count ending }
-        ensures not_refused { OnOk result
-            (¬ (MayRefuse self.old (length (trace_in self.old)) (refused node_refused))) }
+        ensures registered { registered_in self.new ≡ registered_in self.old }
+        ensures willing { OnOk result ((ending : Ending)
+            → ¬ (MayRefuse self.old (length (trace_in self.old)) ending)) }
     {
-        if self.is_fused() {
-            let Ok(error) = self.refuse(node, cmd) else {
-                self.mark = true;
-                return Err(SendError::Memory);
-            };
-            self.mark = false;
-            return Err(SendError::Refused(error));
-        }
-        let Ok(reply) = self.answer(node, cmd) else {
+        let Ok(next) = self.next() else {
             self.mark = true;
             return Err(SendError::Memory);
         };
-        self.mark = false;
-        Ok(reply)
+        match next {
+            Planned::Answer => {
+                let Ok(reply) = self.answer(node, cmd) else {
+                    self.mark = true;
+                    return Err(SendError::Memory);
+                };
+                self.mark = false;
+                Ok(reply)
+            }
+            Planned::Refuse => {
+                let Ok(error) = self.refuse(node, cmd) else {
+                    self.mark = true;
+                    return Err(SendError::Memory);
+                };
+                self.mark = false;
+                Err(SendError::Refused(error))
+            }
+            Planned::Redirect(redirect) => {
+                let Ok(told) = self.redirect(node, cmd, redirect) else {
+                    self.mark = true;
+                    return Err(SendError::Memory);
+                };
+                self.mark = false;
+                Err(SendError::Redirected(told))
+            }
+        }
     }
 }

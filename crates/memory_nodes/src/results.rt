@@ -2,11 +2,11 @@ ghost use Rattle.std.specs.Prelude.{◌≡◌, ◌<◌, ◌≤◌, ◌^◌, ◌+
 ghost use Rattle.std.specs.Vec.{vec_len, vec_capacity};
 ghost use Rattle.resp_core.specs.Reply.{nil};
 ghost use Rattle.resp_core.specs.View.{view};
-ghost use Rattle.redis_nodes.specs.MultiKey.{form_by_policy};
-ghost use Rattle.redis_nodes.specs.Unsplit.{TupleResult, reply_by};
-ghost use Rattle.memory_nodes.specs.Results.{result_of, AreKept};
+ghost use Rattle.redis_cluster.specs.MultiKey.{form_by_policy};
+ghost use Rattle.redis_cluster.specs.Unsplit.{TupleResult, reply_by};
+ghost use Rattle.memory_nodes.specs.Results.{result_of, HoldResults};
 
-use redis_commands::{AggregateOp, ResponsePolicy};
+use redis_routing::{AggregateOp, ResponsePolicy};
 use resp_core::Value;
 use std::alloc::{AllocError, Global};
 
@@ -53,7 +53,7 @@ pub(super) struct Results {
 impl Results {
     /// What no tuple adds, with room for what so many tuples add.
     pub(super) fn with_room(alloc: Global, tuples: usize) -> Result<Results, AllocError>
-        ensures empty { IfOk result (λ results. AreKept results []) }
+        ensures empty { IfOk result (λ results. HoldResults results []) }
         ensures room { IfOk result
             (λ results. vec_len results.values + tuples ≤ vec_capacity results.values) }
     {
@@ -80,7 +80,7 @@ impl Results {
     /// The reply that a policy makes of them.
     pub(super) fn into_reply(self, policy: ResponsePolicy) -> Value
         requires { self.count < 2 ^ 63 }
-        ensures { (results : List TupleResult) → AreKept self results
+        ensures { (results : List TupleResult) → HoldResults self results
             → IfSome (form_by_policy policy) (λ form. view result ≡ reply_by form results) }
     {
         match policy {

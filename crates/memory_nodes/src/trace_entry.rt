@@ -1,38 +1,63 @@
-ghost use Rattle.std.specs.Prelude.{◌≡◌, IfOk};
+ghost use Rattle.std.specs.Prelude.{◌≡◌, IfOk, IsTrue, None, true, false};
 ghost use Rattle.memory_nodes.specs.Parts.{words};
 
 use cluster_slots::NodeAddress;
+use redis_routing::Redirect;
 use resp_core::Cmd;
 use std::alloc::{AllocError, Global};
 
-/// What one send did: where the command went, its arguments, and whether the node answered it or
-/// refused it.
+/// What one send did: where the command went, its arguments, and whether the node answered it,
+/// refused it or redirected it.
 #[derive(Drop)]
 pub struct TraceEntry {
     /// The node that was named.
     pub node: NodeAddress,
     /// The arguments of the command, the name first.
     pub args: Vec<Vec<u8>>,
-    /// Whether the node answered. Where it did not, it refused.
+    /// Whether the node answered. Where it did not, it refused or redirected.
     pub answered: bool,
+    /// Where the node sent the client on. A node that answers sends it nowhere.
+    pub redirect: Option<Redirect>,
+    ghost one_ending: { IsTrue answered → redirect ≡ None },
 }
 
 impl TraceEntry {
-    /// The entry of a send of a command to a node.
-    pub(super) fn new(
+    /// The entry of a send of a command to a node that answered it.
+    pub(super) fn with_answer(
         alloc: Global,
         node: &NodeAddress,
         cmd: &Cmd,
-        answered: bool,
     ) -> Result<TraceEntry, AllocError>
         ensures node { IfOk result (λ entry. entry.node ≡ node.now) }
         ensures args { IfOk result (λ entry. words entry.args.items ≡ cmd.now) }
-        ensures answered { IfOk result (λ entry. entry.answered ≡ answered) }
+        ensures answered { IfOk result (λ entry. entry.answered ≡ true) }
     {
         Ok(TraceEntry {
             node: node.clone()?,
             args: copy_args(alloc, cmd)?,
-            answered,
+            answered: true,
+            redirect: None,
+        })
+    }
+
+    /// The entry of a send of a command to a node that sent the client on, or where there is no
+    /// redirect, refused the command.
+    pub(super) fn without_answer(
+        alloc: Global,
+        node: &NodeAddress,
+        cmd: &Cmd,
+        redirect: Option<Redirect>,
+    ) -> Result<TraceEntry, AllocError>
+        ensures node { IfOk result (λ entry. entry.node ≡ node.now) }
+        ensures args { IfOk result (λ entry. words entry.args.items ≡ cmd.now) }
+        ensures answered { IfOk result (λ entry. entry.answered ≡ false) }
+        ensures redirect { IfOk result (λ entry. entry.redirect ≡ redirect) }
+    {
+        Ok(TraceEntry {
+            node: node.clone()?,
+            args: copy_args(alloc, cmd)?,
+            answered: false,
+            redirect,
         })
     }
 }

@@ -1,5 +1,5 @@
 ghost use Rattle.std.specs.Prelude.{◌≡◌, Some, IfOk, OnOk, OnErr};
-ghost use Rattle.redis_nodes.specs.Unsplit.{put};
+ghost use Rattle.redis_cluster.specs.Unsplit.{put};
 ghost use Rattle.memory_nodes.specs.Cells.{found};
 ghost use Rattle.memory_nodes.specs.Undo.{back};
 

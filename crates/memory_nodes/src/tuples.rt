@@ -1,10 +1,10 @@
 ghost use Rattle.std.specs.Prelude.{◌≡◌, ◌<◌, ◌^◌, [], false, None, IfOk, OnOk, OnErr, IfSome, IsSome, Some, length, map, slice_get, slice_index_or};
 ghost use Rattle.resp_core.specs.View.{view};
-ghost use Rattle.redis_nodes.specs.MultiKey.{multi_key};
-ghost use Rattle.redis_nodes.specs.Unsplit.{put, after, results, keyspace_after, reply_to};
+ghost use Rattle.redis_cluster.specs.MultiKey.{multi_key};
+ghost use Rattle.redis_cluster.specs.Unsplit.{put, after, results, keyspace_after, reply_to};
 ghost use Rattle.memory_nodes.specs.Cells.{keyspace_of, value_at};
 ghost use Rattle.memory_nodes.specs.Parts.{words, key_tuples, act_on};
-ghost use Rattle.memory_nodes.specs.Results.{result_of, AreKept};
+ghost use Rattle.memory_nodes.specs.Results.{result_of, HoldResults};
 ghost use Rattle.memory_nodes.specs.Steps.{act, shown, step};
 ghost use Rattle.memory_nodes.specs.Undo.{before_all};
 
@@ -13,6 +13,7 @@ use crate::cells::{Cells, is_there, remove, value_at, write, write_at_path};
 use crate::change::{Change, undo_all};
 use crate::results::{KeyResult, Results};
 use crate::whole_command::WholeCommand;
+use redis_routing::Registry;
 use resp_core::{Cmd, Value};
 use std::alloc::{AllocError, Global};
 
@@ -20,20 +21,21 @@ use std::alloc::{AllocError, Global};
 /// the keyspace is as it was.
 pub(super) fn run(
     alloc: Global,
+    registry: &Registry,
     cells: &mut Cells,
     cmd: &Cmd,
     args: &[Vec<u8>],
 ) -> Result<Value, AllocError>
     requires args { words args.now ≡ cmd.now }
-    requires whole { IsSome (multi_key (map Some cmd.now)) }
+    requires whole { IsSome (multi_key registry.now (map Some cmd.now)) }
     ensures reply { IfOk result
-        (λ value. IfSome (multi_key (map Some cmd.now))
+        (λ value. IfSome (multi_key registry.now (map Some cmd.now))
         (λ command. view value ≡ reply_to step command (keyspace_of cells.old))) }
-    ensures cells { OnOk result (IfSome (multi_key (map Some cmd.now))
+    ensures cells { OnOk result (IfSome (multi_key registry.now (map Some cmd.now))
         (λ command. keyspace_of cells.new ≡ keyspace_after step command (keyspace_of cells.old))) }
     ensures memory { OnErr result (keyspace_of cells.new ≡ keyspace_of cells.old) }
 {
-    let whole = WholeCommand::new(alloc, cmd, args)?;
+    let whole = WholeCommand::new(alloc, registry, cmd, args)?;
     let mut changes = Vec::new(alloc);
     match run_tuples(alloc, cells, &whole, &mut changes) {
         Ok(results) => Ok(results.into_reply(whole.policy)),
@@ -56,7 +58,7 @@ fn run_tuples<'a>(
         (keyspace_of cells.new ≡ after (act_on whole.now)
         (key_tuples whole.now.pattern (words whole.now.tuples.now)) (keyspace_of cells.old)) }
     ensures results { IfOk result
-        (λ kept. AreKept kept
+        (λ kept. HoldResults kept
         (results (act_on whole.now) (key_tuples whole.now.pattern (words whole.now.tuples.now))
         (keyspace_of cells.old))) }
     ensures few { IfOk result (λ kept. kept.count < 2 ^ 63) }
@@ -65,7 +67,7 @@ fn run_tuples<'a>(
         (before_all changes.new.items (keyspace_of cells.new)
         ≡ before_all changes.old.items (keyspace_of cells.old)) }
 {
-    let action = Action::of_name(&whole.name);
+    let action = Action::by(whole.registered, &whole.name);
     let width = whole.pattern.width();
     let mut results = Results::with_room(alloc, whole.tuples.len())?;
     let mut rest = whole.tuples;

@@ -1,11 +1,10 @@
 ghost use Rattle.std.specs.Prelude.{◌≡◌, ◌<◌, Some, IfOk, IsSome, map};
-ghost use Rattle.redis_nodes.specs.MultiKey.{multi_key};
-ghost use Rattle.redis_commands.specs.Policies.{policy_of};
-ghost use Rattle.redis_commands.specs.RouteBy.{base_routing};
+ghost use Rattle.redis_cluster.specs.MultiKey.{multi_key};
+ghost use Rattle.redis_routing.specs.Registry.{registered_as, tables_with};
 ghost use Rattle.redis_routing.specs.Complete.{pattern_of};
 ghost use Rattle.memory_nodes.specs.Parts.{command_by, words};
 
-use redis_commands::{MultiSlotArgPattern, ResponsePolicy, Routable, RouteBy, base_routing};
+use redis_routing::{MultiSlotArgPattern, Registry, ResponsePolicy, Routable, RouteBy, name_words};
 use resp_core::Cmd;
 use std::alloc::{AllocError, Global};
 
@@ -14,6 +13,8 @@ use std::alloc::{AllocError, Global};
 pub(super) struct WholeCommand<'a> {
     /// The name in upper case.
     pub(super) name: Vec<u8>,
+    /// What the name is registered with, unless the tables have it.
+    pub(super) registered: Option<(MultiSlotArgPattern, ResponsePolicy)>,
     /// How its arguments make tuples of a key and what goes with it.
     pub(super) pattern: MultiSlotArgPattern,
     /// How what the tuples add makes the reply.
@@ -26,19 +27,27 @@ pub(super) struct WholeCommand<'a> {
 
 impl<'a> WholeCommand<'a> {
     /// Takes a command apart whose arguments are these.
-    pub(super) fn new(alloc: Global, cmd: &Cmd, args: &'a [Vec<u8>]) -> Result<Self, AllocError>
+    pub(super) fn new(
+        alloc: Global,
+        registry: &Registry,
+        cmd: &Cmd,
+        args: &'a [Vec<u8>],
+    ) -> Result<Self, AllocError>
         requires args { words args.now ≡ cmd.now }
-        requires whole { IsSome (multi_key (map Some cmd.now)) }
-        ensures command { IfOk result (λ whole. multi_key (map Some cmd.now) ≡ command_by whole) }
+        requires whole { IsSome (multi_key registry.now (map Some cmd.now)) }
+        ensures command { IfOk result
+            (λ whole. multi_key registry.now (map Some cmd.now) ≡ command_by whole) }
     {
         let Some(name) = cmd.command(alloc)? else {
             unreachable!()
         };
-        let (pattern, policy) = shape_of(&name);
-        let (_, run) = args.split_at(1);
+        let registered = registered_as(registry, &name);
+        let (pattern, policy) = shape_of(registry, &name);
+        let (_, run) = args.split_at(name_words(cmd));
         let (tuples, shared) = run.split_at(pattern.own_len(run.len()));
         Ok(WholeCommand {
             name,
+            registered,
             pattern,
             policy,
             tuples,
@@ -48,17 +57,23 @@ impl<'a> WholeCommand<'a> {
 }
 
 /// How commands of this name make tuples, and how what those add makes the reply.
-fn shape_of(name: &[u8]) -> (MultiSlotArgPattern, ResponsePolicy)
-    requires pattern { IsSome (pattern_of (base_routing name.now)) }
-    requires policy { IsSome (policy_of name.now) }
-    ensures pattern { Some result.0 ≡ pattern_of (base_routing name.now) }
-    ensures policy { Some result.1 ≡ policy_of name.now }
+fn shape_of(registry: &Registry, name: &[u8]) -> (MultiSlotArgPattern, ResponsePolicy)
+    requires pattern { IsSome (pattern_of ((tables_with registry.now).route_by name.now)) }
+    requires policy { IsSome ((tables_with registry.now).policy name.now) }
+    ensures pattern { Some result.0 ≡ pattern_of ((tables_with registry.now).route_by name.now) }
+    ensures policy { Some result.1 ≡ (tables_with registry.now).policy name.now }
 {
-    let Some(RouteBy::MultiSlot(pattern)) = base_routing(name) else {
+    let (routing, policy) = registry.routing_and_policy(name);
+    let Some(RouteBy::MultiSlot(pattern)) = routing else {
         unreachable!()
     };
-    let Some(policy) = ResponsePolicy::for_command(name) else {
-        unreachable!()
-    };
+    let Some(policy) = policy else { unreachable!() };
     (pattern, policy)
+}
+
+/// What a name is registered with. No name of the tables is.
+fn registered_as(registry: &Registry, name: &[u8]) -> Option<(MultiSlotArgPattern, ResponsePolicy)>
+    ensures { result ≡ registered_as registry.now name.now }
+{
+    registry.get(name)
 }

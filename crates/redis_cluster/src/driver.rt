@@ -1,3 +1,359 @@
-//! Multi-key commands, split by slot, sent in any order, and answered as by one server.
-pub use redis_driver::{DriveError, DriveFault, PlanFault, Retry, SplitPlan, drive};
-pub use redis_nodes::{Nodes, SendError};
+ghost use Rattle.std.specs.Prelude.{◌≡◌, ◌<◌, ◌↔◌, ◌++◌, ◌⊎◌, ℕ, List, Ok, Err, None, map, length, IsSome, IfOk, OnOk, IfErr};
+ghost use Rattle.std.specs.List.{All};
+ghost use Rattle.resp_core.specs.declared.error.ErrorKind.TheVariants.{OutOfMemory};
+ghost use Rattle.resp_core.specs.ErrorParts.{ErrorParts};
+ghost use Rattle.resp_core.specs.Reply.{Reply};
+ghost use Rattle.resp_core.specs.View.{view};
+ghost use Rattle.cluster_slots.specs.SlotRoute.{SlotRoute};
+ghost use Rattle.cluster_map.specs.RouteNode.{IsRouteNode};
+ghost use Rattle.redis_routing.specs.Names.{names_of};
+ghost use Rattle.redis_cluster.specs.Attempts.{AreAllowed};
+ghost use Rattle.redis_cluster.specs.Front.{IsSameCommand, front};
+ghost use Rattle.redis_cluster.specs.MultiKey.{MultiKey};
+ghost use Rattle.redis_cluster.specs.Orders.{NamesOnce, in_order};
+ghost use Rattle.redis_cluster.specs.Trace.{Ending};
+ghost use Rattle.redis_cluster.specs.Unsplit.{keyspace_after, reply_to};
+ghost use Rattle.redis_cluster.specs.Driven.{Request, request, state, AreAllAnswered, IsDelivered, IsDrivable, IsDriven, IsUnhindered};
+ghost use Rattle.redis_cluster.specs.Faults.{IsBefore, IsCauseBeforeSending, IsFault, IsCut, unseen};
+ghost use Rattle.redis_cluster.specs.Joined.{joined, IsJoined, IsSplitOf};
+ghost use Rattle.redis_cluster.specs.Plan.{HaveGiven};
+ghost use Rattle.redis_cluster.specs.Ready.{IsPlanFor, IsPlanNode, IsReady};
+ghost use Rattle.redis_cluster.specs.Ended.{AreEndedEarly};
+ghost use Rattle.redis_cluster.specs.Sends.{targets, IsPlanOf};
+ghost use Rattle.redis_cluster.specs.Tries.{tries_with, AllTried};
+
+pub use crate::fault::{DriveError, DriveFault, PlanFault};
+pub use crate::nodes::{Nodes, SendError};
+use crate::order::names_once;
+pub use crate::plan::{SplitPlan, join_replies};
+pub use crate::retry::Retry;
+pub use crate::retrying::drive_retrying;
+use crate::send::send_all;
+use cluster_map::{ReadRoutingStrategy, SlotMap};
+use redis_routing::{Names, ReadOnlyNames, Routable};
+use resp_core::{ErrorKind, RedisError, Value};
+use std::alloc::Global;
+
+/// Sends a multi-key command part by part, and gives the reply of one server that has all keys.
+///
+/// ```
+/// let none_only_reads = ReadOnlyNames::new(alloc);
+/// drive(
+///     alloc,
+///     command,
+///     &none_only_reads,
+///     slot_map,
+///     None,
+///     0,
+///     order,
+///     nodes,
+/// )
+/// ```
+///
+/// The command is split by slot. There is one route for each slot of a key, numbered by the first
+/// key of each, and one part for each route, which has the tuples of the slot in their order. The
+/// parts go out in `order`, a list that names each route number once. Each goes to the primary of
+/// its slot or, where the name only reads and a strategy is lent, to the node that the strategy
+/// picks. `pick` decides nothing here, since no route of a split requires a replica.
+/// `DEL foo bar baz {bar}vaz` goes out as `DEL foo`, `DEL bar {bar}vaz` and `DEL baz`, and the
+/// counts are added up.
+///
+/// Where it gives a reply, each part went once, and the reply is made of those that the nodes gave.
+/// Where the nodes keep to one meaning over one keyspace, keyspace and reply are those of the
+/// unsplit command, whatever that does to a single key, whatever the order. Arguments from the
+/// first gap on are not sent.
+///
+/// # Errors
+///
+/// In this order: `NotMultiKey` where the command is not complete, `NotCovered` where a slot of a
+/// key has no node, `BadOrder` where the order does not name each route once. Nothing was sent
+/// then. `Node` is what a node refused: the parts of the order before it were answered, and no later
+/// one is sent. `Redirected` is where a node sent the client on, as by `MOVED`, and says the same as
+/// `Node`. `Lost` is a part whose reply did not come: those before it were answered, it may
+/// have taken effect, and no later one is sent. `Memory` is told after any number of answers. What
+/// was answered took effect where the nodes kept to one meaning. `Reply` does not come from such
+/// nodes.
+pub fn drive<R: Routable, N: Nodes>(
+    alloc: Global,
+    command: &R,
+    read_only: &ReadOnlyNames,
+    slot_map: &SlotMap,
+    strategy: Option<&dyn ReadRoutingStrategy>,
+    pick: usize,
+    order: &[usize],
+    nodes: &mut N,
+) -> Result<Value, DriveError>
+    // Each part went once, in the order given, to a node of its route, whatever the nodes answered.
+    ensures delivered { IfOk result (λ value.
+        IsDelivered (IsRouteNode strategy.entry (λ s. picks s.now) slot_map.now pick)
+        (request (R.args command.now) (names_of read_only.now (N.registered nodes.old))
+        slot_map.now order.now)
+        (N.trace nodes.old) (N.trace nodes.new)) }
+    // And the reply is made of what they answered, as the command's policy says.
+    ensures joined { IfOk result (λ value.
+        IsJoined (names_of read_only.now (N.registered nodes.old)) (R.args command.now)
+        order.now
+        (N.gave nodes.old) (N.gave nodes.new) (Ok (view value))) }
+    // Or the policy refuses them, with an error of this kind.
+    ensures unjoined { IfErr result (λ e. (error : ErrorParts) → e.fault ≡ DriveFault.Reply error →
+        IsJoined (names_of read_only.now (N.registered nodes.old)) (R.args command.now)
+        order.now
+        (N.gave nodes.old) (N.gave nodes.new) (Err error.kind)) }
+    // The headline: where the nodes keep to one meaning over one keyspace, each part went once, in
+    // the order given, to a node of its route, and the keyspace and the reply are those of the
+    // unsplit command.
+    ensures driven { IfOk result (λ value. N.kept nodes.new →
+        IsDriven (IsRouteNode strategy.entry (λ s. picks s.now) slot_map.now pick) N.step
+        (request (R.args command.now) (names_of read_only.now (N.registered nodes.old))
+        slot_map.now order.now)
+        (state (N.keyspace nodes.old) (N.trace nodes.old) (N.mark nodes.old))
+        (state (N.keyspace nodes.new) (N.trace nodes.new) (N.mark nodes.new))
+        (view value)) }
+    // There is a reply where the command can be driven, no node may refuse or redirect and no reply
+    // may be lost, unless memory runs out. Of connections nobody knows that: see `carried`.
+    ensures headline { IsUnhindered (N.may_refuse nodes.old)
+        (request (R.args command.now) (names_of read_only.now (N.registered nodes.old))
+        slot_map.now order.now)
+        (N.trace nodes.old) → IfErr result (λ e. N.kept nodes.new → e.fault ≡ DriveFault.Memory) }
+    // And where each send was answered, whatever nodes may refuse.
+    ensures carried { (routes : List SlotRoute) (c : MultiKey) → IsDrivable
+        (request (R.args command.now) (names_of read_only.now (N.registered nodes.old))
+        slot_map.now order.now) routes c
+        → AreAllAnswered (N.trace nodes.old) (N.trace nodes.new)
+        → IfErr result (λ e. N.kept nodes.new → e.fault ≡ DriveFault.Memory) }
+    // So many parts were answered, and no other, whatever the answers are.
+    ensures cut { IfErr result (λ e.
+        IsCut (IsRouteNode strategy.entry (λ s. picks s.now) slot_map.now pick)
+        (request (R.args command.now) (names_of read_only.now (N.registered nodes.old))
+        slot_map.now order.now)
+        (unseen (N.trace nodes.old) (N.mark nodes.old))
+        (unseen (N.trace nodes.new) (N.mark nodes.new))
+        (N.may_refuse nodes.old) e.fault e.answered) }
+    // Each fault but out of memory before any answer has its cause, and what was answered
+    // stands.
+    ensures fault { IfErr result (λ e. N.kept nodes.new →
+        IsFault (IsRouteNode strategy.entry (λ s. picks s.now) slot_map.now pick) N.step
+        (request (R.args command.now) (names_of read_only.now (N.registered nodes.old))
+        slot_map.now order.now)
+        (state (N.keyspace nodes.old) (N.trace nodes.old) (N.mark nodes.old))
+        (state (N.keyspace nodes.new) (N.trace nodes.new) (N.mark nodes.new))
+        (N.may_refuse nodes.old) e.fault e.answered) }
+    // These may be the replies that the nodes gave: one to each part that was answered.
+    ensures given { IfErr result
+        (λ e. HaveGiven (N.gave nodes.old) (N.gave nodes.new) e.answered) }
+    // The nodes are as they were where the command, the map or the order is at fault.
+    ensures untouched { IfErr result (λ e. IsBefore e.fault → nodes.new ≡ nodes.old) }
+    // Nodes that kept to it now did so before.
+    ensures kept { N.kept nodes.new → N.kept nodes.old }
+    // A command with gaps and its front have the same tuples, routes and parts.
+    ensures gaps { IsSameCommand (R.args command.now) (front (R.args command.now)) }
+    // The same names stay registered.
+    ensures registered { N.registered nodes.new ≡ N.registered nodes.old }
+    // What nodes may refuse stays the same.
+    ensures may_refuse { (count : ℕ) (ending : Ending) → N.may_refuse nodes.new count ending
+        ↔ N.may_refuse nodes.old count ending }
+{
+    let names = Names {
+        read_only,
+        registry: nodes.registry(),
+    };
+    match SplitPlan::new(alloc, command, names, slot_map, strategy, pick) {
+        Ok(plan) => drive_plan(alloc, plan, order, nodes),
+        Err(fault) => Err(DriveError {
+            fault: DriveFault::from(fault),
+            answered: 0,
+        }),
+    }
+}
+
+/// The plan of a command, where the order names its routes.
+pub(super) fn plan_in_order<'a, R: Routable, N: Nodes>(
+    alloc: Global,
+    command: &'a R,
+    read_only: &ReadOnlyNames,
+    slot_map: &'a SlotMap,
+    strategy: Option<&dyn ReadRoutingStrategy>,
+    pick: usize,
+    order: &[usize],
+    nodes: &N,
+) -> Result<SplitPlan<'a, R>, DriveFault>
+    ensures ready { IfOk result
+        (λ plan. (c : MultiKey)
+        × IsReady (IsRouteNode strategy.entry (λ s. picks s.now) slot_map.now pick)
+        (request (R.args command.now) (names_of read_only.now (N.registered nodes.now))
+        slot_map.now order.now) plan c) }
+    ensures split { IfOk result
+        (λ plan. IsSplitOf (names_of read_only.now (N.registered nodes.now)) (R.args command.now)
+        plan.split) }
+    ensures untold { IfOk result (λ plan. plan.replies ≡ map (λ route. None) plan.split.routes) }
+    ensures order { IfOk result (λ plan. NamesOnce (length plan.split.routes) order.now) }
+    ensures some { IfOk result (λ plan. 0 < length plan.split.routes) }
+    ensures early { IfErr result
+        (λ fault. IsCauseBeforeSending (request (R.args command.now) (names_of read_only.now (N.registered nodes.now))
+        slot_map.now order.now) fault) }
+{
+    let names = Names {
+        read_only,
+        registry: nodes.registry(),
+    };
+    let plan = match SplitPlan::new(alloc, command, names, slot_map, strategy, pick) {
+        Ok(plan) => plan,
+        Err(fault) => return Err(DriveFault::from(fault)),
+    };
+    match names_once(alloc, plan.len(), order) {
+        Ok(true) => Ok(plan),
+        Ok(false) => Err(DriveFault::BadOrder),
+        Err(_) => Err(DriveFault::Memory),
+    }
+}
+
+/// Sends the parts of a plan in an order, each once, and gives what `drive` gives for the command
+/// that the plan is of: `drive` makes a plan and calls this. So a client that has to know how many
+/// routes there are before it can name an order makes the plan first, asks it for `len`, and splits
+/// only once.
+///
+/// # Errors
+///
+/// `BadOrder` where the order does not name each route once: nothing was sent. The other faults are
+/// those of `drive`, and what stands then is what it says.
+pub fn drive_plan<R: Routable, N: Nodes>(
+    alloc: Global,
+    plan: SplitPlan<'_, R>,
+    order: &[usize],
+    nodes: &mut N,
+) -> Result<Value, DriveError>
+    // It is of a complete command, as each plan that `SplitPlan::new` made,
+    requires command { (c : MultiKey) × IsPlanOf (N.registered nodes.old) c plan }
+    // and no reply was told yet.
+    requires untold { plan.replies ≡ map (λ route. None) plan.split.routes }
+    // For each request that the plan is of, each part goes to the plan's own node of its route.
+    ensures delivered { IfOk result (λ value.
+        (asked : Request) (c : MultiKey) → IsPlanFor asked order.now (N.registered nodes.old) plan.entry c
+        → IsDelivered (IsPlanNode plan.entry) asked (N.trace nodes.old) (N.trace nodes.new)) }
+    ensures joined { IfOk result (λ value. (replies : List Reply)
+        × (length replies ≡ length plan.entry.split.routes)
+        × ((before : List Reply) → N.gave nodes.old before
+        → N.gave nodes.new (before ++ in_order replies order.now))
+        × (joined plan.entry.split replies ≡ Ok (view value))) }
+    ensures unjoined { IfErr result
+        (λ e. (error : ErrorParts) → e.fault ≡ DriveFault.Reply error → (replies : List Reply)
+        × (length replies ≡ length plan.entry.split.routes)
+        × ((before : List Reply) → N.gave nodes.old before
+        → N.gave nodes.new (before ++ in_order replies order.now))
+        × (joined plan.entry.split replies ≡ Err error.kind)) }
+    ensures driven { IfOk result (λ value.
+        (asked : Request) (c : MultiKey) → IsPlanFor asked order.now (N.registered nodes.old) plan.entry c → N.kept nodes.new
+        → IsDriven (IsPlanNode plan.entry) N.step asked
+        (state (N.keyspace nodes.old) (N.trace nodes.old) (N.mark nodes.old))
+        (state (N.keyspace nodes.new) (N.trace nodes.new) (N.mark nodes.new))
+        (view value)) }
+    ensures headline { IfErr result (λ e.
+        (asked : Request) (c : MultiKey) → IsPlanFor asked order.now (N.registered nodes.old) plan.entry c
+        → IsUnhindered (N.may_refuse nodes.old) asked (N.trace nodes.old)
+        → N.kept nodes.new → e.fault ≡ DriveFault.Memory) }
+    ensures carried { IfErr result (λ e.
+        (asked : Request) (c : MultiKey) → IsPlanFor asked order.now (N.registered nodes.old) plan.entry c
+        → (routes : List SlotRoute) → IsDrivable asked routes c
+        → AreAllAnswered (N.trace nodes.old) (N.trace nodes.new)
+        → N.kept nodes.new → e.fault ≡ DriveFault.Memory) }
+    ensures cut { IfErr result (λ e.
+        (asked : Request) (c : MultiKey) → IsPlanFor asked order.now (N.registered nodes.old) plan.entry c
+        → IsCut (IsPlanNode plan.entry) asked
+        (unseen (N.trace nodes.old) (N.mark nodes.old))
+        (unseen (N.trace nodes.new) (N.mark nodes.new))
+        (N.may_refuse nodes.old) e.fault e.answered) }
+    ensures fault { IfErr result (λ e.
+        (asked : Request) (c : MultiKey) → IsPlanFor asked order.now (N.registered nodes.old) plan.entry c → N.kept nodes.new
+        → IsFault (IsPlanNode plan.entry) N.step asked
+        (state (N.keyspace nodes.old) (N.trace nodes.old) (N.mark nodes.old))
+        (state (N.keyspace nodes.new) (N.trace nodes.new) (N.mark nodes.new))
+        (N.may_refuse nodes.old) e.fault e.answered) }
+    ensures given { IfErr result
+        (λ e. HaveGiven (N.gave nodes.old) (N.gave nodes.new) e.answered) }
+    ensures untouched { IfErr result (λ e. IsBefore e.fault → nodes.new ≡ nodes.old) }
+    ensures kept { N.kept nodes.new → N.kept nodes.old }
+    ensures registered { N.registered nodes.new ≡ N.registered nodes.old }
+    ensures may_refuse { (count : ℕ) (ending : Ending) → N.may_refuse nodes.new count ending
+        ↔ N.may_refuse nodes.old count ending }
+{
+    match names_once(alloc, plan.len(), order) {
+        Ok(true) => drive_tries(alloc, plan, &mut [], order, nodes),
+        Ok(false) => Err(DriveError {
+            fault: DriveFault::BadOrder,
+            answered: 0,
+        }),
+        Err(_) => Err(DriveError {
+            fault: DriveFault::Memory,
+            answered: 0,
+        }),
+    }
+}
+
+/// Sends the parts of a plan, each by its retry, and combines the replies.
+pub(super) fn drive_tries<R: Routable, N: Nodes>(
+    alloc: Global,
+    mut plan: SplitPlan<'_, R>,
+    retries: &mut [Retry],
+    order: &[usize],
+    nodes: &mut N,
+) -> Result<Value, DriveError>
+    requires command { (c : MultiKey) × IsPlanOf (N.registered nodes.old) c plan }
+    requires untold { plan.replies ≡ map (λ route. None) plan.split.routes }
+    requires order { NamesOnce (length plan.split.routes) order.now }
+    requires named { All (λ retry. IsSome retry.target) retries.old }
+    ensures trace { OnOk result (AllTried (in_order (tries_with (targets plan.entry) retries.old)
+        order.now) (N.trace nodes.old) (N.trace nodes.new)) }
+    ensures allowed { AreAllowed (N.may_refuse nodes.old) (N.trace nodes.old) (N.trace nodes.new) }
+    ensures kept { N.kept nodes.new → N.kept nodes.old }
+    ensures keyspace { OnOk result ((c : MultiKey) → IsPlanOf (N.registered nodes.old) c plan.entry
+        → N.kept nodes.new → N.keyspace nodes.new ≡ keyspace_after N.step c (N.keyspace nodes.old)) }
+    ensures reply { IfOk result
+        (λ value. (c : MultiKey) → IsPlanOf (N.registered nodes.old) c plan.entry
+        → N.kept nodes.new → view value ≡ reply_to N.step c (N.keyspace nodes.old)) }
+    ensures joined { IfOk result
+        (λ value. (replies : List Reply) × (length replies ≡ length plan.entry.split.routes)
+        × ((before : List Reply) → N.gave nodes.old before
+        → N.gave nodes.new (before ++ in_order replies order.now))
+        × (joined plan.entry.split replies ≡ Ok (view value))) }
+    ensures unjoined { IfErr result
+        (λ e. (error : ErrorParts) → e.fault ≡ DriveFault.Reply error → (replies : List Reply)
+        × (length replies ≡ length plan.entry.split.routes)
+        × ((before : List Reply) → N.gave nodes.old before
+        → N.gave nodes.new (before ++ in_order replies order.now))
+        × (joined plan.entry.split replies ≡ Err error.kind)) }
+    ensures given { IfErr result
+        (λ e. HaveGiven (N.gave nodes.old) (N.gave nodes.new) e.answered) }
+    ensures stopped { IfErr result
+        (λ e. AreEndedEarly (N.kept nodes.new) (N.registered nodes.old) N.step
+        (N.may_refuse nodes.old) plan.entry
+        (tries_with (targets plan.entry) retries.old) order.now
+        (N.keyspace nodes.old) (N.keyspace nodes.new) (N.trace nodes.old) (N.trace nodes.new)
+        (N.mark nodes.new) e.fault e.answered) }
+    ensures registered { N.registered nodes.new ≡ N.registered nodes.old }
+    ensures may_refuse { (count : ℕ) (ending : Ending) → N.may_refuse nodes.new count ending
+        ↔ N.may_refuse nodes.old count ending }
+{
+    if let Err(stop) = send_all(&mut plan, retries, order, nodes) {
+        return Err(stop);
+    }
+    let answered = plan.len();
+    match plan.combine(alloc) {
+        Ok(reply) => Ok(reply),
+        Err(error) => Err(DriveError {
+            fault: of_combining(error),
+            answered,
+        }),
+    }
+}
+
+/// The fault of replies that could not be combined.
+fn of_combining(error: RedisError) -> DriveFault
+    ensures { ((error.kind ≡ OutOfMemory) × (result ≡ DriveFault.Memory))
+        ⊎ ((error.kind ≡ OutOfMemory → ⊥) × (result ≡ DriveFault.Reply error)) }
+{
+    if error.kind() == ErrorKind::OutOfMemory {
+        DriveFault::Memory
+    } else {
+        DriveFault::Reply(error)
+    }
+}

@@ -4,11 +4,9 @@ pub use redis_combiners::{
     aggregate, combine_and_sort_array_results, combine_array_results, combine_map_results,
     logical_aggregate,
 };
-pub use redis_commands::{
-    AggregateOp, LogicalAggregateOp, MultiSlotArgPattern, ReadOnlyNames, RegisterError, Registry,
-    ResponsePolicy, Routable, name_words,
-};
 pub use redis_routing::{
-    MultipleNodeRoutingInfo, Redirect, RoutingInfo, SingleNodeRoutingInfo, SplitCommand,
-    command_for_multi_slot_indices, command_for_multi_slot_indices_with, multi_slot_routes,
+    AggregateOp, LogicalAggregateOp, MultiSlotArgPattern, MultipleNodeRoutingInfo, Names,
+    ReadOnlyNames, Redirect, RegisterError, Registry, ResponsePolicy, Routable, RoutingInfo,
+    SingleNodeRoutingInfo, SplitCommand, command_for_multi_slot_indices,
+    command_for_multi_slot_indices_with, multi_slot_routes, name_words,
 };

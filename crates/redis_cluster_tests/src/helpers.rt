@@ -1,7 +1,10 @@
 //! Commands, read-only names and routings, as the tests write them.
 use cluster_map::Route;
-use redis_cluster::routing::{ReadOnlyNames, RoutingInfo, SingleNodeRoutingInfo};
-use resp_core::{Cmd, Value};
+use fixtures::cmd_of;
+use redis_cluster::routing::{
+    Names, ReadOnlyNames, Registry, Routable, RoutingInfo, SingleNodeRoutingInfo, SplitCommand,
+};
+use resp_core::Value;
 use std::alloc::{AllocError, Global};
 use std::test::Fail;
 
@@ -11,14 +14,6 @@ pub fn words_of(alloc: Global, text: &str) -> Result<Vec<&[u8]>, AllocError> {
         words.push(word.as_bytes())?;
     }
     Ok(words)
-}
-
-pub fn cmd_of(alloc: Global, words: &[&[u8]]) -> Result<Cmd, AllocError> {
-    let mut cmd = Cmd::new(alloc);
-    for word in words {
-        cmd.write_arg(word)?;
-    }
-    Ok(cmd)
 }
 
 /// An array of the words as bulk strings, but `#` as a number.
@@ -40,6 +35,20 @@ pub fn read_only_names(alloc: Global, names: &[&[u8]]) -> Result<ReadOnlyNames, 
         set.insert(alloc, name)?;
     }
     Ok(set)
+}
+
+/// The split of a command, where no name is registered.
+pub fn split_of<'a, R: Routable>(
+    alloc: Global,
+    command: &'a R,
+    read_only: &ReadOnlyNames,
+) -> Result<Option<SplitCommand<'a, R>>, AllocError> {
+    let registry = Registry::new(alloc);
+    let names = Names {
+        read_only,
+        registry: &registry,
+    };
+    SplitCommand::new(alloc, command, names)
 }
 
 pub fn to_specific_node(route: Route) -> RoutingInfo {

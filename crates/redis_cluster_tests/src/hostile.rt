@@ -1,7 +1,8 @@
 //! Arguments as only a hostile or broken client writes them.
-use crate::helpers::{read_only_names, to_any, to_specific_node, value_of, words_of};
+use crate::helpers::{read_only_names, split_of, to_any, to_specific_node, value_of, words_of};
 use cluster_map::{Route, SlotAddr};
-use redis_cluster::routing::{Routable, RoutingInfo, SplitCommand, command_for_multi_slot_indices};
+use fixtures::nested;
+use redis_cluster::routing::{Routable, RoutingInfo, command_for_multi_slot_indices};
 use resp_core::Value;
 use std::alloc::{AllocError, Global};
 use std::process::Abort;
@@ -70,7 +71,7 @@ fn goes_as<R: Routable>(alloc: Global, command: &R, text: &str) -> Result<bool, 
 /// In how many parts a command is split, which is none where it is not.
 fn part_count<R: Routable>(alloc: Global, command: &R) -> Result<usize, Fail> {
     let names = read_only_names(alloc, &[b"MGET"])?;
-    match SplitCommand::new(alloc, command, &names)? {
+    match split_of(alloc, command, &names)? {
         Some(split) => Ok(split.len()),
         None => Ok(0),
     }
@@ -150,18 +151,9 @@ fn hostile_commands_go_somewhere_or_nowhere(rt: HostRuntime) -> Result<(), Fail>
     Ok(())
 }
 
-/// Arrays in arrays, a million levels deep.
-fn deep(alloc: Global) -> Result<Value, AllocError> {
-    let mut value = Value::Nil;
-    for _ in 0..1_000_000 {
-        value = Value::Array(vec![in alloc; value]?);
-    }
-    Ok(value)
-}
-
 fn deep_or_word(alloc: Global, word: &str) -> Result<Value, AllocError> {
     if word == "deep" {
-        return deep(alloc);
+        return nested(alloc, 1_000_000);
     }
     Ok(Value::BulkString(word.as_bytes().to_vec(alloc)?))
 }

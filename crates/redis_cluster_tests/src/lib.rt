@@ -1,4 +1,4 @@
-//! Tests of the public calls of `redis_cluster`, but for the combiners and pipelines.
+//! Tests of the public calls of `redis_cluster`, but for the combiners.
 #![tactic(auto)]
 
 #[cfg(test)]
@@ -10,11 +10,15 @@ mod hostile;
 #[cfg(test)]
 mod info;
 #[cfg(test)]
+mod pipeline;
+#[cfg(test)]
 mod policy;
 #[cfg(test)]
 mod read_only;
 #[cfg(test)]
 mod redirect_texts;
+#[cfg(test)]
+mod registered;
 #[cfg(test)]
 mod registry;
 #[cfg(test)]

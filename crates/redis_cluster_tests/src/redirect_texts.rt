@@ -34,6 +34,9 @@ fn texts_of_servers_are_read(rt: HostRuntime) -> Result<(), Fail> {
         ("MOVED 16383 h:65535", "moved 16383 h 65535"),
         ("MOVED 3999 :6381", "moved 3999 n1 6381"),
         ("ASK 3999 :6381", "ask 3999 n1 6381"),
+        ("MOVED 3999 ??:6381", "moved 3999 ?? 6381"),
+        ("MOVED 3999 0.0.0.0:6381", "moved 3999 0.0.0.0 6381"),
+        ("MOVED 3999 :::6381", "moved 3999 :: 6381"),
     ] {
         let given = told(rt.alloc(), text)?;
         assert_eq!(rt; given.as_str(), want, "text {text}");
@@ -53,6 +56,9 @@ fn other_texts_are_no_redirect(rt: HostRuntime) -> Result<(), Fail> {
         "MOVED 3999 h",
         "MOVED 3999 h:",
         "MOVED 3999 []:1",
+        "MOVED 3999 ?:6381",
+        "ASK 3999 ?:6381",
+        "MOVED 3999 [?]:6381",
         "MOVED 3999 h:65536",
         "MOVED 16384 h:1",
         "MOVED +1 h:1",
@@ -72,6 +78,17 @@ fn other_texts_are_no_redirect(rt: HostRuntime) -> Result<(), Fail> {
     ] {
         let given = told(rt.alloc(), text)?;
         assert_eq!(rt; given.as_str(), "none", "text {text}");
+    }
+    Ok(())
+}
+
+#[test]
+fn a_host_left_out_is_that_of_the_node_that_answered(rt: HostRuntime) -> Result<(), Fail> {
+    for (answering, is_read) in [("n1", true), ("?", true), ("", false)] {
+        let read = Redirect::from_error_text(rt.alloc(), "MOVED 3999 :6381", answering)?;
+        assert_eq!(rt; read.is_some(), is_read, "answering {answering}");
+        let read = Redirect::from_error_text(rt.alloc(), "ASK 3999 h:6381", answering)?;
+        assert!(rt; read.is_some(), "answering {answering}");
     }
     Ok(())
 }

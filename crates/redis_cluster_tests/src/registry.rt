@@ -1,4 +1,5 @@
-use crate::helpers::{cmd_of, value_of};
+use crate::helpers::value_of;
+use fixtures::cmd_of;
 use redis_cluster::routing::{
     AggregateOp, MultiSlotArgPattern, RegisterError, Registry, ResponsePolicy, name_words,
 };
@@ -137,6 +138,25 @@ fn a_clone_has_the_same_names(rt: HostRuntime) -> Result<(), Fail> {
     for name in [b"A", b"B", b"C", b"D"] {
         assert!(rt; copy.get(name) == registry.get(name), "{name:?}");
     }
+    Ok(())
+}
+
+// Names in any order, and in either case, make one registry; another pattern or policy makes another.
+#[test]
+fn registries_of_the_same_names_are_equal(rt: HostRuntime) -> Result<(), Fail> {
+    let alloc = rt.alloc();
+    let (mut one, mut other) = (Registry::new(alloc), Registry::new(alloc));
+    assert!(rt; one == other);
+    for (name, in_reverse) in [(b"a", b"C"), (b"b", b"B"), (b"c", b"A")] {
+        register(alloc, &mut one, name)?;
+        register(alloc, &mut other, in_reverse)?;
+    }
+    assert!(rt; one == other);
+    assert!(rt; one == one.clone()?);
+    one.register(alloc, b"D", MultiSlotArgPattern::KeysOnly, SUM)?;
+    assert!(rt; one != other);
+    other.register(alloc, b"D", MultiSlotArgPattern::KeyValuePairs, SUM)?;
+    assert!(rt; one != other);
     Ok(())
 }
 

@@ -7,7 +7,7 @@ use std::test::Fail;
 
 // The words as a command.
 fn cmd_of(alloc: Global, words: &[&str]) -> Result<Cmd, AllocError> {
-    helpers::cmd_of(alloc, &bytes_of(alloc, words)?)
+    fixtures::cmd_of(alloc, &bytes_of(alloc, words)?)
 }
 
 // The words as a reply, of which each `#` is a gap.

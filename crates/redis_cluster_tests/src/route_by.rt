@@ -1,5 +1,5 @@
 use redis_cluster::routing::MultiSlotArgPattern;
-use redis_commands::{RouteBy, base_routing};
+use redis_routing::{RouteBy, base_routing};
 
 const ROUTED_NAMES: [(RouteBy, &str); 13] = [
     (

@@ -1,20 +1,16 @@
 use crate::helpers;
 use cluster_map::{Route, SlotAddr};
+use fixtures::cmd_of_text;
 use redis_cluster::routing::{
-    AggregateOp, MultiSlotArgPattern, ReadOnlyNames, ResponsePolicy, Routable, SplitCommand,
+    AggregateOp, MultiSlotArgPattern, ReadOnlyNames, ResponsePolicy, Routable,
 };
-use resp_core::{Cmd, Value};
-use std::alloc::{AllocError, Global};
+use resp_core::Value;
+use std::alloc::Global;
 use std::test::Fail;
-
-// The command of the words of a text.
-fn cmd_of(alloc: Global, text: &str) -> Result<Cmd, AllocError> {
-    helpers::cmd_of(alloc, &helpers::words_of(alloc, text)?)
-}
 
 // Whether a command is split into these parts, each with its slot.
 fn splits<R: Routable>(alloc: Global, command: &R, parts: &[(u16, &str)]) -> Result<bool, Fail> {
-    let Some(split) = SplitCommand::new(alloc, command, &ReadOnlyNames::new(alloc))? else {
+    let Some(split) = helpers::split_of(alloc, command, &ReadOnlyNames::new(alloc))? else {
         return Ok(false);
     };
     if split.len() != parts.len() {
@@ -24,7 +20,7 @@ fn splits<R: Routable>(alloc: Global, command: &R, parts: &[(u16, &str)]) -> Res
         let (slot, text) = parts[number];
         let (route, _) = &split.routes()[number];
         let part = split.part(alloc, number)?;
-        if *route != Route::new(slot, SlotAddr::Master) || part != cmd_of(alloc, text)? {
+        if *route != Route::new(slot, SlotAddr::Master) || part != cmd_of_text(alloc, text)? {
             return Ok(false);
         }
     }
@@ -67,7 +63,7 @@ fn a_part_for_each_slot(rt: HostRuntime) -> Result<(), Fail> {
         ("mget foo", &[(12182, "mget foo")]),
     ];
     for (text, parts) in table {
-        assert!(rt; splits(alloc, &cmd_of(alloc, text)?, parts)?, "{text}");
+        assert!(rt; splits(alloc, &cmd_of_text(alloc, text)?, parts)?, "{text}");
     }
     Ok(())
 }
@@ -91,8 +87,8 @@ fn arguments_behind_a_gap_are_in_no_part(rt: HostRuntime) -> Result<(), Fail> {
 fn commands_that_are_not_split(rt: HostRuntime) -> Result<(), Fail> {
     let alloc = rt.alloc();
     for text in ["GET foo", "MGET", "MSET foo", "JSON.MGET foo"] {
-        let cmd = cmd_of(alloc, text)?;
-        let split = SplitCommand::new(alloc, &cmd, &ReadOnlyNames::new(alloc))?;
+        let cmd = cmd_of_text(alloc, text)?;
+        let split = helpers::split_of(alloc, &cmd, &ReadOnlyNames::new(alloc))?;
         assert!(rt; split.is_none(), "{text}");
     }
     Ok(())
@@ -124,8 +120,8 @@ fn patterns_and_policies(rt: HostRuntime) -> Result<(), Fail> {
         ),
     ];
     for (text, pattern, policy) in table {
-        let cmd = cmd_of(alloc, text)?;
-        let split = SplitCommand::new(alloc, &cmd, &ReadOnlyNames::new(alloc))?;
+        let cmd = cmd_of_text(alloc, text)?;
+        let split = helpers::split_of(alloc, &cmd, &ReadOnlyNames::new(alloc))?;
         assert!(rt; split.is_some(), "{text}");
         if let Some(split) = split {
             assert!(rt; split.pattern() == pattern, "{text}");
@@ -138,10 +134,10 @@ fn patterns_and_policies(rt: HostRuntime) -> Result<(), Fail> {
 #[test]
 fn the_routes_have_the_places_of_their_parts(rt: HostRuntime) -> Result<(), Fail> {
     let alloc = rt.alloc();
-    let cmd = cmd_of(alloc, "MGET foo bar {foo}baz")?;
+    let cmd = cmd_of_text(alloc, "MGET foo bar {foo}baz")?;
     let mut names = ReadOnlyNames::new(alloc);
     names.insert(alloc, b"MGET")?;
-    let split = SplitCommand::new(alloc, &cmd, &names)?;
+    let split = helpers::split_of(alloc, &cmd, &names)?;
     assert!(rt; split.is_some());
     if let Some(split) = split {
         let nodes = SlotAddr::ReplicaOptional;

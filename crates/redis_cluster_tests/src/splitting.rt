@@ -1,9 +1,10 @@
 use crate::helpers;
-use crate::helpers::{cmd_of, read_only_names, to_specific_node, value_of, words_of};
+use crate::helpers::{read_only_names, to_specific_node, value_of, words_of};
 use cluster_map::{Route, SlotAddr};
+use fixtures::cmd_of_text;
 use redis_cluster::routing::{
-    AggregateOp, MultiSlotArgPattern, MultipleNodeRoutingInfo, ReadOnlyNames, ResponsePolicy,
-    RoutingInfo, multi_slot_routes,
+    AggregateOp, MultiSlotArgPattern, MultipleNodeRoutingInfo, Names, ReadOnlyNames, Registry,
+    ResponsePolicy, RoutingInfo, multi_slot_routes,
 };
 use resp_core::Cmd;
 use std::alloc::{AllocError, Global};
@@ -165,16 +166,21 @@ fn routes_of_complete_commands(rt: HostRuntime) -> Result<(), Fail> {
         ("JSON.MGET a", None),
         ("GET a", None),
     ];
+    let (read_only, registry) = (read_only(alloc)?, Registry::new(alloc));
+    let names = Names {
+        read_only: &read_only,
+        registry: &registry,
+    };
     for (text, parts) in table {
-        let cmd = cmd_of(alloc, &words_of(alloc, text)?)?;
-        let routes = multi_slot_routes(alloc, &cmd, &read_only(alloc)?)?;
+        let cmd = cmd_of_text(alloc, text)?;
+        let routes = multi_slot_routes(alloc, &cmd, names)?;
         let want = match parts {
             Some(parts) => Some(routes_of(alloc, SlotAddr::Master, parts)?),
             None => None,
         };
         assert!(rt; routes == want, "{text}");
     }
-    let nameless = multi_slot_routes(alloc, &Cmd::new(alloc), &read_only(alloc)?)?;
+    let nameless = multi_slot_routes(alloc, &Cmd::new(alloc), names)?;
     assert!(rt; nameless.is_none(), "no words");
     Ok(())
 }

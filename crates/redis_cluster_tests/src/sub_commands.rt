@@ -1,4 +1,4 @@
-use crate::helpers::{cmd_of, words_of};
+use fixtures::cmd_of_text;
 use redis_cluster::routing::{
     Routable, command_for_multi_slot_indices, command_for_multi_slot_indices_with,
 };
@@ -14,7 +14,7 @@ fn makes<R: Routable>(
     text: &str,
 ) -> Result<bool, Fail> {
     match command_for_multi_slot_indices(alloc, original, indices) {
-        Ok(part) => Ok(part == cmd_of(alloc, &words_of(alloc, text)?)?),
+        Ok(part) => Ok(part == cmd_of_text(alloc, text)?),
         Err(_) => Ok(false),
     }
 }
@@ -30,7 +30,7 @@ fn is_refused<R: Routable>(alloc: Global, original: &R, indices: &[usize]) -> bo
 #[test]
 fn a_part_has_the_name_and_the_arguments_at_its_places(rt: HostRuntime) -> Result<(), Fail> {
     let alloc = rt.alloc();
-    let cmd = cmd_of(alloc, &words_of(alloc, "DEL foo bar baz {bar}vaz")?)?;
+    let cmd = cmd_of_text(alloc, "DEL foo bar baz {bar}vaz")?;
     let table: [(&[usize], &str); 2] = [(&[1, 3], "DEL bar {bar}vaz"), (&[], "DEL")];
     for (indices, text) in table {
         assert!(rt; makes(alloc, &cmd, indices, text)?, "{text}");
@@ -41,7 +41,7 @@ fn a_part_has_the_name_and_the_arguments_at_its_places(rt: HostRuntime) -> Resul
 #[test]
 fn places_behind_the_last_argument_are_refused(rt: HostRuntime) -> Result<(), Fail> {
     let alloc = rt.alloc();
-    let cmd = cmd_of(alloc, &words_of(alloc, "DEL foo bar baz {bar}vaz")?)?;
+    let cmd = cmd_of_text(alloc, "DEL foo bar baz {bar}vaz")?;
     for index in [4, usize::MAX] {
         assert!(rt; is_refused(alloc, &cmd, &[index]), "place {index}");
     }
@@ -82,7 +82,7 @@ fn a_gap_in_a_part_is_refused(rt: HostRuntime) -> Result<(), Fail> {
 #[test]
 fn a_part_of_a_name_of_two_words(rt: HostRuntime) -> Result<(), Fail> {
     let alloc = rt.alloc();
-    let cmd = cmd_of(alloc, &words_of(alloc, "object put a 1 b 2")?)?;
+    let cmd = cmd_of_text(alloc, "object put a 1 b 2")?;
     let table: [(usize, &[usize], &str); 5] = [
         (2, &[0, 1], "object put a 1"),
         (2, &[3, 2], "object put 2 b"),
@@ -92,7 +92,7 @@ fn a_part_of_a_name_of_two_words(rt: HostRuntime) -> Result<(), Fail> {
     ];
     for (words, indices, text) in table {
         let part = command_for_multi_slot_indices_with(alloc, &cmd, words, indices)?;
-        assert!(rt; part == cmd_of(alloc, &words_of(alloc, text)?)?, "{text}");
+        assert!(rt; part == cmd_of_text(alloc, text)?, "{text}");
     }
     let missing: [(usize, &[usize]); 5] = [
         (2, &[4]),

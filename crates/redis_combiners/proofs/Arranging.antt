@@ -7,27 +7,27 @@ use Rattle.std.proofs.lemmas.Bool.{eqb-true, eqb-false, eq-eqb, lt-ltb, ltb-true
 use Rattle.std.proofs.lemmas.List.{get_or-replicate, get_or-set_same, get_or-set_other, length-replicate, length-set}
 use Rattle.std.proofs.lemmas.List.FromFn.{fill_by_all, length-map-range_with_len, get_or-map-range_with_len}
 use Rattle.resp_core.specs.Reply.{Reply}
-use Rattle.redis_combiners.specs.ByPlaces.{items_at, single, by_places}
-use Rattle.redis_combiners.specs.Spots.{put, filled}
-use Rattle.redis_commands.specs.Lists.{all_some}
+use Rattle.redis_combiners.specs.ByPlaces.{items_of_index, single, by_places}
+use Rattle.redis_combiners.specs.Spots.{put_item, filled}
+use Rattle.redis_routing.specs.Lists.{all_some}
 use Rattle.resp_core.proofs.Cases.{by_test}
 
-pub items_at-cons : (k p : ℕ) (ps : List ℕ) (x : Reply) (xs : List Reply) → items_at k (p ∷ ps) (x ∷ xs) ≡ cond (nat_eq p k) (x ∷ items_at k ps xs) (items_at k ps xs)
+pub items_at-cons : (k p : ℕ) (ps : List ℕ) (x : Reply) (xs : List Reply) → items_of_index k (p ∷ ps) (x ∷ xs) ≡ cond (nat_eq p k) (x ∷ items_of_index k ps xs) (items_of_index k ps xs)
 items_at-cons k p ps x xs = either (nat_eq p k)
   where
-    either : (b : Bool) → map (λ e. e.1) (cond b ((p, x) ∷ filter (λ e. nat_eq e.0 k) (zip ps xs)) (filter (λ e. nat_eq e.0 k) (zip ps xs))) ≡ cond b (x ∷ items_at k ps xs) (items_at k ps xs)
+    either : (b : Bool) → map (λ e. e.1) (cond b ((p, x) ∷ filter (λ e. nat_eq e.0 k) (zip ps xs)) (filter (λ e. nat_eq e.0 k) (zip ps xs))) ≡ cond b (x ∷ items_of_index k ps xs) (items_of_index k ps xs)
     either true = refl
     either false = refl
 
 -- the spots have the items of their places
 record Held (n : ℕ) (ps : List ℕ) (xs : List Reply) (spots : List (Option Reply)) : Type 0 where
   long : length spots ≡ n
-  held : (k : ℕ) → k < n → option_to_list (get_or spots k None) ≡ items_at k ps xs
+  held : (k : ℕ) → k < n → option_to_list (get_or spots k None) ≡ items_of_index k ps xs
   within : list_all (λ p. nat_lt p n) ps ≡ true
 
 -- a place is past the end, or has two items
 abbrev IsBad : ℕ → List ℕ → List Reply → Type 0
-IsBad n ps xs = (list_all (λ p. nat_lt p n) ps ≡ false) ⊎ ((k : ℕ) × (k < n) × (1 < length (items_at k ps xs)))
+IsBad n ps xs = (list_all (λ p. nat_lt p n) ps ≡ false) ⊎ ((k : ℕ) × (k < n) × (1 < length (items_of_index k ps xs)))
 
 bad_more : (n p : ℕ) (ps : List ℕ) (x : Reply) (xs : List Reply) → IsBad n ps xs → IsBad n (p ∷ ps) (x ∷ xs)
 bad_more n p ps x xs (inl e) = inl (ap (λ b. nat_lt p n && b) e ∙ and_false (nat_lt p n))
@@ -37,7 +37,7 @@ bad_more n p ps x xs (inl e) = inl (ap (λ b. nat_lt p n && b) e ∙ and_false (
     and_false false = refl
 bad_more n p ps x xs (inr t) = inr (t.0, t.1, subst (λ ys. 1 < length ys) (sym (items_at-cons t.0 p ps x xs)) (one_more (nat_eq p t.0) t.2))
   where
-    one_more : (b : Bool) → 1 < length (items_at t.0 ps xs) → 1 < length (cond b (x ∷ items_at t.0 ps xs) (items_at t.0 ps xs))
+    one_more : (b : Bool) → 1 < length (items_of_index t.0 ps xs) → 1 < length (cond b (x ∷ items_of_index t.0 ps xs) (items_of_index t.0 ps xs))
     one_more true h = omega arith
     one_more false h = h
 
@@ -50,12 +50,12 @@ held_more n p ps x xs spots h l e =
           (λ t. let same : p ≡ k = eqb-true p k t in
           ap (λ j. option_to_list (get_or (set spots p (Some x)) j None)) (sym same)
           ∙ ap option_to_list (get_or-set_same spots p (Some x) None (omega (arith, h.long)))
-          ∙ ap (λ ys. x ∷ ys) (sym empty ∙ h.held p l ∙ ap (λ j. items_at j ps xs) same)
-          ∙ ap (λ b. cond b (x ∷ items_at k ps xs) (items_at k ps xs)) (sym t)
+          ∙ ap (λ ys. x ∷ ys) (sym empty ∙ h.held p l ∙ ap (λ j. items_of_index j ps xs) same)
+          ∙ ap (λ b. cond b (x ∷ items_of_index k ps xs) (items_of_index k ps xs)) (sym t)
           ∙ sym (items_at-cons k p ps x xs))
           (λ f. ap option_to_list (get_or-set_other spots p k (Some x) None (λ i. eqb-false p k f (sym i)))
           ∙ h.held k lk
-          ∙ ap (λ b. cond b (x ∷ items_at k ps xs) (items_at k ps xs)) (sym f)
+          ∙ ap (λ b. cond b (x ∷ items_of_index k ps xs) (items_of_index k ps xs)) (sym f)
           ∙ sym (items_at-cons k p ps x xs));
       within = ap (λ b. b && list_all (λ q. nat_lt q n) ps) (lt-ltb p n l) ∙ h.within;
     }
@@ -64,10 +64,10 @@ held_more n p ps x xs spots h l e =
     no_item None e = refl
     no_item (Some y) e = absurd (cc)
 
-two_at_place : (n p : ℕ) (ps : List ℕ) (x : Reply) (xs : List Reply) (spots : List (Option Reply)) → Held n ps xs spots → p < n → is_none (get_or spots p None) ≡ false → 1 < length (items_at p (p ∷ ps) (x ∷ xs))
+two_at_place : (n p : ℕ) (ps : List ℕ) (x : Reply) (xs : List Reply) (spots : List (Option Reply)) → Held n ps xs spots → p < n → is_none (get_or spots p None) ≡ false → 1 < length (items_of_index p (p ∷ ps) (x ∷ xs))
 two_at_place n p ps x xs spots h l e =
-    let one : 0 < length (items_at p ps xs) = subst (λ ys. 0 < length ys) (h.held p l) (some_item (get_or spots p None) e) in
-    let two : 1 < length (cond (nat_eq p p) (x ∷ items_at p ps xs) (items_at p ps xs)) = subst (λ b. 1 < length (cond b (x ∷ items_at p ps xs) (items_at p ps xs))) (sym (eq-eqb p p refl)) (omega arith) in
+    let one : 0 < length (items_of_index p ps xs) = subst (λ ys. 0 < length ys) (h.held p l) (some_item (get_or spots p None) e) in
+    let two : 1 < length (cond (nat_eq p p) (x ∷ items_of_index p ps xs) (items_of_index p ps xs)) = subst (λ b. 1 < length (cond b (x ∷ items_of_index p ps xs) (items_of_index p ps xs))) (sym (eq-eqb p p refl)) (omega arith) in
     subst (λ ys. 1 < length ys) (sym (items_at-cons p p ps x xs)) two
   where
     some_item : (o : Option Reply) → is_none o ≡ false → 0 < length (option_to_list o)
@@ -88,7 +88,7 @@ filling n (p ∷ ps) (x ∷ xs) same = next (filling n ps xs (omega arith))
     at_place : (spots : List (Option Reply)) → filled (empty n) ps xs ≡ Some spots → Held n ps xs spots → Filling n (p ∷ ps) (x ∷ xs) (filled (empty n) (p ∷ ps) (x ∷ xs))
     at_place spots e h =
         let step : filled (empty n) (p ∷ ps) (x ∷ xs) ≡ cond (nat_lt p n && is_none (get_or spots p None)) (Some (set spots p (Some x))) None =
-        ap (option_and_then (λ later. put later p x)) e ∙ ap (λ m. cond (nat_lt p m && is_none (get_or spots p None)) (Some (set spots p (Some x))) None) h.long in
+        ap (option_and_then (λ later. put_item later p x)) e ∙ ap (λ m. cond (nat_lt p m && is_none (get_or spots p None)) (Some (set spots p (Some x))) None) h.long in
         by_test (nat_lt p n)
         (λ t. by_test (is_none (get_or spots p None))
         (λ u. inl (set spots p (Some x), step ∙ ap (λ b. cond (b && is_none (get_or spots p None)) (Some (set spots p (Some x))) None) t ∙ ap (λ b. cond b (Some (set spots p (Some x))) None) u, held_more n p ps x xs spots h (ltb-true p n t) u))
@@ -97,7 +97,7 @@ filling n (p ∷ ps) (x ∷ xs) same = next (filling n ps xs (omega arith))
 
     next : Filling n ps xs (filled (empty n) ps xs) → Filling n (p ∷ ps) (x ∷ xs) (filled (empty n) (p ∷ ps) (x ∷ xs))
     next (inl t) = at_place t.0 t.1 t.2
-    next (inr t) = inr (ap (option_and_then (λ later. put later p x)) t.0, bad_more n p ps x xs t.1)
+    next (inr t) = inr (ap (option_and_then (λ later. put_item later p x)) t.0, bad_more n p ps x xs t.1)
 
 -- what is not in order
 one_missing : {X : Type 0} (os : List (Option X)) (i : ℕ) → i < length os → get_or os i None ≡ None → all_some os ≡ None
@@ -112,12 +112,12 @@ not_single (x ∷ []) l = absurd (omega arith)
 not_single (x ∷ (y ∷ xs)) l = refl
 
 bad_is_none : (ps : List ℕ) (xs : List Reply) → IsBad (length ps) ps xs → by_places ps xs ≡ None
-bad_is_none ps xs (inl e) = ap (λ b. cond b (all_some (map (λ k. single (items_at k ps xs)) (range_with_len 0 (length ps)))) None) e
+bad_is_none ps xs (inl e) = ap (λ b. cond b (all_some (map (λ k. single (items_of_index k ps xs)) (range_with_len 0 (length ps)))) None) e
 bad_is_none ps xs (inr t) =
-    let f : ℕ → Option Reply = λ j. single (items_at j ps xs) in
+    let f : ℕ → Option Reply = λ j. single (items_of_index j ps xs) in
     let there : get_or (map f (range_with_len 0 (length ps))) t.0 None ≡ f t.0 = get_or-map-range_with_len f 0 (length ps) t.0 t.0 None t.1 (omega arith) in
     either (list_all (λ p. nat_lt p (length ps)) ps) (all_some (map f (range_with_len 0 (length ps))))
-    (one_missing (map f (range_with_len 0 (length ps))) t.0 (omega (arith, t.1, length-map-range_with_len f 0 (length ps))) (there ∙ not_single (items_at t.0 ps xs) t.2))
+    (one_missing (map f (range_with_len 0 (length ps))) t.0 (omega (arith, t.1, length-map-range_with_len f 0 (length ps))) (there ∙ not_single (items_of_index t.0 ps xs) t.2))
   where
     either : (b : Bool) (o : Option (List Reply)) → o ≡ None → cond b o None ≡ None
     either true o e = e
@@ -125,7 +125,7 @@ bad_is_none ps xs (inr t) =
 
 held_is : (ps : List ℕ) (xs : List Reply) (spots : List (Option Reply)) → Held (length ps) ps xs spots → all_some spots ≡ by_places ps xs
 held_is ps xs spots h =
-    let f : ℕ → Option Reply = λ j. single (items_at j ps xs) in
+    let f : ℕ → Option Reply = λ j. single (items_of_index j ps xs) in
     ap all_some (fill_by_all f spots (length ps) None h.long (λ k l. sym (single_item (get_or spots k None)) ∙ ap single (h.held k l)))
     ∙ ap (λ b. cond b (all_some (map f (range_with_len 0 (length ps)))) None) (sym h.within)
   where

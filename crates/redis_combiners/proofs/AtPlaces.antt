@@ -10,10 +10,10 @@ use Rattle.redis_combiners.specs.AllItems.{all_items}
 use Rattle.redis_combiners.specs.AtPlaces.{item_at, place_at, AreAtPlaces}
 use Rattle.redis_combiners.specs.ByPlaces.{by_places}
 use Rattle.redis_combiners.specs.KeyPlaces.{places, all_places}
-use Rattle.redis_commands.specs.Lists.{flatten}
+use Rattle.redis_routing.specs.Lists.{flatten}
 use Rattle.redis_combiners.specs.Misfits.{first_misfit}
 use Rattle.redis_combiners.specs.SortedArrays.{array_or_refusal, array_by_places, sorted_arrays}
-use Rattle.redis_commands.specs.declared.route_by.MultiSlotArgPattern.{MultiSlotArgPattern}
+use Rattle.redis_routing.specs.declared.route_by.MultiSlotArgPattern.{MultiSlotArgPattern}
 use Rattle.resp_core.proofs.Cases.{by_test}
 use Rattle.resp_core.proofs.Views.{items_in-replies_of}
 use Rattle.redis_combiners.proofs.Lists.{FirstAndOthers, first_and_others}

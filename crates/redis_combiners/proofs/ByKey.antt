@@ -19,7 +19,7 @@ use Rattle.std.proofs.lemmas.Option.{slice_get-map, slice_get-get_or}
 use Rattle.std.proofs.lemmas.Slice.Eq.{bytes_eq-Decides}
 use Rattle.std.proofs.Math.Seq.{get_or-append_seam}
 use Rattle.resp_core.proofs.Cases.{by_test}
-use Rattle.redis_combiners.specs.Entries.{plain_pairs, keys_among, total_among, entry_has, has_key_at, plus}
+use Rattle.redis_combiners.specs.Entries.{plain_pairs, keys_among, total_among, entry_has, has_key_at, sum_of_totals}
 use Rattle.redis_combiners.specs.KeyNumbers.{KeyNumber}
 use Rattle.redis_combiners.proofs.Totals.{or_zero, sum_at, sum_at_is, sum_at_more, plus_none}
 use Rattle.redis_combiners.proofs.TotalOrders.{sum_permuted}
@@ -60,7 +60,7 @@ by_entry (Some x) none some = some x refl
 same_self : (k : List ℕ) → bytes_eq k k ≡ true
 same_self k = (bytes_eq-Decides k k).1 refl
 
-one_more : (s : Option ℤ) (n : ℤ) → plus s (Some (n +ℤ or_zero None)) ≡ Some (or_zero s +ℤ n)
+one_more : (s : Option ℤ) (n : ℤ) → sum_of_totals s (Some (n +ℤ or_zero None)) ≡ Some (or_zero s +ℤ n)
 one_more None n = ap Some (omega (arith, ints))
 one_more (Some a) n = ap Some (omega (arith, ints))
 
@@ -256,12 +256,12 @@ pub strictly_from : (es : List Entry) → Rises (keys_among es) → IsStrictlySo
 strictly_from es up = sorted_from_all_adjacent nat_list_cmp_total (keys_among es) [] up
 
 -- the totals that are left, and those so far
-pub left_after : (new old : Option ℤ) (at_k : Option ℤ) (k q : List ℕ) (n : ℤ) (rest : List Entry) (e : Entry) (whole : Option ℤ) → key_of e ≡ k → e.1 ≡ n → new ≡ cond (bytes_eq k q) (Some (or_zero at_k +ℤ n)) old → (bytes_eq k q ≡ true → at_k ≡ old) → plus old (sum_at q (plain_pairs (e ∷ rest))) ≡ whole → plus new (sum_at q (plain_pairs rest)) ≡ whole
+pub left_after : (new old : Option ℤ) (at_k : Option ℤ) (k q : List ℕ) (n : ℤ) (rest : List Entry) (e : Entry) (whole : Option ℤ) → key_of e ≡ k → e.1 ≡ n → new ≡ cond (bytes_eq k q) (Some (or_zero at_k +ℤ n)) old → (bytes_eq k q ≡ true → at_k ≡ old) → sum_of_totals old (sum_at q (plain_pairs (e ∷ rest))) ≡ whole → sum_of_totals new (sum_at q (plain_pairs rest)) ≡ whole
 left_after new old at_k k q n rest e whole key number is same h =
     sum_at_more k q n new old at_k (plain_pairs rest) whole is same
-    (ap (λ z. plus old (sum_at q ((z, n) ∷ plain_pairs rest))) (sym key) ∙ ap (λ z. plus old (sum_at q ((key_of e, z) ∷ plain_pairs rest))) (sym number) ∙ h)
+    (ap (λ z. sum_of_totals old (sum_at q ((z, n) ∷ plain_pairs rest))) (sym key) ∙ ap (λ z. sum_of_totals old (sum_at q ((key_of e, z) ∷ plain_pairs rest))) (sym number) ∙ h)
 
-pub all_left : (es fs : List Entry) → IsPermutation es fs → (q : List ℕ) → plus None (sum_at q (plain_pairs fs)) ≡ total_among es q
+pub all_left : (es fs : List Entry) → IsPermutation es fs → (q : List ℕ) → sum_of_totals None (sum_at q (plain_pairs fs)) ≡ total_among es q
 all_left es fs moves q = sum_permuted q (plain_pairs es) (plain_pairs fs) (IsPermutation-map plain es fs moves) ∙ sum_at_is q (plain_pairs es)
 
 pub none_rises : Rises []

@@ -8,10 +8,10 @@ use Rattle.resp_core.specs.declared.error.ErrorKind.TheVariants.{Client}
 use Rattle.redis_combiners.specs.AllItems.{all_items}
 use Rattle.redis_combiners.specs.ByPlaces.{by_places}
 use Rattle.redis_combiners.specs.KeyPlaces.{all_places}
-use Rattle.redis_commands.specs.Lists.{flatten}
+use Rattle.redis_routing.specs.Lists.{flatten}
 use Rattle.redis_combiners.specs.Misfits.{first_misfit}
 use Rattle.redis_combiners.specs.SortedArrays.{array_or_refusal, array_by_places, sorted_arrays}
-use Rattle.redis_commands.specs.declared.route_by.MultiSlotArgPattern.{MultiSlotArgPattern}
+use Rattle.redis_routing.specs.declared.route_by.MultiSlotArgPattern.{MultiSlotArgPattern}
 use Rattle.redis_combiners.proofs.Misfits.{FittingItems, fitting_items, items_length}
 
 -- the places of some lists: all in one list, and how many each has

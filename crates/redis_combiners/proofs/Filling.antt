@@ -9,8 +9,8 @@ use Rattle.resp_core.specs.Reply.{Reply, array_of}
 use Rattle.resp_core.specs.View.{view}
 use Rattle.resp_core.specs.declared.value.Value.{Value}
 use Rattle.redis_combiners.specs.AllItems.{all_items}
-use Rattle.redis_combiners.specs.Spots.{spots_of, put, filled}
-use Rattle.redis_commands.specs.Lists.{all_some, flatten}
+use Rattle.redis_combiners.specs.Spots.{spots_of, put_item, filled}
+use Rattle.redis_routing.specs.Lists.{all_some, flatten}
 
 -- one list of items after another
 pub filled_both : (spots : List (Option Reply)) (ps qs : List ℕ) (xs ys : List Reply) → length ps ≡ length xs → filled spots (ps ++ qs) (xs ++ ys) ≡ option_and_then (λ later. filled later ps xs) (filled spots qs ys)
@@ -21,9 +21,9 @@ filled_both spots [] qs [] ys n = same (filled spots qs ys)
     same (Some later) = refl
 filled_both spots [] qs (x ∷ xs) ys n = absurd (omega arith)
 filled_both spots (p ∷ ps) qs [] ys n = absurd (omega arith)
-filled_both spots (p ∷ ps) qs (x ∷ xs) ys n = ap (option_and_then (λ later. put later p x)) (filled_both spots ps qs xs ys (omega arith)) ∙ same (filled spots qs ys)
+filled_both spots (p ∷ ps) qs (x ∷ xs) ys n = ap (option_and_then (λ later. put_item later p x)) (filled_both spots ps qs xs ys (omega arith)) ∙ same (filled spots qs ys)
   where
-    same : (o : Option (List (Option Reply))) → option_and_then (λ later. put later p x) (option_and_then (λ later. filled later ps xs) o) ≡ option_and_then (λ later. option_and_then (λ last. put last p x) (filled later ps xs)) o
+    same : (o : Option (List (Option Reply))) → option_and_then (λ later. put_item later p x) (option_and_then (λ later. filled later ps xs) o) ≡ option_and_then (λ later. option_and_then (λ last. put_item last p x) (filled later ps xs)) o
     same None = refl
     same (Some later) = refl
 
@@ -48,29 +48,29 @@ set-spots_of (b ∷ taken) (y ∷ items) zero x n = refl
 set-spots_of (b ∷ taken) (y ∷ items) (suc k) x n = ap (λ spots. cond b (Some y) None ∷ spots) (set-spots_of taken items k x (omega arith))
 
 -- an item at a place past the end, at one that is taken, and at a free one
-pub put_past : (taken : List Bool) (items : List Reply) (p : ℕ) (x : Reply) → length taken ≡ length items → length taken ≤ p → put (spots_of taken items) p x ≡ None
+pub put_past : (taken : List Bool) (items : List Reply) (p : ℕ) (x : Reply) → length taken ≡ length items → length taken ≤ p → put_item (spots_of taken items) p x ≡ None
 put_past taken items p x n l = ap (λ b. cond (b && is_none (get_or (spots_of taken items) p None)) (Some (set (spots_of taken items) p (Some x))) None) (le-ltb p (length (spots_of taken items)) (omega (arith, length-spots_of taken items n)))
 
 put_within : (taken : List Bool) (items : List Reply) (p : ℕ) (x : Reply) (b : Bool) → length taken ≡ length items → p < length taken → get_or taken p false ≡ b
-    → put (spots_of taken items) p x ≡ cond (cond b false true) (Some (spots_of (set taken p true) (set items p x))) None
+    → put_item (spots_of taken items) p x ≡ cond (cond b false true) (Some (spots_of (set taken p true) (set items p x))) None
 put_within taken items p x b n l e =
     ap (λ c. cond (c && is_none (get_or (spots_of taken items) p None)) (Some (set (spots_of taken items) p (Some x))) None) (lt-ltb p (length (spots_of taken items)) (omega (arith, length-spots_of taken items n)))
     ∙ ap (λ c. cond c (Some (set (spots_of taken items) p (Some x))) None) (free_at taken items p n ∙ ap (λ c. cond c false true) e)
     ∙ ap (λ spots. cond (cond b false true) (Some spots) None) (set-spots_of taken items p x n)
 
-pub put_taken : (taken : List Bool) (items : List Reply) (p : ℕ) (x : Reply) → length taken ≡ length items → p < length taken → get_or taken p false ≡ true → put (spots_of taken items) p x ≡ None
+pub put_taken : (taken : List Bool) (items : List Reply) (p : ℕ) (x : Reply) → length taken ≡ length items → p < length taken → get_or taken p false ≡ true → put_item (spots_of taken items) p x ≡ None
 put_taken taken items p x n l e = put_within taken items p x true n l e
 
-pub put_free : (taken : List Bool) (items : List Reply) (p : ℕ) (x : Reply) → length taken ≡ length items → p < length taken → get_or taken p false ≡ false → put (spots_of taken items) p x ≡ Some (spots_of (set taken p true) (set items p x))
+pub put_free : (taken : List Bool) (items : List Reply) (p : ℕ) (x : Reply) → length taken ≡ length items → p < length taken → get_or taken p false ≡ false → put_item (spots_of taken items) p x ≡ Some (spots_of (set taken p true) (set items p x))
 put_free taken items p x n l e = put_within taken items p x false n l e
 
 -- the last of the items that are left
 pub next_item : (spots : List (Option Reply)) (ps : List ℕ) (vs ws : List Value) (item : Value) (n : ℕ) (whole : Option (List (Option Reply))) → vs ≡ ws ++ item ∷ [] → length vs ≤ length ps → n ≡ length ws
     → filled spots (take (length vs) ps) (map view vs) ≡ whole
-    → option_and_then (λ later. filled later (take (length ws) ps) (map view ws)) (put spots (get_or ps n 0) (view item)) ≡ whole
+    → option_and_then (λ later. filled later (take (length ws) ps) (map view ws)) (put_item spots (get_or ps n 0) (view item)) ≡ whole
 next_item spots ps vs ws item n whole last few at e =
     let long : length vs ≡ length ws + 1 = ap length last ∙ length_push ws item in
-    ap (λ m. option_and_then (λ later. filled later (take (length ws) ps) (map view ws)) (put spots (get_or ps m 0) (view item))) at
+    ap (λ m. option_and_then (λ later. filled later (take (length ws) ps) (map view ws)) (put_item spots (get_or ps m 0) (view item))) at
     ∙ sym (filled_both spots (take (length ws) ps) (get_or ps (length ws) 0 ∷ []) (map view ws) (view item ∷ []) (length-take-le (length ws) ps (omega arith) ∙ sym (length-map ws view)))
     ∙ ap (λ qs. filled spots qs (map view ws ++ view item ∷ [])) (sym (take_more ps (length ws) 0 (omega arith)) ∙ ap (λ m. take m ps) (sym long))
     ∙ ap (filled spots (take (length vs) ps)) (sym (map_push view ws item) ∙ ap (map view) (sym last))

@@ -7,11 +7,11 @@ use Rattle.std.proofs.lemmas.Bool.{eq-eqb, eqb-true, ne_eqb}
 use Rattle.std.proofs.lemmas.List.{append-nil, drop_all, drop_more, get_or_at, length_push, length-map, map_push, set_at, get_or-map, get_or_read}
 use Rattle.std.proofs.lemmas.List.FromFn.{fill_by_all}
 use Rattle.resp_core.specs.Reply.{Reply, nil, int, bulk, array, simple, okay, pairs, int_of, array_of}
-use Rattle.redis_commands.specs.Lists.{all_some}
-use Rattle.redis_commands.specs.declared.policy.LogicalAggregateOp.{LogicalAggregateOp}
-use Rattle.redis_commands.specs.declared.policy.LogicalAggregateOp.TheVariants.{And, Or}
+use Rattle.redis_routing.specs.Lists.{all_some}
+use Rattle.redis_routing.specs.declared.policy.LogicalAggregateOp.{LogicalAggregateOp}
+use Rattle.redis_routing.specs.declared.policy.LogicalAggregateOp.TheVariants.{And, Or}
 use Rattle.redis_combiners.specs.Bits.{bit_of, bits_among, all_rows}
-use Rattle.redis_combiners.specs.Logical.{as_int, column, combined_bit, combined_bits, common_length, joined, joined_bit, joined_items, logical_items}
+use Rattle.redis_combiners.specs.Logical.{as_int, column, combined_bit, combined_bits, common_length, joined_bits, joined_bit, joined_items, logical_items}
 use Rattle.resp_core.specs.View.{view}
 use Rattle.resp_core.specs.declared.value.Value.{Value}
 use Rattle.resp_core.proofs.Cases.{by_test}
@@ -55,22 +55,22 @@ row_of_bits (x ∷ xs) bits e =
 -- what the items of two rows make, one place on
 next_place : (op : LogicalAggregateOp) (x y : Reply) (xs ys : List Reply) (a b : Bool) → bit_in x ≡ Some a → bit_in y ≡ Some b → joined_items op (x ∷ xs) (y ∷ ys) ≡ option_map (λ bits. joined_bit op a b ∷ bits) (joined_items op xs ys)
 next_place op x y xs ys a b e f =
-    ap (λ o. option_and_then (λ bits. option_map (joined op bits) (bits_among (y ∷ ys))) (all_some (o ∷ map bit_in xs))) e
-    ∙ ap (λ o. option_and_then (λ bits. option_map (joined op bits) (all_some (o ∷ map bit_in ys))) (all_some (Some a ∷ map bit_in xs))) f
+    ap (λ o. option_and_then (λ bits. option_map (joined_bits op bits) (bits_among (y ∷ ys))) (all_some (o ∷ map bit_in xs))) e
+    ∙ ap (λ o. option_and_then (λ bits. option_map (joined_bits op bits) (all_some (o ∷ map bit_in ys))) (all_some (Some a ∷ map bit_in xs))) f
     ∙ more (bits_among xs) (bits_among ys)
   where
-    more : (o p : Option (List Bool)) → option_and_then (λ bits. option_map (joined op bits) (option_map (λ bs. b ∷ bs) p)) (option_map (λ bs. a ∷ bs) o) ≡ option_map (λ bits. joined_bit op a b ∷ bits) (option_and_then (λ bits. option_map (joined op bits) p) o)
+    more : (o p : Option (List Bool)) → option_and_then (λ bits. option_map (joined_bits op bits) (option_map (λ bs. b ∷ bs) p)) (option_map (λ bs. a ∷ bs) o) ≡ option_map (λ bits. joined_bit op a b ∷ bits) (option_and_then (λ bits. option_map (joined_bits op bits) p) o)
     more None p = refl
     more (Some u) None = refl
     more (Some u) (Some v) = refl
 
 no_bit : (op : LogicalAggregateOp) (x : Reply) (xs ys : List Reply) → bit_in x ≡ None → joined_items op (x ∷ xs) ys ≡ None
-no_bit op x xs ys e = ap (λ o. option_and_then (λ bits. option_map (joined op bits) (bits_among ys)) (all_some (o ∷ map bit_in xs))) e
+no_bit op x xs ys e = ap (λ o. option_and_then (λ bits. option_map (joined_bits op bits) (bits_among ys)) (all_some (o ∷ map bit_in xs))) e
 
 no_other_bit : (op : LogicalAggregateOp) (y : Reply) (xs ys : List Reply) → bit_in y ≡ None → joined_items op xs (y ∷ ys) ≡ None
-no_other_bit op y xs ys e = ap (λ o. option_and_then (λ bits. option_map (joined op bits) (all_some (o ∷ map bit_in ys))) (bits_among xs)) e ∙ none (bits_among xs)
+no_other_bit op y xs ys e = ap (λ o. option_and_then (λ bits. option_map (joined_bits op bits) (all_some (o ∷ map bit_in ys))) (bits_among xs)) e ∙ none (bits_among xs)
   where
-    none : (o : Option (List Bool)) → option_and_then (λ bits. option_map (joined op bits) None) o ≡ None
+    none : (o : Option (List Bool)) → option_and_then (λ bits. option_map (joined_bits op bits) None) o ≡ None
     none None = refl
     none (Some u) = refl
 
@@ -142,14 +142,14 @@ joined_all_places op row first items i s l n =
 -- rows joined one after the other, if all are of one length
 abbrev pub joined_rows : LogicalAggregateOp → List Bool → List (List Bool) → Option (List Bool)
 joined_rows op row [] = Some row
-joined_rows op row (other ∷ others) = cond (eqb (length other) (length row)) (joined_rows op (joined op row other) others) None
+joined_rows op row (other ∷ others) = cond (eqb (length other) (length row)) (joined_rows op (joined_bits op row other) others) None
 
 -- the same of a row's items and further replies
 abbrev pub joined_replies : LogicalAggregateOp → List Reply → List Reply → Option (List Bool)
 joined_replies op row replies = option_and_then (λ bits. option_and_then (joined_rows op bits) (all_rows replies)) (bits_among row)
 
 -- the bits that two rows make
-both_at : (op : LogicalAggregateOp) (a b : List Bool) (k : ℕ) → length b ≡ length a → get_or (joined op a b) k false ≡ joined_bit op (get_or a k false) (get_or b k false)
+both_at : (op : LogicalAggregateOp) (a b : List Bool) (k : ℕ) → length b ≡ length a → get_or (joined_bits op a b) k false ≡ joined_bit op (get_or a k false) (get_or b k false)
 both_at And [] [] k n = refl
 both_at Or [] [] k n = refl
 both_at op [] (y ∷ b) k n = absurd (omega arith)
@@ -157,7 +157,7 @@ both_at op (x ∷ a) [] k n = absurd (omega arith)
 both_at op (x ∷ a) (y ∷ b) zero n = refl
 both_at op (x ∷ a) (y ∷ b) (suc k) n = both_at op a b k (omega arith)
 
-length-joined : (op : LogicalAggregateOp) (a b : List Bool) → length b ≡ length a → length (joined op a b) ≡ length a
+length-joined : (op : LogicalAggregateOp) (a b : List Bool) → length b ≡ length a → length (joined_bits op a b) ≡ length a
 length-joined op [] b n = refl
 length-joined op (x ∷ a) [] n = absurd (omega arith)
 length-joined op (x ∷ a) (y ∷ b) n = ap suc (length-joined op a b (omega arith))
@@ -192,7 +192,7 @@ two_bits op x y bits =
     ∙ sym (more_bits op x (y ∷ bits))
 
 -- two rows and what they make are alike to the others
-combined_same : (op : LogicalAggregateOp) (a b : List Bool) (bs : List (List Bool)) (width : ℕ) → length b ≡ length a → combined_bits op (joined op a b ∷ bs) width ≡ combined_bits op (a ∷ (b ∷ bs)) width
+combined_same : (op : LogicalAggregateOp) (a b : List Bool) (bs : List (List Bool)) (width : ℕ) → length b ≡ length a → combined_bits op (joined_bits op a b ∷ bs) width ≡ combined_bits op (a ∷ (b ∷ bs)) width
 combined_same op a b bs width n = map_same _ _ (λ k. ap as_int (ap (λ x. combined_bit op (x ∷ column bs k)) (both_at op a b k n) ∙ two_bits op (get_or a k false) (get_or b k false) (column bs k))) (range_with_len 0 width)
 
 alone : (op : LogicalAggregateOp) (a : List Bool) → map as_int a ≡ combined_bits op (a ∷ []) (length a)
@@ -209,13 +209,13 @@ columns_and_rows op a [] = ap Some (sym (alone op a))
 columns_and_rows op a (b ∷ bs) = by_test (eqb (length b) (length a))
     (λ t. ap (λ c. option_map (combined_bits op (a ∷ (b ∷ bs))) (cond (c && list_all (λ row. eqb (length row) (length a)) bs) (Some (length a)) None)) t
     ∙ same_columns (eqb-true (length b) (length a) t) (cond (list_all (λ row. eqb (length row) (length a)) bs) (Some (length a)) None)
-    ∙ ap (by_columns op (joined op a b ∷ bs) bs) (sym (length-joined op a b (eqb-true (length b) (length a) t)))
-    ∙ columns_and_rows op (joined op a b) bs
-    ∙ ap (λ c. option_map (map as_int) (cond c (joined_rows op (joined op a b) bs) None)) (sym t))
+    ∙ ap (by_columns op (joined_bits op a b ∷ bs) bs) (sym (length-joined op a b (eqb-true (length b) (length a) t)))
+    ∙ columns_and_rows op (joined_bits op a b) bs
+    ∙ ap (λ c. option_map (map as_int) (cond c (joined_rows op (joined_bits op a b) bs) None)) (sym t))
     (λ f. ap (λ c. option_map (combined_bits op (a ∷ (b ∷ bs))) (cond (c && list_all (λ row. eqb (length row) (length a)) bs) (Some (length a)) None)) f
-    ∙ ap (λ c. option_map (map as_int) (cond c (joined_rows op (joined op a b) bs) None)) (sym f))
+    ∙ ap (λ c. option_map (map as_int) (cond c (joined_rows op (joined_bits op a b) bs) None)) (sym f))
   where
-    same_columns : length b ≡ length a → (o : Option ℕ) → option_map (combined_bits op (a ∷ (b ∷ bs))) o ≡ option_map (combined_bits op (joined op a b ∷ bs)) o
+    same_columns : length b ≡ length a → (o : Option ℕ) → option_map (combined_bits op (a ∷ (b ∷ bs))) o ≡ option_map (combined_bits op (joined_bits op a b ∷ bs)) o
     same_columns n None = refl
     same_columns n (Some width) = ap Some (sym (combined_same op a b bs width n))
 
@@ -250,7 +250,7 @@ only_row op row e = ap (option_map (map as_int)) (whole (bits_among row)) ∙ in
 
 -- the next reply and its row
 next_row : (op : LogicalAggregateOp) (row : List Reply) (r : Reply) (rs : List Reply)
-    → joined_replies op row (r ∷ rs) ≡ option_and_then (λ a. option_and_then (λ b. cond (eqb (length b) (length a)) (option_and_then (joined_rows op (joined op a b)) (all_rows rs)) None) (option_and_then bits_among (array_of r))) (bits_among row)
+    → joined_replies op row (r ∷ rs) ≡ option_and_then (λ a. option_and_then (λ b. cond (eqb (length b) (length a)) (option_and_then (joined_rows op (joined_bits op a b)) (all_rows rs)) None) (option_and_then bits_among (array_of r))) (bits_among row)
 next_row op row r rs =
     ap (λ o. option_and_then (λ a. option_and_then (joined_rows op a) o) (bits_among row)) (first_and_rest (option_and_then bits_among (array_of r)) (map (λ reply. option_and_then bits_among (array_of reply)) rs))
     ∙ steps (bits_among row) (option_and_then bits_among (array_of r)) (all_rows rs)
@@ -260,7 +260,7 @@ next_row op row r rs =
     either false = refl
 
     steps : (o p : Option (List Bool)) (q : Option (List (List Bool)))
-        → option_and_then (λ a. option_and_then (joined_rows op a) (option_and_then (λ b. option_map (λ bs. b ∷ bs) q) p)) o ≡ option_and_then (λ a. option_and_then (λ b. cond (eqb (length b) (length a)) (option_and_then (joined_rows op (joined op a b)) q) None) p) o
+        → option_and_then (λ a. option_and_then (joined_rows op a) (option_and_then (λ b. option_map (λ bs. b ∷ bs) q) p)) o ≡ option_and_then (λ a. option_and_then (λ b. cond (eqb (length b) (length a)) (option_and_then (joined_rows op (joined_bits op a b)) q) None) p) o
     steps None p q = refl
     steps (Some a) None q = refl
     steps (Some a) (Some b) None = either (eqb (length b) (length a))
@@ -271,24 +271,24 @@ bits-length xs a e = all_some_length (map bit_in xs) a e ∙ length-map xs bit_i
 
 pub next_is_longer : (op : LogicalAggregateOp) (row : List Reply) (r : Reply) (items rs : List Reply) → array_of r ≡ Some items → (length items ≡ length row → ⊥) → joined_replies op row (r ∷ rs) ≡ None
 next_is_longer op row r items rs e n = next_row op row r rs
-    ∙ ap (λ o. option_and_then (λ a. option_and_then (λ b. cond (eqb (length b) (length a)) (option_and_then (joined_rows op (joined op a b)) (all_rows rs)) None) (option_and_then bits_among o)) (bits_among row)) e
+    ∙ ap (λ o. option_and_then (λ a. option_and_then (λ b. cond (eqb (length b) (length a)) (option_and_then (joined_rows op (joined_bits op a b)) (all_rows rs)) None) (option_and_then bits_among o)) (bits_among row)) e
     ∙ none (bits_among row) (bits_among items) refl refl
   where
-    none : (o p : Option (List Bool)) → bits_among row ≡ o → bits_among items ≡ p → option_and_then (λ a. option_and_then (λ b. cond (eqb (length b) (length a)) (option_and_then (joined_rows op (joined op a b)) (all_rows rs)) None) p) o ≡ None
+    none : (o p : Option (List Bool)) → bits_among row ≡ o → bits_among items ≡ p → option_and_then (λ a. option_and_then (λ b. cond (eqb (length b) (length a)) (option_and_then (joined_rows op (joined_bits op a b)) (all_rows rs)) None) p) o ≡ None
     none None p f g = refl
     none (Some a) None f g = refl
-    none (Some a) (Some b) f g = ap (λ c. cond c (option_and_then (joined_rows op (joined op a b)) (all_rows rs)) None) (ne_eqb (length b) (length a) (λ h. n (sym (bits-length items b g) ∙ h ∙ bits-length row a f)))
+    none (Some a) (Some b) f g = ap (λ c. cond c (option_and_then (joined_rows op (joined_bits op a b)) (all_rows rs)) None) (ne_eqb (length b) (length a) (λ h. n (sym (bits-length items b g) ∙ h ∙ bits-length row a f)))
 
 -- the next row joined to the first
 pub next_joined : (op : LogicalAggregateOp) (row new : List Reply) (r : Reply) (items rs : List Reply) → array_of r ≡ Some items → length items ≡ length row → is_some (joined_items op row items) ≡ true → bits_among new ≡ joined_items op row items
     → joined_replies op row (r ∷ rs) ≡ joined_replies op new rs
 next_joined op row new r items rs e n there is = next_row op row r rs
-    ∙ ap (λ o. option_and_then (λ a. option_and_then (λ b. cond (eqb (length b) (length a)) (option_and_then (joined_rows op (joined op a b)) (all_rows rs)) None) (option_and_then bits_among o)) (bits_among row)) e
+    ∙ ap (λ o. option_and_then (λ a. option_and_then (λ b. cond (eqb (length b) (length a)) (option_and_then (joined_rows op (joined_bits op a b)) (all_rows rs)) None) (option_and_then bits_among o)) (bits_among row)) e
     ∙ both (bits_among row) (bits_among items) refl refl there
     ∙ ap (option_and_then (λ bits. option_and_then (joined_rows op bits) (all_rows rs))) (sym is)
   where
-    both : (o p : Option (List Bool)) → bits_among row ≡ o → bits_among items ≡ p → is_some (option_and_then (λ bits. option_map (joined op bits) p) o) ≡ true
-        → option_and_then (λ a. option_and_then (λ b. cond (eqb (length b) (length a)) (option_and_then (joined_rows op (joined op a b)) (all_rows rs)) None) p) o ≡ option_and_then (λ bits. option_and_then (joined_rows op bits) (all_rows rs)) (option_and_then (λ bits. option_map (joined op bits) p) o)
+    both : (o p : Option (List Bool)) → bits_among row ≡ o → bits_among items ≡ p → is_some (option_and_then (λ bits. option_map (joined_bits op bits) p) o) ≡ true
+        → option_and_then (λ a. option_and_then (λ b. cond (eqb (length b) (length a)) (option_and_then (joined_rows op (joined_bits op a b)) (all_rows rs)) None) p) o ≡ option_and_then (λ bits. option_and_then (joined_rows op bits) (all_rows rs)) (option_and_then (λ bits. option_map (joined_bits op bits) p) o)
     both None p f g h = absurd (cc)
     both (Some a) None f g h = absurd (cc)
-    both (Some a) (Some b) f g h = ap (λ c. cond c (option_and_then (joined_rows op (joined op a b)) (all_rows rs)) None) (eq-eqb (length b) (length a) (bits-length items b g ∙ n ∙ sym (bits-length row a f)))
+    both (Some a) (Some b) f g h = ap (λ c. cond c (option_and_then (joined_rows op (joined_bits op a b)) (all_rows rs)) None) (eq-eqb (length b) (length a) (bits-length items b g ∙ n ∙ sym (bits-length row a f)))

@@ -8,9 +8,9 @@ use Rattle.std.proofs.lemmas.List.FromFn.{length-map-range_with_len}
 use Rattle.std.proofs.lemmas.Nat.{mod-mul-add}
 use Rattle.std.proofs.lemmas.Simd.{map-map}
 use Rattle.redis_combiners.specs.KeyPlaces.{every_nth, tuple_places, own_arguments, places}
-use Rattle.redis_commands.specs.Tuples.{width_of}
-use Rattle.redis_commands.specs.declared.route_by.MultiSlotArgPattern.{MultiSlotArgPattern}
-use Rattle.redis_commands.proofs.Patterns.{some_width}
+use Rattle.redis_routing.specs.Tuples.{width_of}
+use Rattle.redis_routing.specs.declared.route_by.MultiSlotArgPattern.{MultiSlotArgPattern}
+use Rattle.redis_routing.proofs.Patterns.{some_width}
 
 -- every width-th number, where the first stands at a place of a longer list
 abbrev every_nth_from : ℕ → ℕ → List ℕ → List ℕ

@@ -5,8 +5,8 @@ use Rattle.std.specs.List.{range_with_len, list_all}
 use Rattle.std.proofs.lemmas.Bool.{eq-eqb, ltb-true}
 use Rattle.std.proofs.lemmas.List.FromFn.{length-map-range_with_len, get_or-map-range_with_len}
 use Rattle.resp_core.specs.Reply.{Reply}
-use Rattle.redis_combiners.specs.ByPlaces.{items_at, single, by_places}
-use Rattle.redis_commands.specs.Lists.{all_some}
+use Rattle.redis_combiners.specs.ByPlaces.{items_of_index, single, by_places}
+use Rattle.redis_routing.specs.Lists.{all_some}
 use Rattle.resp_core.proofs.Cases.{by_test}
 use Rattle.redis_combiners.proofs.Arranging.{items_at-cons}
 use Rattle.redis_combiners.proofs.Lists.{all_some_at, all_some_length}
@@ -17,32 +17,32 @@ single_is (y ∷ []) x e = let same : y ≡ x = cc in ap (λ z. z ∷ []) same
 single_is (y ∷ (z ∷ xs)) x e = absurd (cc)
 
 -- an item is among those of its place
-stands : (ps : List ℕ) (xs : List Reply) (j : ℕ) (d : Reply) → j < length ps → length xs ≡ length ps → 0 < length (items_at (get_or ps j 0) ps xs)
+stands : (ps : List ℕ) (xs : List Reply) (j : ℕ) (d : Reply) → j < length ps → length xs ≡ length ps → 0 < length (items_of_index (get_or ps j 0) ps xs)
 stands [] xs j d l n = absurd (omega arith)
 stands (p ∷ ps) [] j d l n = absurd (omega arith)
 stands (p ∷ ps) (x ∷ xs) zero d l n = subst (λ ys. 0 < length ys) (sym (items_at-cons p p ps x xs)) (sized (nat_eq p p) (eq-eqb p p refl))
   where
-    sized : (b : Bool) → b ≡ true → 0 < length (cond b (x ∷ items_at p ps xs) (items_at p ps xs))
+    sized : (b : Bool) → b ≡ true → 0 < length (cond b (x ∷ items_of_index p ps xs) (items_of_index p ps xs))
     sized true e = omega arith
     sized false e = absurd (cc)
 stands (p ∷ ps) (x ∷ xs) (suc j) d l n = subst (λ ys. 0 < length ys) (sym (items_at-cons (get_or ps j 0) p ps x xs)) (sized (nat_eq p (get_or ps j 0)) (stands ps xs j d (omega arith) (omega arith)))
   where
-    sized : (b : Bool) → 0 < length (items_at (get_or ps j 0) ps xs) → 0 < length (cond b (x ∷ items_at (get_or ps j 0) ps xs) (items_at (get_or ps j 0) ps xs))
+    sized : (b : Bool) → 0 < length (items_of_index (get_or ps j 0) ps xs) → 0 < length (cond b (x ∷ items_of_index (get_or ps j 0) ps xs) (items_of_index (get_or ps j 0) ps xs))
     sized true h = omega arith
     sized false h = h
 
-only_one : (ps : List ℕ) (xs : List Reply) (j : ℕ) (y d : Reply) → items_at (get_or ps j 0) ps xs ≡ y ∷ [] → j < length ps → length xs ≡ length ps → get_or xs j d ≡ y
+only_one : (ps : List ℕ) (xs : List Reply) (j : ℕ) (y d : Reply) → items_of_index (get_or ps j 0) ps xs ≡ y ∷ [] → j < length ps → length xs ≡ length ps → get_or xs j d ≡ y
 only_one [] xs j y d e l n = absurd (omega arith)
 only_one (p ∷ ps) [] j y d e l n = absurd (omega arith)
 only_one (p ∷ ps) (x ∷ xs) zero y d e l n = first (nat_eq p p) (eq-eqb p p refl) (sym (items_at-cons p p ps x xs) ∙ e)
   where
-    first : (b : Bool) → b ≡ true → cond b (x ∷ items_at p ps xs) (items_at p ps xs) ≡ y ∷ [] → x ≡ y
+    first : (b : Bool) → b ≡ true → cond b (x ∷ items_of_index p ps xs) (items_of_index p ps xs) ≡ y ∷ [] → x ≡ y
     first true t h = cc
     first false t h = absurd (cc)
 only_one (p ∷ ps) (x ∷ xs) (suc j) y d e l n = later (nat_eq p (get_or ps j 0)) (stands ps xs j d (omega arith) (omega arith)) (λ h. only_one ps xs j y d h (omega arith) (omega arith)) (sym (items_at-cons (get_or ps j 0) p ps x xs) ∙ e)
   where
-    later : (b : Bool) → 0 < length (items_at (get_or ps j 0) ps xs) → (items_at (get_or ps j 0) ps xs ≡ y ∷ [] → get_or xs j d ≡ y) → cond b (x ∷ items_at (get_or ps j 0) ps xs) (items_at (get_or ps j 0) ps xs) ≡ y ∷ [] → get_or xs j d ≡ y
-    later true some here h = let none : items_at (get_or ps j 0) ps xs ≡ [] = cc in absurd (omega (arith, ap length none))
+    later : (b : Bool) → 0 < length (items_of_index (get_or ps j 0) ps xs) → (items_of_index (get_or ps j 0) ps xs ≡ y ∷ [] → get_or xs j d ≡ y) → cond b (x ∷ items_of_index (get_or ps j 0) ps xs) (items_of_index (get_or ps j 0) ps xs) ≡ y ∷ [] → get_or xs j d ≡ y
+    later true some here h = let none : items_of_index (get_or ps j 0) ps xs ≡ [] = cc in absurd (omega (arith, ap length none))
     later false some here h = here h
 
 within_at : (n : ℕ) (ps : List ℕ) (j : ℕ) → list_all (λ p. nat_lt p n) ps ≡ true → j < length ps → get_or ps j 0 < n
@@ -60,14 +60,14 @@ within_at n (p ∷ ps) (suc j) e l = within_at n ps j (rest (nat_lt p n) e) (ome
 -- element j stands at place j
 pub at_own_place : (ps : List ℕ) (xs out : List Reply) (d : Reply) → length xs ≡ length ps → by_places ps xs ≡ Some out → (j : ℕ) → j < length ps → get_or out (get_or ps j 0) d ≡ get_or xs j d
 at_own_place ps xs out d n e j l = by_test (list_all (λ p. nat_lt p (length ps)) ps)
-    (λ t. let f : ℕ → Option Reply = λ k. single (items_at k ps xs) in
+    (λ t. let f : ℕ → Option Reply = λ k. single (items_of_index k ps xs) in
     let place = get_or ps j 0 in
     let below : place < length ps = within_at (length ps) ps j t l in
     let all : all_some (map f (range_with_len 0 (length ps))) ≡ Some out = sym (ap (λ b. cond b (all_some (map f (range_with_len 0 (length ps)))) None) t) ∙ e in
     let long : length (map f (range_with_len 0 (length ps))) ≡ length ps = length-map-range_with_len f 0 (length ps) in
     let one : f place ≡ Some (get_or out place d) = sym (get_or-map-range_with_len f 0 (length ps) place place None below (omega arith)) ∙ all_some_at (map f (range_with_len 0 (length ps))) out place d all (omega arith) in
-    sym (only_one ps xs j (get_or out place d) d (single_is (items_at place ps xs) (get_or out place d) one) l n))
-    (λ f. absurd (refused (sym (ap (λ b. cond b (all_some (map (λ k. single (items_at k ps xs)) (range_with_len 0 (length ps)))) None) f) ∙ e)))
+    sym (only_one ps xs j (get_or out place d) d (single_is (items_of_index place ps xs) (get_or out place d) one) l n))
+    (λ f. absurd (refused (sym (ap (λ b. cond b (all_some (map (λ k. single (items_of_index k ps xs)) (range_with_len 0 (length ps)))) None) f) ∙ e)))
   where
     refused : None ≡ Some out → ⊥
     refused h = cc
@@ -75,11 +75,11 @@ at_own_place ps xs out d n e j l = by_test (list_all (λ p. nat_lt p (length ps)
 -- a place is one of the whole
 pub own_place_within : (ps : List ℕ) (xs out : List Reply) → by_places ps xs ≡ Some out → (j : ℕ) → j < length ps → get_or ps j 0 < length out
 own_place_within ps xs out e j l = by_test (list_all (λ p. nat_lt p (length ps)) ps)
-    (λ t. let f : ℕ → Option Reply = λ k. single (items_at k ps xs) in
+    (λ t. let f : ℕ → Option Reply = λ k. single (items_of_index k ps xs) in
     let below : get_or ps j 0 < length ps = within_at (length ps) ps j t l in
     let all : all_some (map f (range_with_len 0 (length ps))) ≡ Some out = sym (ap (λ b. cond b (all_some (map f (range_with_len 0 (length ps)))) None) t) ∙ e in
     omega (arith, all_some_length (map f (range_with_len 0 (length ps))) out all, length-map-range_with_len f 0 (length ps)))
-    (λ f. absurd (refused (sym (ap (λ b. cond b (all_some (map (λ k. single (items_at k ps xs)) (range_with_len 0 (length ps)))) None) f) ∙ e)))
+    (λ f. absurd (refused (sym (ap (λ b. cond b (all_some (map (λ k. single (items_of_index k ps xs)) (range_with_len 0 (length ps)))) None) f) ∙ e)))
   where
     refused : None ≡ Some out → ⊥
     refused h = cc

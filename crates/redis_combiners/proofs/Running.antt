@@ -6,7 +6,7 @@ use Rattle.resp_core.specs.Reply.{Reply, int_of}
 use Rattle.resp_core.specs.View.{view}
 use Rattle.resp_core.specs.declared.value.Value.{Value}
 use Rattle.redis_combiners.specs.Aggregate.{numbers, sum_of, in_i64}
-use Rattle.redis_commands.specs.Lists.{all_some}
+use Rattle.redis_routing.specs.Lists.{all_some}
 
 -- what f makes of the numbers, from a on
 abbrev pub fold_on : (ℤ → ℤ → ℤ) → ℤ → List Reply → Option ℤ

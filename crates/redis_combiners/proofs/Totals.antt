@@ -17,8 +17,8 @@ use Rattle.std.proofs.lemmas.List.{length-map, get_or-map}
 use Rattle.resp_core.specs.Reply.{Reply, bulk, int, pairs, pairs_of}
 use Rattle.redis_combiners.specs.Aggregate.{total, fits_i64}
 use Rattle.redis_combiners.specs.KeyNumbers.{KeyNumber, all_pairs}
-use Rattle.redis_commands.specs.Lists.{all_some}
-use Rattle.redis_combiners.specs.Entries.{plain_pairs, total_among, plus}
+use Rattle.redis_routing.specs.Lists.{all_some}
+use Rattle.redis_combiners.specs.Entries.{plain_pairs, total_among, sum_of_totals}
 use Rattle.redis_combiners.specs.Totals.{has_key, total_of, total_at, ascending_keys, totals, IsListing, reply_pair, map_of, map_of_totals, combined_map}
 use Rattle.redis_combiners.proofs.Ahead.{before, before-more}
 use Rattle.resp_core.proofs.Cases.{by_test}
@@ -156,24 +156,24 @@ pub same_totals : (ps qs : List KeyNumber) → ((q : List ℕ) → sum_at q ps �
 same_totals ps qs h = are_totals (totals ps) qs (totals_ascend ps) (λ q. find_totals q ps ∙ sym (sum_at_is q ps) ∙ h q ∙ sum_at_is q qs)
 
 -- a total, so far and of the rest
-pub plus_none : (o : Option ℤ) → plus o None ≡ o
+pub plus_none : (o : Option ℤ) → sum_of_totals o None ≡ o
 plus_none None = refl
 plus_none (Some a) = refl
 
-plus-more : (o t : Option ℤ) (n : ℤ) → plus (Some (or_zero o +ℤ n)) t ≡ plus o (Some (n +ℤ or_zero t))
+plus-more : (o t : Option ℤ) (n : ℤ) → sum_of_totals (Some (or_zero o +ℤ n)) t ≡ sum_of_totals o (Some (n +ℤ or_zero t))
 plus-more None None n = ap Some (omega (arith, ints))
 plus-more None (Some b) n = ap Some (omega (arith, ints))
 plus-more (Some a) None n = ap Some (omega (arith, ints))
 plus-more (Some a) (Some b) n = ap Some (omega (arith, ints))
 
 pub sum_at_more : (k q : List ℕ) (n : ℤ) (new old at_k : Option ℤ) (ps : List KeyNumber) (whole : Option ℤ) → new ≡ cond (bytes_eq k q) (Some (or_zero at_k +ℤ n)) old → (bytes_eq k q ≡ true → at_k ≡ old)
-    → plus old (sum_at q ((k, n) ∷ ps)) ≡ whole → plus new (sum_at q ps) ≡ whole
+    → sum_of_totals old (sum_at q ((k, n) ∷ ps)) ≡ whole → sum_of_totals new (sum_at q ps) ≡ whole
 sum_at_more k q n new old at_k ps whole e same h = by_test (bytes_eq k q)
-    (λ t. ap (λ o. plus o (sum_at q ps)) (e ∙ ap (λ b. cond b (Some (or_zero at_k +ℤ n)) old) t ∙ ap (λ o. Some (or_zero o +ℤ n)) (same t))
+    (λ t. ap (λ o. sum_of_totals o (sum_at q ps)) (e ∙ ap (λ b. cond b (Some (or_zero at_k +ℤ n)) old) t ∙ ap (λ o. Some (or_zero o +ℤ n)) (same t))
     ∙ plus-more old (sum_at q ps) n
-    ∙ ap (λ b. plus old (cond b (Some (n +ℤ or_zero (sum_at q ps))) (sum_at q ps))) (sym t) ∙ h)
-    (λ f. ap (λ o. plus o (sum_at q ps)) (e ∙ ap (λ b. cond b (Some (or_zero at_k +ℤ n)) old) f)
-    ∙ ap (λ b. plus old (cond b (Some (n +ℤ or_zero (sum_at q ps))) (sum_at q ps))) (sym f) ∙ h)
+    ∙ ap (λ b. sum_of_totals old (cond b (Some (n +ℤ or_zero (sum_at q ps))) (sum_at q ps))) (sym t) ∙ h)
+    (λ f. ap (λ o. sum_of_totals o (sum_at q ps)) (e ∙ ap (λ b. cond b (Some (or_zero at_k +ℤ n)) old) f)
+    ∙ ap (λ b. sum_of_totals old (cond b (Some (n +ℤ or_zero (sum_at q ps))) (sum_at q ps))) (sym f) ∙ h)
 
 pub same_key : (k q : List ℕ) (es : List (Vec ℕ Global × ℤ)) → bytes_eq k q ≡ true → total_among es k ≡ total_among es q
 same_key k q es e = ap (total_among es) ((bytes_eq-Decides k q).0 e)

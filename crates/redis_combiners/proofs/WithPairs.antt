@@ -7,39 +7,39 @@ use Rattle.std.specs.Ordering.{nat_cmp}
 use Rattle.std.specs.Str.{bytes_eq}
 use Rattle.std.proofs.lemmas.Int.{ints}
 use Rattle.resp_core.specs.Reply.{Reply, array_of, pairs, pairs_of}
-use Rattle.redis_commands.specs.Lists.{all_some, flatten}
-use Rattle.redis_combiners.specs.Entries.{plain_pairs, total_among, plus, with_pairs}
+use Rattle.redis_routing.specs.Lists.{all_some, flatten}
+use Rattle.redis_combiners.specs.Entries.{plain_pairs, total_among, sum_of_totals, with_pairs}
 use Rattle.redis_combiners.specs.KeyNumbers.{KeyNumber, pairs_among, all_pairs}
 use Rattle.redis_combiners.specs.Totals.{total_at, reply_pair, map_of_totals, combined_map}
 use Rattle.redis_combiners.proofs.Totals.{or_zero, sum_at, sum_at_is, sum_at_more, plus_none, combined_map_is}
 
-plus_assoc : (a b c : Option ℤ) → plus (plus a b) c ≡ plus a (plus b c)
+plus_assoc : (a b c : Option ℤ) → sum_of_totals (sum_of_totals a b) c ≡ sum_of_totals a (sum_of_totals b c)
 plus_assoc None b c = refl
 plus_assoc (Some x) None c = refl
 plus_assoc (Some x) (Some y) None = refl
 plus_assoc (Some x) (Some y) (Some z) = ap Some (omega (arith, ints))
 
 -- the total of a key over two lists
-pub sum_at-append : (q : List ℕ) (ps qs : List KeyNumber) → sum_at q (ps ++ qs) ≡ plus (sum_at q ps) (sum_at q qs)
+pub sum_at-append : (q : List ℕ) (ps qs : List KeyNumber) → sum_at q (ps ++ qs) ≡ sum_of_totals (sum_at q ps) (sum_at q qs)
 sum_at-append q [] qs = refl
 sum_at-append q (p ∷ ps) qs = more (bytes_eq p.0 q) (sum_at q ps) (sum_at q qs) (sum_at q (ps ++ qs)) (sum_at-append q ps qs)
   where
-    first : (s t : Option ℤ) → Some (p.1 +ℤ or_zero (plus s t)) ≡ plus (Some (p.1 +ℤ or_zero s)) t
+    first : (s t : Option ℤ) → Some (p.1 +ℤ or_zero (sum_of_totals s t)) ≡ sum_of_totals (Some (p.1 +ℤ or_zero s)) t
     first None None = refl
     first None (Some y) = ap Some (omega (arith, ints))
     first (Some x) None = refl
     first (Some x) (Some y) = ap Some (omega (arith, ints))
 
-    more : (b : Bool) (s t u : Option ℤ) → u ≡ plus s t → cond b (Some (p.1 +ℤ or_zero u)) u ≡ plus (cond b (Some (p.1 +ℤ or_zero s)) s) t
+    more : (b : Bool) (s t u : Option ℤ) → u ≡ sum_of_totals s t → cond b (Some (p.1 +ℤ or_zero u)) u ≡ sum_of_totals (cond b (Some (p.1 +ℤ or_zero s)) s) t
     more true s t u e = ap (λ o. Some (p.1 +ℤ or_zero o)) e ∙ first s t
     more false s t u e = e
 
-total_at-append : (q : List ℕ) (ps qs : List KeyNumber) → total_at q (ps ++ qs) ≡ plus (total_at q ps) (total_at q qs)
+total_at-append : (q : List ℕ) (ps qs : List KeyNumber) → total_at q (ps ++ qs) ≡ sum_of_totals (total_at q ps) (total_at q qs)
 total_at-append q ps qs =
     sym (sum_at_is q (ps ++ qs))
     ∙ sum_at-append q ps qs
-    ∙ ap (λ o. plus o (sum_at q qs)) (sum_at_is q ps)
-    ∙ ap (plus (total_at q ps)) (sum_at_is q qs)
+    ∙ ap (λ o. sum_of_totals o (sum_at q qs)) (sum_at_is q ps)
+    ∙ ap (sum_of_totals (total_at q ps)) (sum_at_is q qs)
 
 abbrev shown : ℕ → Option ℤ → Option (ℕ × Option ℤ)
 shown count total = Some (count, total)
@@ -57,17 +57,17 @@ total_in (Some s) = s.1
 
 -- with none left to add
 pub with_none : (count : ℕ) (total : Option ℤ) (q : List ℕ) → with_pairs count total q (Some []) ≡ Some (count, total)
-with_none count total q = both (count + 0) count (plus total None) total (omega arith) (plus_none total)
+with_none count total q = both (count + 0) count (sum_of_totals total None) total (omega arith) (plus_none total)
 
 -- one pair added, and the others to add
 pub with_pair : (count more : ℕ) (k q : List ℕ) (n : ℤ) (old new at_k : Option ℤ) (rest : Option (List KeyNumber)) → more ≡ count + 1 → new ≡ cond (bytes_eq k q) (Some (or_zero at_k +ℤ n)) old → (bytes_eq k q ≡ true → at_k ≡ old)
     → with_pairs more new q rest ≡ with_pairs count old q (option_map (λ ps. (k, n) ∷ ps) rest)
 with_pair count more k q n old new at_k None e is same = refl
 with_pair count more k q n old new at_k (Some ps) e is same =
-    both (more + length ps) (count + length ((k, n) ∷ ps)) (plus new (total_at q ps)) (plus old (total_at q ((k, n) ∷ ps))) (omega (arith, e))
-    (ap (plus new) (sym (sum_at_is q ps))
-    ∙ sum_at_more k q n new old at_k ps (plus old (sum_at q ((k, n) ∷ ps))) is same refl
-    ∙ ap (plus old) (sum_at_is q ((k, n) ∷ ps)))
+    both (more + length ps) (count + length ((k, n) ∷ ps)) (sum_of_totals new (total_at q ps)) (sum_of_totals old (total_at q ((k, n) ∷ ps))) (omega (arith, e))
+    (ap (sum_of_totals new) (sym (sum_at_is q ps))
+    ∙ sum_at_more k q n new old at_k ps (sum_of_totals old (sum_at q ((k, n) ∷ ps))) is same refl
+    ∙ ap (sum_of_totals old) (sum_at_is q ((k, n) ∷ ps)))
 
 -- the pairs of a reply added, and those of the others to add
 with_reply : (count more : ℕ) (q : List ℕ) (old new : Option ℤ) (found : Option (List KeyNumber)) (rest : List (Option (List KeyNumber))) → with_pairs count old q found ≡ Some (more, new)
@@ -78,17 +78,17 @@ with_reply count more q old new (Some ps) rest h = by (all_some rest)
     m : more ≡ count + length ps
     m = sym (ap count_of h)
 
-    t : new ≡ plus old (total_at q ps)
+    t : new ≡ sum_of_totals old (total_at q ps)
     t = sym (ap total_in h)
 
     by : (o : Option (List (List KeyNumber))) → with_pairs more new q (option_map flatten o) ≡ with_pairs count old q (option_map flatten (option_map (λ pss. ps ∷ pss) o))
     by None = refl
     by (Some pss) =
-        both (more + length (flatten pss)) (count + length (ps ++ flatten pss)) (plus new (total_at q (flatten pss))) (plus old (total_at q (ps ++ flatten pss)))
+        both (more + length (flatten pss)) (count + length (ps ++ flatten pss)) (sum_of_totals new (total_at q (flatten pss))) (sum_of_totals old (total_at q (ps ++ flatten pss)))
         (omega (arith, m, length-append ps (flatten pss)))
-        (ap (λ o. plus o (total_at q (flatten pss))) t
+        (ap (λ o. sum_of_totals o (total_at q (flatten pss))) t
         ∙ plus_assoc old (total_at q ps) (total_at q (flatten pss))
-        ∙ ap (plus old) (sym (total_at-append q ps (flatten pss))))
+        ∙ ap (sum_of_totals old) (sym (total_at-append q ps (flatten pss))))
 
 pub replies_more : (count more : ℕ) (q : List ℕ) (old new : Option ℤ) (reply : Reply) (items rest : List Reply) → Some items ≡ array_of reply → with_pairs count old q (pairs_among items) ≡ Some (more, new)
     → with_pairs more new q (all_pairs rest) ≡ with_pairs count old q (all_pairs (reply ∷ rest))

@@ -2,7 +2,7 @@
 use Rattle.std.specs.Prelude.{◌≡◌, ℕ, List, Option, Some, slice_get, option_and_then}
 use Rattle.resp_core.specs.Reply.{Reply, array_of}
 use Rattle.redis_combiners.specs.KeyPlaces.{places}
-use Rattle.redis_commands.specs.declared.route_by.MultiSlotArgPattern.{MultiSlotArgPattern}
+use Rattle.redis_routing.specs.declared.route_by.MultiSlotArgPattern.{MultiSlotArgPattern}
 
 -- item j of a reply, if it is an array that has one
 abbrev pub item_at : Reply → ℕ → Option Reply

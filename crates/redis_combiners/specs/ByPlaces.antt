@@ -2,11 +2,11 @@
 use Rattle.std.specs.Prelude.{ℕ, List, [], ◌∷◌, length, map, filter, Option, Some, None, nat_eq, nat_lt, if◌then◌else◌}
 use Rattle.std.specs.List.{range_with_len, list_all, zip}
 use Rattle.resp_core.specs.Reply.{Reply}
-use Rattle.redis_commands.specs.Lists.{all_some}
+use Rattle.redis_routing.specs.Lists.{all_some}
 
 -- the items whose place is k: the j-th item has the j-th place
-abbrev pub items_at : ℕ → List ℕ → List Reply → List Reply
-items_at k places items = map (λ pair. pair.1) (filter (λ pair. nat_eq pair.0 k) (zip places items))
+abbrev pub items_of_index : ℕ → List ℕ → List Reply → List Reply
+items_of_index k places items = map (λ pair. pair.1) (filter (λ pair. nat_eq pair.0 k) (zip places items))
 
 -- the element of a list of just one
 abbrev pub single : List Reply → Option Reply
@@ -19,5 +19,5 @@ single (x ∷ (y ∷ xs)) = None
 abbrev pub by_places : List ℕ → List Reply → Option (List Reply)
 by_places places items =
     if list_all (λ place. nat_lt place (length places)) places
-    then all_some (map (λ k. single (items_at k places items)) (range_with_len 0 (length places)))
+    then all_some (map (λ k. single (items_of_index k places items)) (range_with_len 0 (length places)))
     else None

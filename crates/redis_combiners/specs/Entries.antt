@@ -27,12 +27,12 @@ abbrev pub has_key_at : List (Vec ℕ Global × ℤ) → ℕ → List ℕ → Bo
 has_key_at entries place key = entry_has key (slice_get entries place)
 
 -- the total of two parts, each of which may have none
-abbrev pub plus : Option ℤ → Option ℤ → Option ℤ
-plus None o = o
-plus (Some a) None = Some a
-plus (Some a) (Some b) = Some (a +ℤ b)
+abbrev pub sum_of_totals : Option ℤ → Option ℤ → Option ℤ
+sum_of_totals None o = o
+sum_of_totals (Some a) None = Some a
+sum_of_totals (Some a) (Some b) = Some (a +ℤ b)
 
 -- how many pairs there are and the total of the key, once pairs are added, if there are pairs to add
 abbrev pub with_pairs : ℕ → Option ℤ → List ℕ → Option (List KeyNumber) → Option (ℕ × Option ℤ)
 with_pairs count so_far key added =
-    option_map (λ pairs. (count + length pairs, plus so_far (total_at key pairs))) added
+    option_map (λ pairs. (count + length pairs, sum_of_totals so_far (total_at key pairs))) added

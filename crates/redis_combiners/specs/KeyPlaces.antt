@@ -1,10 +1,10 @@
 -- The places of the keys of a part of a split command, by the list of its arguments.
 use Rattle.std.specs.Prelude.{ℕ, ◌-◌, ◌/◌, ◌%◌, ◌==◌, List, length, map, filter, take, Option, Some, None, option_and_then, if◌then◌else◌}
 use Rattle.std.specs.List.{enumerate_from}
-use Rattle.redis_commands.specs.Lists.{all_some}
-use Rattle.redis_commands.specs.Tuples.{width_of}
-use Rattle.redis_commands.specs.declared.route_by.MultiSlotArgPattern.{MultiSlotArgPattern}
-use Rattle.redis_commands.specs.declared.route_by.MultiSlotArgPattern.TheVariants.{KeysOnly, KeyValuePairs, KeysAndLastArg, KeyWithTwoArgTriples}
+use Rattle.redis_routing.specs.Lists.{all_some}
+use Rattle.redis_routing.specs.Tuples.{width_of}
+use Rattle.redis_routing.specs.declared.route_by.MultiSlotArgPattern.{MultiSlotArgPattern}
+use Rattle.redis_routing.specs.declared.route_by.MultiSlotArgPattern.TheVariants.{KeysOnly, KeyValuePairs, KeysAndLastArg, KeyWithTwoArgTriples}
 
 -- every width-th number of a list, from the first on
 abbrev pub every_nth : ℕ → List ℕ → List ℕ

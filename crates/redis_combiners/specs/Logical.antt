@@ -3,8 +3,8 @@ use Rattle.std.specs.Prelude.{ℕ, pos, Bool, true, false, List, [], ◌∷◌, 
 use Rattle.std.specs.List.{range_with_len, list_all, list_any, zip}
 use Rattle.resp_core.specs.Reply.{Reply, int}
 use Rattle.redis_combiners.specs.Bits.{bits_among, all_rows}
-use Rattle.redis_commands.specs.declared.policy.LogicalAggregateOp.{LogicalAggregateOp}
-use Rattle.redis_commands.specs.declared.policy.LogicalAggregateOp.TheVariants.{And, Or}
+use Rattle.redis_routing.specs.declared.policy.LogicalAggregateOp.{LogicalAggregateOp}
+use Rattle.redis_routing.specs.declared.policy.LogicalAggregateOp.TheVariants.{And, Or}
 
 -- the length of the rows, if all have the same; without rows it is 0
 abbrev pub common_length : List (List Bool) → Option ℕ
@@ -38,13 +38,13 @@ joined_bit And a b = a && b
 joined_bit Or a b = a || b
 
 -- what the bits of two rows make, place by place
-abbrev pub joined : LogicalAggregateOp → List Bool → List Bool → List Bool
-joined op row other = map (λ pair. joined_bit op pair.0 pair.1) (zip row other)
+abbrev pub joined_bits : LogicalAggregateOp → List Bool → List Bool → List Bool
+joined_bits op row other = map (λ pair. joined_bit op pair.0 pair.1) (zip row other)
 
 -- what the items of two replies make, if each is 0 or 1
 abbrev pub joined_items : LogicalAggregateOp → List Reply → List Reply → Option (List Bool)
 joined_items op row other =
-    option_and_then (λ bits. option_map (joined op bits) (bits_among other)) (bits_among row)
+    option_and_then (λ bits. option_map (joined_bits op bits) (bits_among other)) (bits_among row)
 
 -- the items of the one array, if the replies are arrays of 0 and 1, all of one length
 abbrev pub logical_items : LogicalAggregateOp → List Reply → Option (List Reply)

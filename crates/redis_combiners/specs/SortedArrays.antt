@@ -7,9 +7,9 @@ use Rattle.resp_core.specs.declared.error.ErrorKind.TheVariants.{Client}
 use Rattle.redis_combiners.specs.AllItems.{all_items}
 use Rattle.redis_combiners.specs.ByPlaces.{by_places}
 use Rattle.redis_combiners.specs.KeyPlaces.{all_places}
-use Rattle.redis_commands.specs.Lists.{flatten}
+use Rattle.redis_routing.specs.Lists.{flatten}
 use Rattle.redis_combiners.specs.Misfits.{first_misfit}
-use Rattle.redis_commands.specs.declared.route_by.MultiSlotArgPattern.{MultiSlotArgPattern}
+use Rattle.redis_routing.specs.declared.route_by.MultiSlotArgPattern.{MultiSlotArgPattern}
 
 -- an array of the items; refused where a reply does not fit, or else where there is no order of the
 -- items

@@ -8,8 +8,8 @@ abbrev pub spots_of : List Bool → List Reply → List (Option Reply)
 spots_of taken items = map (λ pair. if pair.0 then Some pair.1 else None) (zip taken items)
 
 -- the spots with one more item, if its place is one of them and not taken
-abbrev pub put : List (Option Reply) → ℕ → Reply → Option (List (Option Reply))
-put spots place item =
+abbrev pub put_item : List (Option Reply) → ℕ → Reply → Option (List (Option Reply))
+put_item spots place item =
     if nat_lt place (length spots) && is_none (slice_index_or spots place None)
     then Some (slice_set spots place (Some item))
     else None
@@ -19,4 +19,4 @@ abbrev pub filled : List (Option Reply) → List ℕ → List Reply → Option (
 filled spots [] items = Some spots
 filled spots (place ∷ places) [] = Some spots
 filled spots (place ∷ places) (item ∷ items) =
-    option_and_then (λ later. put later place item) (filled spots places items)
+    option_and_then (λ later. put_item later place item) (filled spots places items)

@@ -9,7 +9,7 @@ ghost use Rattle.resp_core.specs.View.{view, view_pair};
 ghost use Rattle.resp_core.specs.declared.error.ErrorKind.TheVariants.{UnexpectedReturnType};
 ghost use Rattle.redis_combiners.specs.Entries.{plain_pairs, keys_among, total_among, has_key_at, with_pairs};
 ghost use Rattle.redis_combiners.specs.KeyNumbers.{KeyNumber, pairs_among, all_pairs};
-ghost use Rattle.redis_commands.specs.Lists.{all_some};
+ghost use Rattle.redis_routing.specs.Lists.{all_some};
 ghost use Rattle.redis_combiners.specs.Totals.{totals, IsListing, reply_pair, combined_map};
 
 use resp_core::{ErrorKind, RedisError, RedisResult, Value};
@@ -33,7 +33,7 @@ struct KeyTotals {
 /// # Errors
 ///
 /// `UnexpectedReturnType` where a reply is not an array of bulk strings and numbers in turn, or
-/// where the sum of a key does not fit in an i64; a running sum may leave the i64, since it has 128
+/// where the sum of a key does not fit in an i64. A running sum may leave the i64, since it has 128
 /// bits. Or out of memory, as 2^63 pairs always are.
 #[tactic(auto, using(crate::proofs::TotalOrders::any_order))]
 pub fn combine_map_results(alloc: Global, values: Vec<Value>) -> RedisResult<Value>

@@ -1,9 +1,9 @@
 ghost use Rattle.std.specs.Prelude.{◌≡◌, ◌++◌, IfOk, length, option_map, map};
 ghost use Rattle.redis_combiners.specs.KeyPlaces.{own_arguments, places, all_places};
-ghost use Rattle.redis_commands.specs.Lists.{flatten};
+ghost use Rattle.redis_routing.specs.Lists.{flatten};
 
 use cluster_slots::Route;
-use redis_commands::MultiSlotArgPattern;
+use redis_routing::MultiSlotArgPattern;
 use std::alloc::{AllocError, Global};
 
 /// The places of the keys of some lists of arguments, one list after the other, and how many there

@@ -9,7 +9,7 @@ use super::arrange::arrange;
 use super::fit::check_fit;
 use super::places::key_places;
 use cluster_slots::Route;
-use redis_commands::MultiSlotArgPattern;
+use redis_routing::MultiSlotArgPattern;
 use resp_core::{ErrorKind, RedisError, RedisResult, Value};
 use std::alloc::Global;
 
@@ -19,10 +19,10 @@ use std::alloc::Global;
 ///
 /// # Errors
 ///
-/// In this order: `Client` where a list is not of whole tuples, or is empty though it should end in
-/// a shared index; `Client` where there are not as many replies as lists; for the first reply that
+/// In this order. `Client` where a list is not of whole tuples, or is empty though it should end in
+/// a shared index. `Client` where there are not as many replies as lists. For the first reply that
 /// does not fit, `UnexpectedReturnType` where it is not an array, and `Client` where it does not
-/// have as many items as its list has places; `Client` where the places are not the numbers from 0
+/// have as many items as its list has places. `Client` where the places are not the numbers from 0
 /// on, each once. Out of memory may come in place of any of these.
 pub fn combine_and_sort_array_results(
     alloc: Global,

@@ -4,12 +4,12 @@ ghost use Rattle.resp_core.specs.View.{view};
 ghost use Rattle.resp_core.specs.declared.error.ErrorKind.TheVariants.{UnexpectedReturnType};
 ghost use Rattle.redis_combiners.specs.Aggregate.{sum_of, least_of, aggregate_of};
 
-use redis_commands::AggregateOp;
+use redis_routing::AggregateOp;
 use resp_core::{ErrorKind, RedisError, RedisResult, Value};
 
 /// One number for replies that are numbers: their sum, which is 0 of none, or the least of them,
-/// which is `i64::MAX` of none: `DBSIZE` and `DEL` are summed up, and of `WAIT` it is the least. The
-/// order of the replies does not matter. Takes no memory.
+/// which is `i64::MAX` of none. `DBSIZE` and `DEL` are summed up, and of `WAIT` it is the least.
+/// The order of the replies does not matter. Takes no memory.
 ///
 /// ```
 /// aggregate(replies, AggregateOp::Sum)

@@ -1,5 +1,7 @@
 //! What the errors of plans, sends and the driver print.
+use cluster_map::NodeAddress;
 use redis_cluster::driver::{DriveError, DriveFault, PlanFault, SendError};
+use redis_cluster::routing::Redirect;
 use resp_core::{ErrorKind, RedisError};
 use std::alloc::{AllocError, Global};
 use std::test::Fail;
@@ -17,6 +19,7 @@ fn drive_text(alloc: Global, fault: DriveFault, answered: usize) -> Result<Strin
 #[test]
 fn drive_errors_print_their_cause_and_how_many_were_answered(rt: HostRuntime) -> Result<(), Fail> {
     let alloc = rt.alloc();
+    let moved = Redirect::Moved(NodeAddress::try_from(alloc, "x:9")?);
     let table = [
         (
             drive_text(alloc, DriveFault::NotMultiKey, 0)?,
@@ -37,6 +40,10 @@ fn drive_errors_print_their_cause_and_how_many_were_answered(rt: HostRuntime) ->
         (
             drive_text(alloc, DriveFault::Node(refusal()), 1)?,
             "node refused: read only (parts answered: 1)",
+        ),
+        (
+            drive_text(alloc, DriveFault::Redirected(moved), 1)?,
+            "node redirected: MOVED x:9 (parts answered: 1)",
         ),
         (
             drive_text(alloc, DriveFault::Lost(refusal()), 1)?,
@@ -65,6 +72,12 @@ fn faults_of_plans_and_sends_print_their_cause(rt: HostRuntime) -> Result<(), Fa
     assert_eq!(rt;
         format!(in alloc; "{refused}")?.as_str(),
         "node refused: read only"
+    );
+    let address = NodeAddress::try_from(alloc, "x:9")?;
+    let asked = SendError::Redirected(Redirect::Ask(address));
+    assert_eq!(rt;
+        format!(in alloc; "{asked}")?.as_str(),
+        "node redirected: ASK x:9"
     );
     Ok(())
 }

@@ -2,8 +2,8 @@
 use crate::texts::{driven_text, trace_text};
 use cluster_map::{NodeAddress, ReadRoutingStrategy, SlotMap, SlotRange};
 use memory_nodes::MemoryNodes;
-use redis_cluster::driver::{DriveError, Nodes, drive};
-use redis_cluster::routing::{ReadOnlyNames, Routable};
+use redis_cluster::driver::{DriveError, Nodes, drive, drive_retrying};
+use redis_cluster::routing::{Names, ReadOnlyNames, Registry, Routable};
 use resp_core::{Cmd, RedisResult, Value};
 use std::alloc::{AllocError, Global};
 use std::process::Abort;
@@ -22,10 +22,11 @@ pub const ONE_REPLICA: [Line<'static>; 2] = [
     (8192, 16383, "n2:2", &[]),
 ];
 
-/// A map, and the names that only read.
+/// A map, the names that only read, and a registry of no name.
 pub struct Given {
     pub map: SlotMap,
     pub read_only: ReadOnlyNames,
+    pub registry: Registry,
 }
 
 // By hand, so that a test that lets one go is proved over a call, and not over the loops that free
@@ -35,6 +36,7 @@ impl Drop for Given {
         let Given {
             map: _,
             read_only: _,
+            registry: _,
         } = self;
     }
 }
@@ -44,7 +46,16 @@ impl Given {
         Ok(Given {
             map: map_of(alloc, lines)?,
             read_only: read_only_names(alloc)?,
+            registry: Registry::new(alloc),
         })
+    }
+
+    /// What is told of names.
+    pub fn names(&self) -> Names<'_> {
+        Names {
+            read_only: &self.read_only,
+            registry: &self.registry,
+        }
     }
 
     /// Drives a command over nodes.
@@ -113,6 +124,23 @@ impl Cluster {
     pub fn give(&mut self, command: &Cmd, order: &[usize]) -> Result<Value, DriveError> {
         self.given
             .give(self.alloc, command, None, order, &mut self.nodes)
+    }
+
+    /// Drives the command of the words of a text with retries and no strategy, and answers what it
+    /// gave as a text.
+    pub fn retry(&mut self, text: &str, retries: usize, order: &[usize]) -> Result<String, Fail> {
+        let given = drive_retrying(
+            self.alloc,
+            &cmd_of(self.alloc, text)?,
+            &self.given.read_only,
+            &self.given.map,
+            None,
+            0,
+            retries,
+            order,
+            &mut self.nodes,
+        );
+        driven_text(self.alloc, &given)
     }
 
     /// Drives a command, and answers what it gave as a text.

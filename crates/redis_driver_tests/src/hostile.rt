@@ -83,7 +83,7 @@ fn plan_of<'a>(
     given: &'a Given,
     cmd: &'a Cmd,
 ) -> Result<SplitPlan<'a, Cmd>, &'static str> {
-    match SplitPlan::new(alloc, cmd, &given.read_only, &given.map, None, 0) {
+    match SplitPlan::new(alloc, cmd, given.names(), &given.map, None, 0) {
         Ok(plan) => Ok(plan),
         Err(_) => Err("no plan"),
     }

@@ -20,6 +20,8 @@ mod lost_replies;
 #[cfg(test)]
 mod nodes_in_memory;
 #[cfg(test)]
+mod redirects;
+#[cfg(test)]
 mod refusals;
 #[cfg(test)]
 mod replicas;

@@ -2,6 +2,7 @@
 use crate::given::{Given, TWO_NODES, cmd_of};
 use cluster_map::NodeAddress;
 use redis_cluster::driver::SendError;
+use redis_cluster::routing::Registry;
 use resp_core::{Cmd, ErrorKind, RedisError, Value};
 use std::alloc::{AllocError, Global};
 use std::str;
@@ -14,7 +15,7 @@ impl Meaning for Any {
 
     ghost Cell = { Unit {0} };
 
-    ghost step = { λ name shared key extras cell. record { cell = None; result = record { value = nil; counts = false } } };
+    ghost step = { λ registered name shared key extras cell. record { cell = None; result = record { value = nil; counts = false } } };
 
     ghost initial = { λ key. None };
 
@@ -86,7 +87,10 @@ fn driven_over(
     cmd: &Cmd,
     transport: &mut LosesReply,
 ) -> Result<String, Fail> {
-    let mut nodes = WireNodes::<Logged<&mut LosesReply>, Any>::over(transport);
+    let mut nodes = WireNodes::<Logged<&mut LosesReply>, Any>::over(
+        transport,
+        Registry::new(alloc),
+    );
     let text = given.drive(alloc, cmd, None, &[2, 0, 1], &mut nodes);
     let _ = nodes.into_wire().into_transport();
     text

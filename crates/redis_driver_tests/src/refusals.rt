@@ -128,7 +128,7 @@ fn a_plan_is_made_or_tells_that_memory_ran_out(rt: HostRuntime) -> Result<(), Fa
     let Ok(cmd) = cmd_of(alloc, "MGET a b") else {
         return Ok(());
     };
-    let made = SplitPlan::new(alloc, &cmd, &given.read_only, &given.map, None, 0);
+    let made = SplitPlan::new(alloc, &cmd, given.names(), &given.map, None, 0);
     let mut plan = match made {
         Ok(plan) => plan,
         Err(fault) => {

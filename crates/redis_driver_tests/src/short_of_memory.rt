@@ -1,6 +1,6 @@
 //! Nodes that run out of memory at one send, and at no later one.
 ghost use Rattle.memory_nodes.specs.Cells.{Cell};
-ghost use Rattle.memory_nodes.specs.Nodes.{keyspace_in, trace_in, MayRefuse};
+ghost use Rattle.memory_nodes.specs.Nodes.{keyspace_in, registered_in, trace_in, MayRefuse};
 ghost use Rattle.memory_nodes.specs.Steps.{step};
 
 use crate::given::{Given, TWO_NODES, cmd_of};
@@ -8,6 +8,7 @@ use crate::texts::trace_text;
 use cluster_map::NodeAddress;
 use memory_nodes::MemoryNodes;
 use redis_cluster::driver::{Nodes, SendError};
+use redis_cluster::routing::Registry;
 use resp_core::{Cmd, Value};
 use std::alloc::Global;
 use std::test::Fail;
@@ -25,6 +26,8 @@ impl Nodes for ShortOfMemory {
 
     ghost step = { step };
 
+    ghost registered = { λ short. registered_in short.nodes };
+
     ghost keyspace = { λ short. keyspace_in short.nodes };
 
     ghost trace = { λ short. trace_in short.nodes };
@@ -32,6 +35,10 @@ impl Nodes for ShortOfMemory {
     ghost mark = { λ short. short.mark };
 
     ghost may_refuse = { λ short. MayRefuse short.nodes };
+
+    fn registry(&self) -> &Registry {
+        self.nodes.registry()
+    }
 
     fn send(&mut self, node: &NodeAddress, cmd: &Cmd) -> Result<Value, SendError> {
         if self.sends_left == 0 {

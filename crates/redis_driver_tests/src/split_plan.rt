@@ -34,7 +34,7 @@ fn planned<R: Routable>(
     strategy: Option<&dyn ReadRoutingStrategy>,
     pick: usize,
 ) -> Result<String, Fail> {
-    match SplitPlan::new(alloc, command, &given.read_only, &given.map, strategy, pick) {
+    match SplitPlan::new(alloc, command, given.names(), &given.map, strategy, pick) {
         Ok(plan) => plan_text(alloc, &plan),
         Err(fault) => Ok(fault_text(alloc, &fault)?),
     }
@@ -157,7 +157,7 @@ fn plan_of<'a>(
     given: &'a Given,
     cmd: &'a Cmd,
 ) -> Result<SplitPlan<'a, Cmd>, &'static str> {
-    match SplitPlan::new(alloc, cmd, &given.read_only, &given.map, None, 0) {
+    match SplitPlan::new(alloc, cmd, given.names(), &given.map, None, 0) {
         Ok(plan) => Ok(plan),
         Err(_) => Err("no plan"),
     }

@@ -1,6 +1,7 @@
 //! What comes of commands, as texts.
 use memory_nodes::TraceEntry;
 use redis_cluster::driver::{DriveError, DriveFault};
+use redis_cluster::routing::Redirect;
 use resp_core::{RedisError, Value};
 use std::alloc::{AllocError, Global};
 use std::str;
@@ -24,8 +25,19 @@ fn fault_text(alloc: Global, fault: &DriveFault) -> Result<String, AllocError> {
         DriveFault::BadOrder => format!(in alloc; "BadOrder"),
         DriveFault::Memory => format!(in alloc; "Memory"),
         DriveFault::Node(error) => error_text(alloc, "Node", error),
+        DriveFault::Redirected(redirect) => {
+            format!(in alloc; "Redirected{}", redirect_text(alloc, redirect)?)
+        }
         DriveFault::Lost(error) => error_text(alloc, "Lost", error),
         DriveFault::Reply(error) => error_text(alloc, "Reply", error),
+    }
+}
+
+// The word and the address of a redirect.
+fn redirect_text(alloc: Global, redirect: &Redirect) -> Result<String, AllocError> {
+    match redirect {
+        Redirect::Moved(address) => format!(in alloc; " moved {address}"),
+        Redirect::Ask(address) => format!(in alloc; " ask {address}"),
     }
 }
 
@@ -71,7 +83,12 @@ pub fn trace_text(alloc: Global, trace: &[TraceEntry]) -> Result<String, Fail> {
             text.push(' ')?;
             text.push_str(str::from_utf8(arg)?)?;
         }
-        text.push_str(if entry.answered { ";" } else { " refused;" })?;
+        match &entry.redirect {
+            Some(redirect) => text.push_str(&redirect_text(alloc, redirect)?)?,
+            None if entry.answered => {}
+            None => text.push_str(" refused")?,
+        }
+        text.push(';')?;
     }
     Ok(text)
 }

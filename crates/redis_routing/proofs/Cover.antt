@@ -15,10 +15,10 @@ use Rattle.std.proofs.lemmas.List.Sums.{sum_by-cons}
 use Rattle.redis_routing.specs.Laws.{Covers, lists_with}
 use Rattle.redis_routing.specs.Parts.{slot_of, first_appearances, tuples_in_slot, places_in_slot, arguments_in_slot}
 use Rattle.redis_routing.specs.Routing.{route_of_slot, routes_of}
-use Rattle.redis_commands.specs.Tuples.{Tuple, keys_alone, keys_and_values, keys_and_two, fits, own_count, width_of, tuples_from, tuples_in, shared_in, places_of, arguments_of}
-use Rattle.redis_commands.specs.declared.route_by.MultiSlotArgPattern.{MultiSlotArgPattern}
-use Rattle.redis_commands.specs.declared.route_by.MultiSlotArgPattern.TheVariants.{KeysOnly, KeyValuePairs, KeysAndLastArg, KeyWithTwoArgTriples}
-use Rattle.redis_commands.proofs.Patterns.{own_few, length-own}
+use Rattle.redis_routing.specs.Tuples.{Tuple, keys_alone, keys_and_values, keys_and_two, fits, tuple_args_count, width_of, tuples_from, tuples_in, shared_in, places_of, arguments_of}
+use Rattle.redis_routing.specs.declared.route_by.MultiSlotArgPattern.{MultiSlotArgPattern}
+use Rattle.redis_routing.specs.declared.route_by.MultiSlotArgPattern.TheVariants.{KeysOnly, KeyValuePairs, KeysAndLastArg, KeyWithTwoArgTriples}
+use Rattle.redis_routing.proofs.Patterns.{own_few, length-own}
 use Rattle.resp_core.proofs.Cases.{by_test, and_second}
 
 self : (n : ℕ) → nat_eq n n ≡ true
@@ -175,16 +175,16 @@ tiles_from KeysAndLastArg low present even = tiles_alone low present
 tiles_from KeyWithTwoArgTriples low present even = tiles_triples low present even
 
 -- the arguments that make tuples come out even
-pub own_whole : (pattern : MultiSlotArgPattern) (m : ℕ) → fits pattern m ≡ true → own_count pattern m % width_of pattern ≡ 0
+pub own_whole : (pattern : MultiSlotArgPattern) (m : ℕ) → fits pattern m ≡ true → tuple_args_count pattern m % width_of pattern ≡ 0
 own_whole KeysOnly m h = omega arith
 own_whole KeyValuePairs m h = eqb-true (m % 2) 0 (and_second (nat_lt 0 m) (nat_eq (m % 2) 0) h)
 own_whole KeysAndLastArg m h = omega arith
 own_whole KeyWithTwoArgTriples m h = eqb-true (m % 3) 0 (and_second (nat_lt 0 m) (nat_eq (m % 3) 0) h)
 
 -- the tuples stand side by side from the first place on
-pub tiles_present : (pattern : MultiSlotArgPattern) (present : List (List ℕ)) → fits pattern (length present) ≡ true → Tiles 0 (own_count pattern (length present)) (tuples_in pattern present)
+pub tiles_present : (pattern : MultiSlotArgPattern) (present : List (List ℕ)) → fits pattern (length present) ≡ true → Tiles 0 (tuple_args_count pattern (length present)) (tuples_in pattern present)
 tiles_present pattern present whole =
-    let own = own_count pattern (length present) in
+    let own = tuple_args_count pattern (length present) in
     let e : 0 + length (take own present) ≡ own = omega (arith, length-own pattern present) in
     rw e at (tiles_from pattern 0 (take own present) (ap (λ m. m % width_of pattern) (length-own pattern present) ∙ own_whole pattern (length present) whole))
 
@@ -228,7 +228,7 @@ owner p low high (t ∷ ts) h from to = elim (cases_lt p (next low t)) [
 
 module _ (pattern : MultiSlotArgPattern) (present : List (List ℕ)) where
   abbrev own : ℕ
-  own = own_count pattern (length present)
+  own = tuple_args_count pattern (length present)
 
   abbrev tuples : List Tuple
   tuples = tuples_in pattern present

@@ -1,4 +1,17 @@
+pub mod Agree
+pub mod Arguments
+pub mod CommandNames
+pub mod NameSets
+pub mod Patterns
+pub mod Placed
+pub mod RegisteredNames
+pub mod Registrations
+pub mod Rows
+pub mod SameRows
+pub mod Search
+pub mod TableRows
 pub mod Cover
+pub mod Grouping
 pub mod Picks
 pub mod RedirectTexts
 pub mod Respelt

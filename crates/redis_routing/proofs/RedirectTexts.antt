@@ -1,13 +1,14 @@
 -- The one way to read the text of a redirect.
-use Rattle.std.proofs.Common.{◌≡◌, ◌≢◌, ◌<◌, ℕ, zero, suc, inl, inr, List, [], ◌∷◌, ◌++◌, length, get_or, drop, Option, Some, None, MatchOption, Bor, refl, ap, sym, ◌∙◌, subst, arith, lit<}
+use Rattle.std.proofs.Common.{◌≡◌, ◌≢◌, ◌<◌, ℕ, zero, suc, inl, inr, List, [], ◌∷◌, ◌++◌, length, get_or, drop, replicate, Option, Some, None, MatchOption, Bor, refl, ap, sym, ◌∙◌, subst, arith, lit<}
 use Rattle.std.specs.Prelude.{codes}
 use Rattle.std.specs.Str.Pattern.{StripsPrefix, FindsTextPrefix}
 use Rattle.std.proofs.lemmas.Str.Pattern.{IsSplitOnceResult, split_parts}
-use Rattle.cluster_slots.specs.AddressText.{IsNoAddress}
+use Rattle.cluster_slots.specs.AddressText.{IsAddressText, IsNoAddress}
 use Rattle.cluster_slots.specs.Number.{number_in}
+use Rattle.cluster_slots.proofs.AddressTexts.{one_address}
 use Rattle.cluster_slots.proofs.Lists.{Lacks, lacks_from, has, first_cut}
 use Rattle.redis_routing.specs.declared.info.Redirect.TheVariants.{Moved, Ask}
-use Rattle.redis_routing.specs.RedirectText.{IsNodeText, IsNoRedirect, TellsNode}
+use Rattle.redis_routing.specs.RedirectText.{IsNodeText, IsNoRedirect, TellsNode, unknown_host}
 
 -- spaces
 pub lacks_each : (c : ℕ) (bs : List ℕ) → ((i : ℕ) → i < length bs → get_or bs i 0 ≢ c) → Lacks c bs
@@ -33,16 +34,38 @@ same_cut answering text number node slot host port e none t = first_cut 32 numbe
 
 -- the node
 pub no_node : (answering text : List ℕ) → IsNoAddress text → ((rest : List ℕ) → text ≢ 58 ∷ rest) → (host : List ℕ) (port : ℕ) → ¬ (IsNodeText answering text host port)
-no_node answering text none bare host port (inl named) = none host port named
+no_node answering text none bare host port (inl named) = none host port named.address
 no_node answering text none bare host port (inr alone) = bare alone.digits alone.whole
 
 pub no_port : (answering text rest : List ℕ) → IsNoAddress text → text ≡ 58 ∷ rest → None ≡ number_in 16 rest → (host : List ℕ) (port : ℕ) → ¬ (IsNodeText answering text host port)
-no_port answering text rest none e bad host port (inl named) = none host port named
+no_port answering text rest none e bad host port (inl named) = none host port named.address
 no_port answering text rest none e bad host port (inr alone) =
     let same : 58 ∷ rest ≡ 58 ∷ alone.digits = sym e ∙ alone.whole in
     let tail : rest ≡ alone.digits = cc in
     let both : None ≡ Some port = bad ∙ ap (number_in 16) tail ∙ alone.number in
     absurd (cc)
+
+-- a port alone names none where the node that answered has no host
+pub no_answering : (answering text : List ℕ) → IsNoAddress text → answering ≡ [] → (host : List ℕ) (port : ℕ) → ¬ (IsNodeText answering text host port)
+no_answering answering text none empty host port (inl named) = none host port named.address
+no_answering answering text none empty host port (inr alone) = alone.some (alone.same ∙ empty)
+
+-- the text of an unknown host begins with it, or with a bracket
+unknown_first : (opens closes : ℕ) (right rest : List ℕ) → (replicate opens 91 ++ unknown_host ++ replicate closes 93) ++ 58 ∷ right ≡ 58 ∷ rest → ⊥
+unknown_first zero closes right rest e =
+    let first : 63 ≡ 58 = ap (λ (xs : List ℕ). get_or xs 0 0) e in
+    absurd (omega (arith, first))
+unknown_first (suc opens) closes right rest e =
+    let first : 91 ≡ 58 = ap (λ (xs : List ℕ). get_or xs 0 0) e in
+    absurd (omega (arith, first))
+
+-- an address with an unknown host names no node
+pub no_host : (answering text known : List ℕ) (number : ℕ) → IsAddressText text known number → known ≡ unknown_host → (host : List ℕ) (port : ℕ) → ¬ (IsNodeText answering text host port)
+no_host answering text known number read same host port (inl named) = named.known ((one_address text host known port number named.address read).0 ∙ same)
+no_host answering text known number (left, right, reads) same host port (inr alone) =
+    let bracketed = reads.bracketed in
+    let left_is = bracketed.2.whole ∙ ap (λ (h : List ℕ). replicate bracketed.0 91 ++ h ++ replicate bracketed.1 93) same in
+    unknown_first bracketed.0 bracketed.1 right alone.digits (ap (λ (l : List ℕ). l ++ 58 ∷ right) (sym left_is) ∙ sym reads.cut ∙ alone.whole)
 
 -- the word
 pub stripped : (word text rest : List ℕ) → StripsPrefix (FindsTextPrefix word) text rest → text ≡ word ++ rest

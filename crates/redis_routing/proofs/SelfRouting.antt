@@ -10,25 +10,27 @@ use Rattle.std.proofs.lemmas.List.Elements.{All-cons, All-filter, All-head, All-
 use Rattle.std.proofs.lemmas.Simd.{map-map}
 use Rattle.cluster_slots.specs.KeySlot.{key_slot}
 use Rattle.cluster_slots.specs.SlotRoute.{SlotRoute}
-use Rattle.redis_commands.specs.Upper.{upper}
-use Rattle.redis_commands.specs.TwoWords.{takes_second}
-use Rattle.redis_commands.specs.Command.{Arguments, argument, command_of, in_upper_case, name_by, with_second}
-use Rattle.redis_commands.specs.RouteBy.{base_routings, base_routing}
-use Rattle.redis_commands.specs.PresentArguments.{arguments_before_gap, present_arguments_after}
-use Rattle.redis_commands.specs.Tuples.{Tuple, fits, is_complete, keys_alone, keys_and_two, keys_and_values, own_count, shared_in, tuples_from, tuples_in, width_of, arguments_of}
-use Rattle.redis_routing.specs.Parts.{first_appearances, tuples_in_slot, part_of_slot_after, arguments_in_slot, slot_of}
-use Rattle.redis_routing.specs.Routing.{routing_by_with, nodes_for, route_of_slot, routes_of, routing_with, routing_by_name_with, routing_of_routes, to_slots}
+use Rattle.redis_routing.specs.Upper.{upper}
+use Rattle.redis_routing.specs.TwoWords.{takes_second}
+use Rattle.redis_routing.specs.Command.{Arguments, argument, command_name, in_upper_case, name_by, with_second}
+use Rattle.redis_routing.specs.RouteBy.{base_routings, base_routing}
+use Rattle.redis_routing.specs.Names.{Names}
+use Rattle.redis_routing.specs.NameWords.{name_words_of}
+use Rattle.redis_routing.specs.PresentArguments.{arguments_before_gap, present_arguments, present_arguments_after}
+use Rattle.redis_routing.specs.Registry.{tables_with}
+use Rattle.redis_routing.specs.Tuples.{Tuple, fits, is_complete, keys_alone, keys_and_two, keys_and_values, tuple_args_count, shared_in, tuples_from, tuples_in, width_of, arguments_of}
+use Rattle.redis_routing.specs.Parts.{first_appearances, tuples_in_slot, part_of_slot, arguments_in_slot, slot_of}
+use Rattle.redis_routing.specs.Routing.{routing_by, nodes_for, route_of_slot, routes_of, routing, routing_by_name, routing_of_routes, to_slots}
 use Rattle.redis_routing.specs.RoutingInfo.{single_node, specific_node}
-use Rattle.redis_routing.specs.Laws.{ArePartsRoutedWith}
-use Rattle.redis_commands.specs.NameTables.{NameTables}
-use Rattle.redis_commands.specs.declared.policy.ResponsePolicy.{ResponsePolicy}
-use Rattle.redis_commands.specs.declared.route_by.MultiSlotArgPattern.{MultiSlotArgPattern}
-use Rattle.redis_commands.specs.declared.route_by.MultiSlotArgPattern.TheVariants.{KeysOnly, KeyValuePairs, KeysAndLastArg, KeyWithTwoArgTriples}
-use Rattle.redis_commands.specs.declared.route_by.RouteBy.{RouteBy}
-use Rattle.redis_commands.specs.declared.route_by.RouteBy.TheVariants as route_by
-use Rattle.redis_commands.proofs.CommandNames.{one_word}
-use Rattle.redis_commands.proofs.Patterns.{fits_some}
-use Rattle.redis_commands.proofs.Rows.{each_row}
+use Rattle.redis_routing.specs.Laws.{ArePartsRouted}
+use Rattle.redis_routing.specs.declared.policy.ResponsePolicy.{ResponsePolicy}
+use Rattle.redis_routing.specs.declared.route_by.MultiSlotArgPattern.{MultiSlotArgPattern}
+use Rattle.redis_routing.specs.declared.route_by.MultiSlotArgPattern.TheVariants.{KeysOnly, KeyValuePairs, KeysAndLastArg, KeyWithTwoArgTriples}
+use Rattle.redis_routing.specs.declared.route_by.RouteBy.{RouteBy}
+use Rattle.redis_routing.specs.declared.route_by.RouteBy.TheVariants as route_by
+use Rattle.redis_routing.proofs.CommandNames.{words_again, words_alone}
+use Rattle.redis_routing.proofs.Patterns.{fits_some}
+use Rattle.redis_routing.proofs.Rows.{each_row}
 use Rattle.resp_core.proofs.Cases.{by_test, or_second}
 
 -- a name of one word, to which no second one belongs
@@ -58,16 +60,15 @@ takes_none first second plain =
     (λ takes. let short : is_plain (with_second first second) ≡ true = rw takes at plain in absurd (cc (short, not_plain first second takes)))
     (λ takes. takes)
 
--- the name of a command that splits under the project's own tables is that of its first word, whatever follows
-pub first_names : (args : Arguments) (name : List ℕ) (pattern : MultiSlotArgPattern) → Some name ≡ command_of args → base_routing name ≡ Some (route_by.MultiSlot pattern) → (other : Arguments) → command_of (take 1 args ++ other) ≡ Some name
-first_names [] name pattern named route_by_is other = cc named
-first_names (None ∷ rest) name pattern named route_by_is other = cc named
-first_names (Some first ∷ rest) name pattern named route_by_is other =
+-- the name of a command that splits under the tables takes its first word alone
+pub table_words : (args : Arguments) (name : List ℕ) (pattern : MultiSlotArgPattern) → Some name ≡ command_name args → base_routing name ≡ Some (route_by.MultiSlot pattern) → name_words_of args ≡ 1
+table_words [] name pattern named route_by_is = absurd (cc named)
+table_words (None ∷ rest) name pattern named route_by_is = absurd (cc named)
+table_words (Some first ∷ rest) name pattern named route_by_is =
     let second : Option (List ℕ) = in_upper_case (argument (Some first ∷ rest) 1) in
     let name_is : name ≡ name_by (upper first) second = cc named in
     let plain : is_plain name ≡ true = sym (ap (plain_if_split name) route_by_is) ∙ each_plain name in
-    let takes : takes_second (upper first) ≡ false = takes_none (upper first) second (sym (ap is_plain name_is) ∙ plain) in
-    sym (named ∙ sym (one_word (Some first ∷ rest) first refl (sym takes)) ∙ one_word (Some first ∷ other) first refl (sym takes))
+    words_alone first (argument rest 0) (takes_none (upper first) second (sym (ap is_plain name_is) ∙ plain))
 
 pub arguments_before_gap-map : (words : List (List ℕ)) → arguments_before_gap (map Some words) ≡ words
 arguments_before_gap-map [] = refl
@@ -147,7 +148,7 @@ whole KeysAndLastArg slot place present = whole_alone slot place present
 whole KeyWithTwoArgTriples slot place present = whole_two slot place present
 
 -- where n of the tuples of m arguments stand before what all share, what makes tuples is again what those n have
-own_again : (pattern : MultiSlotArgPattern) (m n : ℕ) → 0 < n → n ≤ own_count pattern m → own_count pattern (n * width_of pattern + (m - own_count pattern m)) ≡ n * width_of pattern
+own_again : (pattern : MultiSlotArgPattern) (m n : ℕ) → 0 < n → n ≤ tuple_args_count pattern m → tuple_args_count pattern (n * width_of pattern + (m - tuple_args_count pattern m)) ≡ n * width_of pattern
 own_again KeysOnly m n some few = omega arith
 own_again KeyValuePairs m n some few = omega arith
 own_again KeysAndLastArg m n some few = grind (arith, nat_tests)
@@ -157,14 +158,14 @@ own_again KeyWithTwoArgTriples m n some few = omega arith
 whole_fits : (k n width : ℕ) → 0 < k → k ≡ n * width → (nat_lt 0 k && nat_eq (k % width) 0) ≡ true
 whole_fits k n width some is = rw (lt-ltb 0 k some, eq-eqb (k % width) 0 (ap (λ j. j % width) is ∙ mul-mod_left n width)) refl
 
-fits_again : (pattern : MultiSlotArgPattern) (m n : ℕ) → 0 < n → fits pattern (n * width_of pattern + (m - own_count pattern m)) ≡ true
+fits_again : (pattern : MultiSlotArgPattern) (m n : ℕ) → 0 < n → fits pattern (n * width_of pattern + (m - tuple_args_count pattern m)) ≡ true
 fits_again KeysOnly m n some = lt-ltb 0 (n * 1 + (m - m)) (omega arith)
 fits_again KeyValuePairs m n some = whole_fits (n * 2 + (m - m)) n 2 (omega arith) (omega arith)
-fits_again KeysAndLastArg m n some = lt-ltb 0 (n * 1 + (m - own_count KeysAndLastArg m)) (omega arith)
+fits_again KeysAndLastArg m n some = lt-ltb 0 (n * 1 + (m - tuple_args_count KeysAndLastArg m)) (omega arith)
 fits_again KeyWithTwoArgTriples m n some = whole_fits (n * 3 + (m - m)) n 3 (omega arith) (omega arith)
 
 -- and where the m arguments are complete, they are complete with what all share
-still_complete : (pattern : MultiSlotArgPattern) (m n : ℕ) → 0 < n → is_complete pattern m ≡ true → is_complete pattern (n * width_of pattern + (m - own_count pattern m)) ≡ true
+still_complete : (pattern : MultiSlotArgPattern) (m n : ℕ) → 0 < n → is_complete pattern m ≡ true → is_complete pattern (n * width_of pattern + (m - tuple_args_count pattern m)) ≡ true
 still_complete KeysOnly m n some complete = fits_again KeysOnly m n some
 still_complete KeyValuePairs m n some complete = fits_again KeyValuePairs m n some
 still_complete KeysAndLastArg m n some complete = grind (arith, nat_tests)
@@ -180,27 +181,27 @@ module _ (pattern : MultiSlotArgPattern) (present : List (List ℕ)) (slot : ℕ
   one_slot : first_appearances (map slot_of slot_tuples) ≡ slot ∷ []
   one_slot = first_appearances-part slot (tuples_in pattern present) ∙ ap (λ b. cond b (slot ∷ []) []) there
 
-  whole_part : IsWhole (tuples_from pattern) (width_of pattern) (length (take (own_count pattern (length present)) present)) slot_tuples
-  whole_part = whole pattern slot 0 (take (own_count pattern (length present)) present)
+  whole_part : IsWhole (tuples_from pattern) (width_of pattern) (length (take (tuple_args_count pattern (length present)) present)) slot_tuples
+  whole_part = whole pattern slot 0 (take (tuple_args_count pattern (length present)) present)
 
-  length-part_arguments : length part_arguments ≡ length slot_tuples * width_of pattern + (length present - own_count pattern (length present))
-  length-part_arguments = length-append (flat_map arguments_of slot_tuples) (shared_in pattern present) ∙ ap (λ n. n + length (shared_in pattern present)) whole_part.size ∙ ap (λ n. length slot_tuples * width_of pattern + n) (length-drop (own_count pattern (length present)) present)
+  length-part_arguments : length part_arguments ≡ length slot_tuples * width_of pattern + (length present - tuple_args_count pattern (length present))
+  length-part_arguments = length-append (flat_map arguments_of slot_tuples) (shared_in pattern present) ∙ ap (λ n. n + length (shared_in pattern present)) whole_part.size ∙ ap (λ n. length slot_tuples * width_of pattern + n) (length-drop (tuple_args_count pattern (length present)) present)
 
-  own-part_arguments : own_count pattern (length part_arguments) ≡ length (flat_map arguments_of slot_tuples)
+  own-part_arguments : tuple_args_count pattern (length part_arguments) ≡ length (flat_map arguments_of slot_tuples)
   own-part_arguments =
-      ap (own_count pattern) length-part_arguments
-      ∙ own_again pattern (length present) (length slot_tuples) (some_tuple slot slot_tuples one_slot) (omega (arith, whole_part.few, length-take (own_count pattern (length present)) present))
+      ap (tuple_args_count pattern) length-part_arguments
+      ∙ own_again pattern (length present) (length slot_tuples) (some_tuple slot slot_tuples one_slot) (omega (arith, whole_part.few, length-take (tuple_args_count pattern (length present)) present))
       ∙ sym whole_part.size
 
   -- the tuples of the part by itself have the contents of the slot's
   pub tuples_again : map content (tuples_in pattern part_arguments) ≡ map content slot_tuples
   tuples_again =
-      ap (λ own. map content (tuples_from pattern 0 own)) (take_at (flat_map arguments_of slot_tuples) (shared_in pattern present) (own_count pattern (length part_arguments)) (sym own-part_arguments))
+      ap (λ own. map content (tuples_from pattern 0 own)) (take_at (flat_map arguments_of slot_tuples) (shared_in pattern present) (tuple_args_count pattern (length part_arguments)) (sym own-part_arguments))
       ∙ whole_part.tuples 0
 
   -- what all its tuples share is what all tuples of the command share
   pub shared_again : shared_in pattern part_arguments ≡ shared_in pattern present
-  shared_again = drop_at (flat_map arguments_of slot_tuples) (shared_in pattern present) (own_count pattern (length part_arguments)) (sym own-part_arguments)
+  shared_again = drop_at (flat_map arguments_of slot_tuples) (shared_in pattern present) (tuple_args_count pattern (length part_arguments)) (sym own-part_arguments)
 
   -- the part of a complete command is complete
   pub complete_again : is_complete pattern (length present) ≡ true → is_complete pattern (length part_arguments) ≡ true
@@ -230,30 +231,36 @@ before_gap_short (None ∷ args) = omega arith
 before_gap_short (Some arg ∷ args) = omega (arith, before_gap_short args)
 
 -- after the words of the name stand only texts of the part
-pub present_arguments-part : (words : ℕ) (args : Arguments) (texts : List (List ℕ)) → 0 < length (present_arguments_after words args) → present_arguments_after words (take words args ++ map Some texts) ≡ texts
-present_arguments-part words args texts some =
+pub present_arguments-part : (args : Arguments) (texts : List (List ℕ)) → 0 < length (present_arguments args) → present_arguments (take (name_words_of args) args ++ map Some texts) ≡ texts
+present_arguments-part args texts some =
+    let words : ℕ = name_words_of args in
     let long : length (take words args) ≡ words = length-take-le words args (omega (arith, some, before_gap_short (drop words args), length-drop words args)) in
-    ap arguments_before_gap (drop_at (take words args) (map Some texts) words long) ∙ arguments_before_gap-map texts
+    ap (λ n. present_arguments_after n (take words args ++ map Some texts)) (words_again args some (map Some texts)).1
+    ∙ ap arguments_before_gap (drop_at (take words args) (map Some texts) words long) ∙ arguments_before_gap-map texts
 
-module _ (words : ℕ) (tables : NameTables) (only_reads : List ℕ → Bool) (args : Arguments) (name : List ℕ) (pattern : MultiSlotArgPattern) (named : (other : Arguments) → command_of (take words args ++ other) ≡ Some name) (route_by_is : tables.route_by name ≡ Some (route_by.MultiSlot pattern)) (fit : fits pattern (length (present_arguments_after words args)) ≡ true) where
+module _ (names : Names) (args : Arguments) (name : List ℕ) (pattern : MultiSlotArgPattern) (named : command_name args ≡ Some name) (route_by_is : (tables_with names.registered).route_by name ≡ Some (route_by.MultiSlot pattern)) (fit : fits pattern (length (present_arguments args)) ≡ true) where
   abbrev present : List (List ℕ)
-  present = present_arguments_after words args
+  present = present_arguments args
+
+  abbrev policy : Option ResponsePolicy
+  policy = (tables_with names.registered).policy name
 
   part_routed : (slot : ℕ) → list_any (λ t. nat_eq (slot_of t) slot) (tuples_in pattern present) ≡ true
-      → routing_with words tables only_reads (part_of_slot_after words pattern args slot) ≡ Some (single_node (specific_node (record { slot = slot; addr = nodes_for (only_reads name) })))
+      → routing names (part_of_slot pattern args slot) ≡ Some (single_node (specific_node (record { slot = slot; addr = nodes_for (names.only_reads name) })))
   part_routed slot there =
       let texts : List (List ℕ) = arguments_in_slot pattern present slot in
-      let as_command : Arguments = part_of_slot_after words pattern args slot in
-      ap (routing_by_name_with words tables only_reads as_command) (named (map Some texts))
-      ∙ ap (routing_by_with words tables (only_reads name) name as_command) route_by_is
-      ∙ ap (to_slots (only_reads name) (tables.policy name) pattern) (present_arguments-part words args texts (fits_some pattern (length present) fit))
-      ∙ part_to_slot pattern present slot there (only_reads name) (tables.policy name)
+      let as_command : Arguments = part_of_slot pattern args slot in
+      let some : 0 < length present = fits_some pattern (length present) fit in
+      ap (routing_by_name names as_command) ((words_again args some (map Some texts)).0 ∙ named)
+      ∙ ap (routing_by policy (names.only_reads name) as_command) route_by_is
+      ∙ ap (to_slots (names.only_reads name) policy pattern) (present_arguments-part args texts some)
+      ∙ part_to_slot pattern present slot there (names.only_reads name) policy
 
-  pub parts_routed : ArePartsRoutedWith words tables only_reads args pattern (routes_of (only_reads name) pattern present)
+  pub parts_routed : ArePartsRouted names args pattern (routes_of (names.only_reads name) pattern present)
   parts_routed =
       let ts : List Tuple = tuples_in pattern present in
-      let Routed : SlotRoute × List ℕ → Type 0 = λ r. routing_with words tables only_reads (part_of_slot_after words pattern args r.0.slot) ≡ Some (single_node (specific_node r.0)) in
+      let Routed : SlotRoute × List ℕ → Type 0 = λ r. routing names (part_of_slot pattern args r.0.slot) ≡ Some (single_node (specific_node r.0)) in
       let There : ℕ → Type 0 = λ slot. list_any (λ t. nat_eq (slot_of t) slot) ts ≡ true in
-      All-map Routed (route_of_slot (only_reads name) pattern present) (first_appearances (map slot_of ts))
-      (All-weaker There (λ slot. Routed (route_of_slot (only_reads name) pattern present slot)) part_routed (first_appearances (map slot_of ts))
+      All-map Routed (route_of_slot (names.only_reads name) pattern present) (first_appearances (map slot_of ts))
+      (All-weaker There (λ slot. Routed (route_of_slot (names.only_reads name) pattern present slot)) part_routed (first_appearances (map slot_of ts))
       (All-first_appearances There (map slot_of ts) (All-map There slot_of ts (all_there slot_of ts))))

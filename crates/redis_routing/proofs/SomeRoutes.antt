@@ -3,9 +3,9 @@ use Rattle.std.proofs.Common.{◌≡◌, ℕ, ◌<◌, List, [], ◌∷◌, Bool
 use Rattle.std.proofs.lemmas.List.{length-map}
 use Rattle.redis_routing.specs.Parts.{first_appearances, slot_of}
 use Rattle.redis_routing.specs.Routing.{route_of_slot, routes_of}
-use Rattle.redis_commands.specs.Tuples.{Tuple, fits, own_count, tuples_in}
-use Rattle.redis_commands.specs.declared.route_by.MultiSlotArgPattern.{MultiSlotArgPattern}
-use Rattle.redis_commands.proofs.Patterns.{some_own}
+use Rattle.redis_routing.specs.Tuples.{Tuple, fits, tuple_args_count, tuples_in}
+use Rattle.redis_routing.specs.declared.route_by.MultiSlotArgPattern.{MultiSlotArgPattern}
+use Rattle.redis_routing.proofs.Patterns.{some_own}
 use Rattle.redis_routing.proofs.Cover.{Tiles, tiles_present}
 
 some_tuple : (high : ℕ) (ts : List Tuple) → Tiles 0 high ts → 0 < high → 0 < length ts
@@ -19,6 +19,6 @@ some_first (n ∷ ns) some = omega arith
 pub some_route : (reads : Bool) (pattern : MultiSlotArgPattern) (present : List (List ℕ)) → fits pattern (length present) ≡ true → 0 < length (routes_of reads pattern present)
 some_route reads pattern present fit =
     let ts = tuples_in pattern present in
-    let tuples : 0 < length ts = some_tuple (own_count pattern (length present)) ts (tiles_present pattern present fit) (some_own pattern (length present) fit) in
+    let tuples : 0 < length ts = some_tuple (tuple_args_count pattern (length present)) ts (tiles_present pattern present fit) (some_own pattern (length present) fit) in
     let slots : 0 < length (first_appearances (map slot_of ts)) = some_first (map slot_of ts) (omega (arith, tuples, length-map ts slot_of)) in
     omega (arith, slots, length-map (first_appearances (map slot_of ts)) (route_of_slot reads pattern present))

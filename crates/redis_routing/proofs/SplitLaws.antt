@@ -1,25 +1,31 @@
 -- The laws of split commands, for whatever a command is routed to.
-use Rattle.std.proofs.Common.{◌≡◌, ℕ, zero, suc, List, [], ◌∷◌, Bool, true, Option, None, Some, ◌++◌, length, take, refl, ap}
+use Rattle.std.proofs.Common.{◌≡◌, ℕ, zero, suc, List, [], ◌∷◌, Bool, true, Option, None, Some, length, refl, sym, ap, ◌∙◌, subst}
 use Rattle.std.specs.Prelude.{nat_lt}
 use Rattle.cluster_slots.specs.SlotRoute.{SlotRoute}
-use Rattle.redis_commands.specs.Command.{Arguments, HasWords, argument, command_of}
-use Rattle.redis_routing.specs.Laws.{Covers, ArePartsRoutedWith, ArePartsPickedAfter, IfSplit}
-use Rattle.redis_commands.specs.NameTables.{NameTables}
-use Rattle.redis_routing.specs.Routing.{to_key, by_count, to_key_or_any, to_key_after, to_slot, routes_of, routing_of_routes, to_slots, routing_by, routing_by_with, argument_number}
-use Rattle.redis_commands.specs.PresentArguments.{present_arguments_after}
-use Rattle.redis_commands.specs.Tuples.{fits}
-use Rattle.redis_commands.specs.RouteBy.{base_routing}
-use Rattle.redis_commands.specs.declared.policy.ResponsePolicy.{ResponsePolicy}
-use Rattle.redis_commands.specs.declared.route_by.MultiSlotArgPattern.{MultiSlotArgPattern}
-use Rattle.redis_commands.specs.declared.route_by.RouteBy.{RouteBy}
-use Rattle.redis_commands.specs.declared.route_by.RouteBy.TheVariants as route_by
+use Rattle.redis_routing.specs.Command.{Arguments, argument, command_name}
+use Rattle.redis_routing.specs.Laws.{Covers, ArePartsRouted, ArePartsPicked, IfSplit}
+use Rattle.redis_routing.specs.Names.{Names}
+use Rattle.redis_routing.specs.NameWords.{name_words_of}
+use Rattle.redis_routing.specs.Policies.{policy_of}
+use Rattle.redis_routing.specs.Registry.{tables_with}
+use Rattle.redis_routing.specs.Routing.{to_key, by_count, to_key_or_any, to_key_after, to_slot, routes_of, routing_of_routes, to_slots, routing, routing_by, routing_by_name, argument_number}
+use Rattle.redis_routing.specs.PresentArguments.{present_arguments}
+use Rattle.redis_routing.specs.Tuples.{fits}
+use Rattle.redis_routing.specs.RouteBy.{base_routing}
+use Rattle.redis_routing.specs.declared.policy.ResponsePolicy.{ResponsePolicy}
+use Rattle.redis_routing.specs.declared.route_by.MultiSlotArgPattern.{MultiSlotArgPattern}
+use Rattle.redis_routing.specs.declared.route_by.RouteBy.{RouteBy}
+use Rattle.redis_routing.specs.declared.route_by.RouteBy.TheVariants as route_by
+use Rattle.redis_routing.specs.NameTables.{NameTables}
+use Rattle.redis_routing.proofs.CommandNames.{has_words}
+use Rattle.redis_routing.proofs.TableRows.{tables_with-empty}
 use Rattle.redis_routing.proofs.Cover.{covers}
 use Rattle.redis_routing.proofs.Picks.{parts_picked}
-use Rattle.redis_routing.proofs.SelfRouting.{parts_routed}
+use Rattle.redis_routing.proofs.SelfRouting.{parts_routed, table_words}
 use Rattle.resp_core.proofs.Cases.{by_test}
 
 -- a fact of the routes of every split, from that of the splits by pattern
-module _ (words : ℕ) (tables : NameTables) (P : MultiSlotArgPattern → List (SlotRoute × List ℕ) → Type 0) (args : Arguments) (reads : Bool) (name : List ℕ) where
+module _ (P : MultiSlotArgPattern → List (SlotRoute × List ℕ) → Type 0) (args : Arguments) (reads : Bool) (policy : Option ResponsePolicy) where
   of_key : (key : Option (List ℕ)) → IfSplit P (to_key reads key)
   of_key None = tt
   of_key (Some key) = tt
@@ -46,12 +52,12 @@ module _ (words : ℕ) (tables : NameTables) (P : MultiSlotArgPattern → List (
   of_parts pattern policy (only ∷ []) h = tt
   of_parts pattern policy (route ∷ other ∷ routes) h = h
 
-  of_slots : (pattern : MultiSlotArgPattern) → (fits pattern (length (present_arguments_after words args)) ≡ true → P pattern (routes_of reads pattern (present_arguments_after words args))) → IfSplit P (to_slots reads (tables.policy name) pattern (present_arguments_after words args))
-  of_slots pattern h = by_test (fits pattern (length (present_arguments_after words args)))
-      (λ whole. rw whole (of_parts pattern (tables.policy name) (routes_of reads pattern (present_arguments_after words args)) (h whole)))
+  of_slots : (pattern : MultiSlotArgPattern) → (fits pattern (length (present_arguments args)) ≡ true → P pattern (routes_of reads pattern (present_arguments args))) → IfSplit P (to_slots reads policy pattern (present_arguments args))
+  of_slots pattern h = by_test (fits pattern (length (present_arguments args)))
+      (λ whole. rw whole (of_parts pattern policy (routes_of reads pattern (present_arguments args)) (h whole)))
       (λ broken. rw broken tt)
 
-  of_route_by : (w : Option RouteBy) → ((pattern : MultiSlotArgPattern) → w ≡ Some (route_by.MultiSlot pattern) → fits pattern (length (present_arguments_after words args)) ≡ true → P pattern (routes_of reads pattern (present_arguments_after words args))) → IfSplit P (routing_by_with words tables reads name args w)
+  of_route_by : (w : Option RouteBy) → ((pattern : MultiSlotArgPattern) → w ≡ Some (route_by.MultiSlot pattern) → fits pattern (length (present_arguments args)) ≡ true → P pattern (routes_of reads pattern (present_arguments args))) → IfSplit P (routing_by policy reads args w)
   of_route_by None h = of_key_or_any _
   of_route_by (Some route_by.AllNodes) h = tt
   of_route_by (Some route_by.AllMasters) h = tt
@@ -63,21 +69,55 @@ module _ (words : ℕ) (tables : NameTables) (P : MultiSlotArgPattern → List (
   of_route_by (Some route_by.Random) h = tt
   of_route_by (Some (route_by.SlotAt n)) h = of_slot (argument_number 16 (argument args n))
 
--- the laws of the routes of a command whose name has so many words, under some tables of names
-module _ (words : ℕ) (tables : NameTables) (only_reads : List ℕ → Bool) (args : Arguments) (name : List ℕ) where
-  -- the cover law
-  pub split_covers : IfSplit (λ pattern routes. Covers pattern (present_arguments_after words args) routes) (routing_by_with words tables (only_reads name) name args (tables.route_by name))
-  split_covers = of_route_by words tables _ args (only_reads name) name (tables.route_by name) (λ pattern is whole. covers (only_reads name) pattern (present_arguments_after words args) whole)
+-- the laws of the routes of a command by its name
+module _ (names : Names) (args : Arguments) (name : List ℕ) (named : Some name ≡ command_name args) where
+  abbrev reads : Bool
+  reads = names.only_reads name
 
-  -- the self-routing law, where the words of the name make it, whatever follows
-  pub split_parts : ((pattern : MultiSlotArgPattern) → tables.route_by name ≡ Some (route_by.MultiSlot pattern) → (other : Arguments) → command_of (take words args ++ other) ≡ Some name)
-      → IfSplit (λ pattern routes. ArePartsRoutedWith words tables only_reads args pattern routes) (routing_by_with words tables (only_reads name) name args (tables.route_by name))
-  split_parts named = of_route_by words tables _ args (only_reads name) name (tables.route_by name) (λ pattern is whole. parts_routed words tables only_reads args name pattern (named pattern is) is whole)
+  abbrev policy : Option ResponsePolicy
+  policy = (tables_with names.registered).policy name
+
+  abbrev way : Option RouteBy
+  way = (tables_with names.registered).route_by name
+
+  routed_by_name : routing_by policy reads args way ≡ routing names args
+  routed_by_name = ap (routing_by_name names args) named
+
+  -- the cover law
+  pub split_covers : IfSplit (λ pattern routes. Covers pattern (present_arguments args) routes) (routing names args)
+  split_covers =
+      subst (IfSplit (λ pattern routes. Covers pattern (present_arguments args) routes)) routed_by_name
+      (of_route_by (λ pattern routes. Covers pattern (present_arguments args) routes) args reads policy way (λ pattern is whole. covers reads pattern (present_arguments args) whole))
+
+  -- the self-routing law
+  pub split_parts : IfSplit (λ pattern routes. ArePartsRouted names args pattern routes) (routing names args)
+  split_parts =
+      subst (IfSplit (λ pattern routes. ArePartsRouted names args pattern routes)) routed_by_name
+      (of_route_by (λ pattern routes. ArePartsRouted names args pattern routes) args reads policy way (λ pattern is whole. parts_routed names args name pattern (sym named) is whole))
 
   -- the parts by their places
-  pub split_picked : HasWords words args → IfSplit (λ pattern routes. ArePartsPickedAfter words args pattern routes) (routing_by_with words tables (only_reads name) name args (tables.route_by name))
-  split_picked has = of_route_by words tables _ args (only_reads name) name (tables.route_by name) (λ pattern is whole. parts_picked words args (only_reads name) pattern has whole)
+  pub split_picked : IfSplit (λ pattern routes. ArePartsPicked args pattern routes) (routing names args)
+  split_picked =
+      subst (IfSplit (λ pattern routes. ArePartsPicked args pattern routes)) routed_by_name
+      (of_route_by (λ pattern routes. ArePartsPicked args pattern routes) args reads policy way (λ pattern is whole. parts_picked args reads pattern (has_words args name named) whole))
 
--- where a command goes by its name, which is held in two places
-pub same_name_routing : (only_reads : List ℕ → Bool) (args : Arguments) (name looked : List ℕ) → looked ≡ name → routing_by (only_reads looked) looked args (base_routing looked) ≡ routing_by (only_reads name) name args (base_routing name)
-same_name_routing only_reads args name looked is = ap (λ n. routing_by (only_reads n) n args (base_routing n)) is
+-- the names that the tables split have one word
+pub table_name_words : (only_reads : List ℕ → Bool) (args : Arguments) (name : List ℕ) → Some name ≡ command_name args → IfSplit (λ pattern routes. name_words_of args ≡ 1) (routing_by (policy_of name) (only_reads name) args (base_routing name))
+table_name_words only_reads args name named = of_route_by (λ pattern routes. name_words_of args ≡ 1) args (only_reads name) (policy_of name) (base_routing name) (λ pattern is whole. table_words args name pattern named is)
+
+-- where a command goes by the tables, without a registry
+pub table_routing : (only_reads : List ℕ → Bool) (args : Arguments) (name : List ℕ) → Some name ≡ command_name args → routing_by (policy_of name) (only_reads name) args (base_routing name) ≡ routing (record { only_reads = only_reads; registered = [] }) args
+table_routing only_reads args name named =
+    ap (λ (t : NameTables). routing_by (t.policy name) (only_reads name) args (t.route_by name)) (sym tables_with-empty)
+    ∙ ap (routing_by_name (record { only_reads = only_reads; registered = [] }) args) named
+
+-- so it is where no name is registered
+pub split_words : (only_reads : List ℕ → Bool) (args : Arguments) (name : List ℕ) → Some name ≡ command_name args → IfSplit (λ pattern routes. name_words_of args ≡ 1) (routing (record { only_reads = only_reads; registered = [] }) args)
+split_words only_reads args name named =
+    subst (IfSplit (λ pattern routes. name_words_of args ≡ 1)) (table_routing only_reads args name named) (table_name_words only_reads args name named)
+
+-- a fact of the routes of a split is one of every command, since a command without a name is not split
+pub of_any_name : (P : MultiSlotArgPattern → List (SlotRoute × List ℕ) → Type 0) (names : Names) (args : Arguments)
+    → ((name : List ℕ) → Some name ≡ command_name args → IfSplit P (routing names args)) → (name : Option (List ℕ)) → name ≡ command_name args → IfSplit P (routing names args)
+of_any_name P names args each None none = subst (IfSplit P) (ap (routing_by_name names args) none) tt
+of_any_name P names args each (Some name) named = each name named

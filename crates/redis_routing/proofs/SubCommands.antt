@@ -1,8 +1,8 @@
 -- A sub-command as far as it is made.
 use Rattle.std.proofs.Common.{◌≡◌, ℕ, zero, suc, ◌<◌, ◌+◌, ◌-◌, List, [], ◌∷◌, ◌++◌, Option, None, Some, map, option_map, refl, sym, ap, ◌∙◌, arith}
 use Rattle.std.specs.List.{range_with_len}
-use Rattle.redis_commands.specs.Command.{Arguments, argument}
-use Rattle.redis_commands.specs.Lists.{all_some}
+use Rattle.redis_routing.specs.Command.{Arguments, argument}
+use Rattle.redis_routing.specs.Lists.{all_some}
 use Rattle.redis_routing.specs.SubCommand.{bytes_in, text_len}
 pub use Rattle.resp_core.proofs.SoFar.{before, before-more}
 

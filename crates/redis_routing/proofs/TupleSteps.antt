@@ -2,12 +2,12 @@
 use Rattle.std.proofs.Common.{◌≡◌, ℕ, zero, suc, ◌+◌, ◌*◌, ◌/◌, ◌<◌, ◌≤◌, List, [], ◌∷◌, ◌++◌, Some, None, refl, sym, ap, ◌∙◌, arith, length, take, drop, get_or, add-one}
 use Rattle.std.specs.List.{range_with_len}
 use Rattle.std.proofs.lemmas.List.{get_or-drop, get_or-take, take_all}
-use Rattle.redis_commands.specs.Command.{Arguments, argument}
-use Rattle.redis_commands.specs.PresentArguments.{arguments_before_gap, present_arguments_after}
-use Rattle.redis_commands.specs.Tuples.{Tuple, keys_alone, keys_and_values, keys_and_two, tuples_from, tuples_in, width_of, own_count, places_of}
-use Rattle.redis_commands.specs.declared.route_by.MultiSlotArgPattern.{MultiSlotArgPattern}
-use Rattle.redis_commands.specs.declared.route_by.MultiSlotArgPattern.TheVariants.{KeysOnly, KeyValuePairs, KeysAndLastArg, KeyWithTwoArgTriples}
-use Rattle.redis_commands.proofs.Patterns.{some_width, own_few, length-own}
+use Rattle.redis_routing.specs.Command.{Arguments, argument}
+use Rattle.redis_routing.specs.PresentArguments.{arguments_before_gap, present_arguments_after}
+use Rattle.redis_routing.specs.Tuples.{Tuple, keys_alone, keys_and_values, keys_and_two, tuples_from, tuples_in, width_of, tuple_args_count, places_of}
+use Rattle.redis_routing.specs.declared.route_by.MultiSlotArgPattern.{MultiSlotArgPattern}
+use Rattle.redis_routing.specs.declared.route_by.MultiSlotArgPattern.TheVariants.{KeysOnly, KeyValuePairs, KeysAndLastArg, KeyWithTwoArgTriples}
+use Rattle.redis_routing.proofs.Patterns.{some_width, own_few, length-own}
 
 -- the next key
 alone_next : (p n : ℕ) (xs : List (List ℕ)) (i : ℕ) → n ≡ p + i → i < length xs → take (suc i) (keys_alone p xs) ≡ take i (keys_alone p xs) ++ record { place = n; key = get_or xs i []; extras = [] } ∷ []
@@ -93,10 +93,10 @@ tuples_few KeysAndLastArg p xs = omega (arith, alone_few p xs)
 tuples_few KeyWithTwoArgTriples p xs = omega (arith, triples_few p xs)
 
 -- past the last tuple none is left
-pub tuples_end : (pattern : MultiSlotArgPattern) (present : List (List ℕ)) (n : ℕ) → own_count pattern (length present) / width_of pattern ≤ n → take n (tuples_in pattern present) ≡ tuples_in pattern present
+pub tuples_end : (pattern : MultiSlotArgPattern) (present : List (List ℕ)) (n : ℕ) → tuple_args_count pattern (length present) / width_of pattern ≤ n → take n (tuples_in pattern present) ≡ tuples_in pattern present
 tuples_end pattern present n h =
-    let few : length (tuples_in pattern present) ≤ length (take (own_count pattern (length present)) present) / width_of pattern = tuples_few pattern 0 (take (own_count pattern (length present)) present) in
-    let same : length (take (own_count pattern (length present)) present) / width_of pattern ≡ own_count pattern (length present) / width_of pattern = ap (λ k. k / width_of pattern) (length-own pattern present) in
+    let few : length (tuples_in pattern present) ≤ length (take (tuple_args_count pattern (length present)) present) / width_of pattern = tuples_few pattern 0 (take (tuple_args_count pattern (length present)) present) in
+    let same : length (take (tuple_args_count pattern (length present)) present) / width_of pattern ≡ tuple_args_count pattern (length present) / width_of pattern = ap (λ k. k / width_of pattern) (length-own pattern present) in
     take_all n (tuples_in pattern present) (omega (arith, few, same, h))
 
 -- the tuple of a number in a command: its key is an argument after the name
@@ -105,10 +105,10 @@ pub record IsNextTuple (words : ℕ) (pattern : MultiSlotArgPattern) (args : Arg
   pub places : places_of t ≡ range_with_len (i * width_of pattern) (width_of pattern)
   pub taken : take (i + 1) (tuples_in pattern (present_arguments_after words args)) ≡ take i (tuples_in pattern (present_arguments_after words args)) ++ t ∷ []
 
-pub next_tuple : (words : ℕ) (pattern : MultiSlotArgPattern) (args : Arguments) (i : ℕ) → i < own_count pattern (length (present_arguments_after words args)) / width_of pattern → (t : Tuple) × IsNextTuple words pattern args i t
+pub next_tuple : (words : ℕ) (pattern : MultiSlotArgPattern) (args : Arguments) (i : ℕ) → i < tuple_args_count pattern (length (present_arguments_after words args)) / width_of pattern → (t : Tuple) × IsNextTuple words pattern args i t
 next_tuple words pattern args i h =
     let present = present_arguments_after words args in
-    let own = own_count pattern (length present) in
+    let own = tuple_args_count pattern (length present) in
     let inside : i * width_of pattern + width_of pattern ≤ own = tuple_within pattern own i h in
     let some : 0 < width_of pattern = some_width pattern in
     let few : own ≤ length present = own_few pattern (length present) in

@@ -1,31 +1,44 @@
--- The places of tuples, grouped by slot, as the code holds them.
-use Rattle.std.specs.Prelude.{ℕ, ◌++◌, List, [], Option, None, Some, map}
+-- The routes of tuples, one for each slot, as the code makes them.
+use Rattle.std.specs.Prelude.{◌≡◌, ℕ, ◌+◌, ◌<◌, ◌++◌, ◌∷◌, List, [], map, length, get_or, nat_eq, if◌then◌else◌}
 use Rattle.std.specs.List.{flat_map}
-use Rattle.std.specs.declared.vec.Vec.{Vec}
-use Rattle.std.specs.declared.alloc.Global.{Global}
 use Rattle.cluster_slots.specs.SlotRoute.{SlotRoute}
 use Rattle.cluster_slots.specs.declared.slot.SlotAddr.{SlotAddr}
 use Rattle.redis_routing.specs.Parts.{first_appearances, slot_of, tuples_in_slot}
-use Rattle.redis_commands.specs.Tuples.{Tuple, places_of}
+use Rattle.redis_routing.specs.Tuples.{Tuple, places_of}
 
--- a slot, and the places of its tuples
-abbrev pub Group : Type 0
-Group = ℕ × List ℕ
+-- a route, and the places of its part
+abbrev pub RouteList : Type 0
+RouteList = SlotRoute × List ℕ
 
--- the groups of some tuples
-abbrev pub groups_of : List Tuple → List Group
-groups_of ts =
-    map (λ s. (s, flat_map places_of (tuples_in_slot s ts))) (first_appearances (map slot_of ts))
+-- the route of a slot, with the places of its tuples
+abbrev pub list_of_slot : SlotAddr → List Tuple → ℕ → RouteList
+list_of_slot nodes ts slot =
+    (record { slot = slot; addr = nodes }, flat_map places_of (tuples_in_slot slot ts))
 
--- the list of a slot, or the empty one
-abbrev pub list_or_empty : Option (Vec ℕ Global) → List ℕ
-list_or_empty None = []
-list_or_empty (Some places) = places.items
+-- a route for each slot of some tuples, by the first one of each slot
+abbrev pub lists_of_tuples : SlotAddr → List Tuple → List RouteList
+lists_of_tuples nodes ts = map (list_of_slot nodes ts) (first_appearances (map slot_of ts))
 
--- the groups that the entries of a map are
-abbrev pub entry_groups : List (ℕ × Vec ℕ Global) → List Group
-entry_groups entries = map (λ e. (e.0, e.1.items)) entries
+-- the lists with more places of a slot: behind those that it has, or in a list of their own at the
+-- end
+abbrev pub with_places : SlotRoute → List ℕ → List RouteList → List RouteList
+with_places route places [] = (route, places) ∷ []
+with_places route places (r ∷ rs) =
+    if nat_eq r.0.slot route.slot then (r.0, r.1 ++ places) ∷ rs else r ∷ with_places route places rs
 
--- the route of a group
-abbrev pub route_of_group : SlotAddr → List ℕ → Group → SlotRoute × List ℕ
-route_of_group nodes shared group = (record { slot = group.0; addr = nodes }, group.1 ++ shared)
+-- the lists with the shared places at the end of each
+abbrev pub with_shared : List ℕ → List RouteList → List RouteList
+with_shared places lists = map (λ r. (r.0, r.1 ++ places)) lists
+
+-- the number of a slot among these, counted from a number on, or 0 where it is not there
+abbrev pub number_from : ℕ → List ℕ → ℕ → ℕ
+number_from n [] slot = 0
+number_from n (s ∷ slots) slot = if nat_eq s slot then n else number_from (n + 1) slots slot
+
+abbrev pub number_of : List ℕ → ℕ → ℕ
+number_of slots slot = number_from 1 slots slot
+
+-- A table has the number of each slot, or it is empty.
+pub record AreNumbered (numbers slots : List ℕ) : Type 0 where
+  pub long : 0 < length numbers → length numbers ≡ 16384
+  pub each : (slot : ℕ) → slot < length numbers → get_or numbers slot 0 ≡ number_of slots slot

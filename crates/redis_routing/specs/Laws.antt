@@ -4,14 +4,15 @@ use Rattle.std.specs.List.{list_any}
 use Rattle.std.specs.List.Sorted.{IsStrictlySortedBy}
 use Rattle.std.specs.Ordering.{nat_cmp}
 use Rattle.cluster_slots.specs.SlotRoute.{SlotRoute}
-use Rattle.redis_commands.specs.Command.{Arguments}
-use Rattle.redis_commands.specs.Tuples.{own_count}
-use Rattle.redis_commands.specs.NameTables.{NameTables, own_tables}
-use Rattle.redis_routing.specs.Parts.{part_of_slot_after}
-use Rattle.redis_routing.specs.Routing.{routing_with}
+use Rattle.redis_routing.specs.Command.{Arguments}
+use Rattle.redis_routing.specs.Tuples.{tuple_args_count}
+use Rattle.redis_routing.specs.Names.{Names}
+use Rattle.redis_routing.specs.NameWords.{name_words_of}
+use Rattle.redis_routing.specs.Parts.{part_of_slot}
+use Rattle.redis_routing.specs.Routing.{routing}
 use Rattle.redis_routing.specs.SubCommand.{sub_command_after}
 use Rattle.redis_routing.specs.RoutingInfo.{Routing, MultipleNodeRouting, specific_node, all_nodes, all_masters, multi_slot, single_node, multi_node}
-use Rattle.redis_commands.specs.declared.route_by.MultiSlotArgPattern.{MultiSlotArgPattern}
+use Rattle.redis_routing.specs.declared.route_by.MultiSlotArgPattern.{MultiSlotArgPattern}
 
 -- how many of the lists have the place
 abbrev pub lists_with : ℕ → List (SlotRoute × List ℕ) → ℕ
@@ -23,36 +24,27 @@ pub record Covers (pattern : MultiSlotArgPattern) (present : List (List ℕ))
     (routes : List (SlotRoute × List ℕ)) : Type 0 where
   pub slots : (slot : ℕ) → count_by (λ r. nat_eq slot r.0.slot) routes ≤ 1
   pub ascending : All (λ r. IsStrictlySortedBy nat_cmp r.1) routes
-  pub once : (place : ℕ) → place < own_count pattern (length present) → lists_with place routes ≡ 1
-  pub shared : (place : ℕ) → own_count pattern (length present) ≤ place → place < length present
+  pub once : (place : ℕ) → place < tuple_args_count pattern (length present) → lists_with place routes ≡ 1
+  pub shared : (place : ℕ) → tuple_args_count pattern (length present) ≤ place → place < length present
       → lists_with place routes ≡ length routes
   pub within : (place : ℕ) → length present ≤ place → lists_with place routes ≡ 0
 
 -- The self-routing law: the part of each route, as a command of its own, goes to that very route.
-abbrev pub ArePartsRoutedWith : ℕ → NameTables → (List ℕ → Bool) → Arguments → MultiSlotArgPattern
-    → List (SlotRoute × List ℕ) → Type 0
-ArePartsRoutedWith words tables only_reads args pattern routes =
+abbrev pub ArePartsRouted : Names → Arguments → MultiSlotArgPattern → List (SlotRoute × List ℕ)
+    → Type 0
+ArePartsRouted names args pattern routes =
     All
-    (λ r. routing_with words tables only_reads (part_of_slot_after words pattern args r.0.slot)
+    (λ r. routing names (part_of_slot pattern args r.0.slot)
     ≡ Some (single_node (specific_node r.0)))
     routes
 
-abbrev pub ArePartsRouted : (List ℕ → Bool) → Arguments → MultiSlotArgPattern
-    → List (SlotRoute × List ℕ) → Type 0
-ArePartsRouted only_reads args pattern routes =
-    ArePartsRoutedWith 1 own_tables only_reads args pattern routes
-
 -- The sub-command of the places of each route is the part of its slot.
-abbrev pub ArePartsPickedAfter : ℕ → Arguments → MultiSlotArgPattern → List (SlotRoute × List ℕ)
-    → Type 0
-ArePartsPickedAfter words args pattern routes =
-    All
-    (λ r. option_map (map Some) (sub_command_after words args r.1)
-    ≡ Some (part_of_slot_after words pattern args r.0.slot))
-    routes
-
 abbrev pub ArePartsPicked : Arguments → MultiSlotArgPattern → List (SlotRoute × List ℕ) → Type 0
-ArePartsPicked args pattern routes = ArePartsPickedAfter 1 args pattern routes
+ArePartsPicked args pattern routes =
+    All
+    (λ r. option_map (map Some) (sub_command_after (name_words_of args) args r.1)
+    ≡ Some (part_of_slot pattern args r.0.slot))
+    routes
 
 -- what holds of the routes of a split, if it is one
 abbrev pub IfSplitTo : (MultiSlotArgPattern → List (SlotRoute × List ℕ) → Type 0)

@@ -2,10 +2,11 @@
 use Rattle.std.specs.Prelude.{ℕ, ◌-◌, not, List, [], ◌∷◌, ◌++◌, Some, map, filter, nat_eq, length, take}
 use Rattle.std.specs.List.{flat_map, range_with_len}
 use Rattle.cluster_slots.specs.KeySlot.{key_slot}
-use Rattle.redis_commands.specs.Command.{Arguments}
-use Rattle.redis_commands.specs.PresentArguments.{present_arguments_after}
-use Rattle.redis_commands.specs.Tuples.{Tuple, tuples_in, shared_in, own_count, places_of, arguments_of}
-use Rattle.redis_commands.specs.declared.route_by.MultiSlotArgPattern.{MultiSlotArgPattern}
+use Rattle.redis_routing.specs.Command.{Arguments}
+use Rattle.redis_routing.specs.NameWords.{name_words_of}
+use Rattle.redis_routing.specs.PresentArguments.{present_arguments}
+use Rattle.redis_routing.specs.Tuples.{Tuple, tuples_in, shared_in, tuple_args_count, places_of, arguments_of}
+use Rattle.redis_routing.specs.declared.route_by.MultiSlotArgPattern.{MultiSlotArgPattern}
 
 -- the slot of a tuple's key
 abbrev pub slot_of : Tuple → ℕ
@@ -24,8 +25,8 @@ tuples_in_slot slot ts = filter (λ t. nat_eq (slot_of t) slot) ts
 abbrev pub places_in_slot : MultiSlotArgPattern → List (List ℕ) → ℕ → List ℕ
 places_in_slot pattern present slot =
     flat_map places_of (tuples_in_slot slot (tuples_in pattern present))
-    ++ range_with_len (own_count pattern (length present))
-    (length present - own_count pattern (length present))
+    ++ range_with_len (tuple_args_count pattern (length present))
+    (length present - tuple_args_count pattern (length present))
 
 -- the arguments of a slot's tuples, and then the shared one
 abbrev pub arguments_in_slot : MultiSlotArgPattern → List (List ℕ) → ℕ → List (List ℕ)
@@ -35,7 +36,7 @@ arguments_in_slot pattern present slot =
 
 -- the part of a slot as a command of its own: the words of the name as they are spelt, and the
 -- slot's arguments
-abbrev pub part_of_slot_after : ℕ → MultiSlotArgPattern → Arguments → ℕ → Arguments
-part_of_slot_after words pattern args slot =
-    take words args
-    ++ map Some (arguments_in_slot pattern (present_arguments_after words args) slot)
+abbrev pub part_of_slot : MultiSlotArgPattern → Arguments → ℕ → Arguments
+part_of_slot pattern args slot =
+    take (name_words_of args) args
+    ++ map Some (arguments_in_slot pattern (present_arguments args) slot)

@@ -1,8 +1,9 @@
 -- The text of an error by which a node sends a client on (Redis cluster specification, "Redirection
 -- and resharding"): `MOVED 3999 127.0.0.1:6381`, or `ASK` in place of `MOVED`. The word is followed
 -- by the slot and by the node's address. A node that does not know its host leaves it out, as in
--- `MOVED 3999 :6381`: the host is then that of the node which answered.
-use Rattle.std.specs.Prelude.{◌≡◌, ◌≢◌, ◌<◌, ℕ, List, ◌∷◌, ◌++◌, ◌⊎◌, Some, Contains, codes}
+-- `MOVED 3999 :6381`: the host is then that of the node which answered. Where nodes go by their host
+-- names, one that has no name is written `?`, as in a reply to CLUSTER SLOTS: it can't be reached.
+use Rattle.std.specs.Prelude.{◌≡◌, ◌≢◌, ◌<◌, ℕ, List, ◌∷◌, ◌++◌, ◌⊎◌, [], Some, Contains, codes}
 use Rattle.cluster_slots.specs.Address.{Address}
 use Rattle.cluster_slots.specs.AddressText.{IsAddressText}
 use Rattle.cluster_slots.specs.Bytes.{colon}
@@ -22,17 +23,26 @@ pub record IsSlotText (text : List ℕ) (slot : ℕ) : Type 0 where
   pub unsigned : (rest : List ℕ) → text ≢ plus ∷ rest
   pub below : slot < 16384
 
--- the text is a colon and a port, and the host is that of the node which answered
+-- what is written for the host of a node that has no name
+abbrev pub unknown_host : List ℕ
+unknown_host = codes "?"
+
+-- the text is an address, and its host is known
+pub record HasHost (text host : List ℕ) (port : ℕ) : Type 0 where
+  pub address : IsAddressText text host port
+  pub known : host ≢ unknown_host
+
+-- the text is a colon and a port, and the host is that of the node which answered, if it has one
 pub record HasNoHost (answering text host : List ℕ) (port : ℕ) : Type 0 where
   pub digits : List ℕ
   pub whole : text ≡ colon ∷ digits
   pub number : number_in 16 digits ≡ Some port
   pub same : host ≡ answering
+  pub some : host ≢ []
 
 -- the text names a node: by its address, or by its port alone
 abbrev pub IsNodeText : List ℕ → List ℕ → List ℕ → ℕ → Type 0
-IsNodeText answering text host port =
-    IsAddressText text host port ⊎ HasNoHost answering text host port
+IsNodeText answering text host port = HasHost text host port ⊎ HasNoHost answering text host port
 
 -- the text is a slot, one space and a node, with no other space
 pub record TellsNode (answering text : List ℕ) (slot : ℕ) (host : List ℕ) (port : ℕ) : Type 0 where

@@ -5,16 +5,17 @@ use Rattle.cluster_slots.specs.Number.{number_in}
 use Rattle.cluster_slots.specs.SlotRoute.{SlotRoute}
 use Rattle.cluster_slots.specs.declared.slot.SlotAddr.{SlotAddr}
 use Rattle.cluster_slots.specs.declared.slot.SlotAddr.TheVariants.{Master, ReplicaOptional}
-use Rattle.redis_commands.specs.Command.{Arguments, argument, command_of, is_word}
-use Rattle.redis_commands.specs.PresentArguments.{present_arguments_after}
-use Rattle.redis_commands.specs.Tuples.{tuples_in, fits}
+use Rattle.redis_routing.specs.Command.{Arguments, argument, command_name, is_word}
+use Rattle.redis_routing.specs.PresentArguments.{present_arguments}
+use Rattle.redis_routing.specs.Tuples.{tuples_in, fits}
 use Rattle.redis_routing.specs.Parts.{slot_of, first_appearances, places_in_slot}
 use Rattle.redis_routing.specs.RoutingInfo.{Routing, random, specific_node, all_nodes, all_masters, multi_slot, single_node, multi_node}
-use Rattle.redis_commands.specs.NameTables.{NameTables, own_tables}
-use Rattle.redis_commands.specs.declared.policy.ResponsePolicy.{ResponsePolicy}
-use Rattle.redis_commands.specs.declared.route_by.MultiSlotArgPattern.{MultiSlotArgPattern}
-use Rattle.redis_commands.specs.declared.route_by.RouteBy.{RouteBy}
-use Rattle.redis_commands.specs.declared.route_by.RouteBy.TheVariants as route_by
+use Rattle.redis_routing.specs.Names.{Names}
+use Rattle.redis_routing.specs.Registry.{tables_with}
+use Rattle.redis_routing.specs.declared.policy.ResponsePolicy.{ResponsePolicy}
+use Rattle.redis_routing.specs.declared.route_by.MultiSlotArgPattern.{MultiSlotArgPattern}
+use Rattle.redis_routing.specs.declared.route_by.RouteBy.{RouteBy}
+use Rattle.redis_routing.specs.declared.route_by.RouteBy.TheVariants as route_by
 
 -- which nodes of a key's slot: a replica too, where the command only reads
 abbrev pub nodes_for : Bool → SlotAddr
@@ -80,45 +81,30 @@ to_slots reads policy pattern present =
     cond (fits pattern (length present))
     (Some (routing_of_routes pattern policy (routes_of reads pattern present))) None
 
--- where a command goes by how its name is routed, which has so many words, under some tables of
--- names
-abbrev pub routing_by_with : ℕ → NameTables → Bool → List ℕ → Arguments → Option RouteBy
-    → Option Routing
-routing_by_with words tables reads name args None = to_key_or_any reads (argument args 1)
-routing_by_with words tables reads name args (Some route_by.AllNodes) =
-    Some (multi_node all_nodes (tables.policy name))
-routing_by_with words tables reads name args (Some route_by.AllMasters) =
-    Some (multi_node all_masters (tables.policy name))
-routing_by_with words tables reads name args (Some (route_by.MultiSlot pattern)) =
-    to_slots reads (tables.policy name) pattern (present_arguments_after words args)
-routing_by_with words tables reads name args (Some route_by.Undefined) = None
-routing_by_with words tables reads name args (Some (route_by.CountAt n)) =
+-- where a command goes by how its name is routed and by its policy
+abbrev pub routing_by : Option ResponsePolicy → Bool → Arguments → Option RouteBy → Option Routing
+routing_by policy reads args None = to_key_or_any reads (argument args 1)
+routing_by policy reads args (Some route_by.AllNodes) = Some (multi_node all_nodes policy)
+routing_by policy reads args (Some route_by.AllMasters) = Some (multi_node all_masters policy)
+routing_by policy reads args (Some (route_by.MultiSlot pattern)) =
+    to_slots reads policy pattern (present_arguments args)
+routing_by policy reads args (Some route_by.Undefined) = None
+routing_by policy reads args (Some (route_by.CountAt n)) =
     by_count reads (argument_number 64 (argument args n)) (argument args (n + 1))
-routing_by_with words tables reads name args (Some (route_by.KeyAt n)) =
-    to_key reads (argument args n)
-routing_by_with words tables reads name args (Some route_by.KeyAfterStreams) =
+routing_by policy reads args (Some (route_by.KeyAt n)) = to_key reads (argument args n)
+routing_by policy reads args (Some route_by.KeyAfterStreams) =
     to_key_after reads args (position (is_word (codes "STREAMS")) args)
-routing_by_with words tables reads name args (Some route_by.Random) = Some (single_node random)
-routing_by_with words tables reads name args (Some (route_by.SlotAt n)) =
+routing_by policy reads args (Some route_by.Random) = Some (single_node random)
+routing_by policy reads args (Some (route_by.SlotAt n)) =
     to_slot (argument_number 16 (argument args n))
 
--- where a command of this name goes, under a set of names that only read
-abbrev pub routing_by_name_with : ℕ → NameTables → (List ℕ → Bool) → Arguments → Option (List ℕ)
-    → Option Routing
-routing_by_name_with words tables only_reads args None = None
-routing_by_name_with words tables only_reads args (Some name) =
-    routing_by_with words tables (only_reads name) name args (tables.route_by name)
+-- where a command of this name goes: by the tables, or where they don't have the name, as it is
+-- registered
+abbrev pub routing_by_name : Names → Arguments → Option (List ℕ) → Option Routing
+routing_by_name names args None = None
+routing_by_name names args (Some name) =
+    routing_by ((tables_with names.registered).policy name) (names.only_reads name) args
+    ((tables_with names.registered).route_by name)
 
-abbrev pub routing_with : ℕ → NameTables → (List ℕ → Bool) → Arguments → Option Routing
-routing_with words tables only_reads args =
-    routing_by_name_with words tables only_reads args (command_of args)
-
--- under the project's own tables, in which each name that is split has one word
-abbrev pub routing_by : Bool → List ℕ → Arguments → Option RouteBy → Option Routing
-routing_by reads name args route_by = routing_by_with 1 own_tables reads name args route_by
-
-abbrev pub routing_by_name : (List ℕ → Bool) → Arguments → Option (List ℕ) → Option Routing
-routing_by_name only_reads args name = routing_by_name_with 1 own_tables only_reads args name
-
-abbrev pub routing : (List ℕ → Bool) → Arguments → Option Routing
-routing only_reads args = routing_with 1 own_tables only_reads args
+abbrev pub routing : Names → Arguments → Option Routing
+routing names args = routing_by_name names args (command_name args)

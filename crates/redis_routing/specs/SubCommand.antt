@@ -1,8 +1,8 @@
 -- A part of a command as a command of its own, by the places of its arguments.
 use Rattle.std.specs.Prelude.{ℕ, ◌+◌, ◌-◌, ◌^◌, List, [], ◌∷◌, ◌++◌, Option, None, Some, length, map, min}
 use Rattle.std.specs.List.{range_with_len}
-use Rattle.redis_commands.specs.Command.{Arguments, argument}
-use Rattle.redis_commands.specs.Lists.{all_some}
+use Rattle.redis_routing.specs.Command.{Arguments, argument}
+use Rattle.redis_routing.specs.Lists.{all_some}
 
 -- the arguments of a name of so many words and those at these places after it, if they are all
 -- there
@@ -26,5 +26,5 @@ bytes_in [] = 0
 bytes_in (arg ∷ args) = text_len arg + bytes_in args
 
 -- a number as far as a `usize` counts
-abbrev pub fitting : ℕ → ℕ
-fitting n = min n (2 ^ 64 - 1)
+abbrev pub saturated : ℕ → ℕ
+saturated n = min n (2 ^ 64 - 1)

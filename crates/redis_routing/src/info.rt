@@ -2,8 +2,9 @@ ghost use Rattle.std.specs.Prelude.{◌≡◌, IfOk};
 ghost use Rattle.redis_routing.specs.Routing.{nodes_for};
 ghost use Rattle.redis_routing.specs.RoutingInfo.{route_lists};
 
+use crate::policy::ResponsePolicy;
+use crate::route_by::MultiSlotArgPattern;
 use cluster_slots::{NodeAddress, Route, SlotAddr};
-use redis_commands::{MultiSlotArgPattern, ResponsePolicy};
 use std::alloc::AllocError;
 
 /// Where a node sent the client on to.
@@ -37,7 +38,7 @@ pub enum RoutingInfo {
 pub enum SingleNodeRoutingInfo {
     /// Any node will do: `ECHO hello`, or `EVAL 'return 1' 0`.
     Random,
-    /// Any primary will do. No rule of this layer answers it; a caller may.
+    /// Any primary will do. No rule of this layer gives it; a caller may.
     RandomPrimary,
     /// A node of the route's slot: `GET foo`, slot 12182.
     SpecificNode(Route),
@@ -134,7 +135,7 @@ impl Clone for RoutingInfo {
     }
 }
 
-/// A replica too may answer a command that only reads.
+/// A replica too may serve a command that only reads.
 pub(super) fn nodes_for(reads: bool) -> SlotAddr
     ensures { result ≡ nodes_for reads }
 {

@@ -1,13 +1,33 @@
-//! Where a Redis command goes in a cluster, and how a multi-key command is split by slot.
+//! Names of commands and what the tables know of them, where a Redis command goes in a cluster, and
+//! how a multi-key command is split by slot.
 #![tactic(auto)]
 
 mod info;
+mod lookup;
+mod names;
+mod places;
+mod policy;
+mod read_only;
 mod redirect;
+mod registry;
+mod routable;
+mod route_by;
 mod rules;
 mod split_command;
 mod splitting;
 mod sub_commands;
+mod tables;
+mod upper_case;
+mod words;
 
 pub use info::{MultipleNodeRoutingInfo, Redirect, RoutingInfo, SingleNodeRoutingInfo};
+pub use lookup::contains;
+pub use names::Names;
+pub use policy::{AggregateOp, LogicalAggregateOp, ResponsePolicy};
+pub use read_only::ReadOnlyNames;
+pub use registry::{RegisterError, Registry};
+pub use routable::Routable;
+pub use route_by::{MultiSlotArgPattern, RouteBy, base_routing};
 pub use split_command::{SplitCommand, multi_slot_routes};
 pub use sub_commands::{command_for_multi_slot_indices, command_for_multi_slot_indices_with};
+pub use words::name_words;

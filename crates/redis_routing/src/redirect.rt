@@ -10,7 +10,8 @@ impl Redirect {
     /// the slot that it tells, and where it sends the client on. `None` for each other text.
     ///
     /// The address is read as by `split_node_address`. In `MOVED 3999 :6381` the host is left out:
-    /// it is then `answering`, the host of the node that sent the error.
+    /// it is then `answering`, the host of the node that sent the error, unless that is empty. In
+    /// `MOVED 3999 ?:6381` it is unknown, which names no node, as in a reply to `CLUSTER SLOTS`.
     ///
     /// ```
     /// Redirect::from_error_text(alloc, "MOVED 3999 127.0.0.1:6381", "127.0.0.1")
@@ -86,9 +87,17 @@ fn node_in<'a>(text: &'a str, answering: &'a str) -> Option<(&'a str, u16)>
         ((host : List ℕ) (port : ℕ) → ¬ (IsNodeText answering.now text.now host port))
         (λ named. IsNodeText answering.now text.now named.0.now named.1) }
 {
-    if let Ok(named) = split_node_address(text) {
-        return Some(named);
+    if let Ok((host, port)) = split_node_address(text) {
+        return if host == "?" {
+            None
+        } else {
+            Some((host, port))
+        };
     }
     let port = parse_u16(text.strip_prefix(':')?.as_bytes())?;
-    Some((answering, port))
+    if answering.is_empty() {
+        None
+    } else {
+        Some((answering, port))
+    }
 }

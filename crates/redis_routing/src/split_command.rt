@@ -1,18 +1,21 @@
 ghost use Rattle.std.specs.Prelude.{◌≡◌, ◌<◌, Some, true, length, map, option_map, IfOk, IfSome};
-ghost use Rattle.redis_commands.specs.Command.{command_of};
+ghost use Rattle.redis_routing.specs.Command.{command_name};
 ghost use Rattle.redis_routing.specs.Complete.{multi_slot_routes, pattern_of, pattern_by_name, AreSubCommands};
-ghost use Rattle.redis_commands.specs.Policies.{policy_of};
-ghost use Rattle.redis_commands.specs.ReadOnly.{is_among};
-ghost use Rattle.redis_routing.specs.Split.{Split, IsSplit, route_part, policy_by_name, joins_parts};
+ghost use Rattle.redis_routing.specs.Names.{names_in};
+ghost use Rattle.redis_routing.specs.Registry.{tables_with};
+ghost use Rattle.redis_routing.specs.Policies.{joins_parts};
+ghost use Rattle.redis_routing.specs.Split.{Split, IsSplit, route_part, policy_by_name};
 ghost use Rattle.redis_routing.specs.RoutingInfo.{route_lists};
-ghost use Rattle.redis_commands.specs.RouteBy.{base_routing};
 
-use super::splitting::{NAME_WORDS, present_len, routes_by_slot};
+use super::splitting::{present_len, routes_by_slot, words_of};
 use super::sub_commands::sub_command;
+use crate::names::Names;
+use crate::policy::ResponsePolicy;
+use crate::registry::Registry;
+use crate::routable::Routable;
+use crate::route_by::{MultiSlotArgPattern, RouteBy, routing_and_policy};
+use crate::words::{ROOM, short_name};
 use cluster_slots::Route;
-use redis_commands::{
-    MultiSlotArgPattern, ReadOnlyNames, ResponsePolicy, Routable, RouteBy, routing_and_policy,
-};
 use resp_core::Cmd;
 use std::alloc::{AllocError, Global};
 use std::marker::Model;
@@ -32,6 +35,8 @@ pub struct SplitCommand<'a, R: Routable> {
 }
 
 impl<'a, R: Routable> Model for SplitCommand<'a, R> {
+    ghost use Rattle.std.specs.Prelude.{◌≡◌};
+    ghost use Rattle.redis_routing.specs.NameWords.{name_words_of};
     ghost use Rattle.redis_routing.specs.Split.{Split, IsSplit};
     ghost use Rattle.redis_routing.specs.RoutingInfo.{route_lists};
 
@@ -39,7 +44,6 @@ impl<'a, R: Routable> Model for SplitCommand<'a, R> {
 
     ghost view = { λ s. record {
       arguments = R.args s.command.now;
-      words = s.words;
       routes = route_lists s.routes.items;
       pattern = s.pattern;
       policy = s.policy;
@@ -47,51 +51,71 @@ impl<'a, R: Routable> Model for SplitCommand<'a, R> {
 
     ghost invariant = { λ s. IsSplit (record {
       arguments = R.args s.command.now;
-      words = s.words;
       routes = route_lists s.routes.items;
       pattern = s.pattern;
       policy = s.policy;
-    }) };
+    })
+        × (s.words ≡ name_words_of (R.args s.command.now)) };
 }
 
 impl<'a, R: Routable> SplitCommand<'a, R> {
     /// Splits a command. There is nothing to split where its name is not one of those that split by
-    /// slot, where the arguments after it, up to the first gap, make no whole tuples, or where the
-    /// last argument that all keys share is missing.
+    /// slot, by the tables or as it is registered. Nor is there where the arguments after it, up to
+    /// the first gap, make no whole tuples, or the last argument that all keys share is missing.
     ///
     /// # Errors
     ///
     /// If memory runs out.
-    pub fn new(
-        alloc: Global,
-        command: &'a R,
-        read_only: &ReadOnlyNames,
-    ) -> Result<Option<Self>, AllocError>
+    pub fn new(alloc: Global, command: &'a R, names: Names<'_>) -> Result<Option<Self>, AllocError>
         ensures routes { IfOk result (λ split. option_map (λ s. s.routes) split
-            ≡ multi_slot_routes (is_among read_only.now) (R.args command.now)) }
+            ≡ multi_slot_routes (names_in names.entry) (R.args command.now)) }
         ensures arguments { IfOk result (λ split. IfSome split (λ s. s.arguments
             ≡ R.args command.now)) }
-        ensures words { IfOk result (λ split. IfSome split (λ s. s.words ≡ 1)) }
         ensures pattern { IfOk result (λ split. IfSome split (λ s. Some s.pattern
-            ≡ pattern_by_name (command_of (R.args command.now)))) }
+            ≡ pattern_by_name names.entry.registry.now (command_name (R.args command.now)))) }
         ensures policy { IfOk result (λ split. IfSome split (λ s. Some s.policy
-            ≡ policy_by_name (command_of (R.args command.now)))) }
+            ≡ policy_by_name names.entry.registry.now (command_name (R.args command.now)))) }
     {
-        let Some(name) = command.command(alloc)? else {
+        let mut room = [0; ROOM];
+        if let Some(len) = short_name(command, &mut room) {
+            return Self::named(alloc, command, &room[..len], names);
+        }
+        match command.command(alloc)? {
+            Some(name) => Self::named(alloc, command, &name, names),
+            None => Ok(None),
+        }
+    }
+
+    /// Splits a command of the name, as `new` has it.
+    fn named(
+        alloc: Global,
+        command: &'a R,
+        name: &[u8],
+        names: Names<'_>,
+    ) -> Result<Option<Self>, AllocError>
+        requires { Some name.now ≡ command_name (R.args command.now) }
+        ensures routes { IfOk result (λ split. option_map (λ s. s.routes) split
+            ≡ multi_slot_routes (names_in names.entry) (R.args command.now)) }
+        ensures arguments { IfOk result (λ split. IfSome split (λ s. s.arguments
+            ≡ R.args command.now)) }
+        ensures pattern { IfOk result (λ split. IfSome split (λ s. Some s.pattern
+            ≡ pattern_by_name names.entry.registry.now (command_name (R.args command.now)))) }
+        ensures policy { IfOk result (λ split. IfSome split (λ s. Some s.policy
+            ≡ policy_by_name names.entry.registry.now (command_name (R.args command.now)))) }
+    {
+        let Some((pattern, policy)) = pattern_and_policy(names.registry, name) else {
             return Ok(None);
         };
-        let Some((pattern, policy)) = pattern_and_policy(&name) else {
-            return Ok(None);
-        };
-        let count = present_len(command, NAME_WORDS);
+        let words = words_of(command, name);
+        let count = present_len(command, words);
         if !pattern.is_complete(count) {
             return Ok(None);
         }
-        let reads = read_only.contains(&name);
-        let routes = routes_by_slot(alloc, command, NAME_WORDS, pattern, count, reads)?;
+        let reads = names.read_only.contains(name);
+        let routes = routes_by_slot(alloc, command, words, pattern, count, reads)?;
         Ok(Some(SplitCommand {
             command,
-            words: NAME_WORDS,
+            words,
             routes,
             pattern,
             policy,
@@ -99,7 +123,7 @@ impl<'a, R: Routable> SplitCommand<'a, R> {
     }
 
     /// The routes: one for each slot of a key, by the first key of each slot, with the indices of
-    /// its part as `command_for_multi_slot_indices` takes them.
+    /// its part as `command_for_multi_slot_indices_with` takes them after the words of the name.
     pub fn routes(&self) -> &[(Route, Vec<usize>)]
         ensures routes { route_lists result.now ≡ self.now.routes }
         ensures split { IsSplit self.now }
@@ -130,7 +154,7 @@ impl<'a, R: Routable> SplitCommand<'a, R> {
         self.policy
     }
 
-    /// The part of a route, by its number, as a command of its own: the first word as it is spelt,
+    /// The part of a route, by its number, as a command of its own. It has the name as it is spelt,
     /// the keys of the route's slot with what goes with them, in their order, and the argument that
     /// all keys share. Of `JSON.MGET foo bar $.a` part 1 is `JSON.MGET bar $.a`.
     ///
@@ -151,25 +175,34 @@ impl<'a, R: Routable> SplitCommand<'a, R> {
 
 /// How commands of this name make tuples and how the replies to their parts make one, where they
 /// split by slot.
-fn pattern_and_policy(name: &[u8]) -> Option<(MultiSlotArgPattern, ResponsePolicy)>
-    ensures pattern { option_map (λ found. found.0) result ≡ pattern_of (base_routing name.now) }
-    ensures policy { IfSome result (λ found. Some found.1 ≡ policy_of name.now) }
+fn pattern_and_policy(
+    registry: &Registry,
+    name: &[u8],
+) -> Option<(MultiSlotArgPattern, ResponsePolicy)>
+    ensures pattern { option_map (λ found. found.0) result
+        ≡ pattern_of ((tables_with registry.now).route_by name.now) }
+    ensures policy { IfSome result (λ found. Some found.1
+        ≡ (tables_with registry.now).policy name.now) }
     ensures joins { IfSome result (λ found. joins_parts found.1 ≡ true) }
 {
     let (route_by, policy) = routing_and_policy(name);
-    let Some(RouteBy::MultiSlot(pattern)) = route_by else {
+    let Some(route_by) = route_by else {
+        return registry.get(name);
+    };
+    let RouteBy::MultiSlot(pattern) = route_by else {
         return None;
     };
     let Some(policy) = policy else { unreachable!() };
     Some((pattern, policy))
 }
 
-/// The routes of a multi-key command: one for each slot of a key, by the first key of each
-/// slot, with the indices of its part as `command_for_multi_slot_indices` takes them.
+/// The routes of a multi-key command: one for each slot of a key, by the first key of each slot.
+/// Each has the indices of its part as `command_for_multi_slot_indices_with` takes them after the
+/// words of the name.
 ///
-/// There are none where the name is not one of those that split by slot, where the arguments after
-/// it, up to the first gap, make no whole tuples, or where the last argument that all keys share is
-/// missing.
+/// There are none where the name is not one of those that split by slot, by the tables or as it is
+/// registered. Nor are there where the arguments after it, up to the first gap, make no whole
+/// tuples, or the last argument that all keys share is missing.
 ///
 /// # Errors
 ///
@@ -177,14 +210,14 @@ fn pattern_and_policy(name: &[u8]) -> Option<(MultiSlotArgPattern, ResponsePolic
 pub fn multi_slot_routes<R: Routable>(
     alloc: Global,
     command: &R,
-    read_only: &ReadOnlyNames,
+    names: Names<'_>,
 ) -> Result<Option<Vec<(Route, Vec<usize>)>>, AllocError>
     ensures routes { IfOk result (λ routes. option_map (λ r. route_lists r.items) routes
-        ≡ multi_slot_routes (is_among read_only.now) (R.args command.now)) }
+        ≡ multi_slot_routes (names_in names.entry) (R.args command.now)) }
     ensures picked { IfOk result (λ routes. IfSome routes (λ routes. AreSubCommands
-        (R.args command.now) (route_lists routes.items))) }
+        names.entry.registry.now (R.args command.now) (route_lists routes.items))) }
 {
-    match SplitCommand::new(alloc, command, read_only)? {
+    match SplitCommand::new(alloc, command, names)? {
         Some(split) => Ok(Some(split.routes)),
         None => Ok(None),
     }

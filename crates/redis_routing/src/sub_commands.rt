@@ -2,12 +2,11 @@ ghost use Rattle.std.specs.Prelude.{◌≡◌, ◌⊎◌, ◌<◌, ◌+◌, Some
 ghost use Rattle.std.specs.List.{range_with_len};
 ghost use Rattle.resp_core.specs.ErrorParts.{out_of_memory};
 ghost use Rattle.resp_core.specs.declared.error.ErrorKind.TheVariants.{Client};
-ghost use Rattle.redis_commands.specs.Command.{argument};
-ghost use Rattle.redis_commands.specs.Lists.{all_some};
-ghost use Rattle.redis_routing.specs.SubCommand.{bytes_in, fitting, sub_command, sub_command_after, text_len};
+ghost use Rattle.redis_routing.specs.Command.{argument};
+ghost use Rattle.redis_routing.specs.Lists.{all_some};
+ghost use Rattle.redis_routing.specs.SubCommand.{bytes_in, saturated, sub_command, sub_command_after, text_len};
 
-use super::splitting::NAME_WORDS;
-use redis_commands::Routable;
+use crate::routable::Routable;
 use resp_core::{Cmd, ErrorKind, RedisError, RedisResult};
 use std::alloc::{AllocError, Global};
 
@@ -28,13 +27,12 @@ pub fn command_for_multi_slot_indices<R: Routable>(
         × (fault.kind ≡ Client))
         ⊎ (fault ≡ out_of_memory)) }
 {
-    command_for_multi_slot_indices_with(alloc, original, NAME_WORDS, indices)
+    command_for_multi_slot_indices_with(alloc, original, 1, indices)
 }
 
-/// The part of a command whose name has so many words, as `name_words` counts them, that has these
-/// arguments: the words of the name as they are spelt, and then the arguments at these indices,
-/// which are counted from 0 after these words. `command_for_multi_slot_indices` is this call for
-/// names of one word.
+/// The part of a command whose name has so many words, as `name_words` counts them. It has these
+/// words as they are spelt, and then the arguments at these indices, which are counted from 0 after
+/// the words. `command_for_multi_slot_indices` is this call for names of one word.
 ///
 /// # Errors
 ///
@@ -94,7 +92,7 @@ pub(super) fn sub_command<R: Routable>(
 
 /// How many bytes the words of the name have together, as far as they are there.
 fn name_len<R: Routable>(original: &R, words: usize) -> usize
-    ensures { result ≡ fitting (bytes_in (map (λ place. argument (R.args original.now) place)
+    ensures { result ≡ saturated (bytes_in (map (λ place. argument (R.args original.now) place)
         (range_with_len 0 words))) }
 {
     let mut len: usize = 0;
@@ -106,7 +104,7 @@ fn name_len<R: Routable>(original: &R, words: usize) -> usize
 
 /// How many bytes these arguments have together, as far as they are there.
 fn args_len<R: Routable>(original: &R, words: usize, indices: &[usize]) -> usize
-    ensures { result ≡ fitting (bytes_in (map (λ place. argument (R.args original.now)
+    ensures { result ≡ saturated (bytes_in (map (λ place. argument (R.args original.now)
         (place + words)) indices.now)) }
 {
     let mut len: usize = 0;

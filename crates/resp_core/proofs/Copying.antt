@@ -3,9 +3,32 @@ use Rattle.std.proofs.Common.{◌≡◌, ℕ, zero, suc, ◌+◌, ◌-◌, ◌<�
 use Rattle.std.proofs.lemmas.List.{map-append, take_at, drop_at, drop_more, length-append, length-map, same_from_push}
 use Rattle.resp_core.specs.Reply.{Reply, Replies, Pairs, nil, int, bulk, array, simple, okay, pairs, no_replies, reply, no_pairs, pair, pairs_of, items_in}
 use Rattle.resp_core.specs.View.{view, view_pair}
-use Rattle.resp_core.specs.Copying.{inside, inside_pairs, size, size_of_items, size_of_pairs, size_of_all}
+use Rattle.resp_core.specs.Copying.{inside, inside_pairs}
 use Rattle.resp_core.specs.declared.value.Value.{Value, Array, Map}
 use Rattle.resp_core.proofs.Views.{view-Array, view-Map, items_in-replies_of}
+
+abbrev mutual
+  -- how many replies a reply is
+  pub size : Reply → ℕ
+  size nil = 1
+  size (int n) = 1
+  size (bulk bytes) = 1
+  size (array items) = 1 + size_of_items items
+  size (simple text) = 1
+  size okay = 1
+  size (pairs items) = 1 + size_of_pairs items
+
+  pub size_of_items : Replies → ℕ
+  size_of_items no_replies = 0
+  size_of_items (reply r rs) = size r + size_of_items rs
+
+  pub size_of_pairs : Pairs → ℕ
+  size_of_pairs no_pairs = 0
+  size_of_pairs (pair k v ps) = size k + size v + size_of_pairs ps
+
+abbrev pub size_of_all : List Reply → ℕ
+size_of_all [] = 0
+size_of_all (r ∷ rs) = size r + size_of_all rs
 
 size_of_all-append : (rs ss : List Reply) → size_of_all (rs ++ ss) ≡ size_of_all rs + size_of_all ss
 size_of_all-append [] ss = omega arith

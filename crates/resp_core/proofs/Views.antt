@@ -1,7 +1,7 @@
 -- What a value shows, variant by variant.
 use Rattle.std.proofs.Common.{◌≡◌, ℕ, ℤ, List, [], ◌∷◌, map, Vec, String, Global, string_bytes, Bool, Decides, Some, unwrap_or, ◌↔◌, refl, sym, ap, ◌∙◌, rules}
 use Rattle.std.proofs.lemmas.Bool.Decides.{Decides-like}
-use Rattle.resp_core.specs.Reply.{Reply, nil, int, bulk, array, simple, okay, pairs, replies_of, pairs_of, items_in, array_of, pairs_in}
+use Rattle.resp_core.specs.Reply.{Reply, Pairs, nil, int, bulk, array, simple, okay, pairs, no_pairs, pair, replies_of, pairs_of, items_in, array_of}
 use Rattle.resp_core.specs.View.{view, view_pair}
 use Rattle.resp_core.specs.declared.value.Value.{Value, Nil, Int, BulkString, Array, SimpleString, Okay, Map, the_lemmas}
 
@@ -32,6 +32,10 @@ items_in-replies_of (r ∷ rs) = ap (λ ts. r ∷ ts) (items_in-replies_of rs)
 
 pub array_of-Array : (items : Vec Value Global) → array_of (view (Array items)) ≡ Some (map view items.items)
 array_of-Array items = ap array_of (view-Array items) ∙ ap Some (items_in-replies_of (map view items.items))
+
+abbrev pairs_in : Pairs → List (Reply × Reply)
+pairs_in no_pairs = []
+pairs_in (pair k v ps) = (k, v) ∷ pairs_in ps
 
 pub pairs_in-pairs_of : (ps : List (Reply × Reply)) → pairs_in (pairs_of ps) ≡ ps
 pairs_in-pairs_of [] = refl

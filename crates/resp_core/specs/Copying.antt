@@ -1,7 +1,7 @@
 -- The order in which the replies in a reply are gone over, and copies made of them, without
 -- recursion.
-use Rattle.std.specs.Prelude.{◌≡◌, ℕ, ◌+◌, List, [], ◌∷◌, ◌++◌, ⊤}
-use Rattle.resp_core.specs.Reply.{Reply, Replies, Pairs, nil, int, bulk, array, simple, okay, pairs, no_replies, reply, no_pairs, pair, items_in}
+use Rattle.std.specs.Prelude.{◌≡◌, List, [], ◌∷◌, ◌++◌, ⊤}
+use Rattle.resp_core.specs.Reply.{Reply, Pairs, nil, int, bulk, array, simple, okay, pairs, no_pairs, pair, items_in}
 
 -- what is inside pairs, the last first
 abbrev pub inside_pairs : Pairs → List Reply
@@ -37,26 +37,3 @@ IsWalk root (r ∷ gone) waiting =
 
 abbrev pub EndsWith : List Reply → List Reply → Type 0
 EndsWith end rs = (rest : List Reply) × (rs ≡ rest ++ end)
-
-abbrev mutual
-  -- how many replies a reply is
-  pub size : Reply → ℕ
-  size nil = 1
-  size (int n) = 1
-  size (bulk bytes) = 1
-  size (array items) = 1 + size_of_items items
-  size (simple text) = 1
-  size okay = 1
-  size (pairs items) = 1 + size_of_pairs items
-
-  pub size_of_items : Replies → ℕ
-  size_of_items no_replies = 0
-  size_of_items (reply r rs) = size r + size_of_items rs
-
-  pub size_of_pairs : Pairs → ℕ
-  size_of_pairs no_pairs = 0
-  size_of_pairs (pair k v ps) = size k + size v + size_of_pairs ps
-
-abbrev pub size_of_all : List Reply → ℕ
-size_of_all [] = 0
-size_of_all (r ∷ rs) = size r + size_of_all rs

@@ -3,16 +3,16 @@ use Rattle.std.specs.Prelude.{◌≡◌, ◌+◌, ◌-◌, ℕ, List, [], ◌∷
 use Rattle.std.specs.List.{concat}
 
 -- the items of these bytes, which start at a place, by where each of them ends
-abbrev pub items_at : ℕ → List ℕ → List ℕ → List (List ℕ)
-items_at start [] bytes = []
-items_at start (end ∷ ends) bytes = take (end - start) bytes ∷ items_at end ends (drop (end - start) bytes)
+abbrev pub items_by_ends : ℕ → List ℕ → List ℕ → List (List ℕ)
+items_by_ends start [] bytes = []
+items_by_ends start (end ∷ ends) bytes = take (end - start) bytes ∷ items_by_ends end ends (drop (end - start) bytes)
 
 -- where each of these items ends, the first of which starts at a place
-abbrev pub ends_of : ℕ → List (List ℕ) → List ℕ
-ends_of start [] = []
-ends_of start (item ∷ items) = (start + length item) ∷ ends_of (start + length item) items
+abbrev pub item_ends : ℕ → List (List ℕ) → List ℕ
+item_ends start [] = []
+item_ends start (item ∷ items) = (start + length item) ∷ item_ends (start + length item) items
 
 -- the bytes are those of the items, and the ends theirs
 pub record AreItemsAt (start : ℕ) (ends bytes : List ℕ) : Type 0 where
-  pub same_bytes : concat (items_at start ends bytes) ≡ bytes
-  pub same_ends : ends_of start (items_at start ends bytes) ≡ ends
+  pub same_bytes : concat (items_by_ends start ends bytes) ≡ bytes
+  pub same_ends : item_ends start (items_by_ends start ends bytes) ≡ ends

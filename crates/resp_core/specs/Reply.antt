@@ -33,10 +33,6 @@ abbrev pub pairs_of : List (Reply × Reply) → Pairs
 pairs_of [] = no_pairs
 pairs_of (p ∷ ps) = pair p.0 p.1 (pairs_of ps)
 
-abbrev pub pairs_in : Pairs → List (Reply × Reply)
-pairs_in no_pairs = []
-pairs_in (pair k v ps) = (k, v) ∷ pairs_in ps
-
 -- the number, if it is one
 abbrev pub int_of : Reply → Option ℤ
 int_of nil = None

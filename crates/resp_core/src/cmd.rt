@@ -16,25 +16,25 @@ use std::{fmt, slice};
 /// ```
 #[derive(Drop)]
 pub struct Cmd {
-    /// The items one after another.
+    /// The arguments one after another.
     bytes: Vec<u8>,
-    /// Where each item ends.
+    /// Where each argument ends.
     ends: Vec<usize>,
 }
 
 impl Model for Cmd {
     ghost use Rattle.std.specs.Prelude.{ℕ, List};
-    ghost use Rattle.resp_core.specs.ItemEnds.{items_at, AreItemsAt};
+    ghost use Rattle.resp_core.specs.ItemEnds.{items_by_ends, AreItemsAt};
 
     ghost Value = { List (List ℕ) };
 
-    ghost view = { λ c. items_at 0 c.ends.items c.bytes.items };
+    ghost view = { λ c. items_by_ends 0 c.ends.items c.bytes.items };
 
     ghost invariant = { λ c. AreItemsAt 0 c.ends.items c.bytes.items };
 }
 
 impl Cmd {
-    /// A command of no item. Takes no memory.
+    /// A command of no argument. Takes no memory.
     pub fn new(alloc: Global) -> Cmd
         ensures { result ≡ [] }
     {
@@ -44,7 +44,7 @@ impl Cmd {
         }
     }
 
-    /// A command with room for so many items.
+    /// A command with room for so many arguments.
     ///
     /// # Errors
     ///
@@ -55,7 +55,7 @@ impl Cmd {
         Cmd::with_room(alloc, items, 0)
     }
 
-    /// A command with room for so many items that have so many bytes together.
+    /// A command with room for so many arguments that have so many bytes together.
     ///
     /// # Errors
     ///
@@ -69,7 +69,7 @@ impl Cmd {
         })
     }
 
-    /// Adds an item at the end, and lends the command back for the next.
+    /// Adds an argument at the end, and lends the command back for the next.
     ///
     /// # Errors
     ///
@@ -82,7 +82,7 @@ impl Cmd {
         Ok(self)
     }
 
-    /// Adds an item at the end.
+    /// Adds an argument at the end.
     ///
     /// # Errors
     ///
@@ -97,7 +97,7 @@ impl Cmd {
         Ok(())
     }
 
-    /// The item at an index, of which 0 is the name. An empty item is bytes of length 0.
+    /// The argument at an index, of which 0 is the name. An empty argument is bytes of length 0.
     pub fn arg_idx(&self, index: usize) -> Option<&[u8]>
         ensures item { option_copied result ≡ slice_get self.now index }
         ensures few { length self.now < 2 ^ 63 }
@@ -107,7 +107,7 @@ impl Cmd {
         Some(&self.bytes[start..end])
     }
 
-    /// How many items there are, the name included.
+    /// How many arguments there are, the name included.
     pub fn len(&self) -> usize
         ensures count { result ≡ length self.now }
         ensures few { length self.now < 2 ^ 63 }
@@ -115,14 +115,14 @@ impl Cmd {
         self.ends.len()
     }
 
-    /// Whether there is no item.
+    /// Whether there is no argument.
     pub fn is_empty(&self) -> bool
         ensures { IsTrue result ↔ (self.now ≡ []) }
     {
         self.ends.is_empty()
     }
 
-    /// The items in order.
+    /// The arguments in order.
     pub fn args(&self) -> Args<'_>
         ensures { result ≡ self.now }
     {
@@ -134,7 +134,7 @@ impl Cmd {
     }
 }
 
-/// Where the item at a place starts: where the one before it ends.
+/// Where the argument at a place starts: where the one before it ends.
 fn start_of(ends: &[usize], index: usize) -> usize
     requires { index < length ends.now }
     ensures { result ≡ slice_index (0 ∷ ends.now) index }
@@ -170,14 +170,14 @@ impl Eq for Cmd {
     ghost laws = { Prim.search (comparing, rules) };
 }
 
-/// Prints the items as a list of lists of numbers.
+/// Prints the arguments as a list of lists of numbers.
 impl fmt::Debug for Cmd {
     fn fmt<W: fmt::Write>(&self, f: &mut fmt::Formatter<W>) -> fmt::Result {
         f.debug_struct("Cmd").field("args", &Items(self)).finish()
     }
 }
 
-/// The items of a command, to be printed.
+/// The arguments of a command, to be printed.
 #[derive(Drop)]
 struct Items<'a>(&'a Cmd);
 
@@ -187,25 +187,25 @@ impl fmt::Debug for Items<'_> {
     }
 }
 
-/// The items of a `Cmd`, in order.
+/// The arguments of a `Cmd`, in order.
 #[derive(Drop)]
 pub struct Args<'a> {
-    /// The bytes of the items that are left.
+    /// The bytes of the arguments that are left.
     rest: &'a [u8],
     /// Where those bytes start in the command.
     start: usize,
-    /// Where each item that is left ends in the command.
+    /// Where each argument that is left ends in the command.
     ends: slice::Iter<'a, usize>,
 }
 
 impl<'a> Model for Args<'a> {
     ghost use Rattle.std.specs.Prelude.{ℕ, List};
     ghost use Rattle.std.specs.Slice.Iter.{iter_rest};
-    ghost use Rattle.resp_core.specs.ItemEnds.{items_at, AreItemsAt};
+    ghost use Rattle.resp_core.specs.ItemEnds.{items_by_ends, AreItemsAt};
 
     ghost Value = { List (List ℕ) };
 
-    ghost view = { λ a. items_at a.start (iter_rest a.ends) a.rest.now };
+    ghost view = { λ a. items_by_ends a.start (iter_rest a.ends) a.rest.now };
 
     ghost invariant = { λ a. AreItemsAt a.start (iter_rest a.ends) a.rest.now };
 }

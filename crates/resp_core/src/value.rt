@@ -16,9 +16,9 @@ use std::alloc::AllocError;
 /// A reply of a Redis server, as a tree.
 ///
 /// However deep the tree is, to drop, clone or compare it takes no more stack. To drop it takes no
-/// memory either, and to clone it memory for the copy and for lists of what is under way, to
-/// compare it a list of the arrays and maps inside arrays and maps; where there is none for that
-/// list, `==` recurses. `Debug` recurses.
+/// memory either, and to clone it memory for the copy and for lists of what is under way. To
+/// compare it takes a list of the arrays and maps inside arrays and maps. Where there is no memory
+/// for that list, `==` recurses. `Debug` recurses.
 ///
 /// ```
 /// let not_a_count = (ErrorKind::UnexpectedReturnType, "the reply is not a count");

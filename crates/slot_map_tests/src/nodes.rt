@@ -1,7 +1,7 @@
 //! The nodes of a map and of a range, and where a read may go when the node of its route fails.
-use crate::given::{Line, THREE_SHARDS, map_of, nodes_of, range_of};
 use cluster_map::{NodeAddress, Route, SlotAddr, SlotAddrs};
 use example_strategies::FirstReplica;
+use fixtures::{Line, THREE_SHARDS, map_of, nodes_of, range_of};
 use resp_core::RedisResult;
 use std::alloc::{AllocError, Global};
 use std::test::Fail;

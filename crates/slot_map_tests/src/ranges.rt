@@ -1,6 +1,6 @@
 //! Ranges and the maps that they fill.
-use crate::given::{Line, map_of, range_of};
 use cluster_map::{Route, SlotAddr, SlotMap};
+use fixtures::{Line, map_of, range_of};
 use resp_core::RedisResult;
 use std::alloc::{AllocError, Global};
 use std::test::Fail;

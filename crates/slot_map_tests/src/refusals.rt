@@ -1,7 +1,7 @@
 //! What stands where memory is refused once, at any request. Run as it is, this sees memory enough;
 //! `tests/refusals` runs it with the first request refused, with the second, and so on.
-use crate::given::range_of;
 use cluster_map::{Route, SlotAddr, SlotMap, SlotRange};
+use fixtures::range_of;
 use resp_core::RedisResult;
 use std::alloc::{AllocError, Global};
 use std::test::Fail;

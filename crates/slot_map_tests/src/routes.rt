@@ -1,7 +1,8 @@
 //! The node for a route, and the nodes of many routes.
-use crate::given::{Line, hosts_at, node_at};
+use crate::given::{hosts_at, node_at};
 use cluster_map::{ReadRoutingStrategy, Route, SlotAddr, SlotMap};
 use example_strategies::FirstReplica;
+use fixtures::Line;
 use std::test::Fail;
 
 #[test]

@@ -1,7 +1,7 @@
 //! How often, and in which order, a lent strategy is asked.
-use crate::given::{Line, hosts_at, node_at, nodes_of};
+use crate::given::{hosts_at, node_at};
 use cluster_map::{NodeAddress, Route, SlotAddr, SlotAddrs};
-use fixtures::Turns;
+use fixtures::{Line, Turns, nodes_of};
 use resp_core::RedisResult;
 use std::alloc::Global;
 use std::test::Fail;

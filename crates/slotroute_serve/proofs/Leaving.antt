@@ -9,7 +9,7 @@ use Rattle.slotroute_serve.specs.Lines.{after_lines, after_map, leading_lines, S
 use Rattle.slotroute_serve.specs.Streams.{Leaves}
 
 -- an input is its first line and what follows it
-pub through : (xs : List ℕ) → xs ≡ take_through 10 xs ++ drop_through 10 xs
+through : (xs : List ℕ) → xs ≡ take_through 10 xs ++ drop_through 10 xs
 through [] = refl
 through (x ∷ xs) = elim (x == 10) as (λ v. x ∷ xs ≡ cond v (x ∷ []) (x ∷ take_through 10 xs) ++ cond v xs (drop_through 10 xs)) [ true ↦ refl | false ↦ ap (λ t. x ∷ t) (through xs) ]
 
@@ -58,6 +58,10 @@ after_lines-more count xs = rw (add-one count) (after_lines-suc count xs)
 -- a line that was read whole
 pub line_read : (xs : List ℕ) → StopsInLine xs (drop_through 10 xs)
 line_read xs = record { read = take_through 10 xs; more = []; begun = through xs; ends = refl }
+
+-- nothing of a line was read
+pub not_read : (xs : List ℕ) → StopsInLine xs xs
+not_read xs = record { read = []; more = take_through 10 xs; begun = refl; ends = through xs }
 
 -- after the map the reading stopped right after the line that ends it
 pub stops_after_map : (input : List ℕ) → StopsInMap input (after_map input)

@@ -1,5 +1,9 @@
+pub mod Ordering
+pub mod Replies
+pub mod RunningCommands
 pub mod Ending
 pub mod Leaving
+pub mod MultiLines
 pub mod Reading
 pub mod Running
 pub mod Serving

@@ -1,22 +1,20 @@
 -- The commands that were run so far, and what is left of the input.
 use Rattle.std.proofs.Common.{◌≡◌, ◌≢◌, ℕ, ◌+◌, Bool, false, List, [], ◌∷◌, ◌++◌, refl, sym, ◌∙◌, ap, subst, arith, map, length, take, nat_lt, append_assoc}
 use Rattle.std.specs.Prelude.{Option, Some, None, ⊤, IfSome}
-use Rattle.std.specs.Io.BufRead.{take_through, drop_through, DropsThrough}
+use Rattle.std.specs.Io.BufRead.{drop_through, DropsThrough}
 use Rattle.std.proofs.lemmas.List.{append-nil, length_push}
-use Rattle.std.proofs.lemmas.Slice.Zip.{AllZip-long}
-use Rattle.cluster_map.specs.RangeMap.{Entry}
-use Rattle.cluster_map.specs.SlotNodes.{SlotNodes, RangeNodes}
+use Rattle.cluster_map.specs.RangeMap.{RangeEntry}
+use Rattle.cluster_map.specs.SlotNodes.{SlotNodes}
+use Rattle.redis_routing.specs.Registry.{Registrations}
 use Rattle.memory_nodes.specs.Cells.{Cell}
 use Rattle.redis_cluster.specs.Unsplit.{Keyspace}
-use Rattle.slotroute_run.specs.Commands.{IsRefused}
-use Rattle.slotroute_run.specs.declared.direction.Direction.{Direction}
-use Rattle.slotroute_run.specs.declared.refusal.Refusal.{Refusal}
-use Rattle.slotroute_serve.specs.Lines.{line_of, fields_of, leading_lines, after_lines, after_map, StopsInLine}
-use Rattle.slotroute_serve.specs.MapLines.{IsMapLine, IsMap}
-use Rattle.slotroute_serve.specs.Output.{first_after_map}
+use Rattle.slotroute_serve.specs.Commands.{IsRefused}
+use Rattle.slotroute_serve.specs.declared.direction.Direction.{Direction}
+use Rattle.slotroute_serve.specs.declared.refusal.Refusal.{Refusal}
+use Rattle.slotroute_serve.specs.Lines.{line_of, fields_of, after_lines, after_map, StopsInLine}
 use Rattle.slotroute_serve.specs.Runs.{field_lines, no_keys, AreRun, AllRun, RefusedAt, StopsAfter, CutShort}
 use Rattle.slotroute_serve.specs.Streams.{Leaves}
-use Rattle.slotroute_serve.proofs.Leaving.{through, after_lines-more, line_read}
+use Rattle.slotroute_serve.proofs.Leaving.{after_lines-more, line_read, not_read}
 use Rattle.slotroute_serve.proofs.Reading.{HasLine, lines_of-first, true≢false, positive}
 
 -- What follows the map, of an input whose map was read.
@@ -27,10 +25,6 @@ after_the_map M P Q (Some bytes) None left m l p f = absurd l
 after_the_map M P Q (Some bytes) (Some rest) None m l p f = absurd p
 after_the_map M P Q (Some bytes) (Some rest) (Some end) m l p f = f bytes end m (subst (λ (r : List ℕ). P r end) l p)
 
--- The number of the first line after the map.
-pub first_line : (bytes : List ℕ) (ranges : List RangeNodes) (first : ℕ) → first ≡ length ranges + 2 → IsMap (leading_lines bytes) ranges → first ≡ first_after_map bytes
-first_line bytes ranges first e m = e ∙ ap (λ n. n + 2) (AllZip-long IsMapLine (leading_lines bytes) ranges m)
-
 field_lines-first : (x : ℕ) (xs : List ℕ) → field_lines (x ∷ xs) ≡ fields_of (line_of (x ∷ xs)) ∷ field_lines (drop_through 10 (x ∷ xs))
 field_lines-first x xs = ap (map fields_of) (lines_of-first x xs)
 
@@ -39,14 +33,14 @@ split_more : (input : List ℕ) (x : ℕ) (xs : List ℕ) (front : List (List (L
 split_more input x xs front line split text =
     split ∙ ap (λ ls. front ++ ls) (field_lines-first x xs ∙ ap (λ l. fields_of l ∷ field_lines (drop_through 10 (x ∷ xs))) (sym text))
 
--- nothing of a line was read
-not_read : (xs : List ℕ) → StopsInLine xs xs
-not_read xs = record { read = []; more = take_through 10 xs; begun = refl; ends = through xs }
+-- lines that were run under the same registrations
+pub run_under : (handed : Bool) (direction : Direction) (old new : Registrations) (entries : List (RangeEntry SlotNodes)) (lines : List (List (List ℕ))) (a b : Keyspace Cell) (text : List ℕ) → old ≡ new → AreRun handed direction old entries lines a b text → AreRun handed direction new entries lines a b text
+run_under handed direction old new entries lines a b text same run = subst (λ (known : Registrations). AreRun handed direction known entries lines a b text) same run
 
-module _ (handed : Bool) (direction : Direction) (entries : List (Entry SlotNodes)) where
+module _ (handed : Bool) (direction : Direction) (registered : Registrations) (entries : List (RangeEntry SlotNodes)) where
   -- one more line was run
-  are_run_more : (front : List (List (List ℕ))) (fields : List (List ℕ)) (a b c : Keyspace Cell) (t u : List ℕ) → AreRun handed direction entries front a b t → AreRun handed direction entries (fields ∷ []) b c u → AreRun handed direction entries (front ++ fields ∷ []) a c (t ++ u)
-  are_run_more [] fields a b c t u (same, none) run = rw none (subst (λ (k : Keyspace Cell). AreRun handed direction entries (fields ∷ []) k c u) same run)
+  are_run_more : (front : List (List (List ℕ))) (fields : List (List ℕ)) (a b c : Keyspace Cell) (t u : List ℕ) → AreRun handed direction registered entries front a b t → AreRun handed direction registered entries (fields ∷ []) b c u → AreRun handed direction registered entries (front ++ fields ∷ []) a c (t ++ u)
+  are_run_more [] fields a b c t u (same, none) run = rw none (subst (λ (k : Keyspace Cell). AreRun handed direction registered entries (fields ∷ []) k c u) same run)
   are_run_more ([] ∷ front) fields a b c t u before run = are_run_more front fields a b c t u before run
   are_run_more ((name ∷ words) ∷ front) fields a b c t u (first, rest, mid, one, more, text) run =
       (first, rest ++ u, mid, one, are_run_more front fields mid b c rest u more run, ap (λ x. x ++ u) text ∙ append_assoc first rest u)
@@ -56,13 +50,13 @@ module _ (handed : Bool) (direction : Direction) (entries : List (Entry SlotNode
   RunsOn None left first number keys text = ⊤
   RunsOn (Some input) None first number keys text = ⊥
   RunsOn (Some input) (Some rest) first number keys text =
-      (front : List (List (List ℕ))) × (field_lines input ≡ front ++ field_lines rest) × AreRun handed direction entries front no_keys keys text × (rest ≡ after_lines (length front) input) × (number ≡ first + length front)
+      (front : List (List (List ℕ))) × (field_lines input ≡ front ++ field_lines rest) × AreRun handed direction registered entries front no_keys keys text × (rest ≡ after_lines (length front) input) × (number ≡ first + length front)
 
   pub run_begun : (input : Option (List ℕ)) (first : ℕ) → RunsOn input input first first no_keys []
   run_begun None first = tt
   run_begun (Some input) first = ([], refl, (refl, refl), refl, omega arith)
 
-  pub run_more : (old left new : Option (List ℕ)) (first number : ℕ) (keys later : Keyspace Cell) (text more line : List ℕ) → RunsOn old left first number keys text → HasLine left line → AreRun handed direction entries (fields_of line ∷ []) keys later more → DropsThrough left new 10
+  pub run_more : (old left new : Option (List ℕ)) (first number : ℕ) (keys later : Keyspace Cell) (text more line : List ℕ) → RunsOn old left first number keys text → HasLine left line → AreRun handed direction registered entries (fields_of line ∷ []) keys later more → DropsThrough left new 10
       → RunsOn old new first (number + 1) later (text ++ more)
   run_more None left new first number keys later text more line on h run d = tt
   run_more (Some input) None new first number keys later text more line on h run d = absurd on
@@ -77,34 +71,34 @@ module _ (handed : Bool) (direction : Direction) (entries : List (Entry SlotNode
       )
 
   pub run_ended : (old left new : Option (List ℕ)) (first number : ℕ) (keys : Keyspace Cell) (text : List ℕ) → RunsOn old left first number keys text → IfSome left (λ xs. false ≡ nat_lt 0 (length xs)) → DropsThrough left new 10
-      → Leaves old new (λ bytes rest. AllRun handed direction entries bytes rest text)
+      → Leaves old new (λ bytes rest. AllRun handed direction registered entries bytes rest text)
   run_ended None left new first number keys text on e d = tt
   run_ended (Some input) None new first number keys text on e d = absurd on
   run_ended (Some input) (Some []) new first number keys text (front, split, ran, r, n) e d =
-      rw d record { keyspace = keys; run = subst (λ (ls : List (List (List ℕ))). AreRun handed direction entries ls no_keys keys text) (sym (split ∙ append-nil front)) ran; left_is = refl }
+      rw d record { keyspace = keys; run = subst (λ (ls : List (List (List ℕ))). AreRun handed direction registered entries ls no_keys keys text) (sym (split ∙ append-nil front)) ran; left_is = refl }
   run_ended (Some input) (Some (x ∷ xs)) new first number keys text on e d = absurd (true≢false (sym (e ∙ positive (length xs))))
 
   -- the reading stopped in the next line, after it, or before it
-  pub stopped_in_line : (old left new : Option (List ℕ)) (first number : ℕ) (keys : Keyspace Cell) (text : List ℕ) → RunsOn old left first number keys text → Leaves left new StopsInLine → Leaves old new (λ bytes rest. StopsAfter handed direction entries bytes rest text)
+  pub stopped_in_line : (old left new : Option (List ℕ)) (first number : ℕ) (keys : Keyspace Cell) (text : List ℕ) → RunsOn old left first number keys text → Leaves left new StopsInLine → Leaves old new (λ bytes rest. StopsAfter handed direction registered entries bytes rest text)
   stopped_in_line None left new first number keys text on h = tt
   stopped_in_line (Some input) None new first number keys text on h = absurd on
   stopped_in_line (Some input) (Some xs) None first number keys text on h = absurd h
   stopped_in_line (Some input) (Some xs) (Some ys) first number keys text (front, split, ran, r, n) h =
       record { before = front; later = field_lines xs; lines = split; keyspace = keys; run = ran; stops = subst (λ (zs : List ℕ). StopsInLine zs ys) r h }
 
-  pub stopped_after_line : (old left new : Option (List ℕ)) (first number : ℕ) (keys : Keyspace Cell) (text : List ℕ) → RunsOn old left first number keys text → DropsThrough left new 10 → Leaves old new (λ bytes rest. StopsAfter handed direction entries bytes rest text)
+  pub stopped_after_line : (old left new : Option (List ℕ)) (first number : ℕ) (keys : Keyspace Cell) (text : List ℕ) → RunsOn old left first number keys text → DropsThrough left new 10 → Leaves old new (λ bytes rest. StopsAfter handed direction registered entries bytes rest text)
   stopped_after_line None left new first number keys text on d = tt
   stopped_after_line (Some input) None new first number keys text on d = absurd on
   stopped_after_line (Some input) (Some xs) new first number keys text on d = rw d (stopped_in_line (Some input) (Some xs) (Some (drop_through 10 xs)) first number keys text on (line_read xs))
 
-  pub stopped_before_line : (old left : Option (List ℕ)) (first number : ℕ) (keys : Keyspace Cell) (text : List ℕ) → RunsOn old left first number keys text → Leaves old left (λ bytes rest. StopsAfter handed direction entries bytes rest text)
+  pub stopped_before_line : (old left : Option (List ℕ)) (first number : ℕ) (keys : Keyspace Cell) (text : List ℕ) → RunsOn old left first number keys text → Leaves old left (λ bytes rest. StopsAfter handed direction registered entries bytes rest text)
   stopped_before_line None left first number keys text on = tt
   stopped_before_line (Some input) None first number keys text on = absurd on
   stopped_before_line (Some input) (Some xs) first number keys text on = stopped_in_line (Some input) (Some xs) (Some xs) first number keys text on (not_read xs)
 
   -- the command of the next line is refused
   pub refused_in_line : (old left new : Option (List ℕ)) (first number told : ℕ) (keys : Keyspace Cell) (text line : List ℕ) (refusal : Refusal) → RunsOn old left first number keys text → HasLine left line → DropsThrough left new 10
-      → (told ≡ number) × (fields_of line ≢ []) × IsRefused entries (fields_of line) refusal → Leaves old new (λ bytes rest. RefusedAt handed direction entries first bytes rest text told refusal)
+      → (told ≡ number) × (fields_of line ≢ []) × IsRefused registered entries (fields_of line) refusal → Leaves old new (λ bytes rest. RefusedAt handed direction registered entries first bytes rest text told refusal)
   refused_in_line None left new first number told keys text line refusal on h d why = tt
   refused_in_line (Some input) None new first number told keys text line refusal on h d why = absurd on
   refused_in_line (Some input) (Some []) new first number told keys text line refusal on h d why = absurd (true≢false h.there)
@@ -123,8 +117,8 @@ module _ (handed : Bool) (direction : Direction) (entries : List (Entry SlotNode
       }
 
   -- some bytes of what the next line prints were written
-  pub cut : (old left new : Option (List ℕ)) (first number : ℕ) (keys after : Keyspace Cell) (earlier whole line text : List ℕ) (count : ℕ) → RunsOn old left first number keys earlier → HasLine left line → AreRun handed direction entries (fields_of line ∷ []) keys after whole → DropsThrough left new 10
-      → text ≡ earlier ++ take count whole → Leaves old new (λ bytes rest. CutShort handed direction entries bytes rest text)
+  pub cut : (old left new : Option (List ℕ)) (first number : ℕ) (keys after : Keyspace Cell) (earlier whole line text : List ℕ) (count : ℕ) → RunsOn old left first number keys earlier → HasLine left line → AreRun handed direction registered entries (fields_of line ∷ []) keys after whole → DropsThrough left new 10
+      → text ≡ earlier ++ take count whole → Leaves old new (λ bytes rest. CutShort handed direction registered entries bytes rest text)
   cut None left new first number keys after earlier whole line text count on h last d begins = tt
   cut (Some input) None new first number keys after earlier whole line text count on h last d begins = absurd on
   cut (Some input) (Some []) new first number keys after earlier whole line text count on h last d begins = absurd (true≢false h.there)
@@ -146,7 +140,7 @@ module _ (handed : Bool) (direction : Direction) (entries : List (Entry SlotNode
       }
 
   -- a refused command's line was read whole
-  pub begins_at_refused : (first : ℕ) (input left text : List ℕ) (number : ℕ) (refusal : Refusal) → RefusedAt handed direction entries first input left text number refusal → StopsAfter handed direction entries input left text
+  pub begins_at_refused : (first : ℕ) (input left text : List ℕ) (number : ℕ) (refusal : Refusal) → RefusedAt handed direction registered entries first input left text number refusal → StopsAfter handed direction registered entries input left text
   begins_at_refused first input left text number refusal at = record {
     before = at.before;
     later = at.command ∷ at.later;

@@ -1,21 +1,22 @@
 -- What the words and the input call for.
-use Rattle.std.proofs.Common.{◌≡◌, ◌≢◌, ◌≤◌, ℕ, ◌+◌, Bool, true, false, if◌then◌else◌, arith, is_none, length, map, string_bytes, Bor, String, Global, Vec, append_assoc, decimal, List, [], ◌∷◌, ◌++◌, refl, subst, rules, take, inl, inr, ◌⊎◌}
+use Rattle.std.proofs.Common.{◌≡◌, ◌≢◌, ◌≤◌, ℕ, Bool, true, false, if◌then◌else◌, arith, is_none, map, string_bytes, Bor, String, Global, Vec, append_assoc, decimal, List, [], ◌∷◌, ◌++◌, refl, subst, rules, take, inl, inr, ◌⊎◌}
 use Rattle.std.specs.Prelude.{Option, Some, None, Result, Ok, Err, OnOk, OnErr, IfErr, IfSome, MatchResult, codes, ⊤}
 use Rattle.std.specs.List.{list_any}
 use Rattle.std.specs.Result.{IsErrAnd}
 use Rattle.std.specs.Io.KnownBytes.{Appends}
 use Rattle.cluster_map.specs.Address.{Address, display_text}
 use Rattle.cluster_map.specs.KeySlot.{IsKeySlot}
-use Rattle.cluster_map.specs.SlotNodes.{SlotNodes, RangeNodes, insert_ranges}
-use Rattle.cluster_map.specs.RangeMap.{Entry, IsUncovered}
+use Rattle.cluster_map.specs.SlotNodes.{SlotNodes, insert_ranges}
+use Rattle.cluster_map.specs.RangeMap.{RangeEntry, IsUncovered}
 use Rattle.cluster_map.specs.RouteNode.{IsNodeFor, IsNodeOfRoute}
 use Rattle.cluster_map.specs.SlotRoute.{SlotRoute}
+use Rattle.redis_routing.specs.Registry.{Registrations}
 use Rattle.cluster_slots.specs.declared.slot.SlotAddr.{SlotAddr}
 use Rattle.cluster_slots.specs.declared.slot.SlotAddr.TheVariants.{Master}
 use Rattle.slotroute_serve.specs.Lines.{leading_lines, after_map}
-use Rattle.slotroute_serve.specs.MapLines.{IsMap}
-use Rattle.slotroute_serve.specs.Faults.{fault_line, fault_of_map, fault_of_answer, fault_of_run, WhyNoMap, WhyNoSplit, IsCaused, IsLeftAt}
-use Rattle.slotroute_serve.specs.Output.{Output, IsAnswer, IsNodeAnswer, IsRequest, split_words, slot_line, usage_line, bad_map_line, not_multi_key_line, IsRunWords, refused_line, usage, bad_map, not_multi_key, answer, run_to_end, run_refused, served, unserved, node_request, split_request, run_request, node_answer, split_answer}
+use Rattle.slotroute_serve.specs.MapLines.{Made, IsMap}
+use Rattle.slotroute_serve.specs.Faults.{fault_line, fault_of_map, fault_of_answer, fault_of_run, WhyNoMap, WhyNoSplit, IsCaused, IsInputLeft}
+use Rattle.slotroute_serve.specs.Output.{Output, first_after_map, IsAnswer, IsNodeAnswer, IsRequest, split_words, slot_line, usage_line, bad_map_line, not_multi_key_line, IsRunWords, refused_line, usage, bad_map, not_multi_key, answer, run_to_end, run_refused, served, unserved, node_request, split_request, run_request, node_answer, split_answer}
 use Rattle.slotroute_serve.specs.Requests.{Asks, AsksFor, WhyNoAnswer}
 use Rattle.slotroute_serve.specs.RunFaults.{RunEnds, RunStops}
 use Rattle.slotroute_serve.specs.Runs.{RefusedAt}
@@ -35,34 +36,34 @@ use Rattle.slotroute_serve.specs.declared.request.Question.{Question}
 use Rattle.slotroute_serve.specs.declared.request.Question.TheVariants.{Node, Split}
 use Rattle.slotroute_serve.specs.declared.request.Request.{Request}
 use Rattle.slotroute_serve.specs.declared.request.Request.TheVariants as request
-use Rattle.slotroute_run.specs.declared.direction.Direction.{Direction}
-use Rattle.slotroute_serve.proofs.Running.{after_the_map, begins_at_refused, first_line}
+use Rattle.slotroute_serve.specs.declared.direction.Direction.{Direction}
+use Rattle.slotroute_serve.proofs.Running.{after_the_map, begins_at_refused}
 
 -- The line of an answer, as it is written.
 pub slot_line_is : (slot : ℕ) (text : List ℕ) → codes "slot " ++ (decimal slot ++ (32 ∷ (text ++ (10 ∷ [])))) ≡ slot_line slot text
 slot_line_is slot text = simp append_assoc
 
 -- The answer for a key.
-pub found_node : (entries : List (Entry SlotNodes)) (key line : List ℕ) (route : SlotRoute) (slot : ℕ) (address : Address) → IsKeySlot key route.slot → route.addr ≡ Master → slot ≡ route.slot → IsNodeOfRoute entries route 0 address
+pub found_node : (entries : List (RangeEntry SlotNodes)) (key line : List ℕ) (route : SlotRoute) (slot : ℕ) (address : Address) → IsKeySlot key route.slot → route.addr ≡ Master → slot ≡ route.slot → IsNodeOfRoute entries route 0 address
     → line ≡ slot_line slot (display_text address) → IsNodeAnswer entries key line 0
 found_node entries key line route slot address s a e (nodes, answers, asked) text =
     let P : SlotAddr → Type 0 = λ x. IsNodeFor nodes x 0 address in
     rw (text, e) (served route.slot 0 address s (nodes, answers, subst P a asked))
 
-pub found_none : (entries : List (Entry SlotNodes)) (key line : List ℕ) (route : SlotRoute) (slot : ℕ) → IsKeySlot key route.slot → slot ≡ route.slot → IsUncovered entries route.slot → line ≡ slot_line slot (codes "none") → IsNodeAnswer entries key line 1
+pub found_none : (entries : List (RangeEntry SlotNodes)) (key line : List ℕ) (route : SlotRoute) (slot : ℕ) → IsKeySlot key route.slot → slot ≡ route.slot → IsUncovered entries route.slot → line ≡ slot_line slot (codes "none") → IsNodeAnswer entries key line 1
 found_none entries key line route slot s e uncovered text = rw (text, e) (unserved route.slot s uncovered)
 
 -- The answer of a request.
-pub answers_node : (entries : List (Entry SlotNodes)) (asked : Question) (key : Bor (List ℕ)) (text line : List ℕ) (status : ℕ) → asked ≡ Node key → text ≡ line → IsNodeAnswer entries key.now line status → (words : List (List ℕ)) → Asks words asked → IsAnswer entries words text status
-answers_node entries asked key text line status is t h words a = let b : Asks words (Node key) = subst (Asks words) is a in rw (b, t) (node_answer key.now line status h)
+pub answers_node : (registered : Registrations) (entries : List (RangeEntry SlotNodes)) (asked : Question) (key : Bor (List ℕ)) (text line : List ℕ) (status : ℕ) → asked ≡ Node key → text ≡ line → IsNodeAnswer entries key.now line status → (words : List (List ℕ)) → Asks words asked → IsAnswer registered entries words text status
+answers_node registered entries asked key text line status is t h words a = let b : Asks words (Node key) = subst (Asks words) is a in rw (b, t) (node_answer key.now line status h)
 
-pub answers_split : (entries : List (Entry SlotNodes)) (asked : Question) (command : Bor (List (String Global))) (r : Result (Vec ℕ Global × ℕ) AnswerFault) → asked ≡ Split command
-    → MatchResult r (λ a. IsSplitAnswer entries (map string_bytes command.now) a.0.items a.1) (WhyNoSplit (map string_bytes command.now)) → MatchResult r (λ a. (words : List (List ℕ)) → Asks words asked → IsAnswer entries words a.0.items a.1) (WhyNoAnswer asked)
-answers_split entries asked command (Ok x) is h = λ words a. let b : Asks words (Split command) = subst (Asks words) is a in rw b.0 (split_answer (map string_bytes command.now) x.0.items x.1 h)
-answers_split entries asked command (Err e) is h = rw is h
+pub answers_split : (registered : Registrations) (entries : List (RangeEntry SlotNodes)) (asked : Question) (command : Bor (List (String Global))) (r : Result (Vec ℕ Global × ℕ) AnswerFault) → asked ≡ Split command
+    → MatchResult r (λ a. IsSplitAnswer registered entries (map string_bytes command.now) a.0.items a.1) (WhyNoSplit registered (map string_bytes command.now)) → MatchResult r (λ a. (words : List (List ℕ)) → Asks words asked → IsAnswer registered entries words a.0.items a.1) (WhyNoAnswer registered asked)
+answers_split registered entries asked command (Ok x) is h = λ words a. let b : Asks words (Split command) = subst (Asks words) is a in rw b.0 (split_answer (map string_bytes command.now) x.0.items x.1 h)
+answers_split registered entries asked command (Err e) is h = rw is h
 
 -- The status of an answer is 0, or 1 where there is no node.
-node_status : (entries : List (Entry SlotNodes)) (key line : List ℕ) (status : ℕ) → IsNodeAnswer entries key line status → status ≤ 1
+node_status : (entries : List (RangeEntry SlotNodes)) (key line : List ℕ) (status : ℕ) → IsNodeAnswer entries key line status → status ≤ 1
 node_status entries key line status (served slot pick address at node) = omega arith
 node_status entries key line status (unserved slot at none) = omega arith
 
@@ -70,9 +71,9 @@ cond_status : (none : Bool) → (if none then 1 else 0) ≤ 1
 cond_status true = omega arith
 cond_status false = omega arith
 
-pub answer_status : (entries : List (Entry SlotNodes)) (words : List (List ℕ)) (text : List ℕ) (status : ℕ) → IsAnswer entries words text status → status ≤ 1
-answer_status entries words text status (node_answer key line of h) = node_status entries key line of h
-answer_status entries words text status (split_answer command lines of h) = rw h.answered.ended (cond_status (list_any (λ part. is_none part.node) h.answered.parts))
+pub answer_status : (registered : Registrations) (entries : List (RangeEntry SlotNodes)) (words : List (List ℕ)) (text : List ℕ) (status : ℕ) → IsAnswer registered entries words text status → status ≤ 1
+answer_status registered entries words text status (node_answer key line of h) = node_status entries key line of h
+answer_status registered entries words text status (split_answer command lines of h) = rw h.answered.ended (cond_status (list_any (λ part. is_none part.node) h.answered.parts))
 
 -- Nothing is written where nothing is.
 pub nothing : (out : Option (List ℕ)) → Appends out out []
@@ -109,14 +110,14 @@ module _ (handed : Bool) where
   pub touched : {S : Type 0} (words : List (List ℕ)) (old new : S) → IsRequest words → ¬ (IsRequest words) → new ≡ old
   touched words old new w other = absurd (other w)
 
-  no_map_of : (words : List (List ℕ)) (input left out : Option (List ℕ)) (e : MapFault) → IsRequest words → IfSome input (λ bytes. WhyNoMap (leading_lines bytes) e) → Leaves input left (λ bytes rest. IsLeftAt bytes rest e) → Explains handed words input left out out (fault_of_map e)
+  no_map_of : (words : List (List ℕ)) (input left out : Option (List ℕ)) (e : MapFault) → IsRequest words → IfSome input (λ bytes. WhyNoMap (leading_lines bytes) e) → Leaves input left (λ bytes rest. IsInputLeft bytes rest e) → Explains handed words input left out out (fault_of_map e)
   no_map_of words input left out map_fault.Memory w h l = ([], nothing out, w, inl (refl, l))
   no_map_of words input left out map_fault.Input w h l = ([], nothing out, w, inl (refl, l))
   no_map_of words None left out (map_fault.BadLine n) w h l = (nothing out, tt)
   no_map_of words (Some bytes) None out (map_fault.BadLine n) w h l = absurd l
   no_map_of words (Some bytes) (Some rest) out (map_fault.BadLine n) w h l = (nothing out, rw l (bad_map words bytes n w h))
 
-  pub no_map : (words : List (List ℕ)) (input left out : Option (List ℕ)) (e : MapFault) (r : Result ℕ Fault) → IsRequest words → IfSome input (λ bytes. WhyNoMap (leading_lines bytes) e) → Leaves input left (λ bytes rest. IsLeftAt bytes rest e)
+  pub no_map : (words : List (List ℕ)) (input left out : Option (List ℕ)) (e : MapFault) (r : Result ℕ Fault) → IsRequest words → IfSome input (λ bytes. WhyNoMap (leading_lines bytes) e) → Leaves input left (λ bytes rest. IsInputLeft bytes rest e)
       → IsErrAnd r (λ x. x ≡ fault_of_map e) → MatchResult r (HasAnswer handed words input left out out) (Explains handed words input left out out)
   no_map words input left out e (Ok x) w h l is = absurd is
   no_map words input left out e (Err x) w h l is = rw is (no_map_of words input left out e w h l)
@@ -137,22 +138,22 @@ module _ (handed : Bool) where
   no_memory words input left out (Err x) w l is = rw is ([], nothing out, w, inl (refl, left_after_map input left l))
 
   -- what explains that a command has no lines
-  no_split_of : (command : List (List ℕ)) (input left out : Option (List ℕ)) (ranges : List RangeNodes) (e : AnswerFault) → command ≢ [] → IfSome input (λ bytes. IsMap (leading_lines bytes) ranges) → Leaves input left (λ bytes rest. rest ≡ after_map bytes) → WhyNoSplit command e
+  no_split_of : (command : List (List ℕ)) (input left out : Option (List ℕ)) (made : Made) (e : AnswerFault) → command ≢ [] → IfSome input (λ bytes. IsMap (leading_lines bytes) made) → Leaves input left (λ bytes rest. rest ≡ after_map bytes) → WhyNoSplit made.registry command e
       → Explains handed (split_words command) input left out out (fault_of_answer e)
-  no_split_of command input left out ranges answer_fault.Memory some m l h = ([], nothing out, split_request command some, inl (refl, left_after_map input left l))
-  no_split_of command None left out ranges answer_fault.NotMultiKey some m l h = (nothing out, tt)
-  no_split_of command (Some bytes) None out ranges answer_fault.NotMultiKey some m l h = absurd l
-  no_split_of command (Some bytes) (Some rest) out ranges answer_fault.NotMultiKey some m l h = (nothing out, rw l (not_multi_key command bytes ranges some m h))
+  no_split_of command input left out made answer_fault.Memory some m l h = ([], nothing out, split_request command some, inl (refl, left_after_map input left l))
+  no_split_of command None left out made answer_fault.NotMultiKey some m l h = (nothing out, tt)
+  no_split_of command (Some bytes) None out made answer_fault.NotMultiKey some m l h = absurd l
+  no_split_of command (Some bytes) (Some rest) out made answer_fault.NotMultiKey some m l h = (nothing out, rw l (not_multi_key command bytes made some m h))
 
-  no_answer_of : (words : List (List ℕ)) (asked : Question) (input left out : Option (List ℕ)) (ranges : List RangeNodes) (e : AnswerFault) → Asks words asked → IfSome input (λ bytes. IsMap (leading_lines bytes) ranges) → Leaves input left (λ bytes rest. rest ≡ after_map bytes) → WhyNoAnswer asked e
+  no_answer_of : (words : List (List ℕ)) (asked : Question) (input left out : Option (List ℕ)) (made : Made) (e : AnswerFault) → Asks words asked → IfSome input (λ bytes. IsMap (leading_lines bytes) made) → Leaves input left (λ bytes rest. rest ≡ after_map bytes) → WhyNoAnswer made.registry asked e
       → Explains handed words input left out out (fault_of_answer e)
-  no_answer_of words (Node key) input left out ranges e a m l h = rw (a, h) ([], nothing out, node_request key.now, inl (refl, left_after_map input left l))
-  no_answer_of words (Split command) input left out ranges e (a, some) m l h = rw a (no_split_of (map string_bytes command.now) input left out ranges e some m l h)
+  no_answer_of words (Node key) input left out made e a m l h = rw (a, h) ([], nothing out, node_request key.now, inl (refl, left_after_map input left l))
+  no_answer_of words (Split command) input left out made e (a, some) m l h = rw a (no_split_of (map string_bytes command.now) input left out made e some m l h)
 
-  pub no_answer : (words : List (List ℕ)) (asked : Question) (input left out : Option (List ℕ)) (ranges : List RangeNodes) (e : AnswerFault) (r : Result ℕ Fault) → Asks words asked → IfSome input (λ bytes. IsMap (leading_lines bytes) ranges) → Leaves input left (λ bytes rest. rest ≡ after_map bytes) → WhyNoAnswer asked e
+  pub no_answer : (words : List (List ℕ)) (asked : Question) (input left out : Option (List ℕ)) (made : Made) (e : AnswerFault) (r : Result ℕ Fault) → Asks words asked → IfSome input (λ bytes. IsMap (leading_lines bytes) made) → Leaves input left (λ bytes rest. rest ≡ after_map bytes) → WhyNoAnswer made.registry asked e
       → IsErrAnd r (λ x. x ≡ fault_of_answer e) → MatchResult r (HasAnswer handed words input left out out) (Explains handed words input left out out)
-  no_answer words asked input left out ranges e (Ok x) a m l h is = absurd is
-  no_answer words asked input left out ranges e (Err x) a m l h is = rw is (no_answer_of words asked input left out ranges e a m l h)
+  no_answer words asked input left out made e (Ok x) a m l h is = absurd is
+  no_answer words asked input left out made e (Err x) a m l h is = rw is (no_answer_of words asked input left out made e a m l h)
 
   -- what refuses an answer is no failure of a stream
   cause_of_answer : (reads writes : Type 0) (e : AnswerFault) → IsCaused reads writes (fault_of_answer e)
@@ -163,54 +164,58 @@ module _ (handed : Bool) where
   caused_by_answer reads writes e (Ok x) is = absurd is
   caused_by_answer reads writes e (Err x) is = rw is (cause_of_answer reads writes e)
 
-  pub answered : (words : List (List ℕ)) (input left out new : Option (List ℕ)) (ranges : List RangeNodes) (text : List ℕ) (status : ℕ) → IfSome input (λ bytes. IsMap (leading_lines bytes) ranges) → Leaves input left (λ bytes rest. rest ≡ after_map bytes)
-      → IsAnswer (insert_ranges [] ranges) words text status → Appends out new text → HasAnswer handed words input left out new status
-  answered words None left out new ranges text status m l a t = (text, t, tt)
-  answered words (Some bytes) None out new ranges text status m l a t = absurd l
-  answered words (Some bytes) (Some rest) out new ranges text status m l a t = (text, t, rw l (answer words bytes text status ranges m a))
+  pub answered : (words : List (List ℕ)) (input left out new : Option (List ℕ)) (made : Made) (text : List ℕ) (status : ℕ) → IfSome input (λ bytes. IsMap (leading_lines bytes) made) → Leaves input left (λ bytes rest. rest ≡ after_map bytes)
+      → IsAnswer made.registry (insert_ranges [] made.ranges) words text status → Appends out new text → HasAnswer handed words input left out new status
+  answered words None left out new made text status m l a t = (text, t, tt)
+  answered words (Some bytes) None out new made text status m l a t = absurd l
+  answered words (Some bytes) (Some rest) out new made text status m l a t = (text, t, rw l (answer words bytes text status made m a))
 
   -- a beginning of the answer was written
-  begun : (words : List (List ℕ)) (input left out new : Option (List ℕ)) (ranges : List RangeNodes) (text : List ℕ) (status k : ℕ) → IfSome input (λ bytes. IsMap (leading_lines bytes) ranges) → Leaves input left (λ bytes rest. rest ≡ after_map bytes)
-      → IsAnswer (insert_ranges [] ranges) words text status → Appends out new (take k text) → Explains handed words input left out new fault.Output
-  begun words None left out new ranges text status k m l a t = (take k text, t, inl tt)
-  begun words (Some bytes) None out new ranges text status k m l a t = absurd l
-  begun words (Some bytes) (Some rest) out new ranges text status k m l a t =
-      (take k text, t, inl (rw l record { whole = text; status = status; called_for = answer words bytes text status ranges m a; count = k; begins = refl }))
+  begun : (words : List (List ℕ)) (input left out new : Option (List ℕ)) (made : Made) (text : List ℕ) (status k : ℕ) → IfSome input (λ bytes. IsMap (leading_lines bytes) made) → Leaves input left (λ bytes rest. rest ≡ after_map bytes)
+      → IsAnswer made.registry (insert_ranges [] made.ranges) words text status → Appends out new (take k text) → Explains handed words input left out new fault.Output
+  begun words None left out new made text status k m l a t = (take k text, t, inl tt)
+  begun words (Some bytes) None out new made text status k m l a t = absurd l
+  begun words (Some bytes) (Some rest) out new made text status k m l a t =
+      (take k text, t, inl (rw l record { whole = text; status = status; called_for = answer words bytes text status made m a; count = k; begins = refl }))
 
-  pub not_written : (words : List (List ℕ)) (input left out new : Option (List ℕ)) (ranges : List RangeNodes) (text : List ℕ) (status k : ℕ) (r : Result ℕ Fault) → IfSome input (λ bytes. IsMap (leading_lines bytes) ranges)
-      → Leaves input left (λ bytes rest. rest ≡ after_map bytes) → IsAnswer (insert_ranges [] ranges) words text status → Appends out new (take k text) → IsErrAnd r (λ x. x ≡ fault.Output) → MatchResult r (HasAnswer handed words input left out new) (Explains handed words input left out new)
-  not_written words input left out new ranges text status k (Ok x) m l a t is = absurd is
-  not_written words input left out new ranges text status k (Err x) m l a t is = rw is (begun words input left out new ranges text status k m l a t)
+  pub not_written : (words : List (List ℕ)) (input left out new : Option (List ℕ)) (made : Made) (text : List ℕ) (status k : ℕ) (r : Result ℕ Fault) → IfSome input (λ bytes. IsMap (leading_lines bytes) made)
+      → Leaves input left (λ bytes rest. rest ≡ after_map bytes) → IsAnswer made.registry (insert_ranges [] made.ranges) words text status → Appends out new (take k text) → IsErrAnd r (λ x. x ≡ fault.Output) → MatchResult r (HasAnswer handed words input left out new) (Explains handed words input left out new)
+  not_written words input left out new made text status k (Ok x) m l a t is = absurd is
+  not_written words input left out new made text status k (Err x) m l a t is = rw is (begun words input left out new made text status k m l a t)
 
   pub caused_by_output : (reads writes : Type 0) (r : Result ℕ Fault) → writes → IsErrAnd r (λ x. x ≡ fault.Output) → IfErr r (IsCaused reads writes)
   caused_by_output reads writes (Ok x) h is = absurd is
   caused_by_output reads writes (Err x) h is = rw is h
 
   -- The run of commands.
-  pub ran_to_end : (words : List (List ℕ)) (direction : Direction) (input mid left out new : Option (List ℕ)) (ranges : List RangeNodes) → IsRunWords direction words → IfSome input (λ bytes. IsMap (leading_lines bytes) ranges) → Leaves input mid (λ bytes rest. rest ≡ after_map bytes)
-      → RunEnds handed direction (insert_ranges [] ranges) mid left out new → HasAnswer handed words input left out new 0
-  ran_to_end words direction input mid left out new ranges asked m l (text, written, all) =
-      (text, written, after_the_map _ _ _ input mid left m l all (λ bytes rest is_map run. run_to_end words direction bytes rest text ranges asked is_map run))
+  pub ran_to_end : (words : List (List ℕ)) (direction : Direction) (input mid left out new : Option (List ℕ)) (made : Made) → IsRunWords direction words → IfSome input (λ bytes. IsMap (leading_lines bytes) made) → Leaves input mid (λ bytes rest. rest ≡ after_map bytes)
+      → RunEnds handed direction made.registry (insert_ranges [] made.ranges) mid left out new → HasAnswer handed words input left out new 0
+  ran_to_end words direction input mid left out new made asked m l (text, written, all) =
+      (text, written, after_the_map _ _ _ input mid left m l all (λ bytes rest is_map run. run_to_end words direction bytes rest text made asked is_map run))
 
-  stopped_early : (words : List (List ℕ)) (direction : Direction) (first : ℕ) (input mid left out new : Option (List ℕ)) (ranges : List RangeNodes) (e : RunFault) → IsRunWords direction words → first ≡ length ranges + 2 → IfSome input (λ bytes. IsMap (leading_lines bytes) ranges)
-      → Leaves input mid (λ bytes rest. rest ≡ after_map bytes) → RunStops handed direction (insert_ranges [] ranges) first mid left out new e → Explains handed words input left out new (fault_of_run e)
-  stopped_early words direction first input mid left out new ranges (run_fault.Command n r) asked f m l (text, written, stopped) = (
+  both : (P Q : List ℕ → Type 0) (input : Option (List ℕ)) → IfSome input P → IfSome input Q → IfSome input (λ bytes. P bytes × Q bytes)
+  both P Q None p q = tt
+  both P Q (Some bytes) p q = (p, q)
+
+  stopped_early : (words : List (List ℕ)) (direction : Direction) (first : ℕ) (input mid left out new : Option (List ℕ)) (made : Made) (e : RunFault) → IsRunWords direction words → IfSome input (λ bytes. first ≡ first_after_map bytes) → IfSome input (λ bytes. IsMap (leading_lines bytes) made)
+      → Leaves input mid (λ bytes rest. rest ≡ after_map bytes) → RunStops handed direction made.registry (insert_ranges [] made.ranges) first mid left out new e → Explains handed words input left out new (fault_of_run e)
+  stopped_early words direction first input mid left out new made (run_fault.Command n r) asked f m l (text, written, stopped) = (
     text,
     written,
-    (direction, asked, after_the_map _ _ _ input mid left m l stopped (λ bytes rest is_map at. record { ranges = ranges; is_map = is_map; stops = begins_at_refused handed direction _ first _ rest text n r at })),
-    after_the_map _ _ _ input mid left m l stopped (λ bytes rest is_map at. run_refused words direction bytes rest text ranges n r asked is_map (subst (λ (number : ℕ). RefusedAt handed direction (insert_ranges [] ranges) number (after_map bytes) rest text n r) (first_line bytes ranges first f is_map) at)),
+    (direction, asked, after_the_map _ _ _ input mid left m l stopped (λ bytes rest is_map at. record { made = made; is_map = is_map; stops = begins_at_refused handed direction _ _ first _ rest text n r at })),
+    after_the_map _ _ _ input mid left (both _ _ input m f) l stopped (λ bytes rest known at. run_refused words direction bytes rest text made n r asked known.0 (subst (λ (number : ℕ). RefusedAt handed direction made.registry (insert_ranges [] made.ranges) number (after_map bytes) rest text n r) known.1 at)),
   )
-  stopped_early words direction first input mid left out new ranges run_fault.Memory asked f m l (text, written, stopped) =
-      (text, written, run_request direction words asked, inr (direction, asked, after_the_map _ _ _ input mid left m l stopped (λ bytes rest is_map stops. record { ranges = ranges; is_map = is_map; stops = stops })))
-  stopped_early words direction first input mid left out new ranges run_fault.Input asked f m l (text, written, stopped) =
-      (text, written, run_request direction words asked, inr (direction, asked, after_the_map _ _ _ input mid left m l stopped (λ bytes rest is_map stops. record { ranges = ranges; is_map = is_map; stops = stops })))
-  stopped_early words direction first input mid left out new ranges run_fault.Output asked f m l (text, written, stopped) =
-      (text, written, inr (direction, asked, after_the_map _ _ _ input mid left m l stopped (λ bytes rest is_map cut. record { ranges = ranges; is_map = is_map; cut = cut })))
+  stopped_early words direction first input mid left out new made run_fault.Memory asked f m l (text, written, stopped) =
+      (text, written, run_request direction words asked, inr (direction, asked, after_the_map _ _ _ input mid left m l stopped (λ bytes rest is_map stops. record { made = made; is_map = is_map; stops = stops })))
+  stopped_early words direction first input mid left out new made run_fault.Input asked f m l (text, written, stopped) =
+      (text, written, run_request direction words asked, inr (direction, asked, after_the_map _ _ _ input mid left m l stopped (λ bytes rest is_map stops. record { made = made; is_map = is_map; stops = stops })))
+  stopped_early words direction first input mid left out new made run_fault.Output asked f m l (text, written, stopped) =
+      (text, written, inr (direction, asked, after_the_map _ _ _ input mid left m l stopped (λ bytes rest is_map cut. record { made = made; is_map = is_map; cut = cut })))
 
-  pub run_stopped : (words : List (List ℕ)) (direction : Direction) (first : ℕ) (input mid left out new : Option (List ℕ)) (ranges : List RangeNodes) (e : RunFault) (r : Result ℕ Fault) → IsRunWords direction words → first ≡ length ranges + 2 → IfSome input (λ bytes. IsMap (leading_lines bytes) ranges)
-      → Leaves input mid (λ bytes rest. rest ≡ after_map bytes) → RunStops handed direction (insert_ranges [] ranges) first mid left out new e → IsErrAnd r (λ x. x ≡ fault_of_run e) → MatchResult r (HasAnswer handed words input left out new) (Explains handed words input left out new)
-  run_stopped words direction first input mid left out new ranges e (Ok x) asked f m l h is = absurd is
-  run_stopped words direction first input mid left out new ranges e (Err x) asked f m l h is = rw is (stopped_early words direction first input mid left out new ranges e asked f m l h)
+  pub run_stopped : (words : List (List ℕ)) (direction : Direction) (first : ℕ) (input mid left out new : Option (List ℕ)) (made : Made) (e : RunFault) (r : Result ℕ Fault) → IsRunWords direction words → IfSome input (λ bytes. first ≡ first_after_map bytes) → IfSome input (λ bytes. IsMap (leading_lines bytes) made)
+      → Leaves input mid (λ bytes rest. rest ≡ after_map bytes) → RunStops handed direction made.registry (insert_ranges [] made.ranges) first mid left out new e → IsErrAnd r (λ x. x ≡ fault_of_run e) → MatchResult r (HasAnswer handed words input left out new) (Explains handed words input left out new)
+  run_stopped words direction first input mid left out new made e (Ok x) asked f m l h is = absurd is
+  run_stopped words direction first input mid left out new made e (Err x) asked f m l h is = rw is (stopped_early words direction first input mid left out new made e asked f m l h)
 
   pub caused_as : (reads writes : Type 0) (e : RunFault) (r : Result ℕ Fault) → IsCaused reads writes (fault_of_run e) → IsErrAnd r (λ x. x ≡ fault_of_run e) → IfErr r (IsCaused reads writes)
   caused_as reads writes e (Ok x) h is = absurd is

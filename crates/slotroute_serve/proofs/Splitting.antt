@@ -8,16 +8,18 @@ use Rattle.std.specs.Prelude.{Option, Some, None, MatchOption, slice_get}
 use Rattle.std.specs.List.{flat_map, list_any}
 use Rattle.cluster_map.specs.Address.{Address}
 use Rattle.cluster_map.specs.SlotNodes.{SlotNodes}
-use Rattle.cluster_map.specs.RangeMap.{Entry}
+use Rattle.cluster_map.specs.RangeMap.{RangeEntry}
 use Rattle.cluster_map.specs.SlotRoute.{SlotRoute}
-use Rattle.redis_cluster.specs.Command.{Arguments, command_of}
+use Rattle.redis_cluster.specs.Command.{Arguments, command_name}
 use Rattle.redis_cluster.specs.Complete.{multi_slot_routes, part_by_name, part_by_pattern, pattern_by_name}
-use Rattle.redis_cluster.specs.Parts.{part_of_slot_after}
+use Rattle.redis_cluster.specs.Parts.{part_of_slot}
 use Rattle.redis_cluster.specs.ReadOnly.{is_among}
+use Rattle.redis_routing.specs.Names.{names_of}
+use Rattle.redis_routing.specs.Registry.{Registrations}
 use Rattle.redis_cluster.specs.Split.{Split, route_part, split_part}
 use Rattle.redis_cluster.specs.RoutingInfo.{route_list, route_lists}
-use Rattle.redis_commands.specs.declared.route_by.MultiSlotArgPattern.{MultiSlotArgPattern}
-use Rattle.slotroute_run.specs.Commands.{only_reads}
+use Rattle.redis_routing.specs.declared.route_by.MultiSlotArgPattern.{MultiSlotArgPattern}
+use Rattle.slotroute_serve.specs.Commands.{only_reads, names_with}
 use Rattle.slotroute_serve.specs.Split.{RoutedPart, IsRoutedPart, ArePartLines, IsSplitAnswer, part_line}
 use Rattle.slotroute_serve.proofs.Reading.{AllZip-more}
 
@@ -42,8 +44,8 @@ words_of_part split routes i route words routes-are inside is part =
     cc whole
 
 -- The parts of slots by the pattern of the name are those of the command.
-pub same_parts : (args : Arguments) (pattern : MultiSlotArgPattern) → Some pattern ≡ pattern_by_name (command_of args) → part_of_slot_after 1 pattern args ≡ part_by_name args
-same_parts args pattern named = fun_ext (λ slot. ap (λ p. part_by_pattern 1 p args slot) named)
+pub same_parts : (registered : Registrations) (args : Arguments) (pattern : MultiSlotArgPattern) → Some pattern ≡ pattern_by_name registered (command_name args) → part_of_slot pattern args ≡ part_by_name registered args
+same_parts registered args pattern named = fun_ext (λ slot. ap (λ p. part_by_pattern p args slot) named)
 
 -- One more part without a node, or with one, in the status.
 status_more : (before here : Bool) (status : ℕ) → status ≡ cond here 1 (cond before 1 0) → status ≡ cond (before || (here || false)) 1 0
@@ -53,7 +55,7 @@ status_more false true status e = e
 status_more false false status e = e
 
 -- One more line.
-pub one_more : (entries : List (Entry SlotNodes)) (parts_by_slot : ℕ → Arguments) (routes : List (SlotRoute × Vec ℕ Global)) (i : ℕ) (route : SlotRoute × Vec ℕ Global) (lines line : List ℕ) (old status : ℕ) (part : RoutedPart) → i < length routes
+pub one_more : (entries : List (RangeEntry SlotNodes)) (parts_by_slot : ℕ → Arguments) (routes : List (SlotRoute × Vec ℕ Global)) (i : ℕ) (route : SlotRoute × Vec ℕ Global) (lines line : List ℕ) (old status : ℕ) (part : RoutedPart) → i < length routes
     → ArePartLines entries parts_by_slot (route_lists (take i routes)) lines old → route ≡ get_or routes i route → IsRoutedPart entries parts_by_slot route.0 part → line ≡ part_line part → status ≡ cond (is_none part.node) 1 old
     → ArePartLines entries parts_by_slot (route_lists (take (i + 1) routes)) (lines ++ line) status
 one_more entries parts_by_slot routes i route lines line old status part l a is p e s =
@@ -66,14 +68,14 @@ one_more entries parts_by_slot routes i route lines line old status part l a is 
     }
 
 -- The lines of a split of the words answer for them.
-pub answers : (entries : List (Entry SlotNodes)) (words command : List (List ℕ)) (names : List (List ℕ)) (split : Split) (text : List ℕ) (status : ℕ) → command ≡ words → ((name : List ℕ) → is_among names name ≡ only_reads name)
-    → Some split.routes ≡ multi_slot_routes (is_among names) (map Some command) → split.arguments ≡ map Some command → split.words ≡ 1 → Some split.pattern ≡ pattern_by_name (command_of (map Some command))
-    → ArePartLines entries (split_part split) split.routes text status → IsSplitAnswer entries words text status
-answers entries words command names split text status same reads routes arguments one pattern lines =
-    let whole : split_part split ≡ part_by_name (map Some words) =
-    ap (λ n. part_of_slot_after n split.pattern split.arguments) one ∙ ap (part_of_slot_after 1 split.pattern) arguments ∙ same_parts (map Some command) split.pattern pattern ∙ ap (λ ws. part_by_name (map Some ws)) same in
+pub answers : (registered : Registrations) (entries : List (RangeEntry SlotNodes)) (words command : List (List ℕ)) (names : List (List ℕ)) (split : Split) (text : List ℕ) (status : ℕ) → command ≡ words → ((name : List ℕ) → is_among names name ≡ only_reads name)
+    → Some split.routes ≡ multi_slot_routes (names_of names registered) (map Some command) → split.arguments ≡ map Some command → Some split.pattern ≡ pattern_by_name registered (command_name (map Some command))
+    → ArePartLines entries (split_part split) split.routes text status → IsSplitAnswer registered entries words text status
+answers registered entries words command names split text status same reads routes arguments pattern lines =
+    let whole : split_part split ≡ part_by_name registered (map Some words) =
+    ap (part_of_slot split.pattern) arguments ∙ same_parts registered (map Some command) split.pattern pattern ∙ ap (λ ws. part_by_name registered (map Some ws)) same in
     record {
       routes = split.routes;
-      split = ap (λ ws. multi_slot_routes only_reads (map Some ws)) (sym same) ∙ ap (λ f. multi_slot_routes f (map Some command)) (sym (fun_ext reads)) ∙ sym routes;
+      split = ap (λ ws. multi_slot_routes (names_with registered) (map Some ws)) (sym same) ∙ ap (λ (f : List ℕ → Bool). multi_slot_routes (record { only_reads = f; registered = registered }) (map Some command)) (sym (fun_ext reads)) ∙ sym routes;
       answered = subst (λ parts. ArePartLines entries parts split.routes text status) whole lines;
     }

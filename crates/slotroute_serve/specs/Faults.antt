@@ -2,8 +2,9 @@
 use Rattle.std.specs.Prelude.{◌≡◌, ◌≢◌, ℕ, List, None, codes, ⊤}
 use Rattle.std.specs.declared.io.ErrorKind.{ErrorKind}
 use Rattle.std.specs.declared.io.ErrorKind.TheVariants.{OutOfMemory}
-use Rattle.slotroute_run.specs.declared.refusal.CommandFault.{CommandFault}
-use Rattle.slotroute_run.specs.declared.refusal.CommandFault.TheVariants as command
+use Rattle.redis_routing.specs.Registry.{Registrations}
+use Rattle.slotroute_serve.specs.declared.refusal.CommandFault.{CommandFault}
+use Rattle.slotroute_serve.specs.declared.refusal.CommandFault.TheVariants as command
 use Rattle.slotroute_serve.specs.Lines.{after_lines, StopsInMap}
 use Rattle.slotroute_serve.specs.MapLines.{IsFirstBadLine}
 use Rattle.slotroute_serve.specs.Output.{usage_line, bad_map_line, not_multi_key_line, refused_line}
@@ -77,12 +78,12 @@ WhyNoMap lines (map.BadLine number) = IsFirstBadLine lines number
 WhyNoMap lines trouble = ⊤
 
 -- what is left of the input where there is no map
-abbrev pub IsLeftAt : List ℕ → List ℕ → MapFault → Type 0
-IsLeftAt input left (map.BadLine number) = left ≡ after_lines number input
-IsLeftAt input left trouble = StopsInMap input left
+abbrev pub IsInputLeft : List ℕ → List ℕ → MapFault → Type 0
+IsInputLeft input left (map.BadLine number) = left ≡ after_lines number input
+IsInputLeft input left trouble = StopsInMap input left
 
 -- why there are no lines for a command: it is no complete multi-key command, or memory was
 -- refused
-abbrev pub WhyNoSplit : List (List ℕ) → AnswerFault → Type 0
-WhyNoSplit command answer.NotMultiKey = split_routes command ≡ None
-WhyNoSplit command answer.Memory = ⊤
+abbrev pub WhyNoSplit : Registrations → List (List ℕ) → AnswerFault → Type 0
+WhyNoSplit registered command answer.NotMultiKey = split_routes registered command ≡ None
+WhyNoSplit registered command answer.Memory = ⊤

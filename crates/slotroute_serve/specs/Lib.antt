@@ -1,6 +1,12 @@
+pub mod Direction
+pub mod Printed
+pub mod Commands
+pub mod RefusalText
+pub mod Inner
 pub mod Faults
 pub mod Lines
 pub mod MapLines
+pub mod MultiLines
 pub mod Output
 pub mod Requests
 pub mod RunFaults

@@ -2,7 +2,7 @@
 use Rattle.std.specs.Prelude.{◌≡◌, ◌≤◌, ℕ, ◌+◌, zero, suc, List, [], ◌∷◌, ◌++◌, ◌==◌, if◌then◌else◌, length, map, filter, nat_lt}
 use Rattle.std.specs.Io.BufRead.{strip_last, first_piece, drop_through}
 use Rattle.std.specs.List.{slice_split}
-use Rattle.slotroute_run.specs.Printed.{line_feed, space}
+use Rattle.slotroute_serve.specs.Printed.{line_feed, space}
 
 abbrev pub carriage_return : ℕ
 carriage_return = 13

@@ -3,17 +3,18 @@ use Rattle.std.specs.Prelude.{◌≡◌, ◌≢◌, ⊤, ℕ, ◌+◌, Bool, Lis
 use Rattle.cluster_map.specs.Address.{Address, display_text}
 use Rattle.cluster_map.specs.KeySlot.{IsKeySlot}
 use Rattle.cluster_map.specs.Number.{number_in}
-use Rattle.cluster_map.specs.SlotNodes.{SlotNodes, RangeNodes, insert_ranges}
-use Rattle.cluster_map.specs.RangeMap.{Entry, IsUncovered}
+use Rattle.cluster_map.specs.SlotNodes.{SlotNodes, insert_ranges}
+use Rattle.cluster_map.specs.RangeMap.{RangeEntry, IsUncovered}
 use Rattle.cluster_map.specs.RouteNode.{IsNodeOfRoute}
+use Rattle.redis_routing.specs.Registry.{Registrations}
 use Rattle.cluster_slots.specs.declared.slot.SlotAddr.TheVariants.{Master}
-use Rattle.slotroute_run.specs.declared.direction.Direction.{Direction}
-use Rattle.slotroute_run.specs.declared.direction.Direction.TheVariants.{Forward, Reverse}
-use Rattle.slotroute_run.specs.declared.refusal.Refusal.{Refusal}
-use Rattle.slotroute_run.specs.RefusalText.{refusal_text}
-use Rattle.slotroute_run.specs.Printed.{line_feed, space}
+use Rattle.slotroute_serve.specs.declared.direction.Direction.{Direction}
+use Rattle.slotroute_serve.specs.declared.direction.Direction.TheVariants.{Forward, Reverse}
+use Rattle.slotroute_serve.specs.declared.refusal.Refusal.{Refusal}
+use Rattle.slotroute_serve.specs.RefusalText.{run_refusal_text}
+use Rattle.slotroute_serve.specs.Printed.{line_feed, space}
 use Rattle.slotroute_serve.specs.Lines.{leading_lines, after_lines, after_map}
-use Rattle.slotroute_serve.specs.MapLines.{IsMap, IsFirstBadLine}
+use Rattle.slotroute_serve.specs.MapLines.{Made, IsMap, IsFirstBadLine}
 use Rattle.slotroute_serve.specs.Runs.{AllRun, RefusedAt}
 use Rattle.slotroute_serve.specs.Split.{IsSplitAnswer, split_routes}
 use Rattle.slotroute_serve.specs.declared.strategy.StrategyName.{StrategyName}
@@ -85,12 +86,12 @@ not_multi_key_line = codes "slotroute: not a multi-key command\n"
 
 abbrev pub refused_line : ℕ → Refusal → List ℕ
 refused_line number refusal =
-    codes "slotroute: line " ++ decimal number ++ codes ": " ++ refusal_text refusal
+    codes "slotroute: line " ++ decimal number ++ codes ": " ++ run_refusal_text refusal
     ++ line_feed ∷ []
 
 -- the line and the status that answer for a key: its slot, and the primary of the range that
 -- answers for the slot
-pub data IsNodeAnswer (entries : List (Entry SlotNodes)) (key : List ℕ) : List ℕ → ℕ → Type 0 where
+pub data IsNodeAnswer (entries : List (RangeEntry SlotNodes)) (key : List ℕ) : List ℕ → ℕ → Type 0 where
   served : (slot pick : ℕ) (address : Address) → IsKeySlot key slot
       → IsNodeOfRoute entries (record { slot = slot; addr = Master }) pick address
       → IsNodeAnswer entries key (slot_line slot (display_text address)) 0
@@ -98,13 +99,14 @@ pub data IsNodeAnswer (entries : List (Entry SlotNodes)) (key : List ℕ) : List
       → IsNodeAnswer entries key (slot_line slot (codes "none")) 1
 
 -- what answers for the words on the entries of a map: for those of `node` the line of the key, for
--- those of `split` the lines of the command
-pub data IsAnswer (entries : List (Entry SlotNodes)) : List (List ℕ) → List ℕ → ℕ → Type 0 where
+-- those of `split` the lines of the command, whose name may be a registered one
+pub data IsAnswer (registered : Registrations) (entries : List (RangeEntry SlotNodes))
+    : List (List ℕ) → List ℕ → ℕ → Type 0 where
   node_answer : (key line : List ℕ) (status : ℕ) → IsNodeAnswer entries key line status
-      → IsAnswer entries (node_words key) line status
+      → IsAnswer registered entries (node_words key) line status
   split_answer : (command : List (List ℕ)) (lines : List ℕ) (status : ℕ)
-      → IsSplitAnswer entries command lines status
-      → IsAnswer entries (split_words command) lines status
+      → IsSplitAnswer registered entries command lines status
+      → IsAnswer registered entries (split_words command) lines status
 
 -- the number of the line that follows those of the map
 abbrev pub first_after_map : List ℕ → ℕ
@@ -119,19 +121,20 @@ pub data Output (handed : Bool)
   bad_map : (words : List (List ℕ)) (input : List ℕ) (number : ℕ) → IsRequest words
       → IsFirstBadLine (leading_lines input) number
       → Output handed words input (after_lines number input) [] (bad_map_line number) 2
-  not_multi_key : (command : List (List ℕ)) (input : List ℕ) (ranges : List RangeNodes)
-      → command ≢ [] → IsMap (leading_lines input) ranges → split_routes command ≡ None
+  not_multi_key : (command : List (List ℕ)) (input : List ℕ) (made : Made)
+      → command ≢ [] → IsMap (leading_lines input) made → split_routes made.registry command ≡ None
       → Output handed (split_words command) input (after_map input) [] not_multi_key_line 2
-  answer : (words : List (List ℕ)) (input text : List ℕ) (status : ℕ) (ranges : List RangeNodes)
-      → IsMap (leading_lines input) ranges → IsAnswer (insert_ranges [] ranges) words text status
+  answer : (words : List (List ℕ)) (input text : List ℕ) (status : ℕ) (made : Made)
+      → IsMap (leading_lines input) made → IsAnswer made.registry (insert_ranges [] made.ranges) words
+      text status
       → Output handed words input (after_map input) text [] status
   run_to_end : (words : List (List ℕ)) (direction : Direction) (input left text : List ℕ)
-      (ranges : List RangeNodes) → IsRunWords direction words → IsMap (leading_lines input) ranges
-      → AllRun handed direction (insert_ranges [] ranges) (after_map input) left text
+      (made : Made) → IsRunWords direction words → IsMap (leading_lines input) made
+      → AllRun handed direction made.registry (insert_ranges [] made.ranges) (after_map input) left text
       → Output handed words input left text [] 0
   run_refused : (words : List (List ℕ)) (direction : Direction) (input left text : List ℕ)
-      (ranges : List RangeNodes) (number : ℕ) (refusal : Refusal) → IsRunWords direction words
-      → IsMap (leading_lines input) ranges
-      → RefusedAt handed direction (insert_ranges [] ranges) (first_after_map input)
+      (made : Made) (number : ℕ) (refusal : Refusal) → IsRunWords direction words
+      → IsMap (leading_lines input) made
+      → RefusedAt handed direction made.registry (insert_ranges [] made.ranges) (first_after_map input)
       (after_map input) left text number refusal
       → Output handed words input left text (refused_line number refusal) 2

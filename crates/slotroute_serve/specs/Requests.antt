@@ -1,5 +1,6 @@
 -- What the words ask for, as the code holds it.
 use Rattle.std.specs.Prelude.{◌≡◌, ◌≢◌, ℕ, List, [], map, string_bytes}
+use Rattle.redis_routing.specs.Registry.{Registrations}
 use Rattle.slotroute_serve.specs.Faults.{WhyNoSplit}
 use Rattle.slotroute_serve.specs.Output.{node_words, split_words, IsRunWords}
 use Rattle.slotroute_serve.specs.declared.fault.AnswerFault.{AnswerFault}
@@ -20,7 +21,8 @@ abbrev pub AsksFor : List (List ℕ) → Request → Type 0
 AsksFor words (Answer question) = Asks words question
 AsksFor words (Run direction) = IsRunWords direction words
 
--- why a question has no answer on a map
-abbrev pub WhyNoAnswer : Question → AnswerFault → Type 0
-WhyNoAnswer (Node key) fault = fault ≡ Memory
-WhyNoAnswer (Split command) fault = WhyNoSplit (map string_bytes command.now) fault
+-- why a question has no answer on a map, where these names are registered
+abbrev pub WhyNoAnswer : Registrations → Question → AnswerFault → Type 0
+WhyNoAnswer registered (Node key) fault = fault ≡ Memory
+WhyNoAnswer registered (Split command) fault =
+    WhyNoSplit registered (map string_bytes command.now) fault

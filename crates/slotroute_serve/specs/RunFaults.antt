@@ -1,33 +1,36 @@
 -- Why a run of commands ends early.
-use Rattle.std.specs.Prelude.{◌≡◌, ◌≢◌, ℕ, Bool, List, [], Option, ⊤}
+use Rattle.std.specs.Prelude.{◌≢◌, ℕ, Bool, List, [], Option, ⊤}
 use Rattle.std.specs.Io.KnownBytes.{Appends}
-use Rattle.cluster_map.specs.RangeMap.{Entry}
+use Rattle.cluster_map.specs.RangeMap.{RangeEntry}
 use Rattle.cluster_map.specs.SlotNodes.{SlotNodes}
-use Rattle.slotroute_run.specs.Commands.{IsRefused}
-use Rattle.slotroute_run.specs.declared.direction.Direction.{Direction}
-use Rattle.slotroute_run.specs.declared.refusal.CommandFault.{CommandFault}
-use Rattle.slotroute_run.specs.declared.refusal.CommandFault.TheVariants.{Refused, Memory as NoMemory}
+use Rattle.redis_routing.specs.Registry.{Registrations}
+use Rattle.slotroute_serve.specs.Commands.{IsRefused}
+use Rattle.slotroute_serve.specs.declared.direction.Direction.{Direction}
+use Rattle.slotroute_serve.specs.declared.refusal.CommandFault.{CommandFault}
+use Rattle.slotroute_serve.specs.declared.refusal.CommandFault.TheVariants.{Refused, Memory as NoMemory}
 use Rattle.slotroute_serve.specs.Runs.{AllRun, RefusedAt, StopsAfter, CutShort}
 use Rattle.slotroute_serve.specs.Streams.{Leaves}
 use Rattle.slotroute_serve.specs.declared.fault.RunFault.{RunFault}
 use Rattle.slotroute_serve.specs.declared.fault.RunFault.TheVariants.{Command, Output as OutputFailed}
 
 -- why a line with these fields has no text: its command is refused, or memory was
-abbrev pub WhyNoText : List (Entry SlotNodes) → List (List ℕ) → CommandFault → Type 0
-WhyNoText entries fields (Refused refusal) = (fields ≢ []) × IsRefused entries fields refusal
-WhyNoText entries fields NoMemory = ⊤
+abbrev pub WhyNoText : Registrations → List (RangeEntry SlotNodes) → List (List ℕ) → CommandFault
+    → Type 0
+WhyNoText registered entries fields (Refused refusal) =
+    (fields ≢ []) × IsRefused registered entries fields refusal
+WhyNoText registered entries fields NoMemory = ⊤
 
-module _ (handed : Bool) (direction : Direction) (entries : List (Entry SlotNodes))
-    (first : ℕ) where
+module _ (handed : Bool) (direction : Direction) (registered : Registrations)
+    (entries : List (RangeEntry SlotNodes)) (first : ℕ) where
   -- what was read and printed when a run ended with a fault, where the first line has this number
   abbrev pub WhyStopped : Option (List ℕ) → Option (List ℕ) → List ℕ → RunFault → Type 0
   WhyStopped input left text (Command number refusal) =
       Leaves input left
-      (λ bytes rest. RefusedAt handed direction entries first bytes rest text number refusal)
+      (λ bytes rest. RefusedAt handed direction registered entries first bytes rest text number refusal)
   WhyStopped input left text OutputFailed =
-      Leaves input left (λ bytes rest. CutShort handed direction entries bytes rest text)
+      Leaves input left (λ bytes rest. CutShort handed direction registered entries bytes rest text)
   WhyStopped input left text trouble =
-      Leaves input left (λ bytes rest. StopsAfter handed direction entries bytes rest text)
+      Leaves input left (λ bytes rest. StopsAfter handed direction registered entries bytes rest text)
 
   -- a run that ended with a fault
   abbrev pub RunStops : Option (List ℕ) → Option (List ℕ) → Option (List ℕ) → Option (List ℕ)
@@ -36,8 +39,8 @@ module _ (handed : Bool) (direction : Direction) (entries : List (Entry SlotNode
       (text : List ℕ) × Appends out_old out_new text × WhyStopped input left text fault
 
 -- a run to the end of the input
-abbrev pub RunEnds : Bool → Direction → List (Entry SlotNodes) → Option (List ℕ)
+abbrev pub RunEnds : Bool → Direction → Registrations → List (RangeEntry SlotNodes) → Option (List ℕ)
     → Option (List ℕ) → Option (List ℕ) → Option (List ℕ) → Type 0
-RunEnds handed direction entries input left out_old out_new =
+RunEnds handed direction registered entries input left out_old out_new =
     (text : List ℕ) × Appends out_old out_new text
-    × Leaves input left (λ bytes rest. AllRun handed direction entries bytes rest text)
+    × Leaves input left (λ bytes rest. AllRun handed direction registered entries bytes rest text)

@@ -1,12 +1,13 @@
 -- What `run` does with the lines after the map.
 use Rattle.std.specs.Prelude.{◌≡◌, ◌≢◌, ℕ, ◌+◌, Bool, List, [], ◌∷◌, ◌++◌, None, length, map, take}
-use Rattle.cluster_map.specs.RangeMap.{Entry}
+use Rattle.cluster_map.specs.RangeMap.{RangeEntry}
 use Rattle.cluster_map.specs.SlotNodes.{SlotNodes}
+use Rattle.redis_routing.specs.Registry.{Registrations}
 use Rattle.memory_nodes.specs.Cells.{Cell}
 use Rattle.redis_cluster.specs.Unsplit.{Keyspace}
-use Rattle.slotroute_run.specs.Commands.{IsCommandRun, IsRefused}
-use Rattle.slotroute_run.specs.declared.direction.Direction.{Direction}
-use Rattle.slotroute_run.specs.declared.refusal.Refusal.{Refusal}
+use Rattle.slotroute_serve.specs.Commands.{IsCommandRun, IsRefused}
+use Rattle.slotroute_serve.specs.declared.direction.Direction.{Direction}
+use Rattle.slotroute_serve.specs.declared.refusal.Refusal.{Refusal}
 use Rattle.slotroute_serve.specs.Lines.{lines_of, fields_of, after_lines, StopsInLine}
 
 -- the lines of an input, each as its fields
@@ -17,7 +18,8 @@ field_lines input = map fields_of (lines_of input)
 abbrev pub no_keys : Keyspace Cell
 no_keys = λ key. None
 
-module _ (handed : Bool) (direction : Direction) (entries : List (Entry SlotNodes)) where
+module _ (handed : Bool) (direction : Direction) (registered : Registrations)
+    (entries : List (RangeEntry SlotNodes)) where
   -- The lines were run, each command from the keyspace that those before it left, and the text is
   -- what they printed, one after the other. A line with no field does nothing.
   abbrev pub AreRun : List (List (List ℕ)) → Keyspace Cell → Keyspace Cell → List ℕ → Type 0
@@ -25,7 +27,7 @@ module _ (handed : Bool) (direction : Direction) (entries : List (Entry SlotNode
   AreRun ([] ∷ lines) old new text = AreRun lines old new text
   AreRun ((name ∷ words) ∷ lines) old new text =
       (first rest : List ℕ) × (between : Keyspace Cell)
-      × IsCommandRun handed direction entries (name ∷ words) old between first
+      × IsCommandRun handed direction registered entries (name ∷ words) old between first
       × AreRun lines between new rest × (text ≡ first ++ rest)
 
   -- all lines of the input were run, and nothing is left of it
@@ -45,7 +47,7 @@ module _ (handed : Bool) (direction : Direction) (entries : List (Entry SlotNode
     pub keyspace : Keyspace Cell
     pub run : AreRun before no_keys keyspace text
     pub some : command ≢ []
-    pub why : IsRefused entries command refusal
+    pub why : IsRefused registered entries command refusal
     pub counted : number ≡ first + length before
     pub left_is : left ≡ after_lines (length before + 1) input
 

@@ -1,11 +1,11 @@
 -- What stands in the streams after a run, and the status.
 use Rattle.std.specs.Prelude.{◌≡◌, ◌⊎◌, ℕ, Bool, List, [], Option, take, ⊤}
 use Rattle.std.specs.Io.KnownBytes.{Appends}
-use Rattle.cluster_map.specs.SlotNodes.{RangeNodes, insert_ranges}
-use Rattle.slotroute_run.specs.declared.direction.Direction.{Direction}
+use Rattle.cluster_map.specs.SlotNodes.{insert_ranges}
+use Rattle.slotroute_serve.specs.declared.direction.Direction.{Direction}
 use Rattle.slotroute_serve.specs.Faults.{fault_line, IsCaused}
 use Rattle.slotroute_serve.specs.Lines.{leading_lines, after_map, StopsInMap}
-use Rattle.slotroute_serve.specs.MapLines.{IsMap}
+use Rattle.slotroute_serve.specs.MapLines.{Made, IsMap}
 use Rattle.slotroute_serve.specs.Output.{Output, IsRequest, IsRunWords, usage_line, bad_map_line, not_multi_key_line, refused_line}
 use Rattle.slotroute_serve.specs.Runs.{StopsAfter, CutShort}
 use Rattle.slotroute_serve.specs.Streams.{Leaves}
@@ -34,15 +34,15 @@ pub record HasOutput (handed : Bool) (words : List (List ℕ))
 -- the first commands of a run were run, and printed the text
 pub record BeginsRun (handed : Bool) (direction : Direction) (input left text : List ℕ)
     : Type 0 where
-  pub ranges : List RangeNodes
-  pub is_map : IsMap (leading_lines input) ranges
-  pub stops : StopsAfter handed direction (insert_ranges [] ranges) (after_map input) left text
+  pub made : Made
+  pub is_map : IsMap (leading_lines input) made
+  pub stops : StopsAfter handed direction made.registry (insert_ranges [] made.ranges) (after_map input) left text
 
 -- the text is what the first commands of a run printed, and the first bytes of what the next prints
 pub record CutsRun (handed : Bool) (direction : Direction) (input left text : List ℕ) : Type 0 where
-  pub ranges : List RangeNodes
-  pub is_map : IsMap (leading_lines input) ranges
-  pub cut : CutShort handed direction (insert_ranges [] ranges) (after_map input) left text
+  pub made : Made
+  pub is_map : IsMap (leading_lines input) made
+  pub cut : CutShort handed direction made.registry (insert_ranges [] made.ranges) (after_map input) left text
 
 -- the text of the commands that were run so far, which is none but for `run`
 abbrev pub IsSoFar : Bool → List (List ℕ) → Option (List ℕ) → Option (List ℕ) → List ℕ → Type 0

@@ -3,17 +3,19 @@ use Rattle.std.specs.Prelude.{◌≡◌, ℕ, List, ◌∷◌, [], ◌++◌, if�
 use Rattle.std.specs.List.{AllZip, flat_map, list_any}
 use Rattle.cluster_map.specs.Address.{Address, display_text}
 use Rattle.cluster_map.specs.SlotNodes.{SlotNodes}
-use Rattle.cluster_map.specs.RangeMap.{Entry, IsUncovered}
+use Rattle.cluster_map.specs.RangeMap.{RangeEntry, IsUncovered}
 use Rattle.cluster_map.specs.RouteNode.{IsNodeOfRoute}
 use Rattle.cluster_map.specs.SlotRoute.{SlotRoute}
+use Rattle.redis_routing.specs.Registry.{Registrations}
 use Rattle.redis_cluster.specs.Command.{Arguments}
 use Rattle.redis_cluster.specs.Complete.{multi_slot_routes, part_by_name}
-use Rattle.slotroute_run.specs.Commands.{only_reads}
-use Rattle.slotroute_run.specs.Printed.{line_feed, space}
+use Rattle.slotroute_serve.specs.Commands.{names_with}
+use Rattle.slotroute_serve.specs.Printed.{line_feed, space}
 
--- the routes of the parts of a command with these words, if it is a complete multi-key command
-abbrev pub split_routes : List (List ℕ) → Option (List (SlotRoute × List ℕ))
-split_routes words = multi_slot_routes only_reads (map Some words)
+-- the routes of the parts of a command with these words, if it is a complete multi-key command by
+-- the tables or these registered names
+abbrev pub split_routes : Registrations → List (List ℕ) → Option (List (SlotRoute × List ℕ))
+split_routes registered words = multi_slot_routes (names_with registered) (map Some words)
 
 -- what a line tells of a part: its slot, its node, if there is one, and its words
 pub record RoutedPart : Type 0 where
@@ -34,7 +36,7 @@ part_line part =
 
 -- the part of a command that a route is for, by the parts of slots, and the node of the route,
 -- which is none where no range answers for its slot
-pub record IsRoutedPart (entries : List (Entry SlotNodes)) (parts_by_slot : ℕ → Arguments)
+pub record IsRoutedPart (entries : List (RangeEntry SlotNodes)) (parts_by_slot : ℕ → Arguments)
     (route : SlotRoute) (part : RoutedPart) : Type 0 where
   pub slot : part.slot ≡ route.slot
   pub node : MatchOption part.node (IsUncovered entries route.slot) (IsNodeOfRoute entries route 0)
@@ -45,7 +47,7 @@ abbrev pub split_status : List RoutedPart → ℕ
 split_status parts = if list_any (λ part. is_none part.node) parts then 1 else 0
 
 -- the text has a line for the part of each route, in order
-pub record ArePartLines (entries : List (Entry SlotNodes)) (parts_by_slot : ℕ → Arguments)
+pub record ArePartLines (entries : List (RangeEntry SlotNodes)) (parts_by_slot : ℕ → Arguments)
     (routes : List (SlotRoute × List ℕ)) (text : List ℕ) (status : ℕ) : Type 0 where
   pub parts : List RoutedPart
   pub each : AllZip (λ route. IsRoutedPart entries parts_by_slot route.0) routes parts
@@ -53,8 +55,9 @@ pub record ArePartLines (entries : List (Entry SlotNodes)) (parts_by_slot : ℕ 
   pub ended : status ≡ split_status parts
 
 -- the lines and the status that answer for a command: one line for the part of each of its routes
-pub record IsSplitAnswer (entries : List (Entry SlotNodes)) (command : List (List ℕ))
-    (text : List ℕ) (status : ℕ) : Type 0 where
+pub record IsSplitAnswer (registered : Registrations) (entries : List (RangeEntry SlotNodes))
+    (command : List (List ℕ)) (text : List ℕ) (status : ℕ) : Type 0 where
   pub routes : List (SlotRoute × List ℕ)
-  pub split : split_routes command ≡ Some routes
-  pub answered : ArePartLines entries (part_by_name (map Some command)) routes text status
+  pub split : split_routes registered command ≡ Some routes
+  pub answered : ArePartLines entries (part_by_name registered (map Some command)) routes text
+      status

@@ -1,7 +1,7 @@
 ghost use Rattle.std.specs.Prelude.{◌≡◌};
 ghost use Rattle.slotroute_serve.specs.Faults.{fault_at_line};
 
-use slotroute_run::{CommandFault, Refusal};
+use crate::refusal::{CommandFault, Refusal};
 use std::alloc::{AllocError, AllocFailed};
 use std::io;
 
@@ -27,7 +27,9 @@ pub enum Fault {
 /// Why a line could not be read.
 #[derive(Debug, Drop)]
 pub enum ReadFault {
+    /// Memory ran out.
     Memory,
+    /// The input could not be read.
     Input,
 }
 
@@ -40,14 +42,18 @@ pub struct WriteFault;
 pub enum MapFault {
     /// This line, counted from 1, is not a map line.
     BadLine(u64),
+    /// Memory ran out.
     Memory,
+    /// The input could not be read.
     Input,
 }
 
-/// Why a question has no answer.
+/// Why `node` or `split` has no lines.
 #[derive(Debug, Drop)]
 pub enum AnswerFault {
+    /// The command is not a complete multi-key command.
     NotMultiKey,
+    /// Memory ran out.
     Memory,
 }
 
@@ -56,8 +62,11 @@ pub enum AnswerFault {
 pub enum RunFault {
     /// The command of this line, counted from 1, is refused.
     Command(u64, Refusal),
+    /// Memory ran out.
     Memory,
+    /// The input could not be read.
     Input,
+    /// The output could not be written.
     Output,
 }
 

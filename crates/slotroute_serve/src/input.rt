@@ -1,45 +1,69 @@
-ghost use Rattle.std.specs.Prelude.{◌≡◌, List, length, nat_lt, map, OnOk, OnErr, IfOk, IfErr, IfSome, MatchOption, MatchResult};
+ghost use Rattle.std.specs.Prelude.{◌≡◌, List, length, nat_lt, map, true, false, OnOk, OnErr, IfOk, IfErr, IfSome, MatchOption, MatchResult};
 ghost use Rattle.std.specs.List.{AllZip};
 ghost use Rattle.std.specs.Io.BufRead.{DropsThrough, strip_last};
 ghost use Rattle.cluster_map.specs.Address.{Address};
 ghost use Rattle.cluster_map.specs.SlotNodes.{RangeNodes};
 ghost use Rattle.slotroute_serve.specs.Lines.{line_of, fields_of, leading_lines, after_map, StopsInLine};
-ghost use Rattle.slotroute_serve.specs.MapLines.{IsNodeField, IsMapLine, IsMap};
-ghost use Rattle.slotroute_serve.specs.Faults.{WhyNoMap, IsLeftAt};
+ghost use Rattle.slotroute_serve.specs.MapLines.{Made, made_in, IsNodeField, IsRangeLine, IsMapLine, IsMap};
+ghost use Rattle.slotroute_serve.specs.Output.{first_after_map};
+ghost use Rattle.slotroute_serve.specs.Faults.{WhyNoMap, IsInputLeft};
 ghost use Rattle.slotroute_serve.specs.Streams.{MayFailToRead, Leaves};
 
 use crate::fault::{MapFault, ReadFault};
+use crate::multi::register_line;
 use crate::streams::Source;
 use cluster_map::node_address::split_node_address;
 use cluster_map::{NodeAddress, SlotRange};
 use cluster_slots::parse_u16;
+use redis_cluster::routing::Registry;
 use std::alloc::{AllocError, Global};
 
-/// Reads the ranges of the leading lines, and the line with no field that ends them.
-pub fn read_map<S: Source>(alloc: Global, source: &mut S) -> Result<Vec<SlotRange>, MapFault>
-    ensures map { IfSome (S.remaining source.old) (λ input. MatchResult result
-        (λ ranges. IsMap (leading_lines input) ranges.items)
-        (WhyNoMap (leading_lines input))) }
-    ensures cause { IfErr result (λ fault. fault ≡ MapFault.Input → MayFailToRead S.fails) }
-    ensures rest { Leaves (S.remaining source.old) (S.remaining source.new) (λ input left.
-        MatchResult result (λ _. left ≡ after_map input) (IsLeftAt input left)) }
-{
-    let mut ranges = Vec::new(alloc);
-    let mut line = Vec::new(alloc);
-    while next_line(source, &mut line)? {
-        let fields = fields_in(alloc, &line)?;
-        if fields.is_empty() {
-            return Ok(ranges);
-        }
-        match map_line(alloc, &fields)? {
-            Some(range) => ranges.push(range)?,
-            None => return Err(MapFault::BadLine(ranges.len() as u64 + 1)),
-        }
-    }
-    Ok(ranges)
+/// What the leading lines make.
+#[derive(Drop)]
+pub(super) struct LeadingLines {
+    /// The ranges of the map, in the order of their lines.
+    pub(super) ranges: Vec<SlotRange>,
+    /// The names that lines registered.
+    pub(super) registry: Registry,
 }
 
-/// Reads one line in place of what `line` held, or answers that the input is at its end.
+/// Reads the leading lines, and the line with no field that ends them. Gives what they make, and
+/// the number of the line that follows.
+pub(super) fn read_map<S: Source>(
+    alloc: Global,
+    source: &mut S,
+) -> Result<(LeadingLines, u64), MapFault>
+    ensures map { IfSome (S.remaining source.old) (λ input. MatchResult result
+        (λ read. IsMap (leading_lines input) (made_in read.0))
+        (WhyNoMap (leading_lines input))) }
+    ensures next { IfSome (S.remaining source.old) (λ input. IfOk result
+        (λ read. read.1 ≡ first_after_map input)) }
+    ensures cause { IfErr result (λ fault. fault ≡ MapFault.Input → MayFailToRead S.fails) }
+    ensures rest { Leaves (S.remaining source.old) (S.remaining source.new) (λ input left.
+        MatchResult result (λ _. left ≡ after_map input) (IsInputLeft input left)) }
+{
+    let mut made = LeadingLines {
+        ranges: Vec::new(alloc),
+        registry: Registry::new(alloc),
+    };
+    let mut line = Vec::new(alloc);
+    for number in 1..u64::MAX {
+        if !next_line(source, &mut line)? {
+            return Ok((made, number + 1));
+        }
+        let fields = fields_in(alloc, &line)?;
+        if fields.is_empty() {
+            return Ok((made, number + 1));
+        }
+        if !add_line(alloc, &fields, &mut made)? {
+            return Err(MapFault::BadLine(number));
+        }
+    }
+    // There is no number for a further line.
+    Err(MapFault::Memory)
+}
+
+/// Reads one line in place of what `line` held, or tells that the input is at its end.
 pub(super) fn next_line<S: Source>(source: &mut S, line: &mut Vec<u8>) -> Result<bool, ReadFault>
     ensures text { OnOk result
         (IfSome (S.remaining source.old) (λ input. line.new.items ≡ line_of input)) }
@@ -76,11 +100,27 @@ pub(super) fn fields_in(alloc: Global, line: &[u8]) -> Result<Vec<&[u8]>, AllocE
         .collect(alloc)
 }
 
-/// The range of a line with these fields, if it is a map line.
-fn map_line(alloc: Global, fields: &[&[u8]]) -> Result<Option<SlotRange>, AllocError>
+/// Adds what a line with these fields makes, and tells whether it is a map line.
+fn add_line(alloc: Global, fields: &[&[u8]], made: &mut LeadingLines) -> Result<bool, AllocError>
+    ensures good { IfOk result (λ good. good ≡ true
+        → IsMapLine (map (λ field. field.now) fields.now) (made_in made.old) (made_in made.new)) }
+    ensures bad { IfOk result (λ good. good ≡ false → (next : Made)
+        → ¬ (IsMapLine (map (λ field. field.now) fields.now) (made_in made.old) next)) }
+{
+    match range_line(alloc, fields)? {
+        Some(range) => {
+            made.ranges.push(range)?;
+            Ok(true)
+        }
+        None => register_line(alloc, fields, &mut made.registry),
+    }
+}
+
+/// The range of a line with these fields, if it is the line of one.
+fn range_line(alloc: Global, fields: &[&[u8]]) -> Result<Option<SlotRange>, AllocError>
     ensures { IfOk result (λ range. MatchOption range
-        ((range : RangeNodes) → ¬ (IsMapLine (map (λ field. field.now) fields.now) range))
-        (IsMapLine (map (λ field. field.now) fields.now))) }
+        ((range : RangeNodes) → ¬ (IsRangeLine (map (λ field. field.now) fields.now) range))
+        (IsRangeLine (map (λ field. field.now) fields.now))) }
 {
     let [start, end, primary, replicas @ ..] = fields else {
         return Ok(None);

@@ -7,30 +7,31 @@ ghost use Rattle.slotroute_serve.specs.RunFaults.{RunEnds, RunStops};
 ghost use Rattle.slotroute_serve.specs.Serves.{Serves, HasOutput, RanOutOfMemory, HasAnswer, Explains, Reports, IsNumbered};
 ghost use Rattle.slotroute_serve.specs.Streams.{MayFailToRead, MayFailToWrite};
 
+use crate::direction::Direction;
 use crate::fault::{AnswerFault, Fault, RunFault};
-use crate::input::read_map;
+use crate::input::{LeadingLines, read_map};
 use crate::output::emit;
 use crate::request::{Question, Request, request_of};
 use crate::run::run_commands;
 use crate::split::split_answer;
 use crate::streams::{Sink, Source};
 use cluster_map::{ReadRoutingStrategy, Route, SlotAddr, SlotMap};
-use slotroute_run::Direction;
+use redis_cluster::routing::Registry;
 use std::alloc::{AllocError, Global};
 use std::borrow::CowStr;
 use std::io::{BufRead, Write};
 
-/// The line that other words are answered with.
+/// The line for other words.
 pub const USAGE: &str =
     "usage: slotroute node KEY | split WORD .. | run forward|reverse [first|pick=N|shard]\n";
 
 /// Runs the program on the words after its name, and gives its status.
 ///
-/// Answers go to `out`, and a fault goes to `err` as one line. The status is 0, 1 or 2, as for a
-/// fault. Streams may tell contracts nothing of their bytes, as standard input and output do: the
-/// status is bounded and other words are refused there too. A strategy that is handed in picks
-/// the nodes that the reads of `run` go to, whatever its last word is; it is told the shards of the
-/// map once, before the first command.
+/// What was asked for goes to `out`, and a fault goes to `err` as one line. The status is 0, 1 or
+/// 2, as for a fault. Streams may tell contracts nothing of their bytes, as standard input and
+/// output do: the status is bounded and other words are refused there too. A strategy that is
+/// handed in picks the nodes that the reads of `run` go to, whatever its last word is; it is told
+/// the shards of the map once, before the first command.
 pub fn serve<R: BufRead, O: Write, E: Write>(
     alloc: Global,
     words: &[String],
@@ -104,34 +105,41 @@ fn run<R: Source, O: Sink>(
     let Some(request) = request_of(words) else {
         return Err(Fault::Usage);
     };
-    let ranges = read_map(alloc, reader)?;
-    let first = ranges.len() as u64 + 2;
+    let (made, first) = read_map(alloc, reader)?;
+    let LeadingLines { ranges, registry } = made;
     let map = SlotMap::from_slots(alloc, ranges)?;
     let question = match request {
         Request::Answer(question) => question,
         Request::Run(direction) => {
-            run_told(alloc, &direction, first, &map, strategy, reader, out)?;
+            run_told(
+                alloc, &direction, first, &map, registry, strategy, reader, out,
+            )?;
             return Ok(0);
         }
     };
-    let (text, status) = answer(alloc, &map, &question)?;
+    let (text, status) = answer(alloc, &map, &registry, &question)?;
     emit(out, &text)?;
     Ok(status)
 }
 
-/// The text and the status that answer a question.
-fn answer(alloc: Global, map: &SlotMap, question: &Question) -> Result<(Vec<u8>, u8), AnswerFault>
+/// The text and the status of what was asked for.
+fn answer(
+    alloc: Global,
+    map: &SlotMap,
+    registry: &Registry,
+    question: &Question,
+) -> Result<(Vec<u8>, u8), AnswerFault>
     ensures { MatchResult result
         (λ answer. (words : List (List ℕ)) → Asks words question.now
-        → IsAnswer map.now words answer.0.items answer.1)
-        (WhyNoAnswer question.now) }
+        → IsAnswer registry.now map.now words answer.0.items answer.1)
+        (WhyNoAnswer registry.now question.now) }
 {
     match question {
         Question::Node(key) => {
             let (line, status) = node_answer(alloc, map, key)?;
             Ok((line.into_bytes(), status))
         }
-        Question::Split(command) => split_answer(alloc, map, command),
+        Question::Split(command) => split_answer(alloc, map, registry, command),
     }
 }
 
@@ -141,14 +149,15 @@ fn run_told<R: Source, O: Sink>(
     direction: &Direction,
     first: u64,
     slot_map: &SlotMap,
+    registry: Registry,
     mut strategy: Option<Box<dyn ReadRoutingStrategy>>,
     reader: &mut R,
     out: &mut O,
 ) -> Result<(), RunFault>
     ensures run { MatchResult result
-        (λ _. RunEnds (is_some strategy) direction.now slot_map.now
+        (λ _. RunEnds (is_some strategy) direction.now registry slot_map.now
         (R.remaining reader.old) (R.remaining reader.new) (O.contents out.old) (O.contents out.new))
-        (RunStops (is_some strategy) direction.now slot_map.now first
+        (RunStops (is_some strategy) direction.now registry slot_map.now first
         (R.remaining reader.old) (R.remaining reader.new) (O.contents out.old)
         (O.contents out.new)) }
     ensures cause { IfErr result (λ fault. IsCaused (MayFailToRead R.fails) (MayFailToWrite O.fails)
@@ -160,6 +169,7 @@ fn run_told<R: Source, O: Sink>(
         direction,
         first,
         slot_map,
+        registry,
         lend(&strategy),
         reader,
         out,
@@ -189,7 +199,7 @@ fn lend(strategy: &Option<Box<dyn ReadRoutingStrategy>>) -> Option<&dyn ReadRout
     }
 }
 
-/// The line and the status that answer for a key.
+/// The line and the status for a key.
 fn node_answer(alloc: Global, map: &SlotMap, key: &[u8]) -> Result<(String, u8), AllocError>
     ensures { IfOk result (λ answer. IsNodeAnswer map.now key.now (string_bytes answer.0)
         answer.1) }

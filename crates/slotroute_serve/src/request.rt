@@ -1,15 +1,15 @@
 ghost use Rattle.std.specs.Prelude.{◌≡◌, ◌≢◌, ℕ, List, ◌∷◌, [], ◌↔◌, codes, map, string_bytes, IsTrue, MatchOption};
-ghost use Rattle.slotroute_run.specs.declared.direction.Direction.{Direction as Way};
+ghost use Rattle.slotroute_serve.specs.declared.direction.Direction.{Direction as Way};
 ghost use Rattle.slotroute_serve.specs.Output.{IsRequest, IsDirected, MayNameStrategy};
 ghost use Rattle.slotroute_serve.specs.Requests.{AsksFor};
 
+use crate::direction::Direction;
 use crate::strategy::named_strategy;
-use slotroute_run::Direction;
 
 /// What the words ask for.
 #[derive(Drop)]
 pub enum Request<'a> {
-    /// An answer on the map.
+    /// What the map says.
     Answer(Question<'a>),
     /// To run the commands that follow the map.
     Run(Direction),

@@ -1,44 +1,48 @@
-ghost use Rattle.std.specs.Prelude.{[], ◌∷◌, is_some, IfOk, IfErr, MatchResult};
-ghost use Rattle.memory_nodes.specs.Nodes.{keyspace_in};
-ghost use Rattle.slotroute_run.specs.Commands.{AreReadOnly, AreWilling};
+ghost use Rattle.std.specs.Prelude.{◌≡◌, [], ◌∷◌, is_some, IfOk, IfErr, MatchResult};
+ghost use Rattle.memory_nodes.specs.Nodes.{registered_in, keyspace_in};
+ghost use Rattle.slotroute_serve.specs.Commands.{AreReadOnly, RefuseNothing};
 ghost use Rattle.slotroute_serve.specs.Faults.{IsCaused, fault_of_run};
 ghost use Rattle.slotroute_serve.specs.Lines.{fields_of};
 ghost use Rattle.slotroute_serve.specs.Runs.{AreRun};
 ghost use Rattle.slotroute_serve.specs.RunFaults.{RunEnds, RunStops, WhyNoText};
 ghost use Rattle.slotroute_serve.specs.Streams.{MayFailToRead, MayFailToWrite};
 
+use crate::command::{read_only_names, run_command};
+use crate::direction::Direction;
 use crate::fault::RunFault;
 use crate::input::{fields_in, next_line};
 use crate::output::emit;
+use crate::refusal::CommandFault;
 use crate::streams::{Sink, Source};
 use cluster_map::{ReadRoutingStrategy, SlotMap};
 use memory_nodes::MemoryNodes;
-use redis_cluster::routing::ReadOnlyNames;
-use slotroute_run::{CommandFault, Direction, read_only_names, run_command};
+use redis_cluster::routing::{ReadOnlyNames, Registry};
 use std::alloc::Global;
 
-/// Runs the commands of the lines that are left, of which the first has the number `first`, on
-/// nodes that hold no key, and writes what each prints before it reads the next line.
+/// Runs the commands of the lines that are left, of which the first has the number `first`. They
+/// run on nodes that hold no key and know these registered names. What each prints is written
+/// before the next line is read.
 pub fn run_commands<R: Source, O: Sink>(
     alloc: Global,
     direction: &Direction,
     first: u64,
     slot_map: &SlotMap,
+    registry: Registry,
     strategy: Option<&dyn ReadRoutingStrategy>,
     reader: &mut R,
     out: &mut O,
 ) -> Result<(), RunFault>
     ensures run { MatchResult result
-        (λ _. RunEnds (is_some strategy.entry) direction.now slot_map.now
+        (λ _. RunEnds (is_some strategy.entry) direction.now registry slot_map.now
         (R.remaining reader.old) (R.remaining reader.new) (O.contents out.old) (O.contents out.new))
-        (RunStops (is_some strategy.entry) direction.now slot_map.now first
+        (RunStops (is_some strategy.entry) direction.now registry slot_map.now first
         (R.remaining reader.old) (R.remaining reader.new) (O.contents out.old)
         (O.contents out.new)) }
     ensures cause { IfErr result (λ fault. IsCaused (MayFailToRead R.fails) (MayFailToWrite O.fails)
         (fault_of_run fault)) }
 {
     let read_only = read_only_names(alloc)?;
-    let mut nodes = MemoryNodes::new(alloc);
+    let mut nodes = MemoryNodes::with_registry(alloc, registry);
     let mut line = Vec::new(alloc);
     for number in first..u64::MAX {
         if !next_line(reader, &mut line)? {
@@ -66,11 +70,13 @@ fn line_text(
     nodes: &mut MemoryNodes,
 ) -> Result<Vec<u8>, CommandFault>
     requires names { AreReadOnly read_only.now }
-    requires willing { AreWilling nodes.old }
-    ensures run { IfOk result (λ text. AreRun (is_some strategy.entry) direction.now slot_map.now
+    requires willing { RefuseNothing nodes.old }
+    ensures run { IfOk result (λ text. AreRun (is_some strategy.entry) direction.now
+        (registered_in nodes.old) slot_map.now
         (fields_of line.now ∷ []) (keyspace_in nodes.old) (keyspace_in nodes.new) text.items) }
-    ensures refused { IfErr result (WhyNoText slot_map.now (fields_of line.now)) }
-    ensures willing { AreWilling nodes.new }
+    ensures refused { IfErr result (WhyNoText (registered_in nodes.old) slot_map.now (fields_of line.now)) }
+    ensures willing { RefuseNothing nodes.new }
+    ensures registered { registered_in nodes.new ≡ registered_in nodes.old }
 {
     let fields = fields_in(alloc, line)?;
     if fields.is_empty() {

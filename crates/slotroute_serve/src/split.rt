@@ -2,29 +2,36 @@ ghost use Rattle.std.specs.Prelude.{◌≡◌, Some, ◌∷◌, ◌++◌, map, s
 ghost use Rattle.std.specs.List.{flat_map};
 ghost use Rattle.redis_cluster.specs.Split.{split_part};
 ghost use Rattle.slotroute_serve.specs.Faults.{WhyNoSplit};
-ghost use Rattle.slotroute_run.specs.Printed.{space};
+ghost use Rattle.slotroute_serve.specs.Printed.{space};
 ghost use Rattle.slotroute_serve.specs.Split.{part_line, ArePartLines, IsSplitAnswer};
 
+use crate::command::read_only_names;
 use crate::fault::AnswerFault;
+use crate::words::{cmd_from_words, push_word};
 use cluster_map::{NodeAddress, SlotMap};
-use redis_cluster::routing::SplitCommand;
+use redis_cluster::routing::{Names, Registry, SplitCommand};
 use resp_core::Cmd;
-use slotroute_run::{cmd_from_words, push_word, read_only_names};
 use std::alloc::{AllocError, Global};
 
-/// The lines and the status that answer for a command with these words.
+/// The lines and the status for a command with these words.
 pub fn split_answer(
     alloc: Global,
     slot_map: &SlotMap,
+    registry: &Registry,
     words: &[String],
 ) -> Result<(Vec<u8>, u8), AnswerFault>
     ensures { MatchResult result
-        (λ answer. IsSplitAnswer slot_map.now (map string_bytes words.now) answer.0.items answer.1)
-        (WhyNoSplit (map string_bytes words.now)) }
+        (λ answer. IsSplitAnswer registry.now slot_map.now (map string_bytes words.now)
+        answer.0.items answer.1)
+        (WhyNoSplit registry.now (map string_bytes words.now)) }
 {
     let command = cmd_from_words(alloc, words)?;
     let read_only = read_only_names(alloc)?;
-    let Some(split) = SplitCommand::new(alloc, &command, &read_only)? else {
+    let names = Names {
+        read_only: &read_only,
+        registry,
+    };
+    let Some(split) = SplitCommand::new(alloc, &command, names)? else {
         return Err(AnswerFault::NotMultiKey);
     };
     Ok(lines_of(alloc, slot_map, &split)?)

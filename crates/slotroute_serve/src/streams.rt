@@ -16,7 +16,7 @@ pub trait Source {
     /// Whether a read may fail with this error. Of any source only a read that failed shows that.
     ghost fails: { Self → Error → Type 0 };
 
-    /// Adds the next line with its line feed to `line`, and answers the number of its bytes, which
+    /// Adds the next line with its line feed to `line`, and gives the number of its bytes, which
     /// is 0 at the end.
     fn read_line(&mut self, line: &mut Vec<u8>) -> io::Result<usize>
         ensures ok { IfOk result (λ n. vec_len line.new ≡ vec_len line.old + n) }
@@ -37,7 +37,7 @@ pub trait Sink {
     /// Whether a write may fail with this error. Of any sink only a write that failed shows that.
     ghost fails: { Self → Error → Type 0 };
 
-    /// Writes the first of the bytes, at least one if there are any, and answers their number.
+    /// Writes the first of the bytes, at least one if there are any, and gives their number.
     fn write(&mut self, bytes: &[u8]) -> io::Result<usize>
         ensures bound { WritesAtMost result bytes.now }
         ensures some { IfOk result (λ n. 0 < length bytes.now → 0 < n) }

@@ -14,6 +14,8 @@ mod node;
 #[cfg(test)]
 mod reading;
 #[cfg(test)]
+mod registered;
+#[cfg(test)]
 mod run;
 #[cfg(test)]
 mod run_streams;

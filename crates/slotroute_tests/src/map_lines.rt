@@ -95,6 +95,55 @@ fn ranges_that_meet(rt: HostRuntime) -> Result<(), Fail> {
     check(&rt, rt.alloc(), &runs)
 }
 
+// A line may register a name too, where the tables don't have it.
+#[test]
+fn multi_lines(rt: HostRuntime) -> Result<(), Fail> {
+    let good: &[u8] = b"slot 12182 n2:2\n";
+    let first: &[u8] = b"slotroute: bad map line 1\n";
+    let third: &[u8] = b"slotroute: bad map line 3\n";
+    let words: &[&str] = &["node", "foo"];
+    let runs: [Run; 12] = [
+        (
+            words,
+            b"multi pairs ok OBJECT PUT\n0 8191 n1:1\nmulti keys sum c\n8192 16383 n2:2\n",
+            good,
+            b"",
+            0,
+        ),
+        (
+            words,
+            b"0 16383 n2:2\nmulti last list readat\nmulti triples ok w\n\nmulti\n",
+            good,
+            b"",
+            0,
+        ),
+        (words, b"multi keys sum MGET\n", b"", first, 2),
+        (words, b"multi keys sum CLIENT\n", b"", first, 2),
+        (words, b"multi keys sum FOO BAR\n", b"", first, 2),
+        (words, b"multi keys sum OBJECT A B\n", b"", first, 2),
+        (words, b"multi keys sum\n", b"", first, 2),
+        (words, b"multi keys min C\n", b"", first, 2),
+        (words, b"multi key sum C\n", b"", first, 2),
+        (words, b"MULTI keys sum C\n", b"", first, 2),
+        // Each name is registered once, in any case.
+        (
+            words,
+            b"multi keys sum C\nmulti keys sum D\nmulti pairs ok c\n",
+            b"",
+            third,
+            2,
+        ),
+        (
+            words,
+            b"multi keys sum C\nmulti keys sum D\nmulti keys sum\n0 8191 n1:1\n",
+            b"",
+            third,
+            2,
+        ),
+    ];
+    check(&rt, rt.alloc(), &runs)
+}
+
 #[test]
 fn bad_map_lines(rt: HostRuntime) -> Result<(), Fail> {
     let first: &[u8] = b"slotroute: bad map line 1\n";

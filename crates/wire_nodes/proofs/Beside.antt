@@ -6,10 +6,10 @@ use Rattle.std.proofs.lemmas.List.Elements.{All-head, All-tail}
 use Rattle.std.proofs.Math.Path.{fun_ext}
 use Rattle.std.proofs.lemmas.Slice.Eq.{bytes_eq-Decides}
 use Rattle.resp_core.proofs.Cases.{by_test}
-use Rattle.resp_core.specs.ErrorParts.{ErrorParts}
-use Rattle.redis_nodes.specs.MultiKey.{KeyTuple, MultiKey, multi_key}
-use Rattle.redis_nodes.specs.Unsplit.{Act, Step, Keyspace, act_of, after, put, reply_by, results}
-use Rattle.wire_nodes.specs.Said.{Said, Outcome, answer, refusal, loss}
+use Rattle.redis_routing.specs.Registry.{Registrations}
+use Rattle.redis_cluster.specs.MultiKey.{KeyTuple, MultiKey, multi_key}
+use Rattle.redis_cluster.specs.Unsplit.{Act, Step, Keyspace, act_of, after, put, reply_by, results}
+use Rattle.wire_nodes.specs.Said.{Said, Outcome, answer, refusal, redirection, loss}
 use Rattle.wire_nodes.specs.Replay.{after_effect, after_outcome, after_said, IsKept, AreKept}
 use Rattle.wire_nodes.specs.Beside.{IsAmong, AreSameAt, AreKeptBeside}
 
@@ -64,10 +64,10 @@ module _ {C : Type 0} (own : List ℕ → Bool) where
     effect_other (Some command) a other among not = after_other (act_of step command) command.tuples a other among not
 
     -- what changes nothing in one keyspace changes nothing in the other
-    idle_same : (took : Bool) (error : ErrorParts) (found : Option MultiKey) (a b : Keyspace C) → IfSome found (λ command. All (IsOwn own) command.tuples) → AreSameAt own a b
-        → after_outcome step took (refusal error) found a ≡ a → after_outcome step took (refusal error) found b ≡ b
-    idle_same false error found a b among same idle = refl
-    idle_same true error found a b among same idle =
+    idle_same : (took : Bool) (found : Option MultiKey) (a b : Keyspace C) → IfSome found (λ command. All (IsOwn own) command.tuples) → AreSameAt own a b
+        → cond took (after_effect step found a) a ≡ a → cond took (after_effect step found b) b ≡ b
+    idle_same false found a b among same idle = refl
+    idle_same true found a b among same idle =
         fun_ext (λ key. by_test (own key)
         (λ is. sym (effect_same found a b among same key is) ∙ ap (λ (ks : Keyspace C). ks key) idle ∙ same key is)
         (λ not. effect_other found b key among not))
@@ -77,21 +77,24 @@ module _ {C : Type 0} (own : List ℕ → Bool) where
     outcome_same took (answer reply) found a b among same = effect_same found a b among same
     outcome_same true (refusal error) found a b among same = effect_same found a b among same
     outcome_same false (refusal error) found a b among same = same
+    outcome_same true (redirection redirect) found a b among same = effect_same found a b among same
+    outcome_same false (redirection redirect) found a b among same = same
     outcome_same true (loss error) found a b among same = effect_same found a b among same
     outcome_same false (loss error) found a b among same = same
 
     kept_same : (took : Bool) (outcome : Outcome) (found : Option MultiKey) (a b : Keyspace C) → IfSome found (λ command. All (IsOwn own) command.tuples) → AreSameAt own a b → IsKept step took outcome found a → IsKept step took outcome found b
     kept_same took (answer reply) None a b among same kept = tt
     kept_same took (answer reply) (Some command) a b among same kept = kept ∙ ap (reply_by command.form) (results_same (act_of step command) command.tuples a b among same)
-    kept_same took (refusal error) found a b among same kept = idle_same took error found a b among same kept
+    kept_same took (refusal error) found a b among same kept = idle_same took found a b among same kept
+    kept_same took (redirection redirect) found a b among same kept = idle_same took found a b among same kept
     kept_same took (loss error) found a b among same kept = tt
 
-    pub kept_beside : (took : ℕ → Bool) (ss : List Said) (a b : Keyspace C) → All (IsAmong own) ss → AreSameAt own a b → AreKeptBeside own step took ss a → AreKept step took ss b
-    kept_beside took [] a b among same kept = tt
-    kept_beside took (s ∷ ss) a b among same kept =
-        let one = All-head (IsAmong own) s ss among in
+    pub kept_beside : (registered : Registrations) (took : ℕ → Bool) (ss : List Said) (a b : Keyspace C) → All (IsAmong registered own) ss → AreSameAt own a b → AreKeptBeside registered own step took ss a → AreKept registered step took ss b
+    kept_beside registered took [] a b among same kept = tt
+    kept_beside registered took (s ∷ ss) a b among same kept =
+        let one = All-head (IsAmong registered own) s ss among in
         let now : AreSameAt own kept.0 b = λ key is. sym (kept.1 key is) ∙ same key is in (
-          kept_same (took 0) s.outcome (multi_key (map Some s.args)) kept.0 b one now kept.2,
-          kept_beside (λ n. took (suc n)) ss (after_said step (took 0) s kept.0) (after_said step (took 0) s b) (All-tail (IsAmong own) s ss among)
-              (outcome_same (took 0) s.outcome (multi_key (map Some s.args)) kept.0 b one now) kept.3,
+          kept_same (took 0) s.outcome (multi_key registered (map Some s.args)) kept.0 b one now kept.2,
+          kept_beside registered (λ n. took (suc n)) ss (after_said registered step (took 0) s kept.0) (after_said registered step (took 0) s b) (All-tail (IsAmong registered own) s ss among)
+              (outcome_same (took 0) s.outcome (multi_key registered (map Some s.args)) kept.0 b one now) kept.3,
         )

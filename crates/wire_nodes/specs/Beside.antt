@@ -1,25 +1,28 @@
 -- Nodes whose other keys others write.
 use Rattle.std.specs.Prelude.{◌≡◌, ℕ, suc, List, [], ◌∷◌, Bool, true, Some, map, IfSome, ⊤}
 use Rattle.std.specs.List.{All}
-use Rattle.redis_nodes.specs.MultiKey.{multi_key}
-use Rattle.redis_nodes.specs.Unsplit.{Step, Keyspace}
+use Rattle.redis_routing.specs.Registry.{Registrations}
+use Rattle.redis_cluster.specs.MultiKey.{multi_key}
+use Rattle.redis_cluster.specs.Unsplit.{Step, Keyspace}
 use Rattle.wire_nodes.specs.Said.{Said}
 use Rattle.wire_nodes.specs.Replay.{after_said, IsKept}
 
 -- the keys of what was sent are among some
-abbrev pub IsAmong : (List ℕ → Bool) → Said → Type 0
-IsAmong own s =
-    IfSome (multi_key (map Some s.args)) (λ command. All (λ t. own t.key ≡ true) command.tuples)
+abbrev pub IsAmong : Registrations → (List ℕ → Bool) → Said → Type 0
+IsAmong registered own s =
+    IfSome (multi_key registered (map Some s.args))
+    (λ command. All (λ t. own t.key ≡ true) command.tuples)
 
 -- two keyspaces hold the same at these keys
 abbrev pub AreSameAt : {C : Type 0} → (List ℕ → Bool) → (one other : Keyspace C) → Type 0
 AreSameAt own one other = (key : List ℕ) → own key ≡ true → one key ≡ other key
 
 -- The nodes kept to the meaning, and before each send others may have written any other key.
-abbrev pub AreKeptBeside : {C : Type 0} → (List ℕ → Bool) → Step C → (ℕ → Bool) → List Said
-    → Keyspace C → Type 0
-AreKeptBeside own step took [] keyspace = ⊤
-AreKeptBeside {C} own step took (s ∷ ss) keyspace =
+abbrev pub AreKeptBeside : {C : Type 0} → Registrations → (List ℕ → Bool) → Step C → (ℕ → Bool)
+    → List Said → Keyspace C → Type 0
+AreKeptBeside registered own step took [] keyspace = ⊤
+AreKeptBeside {C} registered own step took (s ∷ ss) keyspace =
     (now : Keyspace C) × AreSameAt own keyspace now
-    × IsKept step (took 0) s.outcome (multi_key (map Some s.args)) now
-    × AreKeptBeside own step (λ number. took (suc number)) ss (after_said step (took 0) s now)
+    × IsKept step (took 0) s.outcome (multi_key registered (map Some s.args)) now
+    × AreKeptBeside registered own step (λ number. took (suc number)) ss
+    (after_said registered step (took 0) s now)

@@ -1,9 +1,10 @@
 //! What comes of a command over transports that fail, and what was sent.
 use crate::client::drive_over;
 use crate::failing::{AnswersSeven, Loses, Refuses, Sent};
-use crate::tests::{Any, cmd_of, two_nodes};
+use crate::tests::Any;
+use fixtures::{TWO_NODES, cmd_of_text, map_of};
 use redis_cluster::driver::{DriveError, DriveFault};
-use redis_cluster::routing::ReadOnlyNames;
+use redis_cluster::routing::{ReadOnlyNames, Registry};
 use resp_core::Value;
 use std::alloc::{AllocError, Global};
 use std::test::Fail;
@@ -11,10 +12,10 @@ use wire_nodes::{Logged, Transport, WireNodes};
 
 // Drives `MSET a 1 b 2 c 3` over a transport, the part of `b` first.
 fn set_over<T: Transport>(alloc: Global, transport: &mut T) -> Result<String, Fail> {
-    let map = two_nodes(alloc)?;
+    let map = map_of(alloc, &TWO_NODES)?;
     let names = ReadOnlyNames::new(alloc);
-    let cmd = cmd_of(alloc, &["MSET", "a", "1", "b", "2", "c", "3"])?;
-    let mut nodes = WireNodes::<Logged<&mut T>, Any>::over(transport);
+    let cmd = cmd_of_text(alloc, "MSET a 1 b 2 c 3")?;
+    let mut nodes = WireNodes::<Logged<&mut T>, Any>::over(transport, Registry::new(alloc));
     let got = drive_over(alloc, &cmd, &names, &map, &[1, 0, 2], &mut nodes);
     let _ = nodes.into_wire().into_transport();
     Ok(got_text(alloc, &got)?)

@@ -1,14 +1,14 @@
 ghost use Rattle.std.specs.Prelude.{◌≡◌, ◌++◌, List, OnOk};
 ghost use Rattle.std.specs.Iterator.{YieldsFirstRef, item_count};
 ghost use Rattle.cluster_slots.specs.Address.{Address};
-ghost use Rattle.read_strategies.specs.EachOnce.{each_once};
-ghost use Rattle.slot_ranges.specs.SlotNodes.{nodes_in};
+ghost use Rattle.cluster_map.specs.EachOnce.{each_once};
+ghost use Rattle.cluster_map.specs.SlotNodes.{nodes_in};
 ghost use Rattle.cluster_map.specs.Targets.{left_in};
 
 use crate::slot_map::SlotAddrs;
 use crate::slot_map::node_set::NodeSet;
+use crate::slot_range_map::Values;
 use cluster_slots::NodeAddress;
-use slot_ranges::slot_range_map::Values;
 use std::alloc::AllocError;
 
 /// The nodes of a range of slots: the primary, and then the replicas.

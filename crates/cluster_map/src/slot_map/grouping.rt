@@ -1,13 +1,14 @@
 ghost use Rattle.std.specs.Prelude.{◌≡◌, ◌<◌, ◌^◌, ◌++◌, ◌∷◌, [], List, All, map, IfOk, OnOk};
-ghost use Rattle.slot_ranges.specs.SlotNodes.{SlotNodes};
-ghost use Rattle.slot_ranges.specs.RangeMap.{Entry, Ascends, end_of};
-ghost use Rattle.read_strategies.specs.Topology.{primary_of, shards_of};
+ghost use Rattle.cluster_map.specs.SlotNodes.{SlotNodes};
+ghost use Rattle.cluster_map.specs.RangeMap.{RangeEntry, Ascends, end_of};
+ghost use Rattle.cluster_map.specs.Topology.{shards_of};
+ghost use Rattle.cluster_map.specs.Inner.Topology.{primary_of};
 
+use crate::read_routing::Shard;
 use crate::slot_map::SlotAddrs;
 use crate::slot_map::addresses::range_count;
 use crate::slot_map::node_set::NodeSet;
-use read_strategies::Shard;
-use slot_ranges::slot_range_map::SlotRangeMap;
+use crate::slot_range_map::SlotRangeMap;
 use std::alloc::{AllocError, Global};
 
 /// The shards of the ranges, by first appearance of their primaries.
@@ -39,7 +40,7 @@ fn add_range<'a>(
 ) -> Result<(), AllocError>
     requires { seen.old ≡ map primary_of shards.old.items }
     ensures nodes { OnOk result (seen.new ≡ map primary_of shards.new.items) }
-    ensures shards { OnOk result ((es : List (Entry SlotNodes)) → shards.old.items ≡ shards_of es
+    ensures shards { OnOk result ((es : List (RangeEntry SlotNodes)) → shards.old.items ≡ shards_of es
         → shards.new.items ≡ shards_of (es ++ (start, end, addrs.now) ∷ [])) }
     ensures end { end < 2 ^ 16 }
 {

@@ -2,8 +2,8 @@ ghost use denote.Ref.{Bor};
 ghost use Rattle.std.specs.Prelude.{◌≡◌, ◌+◌, ◌*◌, ◌/◌, ◌<◌, ◌≤◌, ◌^◌, [], ◌∷◌, ◌++◌, length, not, cond, bit_and, if◌then◌else◌, IfOk, OnOk, OnErr};
 ghost use Rattle.std.specs.List.{list_any, position_or_len};
 ghost use Rattle.cluster_slots.specs.Address.{Address, same_address};
-ghost use Rattle.cluster_map.specs.Targets.{targets};
-ghost use Rattle.cluster_map.specs.Windows.{hash_of, tag_of, start_of, is_at, is_here, seek, crowded_at, window};
+ghost use Rattle.cluster_map.specs.Targets.{addresses_behind};
+ghost use Rattle.cluster_map.specs.Inner.Windows.{hash_of, tag_of, start_of, is_at, is_here, seek, crowded_at, window};
 
 use cluster_slots::NodeAddress;
 use std::alloc::{AllocError, Global};
@@ -35,9 +35,9 @@ enum Found {
 
 /// Addresses of nodes, each once, in order of first appearance.
 ///
-/// The hash of a node picks a window of spots, which are looked at up to the first free one. A node
+/// The hash of a node names a window of spots, which are looked at up to the first free one. A node
 /// whose window is full goes to a tree, by the order of addresses. So nodes are found by their hash,
-/// as in a hash table, and where hosts are picked so that their hashes are equal, finding one costs
+/// as in a hash table, and where hosts are chosen so that their hashes are equal, finding one costs
 /// no more than the logarithm of their number.
 #[derive(Drop)]
 pub(crate) struct NodeSet<'a> {
@@ -50,12 +50,12 @@ pub(crate) struct NodeSet<'a> {
 impl<'a> Model for NodeSet<'a> {
     ghost use Rattle.std.specs.Prelude.{List};
     ghost use Rattle.cluster_slots.specs.Address.{Address};
-    ghost use Rattle.cluster_map.specs.Targets.{targets};
-    ghost use Rattle.cluster_map.specs.Windows.{IsIndexed};
+    ghost use Rattle.cluster_map.specs.Targets.{addresses_behind};
+    ghost use Rattle.cluster_map.specs.Inner.Windows.{IsIndexed};
 
     ghost Value = { List Address };
 
-    ghost view = { λ s. targets s.nodes.items };
+    ghost view = { λ s. addresses_behind s.nodes.items };
 
     ghost invariant = { λ s. IsIndexed s.nodes.items s.spots.items s.mask s.crowded.entries };
 }
@@ -114,7 +114,7 @@ impl<'a> NodeSet<'a> {
 
     /// The nodes, in order of first appearance.
     pub(crate) fn into_nodes(self) -> Vec<&'a NodeAddress>
-        ensures { targets result.items ≡ self.entry }
+        ensures { addresses_behind result.items ≡ self.entry }
     {
         self.nodes
     }

@@ -1,5 +1,5 @@
 use Rattle.std.proofs.Common.{◌≡◌, ◌++◌, map}
-use Rattle.slot_ranges.specs.SlotNodes.{range_entry}
+use Rattle.cluster_map.specs.SlotNodes.{range_entry}
 use Rattle.cluster_map.proofs.slot_map.range_entries.Given as goal
 
 -- the entries are those of the ranges so far

@@ -1,4 +1,4 @@
-use Rattle.std.proofs.Common.{◌≡◌, fold, drop, length}
+use Rattle.std.proofs.Common.{◌≡◌, fold, length}
 use Rattle.cluster_slots.proofs.Crc.{next_register}
 use Rattle.cluster_slots.proofs.slot.crc16.Given as goal
 
@@ -8,6 +8,3 @@ invariant-loop-rest l = fold next_register l.crc l.rest ≡ fold next_register 0
 
 abbrev pub decreases-loop-rest : goal.decreases-loop-rest
 decreases-loop-rest l = length l.rest
-
-abbrev pub invariant-loop-byte : goal.invariant-loop-byte
-invariant-loop-byte l = fold next_register l.crc (drop l.byte-index l.byte-items) ≡ fold next_register 0 l.fn.bytes

@@ -1,5 +1,5 @@
 use Rattle.std.proofs.Common.{ap, ◌∙◌, Some}
-use Rattle.redis_nodes.specs.Unsplit.{put}
+use Rattle.redis_cluster.specs.Unsplit.{put}
 use Rattle.memory_nodes.specs.Cells.{cell_of}
 use Rattle.memory_nodes.proofs.Keyspaces.{cell-put, cell-same}
 use Rattle.memory_nodes.proofs.Undoing.{at-err}

@@ -1,5 +1,5 @@
 use Rattle.std.proofs.Common.{ap, ◌∙◌, Some, option_map}
-use Rattle.redis_nodes.specs.Unsplit.{put}
+use Rattle.redis_cluster.specs.Unsplit.{put}
 use Rattle.memory_nodes.specs.Cells.{cell_of, keyspace_of}
 use Rattle.memory_nodes.specs.Steps.{written}
 use Rattle.memory_nodes.proofs.Keyspaces.{keyspace-lent}

@@ -1,5 +1,5 @@
 use Rattle.std.proofs.Common.{ap, ◌∙◌, Some}
-use Rattle.redis_nodes.specs.Unsplit.{put}
+use Rattle.redis_cluster.specs.Unsplit.{put}
 use Rattle.memory_nodes.specs.Cells.{found}
 use Rattle.memory_nodes.proofs.Bytes.{found-put}
 use Rattle.memory_nodes.proofs.tree.put_at.Goals as goal

@@ -1,7 +1,7 @@
 use Rattle.std.proofs.Common.{◌≡◌, Option, None, Some, option_map, subst, sym}
 use Rattle.std.specs.Prelude.{IfSome}
-use Rattle.redis_nodes.specs.MultiKey.{MultiKey, ReplyForm, form_by_policy}
-use Rattle.redis_nodes.specs.Unsplit.{keyspace_after}
+use Rattle.redis_cluster.specs.MultiKey.{MultiKey, ReplyForm, form_by_policy}
+use Rattle.redis_cluster.specs.Unsplit.{keyspace_after}
 use Rattle.memory_nodes.specs.Cells.{keyspace_of}
 use Rattle.memory_nodes.specs.Parts.{with_form}
 use Rattle.memory_nodes.specs.Steps.{step}

@@ -3,12 +3,12 @@ use Rattle.std.specs.Prelude.{slice_get}
 use Rattle.std.specs.Vec.{vec_len, vec_capacity}
 use Rattle.std.proofs.lemmas.List.{length-map}
 use Rattle.resp_core.specs.View.{view}
-use Rattle.redis_commands.specs.Tuples.{width_of}
-use Rattle.redis_nodes.specs.Unsplit.{put, after, results}
+use Rattle.redis_routing.specs.Tuples.{width_of}
+use Rattle.redis_cluster.specs.Unsplit.{put, after, results}
 use Rattle.memory_nodes.specs.Cells.{keyspace_of}
 use Rattle.memory_nodes.specs.Parts.{words, key_tuples, act_on}
 use Rattle.memory_nodes.specs.Results.{result_of}
-use Rattle.memory_nodes.specs.Steps.{act, action_of}
+use Rattle.memory_nodes.specs.Steps.{act, action_by}
 use Rattle.memory_nodes.proofs.KeyTuples.{first_tuple, no-tuple}
 use Rattle.memory_nodes.proofs.Running.{after-more, results-more, enough_words, words_back, key_is, extras_are, values-more, count-more, few-more, room-left, all-kept}
 use Rattle.memory_nodes.proofs.Undoing.{at-err}
@@ -31,16 +31,16 @@ loop-rest-preserved c =
     let new = keyspace_of c.run_tuple.new.cells in
     let is_key : key ≡ first.key = c.word.ensures ∙ key_is rest tuple others width pattern c.width-width.ensures enough c.split_at.ensures.front c.split_at.ensures.back in
     let are_extras : extras ≡ first.extras = extras_are rest tuple others width pattern c.width-width.ensures enough c.split_at.ensures.front c.split_at.ensures.back in
-    let is_action : c.of_name-action.result ≡ action_of whole.name.items = c.of_name-action.ensures ∙ ap action_of c.deref.ensures.value in
-    let is_outcome : act c.of_name-action.result shared extras (old key) ≡ act_on whole first (old first.key) =
+    let is_action : c.by-action.result ≡ action_by whole.registered whole.name.items = c.by-action.ensures ∙ ap (action_by whole.registered) c.deref.ensures.value in
+    let is_outcome : act c.by-action.result shared extras (old key) ≡ act_on whole first (old first.key) =
     ap (λ a. act a shared extras (old key)) is_action
-    ∙ ap (λ es. act (action_of whole.name.items) shared es (old key)) are_extras
-    ∙ ap (λ k. act (action_of whole.name.items) shared first.extras (old k)) is_key in
+    ∙ ap (λ es. act (action_by whole.registered whole.name.items) shared es (old key)) are_extras
+    ∙ ap (λ k. act (action_by whole.registered whole.name.items) shared first.extras (old k)) is_key in
     let enough_left = enough_words rest tuple others width pattern c.width-width.ensures enough c.split_at.ensures.front c.split_at.ensures.back in
     let left = words_back rest tuple others width pattern c.width-width.ensures enough c.split_at.ensures.front c.split_at.ensures.back in
     let is_after : new ≡ put first.key (act_on whole first (old first.key)).cell old =
     c.in_ok-added.ensures.cells
-    ∙ ap (λ k. put k (act c.of_name-action.result shared extras (old key)).cell old) is_key
+    ∙ ap (λ k. put k (act c.by-action.result shared extras (old key)).cell old) is_key
     ∙ ap (λ o. put first.key o.cell old) is_outcome in
     let is_added : result_of c.in_ok-added.added ≡ (act_on whole first (old first.key)).result = c.in_ok-added.ensures.added ∙ ap (λ o. o.result) is_outcome in
     let all_results : result_of c.in_ok-added.added ∷ results (act_on whole) (key_tuples pattern (words others)) new ≡ results (act_on whole) (key_tuples pattern (words rest)) old =

@@ -2,7 +2,7 @@ use Rattle.std.proofs.Common.{◌≡◌, ◌+◌, ◌≤◌, ◌++◌, length, m
 use Rattle.std.specs.Prelude.{count_by}
 use Rattle.std.specs.Vec.{vec_len, vec_capacity}
 use Rattle.resp_core.specs.View.{view}
-use Rattle.redis_nodes.specs.Unsplit.{after, results}
+use Rattle.redis_cluster.specs.Unsplit.{after, results}
 use Rattle.memory_nodes.specs.Cells.{keyspace_of}
 use Rattle.memory_nodes.specs.Parts.{words, key_tuples, act_on}
 use Rattle.memory_nodes.specs.Undo.{before_all}

@@ -2,7 +2,7 @@ use Rattle.std.proofs.Common.{◌≡◌, ◌∙◌, ◌-◌, ◌+ℤ◌, ℕ, Li
 use Rattle.std.specs.Int.{w128}
 use Rattle.std.specs.Str.{bytes_eq}
 use Rattle.std.proofs.lemmas.Int.{to_z-of_z}
-use Rattle.redis_combiners.specs.Entries.{plain_pairs, keys_among, total_among, plus}
+use Rattle.redis_combiners.specs.Entries.{plain_pairs, keys_among, total_among, sum_of_totals}
 use Rattle.redis_combiners.proofs.ByKey.{Rises, Chain, last, chain, sorted_by_key, none_rises, all_left, after, left_after, strictly_from}
 use Rattle.redis_combiners.proofs.Totals.{or_zero, sum_at, same_key}
 use Rattle.redis_combiners.proofs.maps.by_key.Goals as goal
@@ -18,8 +18,8 @@ loop-key-init c =
       tt,
       subst (λ z. Rises (keys_among z)) (sym empty) none_rises,
       subst (λ z. Chain (last (keys_among z)) c.into_iter-key-iterator.result.rest.items) (sym empty) (subst (Chain None) (sym all) up),
-      λ q. ap (λ z. plus (total_among c.in_ok-list.list.items q) (sum_at q (plain_pairs z))) all
-          ∙ ap (λ z. plus (total_among z q) (sum_at q (plain_pairs sorted))) empty
+      λ q. ap (λ z. sum_of_totals (total_among c.in_ok-list.list.items q) (sum_at q (plain_pairs z))) all
+          ∙ ap (λ z. sum_of_totals (total_among z q) (sum_at q (plain_pairs sorted))) empty
           ∙ all_left c.args.totals.items sorted moves q,
     )
 
@@ -43,7 +43,7 @@ loop-key-preserved c =
       subst (λ o. Chain o rest) (sym at) follows.1,
       λ q. left_after (total_among new q) (total_among old q) (total_among old key.items) key.items q total rest (key, total) (total_among c.args.totals.items q) refl refl
           (added q) (same_key key.items q old)
-          (ap (λ z. plus (total_among old q) (sum_at q (plain_pairs z))) (sym left) ∙ c.loop-key.invariant.4 q),
+          (ap (λ z. sum_of_totals (total_among old q) (sum_at q (plain_pairs z))) (sym left) ∙ c.loop-key.invariant.4 q),
     )
 
 pub returns-clause-ascending : goal.returns-clause-ascending

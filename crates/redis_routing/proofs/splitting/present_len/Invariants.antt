@@ -1,5 +1,5 @@
 use Rattle.std.proofs.Common.{◌≡◌, ◌+◌, ◌-◌, ◌^◌, ◌<◌, ◌≤◌, length, drop}
-use Rattle.redis_commands.specs.PresentArguments.{arguments_before_gap, present_arguments_after}
+use Rattle.redis_routing.specs.PresentArguments.{arguments_before_gap, present_arguments_after}
 use Rattle.redis_routing.proofs.splitting.present_len.Given as goal
 
 abbrev pub invariant-loop-count : goal.invariant-loop-count

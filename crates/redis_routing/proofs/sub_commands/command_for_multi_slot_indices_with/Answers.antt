@@ -1,5 +1,5 @@
 use Rattle.std.proofs.Common.{◌+◌, map, refl, sym, inl}
-use Rattle.redis_commands.specs.Command.{argument}
+use Rattle.redis_routing.specs.Command.{argument}
 use Rattle.redis_routing.proofs.SubCommands.{no_last_word}
 use Rattle.redis_routing.proofs.sub_commands.command_for_multi_slot_indices_with.Goals as goal
 

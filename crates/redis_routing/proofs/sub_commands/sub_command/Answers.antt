@@ -1,6 +1,6 @@
 use Rattle.std.proofs.Common.{◌+◌, map, ◌∙◌, sym}
 use Rattle.std.specs.List.{range_with_len}
-use Rattle.redis_commands.specs.Command.{argument}
+use Rattle.redis_routing.specs.Command.{argument}
 use Rattle.redis_routing.proofs.SubCommands.{name_before, name_gap}
 use Rattle.redis_routing.proofs.sub_commands.sub_command.Goals as goal
 

@@ -1,7 +1,7 @@
 use Rattle.std.proofs.Common.{arith, ◌≡◌, ◌⊎◌, inl, inr, ℕ, List, ◌∷◌, [], map, string_bytes, ◌≤◌, ◌-◌, length, get_or, take, drop, ap, ◌∙◌, sym, subst, refl, codes}
 use Rattle.std.specs.Prelude.{Option, Some, None, MatchOption}
 use Rattle.std.proofs.lemmas.List.{take_rest}
-use Rattle.slotroute_run.specs.declared.direction.Direction.{Direction}
+use Rattle.slotroute_serve.specs.declared.direction.Direction.{Direction}
 use Rattle.slotroute_serve.specs.Output.{IsRequest, IsDirected, IsRunWords, node_words, split_words, node_request, split_request, run_request}
 use Rattle.slotroute_serve.specs.Requests.{AsksFor}
 use Rattle.slotroute_serve.specs.declared.request.Request.{Request}

@@ -2,8 +2,8 @@ use Rattle.std.proofs.Common.{◌∙◌, ◌++◌, ◌∷◌, [], ap, sym, appen
 use Rattle.std.specs.List.{flat_map}
 use Rattle.std.proofs.lemmas.List.{append-nil}
 use Rattle.std.proofs.lemmas.List.Concat.{flat_map-append}
-use Rattle.read_strategies.specs.EachOnce.{each_once}
-use Rattle.slot_ranges.specs.SlotNodes.{nodes_in}
+use Rattle.cluster_map.specs.EachOnce.{each_once}
+use Rattle.cluster_map.specs.SlotNodes.{nodes_in}
 use Rattle.cluster_map.proofs.slot_map.SlotMap.addresses_for_all_nodes.Goals as goal
 
 pub loop-addrs-preserved : goal.loop-addrs-preserved

@@ -1,8 +1,8 @@
 use Rattle.std.proofs.Common.{◌≡◌, ◌++◌, List, map}
 use Rattle.std.specs.List.{flat_map}
-use Rattle.read_strategies.specs.EachOnce.{each_once}
-use Rattle.slot_ranges.specs.SlotNodes.{SlotNodes, nodes_in}
-use Rattle.slot_ranges.specs.RangeMap.{value_of}
+use Rattle.cluster_map.specs.EachOnce.{each_once}
+use Rattle.cluster_map.specs.SlotNodes.{SlotNodes, nodes_in}
+use Rattle.cluster_map.specs.RangeMap.{value_of}
 use Rattle.cluster_map.proofs.slot_map.SlotMap.addresses_for_all_nodes.Given as goal
 
 -- the members are the nodes of the ranges so far

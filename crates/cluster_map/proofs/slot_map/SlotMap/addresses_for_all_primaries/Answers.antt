@@ -1,9 +1,9 @@
 use Rattle.std.proofs.Common.{◌≡◌, ◌∙◌, ◌++◌, ◌∷◌, [], map, ap, sym, append_assoc, arith}
 use Rattle.std.proofs.lemmas.Grind.{common_steps}
 use Rattle.std.proofs.lemmas.List.{append-nil}
-use Rattle.read_strategies.specs.EachOnce.{each_once}
-use Rattle.slot_ranges.specs.RangeMap.{value_of}
-use Rattle.read_strategies.proofs.Members.{add_new, added_more}
+use Rattle.cluster_map.specs.EachOnce.{each_once}
+use Rattle.cluster_map.specs.RangeMap.{value_of}
+use Rattle.cluster_map.proofs.Members.{add_new, added_more}
 use Rattle.cluster_map.proofs.RangePrimaries.{range_primary, primaries_last, primaries_in}
 use Rattle.cluster_map.proofs.slot_map.SlotMap.addresses_for_all_primaries.Goals as goal
 

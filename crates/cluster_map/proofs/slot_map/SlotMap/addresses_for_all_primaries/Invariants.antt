@@ -1,7 +1,7 @@
 use Rattle.std.proofs.Common.{◌≡◌, ◌++◌, List, map}
-use Rattle.read_strategies.specs.EachOnce.{each_once}
-use Rattle.slot_ranges.specs.SlotNodes.{SlotNodes}
-use Rattle.slot_ranges.specs.RangeMap.{value_of}
+use Rattle.cluster_map.specs.EachOnce.{each_once}
+use Rattle.cluster_map.specs.SlotNodes.{SlotNodes}
+use Rattle.cluster_map.specs.RangeMap.{value_of}
 use Rattle.cluster_map.proofs.RangePrimaries.{range_primary}
 use Rattle.cluster_map.proofs.slot_map.SlotMap.addresses_for_all_primaries.Given as goal
 

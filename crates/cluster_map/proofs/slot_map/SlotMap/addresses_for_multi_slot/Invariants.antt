@@ -1,7 +1,7 @@
 use Rattle.std.proofs.Common.{MatchOption, take}
 use Rattle.std.specs.List.{AllZip}
-use Rattle.slot_ranges.specs.RangeMap.{IsUncovered}
-use Rattle.read_strategies.specs.RouteNode.{IsNodeOfRoute, IsPickedNode}
+use Rattle.cluster_map.specs.RangeMap.{IsUncovered}
+use Rattle.cluster_map.specs.RouteNode.{IsNodeOfRoute, IsPickedNode}
 use Rattle.cluster_map.proofs.slot_map.SlotMap.addresses_for_multi_slot.Given as goal
 
 -- the nodes so far are those of the routes so far

@@ -1,5 +1,5 @@
 use Rattle.std.proofs.Common.{◌≡◌, ◌∙◌, [], ap}
-use Rattle.slot_ranges.specs.SlotNodes.{insert_ranges}
+use Rattle.cluster_map.specs.SlotNodes.{insert_ranges}
 use Rattle.cluster_map.proofs.Disjoint.{disjoint_ranges_stay}
 use Rattle.cluster_map.proofs.slot_map.SlotMap.from_slots.Goals as goal
 

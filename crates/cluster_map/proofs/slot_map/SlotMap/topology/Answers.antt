@@ -1,7 +1,7 @@
 use Rattle.std.proofs.Common.{◌≡◌, ◌∙◌, ◌<◌, All, ap, subst, sym}
-use Rattle.slot_ranges.specs.RangeMap.{Ascends, Entry, end_of}
-use Rattle.slot_ranges.specs.SlotNodes.{SlotNodes}
-use Rattle.read_strategies.specs.Topology.{shards_of, topology_of, shards_left, Agrees}
+use Rattle.cluster_map.specs.RangeMap.{Ascends, RangeEntry, end_of}
+use Rattle.cluster_map.specs.SlotNodes.{SlotNodes}
+use Rattle.cluster_map.specs.Topology.{shards_of, topology_of, shards_left, Agrees}
 use Rattle.cluster_map.proofs.Agreement.{agrees, none_past}
 use Rattle.cluster_map.proofs.Listed.{listed}
 use Rattle.cluster_map.proofs.slot_map.SlotMap.topology.Goals as goal
@@ -28,6 +28,6 @@ returns-clause-past c =
     let up : Ascends entries = rw (← c.self.view_is) c.shards_of.ensures.order in
     let is : c.in_ok-topology.topology ≡ topology_of (shards_of entries) =
     c.in_ok-topology.ensures.put ∙ ap topology_of (c.in_ok-shards.ensures.shards ∙ ap shards_of c.self.view_is) in
-    let below : All (λ (e : Entry SlotNodes). end_of e < 65536) entries =
-    subst (All (λ (e : Entry SlotNodes). end_of e < 65536)) c.self.view_is c.in_ok-shards.ensures.ends in
+    let below : All (λ (e : RangeEntry SlotNodes). end_of e < 65536) entries =
+    subst (All (λ (e : RangeEntry SlotNodes). end_of e < 65536)) c.self.view_is c.in_ok-shards.ensures.ends in
     none_past entries below c.in_ok-topology.topology (subst (Agrees entries) (sym is) (agrees entries up))

@@ -1,7 +1,7 @@
 use Rattle.std.proofs.Common.{◌∙◌, ap, sym, fold}
-use Rattle.slot_ranges.specs.SlotNodes.{nodes_in}
+use Rattle.cluster_map.specs.SlotNodes.{nodes_in}
 use Rattle.cluster_map.specs.Targets.{left_in}
-use Rattle.read_strategies.proofs.Members.{add_new, added_more}
+use Rattle.cluster_map.proofs.Members.{add_new, added_more}
 use Rattle.cluster_map.proofs.slot_map.addresses.insert_all.Goals as goal
 
 pub loop-address-preserved : goal.loop-address-preserved

@@ -1,7 +1,7 @@
 use Rattle.std.proofs.Common.{◌≡◌, fold}
-use Rattle.slot_ranges.specs.SlotNodes.{nodes_in}
+use Rattle.cluster_map.specs.SlotNodes.{nodes_in}
 use Rattle.cluster_map.specs.Targets.{left_in}
-use Rattle.read_strategies.proofs.Members.{add_new}
+use Rattle.cluster_map.proofs.Members.{add_new}
 use Rattle.cluster_map.proofs.slot_map.addresses.insert_all.Given as goal
 
 -- the nodes that are left make of the members what all make of the first ones

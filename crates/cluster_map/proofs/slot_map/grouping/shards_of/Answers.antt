@@ -1,18 +1,18 @@
 use Rattle.std.proofs.Common.{◌∙◌, ◌<◌, ◌++◌, ◌∷◌, [], All, ap, subst, sym, append_assoc}
 use Rattle.std.proofs.lemmas.List.{append-nil}
 use Rattle.std.proofs.lemmas.List.Elements.{All-append, All-cons, All-nil}
-use Rattle.slot_ranges.specs.SlotNodes.{SlotNodes}
-use Rattle.slot_ranges.specs.RangeMap.{Entry, end_of}
-use Rattle.read_strategies.specs.Topology.{shards_of}
+use Rattle.cluster_map.specs.SlotNodes.{SlotNodes}
+use Rattle.cluster_map.specs.RangeMap.{RangeEntry, end_of}
+use Rattle.cluster_map.specs.Topology.{shards_of}
 use Rattle.cluster_map.proofs.slot_map.grouping.shards_of.Goals as goal
 
-abbrev Fits : Entry SlotNodes → Type 0
+abbrev Fits : RangeEntry SlotNodes → Type 0
 Fits e = end_of e < 65536
 
 pub loop-start-preserved : goal.loop-start-preserved
 loop-start-preserved c =
     let done = c.loop-start.invariant.3.0 in
-    let e : Entry SlotNodes = (c.in-Some.start, c.in-Some.end, c.in-Some.addrs.now) in (
+    let e : RangeEntry SlotNodes = (c.in-Some.start, c.in-Some.end, c.in-Some.addrs.now) in (
       tt,
       tt,
       c.in_ok-add_range.ensures.nodes,

@@ -1,6 +1,6 @@
 use Rattle.std.proofs.Common.{◌∙◌, ◌<◌, ◌+◌, sym, arith}
 use Rattle.std.proofs.lemmas.Option.{slice_get-get_or}
-use Rattle.cluster_map.specs.Windows.{window}
+use Rattle.cluster_map.specs.Inner.Windows.{window}
 use Rattle.cluster_map.specs.declared.slot_map.node_set.Spot.{Spot}
 use Rattle.cluster_map.proofs.NodeSets.{window_is, seek_at_free, seek_at_here, seek_at_other, seek_none}
 use Rattle.cluster_map.proofs.slot_map.node_set.look_up.Goals as goal

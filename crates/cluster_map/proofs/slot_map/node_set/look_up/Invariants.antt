@@ -1,5 +1,5 @@
 use Rattle.std.proofs.Common.{◌≡◌, ◌+◌, ◌-◌}
-use Rattle.cluster_map.specs.Windows.{is_here, seek, window}
+use Rattle.cluster_map.specs.Inner.Windows.{is_here, seek, window}
 use Rattle.cluster_map.proofs.slot_map.node_set.look_up.Given as goal
 
 -- the spots that are left say what all say

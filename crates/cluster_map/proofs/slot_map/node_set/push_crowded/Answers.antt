@@ -1,6 +1,6 @@
 use Rattle.std.proofs.Common.{◌≡◌, ◌∙◌, ap, cond, length, Some, rules}
 use Rattle.cluster_slots.specs.Address.{same_address}
-use Rattle.cluster_map.specs.Windows.{crowded_at}
+use Rattle.cluster_map.specs.Inner.Windows.{crowded_at}
 use Rattle.cluster_map.proofs.NodeSets.{same_from_cmp}
 use Rattle.cluster_map.proofs.slot_map.node_set.push_crowded.Goals as goal
 

@@ -1,5 +1,5 @@
 use Rattle.std.proofs.Common.{◌≡◌, ◌∙◌, ◌%◌, ◌∷◌, length, Some, slice_get, ap, subst}
-use Rattle.cluster_map.specs.Candidates.{in_order}
+use Rattle.cluster_map.specs.Candidates.{primary_then_replicas}
 use Rattle.cluster_map.specs.CandidatePlaces.{IsCandidate-replica, IsCandidate-in_order}
 use Rattle.cluster_map.specs.ReadCandidates.{addresses_of, any_node_of, replicas_only_of}
 use Rattle.example_strategies.proofs.pick_index.PickIndexReadRoutingStrategy.route_read.Goals as goal
@@ -10,10 +10,10 @@ returns-in-AnyNode-clause-candidate c =
     let index = c.args.self.now.0 in
     let node = c.node_at.result.now in
     let same : c.primary.result.now ≡ c.in-AnyNode.candidates.primary.now = cc in
-    let nodes : c.primary.result.now ∷ addresses_of c.replicas.result ≡ in_order candidates =
+    let nodes : c.primary.result.now ∷ addresses_of c.replicas.result ≡ primary_then_replicas candidates =
     ap (λ z. z ∷ addresses_of c.replicas.result) same ∙ ap (λ z. c.in-AnyNode.candidates.primary.now ∷ z) c.replicas.ensures in
     let there = subst (λ z. slice_get z (index % length z) ≡ Some node) nodes c.node_at.ensures in
-    rw c.in-AnyNode.is (IsCandidate-in_order candidates node (index % length (in_order candidates)) there)
+    rw c.in-AnyNode.is (IsCandidate-in_order candidates node (index % length (primary_then_replicas candidates)) there)
 
 pub returns-in-ReplicasOnly-clause-candidate : goal.returns-in-ReplicasOnly-clause-candidate
 returns-in-ReplicasOnly-clause-candidate c =

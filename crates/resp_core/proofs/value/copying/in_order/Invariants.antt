@@ -1,6 +1,7 @@
 use Rattle.std.proofs.Common.{map, reverse}
 use Rattle.resp_core.specs.View.{view}
-use Rattle.resp_core.specs.Copying.{IsWalk, size_of_all}
+use Rattle.resp_core.specs.Copying.{IsWalk}
+use Rattle.resp_core.proofs.Copying.{size_of_all}
 use Rattle.resp_core.proofs.value.copying.in_order.Given as goal
 
 abbrev pub invariant-loop-next : goal.invariant-loop-next

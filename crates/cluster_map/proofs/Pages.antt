@@ -1,0 +1,157 @@
+-- The numbers of pages, from which a place is found by a look at few ends.
+use Rattle.std.proofs.Common.{◌≡◌, ◌≢◌, ◌<◌, ◌≤◌, ◌+◌, ◌*◌, ◌/◌, ◌^◌, ℕ, zero, suc, inl, inr, true, false, nat_lt, nat_cmp, List, [], ◌∷◌, ◌++◌, length, map, take, drop, get_or, set, replicate, sym, ap, subst, ◌∙◌, arith}
+use Rattle.std.proofs.lemmas.Bool.{cases_lt, cases_order, lt-ltb, le-ltb}
+use Rattle.std.proofs.lemmas.Bool.Decides.{nat_tests}
+use Rattle.std.proofs.lemmas.List.{get_or-take, get_or-drop, get_or-set_same, get_or-set_other, get_or-replicate, take-append-drop, drop_at, length-append, length-take-le, length-drop, length-set, length-map, length-replicate}
+use Rattle.std.proofs.Math.Seq.{take-append_seam}
+use Rattle.std.proofs.lemmas.List.Edits.{insert-append_left}
+use Rattle.std.proofs.Math.Nat.{div-mul-le_self, div-lt_iff_lt-mul, mul-le-mul_right}
+use Rattle.std.proofs.Math.Pow.{pow-lt}
+use Rattle.std.specs.List.{insert}
+use Rattle.std.specs.Int.{from_bool}
+use Rattle.std.specs.List.Sorted.{IsNonDecreasing}
+use Rattle.std.specs.Ordering.{ord_max}
+use Rattle.resp_core.proofs.Cases.{by_test}
+use Rattle.cluster_map.specs.RangeIndex.{ArePages, IsIndex}
+use Rattle.cluster_map.specs.RangeMap.{RangeEntry, end_of, Ascends}
+use Rattle.cluster_map.proofs.Places.{below, below_at, place_in, place_found, ends_seen_rise, ends-insert}
+
+-- more of the ends are below a greater one
+pub below-more : (low high : ℕ) (ends : List ℕ) → low ≤ high → below low ends ≤ below high ends
+below-more low high [] order = omega arith
+below-more low high (e ∷ ends) order =
+    let rest = below-more low high ends order in
+    elim (cases_lt e low) [
+      | inl less ↦ rw (lt-ltb e low less, lt-ltb e high (omega arith)) (omega arith)
+      | inr from ↦ rw (le-ltb e low from) (by_test (nat_lt e high) (λ t. rw t (omega arith)) (λ t. rw t (omega arith)))
+    ]
+
+-- and of more ends
+pub below-insert : (end : ℕ) (ends : List ℕ) (place e : ℕ) → below end ends ≤ below end (insert ends place e)
+below-insert end [] place e = omega arith
+below-insert end (x ∷ xs) zero e = by_test (nat_lt e end) (λ t. rw t (omega arith)) (λ t. rw t (omega arith))
+below-insert end (x ∷ xs) (suc place) e = let rest = below-insert end xs place e in by_test (nat_lt x end) (λ t. rw t (omega arith)) (λ t. rw t (omega arith))
+
+-- a number that passes the same tests from a place on
+squeeze : (k c b : ℕ) → k ≤ b → c < 16 → ((i : ℕ) → i < 16 → nat_lt i c ≡ nat_lt (k + i) b) → k + c ≡ b
+squeeze k zero b known few test =
+    let past : nat_lt (k + 0) b ≡ false = sym (test 0 few) ∙ le-ltb 0 0 (omega arith) in
+    let most : b ≤ k + 0 = grind (arith, nat_tests) in
+    omega arith
+squeeze k (suc c) b known few test =
+    let past : nat_lt (k + suc c) b ≡ false = sym (test (suc c) few) ∙ le-ltb (suc c) (suc c) (omega arith) in
+    let within : nat_lt (k + c) b ≡ true = sym (test c (omega arith)) ∙ lt-ltb c (suc c) (omega arith) in
+    let most : b ≤ k + suc c = grind (arith, nat_tests) in
+    let least : k + c < b = grind (arith, nat_tests) in
+    omega arith
+
+-- where not all of 16 ends are below, those before them and of them are all that are
+pub below_near : (end k : ℕ) (ends window : List ℕ) → IsNonDecreasing ends → k ≤ below end ends → k + 16 ≤ length ends → window ≡ take 16 (drop k ends) → below end window < 16 → k + below end window ≡ below end ends
+below_near end k ends window rise known long same few =
+    let at : (i d : ℕ) → i < 16 → get_or window i d ≡ get_or ends (k + i) d = λ i d w. ap (λ z. get_or z i d) same ∙ get_or-take 16 (drop k ends) i d w ∙ get_or-drop k ends i d in
+    let rest : 16 ≤ length (drop k ends) = rw (length-drop k ends) (omega arith) in
+    let size : length window ≡ 16 = ap length same ∙ length-take-le 16 (drop k ends) rest in
+    let rises : IsNonDecreasing window = λ i j d order within. (let a = at i d (omega arith) in let b = at j d (omega arith) in let r = rise (k + i) (k + j) d (omega arith) (omega arith) in omega arith) in
+    squeeze k (below end window) (below end ends) known few (λ i w.
+    sym (below_at end window i 0 rises (omega arith)) ∙ ap (λ z. nat_lt z end) (at i 0 w) ∙ below_at end ends (k + i) 0 rise (omega arith))
+
+-- a page begins at its slots or before them, and they are before the next page
+pub page_begins : (slot bits : ℕ) → slot / 2 ^ bits * 2 ^ bits ≤ slot
+page_begins slot bits = div-mul-le_self slot (2 ^ bits)
+
+some_slots : (bits : ℕ) → 0 < 2 ^ bits
+some_slots zero = omega arith
+some_slots (suc bits) = let less = pow-lt {i = 0} {j = suc bits} (omega arith) in omega arith
+
+page_ends : (slot bits : ℕ) → slot < (slot / 2 ^ bits + 1) * 2 ^ bits
+page_ends slot bits = (div-lt_iff_lt-mul {k = 2 ^ bits} {x = slot} {y = slot / 2 ^ bits + 1} (some_slots bits)).0 (omega arith)
+
+-- the number of a slot's page is one that a place may begin from
+pub page_known : (bits slot d : ℕ) (numbers ends : List ℕ) → ArePages bits numbers ends → slot / 2 ^ bits < length numbers → get_or numbers (slot / 2 ^ bits) d ≤ below slot ends
+page_known bits slot d numbers ends pages within =
+    let known = pages (slot / 2 ^ bits) d within in
+    let more = below-more (slot / 2 ^ bits * 2 ^ bits) slot ends (page_begins slot bits) in
+    omega arith
+
+-- an end and those before it are below the page after its own
+pub below_next_page : (bits place d : ℕ) (ends : List ℕ) → IsNonDecreasing ends → place < length ends → place + 1 ≤ below ((get_or ends place d / 2 ^ bits + 1) * 2 ^ bits) ends
+below_next_page bits place d ends rise within =
+    let next = (get_or ends place d / 2 ^ bits + 1) * 2 ^ bits in
+    let counted : nat_lt place (below next ends) ≡ true = sym (below_at next ends place d rise within) ∙ lt-ltb (get_or ends place d) next (page_ends (get_or ends place d) bits) in
+    grind (arith, nat_tests)
+
+-- a number written to a page
+pub ArePages-set : (bits page number : ℕ) (numbers ends : List ℕ) → ArePages bits numbers ends → page < length numbers → number ≤ below (page * 2 ^ bits) ends → ArePages bits (set numbers page number) ends
+ArePages-set bits page number numbers ends pages there few p d within =
+    let short : p < length numbers = subst (λ n. p < n) (length-set numbers page number) within in
+    elim (cases_order p page) [
+      | inl same ↦ rw (same, get_or-set_same numbers page number d there) few
+      | inr apart ↦ let other : p ≢ page = λ z. elim apart [ inl less ↦ omega arith | inr more ↦ omega arith ] in rw (get_or-set_other numbers page p number d other) (pages p d short)
+    ]
+
+-- at first they are all 0
+pub ArePages-zeros : (bits count : ℕ) (ends : List ℕ) → ArePages bits (replicate count 0) ends
+ArePages-zeros bits count ends page d within =
+    let short : page < count = subst (λ n. page < n) (length-replicate count 0) within in
+    rw (get_or-replicate count page 0 d short) (omega arith)
+
+pub ord_max_le : (a b k : ℕ) → a ≤ k → b ≤ k → ord_max nat_cmp a b ≤ k
+ord_max_le a b k h l = elim (cases_order a b) [
+  | inl same ↦ grind (arith, nat_tests)
+  | inr apart ↦ elim apart [ inl less ↦ grind (arith, nat_tests) | inr more ↦ grind (arith, nat_tests) ]
+]
+
+-- what is below a page is below the next
+pub below_next : (bits page : ℕ) (ends : List ℕ) → below (page * 2 ^ bits) ends ≤ below ((page + 1) * 2 ^ bits) ends
+below_next bits page ends = below-more (page * 2 ^ bits) ((page + 1) * 2 ^ bits) ends (mul-le-mul_right (2 ^ bits) (omega arith))
+
+-- one end more, by its test as a number
+pub below-one : (end e : ℕ) (ends : List ℕ) (one : ℕ) → one ≡ from_bool (nat_lt e end) → below end (e ∷ ends) ≡ one + below end ends
+below-one end e ends one is = is_one (by_test (nat_lt e end) (λ t. rw t (omega arith)) (λ t. rw t (omega arith))) where
+  is_one : below end (e ∷ ends) ≡ from_bool (nat_lt e end) + below end ends → below end (e ∷ ends) ≡ one + below end ends
+  is_one step = step ∙ ap (λ z. z + below end ends) (sym is)
+
+-- an index is made of ends and the numbers of pages
+pub IsIndex-written : {V : Type 0} (es : List (RangeEntry V)) (ends numbers index : List ℕ) (bits : ℕ) → ends ≡ map end_of es → ArePages bits numbers (map end_of es) → bits < 16 → index ≡ ends ++ numbers → IsIndex es index bits
+IsIndex-written es ends numbers index bits same pages small whole =
+    let size : length ends ≡ length es = ap length same ∙ length-map es end_of in
+    let all : length index ≡ length ends + length numbers = ap length whole ∙ length-append ends numbers in
+    let front : take (length es) index ≡ map end_of es = ap (take (length es)) whole ∙ ap (λ n. take n (ends ++ numbers)) (sym size) ∙ take-append_seam ends numbers ∙ same in
+    let back : drop (length es) index ≡ numbers = ap (drop (length es)) whole ∙ drop_at ends numbers (length es) size in
+    record { long = omega arith; ends = front; pages = rw back pages; small = small }
+
+-- it is one of other entries that have the same ends
+pub IsIndex-same : {V : Type 0} (es others : List (RangeEntry V)) (index : List ℕ) (bits : ℕ) → map end_of others ≡ map end_of es → IsIndex es index bits → IsIndex others index bits
+IsIndex-same es others index bits same is =
+    IsIndex-written others (take (length es) index) (drop (length es) index) index bits (is.ends ∙ sym same) (rw same is.pages) is.small (sym (take-append-drop (length es) index))
+
+-- and with an end put in it is that of the entries with one more
+pub IsIndex-insert : {V : Type 0} (es : List (RangeEntry V)) (index : List ℕ) (bits place start end : ℕ) (value : V) → place ≤ length es → IsIndex es index bits → IsIndex (insert es place (start, end, value)) (insert index place end) bits
+IsIndex-insert es index bits place start end value within is =
+    let n = length es in
+    let room : place ≤ length (take n index) = rw (length-take-le n index is.long) within in
+    let ends : insert (take n index) place end ≡ map end_of (insert es place (start, end, value)) = ap (λ z. insert z place end) is.ends ∙ ends-insert es place start end value in
+    let pages : ArePages bits (drop n index) (map end_of (insert es place (start, end, value))) = λ page d w. (
+    let old = is.pages page d w in
+    let more = below-insert (page * 2 ^ bits) (map end_of es) place end in
+    let same = ap (below (page * 2 ^ bits)) (ends-insert es place start end value) in
+    omega arith
+    ) in
+    IsIndex-written (insert es place (start, end, value)) (insert (take n index) place end) (drop n index) (insert index place end) bits ends pages is.small
+    (ap (λ z. insert z place end) (sym (take-append-drop n index)) ∙ insert-append_left (take n index) (drop n index) place end room)
+
+-- what a search sees of an index, and the place that it finds
+seen_ends : {V : Type 0} (es : List (RangeEntry V)) (index seen : List ℕ) (bits count : ℕ) → IsIndex es index bits → seen ≡ index → count ≡ length es → take count seen ≡ map end_of es
+seen_ends es index seen bits count is same size = ap (take count) same ∙ ap (λ n. take n index) size ∙ is.ends
+
+pub seen_long : {V : Type 0} (es : List (RangeEntry V)) (index seen : List ℕ) (bits count : ℕ) → IsIndex es index bits → seen ≡ index → count ≡ length es → count ≤ length seen
+seen_long es index seen bits count is same size = rw (size, same) is.long
+
+pub seen_rises : {V : Type 0} (es : List (RangeEntry V)) (index seen : List ℕ) (bits count : ℕ) → Ascends es → IsIndex es index bits → seen ≡ index → count ≡ length es → IsNonDecreasing (take count seen)
+seen_rises es index seen bits count ascends is same size = ends_seen_rise es (take count seen) ascends (seen_ends es index seen bits count is same size)
+
+pub seen_pages : {V : Type 0} (es : List (RangeEntry V)) (index seen : List ℕ) (bits count : ℕ) → IsIndex es index bits → seen ≡ index → count ≡ length es → ArePages bits (drop count seen) (take count seen)
+seen_pages es index seen bits count is same size = rw (seen_ends es index seen bits count is same size, size, same) is.pages
+
+pub place_seen : {V : Type 0} (es : List (RangeEntry V)) (index seen : List ℕ) (bits count end place : ℕ) → IsIndex es index bits → seen ≡ index → count ≡ length es → place ≡ below end (take count seen) → place ≡ place_in es end
+place_seen es index seen bits count end place is same size found = place_found es (take count seen) end place found (seen_ends es index seen bits count is same size)

@@ -1,0 +1,474 @@
+ghost use Rattle.std.specs.Prelude.{◌≡◌, ◌<◌, ◌≤◌, ◌+◌, ℕ, nat_lt, List, [], length, map, filter, take, drop, slice_get, IsOk, IfOk, OnOk, OnErr, MatchOption};
+ghost use Rattle.std.specs.List.{AllZip};
+ghost use Rattle.std.specs.List.Sorted.{IsNonDecreasing};
+ghost use Rattle.std.specs.Vec.{vec_capacity};
+ghost use Rattle.std.specs.Slice.Iter.{iter_rest};
+ghost use Rattle.std.specs.Iterator.{YieldsFirstBy, YieldsFirstRef, item_count};
+ghost use Rattle.cluster_map.specs.RangeIndex.{ArePages, IsIndex};
+ghost use Rattle.cluster_map.specs.RangeMap.{RangeEntry, end_of, ends_at, value_of, Ascends, IsAnswerAt, IsUncovered, AreDisjoint, IsEntryClone, IsHeldByNone, IsHeldWith, insert_entries, insert_entry};
+
+use std::alloc::{AllocError, Global};
+use std::marker::Model;
+use std::{fmt, slice};
+
+/// Values for ranges of slots, of which each has an end of its own.
+///
+/// The range that ends first at a slot or after it is the one that holds for the slot, if it
+/// starts there or before. So a range that overlaps another, or is reversed, can hide the other.
+#[derive(Drop)]
+pub struct SlotRangeMap<V> {
+    // (start, end, value), by ascending end
+    ranges: Vec<(u16, u16, V)>,
+    // Their ends once more, side by side, so that a search reads few lines of memory. Then, where
+    // there are many, a number for each page of slots: so many ends or more are below its first one.
+    index: Vec<u16>,
+    // A page has two to the power of this slots.
+    page_bits: u32,
+}
+
+impl<V> Model for SlotRangeMap<V> {
+    ghost use Rattle.std.specs.Prelude.{List};
+    ghost use Rattle.cluster_map.specs.RangeMap.{RangeEntry, Ascends};
+    ghost use Rattle.cluster_map.specs.RangeIndex.{IsIndex};
+
+    ghost Value = { List (RangeEntry V) };
+
+    ghost view = { λ m. m.ranges.items };
+
+    ghost invariant = { λ m. Ascends m.ranges.items
+        × IsIndex m.ranges.items m.index.items m.page_bits };
+}
+
+/// Whether there is an end at the place, below this one.
+fn is_below(ends: &[u16], place: usize, end: u16) -> bool
+    requires { IsNonDecreasing ends.now }
+    ensures { result ≡ nat_lt place (length (filter (λ e. nat_lt e end) ends.now)) }
+{
+    place < ends.len() && ends[place] < end
+}
+
+/// How many of the ends are below this one.
+///
+/// Each step looks at three ends, which cut what is left into four parts, and counts those below. A
+/// branch at each of them would be guessed wrong half of the time.
+fn place_of(ends: &[u16], end: u16) -> usize
+    requires { IsNonDecreasing ends.now }
+    ensures place { result ≡ length (filter (λ e. nat_lt e end) ends.now) }
+    ensures bound { result ≤ length ends.now }
+{
+    let mut place = 0;
+    let mut left = ends.len();
+    while left > 0 {
+        let part = left / 4 + 1;
+        let below = usize::from(is_below(ends, place + part - 1, end))
+            + usize::from(is_below(ends, place + 2 * part - 1, end))
+            + usize::from(is_below(ends, place + 3 * part - 1, end));
+        place += part * below;
+        left /= 4;
+    }
+    place
+}
+
+/// How many ends are compared at once.
+const LANES: usize = 16;
+
+/// How many of `LANES` ends are below this one.
+fn count_below(ends: &[u16], end: u16) -> usize
+    requires { length ends.now ≡ 16 }
+    ensures { result ≡ length (filter (λ e. nat_lt e end) ends.now) }
+{
+    let mut below: u16 = 0;
+    for other in ends {
+        below += u16::from(*other < end);
+    }
+    usize::from(below)
+}
+
+/// How many of the ends are below this one, where it is known that so many are or more. Where they
+/// are few more, none is looked at but `LANES` of them.
+fn place_from(ends: &[u16], known: usize, end: u16) -> usize
+    requires rises { IsNonDecreasing ends.now }
+    requires known { known ≤ length (filter (λ e. nat_lt e end) ends.now) }
+    ensures place { result ≡ length (filter (λ e. nat_lt e end) ends.now) }
+    ensures bound { result ≤ length ends.now }
+{
+    if ends.len() >= LANES {
+        let first = known.min(ends.len() - LANES);
+        let below = count_below(&ends[first..first + LANES], end);
+        if below < LANES {
+            return first + below;
+        }
+    }
+    place_of(ends, end)
+}
+
+/// How many of the ends in an index of so many ranges are below this one.
+fn place_in(index: &[u16], count: usize, page_bits: u32, end: u16) -> usize
+    requires long { count ≤ length index.now }
+    requires bits { page_bits < 16 }
+    requires rises { IsNonDecreasing (take count index.now) }
+    requires pages { ArePages page_bits (drop count index.now) (take count index.now) }
+    ensures place { result ≡ length (filter (λ e. nat_lt e end) (take count index.now)) }
+    ensures bound { result ≤ count }
+{
+    let (ends, pages) = index.split_at(count);
+    let known = match pages.get(usize::from(end >> page_bits)) {
+        Some(number) => usize::from(*number),
+        None => 0,
+    };
+    place_from(ends, known, end)
+}
+
+/// Whether there is a range at the place that has this end.
+fn ends_at<V>(ranges: &[(u16, u16, V)], place: usize, end: u16) -> bool
+    ensures { result ≡ ends_at end (slice_get ranges.now place) }
+{
+    match ranges.get(place) {
+        Some(range) => range.1 == end,
+        None => false,
+    }
+}
+
+impl<V> SlotRangeMap<V> {
+    /// A map of no range. Takes no memory.
+    pub fn new(alloc: Global) -> Self
+        ensures { result ≡ [] }
+    {
+        SlotRangeMap {
+            ranges: Vec::new(alloc),
+            index: Vec::new(alloc),
+            page_bits: 0,
+        }
+    }
+
+    /// The same as `new`.
+    pub fn default(alloc: Global) -> Self
+        ensures { result ≡ [] }
+    {
+        SlotRangeMap::new(alloc)
+    }
+
+    /// Puts in a range, both ends included, in place of the one with the same end. It is found in
+    /// O(log n), and a range that is new moves those that end after it. So n ranges put in one by
+    /// one take O(n) where they ascend and O(n²) where they descend: `extend` is for many.
+    ///
+    /// # Errors
+    ///
+    /// If memory runs out, the map stays as it was.
+    pub fn insert(&mut self, start: u16, end: u16, value: V) -> Result<(), AllocError>
+    where
+        V: Drop,
+        ensures put { OnOk result (self.new ≡ insert_entry self.old start end value) }
+        ensures unchanged { OnErr result (self.new ≡ self.old) }
+    {
+        let place = place_in(&self.index, self.ranges.len(), self.page_bits, end);
+        if ends_at(self.ranges.as_slice(), place, end) {
+            self.ranges[place] = (start, end, value);
+        } else {
+            self.index.reserve(1)?;
+            self.ranges.insert(place, (start, end, value))?;
+            self.index.insert(place, end)?;
+        }
+        Ok(())
+    }
+
+    /// The value of the range that holds for the slot. O(log n), and for a slot of a key in a map
+    /// that `extend` filled mostly a look at 16 ends.
+    pub fn get(&self, slot: u16) -> Option<&V>
+        ensures least { MatchOption result (IsUncovered self.now slot) (λ value. IsAnswerAt self.now
+            slot value.now) }
+        // Where no two ranges meet and none is reversed, it is the value of the one that contains
+        // the slot.
+        ensures disjoint { AreDisjoint self.now
+            → MatchOption result (IsHeldByNone self.now slot) (λ value. IsHeldWith self.now slot
+            value.now) }
+        ensures order { Ascends self.now }
+    {
+        let place = place_in(&self.index, self.ranges.len(), self.page_bits, slot);
+        let (start, _, value) = self.ranges.get(place)?;
+        (*start <= slot).then_some(value)
+    }
+
+    /// The ranges as (start, end, value), by ascending end.
+    pub fn iter(&self) -> Iter<'_, V>
+        ensures all { result ≡ self.now }
+        ensures order { Ascends self.now }
+    {
+        Iter {
+            ranges: self.ranges.iter(),
+        }
+    }
+
+    /// The values, by ascending end of their ranges.
+    pub fn values(&self) -> Values<'_, V>
+        ensures all { result ≡ map value_of self.now }
+        ensures order { Ascends self.now }
+    {
+        let ranges = self.ranges.iter();
+        Values { ranges }
+    }
+
+    /// Takes all ranges out.
+    pub fn clear(&mut self)
+    where
+        V: Drop,
+        ensures empty { self.new ≡ [] }
+    {
+        self.ranges.clear();
+        self.index.clear();
+    }
+}
+
+impl<V: Drop> SlotRangeMap<V> {
+    /// Puts ranges in, one after the other: each takes the place of an earlier one that has the
+    /// same end. O(n log n) in all ranges, and O(n) where they ascend by end.
+    ///
+    /// # Errors
+    ///
+    /// If memory runs out, the map stays as it was.
+    pub fn extend(&mut self, ranges: Vec<(u16, u16, V)>) -> Result<(), AllocError>
+        ensures put { OnOk result (self.new ≡ insert_entries self.old ranges.items) }
+        ensures unchanged { OnErr result (self.new ≡ self.old) }
+    {
+        let mut ranges = ranges;
+        if self.ranges.is_empty() {
+            let page_bits = put_in_order(&mut ranges, &mut self.index)?;
+            self.ranges = ranges;
+            self.page_bits = page_bits;
+            return Ok(());
+        }
+        let count = self.ranges.len();
+        self.ranges.append(&mut ranges)?;
+        match put_in_order(&mut self.ranges, &mut self.index) {
+            Ok(page_bits) => {
+                self.page_bits = page_bits;
+                Ok(())
+            }
+            Err(error) => {
+                self.ranges.truncate(count);
+                Err(error)
+            }
+        }
+    }
+}
+
+/// Sorts the ranges by ascending end, keeps the last of those that have one end, and writes their
+/// index in place of the one that is there. Gives how many bits of a slot its page leaves out.
+fn put_in_order<V: Drop>(
+    ranges: &mut Vec<(u16, u16, V)>,
+    index: &mut Vec<u16>,
+) -> Result<u32, AllocError>
+    ensures put { OnOk result (ranges.new.items ≡ insert_entries [] ranges.old.items) }
+    ensures index { IfOk result (λ bits. IsIndex ranges.new.items index.new.items bits) }
+    ensures unchanged { OnErr result
+        ((ranges.new.items ≡ ranges.old.items) × (index.new.items ≡ index.old.items)) }
+{
+    let page_bits = page_bits_for(ranges.len());
+    let pages = PAGED_SLOTS >> page_bits;
+    // Once the ranges are sorted, nothing may be refused.
+    index.reserve((ranges.len() + pages).saturating_sub(index.len()))?;
+    sort_by_end(ranges)?;
+    write_index(ranges.as_slice(), pages, page_bits, index)?;
+    Ok(page_bits)
+}
+
+/// How many slots pages are for: all that keys have.
+const PAGED_SLOTS: usize = 16384;
+
+/// How many bits of a slot its page leaves out, for so many ranges: a page for four of them, and no
+/// more than 1024. For up to 16 ranges there is no page.
+fn page_bits_for(count: usize) -> u32
+    ensures { result < 16 }
+{
+    if count <= LANES {
+        return 15;
+    }
+    15u32.saturating_sub(count.ilog2()).max(4)
+}
+
+/// Writes the index of the ranges, with so many pages, in place of the one that is there.
+fn write_index<V>(
+    ranges: &[(u16, u16, V)],
+    pages: usize,
+    page_bits: u32,
+    index: &mut Vec<u16>,
+) -> Result<(), AllocError>
+    requires bits { page_bits < 16 }
+    requires short { pages ≤ 16384 }
+    requires ascends { Ascends ranges.now }
+    ensures written { OnOk result (IsIndex ranges.now index.new.items page_bits) }
+    ensures succeeds { length ranges.now + pages ≤ vec_capacity index.old → IsOk result }
+{
+    index.clear();
+    index.resize(ranges.len() + pages, 0)?;
+    let (ends, numbers) = index.split_at_mut(ranges.len());
+    note_ends(ranges, page_bits, ends, numbers);
+    raise_to_earlier(numbers);
+    Ok(())
+}
+
+/// Writes the ends of the ranges, and to the page after that of an end how many ends there are up
+/// to it. A number that loses its top bit only makes a look-up longer.
+fn note_ends<V>(ranges: &[(u16, u16, V)], page_bits: u32, ends: &mut [u16], numbers: &mut [u16])
+    requires bits { page_bits < 16 }
+    requires ascends { Ascends ranges.now }
+    requires room { length ends.old ≡ length ranges.now }
+    requires pages { ArePages page_bits numbers.old (map end_of ranges.now) }
+    ensures ends { ends.new ≡ map end_of ranges.now }
+    ensures pages { ArePages page_bits numbers.new (map end_of ranges.now) }
+{
+    for place in 0..ranges.len() {
+        let end = ranges[place].1;
+        ends[place] = end;
+        let page = usize::from(end >> page_bits) + 1;
+        if page < numbers.len() {
+            numbers[page] = ((place + 1) % 65536) as u16;
+        }
+    }
+}
+
+/// Raises each number to the greatest before it: what is below a page is below those after it.
+fn raise_to_earlier(numbers: &mut [u16])
+    ensures { (bits : ℕ) (ends : List ℕ) → ArePages bits numbers.old ends
+        → ArePages bits numbers.new ends }
+{
+    let mut most = 0;
+    for page in 0..numbers.len() {
+        most = most.max(numbers[page]);
+        numbers[page] = most;
+    }
+}
+
+/// Sorts the ranges by ascending end, and keeps the last of those that have one end.
+fn sort_by_end<V: Drop>(ranges: &mut Vec<(u16, u16, V)>) -> Result<(), AllocError>
+    ensures put { OnOk result (ranges.new.items ≡ insert_entries [] ranges.old.items) }
+    ensures unchanged { OnErr result (ranges.new.items ≡ ranges.old.items) }
+{
+    if ranges.is_sorted_by(|range, next| range.1 < next.1) {
+        return Ok(());
+    }
+    // `dedup_by_key` keeps the first of equal ends, so the last is to come first.
+    ranges.reverse();
+    if let Err(error) = ranges.sort_by_key(|range| range.1) {
+        ranges.reverse();
+        return Err(error);
+    }
+    ranges.dedup_by_key(|range| range.1);
+    Ok(())
+}
+
+/// A clone has the ranges of its source, each with a clone of its value.
+impl<V: Clone> Clone for SlotRangeMap<V> {
+    ghost is_clone = { AllZip (IsEntryClone V.is_clone) };
+
+    fn clone(&self) -> Result<Self, AllocError>
+        ensures entries { IfOk result (AllZip (IsEntryClone V.is_clone) self.now) }
+        // Where clones of values equal them, so do clones of maps.
+        ensures same { IfOk result
+            (λ copy. ((v w : V) → V.is_clone v w → w ≡ v) → copy ≡ self.now) }
+    {
+        Ok(SlotRangeMap {
+            index: self.index.clone()?,
+            ranges: self.ranges.clone()?,
+            page_bits: self.page_bits,
+        })
+    }
+}
+
+/// Prints the ranges as a map does, from their ends.
+impl<V: fmt::Debug> fmt::Debug for SlotRangeMap<V> {
+    fn fmt<W: fmt::Write>(&self, f: &mut fmt::Formatter<W>) -> fmt::Result {
+        let ranges = ByEnd {
+            ranges: self.ranges.as_slice(),
+        };
+        f.debug_struct("SlotRangeMap")
+            .field("ranges", &ranges)
+            .finish()
+    }
+}
+
+/// Ranges that print as a map from their ends.
+#[derive(Drop)]
+struct ByEnd<'a, V> {
+    ranges: &'a [(u16, u16, V)],
+}
+
+impl<V: fmt::Debug> fmt::Debug for ByEnd<'_, V> {
+    fn fmt<W: fmt::Write>(&self, f: &mut fmt::Formatter<W>) -> fmt::Result {
+        let entries = self
+            .ranges
+            .iter()
+            .map(|(start, end, value)| (end, (start, value)));
+        f.debug_map().entries(entries).finish()
+    }
+}
+
+/// The ranges of a `SlotRangeMap` as (start, end, value), by ascending end.
+#[derive(Drop)]
+pub struct Iter<'a, V> {
+    ranges: slice::Iter<'a, (u16, u16, V)>,
+}
+
+impl<'a, V> Model for Iter<'a, V> {
+    ghost use Rattle.std.specs.Prelude.{List};
+    ghost use Rattle.std.specs.Slice.Iter.{iter_rest};
+    ghost use Rattle.cluster_map.specs.RangeMap.{RangeEntry};
+
+    ghost Value = { List (RangeEntry V) };
+
+    ghost view = { λ s. iter_rest s.ranges };
+}
+
+impl<'a, V> Iterator for Iter<'a, V> {
+    type Item = (u16, u16, &'a V);
+
+    ghost next_gives = { YieldsFirstBy (λ e. (e.0, e.1, e.2.now)) (λ s. s) };
+
+    ghost remaining = { item_count (λ s. s) };
+
+    fn next(&mut self) -> Option<(u16, u16, &'a V)> {
+        let (start, end, value) = self.ranges.next()?;
+        Some((*start, *end, value))
+    }
+}
+
+/// The values of a `SlotRangeMap`, by ascending end of their ranges.
+#[derive(Drop)]
+pub struct Values<'a, V> {
+    ranges: slice::Iter<'a, (u16, u16, V)>,
+}
+
+impl<'a, V> Model for Values<'a, V> {
+    ghost use Rattle.std.specs.Prelude.{List, map};
+    ghost use Rattle.std.specs.Slice.Iter.{iter_rest};
+    ghost use Rattle.cluster_map.specs.RangeMap.{value_of};
+
+    ghost Value = { List V };
+
+    ghost view = { λ s. map value_of (iter_rest s.ranges) };
+}
+
+impl<'a, V> Iterator for Values<'a, V> {
+    type Item = &'a V;
+
+    ghost next_gives = { YieldsFirstRef (λ s. s) };
+
+    ghost remaining = { item_count (λ s. s) };
+
+    fn next(&mut self) -> Option<&'a V> {
+        let (_, _, value) = self.ranges.next()?;
+        Some(value)
+    }
+}
+
+impl<'a, V> IntoIterator for &'a SlotRangeMap<V> {
+    type Item = (u16, u16, &'a V);
+
+    type IntoIter = Iter<'a, V>;
+
+    ghost into_iter_gives = { λ m it. (it ≡ m.now) × Ascends m.now };
+
+    fn into_iter(self) -> Iter<'a, V> {
+        self.iter()
+    }
+}

@@ -1,4 +1,0 @@
-pub mod Elements
-pub mod Filling
-pub mod Members
-pub mod OneShard

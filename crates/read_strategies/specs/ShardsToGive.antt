@@ -1,8 +1,0 @@
--- What an iterator over shards has still to give.
-use Rattle.std.specs.Prelude.{List}
-use Rattle.read_strategies.specs.Shards.{ShardNodes}
-use Rattle.read_strategies.specs.Topology.{at_places}
-use Rattle.read_strategies.specs.declared.read_routing.shards.Shards.{Shards}
-
-abbrev pub shards_to_give : Shards → List ShardNodes
-shards_to_give it = at_places it.shards.now it.order.now

@@ -1,0 +1,100 @@
+-- A command with gaps is the same command as its front.
+use Rattle.std.proofs.Common.{◌≡◌, ℕ, List, [], ◌∷◌, ◌++◌, Bool, cond, Option, None, Some, refl, sym, ap, ◌∙◌, map, take, length}
+use Rattle.redis_routing.specs.Command.{Arguments, command_name}
+use Rattle.redis_routing.specs.Names.{Names}
+use Rattle.redis_routing.specs.NameWords.{name_words_of}
+use Rattle.redis_routing.specs.Registry.{tables_with}
+use Rattle.redis_routing.specs.TwoWords.{takes_second}
+use Rattle.redis_routing.specs.Upper.{upper}
+use Rattle.resp_core.proofs.Cases.{by_test}
+use Rattle.redis_routing.specs.PresentArguments.{arguments_before_gap, present_arguments, present_arguments_after}
+use Rattle.redis_routing.specs.Tuples.{is_complete}
+use Rattle.redis_routing.specs.declared.route_by.MultiSlotArgPattern.{MultiSlotArgPattern}
+use Rattle.redis_routing.specs.declared.route_by.RouteBy.{RouteBy}
+use Rattle.redis_routing.specs.declared.route_by.RouteBy.TheVariants as route_by
+use Rattle.redis_routing.specs.Complete.{pattern_by_name, part_by_pattern, routes_by, routes_by_name}
+use Rattle.redis_routing.specs.Parts.{arguments_in_slot}
+use Rattle.redis_routing.specs.Routing.{routes_of}
+use Rattle.redis_routing.specs.Split.{policy_by_name}
+use Rattle.redis_routing.proofs.SelfRouting.{arguments_before_gap-map}
+use Rattle.redis_cluster.specs.Front.{front, IsSameCommand}
+use Rattle.redis_cluster.specs.MultiKey.{command_with, form_of_policy}
+
+-- the front has the words of the name, and what is present after them
+record IsFront (args : Arguments) : Type 0 where
+  name : command_name (front args) ≡ command_name args
+  words : name_words_of (front args) ≡ name_words_of args
+  first : take (name_words_of args) (front args) ≡ take (name_words_of args) args
+  present : present_arguments (front args) ≡ present_arguments args
+
+-- the front of a name of so many words
+abbrev front_at : ℕ → Arguments → Arguments
+front_at words args = take words args ++ map Some (present_arguments_after words args)
+
+-- of a command whose first two arguments are there
+module _ (first second : List ℕ) (rest : Arguments) where
+  abbrev whole : Arguments
+  whole = Some first ∷ Some second ∷ rest
+
+  abbrev kept : Arguments
+  kept = Some first ∷ Some second ∷ map Some (arguments_before_gap rest)
+
+  front_of_words : (words : ℕ) → name_words_of whole ≡ words → front_at words whole ≡ kept → take words kept ≡ take words whole → present_arguments_after words kept ≡ present_arguments_after words whole → IsFront whole
+  front_of_words words count is first present =
+      let front_is : front whole ≡ kept = ap (λ n. front_at n whole) count ∙ is in
+      record {
+        name = ap command_name front_is;
+        words = ap name_words_of front_is;
+        first = ap (take (name_words_of whole)) front_is ∙ ap (λ n. take n kept) count ∙ first ∙ sym (ap (λ n. take n whole) count);
+        present = ap present_arguments front_is ∙ ap (λ n. present_arguments_after n kept) count ∙ present ∙ sym (ap (λ n. present_arguments_after n whole) count);
+      }
+
+  front_of_two : IsFront whole
+  front_of_two =
+      let same : arguments_before_gap (map Some (arguments_before_gap rest)) ≡ arguments_before_gap rest = arguments_before_gap-map (arguments_before_gap rest) in
+      by_test (takes_second (upper first))
+      (λ takes. front_of_words 2 (rw takes refl) refl refl same)
+      (λ alone. front_of_words 1 (rw alone refl) refl refl (ap (λ texts. second ∷ texts) same))
+
+is_front : (args : Arguments) → IsFront args
+is_front [] = record { name = refl; words = refl; first = refl; present = refl }
+is_front (None ∷ rest) = record { name = refl; words = refl; first = refl; present = arguments_before_gap-map (arguments_before_gap rest) }
+is_front (Some first ∷ []) = record { name = refl; words = refl; first = refl; present = refl }
+is_front (Some first ∷ None ∷ rest) = record { name = refl; words = refl; first = refl; present = refl }
+is_front (Some first ∷ Some second ∷ rest) = front_of_two first second rest
+
+module _ (args : Arguments) where
+  same : IsFront args
+  same = is_front args
+
+  routed_same : (reads : Bool) (way : Option RouteBy) → routes_by reads (front args) way ≡ routes_by reads args way
+  routed_same reads None = refl
+  routed_same reads (Some route_by.AllNodes) = refl
+  routed_same reads (Some route_by.AllMasters) = refl
+  routed_same reads (Some (route_by.MultiSlot pattern)) = ap (λ present. cond (is_complete pattern (length present)) (Some (routes_of reads pattern present)) None) same.present
+  routed_same reads (Some route_by.Undefined) = refl
+  routed_same reads (Some (route_by.CountAt n)) = refl
+  routed_same reads (Some (route_by.KeyAt n)) = refl
+  routed_same reads (Some route_by.KeyAfterStreams) = refl
+  routed_same reads (Some route_by.Random) = refl
+  routed_same reads (Some (route_by.SlotAt n)) = refl
+
+  named_same : (names : Names) (name : Option (List ℕ)) → routes_by_name names (front args) name ≡ routes_by_name names args name
+  named_same names None = refl
+  named_same names (Some name) = routed_same (names.only_reads name) ((tables_with names.registered).route_by name)
+
+  part_same : (slot : ℕ) (pattern : Option MultiSlotArgPattern) → part_by_pattern pattern (front args) slot ≡ part_by_pattern pattern args slot
+  part_same slot None = refl
+  part_same slot (Some pattern) =
+      ap (λ words. take words (front args) ++ map Some (arguments_in_slot pattern (present_arguments (front args)) slot)) same.words
+      ∙ ap (λ words. words ++ map Some (arguments_in_slot pattern (present_arguments (front args)) slot)) same.first
+      ∙ ap (λ present. take (name_words_of args) args ++ map Some (arguments_in_slot pattern present slot)) same.present
+
+  pub same_command : IsSameCommand args (front args)
+  same_command =
+      record {
+        command = λ registry. ap (λ name. command_with registry name (present_arguments (front args)) (pattern_by_name registry name) (form_of_policy (policy_by_name registry name))) same.name
+            ∙ ap (λ present. command_with registry (command_name args) present (pattern_by_name registry (command_name args)) (form_of_policy (policy_by_name registry (command_name args)))) same.present;
+        routes = λ names. ap (routes_by_name names (front args)) same.name ∙ named_same names (command_name args);
+        part = λ registry slot. ap (λ name. part_by_pattern (pattern_by_name registry name) (front args) slot) same.name ∙ part_same slot (pattern_by_name registry (command_name args));
+      }

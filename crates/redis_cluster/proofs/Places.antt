@@ -1,0 +1,137 @@
+-- The tuples of a slot by their numbers, counted from 0: which results are theirs, and that each number is one of its own slot alone.
+use Rattle.std.proofs.Common.{◌≡◌, ℕ, zero, suc, ◌+◌, ◌<◌, List, [], ◌∷◌, ◌++◌, true, false, cond, Some, Less, refl, sym, ap, subst, ◌∙◌, arith, length, get_or}
+use Rattle.std.specs.Prelude.{nat_eq, nat_lt, slice_get}
+use Rattle.std.specs.List.{AllByRecursion}
+use Rattle.std.specs.List.Sorted.{IsStrictlySortedBy}
+use Rattle.std.specs.Ordering.{nat_cmp}
+use Rattle.std.specs.Option.{option_to_list}
+use Rattle.std.proofs.lemmas.Bool.Decides.{nat_tests}
+use Rattle.cluster_slots.specs.KeySlot.{key_slot}
+use Rattle.resp_core.proofs.Cases.{by_test}
+use Rattle.redis_cluster.specs.MultiKey.{KeyTuple, tuples_of_slot}
+use Rattle.redis_cluster.specs.Unsplit.{TupleResult}
+use Rattle.redis_cluster.specs.Orders.{times, in_order}
+use Rattle.redis_cluster.specs.SlotResults.{results_of_slot}
+use Rattle.redis_cluster.proofs.Counts.{times_here, times_there}
+
+-- the numbers of the tuples whose key has the slot, where the first tuple has this number
+abbrev pub numbers_from : ℕ → ℕ → List KeyTuple → List ℕ
+numbers_from slot number [] = []
+numbers_from slot number (t ∷ ts) = cond (nat_eq (key_slot t.key) slot) (number ∷ numbers_from slot (number + 1) ts) (numbers_from slot (number + 1) ts)
+
+-- the numbers of a slot's tuples
+abbrev pub numbers_of_slot : ℕ → List KeyTuple → List ℕ
+numbers_of_slot slot ts = numbers_from slot 0 ts
+
+-- the slot of a tuple by its number
+abbrev pub slot_at : List KeyTuple → ℕ → KeyTuple → ℕ
+slot_at ts k d = key_slot (get_or ts k d).key
+
+-- an element at the first place comes first
+taken_here : {X : Type 0} (all : List X) (n : ℕ) (x : X) (rest : List ℕ) → slice_get all n ≡ Some x → in_order all (n ∷ rest) ≡ x ∷ in_order all rest
+taken_here all n x rest is = ap (λ o. option_to_list o ++ in_order all rest) is
+
+-- the results of a slot, where the first is number n of all
+results_of_slot_from : (all rs : List TupleResult) (n slot : ℕ) (ts : List KeyTuple) → length rs ≡ length ts
+    → ((k : ℕ) → slice_get all (n + k) ≡ slice_get rs k) → results_of_slot slot ts rs ≡ in_order all (numbers_from slot n ts)
+results_of_slot_from all rs n slot [] l at = refl
+results_of_slot_from all [] n slot (t ∷ ts) l at = absurd (omega arith)
+results_of_slot_from all (r ∷ rs) n slot (t ∷ ts) l at =
+    let first : slice_get all n ≡ Some r = ap (slice_get all) (omega arith) ∙ at 0 in
+    let rest : results_of_slot slot ts rs ≡ in_order all (numbers_from slot (n + 1) ts) = results_of_slot_from all rs (n + 1) slot ts (omega arith) (λ k. ap (slice_get all) (omega arith) ∙ at (suc k)) in
+    by_test (nat_eq (key_slot t.key) slot)
+    (λ here. rw here (ap (λ xs. r ∷ xs) rest ∙ sym (taken_here all n r (numbers_from slot (n + 1) ts) first)))
+    (λ there. rw there rest)
+
+-- The results of a slot are those at the numbers of its tuples.
+pub results_of_slot_is : (slot : ℕ) (ts : List KeyTuple) (rs : List TupleResult) → length rs ≡ length ts → results_of_slot slot ts rs ≡ in_order rs (numbers_of_slot slot ts)
+results_of_slot_is slot ts rs l = results_of_slot_from rs rs 0 slot ts l (λ k. ap (slice_get rs) (omega arith))
+
+-- the tuples of a slot, where the first is number n of all
+part_from : (all : List KeyTuple) (n slot : ℕ) (ts : List KeyTuple) → ((k : ℕ) → slice_get all (n + k) ≡ slice_get ts k)
+    → tuples_of_slot slot ts ≡ in_order all (numbers_from slot n ts)
+part_from all n slot [] at = refl
+part_from all n slot (t ∷ ts) at =
+    let first : slice_get all n ≡ Some t = ap (slice_get all) (omega arith) ∙ at 0 in
+    let rest : tuples_of_slot slot ts ≡ in_order all (numbers_from slot (n + 1) ts) = part_from all (n + 1) slot ts (λ k. ap (slice_get all) (omega arith) ∙ at (suc k)) in
+    by_test (nat_eq (key_slot t.key) slot)
+    (λ here. rw here (ap (λ xs. t ∷ xs) rest ∙ sym (taken_here all n t (numbers_from slot (n + 1) ts) first)))
+    (λ there. rw there rest)
+
+-- The tuples of a slot are those at its numbers.
+pub part_is : (slot : ℕ) (ts : List KeyTuple) → tuples_of_slot slot ts ≡ in_order ts (numbers_of_slot slot ts)
+part_is slot ts = part_from ts 0 slot ts (λ k. ap (slice_get ts) (omega arith))
+
+-- as many numbers are counted on as the slot has tuples
+length-numbers : (n slot : ℕ) (ts : List KeyTuple) → length (numbers_from slot n ts) ≡ length (tuples_of_slot slot ts)
+length-numbers n slot [] = refl
+length-numbers n slot (t ∷ ts) =
+    by_test (nat_eq (key_slot t.key) slot)
+    (λ here. rw here (ap suc (length-numbers (n + 1) slot ts)))
+    (λ there. rw there (length-numbers (n + 1) slot ts))
+
+-- a slot has as many numbers as tuples
+pub length-numbers_of_slot : (slot : ℕ) (ts : List KeyTuple) → length (numbers_of_slot slot ts) ≡ length (tuples_of_slot slot ts)
+length-numbers_of_slot slot ts = length-numbers 0 slot ts
+
+-- a slot has as many results as tuples
+pub length-results_of_slot : (slot : ℕ) (ts : List KeyTuple) (rs : List TupleResult) → length rs ≡ length ts → length (results_of_slot slot ts rs) ≡ length (tuples_of_slot slot ts)
+length-results_of_slot slot [] rs l = refl
+length-results_of_slot slot (t ∷ ts) [] l = absurd (omega arith)
+length-results_of_slot slot (t ∷ ts) (r ∷ rs) l =
+    let rest = length-results_of_slot slot ts rs (omega arith) in
+    by_test (nat_eq (key_slot t.key) slot) (λ here. rw here (ap suc rest)) (λ there. rw there rest)
+
+-- numbers counted on from n lie above those below n
+above : (x n slot : ℕ) (ts : List KeyTuple) → x < n → AllByRecursion (λ y. nat_cmp x y ≡ Less) (numbers_from slot n ts)
+above x n slot [] under = tt
+above x n slot (t ∷ ts) under =
+    let less : nat_lt x n ≡ true = grind (arith, nat_tests) in
+    by_test (nat_eq (key_slot t.key) slot)
+    (λ here. rw here (rw less refl, above x (n + 1) slot ts (omega arith)))
+    (λ there. rw there (above x (n + 1) slot ts (omega arith)))
+
+-- numbers counted on ascend
+ascending : (n slot : ℕ) (ts : List KeyTuple) → IsStrictlySortedBy nat_cmp (numbers_from slot n ts)
+unfolding IsStrictlySortedBy
+ascending n slot [] = tt
+ascending n slot (t ∷ ts) =
+    by_test (nat_eq (key_slot t.key) slot)
+    (λ here. rw here (above n (n + 1) slot ts (omega arith), ascending (n + 1) slot ts))
+    (λ there. rw there (ascending (n + 1) slot ts))
+
+-- The numbers of a slot ascend.
+pub numbers_ascend : (slot : ℕ) (ts : List KeyTuple) → IsStrictlySortedBy nat_cmp (numbers_of_slot slot ts)
+numbers_ascend slot ts = ascending 0 slot ts
+
+-- a number below the first is not counted on to
+times_below : (k n slot : ℕ) (ts : List KeyTuple) → k < n → times k (numbers_from slot n ts) ≡ 0
+times_below k n slot [] l = refl
+times_below k n slot (t ∷ ts) l =
+    let rest = times_below k (n + 1) slot ts (omega arith) in
+    let other : nat_eq k n ≡ false = grind (arith, nat_tests) in
+    by_test (nat_eq (key_slot t.key) slot)
+    (λ here. rw here (times_there k n (numbers_from slot (n + 1) ts) other ∙ rest))
+    (λ there. rw there rest)
+
+-- a number that is counted on to is among them once, if the tuple has the slot
+times_from : (n k slot : ℕ) (d : KeyTuple) (ts : List KeyTuple) → k < length ts
+    → times (n + k) (numbers_from slot n ts) ≡ cond (nat_eq (slot_at ts k d) slot) 1 0
+times_from n k slot d [] l = absurd (omega arith)
+times_from n zero slot d (t ∷ ts) l =
+    let none : times (n + 0) (numbers_from slot (n + 1) ts) ≡ 0 = times_below (n + 0) (n + 1) slot ts (omega arith) in
+    let same : nat_eq (n + 0) n ≡ true = grind (arith, nat_tests) in
+    by_test (nat_eq (key_slot t.key) slot)
+    (λ here. rw here (times_here (n + 0) n (numbers_from slot (n + 1) ts) same ∙ ap (λ c. 1 + c) none))
+    (λ there. rw there none)
+times_from n (suc k) slot d (t ∷ ts) l =
+    let rest : times (n + suc k) (numbers_from slot (n + 1) ts) ≡ cond (nat_eq (slot_at ts k d) slot) 1 0 = subst (λ m. times m (numbers_from slot (n + 1) ts) ≡ cond (nat_eq (slot_at ts k d) slot) 1 0) (omega arith) (times_from (n + 1) k slot d ts (omega arith)) in
+    let other : nat_eq (n + suc k) n ≡ false = grind (arith, nat_tests) in
+    by_test (nat_eq (key_slot t.key) slot)
+    (λ here. rw here (times_there (n + suc k) n (numbers_from slot (n + 1) ts) other ∙ rest))
+    (λ there. rw there rest)
+
+-- A tuple's number stands once among those of its own slot, and never among those of another.
+pub times-numbers : (k slot : ℕ) (d : KeyTuple) (ts : List KeyTuple) → k < length ts
+    → times k (numbers_of_slot slot ts) ≡ cond (nat_eq (slot_at ts k d) slot) 1 0
+times-numbers k slot d ts l = ap (λ m. times m (numbers_of_slot slot ts)) (omega arith) ∙ times_from 0 k slot d ts l

@@ -1,0 +1,72 @@
+-- The tuples of a shape are those of the pattern with the indices of their arguments left out.
+use Rattle.std.proofs.Common.{◌≡◌, ℕ, zero, suc, ◌+◌, ◌-◌, ◌*◌, ◌/◌, ◌%◌, ◌≤◌, ◌<◌, List, [], ◌∷◌, Bool, true, Option, None, Some, map, length, take, drop, cond, refl, sym, ap, ◌∙◌, arith}
+use Rattle.std.specs.Prelude.{slice_get}
+use Rattle.std.proofs.Math.Seq.{take-length}
+use Rattle.std.specs.Simd.{first_chunks}
+use Rattle.std.proofs.lemmas.Bool.Decides.{nat_tests}
+use Rattle.redis_routing.specs.Tuples.{Tuple, is_complete, keys_alone, keys_and_values, keys_and_two, tuple_args_count, shared_in, tuples_in}
+use Rattle.redis_routing.specs.declared.route_by.MultiSlotArgPattern.{MultiSlotArgPattern}
+use Rattle.redis_routing.specs.declared.route_by.MultiSlotArgPattern.TheVariants.{KeysOnly, KeyValuePairs, KeysAndLastArg, KeyWithTwoArgTriples}
+use Rattle.redis_cluster.specs.MultiKey.{KeyTuple, is_whole, shape_of, shared_by, tuple_by, tuples_by}
+use Rattle.redis_cluster.specs.PlacedTuples.{unplaced, tuples_of}
+
+-- as many arguments are whole by the shape as are complete by the pattern
+pub whole_is : (pattern : MultiSlotArgPattern) (m : ℕ) → is_whole (shape_of pattern) m ≡ is_complete pattern m
+whole_is KeysOnly m = grind (arith, nat_tests)
+whole_is KeyValuePairs m = grind (arith, nat_tests)
+whole_is KeysAndLastArg m = grind (arith, nat_tests)
+whole_is KeyWithTwoArgTriples m = grind (arith, nat_tests)
+
+-- keys alone are pieces of one
+alone : (n place : ℕ) (xs : List (List ℕ)) → n ≤ length xs → map unplaced (keys_alone place (take n xs)) ≡ map tuple_by (first_chunks 1 n xs)
+alone zero place xs fit = refl
+alone (suc n) place [] fit = absurd (omega arith)
+alone (suc n) place (x ∷ xs) fit = ap (λ ts. record { key = x; extras = [] } ∷ ts) (alone n (place + 1) xs (omega arith))
+
+-- keys with one more argument are pieces of two
+pairs : (n place : ℕ) (xs : List (List ℕ)) → length xs ≡ n * 2 → map unplaced (keys_and_values place xs) ≡ map tuple_by (first_chunks 2 n xs)
+pairs zero place [] fit = refl
+pairs zero place (x ∷ xs) fit = absurd (omega arith)
+pairs (suc n) place [] fit = absurd (omega arith)
+pairs (suc n) place (x ∷ []) fit = absurd (omega arith)
+pairs (suc n) place (x ∷ y ∷ xs) fit = ap (λ ts. record { key = x; extras = y ∷ [] } ∷ ts) (pairs n (place + 2) xs (omega arith))
+
+-- keys with two more arguments are pieces of three
+triples : (n place : ℕ) (xs : List (List ℕ)) → length xs ≡ n * 3 → map unplaced (keys_and_two place xs) ≡ map tuple_by (first_chunks 3 n xs)
+triples zero place [] fit = refl
+triples zero place (x ∷ xs) fit = absurd (omega arith)
+triples (suc n) place [] fit = absurd (omega arith)
+triples (suc n) place (x ∷ []) fit = absurd (omega arith)
+triples (suc n) place (x ∷ y ∷ []) fit = absurd (omega arith)
+triples (suc n) place (x ∷ y ∷ z ∷ xs) fit = ap (λ ts. record { key = x; extras = y ∷ z ∷ [] } ∷ ts) (triples n (place + 3) xs (omega arith))
+
+-- without an argument in front of it the first one is the next one
+get_after : {X : Type 0} (n : ℕ) (xs : List X) → slice_get (drop n xs) 0 ≡ slice_get xs n
+get_after zero xs = refl
+get_after (suc n) [] = refl
+get_after (suc n) (x ∷ xs) = get_after n xs
+
+-- the tuples of complete arguments
+pub tuples_are_placed : (pattern : MultiSlotArgPattern) (present : List (List ℕ)) → is_complete pattern (length present) ≡ true → tuples_by (shape_of pattern) present ≡ tuples_of pattern present
+tuples_are_placed KeysOnly present complete =
+    let count : (length present - 0) / 1 ≡ length present = omega arith in
+    ap (λ n. map tuple_by (first_chunks 1 n present)) count ∙ sym (alone (length present) 0 present (omega arith))
+tuples_are_placed KeyValuePairs present complete =
+    let even : length present % 2 ≡ 0 = grind (arith, nat_tests) in
+    let all : take (length present) present ≡ present = take-length present in
+    sym (ap (λ xs. map unplaced (keys_and_values 0 xs)) all ∙ pairs ((length present - 0) / 2) 0 present (omega (arith, even)))
+tuples_are_placed KeysAndLastArg present complete =
+    let count : (length present - 1) / 1 ≡ length present - 1 = omega arith in
+    ap (λ n. map tuple_by (first_chunks 1 n present)) count
+    ∙ sym (ap (λ some. map unplaced (keys_alone 0 (take (cond some (length present - 1) (length present)) present))) complete ∙ alone (length present - 1) 0 present (omega arith))
+tuples_are_placed KeyWithTwoArgTriples present complete =
+    let third : length present % 3 ≡ 0 = grind (arith, nat_tests) in
+    let all : take (length present) present ≡ present = take-length present in
+    sym (ap (λ xs. map unplaced (keys_and_two 0 xs)) all ∙ triples ((length present - 0) / 3) 0 present (omega (arith, third)))
+
+-- and what they share
+pub shared_is : (pattern : MultiSlotArgPattern) (present : List (List ℕ)) → is_complete pattern (length present) ≡ true → shared_by (shape_of pattern) present ≡ slice_get (shared_in pattern present) 0
+shared_is KeysOnly present complete = ap (slice_get present) (omega arith) ∙ sym (get_after (length present) present)
+shared_is KeyValuePairs present complete = ap (slice_get present) (omega arith) ∙ sym (get_after (length present) present)
+shared_is KeysAndLastArg present complete = sym (ap (λ some. slice_get (drop (cond some (length present - 1) (length present)) present) 0) complete ∙ get_after (length present - 1) present)
+shared_is KeyWithTwoArgTriples present complete = ap (slice_get present) (omega arith) ∙ sym (get_after (length present) present)

@@ -1,0 +1,42 @@
+-- What a split command is by its tuples: each slot of a key has one route, whose list is the places of the slot's part.
+use Rattle.std.proofs.Common.{◌≡◌, ℕ, ◌<◌, ◌^◌, List, [], None, length, refl, sym, subst, arith}
+use Rattle.std.specs.Prelude.{All, slice_get}
+use Rattle.redis_routing.specs.PresentArguments.{present_arguments}
+use Rattle.redis_routing.specs.Tuples.{shared_in}
+use Rattle.redis_routing.specs.Split.{Split, IsSplit, slots_of}
+use Rattle.redis_cluster.specs.MultiKey.{MultiKey, list}
+use Rattle.redis_cluster.specs.PlacedTuples.{tuples_of}
+use Rattle.redis_cluster.proofs.Fold.{NamesSlots}
+use Rattle.redis_cluster.proofs.SplitParts.{AreRoutesOf, HasTuples, are_routes_of}
+use Rattle.redis_cluster.proofs.SplitPlaces.{few_present, parts_placed, places_of_part, tuples_few_present}
+use Rattle.redis_cluster.proofs.Whole.{names_slots_from}
+use Rattle.redis_cluster.specs.Plan.{tuples_in_split}
+
+-- what is known of a split by its tuples
+pub record IsSplitTo (split : Split) : Type 0 where
+  pub named : NamesSlots (slots_of split.routes) (tuples_in_split split)
+  pub placed : All (λ r. r.1 ≡ places_of_part split.pattern (tuples_in_split split) r.0.slot) split.routes
+  pub some : 0 < length split.routes
+  pub few : length (tuples_in_split split) < 2 ^ 63
+
+module _ (split : Split) (held : IsSplit split) where
+  abbrev present : List (List ℕ)
+  present = present_arguments split.arguments
+
+  -- its tuples, whatever the name is
+  abbrev command : MultiKey
+  command = record { name = []; registered = None; shared = slice_get (shared_in split.pattern present) 0; tuples = tuples_of split.pattern present; form = list }
+
+  whole : HasTuples split.pattern present command
+  whole = record { complete = held.complete; shared = refl; tuples = refl }
+
+  routes_are : AreRoutesOf command split.routes
+  routes_are = subst (AreRoutesOf command) (sym held.routes) (are_routes_of split.pattern present command whole held.is_read)
+
+  pub is_split_to : IsSplitTo split
+  is_split_to = record {
+    named = names_slots_from (slots_of split.routes) (tuples_in_split split) routes_are.once;
+    placed = subst (All (λ r. r.1 ≡ places_of_part split.pattern (tuples_in_split split) r.0.slot)) (sym held.routes) (parts_placed split.pattern present command whole held.is_read);
+    some = routes_are.some;
+    few = omega (arith, tuples_few_present split.pattern present command whole, few_present split.arguments, held.few);
+  }

@@ -1,0 +1,25 @@
+use Rattle.std.proofs.Common.{◌≡◌, ◌↔◌, ℕ, List}
+use Rattle.resp_core.specs.Reply.{Reply}
+use Rattle.redis_cluster.specs.Trace.{Ending}
+use Rattle.redis_cluster.specs.Attempts.{AreAllowed}
+use Rattle.redis_cluster.specs.Tries.{try_by}
+use Rattle.redis_cluster.proofs.Trying.{IsTrying}
+use Rattle.redis_cluster.proofs.attempts.send_with_retries.Given as goal
+
+-- what was sent so far is a beginning of the attempts, after which the retry's target comes
+abbrev pub invariant-loop-node : goal.invariant-loop-node
+invariant-loop-node g l =
+    let nodes = g.N.Nodes in
+    record {
+      tried : IsTrying (try_by l.fn.part l.fn.retry) (nodes.trace l.fn.nodes) (nodes.trace l.nodes) l.retry;
+      allowed : AreAllowed (nodes.may_refuse l.fn.nodes) (nodes.trace l.fn.nodes) (nodes.trace l.nodes);
+      kept : nodes.kept l.nodes → nodes.kept l.fn.nodes;
+      keyspace : nodes.kept l.nodes → nodes.keyspace l.nodes ≡ nodes.keyspace l.fn.nodes;
+      registered : nodes.registered l.nodes ≡ nodes.registered l.fn.nodes;
+      gave : (replies : List Reply) → nodes.gave l.fn.nodes replies → nodes.gave l.nodes replies;
+      may_refuse : (count : ℕ) (ending : Ending) → nodes.may_refuse l.nodes count ending ↔ nodes.may_refuse l.fn.nodes count ending;
+    }
+
+-- each further target leaves one target less
+abbrev pub decreases-loop-node : goal.decreases-loop-node
+decreases-loop-node g l = l.retry.left

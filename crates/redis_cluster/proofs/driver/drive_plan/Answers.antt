@@ -1,0 +1,136 @@
+use Rattle.std.proofs.Common.{◌≡◌, ◌<◌, [], true, refl, sym, subst, arith, length}
+use Rattle.std.specs.Prelude.{OnOk, IsSome}
+use Rattle.std.proofs.Common.{Result, Ok, Err, IfOk}
+use Rattle.std.proofs.lemmas.List.{append-nil}
+use Rattle.std.proofs.lemmas.List.Elements.{All-nil}
+use Rattle.std.proofs.lemmas.Result.{IfErr-weaker}
+use Rattle.redis_routing.specs.Registry.{Registrations}
+use Rattle.redis_cluster.specs.Sends.{IsPlanOf}
+use Rattle.redis_cluster.specs.Orders.{NamesOnce}
+use Rattle.redis_cluster.specs.Driven.{state}
+use Rattle.redis_cluster.specs.Faults.{unseen}
+use Rattle.redis_cluster.specs.Retry.{Attempt}
+use Rattle.redis_cluster.proofs.Ended.{ended_late, memory_is_no_reply}
+use Rattle.redis_cluster.specs.Ready.{IsPlanNode}
+use Rattle.redis_cluster.specs.declared.fault.DriveFault.TheVariants.{BadOrder, Memory}
+use Rattle.redis_cluster.proofs.Headline.{begins, headline_fault, carried_fault}
+use Rattle.redis_cluster.proofs.TriedOnce.{delivered_once, plan_tried, plan_driven, plan_fault, plan_cut, early_fault, early_cut, bad_order, bad_order_is_no_reply}
+use Rattle.redis_cluster.proofs.driver.drive_plan.Goals as goal
+
+all_three : {T E : Type 0} {A B : Type 0} (P Q : T → Type 0) (r : Result T E) → ((x : T) → A → B → P x → Q x) → OnOk r A → OnOk r B → IfOk r P → IfOk r Q
+all_three P Q (Ok x) f a b p = f x a b p
+all_three P Q (Err e) f a b p = tt
+
+traced_so : {T E : Type 0} {A : Type 0} (Q : T → Type 0) (r : Result T E) → ((x : T) → A → Q x) → OnOk r A → IfOk r Q
+traced_so Q (Ok x) f a = f x a
+traced_so Q (Err e) f a = tt
+
+pub drive_tries-requires : goal.drive_tries-requires
+drive_tries-requires g c =
+    let names : NamesOnce (length c.args.plan.split.routes) c.args.order.now = subst (λ n. NamesOnce n c.args.order.now) c.len.ensures.len (c.in-Ok-true.ensures.0 c.in-Ok-true.field-0-test) in
+    record { command = c.requires.command; untold = c.requires.untold; order = names; named = All-nil (λ (retry : Attempt). IsSome retry.target) }
+
+pub returns-in-Ok-true-clause-delivered : goal.returns-in-Ok-true-clause-delivered
+returns-in-Ok-true-clause-delivered g c =
+    let names : NamesOnce (length c.args.plan.split.routes) c.args.order.now = subst (λ n. NamesOnce n c.args.order.now) c.len.ensures.len (c.in-Ok-true.ensures.0 c.in-Ok-true.field-0-test) in
+    traced_so _ c.drive_tries.result
+    (λ value tried asked command is. delivered_once (IsPlanNode c.args.plan) asked (g.N.Nodes.trace c.args.nodes.now) (g.N.Nodes.trace c.drive_tries.new.nodes)
+    (plan_tried g.N.Nodes.step asked c.args.order.now (g.N.Nodes.registered c.args.nodes.now) (state (g.N.Nodes.keyspace c.args.nodes.now) (g.N.Nodes.trace c.args.nodes.now) (g.N.Nodes.mark c.args.nodes.now)) (state (g.N.Nodes.keyspace c.drive_tries.new.nodes) (g.N.Nodes.trace c.drive_tries.new.nodes) (g.N.Nodes.mark c.drive_tries.new.nodes)) c.args.plan command is names tried))
+    c.drive_tries.ensures.trace
+
+pub returns-in-Ok-true-clause-driven : goal.returns-in-Ok-true-clause-driven
+returns-in-Ok-true-clause-driven g c =
+    let names : NamesOnce (length c.args.plan.split.routes) c.args.order.now = subst (λ n. NamesOnce n c.args.order.now) c.len.ensures.len (c.in-Ok-true.ensures.0 c.in-Ok-true.field-0-test) in
+    all_three _ _ c.drive_tries.result
+    (λ value tried keyspace reply asked command is now. plan_driven g.N.Nodes.step asked c.args.order.now (g.N.Nodes.registered c.args.nodes.now) (state (g.N.Nodes.keyspace c.args.nodes.now) (g.N.Nodes.trace c.args.nodes.now) (g.N.Nodes.mark c.args.nodes.now)) (state (g.N.Nodes.keyspace c.drive_tries.new.nodes) (g.N.Nodes.trace c.drive_tries.new.nodes) (g.N.Nodes.mark c.drive_tries.new.nodes)) c.args.plan command is names _ tried (keyspace command (subst (λ (reg : Registrations). IsPlanOf reg command c.args.plan) is.2 is.0.plan_is) now) (reply command (subst (λ (reg : Registrations). IsPlanOf reg command c.args.plan) is.2 is.0.plan_is) now))
+    c.drive_tries.ensures.trace c.drive_tries.ensures.keyspace c.drive_tries.ensures.reply
+
+pub returns-in-Ok-true-clause-cut : goal.returns-in-Ok-true-clause-cut
+returns-in-Ok-true-clause-cut g c =
+    let names : NamesOnce (length c.args.plan.split.routes) c.args.order.now = subst (λ n. NamesOnce n c.args.order.now) c.len.ensures.len (c.in-Ok-true.ensures.0 c.in-Ok-true.field-0-test) in
+    let some : 0 < length c.args.plan.split.routes = omega (arith, c.len.ensures.some, c.len.ensures.len) in
+    let nodes = g.N.Nodes in
+    IfErr-weaker c.drive_tries.result _ _
+    (λ e ended asked command is. plan_cut nodes.step asked c.args.order.now (g.N.Nodes.registered c.args.nodes.now) (nodes.kept c.drive_tries.new.nodes) (nodes.keyspace c.args.nodes.now) (nodes.keyspace c.drive_tries.new.nodes) (nodes.trace c.args.nodes.now) (nodes.trace c.drive_tries.new.nodes) (nodes.mark c.args.nodes.now) (nodes.mark c.drive_tries.new.nodes)
+    c.args.plan command is names (nodes.may_refuse c.args.nodes.now) e.fault e.answered some ended)
+    c.drive_tries.ensures.stopped
+
+pub returns-in-Ok-true-clause-fault : goal.returns-in-Ok-true-clause-fault
+returns-in-Ok-true-clause-fault g c =
+    let names : NamesOnce (length c.args.plan.split.routes) c.args.order.now = subst (λ n. NamesOnce n c.args.order.now) c.len.ensures.len (c.in-Ok-true.ensures.0 c.in-Ok-true.field-0-test) in
+    let some : 0 < length c.args.plan.split.routes = omega (arith, c.len.ensures.some, c.len.ensures.len) in
+    let nodes = g.N.Nodes in
+    IfErr-weaker c.drive_tries.result _ _
+    (λ e ended asked command is now. plan_fault nodes.step asked c.args.order.now (g.N.Nodes.registered c.args.nodes.now) (state (g.N.Nodes.keyspace c.args.nodes.now) (g.N.Nodes.trace c.args.nodes.now) (g.N.Nodes.mark c.args.nodes.now)) (state (g.N.Nodes.keyspace c.drive_tries.new.nodes) (g.N.Nodes.trace c.drive_tries.new.nodes) (g.N.Nodes.mark c.drive_tries.new.nodes))
+    c.args.plan command is names (nodes.kept c.drive_tries.new.nodes) now (nodes.may_refuse c.args.nodes.now) e.fault e.answered some ended)
+    c.drive_tries.ensures.stopped
+
+pub returns-in-Ok-true-clause-untouched : goal.returns-in-Ok-true-clause-untouched
+returns-in-Ok-true-clause-untouched g c =
+    IfErr-weaker c.drive_tries.result _ _
+    (λ e ended before. absurd (ended_late _ _ _ _ _ _ _ _ _ _ _ _ e.fault e.answered ended before))
+    c.drive_tries.ensures.stopped
+
+pub returns-in-Ok-false-clause-fault : goal.returns-in-Ok-false-clause-fault
+returns-in-Ok-false-clause-fault g c = λ asked command is now.
+    early_fault (IsPlanNode c.args.plan) g.N.Nodes.step asked (state (g.N.Nodes.keyspace c.args.nodes.now) (g.N.Nodes.trace c.args.nodes.now) (g.N.Nodes.mark c.args.nodes.now)) (g.N.Nodes.may_refuse c.args.nodes.now) BadOrder
+    (bad_order asked c.args.order.now (g.N.Nodes.registered c.args.nodes.now) c.args.plan command is (λ named. absurd (let is : c.in-Ok-false.field-0 ≡ true = c.in-Ok-false.ensures.1 (subst (λ n. NamesOnce n c.args.order.now) (sym c.len.ensures.len) named) in cc (is, c.in-Ok-false.field-0-test))))
+
+pub returns-in-Ok-false-clause-cut : goal.returns-in-Ok-false-clause-cut
+returns-in-Ok-false-clause-cut g c = λ asked command is.
+    early_cut (IsPlanNode c.args.plan) asked (unseen (g.N.Nodes.trace c.args.nodes.now) (g.N.Nodes.mark c.args.nodes.now)) (g.N.Nodes.may_refuse c.args.nodes.now) BadOrder
+    (bad_order asked c.args.order.now (g.N.Nodes.registered c.args.nodes.now) c.args.plan command is (λ named. absurd (let is : c.in-Ok-false.field-0 ≡ true = c.in-Ok-false.ensures.1 (subst (λ n. NamesOnce n c.args.order.now) (sym c.len.ensures.len) named) in cc (is, c.in-Ok-false.field-0-test))))
+
+pub returns-in-Ok-false-clause-unjoined : goal.returns-in-Ok-false-clause-unjoined
+returns-in-Ok-false-clause-unjoined g c = λ error is. absurd (bad_order_is_no_reply error is)
+
+pub returns-in-Ok-false-clause-given : goal.returns-in-Ok-false-clause-given
+returns-in-Ok-false-clause-given g c =
+    record { replies = []; each = refl; gave = λ before was. subst (g.N.Nodes.gave c.args.nodes.now) (sym (append-nil before)) was }
+
+pub returns-in-Err-clause-fault : goal.returns-in-Err-clause-fault
+returns-in-Err-clause-fault g c = λ asked command is now.
+    early_fault (IsPlanNode c.args.plan) g.N.Nodes.step asked (state (g.N.Nodes.keyspace c.args.nodes.now) (g.N.Nodes.trace c.args.nodes.now) (g.N.Nodes.mark c.args.nodes.now)) (g.N.Nodes.may_refuse c.args.nodes.now) Memory tt
+
+pub returns-in-Err-clause-cut : goal.returns-in-Err-clause-cut
+returns-in-Err-clause-cut g c = λ asked command is.
+    early_cut (IsPlanNode c.args.plan) asked (unseen (g.N.Nodes.trace c.args.nodes.now) (g.N.Nodes.mark c.args.nodes.now)) (g.N.Nodes.may_refuse c.args.nodes.now) Memory tt
+
+pub returns-in-Err-clause-unjoined : goal.returns-in-Err-clause-unjoined
+returns-in-Err-clause-unjoined g c = λ error is. absurd (memory_is_no_reply error is)
+
+pub returns-in-Err-clause-given : goal.returns-in-Err-clause-given
+returns-in-Err-clause-given g c =
+    record { replies = []; each = refl; gave = λ before was. subst (g.N.Nodes.gave c.args.nodes.now) (sym (append-nil before)) was }
+
+pub returns-in-Ok-true-clause-headline : goal.returns-in-Ok-true-clause-headline
+returns-in-Ok-true-clause-headline g c =
+    let old = state (g.N.Nodes.keyspace c.args.nodes.now) (g.N.Nodes.trace c.args.nodes.now) (g.N.Nodes.mark c.args.nodes.now) in
+    let new = state (g.N.Nodes.keyspace c.drive_tries.new.nodes) (g.N.Nodes.trace c.drive_tries.new.nodes) (g.N.Nodes.mark c.drive_tries.new.nodes) in
+    IfErr-weaker c.drive_tries.result _ _
+    (λ e fault asked command is headline now. headline_fault (IsPlanNode c.args.plan) g.N.Nodes.step asked old new (g.N.Nodes.may_refuse c.args.nodes.now) headline e.fault e.answered (fault asked command is now))
+    (returns-in-Ok-true-clause-fault g c)
+
+pub returns-in-Ok-true-clause-carried : goal.returns-in-Ok-true-clause-carried
+returns-in-Ok-true-clause-carried g c =
+    let old = state (g.N.Nodes.keyspace c.args.nodes.now) (g.N.Nodes.trace c.args.nodes.now) (g.N.Nodes.mark c.args.nodes.now) in
+    let new = state (g.N.Nodes.keyspace c.drive_tries.new.nodes) (g.N.Nodes.trace c.drive_tries.new.nodes) (g.N.Nodes.mark c.drive_tries.new.nodes) in
+    IfErr-weaker c.drive_tries.result _ _
+    (λ e fault asked command is routes can all now. carried_fault (IsPlanNode c.args.plan) g.N.Nodes.step asked old new (g.N.Nodes.may_refuse c.args.nodes.now) routes command can all e.fault e.answered (fault asked command is now))
+    (returns-in-Ok-true-clause-fault g c)
+
+pub returns-in-Ok-false-clause-headline : goal.returns-in-Ok-false-clause-headline
+returns-in-Ok-false-clause-headline g c = λ asked command is headline now.
+    begins asked headline.routes headline.command headline.drivable BadOrder
+    (bad_order asked c.args.order.now (g.N.Nodes.registered c.args.nodes.now) c.args.plan command is (λ named. absurd (let is : c.in-Ok-false.field-0 ≡ true = c.in-Ok-false.ensures.1 (subst (λ n. NamesOnce n c.args.order.now) (sym c.len.ensures.len) named) in cc (is, c.in-Ok-false.field-0-test))))
+
+pub returns-in-Ok-false-clause-carried : goal.returns-in-Ok-false-clause-carried
+returns-in-Ok-false-clause-carried g c = λ asked command is routes can all now.
+    begins asked routes command can BadOrder
+    (bad_order asked c.args.order.now (g.N.Nodes.registered c.args.nodes.now) c.args.plan command is (λ named. absurd (let is : c.in-Ok-false.field-0 ≡ true = c.in-Ok-false.ensures.1 (subst (λ n. NamesOnce n c.args.order.now) (sym c.len.ensures.len) named) in cc (is, c.in-Ok-false.field-0-test))))
+
+pub returns-in-Err-clause-headline : goal.returns-in-Err-clause-headline
+returns-in-Err-clause-headline g c = λ asked command is headline now. refl
+
+pub returns-in-Err-clause-carried : goal.returns-in-Err-clause-carried
+returns-in-Err-clause-carried g c = λ asked command is routes can all now. refl

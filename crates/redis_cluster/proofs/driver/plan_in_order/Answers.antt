@@ -1,0 +1,57 @@
+use Rattle.std.proofs.Common.{◌≡◌, ℕ, List, true, option_map, sym, ap, ◌∙◌, subst, length, map}
+use Rattle.std.proofs.lemmas.List.{length-map}
+use Rattle.std.proofs.lemmas.List.Elements.{All-map}
+use Rattle.cluster_slots.specs.SlotRoute.{SlotRoute}
+use Rattle.cluster_map.specs.ReplyNode.{IsCovered}
+use Rattle.cluster_slots.specs.Address.{Address}
+use Rattle.cluster_map.specs.RouteNode.{IsRouteNode}
+use Rattle.redis_routing.specs.Names.{names_of}
+use Rattle.redis_routing.specs.Registry.{Registrations}
+use Rattle.redis_cluster.specs.MultiKey.{MultiKey}
+use Rattle.redis_cluster.specs.Orders.{NamesOnce}
+use Rattle.redis_cluster.proofs.CommandParts.{routes_are}
+use Rattle.redis_cluster.specs.Driven.{Request, request}
+use Rattle.redis_cluster.specs.Faults.{IsCauseBeforeSending}
+use Rattle.redis_cluster.specs.Joined.{IsSplitOf}
+use Rattle.redis_cluster.specs.Ready.{IsReady}
+use Rattle.redis_cluster.specs.declared.fault.DriveFault.TheVariants.{BadOrder}
+use Rattle.redis_cluster.proofs.Planned.{joining_routes, planned, ready}
+use Rattle.redis_cluster.proofs.driver.plan_in_order.Goals as goal
+
+pub returns-in-Ok-true-clause-ready : goal.returns-in-Ok-true-clause-ready
+returns-in-Ok-true-clause-ready g c =
+    let args = g.R.Routable.args c.args.command.now in
+    let new = c.in-Ok.ensures in
+    let is_node : SlotRoute → Address → Type 0 = IsRouteNode c.args.strategy (λ s. (goal.ReadRoutingStrategy-dyn g s.now).picks s.now.1) c.args.slot_map.now c.args.pick in
+    let asked : Registrations → Request = λ registered. request args (names_of c.args.read_only.now registered) c.args.slot_map.now c.args.order.now in
+    let made = ready is_node (asked c.registry.result.now) c.in-Ok.plan new.arguments new.routes new.pattern new.policy c.len.ensures.plan new.nodes new.covered in
+    subst (λ (registered : Registrations). (command : MultiKey) × IsReady is_node (asked registered) c.in-Ok.plan command) c.registry.ensures made
+
+pub returns-in-Ok-true-clause-split : goal.returns-in-Ok-true-clause-split
+returns-in-Ok-true-clause-split g c =
+    let args = g.R.Routable.args c.args.command.now in
+    let new = c.in-Ok.ensures in
+    subst (λ registered. IsSplitOf (names_of c.args.read_only.now registered) args c.in-Ok.plan.split) c.registry.ensures
+    (record { arguments = new.arguments; routes = new.routes; pattern = new.pattern; policy = new.policy })
+
+pub returns-in-Ok-false-clause-early : goal.returns-in-Ok-false-clause-early
+returns-in-Ok-false-clause-early g c =
+    let new = c.in-Ok.ensures in
+    let plan = c.in-Ok.plan in
+    let names = names_of c.args.read_only.now c.registry.result.now in
+    let args = g.R.Routable.args c.args.command.now in
+    let found = planned names args plan new.arguments new.routes new.pattern new.policy c.len.ensures.plan in
+    let many : length (map (λ (t : SlotRoute × List ℕ). t.0) plan.split.routes) ≡ length plan.split.routes = length-map plan.split.routes (λ t. t.0) in
+    subst (λ registered. IsCauseBeforeSending (request args (names_of c.args.read_only.now registered) c.args.slot_map.now c.args.order.now) BadOrder) c.registry.ensures (
+      map (λ t. t.0) plan.split.routes,
+      found.0,
+      record {
+        routes_are = sym (routes_are names args (joining_routes names args plan.split new.routes new.policy c.len.ensures.plan.split)) ∙ ap (λ o. option_map (map (λ t. t.0)) o) (sym new.routes);
+        command_is = found.1;
+        covered = All-map (λ (route : SlotRoute). IsCovered c.args.slot_map.now route.slot) (λ t. t.0) plan.split.routes new.covered;
+      },
+      λ once.
+          let here : NamesOnce c.len.result c.args.order.now = subst (λ n. NamesOnce n c.args.order.now) (many ∙ sym c.len.ensures.len) once in
+          let named : c.in-Ok-false.field-0 ≡ true = c.in-Ok-false.ensures.1 here in
+          absurd (cc (named, c.in-Ok-false.field-0-test)),
+    )

@@ -1,0 +1,240 @@
+use Rattle.std.proofs.Common.{List, [], map, refl, sym, subst}
+use Rattle.std.specs.List.{AllZip, zip}
+use Rattle.redis_cluster.specs.Retry.{Attempt, IsRetryOf}
+use Rattle.std.specs.Prelude.{OnOk}
+use Rattle.std.proofs.Common.{Result, Ok, Err, IfOk}
+use Rattle.std.proofs.lemmas.List.{append-nil}
+use Rattle.std.proofs.lemmas.Result.{IfErr-weaker, IfOk-weaker}
+use Rattle.redis_routing.specs.Names.{names_of}
+use Rattle.redis_cluster.specs.Driven.{request, state}
+use Rattle.redis_cluster.specs.Faults.{unseen, IsCauseBeforeSending}
+use Rattle.redis_cluster.specs.Sends.{targets}
+use Rattle.redis_cluster.specs.Tries.{tries_with}
+use Rattle.redis_cluster.specs.declared.fault.DriveFault.{DriveFault}
+use Rattle.redis_cluster.specs.declared.fault.DriveFault.TheVariants.{Memory}
+use Rattle.redis_cluster.proofs.Gaps.{same_command}
+use Rattle.redis_cluster.proofs.EachTry.{each_try, each_named}
+use Rattle.redis_cluster.proofs.Allowed.{allowed_none}
+use Rattle.redis_cluster.proofs.Headline.{begins}
+use Rattle.redis_cluster.proofs.Laws.{one_answer}
+use Rattle.redis_cluster.proofs.Unhindered.{headline_retried, carried_retried, delivered_alone}
+use Rattle.redis_cluster.proofs.Ended.{drivable, tried_whole, retry_fault, retry_cut, early_retried, early_retried_cut, ended_late, memory_is_no_reply}
+use Rattle.redis_cluster.proofs.retrying.drive_retrying.Goals as goal
+
+all_three : {T E : Type 0} {A B : Type 0} (P Q : T → Type 0) (r : Result T E) → ((x : T) → A → B → P x → Q x) → OnOk r A → OnOk r B → IfOk r P → IfOk r Q
+all_three P Q (Ok x) f a b p = f x a b p
+all_three P Q (Err e) f a b p = tt
+
+traced_so : {T E : Type 0} {A : Type 0} (Q : T → Type 0) (r : Result T E) → ((x : T) → A → Q x) → OnOk r A → IfOk r Q
+traced_so Q (Ok x) f a = f x a
+traced_so Q (Err e) f a = tt
+
+pub drive_tries-requires : goal.drive_tries-requires
+drive_tries-requires g c =
+    record {
+      command = (c.in-Ok.ensures.ready.0, c.in-Ok.ensures.ready.1.plan_is);
+      untold = c.in-Ok.ensures.untold;
+      order = c.in-Ok.ensures.order;
+      named = each_named c.args.slot_map.now c.args.retries _ c.deref_mut.result.now (subst (λ (o : List Attempt). AllZip (IsRetryOf c.args.slot_map.now c.args.retries) (zip (map (λ t. t.0) c.in-Ok.plan.split.routes) c.in-Ok.plan.nodes) o) (sym c.deref_mut.ensures.value) c.in-Ok-retries_of.ensures.each);
+    }
+
+pub returns-in-Ok-retries_of-clause-tried : goal.returns-in-Ok-retries_of-clause-tried
+returns-in-Ok-retries_of-clause-tried g c =
+    let nodes = g.N.Nodes in
+    let plan = c.in-Ok.plan in
+    let own = c.deref_mut.result.now in
+    let command = c.in-Ok.ensures.ready.0 in
+    let is = c.in-Ok.ensures.ready.1 in
+    let asked = request (g.R.Routable.args c.args.command.now) (names_of c.args.read_only.now (g.N.Nodes.registered c.args.nodes.now)) c.args.slot_map.now c.args.order.now in
+    let old = state (nodes.keyspace c.args.nodes.now) (nodes.trace c.args.nodes.now) (nodes.mark c.args.nodes.now) in
+    let new = state (nodes.keyspace c.drive_tries.new.nodes) (nodes.trace c.drive_tries.new.nodes) (nodes.mark c.drive_tries.new.nodes) in
+    let are = each_try _ asked c.args.retries (map (λ t. t.0) plan.split.routes) plan.nodes plan.parts own is.targets_are (subst (λ (o : List Attempt). AllZip (IsRetryOf c.args.slot_map.now c.args.retries) (zip (map (λ t. t.0) c.in-Ok.plan.split.routes) c.in-Ok.plan.nodes) o) (sym c.deref_mut.ensures.value) c.in-Ok-retries_of.ensures.each) in
+    traced_so _ c.drive_tries.result
+    (λ value tried. record {
+      routes = map (λ t. t.0) plan.split.routes;
+      command = command;
+      drivable = drivable _ nodes.step asked old new plan command is c.in-Ok.ensures.order;
+      trace = tried_whole _ nodes.step asked old new plan command is c.in-Ok.ensures.order _ (tries_with (targets plan) own) are tried;
+    })
+    c.drive_tries.ensures.trace
+
+pub returns-in-Ok-retries_of-clause-driven : goal.returns-in-Ok-retries_of-clause-driven
+returns-in-Ok-retries_of-clause-driven g c =
+    let nodes = g.N.Nodes in
+    let plan = c.in-Ok.plan in
+    let own = c.deref_mut.result.now in
+    let command = c.in-Ok.ensures.ready.0 in
+    let is = c.in-Ok.ensures.ready.1 in
+    let asked = request (g.R.Routable.args c.args.command.now) (names_of c.args.read_only.now (g.N.Nodes.registered c.args.nodes.now)) c.args.slot_map.now c.args.order.now in
+    let old = state (nodes.keyspace c.args.nodes.now) (nodes.trace c.args.nodes.now) (nodes.mark c.args.nodes.now) in
+    let new = state (nodes.keyspace c.drive_tries.new.nodes) (nodes.trace c.drive_tries.new.nodes) (nodes.mark c.drive_tries.new.nodes) in
+    let are = each_try _ asked c.args.retries (map (λ t. t.0) plan.split.routes) plan.nodes plan.parts own is.targets_are (subst (λ (o : List Attempt). AllZip (IsRetryOf c.args.slot_map.now c.args.retries) (zip (map (λ t. t.0) c.in-Ok.plan.split.routes) c.in-Ok.plan.nodes) o) (sym c.deref_mut.ensures.value) c.in-Ok-retries_of.ensures.each) in
+    all_three _ _ c.drive_tries.result
+    (λ value tried keyspace reply now. record {
+      routes = map (λ t. t.0) plan.split.routes;
+      command = command;
+      drivable = drivable _ nodes.step asked old new plan command is c.in-Ok.ensures.order;
+      trace = tried_whole _ nodes.step asked old new plan command is c.in-Ok.ensures.order _ (tries_with (targets plan) own) are tried;
+      keyspace = keyspace command is.plan_is now;
+      reply = reply command is.plan_is now;
+    })
+    c.drive_tries.ensures.trace c.drive_tries.ensures.keyspace c.drive_tries.ensures.reply
+
+pub returns-in-Ok-retries_of-clause-cut : goal.returns-in-Ok-retries_of-clause-cut
+returns-in-Ok-retries_of-clause-cut g c =
+    let nodes = g.N.Nodes in
+    let plan = c.in-Ok.plan in
+    let own = c.deref_mut.result.now in
+    let command = c.in-Ok.ensures.ready.0 in
+    let is = c.in-Ok.ensures.ready.1 in
+    let asked = request (g.R.Routable.args c.args.command.now) (names_of c.args.read_only.now (g.N.Nodes.registered c.args.nodes.now)) c.args.slot_map.now c.args.order.now in
+    let old = state (nodes.keyspace c.args.nodes.now) (nodes.trace c.args.nodes.now) (nodes.mark c.args.nodes.now) in
+    let new = state (nodes.keyspace c.drive_tries.new.nodes) (nodes.trace c.drive_tries.new.nodes) (nodes.mark c.drive_tries.new.nodes) in
+    let are = each_try _ asked c.args.retries (map (λ t. t.0) plan.split.routes) plan.nodes plan.parts own is.targets_are (subst (λ (o : List Attempt). AllZip (IsRetryOf c.args.slot_map.now c.args.retries) (zip (map (λ t. t.0) c.in-Ok.plan.split.routes) c.in-Ok.plan.nodes) o) (sym c.deref_mut.ensures.value) c.in-Ok-retries_of.ensures.each) in
+    IfErr-weaker c.drive_tries.result _ _
+    (λ e ended. retry_cut _ nodes.step asked (nodes.kept c.drive_tries.new.nodes) (nodes.keyspace c.args.nodes.now) (nodes.keyspace c.drive_tries.new.nodes) (nodes.trace c.args.nodes.now) (nodes.trace c.drive_tries.new.nodes) (nodes.mark c.args.nodes.now) (nodes.mark c.drive_tries.new.nodes)
+    plan command is c.in-Ok.ensures.order _ (tries_with (targets plan) own) are (nodes.may_refuse c.args.nodes.now) e.fault e.answered ended)
+    c.drive_tries.ensures.stopped
+
+pub returns-in-Ok-retries_of-clause-fault : goal.returns-in-Ok-retries_of-clause-fault
+returns-in-Ok-retries_of-clause-fault g c =
+    let nodes = g.N.Nodes in
+    let plan = c.in-Ok.plan in
+    let own = c.deref_mut.result.now in
+    let command = c.in-Ok.ensures.ready.0 in
+    let is = c.in-Ok.ensures.ready.1 in
+    let asked = request (g.R.Routable.args c.args.command.now) (names_of c.args.read_only.now (g.N.Nodes.registered c.args.nodes.now)) c.args.slot_map.now c.args.order.now in
+    let old = state (nodes.keyspace c.args.nodes.now) (nodes.trace c.args.nodes.now) (nodes.mark c.args.nodes.now) in
+    let new = state (nodes.keyspace c.drive_tries.new.nodes) (nodes.trace c.drive_tries.new.nodes) (nodes.mark c.drive_tries.new.nodes) in
+    let are = each_try _ asked c.args.retries (map (λ t. t.0) plan.split.routes) plan.nodes plan.parts own is.targets_are (subst (λ (o : List Attempt). AllZip (IsRetryOf c.args.slot_map.now c.args.retries) (zip (map (λ t. t.0) c.in-Ok.plan.split.routes) c.in-Ok.plan.nodes) o) (sym c.deref_mut.ensures.value) c.in-Ok-retries_of.ensures.each) in
+    IfErr-weaker c.drive_tries.result _ _
+    (λ e ended now. retry_fault _ nodes.step asked old new plan command is c.in-Ok.ensures.order _ (tries_with (targets plan) own) are (nodes.kept c.drive_tries.new.nodes) now (nodes.may_refuse c.args.nodes.now) e.fault e.answered ended)
+    c.drive_tries.ensures.stopped
+
+pub returns-in-Ok-retries_of-clause-joined : goal.returns-in-Ok-retries_of-clause-joined
+returns-in-Ok-retries_of-clause-joined g c =
+    IfOk-weaker c.drive_tries.result _ _
+    (λ value is. record { split = c.in-Ok.plan.split; split_is = c.in-Ok.ensures.split; replies = is.0; each = is.1; gave = is.2; joined_is = is.3 })
+    c.drive_tries.ensures.joined
+
+pub returns-in-Ok-retries_of-clause-unjoined : goal.returns-in-Ok-retries_of-clause-unjoined
+returns-in-Ok-retries_of-clause-unjoined g c =
+    IfErr-weaker c.drive_tries.result _ _
+    (λ e is error at. let told = is error at in record { split = c.in-Ok.plan.split; split_is = c.in-Ok.ensures.split; replies = told.0; each = told.1; gave = told.2; joined_is = told.3 })
+    c.drive_tries.ensures.unjoined
+
+pub returns-in-Ok-retries_of-clause-untouched : goal.returns-in-Ok-retries_of-clause-untouched
+returns-in-Ok-retries_of-clause-untouched g c =
+    IfErr-weaker c.drive_tries.result _ _
+    (λ e ended before. absurd (ended_late _ _ _ _ _ _ _ _ _ _ _ _ e.fault e.answered ended before))
+    c.drive_tries.ensures.stopped
+
+pub returns-in-Ok-retries_of-clause-gaps : goal.returns-in-Ok-retries_of-clause-gaps
+returns-in-Ok-retries_of-clause-gaps g c = same_command (g.R.Routable.args c.args.command.now)
+
+pub returns-in-Err-clause-gaps : goal.returns-in-Err-clause-gaps
+returns-in-Err-clause-gaps g c = same_command (g.R.Routable.args c.args.command.now)
+
+pub returns-in-Err-clause-fault : goal.returns-in-Err-clause-fault
+returns-in-Err-clause-fault g c =
+    let asked = request (g.R.Routable.args c.args.command.now) (names_of c.args.read_only.now (g.N.Nodes.registered c.args.nodes.now)) c.args.slot_map.now c.args.order.now in
+    let old = state (g.N.Nodes.keyspace c.args.nodes.now) (g.N.Nodes.trace c.args.nodes.now) (g.N.Nodes.mark c.args.nodes.now) in
+    λ now. early_retried _ g.N.Nodes.step asked old (g.N.Nodes.may_refuse c.args.nodes.now) c.in-Err.fault c.in-Err.ensures.early
+
+pub returns-in-Err-clause-cut : goal.returns-in-Err-clause-cut
+returns-in-Err-clause-cut g c =
+    let asked = request (g.R.Routable.args c.args.command.now) (names_of c.args.read_only.now (g.N.Nodes.registered c.args.nodes.now)) c.args.slot_map.now c.args.order.now in
+    let old = state (g.N.Nodes.keyspace c.args.nodes.now) (g.N.Nodes.trace c.args.nodes.now) (g.N.Nodes.mark c.args.nodes.now) in
+    early_retried_cut _ asked (unseen (g.N.Nodes.trace c.args.nodes.now) (g.N.Nodes.mark c.args.nodes.now)) (g.N.Nodes.may_refuse c.args.nodes.now) c.in-Err.fault c.in-Err.ensures.early
+
+pub returns-in-Err-clause-unjoined : goal.returns-in-Err-clause-unjoined
+returns-in-Err-clause-unjoined g c = λ error is.
+    let asked = request (g.R.Routable.args c.args.command.now) (names_of c.args.read_only.now (g.N.Nodes.registered c.args.nodes.now)) c.args.slot_map.now c.args.order.now in
+    let old = state (g.N.Nodes.keyspace c.args.nodes.now) (g.N.Nodes.trace c.args.nodes.now) (g.N.Nodes.mark c.args.nodes.now) in
+    absurd (subst (λ (f : DriveFault). IsCauseBeforeSending asked f) is c.in-Err.ensures.early)
+
+pub returns-in-Err-clause-given : goal.returns-in-Err-clause-given
+returns-in-Err-clause-given g c =
+    record { replies = []; each = refl; gave = λ before was. subst (g.N.Nodes.gave c.args.nodes.now) (sym (append-nil before)) was }
+
+pub returns-in-Err-retries_of-clause-gaps : goal.returns-in-Err-retries_of-clause-gaps
+returns-in-Err-retries_of-clause-gaps g c = same_command (g.R.Routable.args c.args.command.now)
+
+pub returns-in-Err-retries_of-clause-fault : goal.returns-in-Err-retries_of-clause-fault
+returns-in-Err-retries_of-clause-fault g c =
+    let asked = request (g.R.Routable.args c.args.command.now) (names_of c.args.read_only.now (g.N.Nodes.registered c.args.nodes.now)) c.args.slot_map.now c.args.order.now in
+    let old = state (g.N.Nodes.keyspace c.args.nodes.now) (g.N.Nodes.trace c.args.nodes.now) (g.N.Nodes.mark c.args.nodes.now) in
+    λ now. early_retried _ g.N.Nodes.step asked old (g.N.Nodes.may_refuse c.args.nodes.now) Memory tt
+
+pub returns-in-Err-retries_of-clause-cut : goal.returns-in-Err-retries_of-clause-cut
+returns-in-Err-retries_of-clause-cut g c =
+    let asked = request (g.R.Routable.args c.args.command.now) (names_of c.args.read_only.now (g.N.Nodes.registered c.args.nodes.now)) c.args.slot_map.now c.args.order.now in
+    let old = state (g.N.Nodes.keyspace c.args.nodes.now) (g.N.Nodes.trace c.args.nodes.now) (g.N.Nodes.mark c.args.nodes.now) in
+    early_retried_cut _ asked (unseen (g.N.Nodes.trace c.args.nodes.now) (g.N.Nodes.mark c.args.nodes.now)) (g.N.Nodes.may_refuse c.args.nodes.now) Memory tt
+
+pub returns-in-Err-retries_of-clause-unjoined : goal.returns-in-Err-retries_of-clause-unjoined
+returns-in-Err-retries_of-clause-unjoined g c = λ error is.
+    let asked = request (g.R.Routable.args c.args.command.now) (names_of c.args.read_only.now (g.N.Nodes.registered c.args.nodes.now)) c.args.slot_map.now c.args.order.now in
+    let old = state (g.N.Nodes.keyspace c.args.nodes.now) (g.N.Nodes.trace c.args.nodes.now) (g.N.Nodes.mark c.args.nodes.now) in
+    absurd (memory_is_no_reply error is)
+
+pub returns-in-Err-retries_of-clause-given : goal.returns-in-Err-retries_of-clause-given
+returns-in-Err-retries_of-clause-given g c =
+    record { replies = []; each = refl; gave = λ before was. subst (g.N.Nodes.gave c.args.nodes.now) (sym (append-nil before)) was }
+
+pub returns-in-Ok-retries_of-clause-one_answer : goal.returns-in-Ok-retries_of-clause-one_answer
+returns-in-Ok-retries_of-clause-one_answer g c = one_answer
+
+pub returns-in-Err-clause-one_answer : goal.returns-in-Err-clause-one_answer
+returns-in-Err-clause-one_answer g c = one_answer
+
+pub returns-in-Err-retries_of-clause-one_answer : goal.returns-in-Err-retries_of-clause-one_answer
+returns-in-Err-retries_of-clause-one_answer g c = one_answer
+
+pub returns-in-Ok-retries_of-clause-once : goal.returns-in-Ok-retries_of-clause-once
+returns-in-Ok-retries_of-clause-once g c =
+    let asked = request (g.R.Routable.args c.args.command.now) (names_of c.args.read_only.now (g.N.Nodes.registered c.args.nodes.now)) c.args.slot_map.now c.args.order.now in
+    let nodes = g.N.Nodes in
+    λ headline. IfOk-weaker c.drive_tries.result _ _
+    (λ value tried. delivered_alone _ asked c.args.retries (nodes.trace c.args.nodes.now) (nodes.trace c.drive_tries.new.nodes) (nodes.may_refuse c.args.nodes.now) headline c.drive_tries.ensures.allowed tried)
+    (returns-in-Ok-retries_of-clause-tried g c)
+
+pub returns-in-Ok-retries_of-clause-headline : goal.returns-in-Ok-retries_of-clause-headline
+returns-in-Ok-retries_of-clause-headline g c =
+    let asked = request (g.R.Routable.args c.args.command.now) (names_of c.args.read_only.now (g.N.Nodes.registered c.args.nodes.now)) c.args.slot_map.now c.args.order.now in
+    let old = state (g.N.Nodes.keyspace c.args.nodes.now) (g.N.Nodes.trace c.args.nodes.now) (g.N.Nodes.mark c.args.nodes.now) in
+    let new = state (g.N.Nodes.keyspace c.drive_tries.new.nodes) (g.N.Nodes.trace c.drive_tries.new.nodes) (g.N.Nodes.mark c.drive_tries.new.nodes) in
+    λ headline. IfErr-weaker c.drive_tries.result _ _
+    (λ e fault now. headline_retried _ g.N.Nodes.step asked old new (g.N.Nodes.may_refuse c.args.nodes.now) headline c.drive_tries.ensures.allowed e.fault e.answered (fault now))
+    (returns-in-Ok-retries_of-clause-fault g c)
+
+pub returns-in-Ok-retries_of-clause-carried : goal.returns-in-Ok-retries_of-clause-carried
+returns-in-Ok-retries_of-clause-carried g c =
+    let asked = request (g.R.Routable.args c.args.command.now) (names_of c.args.read_only.now (g.N.Nodes.registered c.args.nodes.now)) c.args.slot_map.now c.args.order.now in
+    let old = state (g.N.Nodes.keyspace c.args.nodes.now) (g.N.Nodes.trace c.args.nodes.now) (g.N.Nodes.mark c.args.nodes.now) in
+    let new = state (g.N.Nodes.keyspace c.drive_tries.new.nodes) (g.N.Nodes.trace c.drive_tries.new.nodes) (g.N.Nodes.mark c.drive_tries.new.nodes) in
+    λ routes command can all. IfErr-weaker c.drive_tries.result _ _
+    (λ e fault now. carried_retried _ g.N.Nodes.step asked old new (g.N.Nodes.may_refuse c.args.nodes.now) routes command can all e.fault e.answered (fault now))
+    (returns-in-Ok-retries_of-clause-fault g c)
+
+pub returns-in-Err-clause-allowed : goal.returns-in-Err-clause-allowed
+returns-in-Err-clause-allowed g c = allowed_none (g.N.Nodes.may_refuse c.args.nodes.now) (g.N.Nodes.trace c.args.nodes.now) (g.N.Nodes.trace c.args.nodes.now) refl
+
+pub returns-in-Err-clause-headline : goal.returns-in-Err-clause-headline
+returns-in-Err-clause-headline g c =
+    let asked = request (g.R.Routable.args c.args.command.now) (names_of c.args.read_only.now (g.N.Nodes.registered c.args.nodes.now)) c.args.slot_map.now c.args.order.now in
+    λ headline now. begins asked headline.routes headline.command headline.drivable c.in-Err.fault c.in-Err.ensures.early
+
+pub returns-in-Err-clause-carried : goal.returns-in-Err-clause-carried
+returns-in-Err-clause-carried g c =
+    let asked = request (g.R.Routable.args c.args.command.now) (names_of c.args.read_only.now (g.N.Nodes.registered c.args.nodes.now)) c.args.slot_map.now c.args.order.now in
+    λ routes command can all now. begins asked routes command can c.in-Err.fault c.in-Err.ensures.early
+
+pub returns-in-Err-retries_of-clause-allowed : goal.returns-in-Err-retries_of-clause-allowed
+returns-in-Err-retries_of-clause-allowed g c = allowed_none (g.N.Nodes.may_refuse c.args.nodes.now) (g.N.Nodes.trace c.args.nodes.now) (g.N.Nodes.trace c.args.nodes.now) refl
+
+pub returns-in-Err-retries_of-clause-headline : goal.returns-in-Err-retries_of-clause-headline
+returns-in-Err-retries_of-clause-headline g c = λ headline now. refl
+
+pub returns-in-Err-retries_of-clause-carried : goal.returns-in-Err-retries_of-clause-carried
+returns-in-Err-retries_of-clause-carried g c = λ routes command can all now. refl

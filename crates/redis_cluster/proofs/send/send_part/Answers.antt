@@ -1,0 +1,148 @@
+use Rattle.std.proofs.Common.{◌≡◌, ◌<◌, ◌≤◌, ◌∙◌, ℕ, List, All, Option, Some, None, ap, sym, refl, option_map, map, subst, length, arith, get_or}
+use Rattle.std.specs.Prelude.{slice_get, IsSome}
+use Rattle.std.proofs.lemmas.Result.{IfOk-weaker, on_ok_weaker, IfErr-weaker}
+use Rattle.std.proofs.lemmas.Option.{slice_get-get_or}
+use Rattle.cluster_slots.specs.Address.{Address}
+use Rattle.resp_core.specs.View.{view}
+use Rattle.redis_cluster.specs.MultiKey.{MultiKey, multi_key, IsPart}
+use Rattle.redis_cluster.specs.Sent.{IsLeft, ending_of}
+use Rattle.redis_cluster.specs.Trace.{answered}
+use Rattle.redis_cluster.specs.Unsplit.{keyspace_after, reply_to}
+use Rattle.redis_cluster.specs.Attempts.{IsTried}
+use Rattle.redis_cluster.specs.Retry.{Attempt}
+use Rattle.redis_cluster.specs.Sends.{Target}
+use Rattle.redis_cluster.specs.Tries.{try_by, try_once, try_with}
+use Rattle.redis_cluster.proofs.Sending.{set_there}
+use Rattle.redis_cluster.proofs.Tries.{none_past}
+use Rattle.redis_cluster.proofs.Zips.{zip_at}
+use Rattle.redis_cluster.proofs.Constructors.{same_some, none_apart}
+use Rattle.redis_cluster.proofs.send.send_part.Goals as goal
+
+-- what a plan has at a number is the target
+one_of : {A B : Type 0} (f : A → B) (r : Option A) (x : A) (o : Option B) (y : B) → option_map f r ≡ o → r ≡ Some x → o ≡ Some y → f x ≡ y
+one_of f r x o y told is at = same_some (f x) y (sym (ap (option_map f) is) ∙ told ∙ at)
+
+none_of : {A B : Type 0} (f : A → B) (r : Option A) (o : Option B) (y : B) → option_map f r ≡ o → r ≡ None → o ≡ Some y → ⊥
+none_of f r o y told is at = none_apart y (sym (ap (option_map f) is) ∙ told ∙ at)
+
+pub unreachable-requires : goal.unreachable-requires
+unreachable-requires g c =
+    let t : Target = c.requires.there.0 in
+    none_of (λ p. p.now) c.part.result (slice_get c.args.plan.now.parts c.args.number) t.1 c.part.ensures c.in_default.is (zip_at c.args.plan.now.nodes c.args.plan.now.parts c.args.number t c.requires.there.1).1
+
+pub unreachable-requires-in_default-node : goal.unreachable-requires-in_default-node
+unreachable-requires-in_default-node g c =
+    let t : Target = c.requires.there.0 in
+    none_of (λ n. n.now) c.node.result (slice_get c.args.plan.now.nodes c.args.number) t.0 c.node.ensures c.in_default-node.is (zip_at c.args.plan.now.nodes c.args.plan.now.parts c.args.number t c.requires.there.1).0
+
+pub send_with_retries-requires : goal.send_with_retries-requires
+send_with_retries-requires g c =
+    let t : Target = c.requires.there.0 in
+    let part_is : c.in-Some.part.now ≡ t.1 = one_of (λ p. p.now) c.part.result c.in-Some.part (slice_get c.args.plan.now.parts c.args.number) t.1 c.part.ensures c.in-Some.is (zip_at c.args.plan.now.nodes c.args.plan.now.parts c.args.number t c.requires.there.1).1 in
+    record {
+      part = subst (λ (a : List (List ℕ)). IsPart (g.N.Nodes.registered c.args.nodes.now) (map Some a)) (sym part_is) c.requires.there.2;
+      named = c.requires.named (get_or c.args.retries.now c.args.number c.index-retries-number.result) (slice_get-get_or c.args.retries.now c.args.number c.index-retries-number.result c.if-number-retries.true);
+    }
+
+pub send_once-requires : goal.send_once-requires
+send_once-requires g c =
+    let t : Target = c.requires.there.0 in
+    let part_is : c.in-Some.part.now ≡ t.1 = one_of (λ p. p.now) c.part.result c.in-Some.part (slice_get c.args.plan.now.parts c.args.number) t.1 c.part.ensures c.in-Some.is (zip_at c.args.plan.now.nodes c.args.plan.now.parts c.args.number t c.requires.there.1).1 in
+    record { part = subst (λ (a : List (List ℕ)). IsPart (g.N.Nodes.registered c.args.nodes.now) (map Some a)) (sym part_is) c.requires.there.2 }
+
+pub returns-then-number-retries-clause-reply : goal.returns-then-number-retries-clause-reply
+returns-then-number-retries-clause-reply g c =
+    IfOk-weaker c.send_with_retries.result _ _ (λ value told target command at is.
+    let both = zip_at c.args.plan.now.nodes c.args.plan.now.parts c.args.number target at in
+    let part_is : c.in-Some.part.now ≡ target.1 = one_of (λ p. p.now) c.part.result c.in-Some.part (slice_get c.args.plan.now.parts c.args.number) target.1 c.part.ensures c.in-Some.is both.1 in
+    told command (ap (λ a. multi_key (g.N.Nodes.registered c.args.nodes.now) (map Some a)) part_is ∙ is))
+    c.send_with_retries.ensures.reply
+
+pub returns-then-number-retries-clause-keyspace : goal.returns-then-number-retries-clause-keyspace
+returns-then-number-retries-clause-keyspace g c =
+    on_ok_weaker c.send_with_retries.result (λ told target command at is.
+    let both = zip_at c.args.plan.now.nodes c.args.plan.now.parts c.args.number target at in
+    let part_is : c.in-Some.part.now ≡ target.1 = one_of (λ p. p.now) c.part.result c.in-Some.part (slice_get c.args.plan.now.parts c.args.number) target.1 c.part.ensures c.in-Some.is both.1 in
+    told command (ap (λ a. multi_key (g.N.Nodes.registered c.args.nodes.now) (map Some a)) part_is ∙ is))
+    c.send_with_retries.ensures.keyspace
+
+pub returns-then-number-retries-clause-trace : goal.returns-then-number-retries-clause-trace
+returns-then-number-retries-clause-trace g c =
+    on_ok_weaker c.send_with_retries.result (λ told target at.
+    let both = zip_at c.args.plan.now.nodes c.args.plan.now.parts c.args.number target at in
+    let part_is : c.in-Some.part.now ≡ target.1 = one_of (λ p. p.now) c.part.result c.in-Some.part (slice_get c.args.plan.now.parts c.args.number) target.1 c.part.ensures c.in-Some.is both.1 in
+    let own : Attempt = get_or c.args.retries.now c.args.number c.index-retries-number.result in
+    let own_is : slice_get c.args.retries.now c.args.number ≡ Some own = slice_get-get_or c.args.retries.now c.args.number c.index-retries-number.result c.if-number-retries.true in
+    subst (λ (o : Option Attempt). IsTried (try_with target o) (Some answered) (g.N.Nodes.trace c.args.nodes.now) (g.N.Nodes.trace c.send_with_retries.new.nodes)) (sym own_is)
+    (subst (λ (a : List (List ℕ)). IsTried (try_by a own) (Some answered) (g.N.Nodes.trace c.args.nodes.now) (g.N.Nodes.trace c.send_with_retries.new.nodes)) part_is told))
+    c.send_with_retries.ensures.answered
+
+pub returns-then-number-retries-clause-unanswered : goal.returns-then-number-retries-clause-unanswered
+returns-then-number-retries-clause-unanswered g c =
+    IfErr-weaker c.send_with_retries.result _ _ (λ error told target at.
+    let both = zip_at c.args.plan.now.nodes c.args.plan.now.parts c.args.number target at in
+    let part_is : c.in-Some.part.now ≡ target.1 = one_of (λ p. p.now) c.part.result c.in-Some.part (slice_get c.args.plan.now.parts c.args.number) target.1 c.part.ensures c.in-Some.is both.1 in
+    let own : Attempt = get_or c.args.retries.now c.args.number c.index-retries-number.result in
+    let own_is : slice_get c.args.retries.now c.args.number ≡ Some own = slice_get-get_or c.args.retries.now c.args.number c.index-retries-number.result c.if-number-retries.true in
+    subst (λ (o : Option Attempt). IsTried (try_with target o) (ending_of error) (g.N.Nodes.trace c.args.nodes.now) (g.N.Nodes.trace c.send_with_retries.new.nodes)) (sym own_is)
+    (subst (λ (a : List (List ℕ)). IsTried (try_by a own) (ending_of error) (g.N.Nodes.trace c.args.nodes.now) (g.N.Nodes.trace c.send_with_retries.new.nodes)) part_is told))
+    c.send_with_retries.ensures.unanswered
+
+pub returns-then-number-retries-clause-left : goal.returns-then-number-retries-clause-left
+returns-then-number-retries-clause-left g c =
+    IfErr-weaker c.send_with_retries.result _ _ (λ error told target command at is.
+    let both = zip_at c.args.plan.now.nodes c.args.plan.now.parts c.args.number target at in
+    let part_is : c.in-Some.part.now ≡ target.1 = one_of (λ p. p.now) c.part.result c.in-Some.part (slice_get c.args.plan.now.parts c.args.number) target.1 c.part.ensures c.in-Some.is both.1 in
+    told command (ap (λ a. multi_key (g.N.Nodes.registered c.args.nodes.now) (map Some a)) part_is ∙ is))
+    c.send_with_retries.ensures.left
+
+pub returns-clause-reply : goal.returns-clause-reply
+returns-clause-reply g c =
+    IfOk-weaker c.send_once.result _ _ (λ value told target command at is.
+    let both = zip_at c.args.plan.now.nodes c.args.plan.now.parts c.args.number target at in
+    let part_is : c.in-Some.part.now ≡ target.1 = one_of (λ p. p.now) c.part.result c.in-Some.part (slice_get c.args.plan.now.parts c.args.number) target.1 c.part.ensures c.in-Some.is both.1 in
+    told command (ap (λ a. multi_key (g.N.Nodes.registered c.args.nodes.now) (map Some a)) part_is ∙ is))
+    c.send_once.ensures.reply
+
+pub returns-clause-keyspace : goal.returns-clause-keyspace
+returns-clause-keyspace g c =
+    on_ok_weaker c.send_once.result (λ told target command at is.
+    let both = zip_at c.args.plan.now.nodes c.args.plan.now.parts c.args.number target at in
+    let part_is : c.in-Some.part.now ≡ target.1 = one_of (λ p. p.now) c.part.result c.in-Some.part (slice_get c.args.plan.now.parts c.args.number) target.1 c.part.ensures c.in-Some.is both.1 in
+    told command (ap (λ a. multi_key (g.N.Nodes.registered c.args.nodes.now) (map Some a)) part_is ∙ is))
+    c.send_once.ensures.keyspace
+
+pub returns-clause-trace : goal.returns-clause-trace
+returns-clause-trace g c =
+    on_ok_weaker c.send_once.result (λ told target at.
+    let both = zip_at c.args.plan.now.nodes c.args.plan.now.parts c.args.number target at in
+    let part_is : c.in-Some.part.now ≡ target.1 = one_of (λ p. p.now) c.part.result c.in-Some.part (slice_get c.args.plan.now.parts c.args.number) target.1 c.part.ensures c.in-Some.is both.1 in
+    let node_is : c.in-Some-node.node.now ≡ target.0 = one_of (λ n. n.now) c.node.result c.in-Some-node.node (slice_get c.args.plan.now.nodes c.args.number) target.0 c.node.ensures c.in-Some-node.is both.0 in
+    let none : slice_get c.args.retries.now c.args.number ≡ None = none_past c.args.retries.now c.args.number (λ l. absurd (omega (arith, c.if-number-retries.false, l))) in
+    subst (λ (o : Option Attempt). IsTried (try_with target o) (Some answered) (g.N.Nodes.trace c.args.nodes.now) (g.N.Nodes.trace c.send_once.new.nodes)) (sym none)
+    (subst (λ (n : Address). IsTried (try_once n target.1) (Some answered) (g.N.Nodes.trace c.args.nodes.now) (g.N.Nodes.trace c.send_once.new.nodes)) node_is
+    (subst (λ (a : List (List ℕ)). IsTried (try_once c.in-Some-node.node.now a) (Some answered) (g.N.Nodes.trace c.args.nodes.now) (g.N.Nodes.trace c.send_once.new.nodes)) part_is told)))
+    c.send_once.ensures.answered
+
+pub returns-clause-unanswered : goal.returns-clause-unanswered
+returns-clause-unanswered g c =
+    IfErr-weaker c.send_once.result _ _ (λ error told target at.
+    let both = zip_at c.args.plan.now.nodes c.args.plan.now.parts c.args.number target at in
+    let part_is : c.in-Some.part.now ≡ target.1 = one_of (λ p. p.now) c.part.result c.in-Some.part (slice_get c.args.plan.now.parts c.args.number) target.1 c.part.ensures c.in-Some.is both.1 in
+    let node_is : c.in-Some-node.node.now ≡ target.0 = one_of (λ n. n.now) c.node.result c.in-Some-node.node (slice_get c.args.plan.now.nodes c.args.number) target.0 c.node.ensures c.in-Some-node.is both.0 in
+    let none : slice_get c.args.retries.now c.args.number ≡ None = none_past c.args.retries.now c.args.number (λ l. absurd (omega (arith, c.if-number-retries.false, l))) in
+    subst (λ (o : Option Attempt). IsTried (try_with target o) (ending_of error) (g.N.Nodes.trace c.args.nodes.now) (g.N.Nodes.trace c.send_once.new.nodes)) (sym none)
+    (subst (λ (n : Address). IsTried (try_once n target.1) (ending_of error) (g.N.Nodes.trace c.args.nodes.now) (g.N.Nodes.trace c.send_once.new.nodes)) node_is
+    (subst (λ (a : List (List ℕ)). IsTried (try_once c.in-Some-node.node.now a) (ending_of error) (g.N.Nodes.trace c.args.nodes.now) (g.N.Nodes.trace c.send_once.new.nodes)) part_is told)))
+    c.send_once.ensures.unanswered
+
+pub returns-clause-left : goal.returns-clause-left
+returns-clause-left g c =
+    IfErr-weaker c.send_once.result _ _ (λ error told target command at is.
+    let both = zip_at c.args.plan.now.nodes c.args.plan.now.parts c.args.number target at in
+    let part_is : c.in-Some.part.now ≡ target.1 = one_of (λ p. p.now) c.part.result c.in-Some.part (slice_get c.args.plan.now.parts c.args.number) target.1 c.part.ensures c.in-Some.is both.1 in
+    told command (ap (λ a. multi_key (g.N.Nodes.registered c.args.nodes.now) (map Some a)) part_is ∙ is))
+    c.send_once.ensures.left
+
+pub returns-then-number-retries-clause-others : goal.returns-then-number-retries-clause-others
+returns-then-number-retries-clause-others g c = λ other apart. set_there c.args.retries.now c.args.number other c.send_with_retries.new.retry apart

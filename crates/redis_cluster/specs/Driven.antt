@@ -1,0 +1,135 @@
+-- What a multi-key command leaves at the nodes, and answers, when it was sent part by part.
+use Rattle.std.specs.Prelude.{◌≡◌, ◌<◌, ◌≤◌, ◌+◌, ℕ, Bool, List, ◌∷◌, ◌++◌, Option, Some, map, option_map, length}
+use Rattle.std.specs.List.{All, AllZip}
+use Rattle.resp_core.specs.Reply.{Reply}
+use Rattle.cluster_slots.specs.Address.{Address}
+use Rattle.cluster_slots.specs.SlotRoute.{SlotRoute}
+use Rattle.cluster_map.specs.SlotNodes.{SlotNodes}
+use Rattle.cluster_map.specs.RangeMap.{IsUncovered}
+use Rattle.cluster_map.specs.RangeMap as ranges
+use Rattle.cluster_map.specs.ReplyNode.{IsCovered}
+use Rattle.redis_routing.specs.Command.{Arguments}
+use Rattle.redis_routing.specs.Names.{Names}
+use Rattle.redis_cluster.specs.MultiKey.{MultiKey, command_routes, multi_key, part_by_slot}
+use Rattle.redis_cluster.specs.Orders.{NamesOnce, in_order, tuples_of_slots}
+use Rattle.redis_cluster.specs.Trace.{Entry, Ending, answered}
+use Rattle.redis_cluster.specs.Unsplit.{Step, Keyspace, act_of, after, keyspace_after, reply_to}
+
+-- what is asked of the driver: a command's arguments, which names only read and which are
+-- registered, the entries of the map, and the order of the routes
+pub record Request : Type 0 where
+  pub arguments : Arguments
+  pub names : Names
+  pub map : List (ranges.RangeEntry SlotNodes)
+  pub order : List ℕ
+
+abbrev pub request : Arguments → Names → List (ranges.RangeEntry SlotNodes) → List ℕ → Request
+request args names entries order =
+    record { arguments = args; names = names; map = entries; order = order }
+
+-- what contracts see of nodes
+pub record State (C : Type 0) : Type 0 where
+  pub keyspace : Keyspace C
+  pub trace : List Entry
+  pub mark : Bool
+
+abbrev pub state : {C : Type 0} → Keyspace C → List Entry → Bool → State C
+state keyspace trace mark = record { keyspace = keyspace; trace = trace; mark = mark }
+
+-- the routes of a command, by their numbers, if it is complete
+abbrev pub command_routes_by : Names → Arguments → Option (List SlotRoute)
+command_routes_by names args =
+    option_map (command_routes names.only_reads) (multi_key names.registered args)
+
+-- the first of the routes that has no node has this slot
+pub record IsFirstUncovered (entries : List (ranges.RangeEntry SlotNodes)) (routes : List SlotRoute)
+    (slot : ℕ) : Type 0 where
+  pub before : List SlotRoute
+  pub route : SlotRoute
+  pub rest : List SlotRoute
+  pub routes_are : routes ≡ before ++ route ∷ rest
+  pub covered : All (λ r. IsCovered entries r.slot) before
+  pub uncovered : IsUncovered entries route.slot
+  pub slot_is : slot ≡ route.slot
+
+-- The command is complete, with these routes, and each route's slot has a node.
+pub record IsCoveredCommand (r : Request) (routes : List SlotRoute) (command : MultiKey)
+    : Type 0 where
+  pub routes_are : command_routes_by r.names r.arguments ≡ Some routes
+  pub command_is : multi_key r.names.registered r.arguments ≡ Some command
+  pub covered : All (λ route. IsCovered r.map route.slot) routes
+
+-- It can be driven: the order names each of its routes once, too.
+pub record IsDrivable (r : Request) (routes : List SlotRoute) (command : MultiKey) : Type 0 where
+  pub is_covered : IsCoveredCommand r routes command
+  pub order : NamesOnce (length routes) r.order
+
+module _ (IsNode : SlotRoute → Address → Type 0) (r : Request) where
+  -- the entry of the part of a route's slot, sent to a node of the route
+  abbrev pub IsEntryOf : Ending → SlotRoute → Entry → Type 0
+  IsEntryOf ending route e =
+      IsNode route e.node
+      × (map Some e.args ≡ part_by_slot r.names.registered r.arguments route.slot)
+      × (e.ending ≡ ending)
+
+  -- the trace grew by an answered entry for each of these routes, in their order
+  pub record AreSent (routes : List SlotRoute) (old new : List Entry) : Type 0 where
+    pub entries : List Entry
+    pub grew : new ≡ old ++ entries
+    pub each : AllZip (IsEntryOf answered) routes entries
+
+-- Each part was sent once, in the order given, to a node of its route, and was answered, whatever
+-- the answers are.
+pub record IsDelivered (IsNode : SlotRoute → Address → Type 0) (r : Request) (old new : List Entry)
+    : Type 0 where
+  pub routes : List SlotRoute
+  pub command : MultiKey
+  pub drivable : IsDrivable r routes command
+  pub trace : AreSent IsNode r (in_order routes r.order) old new
+
+-- the keyspace is that of the tuples of these routes' slots, in the order of the arguments
+abbrev pub IsLeftBy : {C : Type 0} → Step C → (old new : State C) → MultiKey → List SlotRoute
+    → Type 0
+IsLeftBy step old new command routes =
+    new.keyspace ≡ after (act_of step command)
+    (tuples_of_slots (map (λ route. route.slot) routes) command.tuples) old.keyspace
+
+module _ {C : Type 0} (IsNode : SlotRoute → Address → Type 0) (step : Step C) (r : Request)
+    (old new : State C) where
+  -- The command was driven to its end: each part was sent once, in the order given, to a node of
+  -- its route, and the keyspace and the reply are those of the unsplit command.
+  pub record IsDriven (value : Reply) : Type 0 where
+    pub routes : List SlotRoute
+    pub command : MultiKey
+    pub drivable : IsDrivable r routes command
+    pub trace : AreSent IsNode r (in_order routes r.order) old.trace new.trace
+    pub keyspace : new.keyspace ≡ keyspace_after step command old.keyspace
+    pub reply : value ≡ reply_to step command old.keyspace
+
+  -- These routes of it, and no other, were answered: the trace has their entries, and the keyspace
+  -- is that of the tuples of their slots, in the order of the arguments.
+  pub record AreAnswered (command : MultiKey) (routes : List SlotRoute) (trace : List Entry)
+      : Type 0 where
+    pub sent : AreSent IsNode r routes old.trace trace
+    pub keyspace : IsLeftBy step old new command routes
+
+-- each entry that the trace grew by was answered
+abbrev pub AreAllAnswered : List Entry → List Entry → Type 0
+AreAllAnswered old new =
+    (entries : List Entry) × (new ≡ old ++ entries) × All (λ e. e.ending ≡ answered) entries
+
+-- no send of those after so many entries may end but with an answer: none may be refused or
+-- redirected, or lose its reply
+abbrev pub AreWilling : (ℕ → Ending → Type 0) → ℕ → ℕ → Type 0
+AreWilling may_refuse entries sends =
+    (number : ℕ) → entries ≤ number → number < entries + sends → (ending : Ending)
+    → may_refuse number ending → ending ≡ answered
+
+-- what is needed beside memory, so that a command is driven to its end: it can be driven, no node
+-- refuses or redirects, and no reply is lost
+pub record IsUnhindered (may_refuse : ℕ → Ending → Type 0) (r : Request) (trace : List Entry)
+    : Type 0 where
+  pub routes : List SlotRoute
+  pub command : MultiKey
+  pub drivable : IsDrivable r routes command
+  pub willing : AreWilling may_refuse (length trace) (length routes)

@@ -1,0 +1,72 @@
+-- The plan of a multi-key command: a part for each of its routes, the node that it goes to,
+-- and the reply to it.
+use Rattle.std.specs.Prelude.{◌≡◌, ℕ, Bool, cond, List, Option, None, Some, map, length, ◌++◌}
+use Rattle.std.specs.List.{zip}
+use Rattle.resp_core.specs.Reply.{Reply}
+use Rattle.resp_core.specs.View.{view}
+use Rattle.resp_core.specs.declared.value.Value.{Value}
+use Rattle.cluster_slots.specs.Address.{Address}
+use Rattle.cluster_slots.specs.SlotRoute.{SlotRoute}
+use Rattle.redis_routing.specs.PresentArguments.{present_arguments}
+use Rattle.redis_routing.specs.Split.{Split, IsSplit, slots_of, split_part}
+use Rattle.redis_cluster.specs.MultiKey.{KeyTuple, ReplyForm, form_by_policy}
+use Rattle.redis_cluster.specs.PlacedTuples.{tuples_of}
+use Rattle.redis_cluster.specs.Orders.{in_order}
+use Rattle.redis_cluster.specs.SlotResults.{results_of_slot}
+use Rattle.redis_cluster.specs.Unsplit.{TupleResult, reply_by}
+
+-- the command with its routes, and for each route its node, its part, and its reply, if that was
+-- told
+pub record Plan : Type 0 where
+  pub split : Split
+  pub nodes : List Address
+  pub parts : List (List (List ℕ))
+  pub replies : List (Option Value)
+
+-- each route has a node, its own part, and room for a reply
+pub record IsPlan (plan : Plan) : Type 0 where
+  pub split : IsSplit plan.split
+  pub nodes : length plan.nodes ≡ length plan.split.routes
+  pub parts : map (map Some) plan.parts ≡ map (split_part plan.split) (slots_of plan.split.routes)
+  pub replies : length plan.replies ≡ length plan.split.routes
+
+-- the replies that were told
+abbrev pub told : List Bool → List Value → List (Option Value)
+told are_told replies = map (λ p. cond p.0 (Some p.1) None) (zip are_told replies)
+
+-- the tuples of the command
+abbrev pub tuples_in_split : Split → List KeyTuple
+tuples_in_split split =
+    tuples_of split.pattern (present_arguments split.arguments)
+
+-- These are the replies to the parts, where the tuples of the unsplit command have these results.
+pub record ArePartsAnswered (split : Split) (form : ReplyForm) (results : List TupleResult)
+    (replies : List Reply) : Type 0 where
+  pub form_is : form_by_policy split.policy ≡ Some form
+  pub each : length results ≡ length (tuples_in_split split)
+  pub replies_are : replies ≡ map
+      (λ slot. reply_by form (results_of_slot slot (tuples_in_split split) results))
+      (slots_of split.routes)
+
+-- All replies of the plan were told, and these are they.
+pub record ArePartReplies (plan : Plan) (form : ReplyForm) (results : List TupleResult)
+    : Type 0 where
+  pub replies : List Value
+  pub all_told : plan.replies ≡ map Some replies
+  pub answered : ArePartsAnswered plan.split form results (map view replies)
+
+-- All replies of the plan were told; in the order in which they came, these may be what the nodes
+-- gave after what they gave before.
+pub record AreGiven (old new : List Reply → Type 0) (routes : List (SlotRoute × List ℕ))
+    (replies : List (Option Value)) (order : List ℕ) : Type 0 where
+  pub values : List Value
+  pub all_told : replies ≡ map Some values
+  pub each : length values ≡ length routes
+  pub gave : (before : List Reply) → old before → new (before ++ in_order (map view values) order)
+
+-- The nodes gave so many replies after what they gave before: these may be they, in the order in
+-- which they came.
+pub record HaveGiven (old new : List Reply → Type 0) (count : ℕ) : Type 0 where
+  pub replies : List Reply
+  pub each : length replies ≡ count
+  pub gave : (before : List Reply) → old before → new (before ++ replies)

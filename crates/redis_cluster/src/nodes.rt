@@ -1,0 +1,143 @@
+ghost use Rattle.std.specs.Prelude.{◌≡◌, ℕ, List, [], ◌∷◌, ◌++◌, Bool, false, Some, map, IfOk, OnOk, OnErr, IfErr, IfSome, ◌↔◌};
+ghost use Rattle.resp_core.specs.Reply.{Reply};
+ghost use Rattle.resp_core.specs.View.{view};
+ghost use Rattle.redis_routing.specs.Registry.{Registrations};
+ghost use Rattle.redis_cluster.specs.MultiKey.{multi_key, IsPart};
+ghost use Rattle.redis_cluster.specs.Unsplit.{Step, Keyspace, keyspace_after, reply_to};
+ghost use Rattle.redis_cluster.specs.Trace.{Entry, Ending, answered, entry};
+ghost use Rattle.redis_cluster.specs.Sent.{IsIdleIfRefused, IsLeft, IsUnanswered, ending_of};
+
+use cluster_slots::NodeAddress;
+use redis_routing::{Redirect, Registry};
+use resp_core::{Cmd, RedisError, Value};
+use std::error::Error;
+use std::fmt;
+
+/// Why a node did not answer.
+#[derive(Debug, Drop)]
+pub enum SendError {
+    /// The node refused the command. Nodes that keep to their meaning did nothing then.
+    Refused(RedisError),
+    /// The node sent the client on to another address, as by `MOVED` or `ASK`. Nodes that keep to
+    /// their meaning did nothing then.
+    Redirected(Redirect),
+    /// No reply came, as where time ran out after the command was written. Whether it took effect is
+    /// not known.
+    Lost(RedisError),
+    /// Memory ran out before anything was sent.
+    Memory,
+}
+
+impl fmt::Display for SendError {
+    ghost use Rattle.redis_cluster.specs.SendErrorText.{send_error_text};
+
+    ghost output = { λ error. Some (send_error_text error) };
+
+    fn fmt<W: fmt::Write>(&self, f: &mut fmt::Formatter<W>) -> fmt::Result {
+        match self {
+            SendError::Refused(error) => write!(f, "node refused: {error}"),
+            SendError::Redirected(Redirect::Moved(address)) => {
+                write!(f, "node redirected: MOVED {address}")
+            }
+            SendError::Redirected(Redirect::Ask(address)) => {
+                write!(f, "node redirected: ASK {address}")
+            }
+            SendError::Lost(error) => write!(f, "reply lost: {error}"),
+            SendError::Memory => write!(f, "out of memory"),
+        }
+    }
+}
+
+impl Error for SendError {}
+
+/// Nodes of one cluster, to which multi-key commands are sent.
+///
+/// `send` is all that a client writes. The rest is named by contracts alone: what commands mean,
+/// and what the nodes hold, have been sent and may refuse. Where they keep to their meaning, all
+/// nodes share one keyspace: a command has the same effect and reply whichever node is named.
+pub trait Nodes {
+    /// What stands at a key.
+    ghost Cell: { Type 0 };
+
+    /// What one key of a command does to its cell and adds to the reply.
+    ghost step: { Step Cell };
+
+    /// Which names are registered, beside those of the tables. No send changes them.
+    ghost registered: { Self → Registrations };
+
+    /// What the nodes hold.
+    ghost keyspace: { Self → Keyspace Cell };
+
+    /// What was sent so far.
+    ghost trace: { Self → List Entry };
+
+    /// Whether the last send ran out of memory.
+    ghost mark: { Self → Bool };
+
+    /// Whether the send that finds so many entries in the trace may end so, without an answer: by
+    /// this refusal, this redirect, or this loss.
+    ghost may_refuse: { Self → ℕ → Ending → Type 0 };
+
+    /// So far the nodes answered by that meaning, over one keyspace, and what they refused did
+    /// nothing. What a connection gives nobody can prove, so for a real client this is a premise;
+    /// where an `impl` does not write it, its `send` ensures it always. It holds before the first
+    /// send, and ends only with a value of another meaning, or a refusal or redirect that changed
+    /// the keyspace.
+    ghost kept: { Self → Type 0 } = { λ _. Unit {0} };
+
+    /// Whether these may be the replies so far, in the order in which they came.
+    ghost gave: { Self → List Reply → Type 0 } = { λ _ _. Unit {0} };
+
+    /// The registered names: a command of one of them is split and sent too.
+    fn registry(&self) -> &Registry
+        ensures { result.now ≡ registered self.now };
+
+    /// Sends the part of one slot to a node: a multi-key command whose keys have that slot,
+    /// complete and without gaps.
+    ///
+    /// # Errors
+    ///
+    /// `Refused` where the node refused the command, and `Redirected` where it sent the client on:
+    /// the keyspace stays. `Lost` where no reply came: the keyspace is as it was, or as the command
+    /// leaves it. `Memory` where memory ran out: nothing was sent.
+    fn send(&mut self, node: &NodeAddress, cmd: &Cmd) -> Result<Value, SendError>
+        requires part { IsPart (registered self.old) (map Some cmd.now) }
+        ensures reply { IfOk result
+            (λ value. IfSome (multi_key (registered self.old) (map Some cmd.now))
+            (λ command. kept self.new → view value ≡ reply_to step command (keyspace self.old))) }
+        ensures keyspace { OnOk result (IfSome (multi_key (registered self.old) (map Some cmd.now))
+            (λ command. kept self.new
+            → keyspace self.new ≡ keyspace_after step command (keyspace self.old))) }
+        ensures kept { kept self.new → kept self.old }
+        // Nodes to which nothing was sent kept to the meaning.
+        ensures kept_at_first { trace self.old ≡ [] → kept self.old }
+        // They still do after a value that is the one by it,
+        ensures stays_kept { IfOk result (λ value.
+            IfSome (multi_key (registered self.old) (map Some cmd.now))
+            (λ command. kept self.old → view value ≡ reply_to step command (keyspace self.old)
+            → kept self.new)) }
+        // and where no value came, unless a refused or redirected command did something.
+        ensures kept_unanswered { IfErr result (λ error. kept self.old
+            → IsIdleIfRefused (keyspace self.old) (keyspace self.new) error → kept self.new) }
+        // Where nothing was sent, it may be that no reply came.
+        ensures gave_at_first { trace self.old ≡ [] → gave self.old [] }
+        ensures gave { IfOk result (λ value. (replies : List Reply) → gave self.old replies
+            → gave self.new (replies ++ view value ∷ [])) }
+        ensures gave_none { OnErr result ((replies : List Reply) → gave self.old replies
+            → gave self.new replies) }
+        ensures trace { OnOk result
+            (trace self.new ≡ trace self.old ++ entry node.now cmd.now answered ∷ []) }
+        ensures mark { OnOk result (mark self.new ≡ false) }
+        ensures unanswered { IfErr result
+            (λ error. IsUnanswered (may_refuse self.old) (trace self.old) (trace self.new)
+            (mark self.new) node.now cmd.now (ending_of error)) }
+        ensures memory { IfErr result (λ error. error ≡ SendError.Memory
+            → keyspace self.new ≡ keyspace self.old) }
+        ensures left { IfErr result (λ error.
+            IfSome (multi_key (registered self.old) (map Some cmd.now))
+            (λ command. kept self.new
+            → IsLeft step command (keyspace self.old) (keyspace self.new) (ending_of error))) }
+        ensures may_refuse { (count : ℕ) (ending : Ending) → may_refuse self.new count ending
+            ↔ may_refuse self.old count ending }
+        ensures registered { registered self.new ≡ registered self.old };
+}

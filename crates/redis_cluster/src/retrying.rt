@@ -1,0 +1,186 @@
+ghost use Rattle.std.specs.Prelude.{◌≡◌, ◌↔◌, ◌++◌, ℕ, List, Ok, Err, map, length, IsSome, IfOk, IfErr};
+ghost use Rattle.std.specs.List.{All, AllZip, zip};
+ghost use Rattle.resp_core.specs.ErrorParts.{ErrorParts};
+ghost use Rattle.resp_core.specs.View.{view};
+ghost use Rattle.cluster_slots.specs.SlotRoute.{SlotRoute};
+ghost use Rattle.cluster_map.specs.RouteNode.{IsRouteNode};
+ghost use Rattle.redis_routing.specs.Names.{names_of};
+ghost use Rattle.redis_cluster.specs.Front.{IsSameCommand, front};
+ghost use Rattle.redis_cluster.specs.MultiKey.{MultiKey};
+ghost use Rattle.redis_cluster.specs.Trace.{Ending};
+ghost use Rattle.redis_cluster.specs.Attempts.{AreAllowed, HaveOneAnswer};
+ghost use Rattle.redis_cluster.specs.Driven.{request, state, AreAllAnswered, IsDelivered, IsDrivable, IsUnhindered};
+ghost use Rattle.redis_cluster.specs.Faults.{IsBefore, unseen};
+ghost use Rattle.redis_cluster.specs.Joined.{IsJoined};
+ghost use Rattle.redis_cluster.specs.Plan.{HaveGiven};
+ghost use Rattle.redis_cluster.specs.Retried.{IsTryOf, AreAllTried, IsRetried, IsRetryFault, IsRetryCut};
+ghost use Rattle.redis_cluster.specs.Retry.{IsRetryOf};
+
+use crate::driver::{drive_tries, plan_in_order};
+use crate::fault::{DriveError, DriveFault};
+use crate::nodes::Nodes;
+use crate::plan::SplitPlan;
+use crate::retry::Retry;
+use cluster_map::{ReadRoutingStrategy, SlotMap};
+use redis_routing::{ReadOnlyNames, Routable};
+use resp_core::Value;
+use std::alloc::{AllocError, Global};
+
+/// Sends a multi-key command as `drive` does. Where a node redirects or refuses a part, it is sent
+/// again elsewhere: to the address that a redirect names, and after a refusal to the next of
+/// `SlotMap::shard_fallback_addrs`. Each route has so many retries of its own, as `Retry` counts
+/// them.
+///
+/// ```
+/// drive_retrying(
+///     alloc,
+///     command,
+///     &none_only_reads,
+///     slot_map,
+///     None,
+///     0,
+///     5,
+///     order,
+///     client,
+/// )
+/// ```
+///
+/// Where it gives a reply, each part was answered once, whatever was refused or redirected on the
+/// way, and no route was sent more than `retries + 1` times, or more than once where no send may end
+/// but with an answer. Where the nodes kept to one meaning, part of which is that what they refused
+/// did nothing, each part took effect once. A part that was answered, or whose reply was lost, is
+/// never sent again: it may have taken effect.
+///
+/// An `Ask` is followed as a `Moved` is: that `ASKING` goes before the command is the connection's
+/// matter, as is what a `Moved` changes in the map. A refusal with the code `TRYAGAIN` is a refusal
+/// as any other. With 0 retries this is `drive`.
+///
+/// # Errors
+///
+/// `NotMultiKey`, `NotCovered` and `BadOrder` as `drive` has them: nothing was sent. `Node` and
+/// `Redirected` are how the attempts of a route ended: no retry was left, or no address to fall
+/// back on. `Lost` is a lost reply, which ends them at once. The parts of the order before it were
+/// answered, and no later one is sent. `Memory` is told after any number of sends. `Reply` does
+/// not come from nodes that keep to one meaning.
+pub fn drive_retrying<R: Routable, N: Nodes>(
+    alloc: Global,
+    command: &R,
+    read_only: &ReadOnlyNames,
+    slot_map: &SlotMap,
+    strategy: Option<&dyn ReadRoutingStrategy>,
+    pick: usize,
+    retries: usize,
+    order: &[usize],
+    nodes: &mut N,
+) -> Result<Value, DriveError>
+    // Each part was tried in the order given, until it was answered, and not again after it.
+    ensures tried { IfOk result (λ value. AreAllTried
+        (IsTryOf (IsRouteNode strategy.entry (λ s. picks s.now) slot_map.now pick)
+        (request (R.args command.now) (names_of read_only.now (N.registered nodes.old)) slot_map.now order.now) retries)
+        (request (R.args command.now) (names_of read_only.now (N.registered nodes.old)) slot_map.now order.now)
+        (N.trace nodes.old) (N.trace nodes.new)) }
+    // Attempts that end with an answer have no other answered entry.
+    ensures one_answer { HaveOneAnswer }
+    // Each send was answered, or allowed to end otherwise, whether there is a reply or not.
+    ensures allowed { AreAllowed (N.may_refuse nodes.old) (N.trace nodes.old) (N.trace nodes.new) }
+    // So where no send may end but with an answer, each part went once, as `drive` sends it.
+    ensures once { IsUnhindered (N.may_refuse nodes.old)
+        (request (R.args command.now) (names_of read_only.now (N.registered nodes.old)) slot_map.now order.now)
+        (N.trace nodes.old) → IfOk result (λ value.
+        IsDelivered (IsRouteNode strategy.entry (λ s. picks s.now) slot_map.now pick)
+        (request (R.args command.now) (names_of read_only.now (N.registered nodes.old)) slot_map.now order.now)
+        (N.trace nodes.old) (N.trace nodes.new)) }
+    // And the reply is made of what the nodes answered, as the command's policy says.
+    ensures joined { IfOk result (λ value.
+        IsJoined (names_of read_only.now (N.registered nodes.old)) (R.args command.now) order.now
+        (N.gave nodes.old) (N.gave nodes.new) (Ok (view value))) }
+    // Or the policy refuses them, with an error of this kind.
+    ensures unjoined { IfErr result (λ e. (error : ErrorParts) → e.fault ≡ DriveFault.Reply error →
+        IsJoined (names_of read_only.now (N.registered nodes.old)) (R.args command.now) order.now
+        (N.gave nodes.old) (N.gave nodes.new) (Err error.kind)) }
+    // Where the nodes keep to one meaning over one keyspace, the keyspace and the reply are those of
+    // the unsplit command, whatever was refused or redirected.
+    ensures driven { IfOk result (λ value. N.kept nodes.new → IsRetried
+        (IsTryOf (IsRouteNode strategy.entry (λ s. picks s.now) slot_map.now pick)
+        (request (R.args command.now) (names_of read_only.now (N.registered nodes.old)) slot_map.now order.now) retries)
+        N.step (request (R.args command.now) (names_of read_only.now (N.registered nodes.old)) slot_map.now order.now)
+        (state (N.keyspace nodes.old) (N.trace nodes.old) (N.mark nodes.old))
+        (state (N.keyspace nodes.new) (N.trace nodes.new) (N.mark nodes.new))
+        (view value)) }
+    // There is a reply where the command can be driven, no node may refuse or redirect and no reply
+    // may be lost, unless memory runs out. Of connections nobody knows that: see `carried`.
+    ensures headline { IsUnhindered (N.may_refuse nodes.old)
+        (request (R.args command.now) (names_of read_only.now (N.registered nodes.old)) slot_map.now order.now)
+        (N.trace nodes.old) → IfErr result (λ e. N.kept nodes.new → e.fault ≡ DriveFault.Memory) }
+    // And where each send was answered, whatever nodes may refuse.
+    ensures carried { (routes : List SlotRoute) (c : MultiKey) → IsDrivable
+        (request (R.args command.now) (names_of read_only.now (N.registered nodes.old)) slot_map.now order.now)
+        routes c → AreAllAnswered (N.trace nodes.old) (N.trace nodes.new)
+        → IfErr result (λ e. N.kept nodes.new → e.fault ≡ DriveFault.Memory) }
+    // So many parts were answered, and no other, whatever the answers are.
+    ensures cut { IfErr result (λ e. IsRetryCut
+        (IsTryOf (IsRouteNode strategy.entry (λ s. picks s.now) slot_map.now pick)
+        (request (R.args command.now) (names_of read_only.now (N.registered nodes.old)) slot_map.now order.now) retries)
+        (request (R.args command.now) (names_of read_only.now (N.registered nodes.old)) slot_map.now order.now)
+        (unseen (N.trace nodes.old) (N.mark nodes.old))
+        (unseen (N.trace nodes.new) (N.mark nodes.new))
+        (N.may_refuse nodes.old) e.fault e.answered) }
+    // Each fault but out of memory before any send has its cause, and what was answered stands.
+    ensures fault { IfErr result (λ e. N.kept nodes.new → IsRetryFault
+        (IsTryOf (IsRouteNode strategy.entry (λ s. picks s.now) slot_map.now pick)
+        (request (R.args command.now) (names_of read_only.now (N.registered nodes.old)) slot_map.now order.now) retries)
+        N.step (request (R.args command.now) (names_of read_only.now (N.registered nodes.old)) slot_map.now order.now)
+        (state (N.keyspace nodes.old) (N.trace nodes.old) (N.mark nodes.old))
+        (state (N.keyspace nodes.new) (N.trace nodes.new) (N.mark nodes.new))
+        (N.may_refuse nodes.old) e.fault e.answered) }
+    // These may be the replies that the nodes gave: one to each part that was answered.
+    ensures given { IfErr result
+        (λ e. HaveGiven (N.gave nodes.old) (N.gave nodes.new) e.answered) }
+    // The nodes are as they were where the command, the map or the order is at fault.
+    ensures untouched { IfErr result (λ e. IsBefore e.fault → nodes.new ≡ nodes.old) }
+    // Nodes that kept to it now did so before.
+    ensures kept { N.kept nodes.new → N.kept nodes.old }
+    // A command with gaps and its front have the same tuples, routes and parts.
+    ensures gaps { IsSameCommand (R.args command.now) (front (R.args command.now)) }
+    // The same names stay registered.
+    ensures registered { N.registered nodes.new ≡ N.registered nodes.old }
+    // What nodes may refuse stays the same.
+    ensures may_refuse { (count : ℕ) (ending : Ending) → N.may_refuse nodes.new count ending
+        ↔ N.may_refuse nodes.old count ending }
+{
+    let plan = match plan_in_order(
+        alloc, command, read_only, slot_map, strategy, pick, order, nodes,
+    ) {
+        Ok(plan) => plan,
+        Err(fault) => return Err(DriveError { fault, answered: 0 }),
+    };
+    match retries_of(alloc, &plan, slot_map, retries) {
+        Ok(mut own) => drive_tries(alloc, plan, &mut own, order, nodes),
+        Err(_) => Err(DriveError {
+            fault: DriveFault::Memory,
+            answered: 0,
+        }),
+    }
+}
+
+/// A retry for each route of a plan, in the order of the routes, that begins at the route's node.
+fn retries_of<R: Routable>(
+    alloc: Global,
+    plan: &SplitPlan<'_, R>,
+    slot_map: &SlotMap,
+    retries: usize,
+) -> Result<Vec<Retry>, AllocError>
+    ensures each { IfOk result (λ made. AllZip (IsRetryOf slot_map.now retries)
+        (zip (map (λ route. route.0) plan.now.split.routes) plan.now.nodes) made.items) }
+{
+    let count = plan.len();
+    let mut made = Vec::with_capacity(alloc, count)?;
+    for number in 0..count {
+        let route = plan.routes()[number].0;
+        let Some(node) = plan.node(number) else {
+            unreachable!()
+        };
+        made.push(Retry::at(alloc, slot_map, route, node, retries)?)?;
+    }
+    Ok(made)
+}

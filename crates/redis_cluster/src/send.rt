@@ -1,0 +1,159 @@
+ghost use Rattle.std.specs.Prelude.{◌≡◌, ◌<◌, ◌++◌, ◌∷◌, ◌↔◌, [], ℕ, List, Some, None, false, nat_eq, map, length, slice_get, slice_set, IsSome, IfOk, OnOk, OnErr, IfErr};
+ghost use Rattle.std.specs.List.{All};
+ghost use Rattle.resp_core.specs.Reply.{Reply};
+ghost use Rattle.resp_core.specs.View.{view};
+ghost use Rattle.redis_cluster.specs.MultiKey.{MultiKey, multi_key, IsPart};
+ghost use Rattle.redis_cluster.specs.Orders.{NamesOnce, in_order};
+ghost use Rattle.redis_cluster.specs.Sent.{IsLeft, ending_of};
+ghost use Rattle.redis_cluster.specs.Trace.{Ending, answered};
+ghost use Rattle.redis_cluster.specs.Unsplit.{keyspace_after, reply_to, results_of};
+ghost use Rattle.redis_cluster.specs.Attempts.{IsTried, IsCause, AreAllowed};
+ghost use Rattle.redis_cluster.specs.Ended.{AreStopped};
+ghost use Rattle.redis_cluster.specs.Faults.{fault_of_send};
+ghost use Rattle.redis_cluster.specs.Plan.{ArePartReplies, AreGiven, HaveGiven};
+ghost use Rattle.redis_cluster.specs.Retry.{Attempt};
+ghost use Rattle.redis_cluster.specs.Sends.{Target, targets, IsPlanOf};
+ghost use Rattle.redis_cluster.specs.Tries.{tries_with, try_with, AllTried};
+
+use crate::attempts::{send_once, send_with_retries};
+use crate::fault::{DriveError, DriveFault};
+use crate::nodes::{Nodes, SendError};
+use crate::plan::SplitPlan;
+use crate::retry::Retry;
+use redis_routing::Routable;
+use resp_core::Value;
+
+/// Sends the parts of a plan in an order, each by its retry, and tells it the replies. A route
+/// that has no retry is sent once.
+pub(super) fn send_all<R: Routable, N: Nodes>(
+    plan: &mut SplitPlan<'_, R>,
+    retries: &mut [Retry],
+    order: &[usize],
+    nodes: &mut N,
+) -> Result<(), DriveError>
+    requires command { (command : MultiKey) × IsPlanOf (N.registered nodes.old) command plan.old }
+    requires untold { plan.old.replies ≡ map (λ route. None) plan.old.split.routes }
+    requires order { NamesOnce (length plan.old.split.routes) order.now }
+    requires named { All (λ retry. IsSome retry.target) retries.old }
+    ensures plan { OnOk result (plan.new.split ≡ plan.old.split) }
+    ensures told { OnOk result (AreGiven (N.gave nodes.old) (N.gave nodes.new)
+        plan.old.split.routes plan.new.replies order.now) }
+    ensures replies { OnOk result ((command : MultiKey)
+        → IsPlanOf (N.registered nodes.old) command plan.old
+        → N.kept nodes.new
+        → ArePartReplies plan.new command.form (results_of N.step command (N.keyspace nodes.old))) }
+    ensures trace { OnOk result
+        (AllTried (in_order (tries_with (targets plan.old) retries.old) order.now)
+        (N.trace nodes.old) (N.trace nodes.new)) }
+    ensures allowed { AreAllowed (N.may_refuse nodes.old) (N.trace nodes.old) (N.trace nodes.new) }
+    ensures keyspace { OnOk result ((command : MultiKey) → IsPlanOf (N.registered nodes.old) command plan.old
+        → N.kept nodes.new
+        → N.keyspace nodes.new ≡ keyspace_after N.step command (N.keyspace nodes.old)) }
+    ensures kept { N.kept nodes.new → N.kept nodes.old }
+    ensures within { IfErr result (λ stop. stop.answered < length order.now) }
+    ensures given { IfErr result
+        (λ stop. HaveGiven (N.gave nodes.old) (N.gave nodes.new) stop.answered) }
+    ensures stopped { IfErr result
+        (λ stop. (error : SendError) × (stop.fault ≡ fault_of_send error)
+        × ((command : MultiKey) → IsPlanOf (N.registered nodes.old) command plan.old
+        → AreStopped (N.kept nodes.new) N.step (N.may_refuse nodes.old) command plan.old
+        (tries_with (targets plan.old) retries.old) order.now stop.answered (N.keyspace nodes.old) (N.keyspace nodes.new) (N.trace nodes.old) (N.trace nodes.new)
+        (N.mark nodes.new) (ending_of error))) }
+    ensures registered { N.registered nodes.new ≡ N.registered nodes.old }
+    ensures may_refuse { (count : ℕ) (ending : Ending) → N.may_refuse nodes.new count ending
+        ↔ N.may_refuse nodes.old count ending }
+{
+    let mut answered = 0;
+    for number in order {
+        match send_part(plan, retries, *number, nodes) {
+            Ok(reply) => tell_first(plan, *number, reply),
+            Err(error) => {
+                return Err(DriveError {
+                    fault: DriveFault::from(error),
+                    answered,
+                });
+            }
+        }
+        answered += 1;
+    }
+    Ok(())
+}
+
+/// Sends the part of one route, by its retry, or once where it has none.
+fn send_part<R: Routable, N: Nodes>(
+    plan: &SplitPlan<'_, R>,
+    retries: &mut [Retry],
+    number: usize,
+    nodes: &mut N,
+) -> Result<Value, SendError>
+    requires there { (target : Target) × (slice_get (targets plan.now) number ≡ Some target)
+        × IsPart (N.registered nodes.old) (map Some target.1) }
+    requires named { (retry : Attempt) → slice_get retries.old number ≡ Some retry
+        → IsSome retry.target }
+    ensures reply { IfOk result
+        (λ value. (target : Target) (command : MultiKey)
+        → slice_get (targets plan.now) number ≡ Some target
+        → multi_key (N.registered nodes.old) (map Some target.1) ≡ Some command
+        → N.kept nodes.new → view value ≡ reply_to N.step command (N.keyspace nodes.old)) }
+    ensures kept { N.kept nodes.new → N.kept nodes.old }
+    ensures gave { IfOk result
+        (λ value. (replies : List Reply) → N.gave nodes.old replies
+        → N.gave nodes.new (replies ++ view value ∷ [])) }
+    ensures gave_none { OnErr result
+        ((replies : List Reply) → N.gave nodes.old replies → N.gave nodes.new replies) }
+    ensures keyspace { OnOk result ((target : Target) (command : MultiKey)
+        → slice_get (targets plan.now) number ≡ Some target
+        → multi_key (N.registered nodes.old) (map Some target.1) ≡ Some command
+        → N.kept nodes.new
+        → N.keyspace nodes.new ≡ keyspace_after N.step command (N.keyspace nodes.old)) }
+    ensures trace { OnOk result ((target : Target)
+        → slice_get (targets plan.now) number ≡ Some target
+        → IsTried (try_with target (slice_get retries.old number)) (Some answered)
+        (N.trace nodes.old) (N.trace nodes.new)) }
+    ensures unanswered { IfErr result
+        (λ error. (target : Target) → slice_get (targets plan.now) number ≡ Some target
+        → IsTried (try_with target (slice_get retries.old number)) (ending_of error)
+        (N.trace nodes.old) (N.trace nodes.new)) }
+    ensures cause { IfErr result
+        (λ error. IsCause (N.may_refuse nodes.old) (length (N.trace nodes.new)) (N.mark nodes.new)
+        (ending_of error)) }
+    ensures allowed { AreAllowed (N.may_refuse nodes.old) (N.trace nodes.old) (N.trace nodes.new) }
+    ensures left { IfErr result (λ error. (target : Target) (command : MultiKey)
+        → slice_get (targets plan.now) number ≡ Some target
+        → multi_key (N.registered nodes.old) (map Some target.1) ≡ Some command
+        → N.kept nodes.new
+        → IsLeft N.step command (N.keyspace nodes.old) (N.keyspace nodes.new) (ending_of error)) }
+    ensures others { (other : ℕ) → nat_eq other number ≡ false
+        → slice_get retries.new other ≡ slice_get retries.old other }
+    ensures many { length retries.new ≡ length retries.old }
+    ensures registered { N.registered nodes.new ≡ N.registered nodes.old }
+    ensures may_refuse { (count : ℕ) (ending : Ending) → N.may_refuse nodes.new count ending
+        ↔ N.may_refuse nodes.old count ending }
+{
+    let Some(part) = plan.part(number) else {
+        unreachable!()
+    };
+    if number < retries.len() {
+        return send_with_retries(part, &mut retries[number], nodes);
+    }
+    let Some(node) = plan.node(number) else {
+        unreachable!()
+    };
+    send_once(part, node, nodes)
+}
+
+/// Tells the reply to a part that has none yet.
+fn tell_first<R: Routable>(plan: &mut SplitPlan<'_, R>, number: usize, reply: Value)
+    requires { slice_get plan.old.replies number ≡ Some None }
+    ensures { plan.new ≡ record {
+      split = plan.old.split;
+      nodes = plan.old.nodes;
+      parts = plan.old.parts;
+      replies = slice_set plan.old.replies number (Some reply);
+    } }
+{
+    match plan.tell(number, reply) {
+        Ok(()) => {}
+        Err(_) => unreachable!(),
+    }
+}

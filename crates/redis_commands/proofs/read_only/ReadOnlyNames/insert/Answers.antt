@@ -1,8 +1,0 @@
-use Rattle.redis_commands.specs.Upper.{upper}
-use Rattle.redis_commands.proofs.NameSets.{among-insert}
-use Rattle.redis_commands.proofs.read_only.ReadOnlyNames.insert.Goals as goal
-
-pub returns-clause-inserted : goal.returns-clause-inserted
-returns-clause-inserted c = λ q.
-    rw (← c.self.view_is)
-    (among-insert q (upper c.args.name.now) _ c.self.inside.names.keys c.insert.new.self.keys c.in_ok-insert.ensures.keys c.in_ok-to_upper_case.ensures)

@@ -1,5 +1,0 @@
-use Rattle.redis_commands.proofs.TableRows.{tables_with-empty}
-use Rattle.redis_commands.proofs.registry.Registry.new.Goals as goal
-
-pub returns-clause-tables : goal.returns-clause-tables
-returns-clause-tables c = rw c.new.ensures.empty tables_with-empty

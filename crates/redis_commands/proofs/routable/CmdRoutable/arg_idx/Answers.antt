@@ -1,6 +1,0 @@
-use Rattle.std.proofs.Common.{◌∙◌}
-use Rattle.redis_commands.proofs.Arguments.{argument-map-Some}
-use Rattle.redis_commands.proofs.routable.CmdRoutable.arg_idx.Goals as goal
-
-pub returns-clause-argument : goal.returns-clause-argument
-returns-clause-argument c = c.arg_idx.ensures.item ∙ argument-map-Some c.args.self.now c.args.index

@@ -1,9 +1,0 @@
-pub mod MultiKey
-pub mod PlacedTuples
-pub mod Unsplit
-pub mod Orders
-pub mod SlotResults
-pub mod Trace
-pub mod Sent
-pub mod Front
-pub mod SendErrorText

@@ -1,3 +1,0 @@
-pub use Rattle.redis_commands.specs.Upper
-pub mod Pipeline
-pub mod Refusals

@@ -1,5 +1,0 @@
-//! Tests of pipelines.
-#![tactic(auto)]
-
-#[cfg(test)]
-mod pipeline;

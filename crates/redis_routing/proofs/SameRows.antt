@@ -1,0 +1,105 @@
+-- Equality of two registries, row by row.
+use Rattle.std.proofs.Common.{◌≡◌, ℕ, List, [], ◌∷◌, map, Bool, true, ◌&&◌, Vec, Global, Decides, nat_eq, refl, sym, ap, ◌∙◌}
+use Rattle.std.specs.BTreeMap.{BTreeMap, IsOrdered}
+use Rattle.std.specs.Cmp.Lexicographic.{pointwise, on_texts}
+use Rattle.std.proofs.lemmas.Map.Lookups.{btree_map_read_from_get}
+use Rattle.std.proofs.lemmas.Bool.Decides.{Decides-eqb, Decides-and, Decides-like}
+use Rattle.std.proofs.lemmas.Slice.Eq.{bytes_eq-Decides, slice_eq-Decides}
+use Rattle.redis_routing.specs.Registry.{Registrations, Registered}
+use Rattle.redis_routing.specs.SameRegistrations.{pattern_place, policy_place, operation_place, same_policy, same_row, same_registrations}
+use Rattle.redis_routing.specs.declared.policy.AggregateOp.TheVariants.{Min, Sum}
+use Rattle.redis_routing.specs.declared.policy.LogicalAggregateOp.TheVariants.{And, Or}
+use Rattle.redis_routing.specs.declared.policy.ResponsePolicy.{ResponsePolicy}
+use Rattle.redis_routing.specs.declared.policy.ResponsePolicy.TheVariants.{OneSucceeded, FirstSucceededNonEmptyOrAllEmpty, AllSucceeded, AggregateLogical, Aggregate, CombineArrays, Special, CombineMaps}
+use Rattle.redis_routing.specs.declared.route_by.MultiSlotArgPattern.{MultiSlotArgPattern}
+use Rattle.redis_routing.specs.declared.route_by.MultiSlotArgPattern.TheVariants.{KeysOnly, KeyValuePairs, KeysAndLastArg, KeyWithTwoArgTriples}
+use Rattle.redis_routing.specs.contracts.policy.ResponsePolicyPartialEq.TheImpl as policy_eq
+use Rattle.redis_routing.specs.contracts.route_by.MultiSlotArgPatternPartialEq.TheImpl as pattern_eq
+use Rattle.redis_routing.specs.Lookup.{lookup}
+use Rattle.redis_routing.proofs.NameSets.{by_items}
+use Rattle.redis_routing.proofs.Registrations.{Row, row_of, found_row, same_key}
+
+-- `==` of two patterns compares their places
+pub patterns_compare : (a b : MultiSlotArgPattern) → (pattern_eq.ghosts).eq a b ≡ nat_eq (pattern_place a) (pattern_place b)
+patterns_compare KeysOnly KeysOnly = refl
+patterns_compare KeyValuePairs KeyValuePairs = refl
+patterns_compare KeysAndLastArg KeysAndLastArg = refl
+patterns_compare KeyWithTwoArgTriples KeyWithTwoArgTriples = refl
+patterns_compare a b = refl
+
+-- and that of two policies their places and those of their operations
+pub policies_compare : (a b : ResponsePolicy) → (policy_eq.ghosts).eq a b ≡ same_policy a b
+policies_compare OneSucceeded OneSucceeded = refl
+policies_compare FirstSucceededNonEmptyOrAllEmpty FirstSucceededNonEmptyOrAllEmpty = refl
+policies_compare AllSucceeded AllSucceeded = refl
+policies_compare (AggregateLogical And) (AggregateLogical And) = refl
+policies_compare (AggregateLogical Or) (AggregateLogical Or) = refl
+policies_compare (Aggregate Min) (Aggregate Min) = refl
+policies_compare (Aggregate Sum) (Aggregate Sum) = refl
+policies_compare CombineArrays CombineArrays = refl
+policies_compare Special Special = refl
+policies_compare CombineMaps CombineMaps = refl
+policies_compare a b = refl
+
+-- patterns of one place are one
+pattern_at_place : (a b : MultiSlotArgPattern) → nat_eq (pattern_place a) (pattern_place b) ≡ true → a ≡ b
+pattern_at_place KeysOnly KeysOnly h = refl
+pattern_at_place KeyValuePairs KeyValuePairs h = refl
+pattern_at_place KeysAndLastArg KeysAndLastArg h = refl
+pattern_at_place KeyWithTwoArgTriples KeyWithTwoArgTriples h = refl
+pattern_at_place a b h = cc
+
+-- policies of one place whose operations have one place are one
+policy_at_place : (a b : ResponsePolicy) → same_policy a b ≡ true → a ≡ b
+policy_at_place OneSucceeded OneSucceeded h = refl
+policy_at_place FirstSucceededNonEmptyOrAllEmpty FirstSucceededNonEmptyOrAllEmpty h = refl
+policy_at_place AllSucceeded AllSucceeded h = refl
+policy_at_place (AggregateLogical And) (AggregateLogical And) h = refl
+policy_at_place (AggregateLogical Or) (AggregateLogical Or) h = refl
+policy_at_place (Aggregate Min) (Aggregate Min) h = refl
+policy_at_place (Aggregate Sum) (Aggregate Sum) h = refl
+policy_at_place CombineArrays CombineArrays h = refl
+policy_at_place Special Special h = refl
+policy_at_place CombineMaps CombineMaps h = refl
+policy_at_place a b h = cc
+
+pattern-Decides : (a b : MultiSlotArgPattern) → Decides (nat_eq (pattern_place a) (pattern_place b)) (a ≡ b)
+pattern-Decides a b = (pattern_at_place a b, λ same. (Decides-eqb (pattern_place a) (pattern_place b)).1 (ap pattern_place same))
+
+at_places : (a b : ResponsePolicy) → a ≡ b → same_policy a b ≡ true
+at_places a b same =
+    (Decides-and _ _ (Decides-eqb (policy_place a) (policy_place b)) (Decides-eqb (operation_place a) (operation_place b))).1
+    (ap policy_place same, ap operation_place same)
+
+policy-Decides : (a b : ResponsePolicy) → Decides (same_policy a b) (a ≡ b)
+policy-Decides a b = (policy_at_place a b, at_places a b)
+
+-- a row is its name, its pattern and its policy
+row-Decides : (a b : List ℕ × Registered) → Decides (same_row a b) (a ≡ b)
+row-Decides a b =
+    let parts = Decides-and _ _ (bytes_eq-Decides a.0 b.0) (Decides-and _ _ (pattern-Decides a.1.0 b.1.0) (policy-Decides a.1.1 b.1.1)) in
+    Decides-like (same_row a b) (λ same. λ i. (same.0 i, (same.1.0 i, same.1.1 i)))
+    (λ same. (ap (λ row. row.0) same, (ap (λ row. row.1.0) same, ap (λ row. row.1.1) same))) parts
+
+-- the test tells whether two registries are one
+pub same_registrations-Decides : (a b : Registrations) → Decides (same_registrations a b) (a ≡ b)
+same_registrations-Decides a b = slice_eq-Decides row-Decides a b (same_registrations a b) refl
+
+-- rows that are compared as what is seen of them
+pub rows_compare : {E : Row → Row → Bool} → ((a b : Row) → E a b ≡ same_row (row_of a) (row_of b)) → (xs ys : List Row) → pointwise E xs ys ≡ same_registrations (map row_of xs) (map row_of ys)
+rows_compare each [] [] = refl
+rows_compare each [] (y ∷ ys) = refl
+rows_compare each (x ∷ xs) [] = refl
+rows_compare each (x ∷ xs) (y ∷ ys) = λ i. each x y i && rows_compare each xs ys i
+
+-- rows that look up each name alike are one, since both ascend by their names
+pub same_lookups : (m n : BTreeMap (Vec ℕ Global) Registered) → IsOrdered by_items m → IsOrdered by_items n
+    → ((name : List ℕ) → lookup (map row_of m.entries) name ≡ lookup (map row_of n.entries) name) → map row_of m.entries ≡ map row_of n.entries
+same_lookups m n s t alike =
+    btree_map_read_from_get (on_texts (λ k. k.items)) m n s t
+    (λ q. found_row q.items m.entries ∙ alike q.items ∙ sym (found_row q.items n.entries))
+    (λ k. k.items) same_key
+
+-- the names, the patterns and the policies of two rows
+pub row_compares : (a b : Row) → (pointwise nat_eq a.0.items b.0.items && ((pattern_eq.ghosts).eq a.1.0 b.1.0 && (policy_eq.ghosts).eq a.1.1 b.1.1)) ≡ same_row (row_of a) (row_of b)
+row_compares a b = λ i. pointwise nat_eq a.0.items b.0.items && (patterns_compare a.1.0 b.1.0 i && policies_compare a.1.1 b.1.1 i)

@@ -1,0 +1,20 @@
+-- Tables whose names are found by a number of theirs.
+use Rattle.std.specs.Prelude.{ℕ, ◌+◌, ◌-◌, ◌*◌, ◌/◌, ◌%◌, List, Bool, cond, nat_lt, map, length, get_or}
+use Rattle.std.specs.List.{range_with_len}
+use Rattle.std.specs.Str.{bytes_eq}
+
+-- a number for a name by five of its bytes
+abbrev pub name_hash : List ℕ → ℕ
+name_hash name =
+    cond (nat_lt (length name) 3) 0
+    (get_or name 0 0 * 107 + get_or name ((length name - 3) / 2) 0
+    + get_or name (length name - 7) 0 * 72 + get_or name (length name - 3) 0 * 12
+    + get_or name (length name - 1) 0 * 7)
+
+-- the place that a list of places has for the name's number
+abbrev pub row_of : List ℕ → List ℕ → ℕ
+row_of places name = get_or places (name_hash name % length places) 0
+
+-- whether each name stands at its place
+abbrev pub stand_at_their_rows : List ℕ → List (List ℕ) → Bool
+stand_at_their_rows places names = bytes_eq (map (row_of places) names) (range_with_len 0 (length names))

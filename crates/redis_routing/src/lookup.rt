@@ -1,0 +1,62 @@
+ghost use Rattle.std.specs.Prelude.{◌≡◌, ◌<◌, map, true, length};
+ghost use Rattle.redis_routing.specs.Lookup.{lookup, has_name, ascends};
+ghost use Rattle.redis_routing.specs.Places.{name_hash, row_of, stand_at_their_rows};
+
+/// What stands beside the name in a table whose rows stand at the places of their names.
+pub(super) fn find<V: Copy>(rows: &[(&[u8], V)], places: &[u8], name: &[u8]) -> Option<V>
+    requires some { 0 < length places.now }
+    requires placed { stand_at_their_rows places.now (map (λ row. row.0.now) rows.now) ≡ true }
+    ensures { result ≡ lookup (map (λ row. (row.0.now, row.1)) rows.now) name.now }
+{
+    let place = row_of(places, name);
+    if place < rows.len() && rows[place].0 == name {
+        Some(rows[place].1)
+    } else {
+        None
+    }
+}
+
+/// Whether the name is one of these, which stand at their places.
+pub(super) fn is_placed(names: &[&[u8]], places: &[u8], name: &[u8]) -> bool
+    requires some { 0 < length places.now }
+    requires placed { stand_at_their_rows places.now (map (λ n. n.now) names.now) ≡ true }
+    ensures { result ≡ has_name (map (λ n. n.now) names.now) name.now }
+{
+    let place = row_of(places, name);
+    place < names.len() && names[place] == name
+}
+
+/// The place that a list of places has for the name's number.
+fn row_of(places: &[u8], name: &[u8]) -> usize
+    requires { 0 < length places.now }
+    ensures { result ≡ row_of places.now name.now }
+{
+    usize::from(places[name_hash(name) % places.len()])
+}
+
+/// A number for a name by five of its bytes, by which a table tells its names apart. It is 0 for a
+/// name of fewer than three.
+fn name_hash(name: &[u8]) -> usize
+    ensures { result ≡ name_hash name.now }
+{
+    let len = name.len();
+    if len < 3 {
+        return 0;
+    }
+    usize::from(name[0]) * 107
+        + usize::from(name[(len - 3) / 2])
+        + usize::from(name[len.saturating_sub(7)]) * 72
+        + usize::from(name[len - 3]) * 12
+        + usize::from(name[len - 1]) * 7
+}
+
+/// Whether the name is one of these ascending names.
+pub fn contains(names: &[&[u8]], name: &[u8]) -> bool
+    requires { ascends (map (λ n. n.now) names.now) ≡ true }
+    ensures { result ≡ has_name (map (λ n. n.now) names.now) name.now }
+{
+    match names.binary_search(&name) {
+        Ok(_) => true,
+        Err(_) => false,
+    }
+}

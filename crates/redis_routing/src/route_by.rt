@@ -1,0 +1,112 @@
+ghost use Rattle.std.specs.Prelude.{◌≡◌, ◌≤◌};
+ghost use Rattle.redis_routing.specs.Tuples.{is_complete, width_of, fits, tuple_args_count};
+ghost use Rattle.redis_routing.specs.RouteBy.{base_routing};
+ghost use Rattle.redis_routing.specs.Policies.{policy_of};
+
+use super::lookup::find;
+use super::places::NAME_PLACES;
+use super::policy::ResponsePolicy;
+use super::tables::NAMES;
+
+/// How the arguments of a multi-key command make tuples of a key and what goes with it.
+#[derive(Clone, Copy, Debug, PartialEq, Eq)]
+pub enum MultiSlotArgPattern {
+    /// Each argument is a key: `DEL key1 key2`.
+    KeysOnly,
+    /// A key and its value in turn: `MSET key1 value1 key2 value2`.
+    KeyValuePairs,
+    /// Each argument is a key but the last, which all keys share: `JSON.MGET key1 key2 path`.
+    KeysAndLastArg,
+    /// A key and two arguments in turn: `JSON.MSET key1 path1 value1 key2 path2 value2`.
+    KeyWithTwoArgTriples,
+}
+
+impl MultiSlotArgPattern {
+    /// How many arguments a tuple has.
+    pub fn width(self) -> usize
+        ensures { result ≡ width_of self }
+    {
+        match self {
+            MultiSlotArgPattern::KeysOnly | MultiSlotArgPattern::KeysAndLastArg => 1,
+            MultiSlotArgPattern::KeyValuePairs => 2,
+            MultiSlotArgPattern::KeyWithTwoArgTriples => 3,
+        }
+    }
+
+    /// Whether so many arguments make whole tuples, and at least one.
+    pub fn fits(self, count: usize) -> bool
+        ensures { result ≡ fits self count }
+    {
+        count > 0
+            && match self {
+                MultiSlotArgPattern::KeysOnly | MultiSlotArgPattern::KeysAndLastArg => true,
+                MultiSlotArgPattern::KeyValuePairs => count % 2 == 0,
+                MultiSlotArgPattern::KeyWithTwoArgTriples => count % 3 == 0,
+            }
+    }
+
+    /// Whether so many arguments are complete: they make whole tuples, and where keys share a last
+    /// argument, it is there.
+    pub fn is_complete(self, count: usize) -> bool
+        ensures { result ≡ is_complete self count }
+    {
+        match self {
+            MultiSlotArgPattern::KeysAndLastArg => count > 1,
+            _ => self.fits(count),
+        }
+    }
+
+    /// How many of so many arguments make tuples: those after them are shared by all.
+    pub fn own_len(self, count: usize) -> usize
+        ensures own { result ≡ tuple_args_count self count }
+        ensures within { result ≤ count }
+    {
+        match self {
+            MultiSlotArgPattern::KeysAndLastArg if count > 1 => count - 1,
+            _ => count,
+        }
+    }
+}
+
+/// Where the commands of a name go. Arguments are counted from 0, the first word of the command.
+#[derive(Clone, Copy, Debug, PartialEq, Eq)]
+pub enum RouteBy {
+    /// To each node: `CONFIG SET maxmemory 100mb`.
+    AllNodes,
+    /// To each primary: `DBSIZE`.
+    AllMasters,
+    /// Split by slot: `MGET key1 key2`.
+    MultiSlot(MultiSlotArgPattern),
+    /// To no node: which one is meant, the caller has to say: `SCAN 0`, `SHUTDOWN`.
+    Undefined,
+    /// A number of keys at this argument, and the first key after it: `EVAL script 1 key`.
+    CountAt(u8),
+    /// The key is this argument: `BITOP AND dest key`.
+    KeyAt(u8),
+    /// The key follows the argument STREAMS: `XREAD COUNT 2 STREAMS key 0`.
+    KeyAfterStreams,
+    /// To any node: `ECHO hello`.
+    Random,
+    /// A slot number is this argument: `CLUSTER COUNTKEYSINSLOT 7`.
+    SlotAt(u8),
+}
+
+/// How commands of a name are routed, given in upper case as `Routable::command` gives it. `None`
+/// is for most names, whose key is argument 1.
+pub fn base_routing(name: &[u8]) -> Option<RouteBy>
+    ensures { result ≡ base_routing name.now }
+{
+    routing_and_policy(name).0
+}
+
+/// How commands of a name are routed, as `base_routing` has it, and how the replies to them make
+/// one, as `ResponsePolicy::for_command` has it: one look-up for both.
+pub fn routing_and_policy(name: &[u8]) -> (Option<RouteBy>, Option<ResponsePolicy>)
+    ensures routing { result.0 ≡ base_routing name.now }
+    ensures policy { result.1 ≡ policy_of name.now }
+{
+    match find(&NAMES, &NAME_PLACES, name) {
+        Some((route_by, policy)) => (Some(route_by), policy),
+        None => (None, None),
+    }
+}

@@ -1,8 +1,0 @@
-use Rattle.std.proofs.Common.{arith}
-use Rattle.slot_ranges.proofs.Places.{below-most}
-use Rattle.slot_ranges.proofs.slot_range_map.place_of.Goals as goal
-
-pub loop-left-init : goal.loop-left-init
-loop-left-init c =
-    let most = below-most c.args.end c.args.ends.now in
-    record { low = omega arith; high = omega arith; within = omega arith; most = most }

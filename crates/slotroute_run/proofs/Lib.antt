@@ -1,3 +1,0 @@
-pub mod Ordering
-pub mod Replies
-pub mod Running

@@ -1,5 +1,0 @@
-pub mod Direction
-pub mod Printed
-pub mod Commands
-pub mod Refusals
-pub mod RefusalText

@@ -1,0 +1,59 @@
+-- The map lines that register a name: `multi PATTERN POLICY NAME`, or `NAME WORD` for one of two.
+use Rattle.std.specs.Prelude.{◌≡◌, ℕ, List, [], ◌∷◌, ◌++◌, if◌then◌else◌, Option, None, Some, codes}
+use Rattle.std.specs.Str.{bytes_eq}
+use Rattle.redis_routing.specs.Lookup.{lookup}
+use Rattle.redis_routing.specs.Refusal.{register_error}
+use Rattle.redis_routing.specs.Registry.{Registrations, Registered}
+use Rattle.redis_routing.specs.Upper.{upper}
+use Rattle.redis_routing.specs.declared.policy.AggregateOp.TheVariants.{Sum}
+use Rattle.redis_routing.specs.declared.policy.ResponsePolicy.{ResponsePolicy}
+use Rattle.redis_routing.specs.declared.policy.ResponsePolicy.TheVariants.{AllSucceeded, Aggregate, CombineArrays}
+use Rattle.redis_routing.specs.declared.route_by.MultiSlotArgPattern.{MultiSlotArgPattern}
+use Rattle.redis_routing.specs.declared.route_by.MultiSlotArgPattern.TheVariants.{KeysOnly, KeyValuePairs, KeysAndLastArg, KeyWithTwoArgTriples}
+use Rattle.slotroute_serve.specs.Printed.{space}
+
+abbrev pub multi_word : List ℕ
+multi_word = codes "multi"
+
+-- how the arguments of a command make tuples, by the word PATTERN
+abbrev pub pattern_words : List (List ℕ × MultiSlotArgPattern)
+pattern_words =
+    (codes "keys", KeysOnly) ∷
+    (codes "pairs", KeyValuePairs) ∷
+    (codes "last", KeysAndLastArg) ∷
+    (codes "triples", KeyWithTwoArgTriples) ∷ []
+
+-- how the replies to its parts make one, by the word POLICY
+abbrev pub policy_words : List (List ℕ × ResponsePolicy)
+policy_words =
+    (codes "ok", AllSucceeded) ∷
+    (codes "sum", Aggregate Sum) ∷
+    (codes "list", CombineArrays) ∷ []
+
+-- the name of one word, or of two with a space between them
+abbrev pub name_in : List (List ℕ) → Option (List ℕ)
+name_in (word ∷ []) = Some word
+name_in (first ∷ second ∷ []) = Some (first ++ space ∷ second)
+name_in words = None
+
+-- the fields of a line that asks to register the name
+abbrev pub IsMultiLine : List (List ℕ) → List ℕ → Registered → Type 0
+IsMultiLine (first ∷ pattern ∷ policy ∷ words) name registered =
+    (first ≡ multi_word) × (lookup pattern_words pattern ≡ Some registered.0)
+    × (lookup policy_words policy ≡ Some registered.1) × (name_in words ≡ Some name)
+IsMultiLine fields name registered = ⊥
+
+-- The name could be registered, and in upper case was. What any other name is registered with
+-- stays.
+pub record IsRegistered (old new : Registrations) (name : List ℕ) (registered : Registered)
+    : Type 0 where
+  pub accepted : register_error old (upper name) registered.1 ≡ None
+  pub rows : (other : List ℕ) → lookup new other
+      ≡ (if bytes_eq (upper name) other then Some registered else lookup old other)
+
+-- a line with these fields registered its name
+pub record Registers (fields : List (List ℕ)) (old new : Registrations) : Type 0 where
+  pub name : List ℕ
+  pub registered : Registered
+  pub asks : IsMultiLine fields name registered
+  pub done : IsRegistered old new name registered
