@@ -8,8 +8,8 @@ use Rattle.std.proofs.lemmas.List.{length-append, nil_from_length}
 use Rattle.resp_core.specs.Reply.{nil, int, bulk}
 use Rattle.resp.specs.declared.fault.Fault.{Fault}
 use Rattle.resp.specs.declared.fault.Fault.TheVariants.{Incomplete, Malformed, TooDeep}
-use Rattle.resp.specs.Forms.{Answer, IsForm, answer_before, array_of_all, simple_of, number_in, int_in, length_in, crlf}
-use Rattle.resp.specs.Reading.{◌>>=◌, or_malformed, Items, ended, text_of, after_text, is_before_digits, is_before_length, int_at, length_at, bytes_at, flat_at, times_at, items_at, array_at, front_at, answer_at, CanBeCompleted, BeginsNone}
+use Rattle.resp.specs.Forms.{Answer, IsForm, answer_before, array_of_all, simple_of, number_up_to, int_in, length_in, crlf}
+use Rattle.resp.specs.Reading.{◌>>=◌, or_malformed, Items, ended, text_until_line_end, after_text, is_before_digits, is_before_length, int_at, length_at, bytes_at, flat_at, times_at, array_items_at, array_at, front_at, answer_at, CanBeCompleted, BeginsNone}
 use Rattle.resp_core.proofs.Cases.{by_test}
 use Rattle.resp.proofs.Steps.{chosen, done, failed, both}
 use Rattle.resp.proofs.Lines.{ended_longer, open_longer, ended_takes}
@@ -76,10 +76,10 @@ ended_completes (b ∷ c ∷ rest) e =
     ]
 
 abbrev LineFilled : List ℕ → Type 0
-LineFilled bytes = (more : List ℕ) × (text_of (bytes ++ more) ≡ text_of bytes) × (ended (after_text (bytes ++ more)) ≡ Ok [])
+LineFilled bytes = (more : List ℕ) × (text_until_line_end (bytes ++ more) ≡ text_until_line_end bytes) × (ended (after_text (bytes ++ more)) ≡ Ok [])
 
 line_completes : (bytes : List ℕ) → ended (after_text bytes) ≡ Err Incomplete → LineFilled bytes
-unfolding text_of after_text
+unfolding text_until_line_end after_text
 line_completes bytes e =
     elim (cases_of (after_text bytes)) [
       | inl p ↦
@@ -114,40 +114,40 @@ no_text : (xs : List ℕ) → eqb (length xs) 0 ≡ true → xs ≡ []
 no_text xs e = nil_from_length xs (eqb-true _ _ e)
 
 zero_text : int_in (codes "0") ≡ Some (pos 0)
-unfolding int_in number_in
+unfolding int_in number_up_to
 zero_text = refl
 
 minus_zero_text : int_in (codes "-0") ≡ Some (pos 0)
-unfolding int_in number_in
+unfolding int_in number_up_to
 minus_zero_text = refl
 
 plus_zero_text : int_in (codes "+0") ≡ Some (pos 0)
-unfolding int_in number_in
+unfolding int_in number_up_to
 plus_zero_text = refl
 
 zero_length : length_in (codes "0") ≡ Some 0
-unfolding number_in
+unfolding number_up_to
 zero_length = refl
 
 -- the line is "bytes", a digit, and the end
 digit_line : (bytes : List ℕ) (d : ℕ) → after_text bytes ≡ [] → eqb d 13 ≡ false → eqb d 10 ≡ false
-    → (text_of (bytes ++ (d ∷ crlf)) ≡ bytes ++ d ∷ []) × (after_text (bytes ++ (d ∷ crlf)) ≡ 13 ∷ 10 ∷ [])
-unfolding text_of after_text
+    → (text_until_line_end (bytes ++ (d ∷ crlf)) ≡ bytes ++ d ∷ []) × (after_text (bytes ++ (d ∷ crlf)) ≡ 13 ∷ 10 ∷ [])
+unfolding text_until_line_end after_text
 digit_line bytes d e f g =
     let l = open_longer bytes (d ∷ crlf) e in
-    let text : text_of (d ∷ crlf) ≡ d ∷ [] = rw (f, g) refl in
+    let text : text_until_line_end (d ∷ crlf) ≡ d ∷ [] = rw (f, g) refl in
     let after : after_text (d ∷ crlf) ≡ 13 ∷ 10 ∷ [] = rw (f, g) refl in
     (l.1 ∙ ap (λ (t : List ℕ). bytes ++ t) text, l.2 ∙ after)
 
-ints_filled : (bytes text : List ℕ) → after_text bytes ≡ [] → bytes ≡ text → int_in (text ++ 48 ∷ []) ≡ Some (pos 0) → Filled (λ bs. int_at (text_of bs) (after_text bs)) bytes
+ints_filled : (bytes text : List ℕ) → after_text bytes ≡ [] → bytes ≡ text → int_in (text ++ 48 ∷ []) ≡ Some (pos 0) → Filled (λ bs. int_at (text_until_line_end bs) (after_text bs)) bytes
 ints_filled bytes text e is number =
     let l = digit_line bytes 48 e refl refl in
     (48 ∷ crlf, pos 0, rw (l.0, l.1, is) (int_again (text ++ 48 ∷ []) [] (pos 0) number))
 
-ints_complete : Completable (λ bytes. int_at (text_of bytes) (after_text bytes))
+ints_complete : Completable (λ bytes. int_at (text_until_line_end bytes) (after_text bytes))
 unfolding int_at
 ints_complete bytes e =
-    let text = text_of bytes in
+    let text = text_until_line_end bytes in
     let after = after_text bytes in
     elim (chosen (is_before_digits text after) (Err Incomplete) _ (failed Incomplete) e) [
       | inl p ↦
@@ -167,26 +167,26 @@ ints_complete bytes e =
           int_line bytes a.0 a.1 f
     ]
   where
-    int_line : (bytes : List ℕ) (n : ℤ) → int_in (text_of bytes) ≡ Some n → LineFilled bytes → Filled (λ bs. int_at (text_of bs) (after_text bs)) bytes
+    int_line : (bytes : List ℕ) (n : ℤ) → int_in (text_until_line_end bytes) ≡ Some n → LineFilled bytes → Filled (λ bs. int_at (text_until_line_end bs) (after_text bs)) bytes
     int_line bytes n is f =
         let whole : after_text (bytes ++ f.0) ≡ 13 ∷ 10 ∷ [] = ended_takes (after_text (bytes ++ f.0)) [] f.2 in
-        (f.0, n, rw (whole, f.1) (int_again (text_of bytes) [] n is))
+        (f.0, n, rw (whole, f.1) (int_again (text_until_line_end bytes) [] n is))
 
 lengths_filled : (bytes text : List ℕ) (d : ℕ) (o : Option ℕ) → after_text bytes ≡ [] → bytes ≡ text → eqb d 13 ≡ false → eqb d 10 ≡ false → length_at (text ++ d ∷ []) (13 ∷ 10 ∷ []) ≡ Ok (o, [])
-    → Filled (λ bs. length_at (text_of bs) (after_text bs)) bytes
+    → Filled (λ bs. length_at (text_until_line_end bs) (after_text bs)) bytes
 lengths_filled bytes text d o e is f g given =
     let l = digit_line bytes d e f g in
     (d ∷ crlf, o, rw (l.0, l.1, is) given)
 
-length_line : (bytes : List ℕ) (o : Option ℕ) → length_at (text_of bytes) (13 ∷ 10 ∷ []) ≡ Ok (o, []) → LineFilled bytes → Filled (λ bs. length_at (text_of bs) (after_text bs)) bytes
+length_line : (bytes : List ℕ) (o : Option ℕ) → length_at (text_until_line_end bytes) (13 ∷ 10 ∷ []) ≡ Ok (o, []) → LineFilled bytes → Filled (λ bs. length_at (text_until_line_end bs) (after_text bs)) bytes
 length_line bytes o given f =
     let whole : after_text (bytes ++ f.0) ≡ 13 ∷ 10 ∷ [] = ended_takes (after_text (bytes ++ f.0)) [] f.2 in
     (f.0, o, rw (whole, f.1) given)
 
-lengths_complete : Completable (λ bytes. length_at (text_of bytes) (after_text bytes))
+lengths_complete : Completable (λ bytes. length_at (text_until_line_end bytes) (after_text bytes))
 unfolding length_at
 lengths_complete bytes e =
-    let text = text_of bytes in
+    let text = text_until_line_end bytes in
     let after = after_text bytes in
     elim (chosen (bytes_eq text (codes "-1")) (ended after >>= λ rest. Ok (None, rest)) _ (failed Incomplete) e) [
       | inl p ↦
@@ -206,10 +206,10 @@ lengths_complete bytes e =
       ]
     ]
 
-text_complete : {A : Type 0} (means : List ℕ → A) → Completable (λ bytes. ended (after_text bytes) >>= λ rest. Ok (means (text_of bytes), rest))
+text_complete : {A : Type 0} (means : List ℕ → A) → Completable (λ bytes. ended (after_text bytes) >>= λ rest. Ok (means (text_until_line_end bytes), rest))
 text_complete means bytes e =
-    let f = line_completes bytes (lacks (ended (after_text bytes)) (means (text_of bytes)) e) in
-    (f.0, means (text_of (bytes ++ f.0)), rw f.2 refl)
+    let f = line_completes bytes (lacks (ended (after_text bytes)) (means (text_until_line_end bytes)) e) in
+    (f.0, means (text_until_line_end (bytes ++ f.0)), rw f.2 refl)
 
 -- ---- an answer
 
@@ -248,12 +248,12 @@ unfolding bytes_at
 bytes_begin None = ([], Ok nil, refl)
 bytes_begin (Some n) = (zeros n ++ crlf, Ok (bulk (zeros n)), bytes_filled n (zeros n) (zeros_length n))
 
-flat_complete : (mark : ℕ) → Completable (λ bytes. flat_at mark (text_of bytes) (after_text bytes))
+flat_complete : (mark : ℕ) → Completable (λ bytes. flat_at mark (text_until_line_end bytes) (after_text bytes))
 unfolding flat_at
 flat_complete mark bytes e = by_test (eqb mark 36)
-    (λ t. rw t (complete_bind (λ bs. length_at (text_of bs) (after_text bs)) bytes_at lengths_continue lengths_complete bytes_complete bytes_begin bytes (rw t at e)))
+    (λ t. rw t (complete_bind (λ bs. length_at (text_until_line_end bs) (after_text bs)) bytes_at lengths_continue lengths_complete bytes_complete bytes_begin bytes (rw t at e)))
     (λ f. by_test (eqb mark 58)
-    (λ t. rw (f, t) (complete_bind (λ bs. int_at (text_of bs) (after_text bs)) (λ n rest. Ok (Ok (int n), rest)) ints_continue ints_complete (λ n rest h. absurd (no_ok (Ok (int n), rest) h)) (λ n. ([], Ok (int n), refl)) bytes (rw (f, t) at e)))
+    (λ t. rw (f, t) (complete_bind (λ bs. int_at (text_until_line_end bs) (after_text bs)) (λ n rest. Ok (Ok (int n), rest)) ints_continue ints_complete (λ n rest h. absurd (no_ok (Ok (int n), rest) h)) (λ n. ([], Ok (int n), refl)) bytes (rw (f, t) at e)))
     (λ g. by_test (eqb mark 43)
     (λ t. rw (f, g, t) (text_complete (λ text. Ok (simple_of text)) bytes (rw (f, g, t) at e)))
     (λ h. by_test (eqb mark 45)
@@ -280,13 +280,13 @@ module _ (read : List ℕ → Result (Answer × List ℕ) Fault) (goes : Continu
   times_complete zero bytes e = absurd (no_ok (Ok [], bytes) e)
   times_complete (suc n) bytes e = complete_bind read (rest_of n) goes first (λ a. rest_complete n (times_complete n) a) (λ a. rest_begins n (times_begin n) a) bytes e
 
-  items_complete : (o : Option ℕ) → Completable (items_at (times_at read) o)
-  unfolding items_at
+  items_complete : (o : Option ℕ) → Completable (array_items_at (times_at read) o)
+  unfolding array_items_at
   items_complete None rest h = absurd (no_ok (Ok nil, rest) h)
   items_complete (Some n) rest h = complete_bind (times_at read n) (λ answers after. Ok (array_of_all answers, after)) (times_continue read goes n) (times_complete n) (λ answers after k. absurd (no_ok (array_of_all answers, after) k)) (λ answers. ([], array_of_all answers, refl)) rest h
 
-  items_begin : (o : Option ℕ) → Filled (items_at (times_at read) o) []
-  unfolding items_at
+  items_begin : (o : Option ℕ) → Filled (array_items_at (times_at read) o) []
+  unfolding array_items_at
   items_begin None = ([], Ok nil, refl)
   items_begin (Some n) =
       let f = times_begin n in
@@ -294,7 +294,7 @@ module _ (read : List ℕ → Result (Answer × List ℕ) Fault) (goes : Continu
 
   nested_complete : Completable (array_at (times_at read))
   unfolding array_at
-  nested_complete bytes e = complete_bind (λ bs. length_at (text_of bs) (after_text bs)) (items_at (times_at read)) lengths_continue lengths_complete items_complete items_begin bytes e
+  nested_complete bytes e = complete_bind (λ bs. length_at (text_until_line_end bs) (after_text bs)) (array_items_at (times_at read)) lengths_continue lengths_complete items_complete items_begin bytes e
 
 front_complete : (nested : List ℕ → Result (Answer × List ℕ) Fault) → Completable nested → Completable (front_at nested)
 unfolding front_at

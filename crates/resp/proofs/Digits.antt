@@ -13,7 +13,7 @@ use Rattle.std.proofs.lemmas.Bool.{ltb-true}
 use Rattle.resp.proofs.Steps.{chosen, both}
 use Rattle.std.proofs.lemmas.Fmt.{digits_decimal, digits_value-decimal, decimal_nonempty}
 use Rattle.resp_core.proofs.Cases.{by_test}
-use Rattle.resp.specs.Forms.{number_in, int_in, length_in, below_zero, not_below_zero, IsShort, IsInLine}
+use Rattle.resp.specs.Forms.{number_up_to, int_in, length_in, below_zero, not_below_zero, IsShort, IsInLine}
 
 abbrev some : ℕ → Option ℕ
 some n = Some n
@@ -51,14 +51,14 @@ number_after_is limit n (d ∷ ds) low =
     (λ f. rw f refl)
 
 -- a text of at least one byte
-pub number_in_is : (limit : ℕ) (text : List ℕ) → 0 < limit → 0 < length text → number_in limit text ≡ number_after limit 0 text
-unfolding number_in
+pub number_in_is : (limit : ℕ) (text : List ℕ) → 0 < limit → 0 < length text → number_up_to limit text ≡ number_after limit 0 text
+unfolding number_up_to
 number_in_is limit text some long =
     let t : ltb 0 (length text) ≡ true = grind (arith, nat_tests) in
     rw t (sym (number_after_is limit 0 text some))
 
-pub number_in_none : (limit : ℕ) (text : List ℕ) → length text ≡ 0 → number_in limit text ≡ None
-unfolding number_in
+pub number_in_none : (limit : ℕ) (text : List ℕ) → length text ≡ 0 → number_up_to limit text ≡ None
+unfolding number_up_to
 number_in_none limit text none =
     let f : ltb 0 (length text) ≡ false = grind (arith, nat_tests) in
     rw f refl
@@ -90,8 +90,8 @@ digit_is d t =
     digit_value_digit d (low, high)
 
 -- a number that was read is below the limit
-pub number_below : (limit : ℕ) (text : List ℕ) (n : ℕ) → Some n ≡ number_in limit text → n < limit
-unfolding number_in
+pub number_below : (limit : ℕ) (text : List ℕ) (n : ℕ) → Some n ≡ number_up_to limit text → n < limit
+unfolding number_up_to
 number_below limit text n e =
     elim (chosen (ltb 0 (length text) && (all_ascii_digits text && ltb (digits_value 10 text) limit)) (Some (digits_value 10 text)) None (some n) (sym e)) [
       | inl p ↦
@@ -112,7 +112,7 @@ after_none limit n (d ∷ ds) more e =
     (λ t. rw t (after_none limit m ds more (rw t at e)))
     (λ f. rw f refl)
 
-pub none_longer : (limit : ℕ) (text more : List ℕ) → 0 < limit → 0 < length text → number_in limit text ≡ None → number_in limit (text ++ more) ≡ None
+pub none_longer : (limit : ℕ) (text more : List ℕ) → 0 < limit → 0 < length text → number_up_to limit text ≡ None → number_up_to limit (text ++ more) ≡ None
 none_longer limit [] more some long e = absurd (omega (arith, long))
 none_longer limit (d ∷ ds) more some long e =
     number_in_is limit (d ∷ (ds ++ more)) some (omega arith)
@@ -146,16 +146,16 @@ int_longer (first ∷ text) more has e =
     (λ t.
     let is : first ≡ 45 = grind (arith, nat_tests) in
     let other : first ∷ text ≢ first ∷ [] = λ h. has.1 (h ∙ ap (λ (b : ℕ). b ∷ []) is) in
-    let none = none_below (number_in (2 ^ 63 + 1) text) (rw t at e) in
+    let none = none_below (number_up_to (2 ^ 63 + 1) text) (rw t at e) in
     rw t (ap below_zero (none_longer (2 ^ 63 + 1) text more (omega arith) (some_follow first text other) none)))
     (λ f. by_test (eqb first 43)
     (λ t.
     let is : first ≡ 43 = grind (arith, nat_tests) in
     let other : first ∷ text ≢ first ∷ [] = λ h. has.2 (h ∙ ap (λ (b : ℕ). b ∷ []) is) in
-    let none = none_above (number_in (2 ^ 63) text) (rw (f, t) at e) in
+    let none = none_above (number_up_to (2 ^ 63) text) (rw (f, t) at e) in
     rw (f, t) (ap not_below_zero (none_longer (2 ^ 63) text more (omega arith) (some_follow first text other) none)))
     (λ g.
-    let none = none_above (number_in (2 ^ 63) (first ∷ text)) (rw (f, g) at e) in
+    let none = none_above (number_up_to (2 ^ 63) (first ∷ text)) (rw (f, g) at e) in
     rw (f, g) (ap not_below_zero (none_longer (2 ^ 63) (first ∷ text) more (omega arith) (omega arith) none))))
 
 pub length_longer : (text more : List ℕ) → text ≢ [] → length_in text ≡ None → length_in (text ++ more) ≡ None
@@ -164,8 +164,8 @@ length_longer (d ∷ ds) more some e = none_longer (2 ^ 63) (d ∷ ds) more (ome
 
 -- ---- what is written is read
 
-pub number_decimal : (limit n : ℕ) → n < limit → n < 2 ^ 64 → number_in limit (decimal n) ≡ Some n
-unfolding number_in
+pub number_decimal : (limit n : ℕ) → n < limit → n < 2 ^ 64 → number_up_to limit (decimal n) ≡ Some n
+unfolding number_up_to
 number_decimal limit n low short =
     let value : digits_value 10 (decimal n) ≡ n = digits_value-decimal own n short in
     let long : 0 < length (decimal n) = decimal_nonempty n short in
@@ -185,7 +185,7 @@ no_sign (first ∷ more) n e low =
     let plus : first ≢ 43 = omega (arith, digit.0) in
     let f : eqb first 45 ≡ false = grind (arith, nat_tests) in
     let g : eqb first 43 ≡ false = grind (arith, nat_tests) in
-    rw (f, g) (ap not_below_zero (ap (number_in (2 ^ 63)) e ∙ number_decimal (2 ^ 63) n low short))
+    rw (f, g) (ap not_below_zero (ap (number_up_to (2 ^ 63)) e ∙ number_decimal (2 ^ 63) n low short))
 
 pub int_decimal : (z : ℤ) → IsShort z → int_in (signed_decimal z) ≡ Some z
 unfolding int_in

@@ -12,8 +12,8 @@ use Rattle.std.proofs.lemmas.List.{take_at, drop_at, take-append-drop, length-ap
 use Rattle.resp_core.specs.Reply.{Reply, Replies, nil, int, bulk, array, simple, okay, pairs, no_replies, reply, replies_of, items_in}
 use Rattle.resp.specs.declared.fault.Fault.{Fault}
 use Rattle.resp.specs.declared.fault.Fault.TheVariants.{Incomplete, Malformed, TooDeep}
-use Rattle.resp.specs.Forms.{Answer, answer_before, all_of, array_of_all, simple_of, number_in, int_in, length_in, crlf, line, count, form, forms, depth, depth_items, HasForm, HaveForm, IsInLine, IsFlat, InOrder, IsNested, IsForm}
-use Rattle.resp.specs.Reading.{◌>>=◌, or_malformed, Items, ended, text_of, after_text, is_before_digits, is_before_length, int_at, length_at, bytes_at, flat_at, times_at, items_at, array_at, front_at, answer_at}
+use Rattle.resp.specs.Forms.{Answer, answer_before, all_of, array_of_all, simple_of, number_up_to, int_in, length_in, crlf, line, count, form, forms, depth, depth_items, HasForm, HaveForm, IsInLine, IsFlat, InOrder, IsNested, IsForm}
+use Rattle.resp.specs.Reading.{◌>>=◌, or_malformed, Items, ended, text_until_line_end, after_text, is_before_digits, is_before_length, int_at, length_at, bytes_at, flat_at, times_at, array_items_at, array_at, front_at, answer_at}
 use Rattle.resp.proofs.Steps.{bind_ok, done, ok_is, chosen, some_of}
 use Rattle.resp.proofs.Digits.{number_decimal, int_decimal, in_line_decimal, in_line_int}
 use Rattle.resp.proofs.Lines.{line_is, text_in_line, text_again, after_again, ended_takes}
@@ -152,49 +152,49 @@ abbrev NestedTaken : (Answer → List ℕ → Type 0) → List ℕ → List ℕ 
 NestedTaken Each text after x = (body : List ℕ) × (after ≡ 13 ∷ 10 ∷ (body ++ x.1)) × IsNested Each x.0 42 text body
 
 nested_takes : (Each : Answer → List ℕ → Type 0) (read : List ℕ → Result (Answer × List ℕ) Fault) → Reads Each read
-    → (bytes : List ℕ) (x : Answer × List ℕ) → array_at (times_at read) bytes ≡ Ok x → NestedTaken Each (text_of bytes) (after_text bytes) x
-unfolding array_at items_at
+    → (bytes : List ℕ) (x : Answer × List ℕ) → array_at (times_at read) bytes ≡ Ok x → NestedTaken Each (text_until_line_end bytes) (after_text bytes) x
+unfolding array_at array_items_at
 nested_takes Each read each bytes x e =
-    let a = bind_ok (length_at (text_of bytes) (after_text bytes)) (λ y. items_at (times_at read) y.0 y.1) x e in
-    let l = length_takes (text_of bytes) (after_text bytes) a.0 a.1 in
+    let a = bind_ok (length_at (text_until_line_end bytes) (after_text bytes)) (λ y. array_items_at (times_at read) y.0 y.1) x e in
+    let l = length_takes (text_until_line_end bytes) (after_text bytes) a.0 a.1 in
     elim l.1 [
       | inl q ↦
-          let found : items_at (times_at read) None a.0.1 ≡ Ok x = subst (λ (o : Option ℕ). items_at (times_at read) o a.0.1 ≡ Ok x) q.1 a.2 in
+          let found : array_items_at (times_at read) None a.0.1 ≡ Ok x = subst (λ (o : Option ℕ). array_items_at (times_at read) o a.0.1 ≡ Ok x) q.1 a.2 in
           let is = ok_is (Ok nil, a.0.1) x found in
           ([], l.0 ∙ ap (λ (y : Answer × List ℕ). 13 ∷ 10 ∷ y.1) is, inl (refl, refl, q.0, sym (ap (λ (y : Answer × List ℕ). y.0) is)))
       | inr q ↦
-          let found : items_at (times_at read) (Some q.0) a.0.1 ≡ Ok x = subst (λ (o : Option ℕ). items_at (times_at read) o a.0.1 ≡ Ok x) q.2 a.2 in
+          let found : array_items_at (times_at read) (Some q.0) a.0.1 ≡ Ok x = subst (λ (o : Option ℕ). array_items_at (times_at read) o a.0.1 ≡ Ok x) q.2 a.2 in
           let b = bind_ok (times_at read q.0 a.0.1) (λ y. Ok (array_of_all y.0, y.1)) x found in
           let t = times_take Each read each q.0 a.0.1 b.0 b.1 in
           let is = ok_is (array_of_all b.0.0, b.0.1) x b.2 in
           (t.1, l.0 ∙ ap (λ (r : List ℕ). 13 ∷ 10 ∷ r) t.3 ∙ ap (λ (y : Answer × List ℕ). 13 ∷ 10 ∷ (t.1 ++ y.1)) is, inr (refl, t.0, q.1 ∙ ap (λ (k : ℕ). Some k) (sym t.2), t.4, sym (ap (λ (y : Answer × List ℕ). y.0) is) ∙ ap array_of_all t.5))
     ]
 
-spelt : (mark : ℕ) (bytes body rest : List ℕ) → after_text bytes ≡ 13 ∷ 10 ∷ (body ++ rest) → mark ∷ bytes ≡ (line mark (text_of bytes) ++ body) ++ rest
+spelt : (mark : ℕ) (bytes body rest : List ℕ) → after_text bytes ≡ 13 ∷ 10 ∷ (body ++ rest) → mark ∷ bytes ≡ (line mark (text_until_line_end bytes) ++ body) ++ rest
 spelt mark bytes body rest e =
-    ap (λ (t : List ℕ). mark ∷ t) (line_is bytes ∙ ap (λ (t : List ℕ). text_of bytes ++ t) e ∙ sym (after_line (text_of bytes) (body ++ rest)))
-    ∙ sym (append_assoc (line mark (text_of bytes)) body rest)
+    ap (λ (t : List ℕ). mark ∷ t) (line_is bytes ∙ ap (λ (t : List ℕ). text_until_line_end bytes ++ t) e ∙ sym (after_line (text_until_line_end bytes) (body ++ rest)))
+    ∙ sym (append_assoc (line mark (text_until_line_end bytes)) body rest)
 
 pub answer_takes : (levels : ℕ) (bytes : List ℕ) (x : Answer × List ℕ) → answer_at levels bytes ≡ Ok x → (f : List ℕ) × (bytes ≡ f ++ x.1) × IsForm levels x.0 f
 unfolding answer_at front_at IsForm
 answer_takes zero [] x e = absurd cc
 answer_takes (suc levels) [] x e = absurd cc
 answer_takes zero (mark ∷ bytes) x e =
-    elim (chosen (eqb mark 42) (Err TooDeep) (flat_at mark (text_of bytes) (after_text bytes)) (done x) e) [
+    elim (chosen (eqb mark 42) (Err TooDeep) (flat_at mark (text_until_line_end bytes) (after_text bytes)) (done x) e) [
       | inl p ↦ absurd cc
       | inr p ↦
-          let t = flat_takes mark (text_of bytes) (after_text bytes) x p.1 in
-          (line mark (text_of bytes) ++ t.0, spelt mark bytes t.0 x.1 t.1, (mark, text_of bytes, t.0, refl, text_in_line bytes, t.2))
+          let t = flat_takes mark (text_until_line_end bytes) (after_text bytes) x p.1 in
+          (line mark (text_until_line_end bytes) ++ t.0, spelt mark bytes t.0 x.1 t.1, (mark, text_until_line_end bytes, t.0, refl, text_in_line bytes, t.2))
     ]
 answer_takes (suc levels) (mark ∷ bytes) x e =
-    elim (chosen (eqb mark 42) (array_at (times_at (answer_at levels)) bytes) (flat_at mark (text_of bytes) (after_text bytes)) (done x) e) [
+    elim (chosen (eqb mark 42) (array_at (times_at (answer_at levels)) bytes) (flat_at mark (text_until_line_end bytes) (after_text bytes)) (done x) e) [
       | inl p ↦
           let m : 42 ≡ mark = sym (eqb-true mark 42 p.0) in
           let t = nested_takes (IsForm levels) (answer_at levels) (answer_takes levels) bytes x p.1 in
-          (line mark (text_of bytes) ++ t.0, spelt mark bytes t.0 x.1 t.1, (mark, text_of bytes, t.0, refl, text_in_line bytes, inr (subst (λ (k : ℕ). IsNested (IsForm levels) x.0 k (text_of bytes) t.0) m t.2)))
+          (line mark (text_until_line_end bytes) ++ t.0, spelt mark bytes t.0 x.1 t.1, (mark, text_until_line_end bytes, t.0, refl, text_in_line bytes, inr (subst (λ (k : ℕ). IsNested (IsForm levels) x.0 k (text_until_line_end bytes) t.0) m t.2)))
       | inr p ↦
-          let t = flat_takes mark (text_of bytes) (after_text bytes) x p.1 in
-          (line mark (text_of bytes) ++ t.0, spelt mark bytes t.0 x.1 t.1, (mark, text_of bytes, t.0, refl, text_in_line bytes, inl t.2))
+          let t = flat_takes mark (text_until_line_end bytes) (after_text bytes) x p.1 in
+          (line mark (text_until_line_end bytes) ++ t.0, spelt mark bytes t.0 x.1 t.1, (mark, text_until_line_end bytes, t.0, refl, text_in_line bytes, inl t.2))
     ]
 
 -- ---- what is a form
@@ -203,7 +203,7 @@ eqb_zero : (b : ℕ) (rest : List ℕ) → eqb (length (b ∷ rest)) 0 ≡ false
 eqb_zero b rest = grind (arith, nat_tests)
 
 minus_one : length_in (codes "-1") ≡ None
-unfolding number_in
+unfolding number_up_to
 minus_one = refl
 
 pub length_again : (text body : List ℕ) (n : ℕ) → length_in text ≡ Some n → length_at text (13 ∷ 10 ∷ body) ≡ Ok (Some n, body)
@@ -249,15 +249,15 @@ times_again Each read each (a ∷ answers) f h =
 
 nested_again : (Each : Answer → List ℕ → Type 0) (read : List ℕ → Result (Answer × List ℕ) Fault)
     → ((a : Answer) (f rest : List ℕ) → Each a f → read (f ++ rest) ≡ Ok (a, rest))
-    → (a : Answer) (mark : ℕ) (text body bytes : List ℕ) → IsNested Each a mark text body → text_of bytes ≡ text → after_text bytes ≡ 13 ∷ 10 ∷ body
+    → (a : Answer) (mark : ℕ) (text body bytes : List ℕ) → IsNested Each a mark text body → text_until_line_end bytes ≡ text → after_text bytes ≡ 13 ∷ 10 ∷ body
     → (mark ≡ 42) × (array_at (times_at read) bytes ≡ Ok (a, []))
-unfolding array_at items_at
+unfolding array_at array_items_at
 nested_again Each read each a mark text body bytes (inl h) t e = (h.0, rw (t, e, h.1, h.3, nothing_again text [] h.2) refl)
 nested_again Each read each a mark text body bytes (inr h) t e =
     (h.0, rw (t, e, h.4, length_again text body (length h.1) h.2, times_again Each read each h.1 body h.3) refl)
 
-line_text : (text body : List ℕ) → AllByRecursion IsInLine text → text_of ((text ++ crlf) ++ body) ≡ text
-line_text text body clean = ap text_of (after_line text body) ∙ text_again text (10 ∷ body) clean
+line_text : (text body : List ℕ) → AllByRecursion IsInLine text → text_until_line_end ((text ++ crlf) ++ body) ≡ text
+line_text text body clean = ap text_until_line_end (after_line text body) ∙ text_again text (10 ∷ body) clean
 
 line_after : (text body : List ℕ) → AllByRecursion IsInLine text → after_text ((text ++ crlf) ++ body) ≡ 13 ∷ 10 ∷ body
 line_after text body clean = ap after_text (after_line text body) ∙ after_again text (10 ∷ body) clean

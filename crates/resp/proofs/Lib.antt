@@ -7,3 +7,6 @@ pub mod Complete
 pub mod Times
 pub mod Fronts
 pub mod Written
+pub mod Readers
+pub mod NumberLines
+pub mod RequestGrammar

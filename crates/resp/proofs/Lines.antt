@@ -7,7 +7,7 @@ use Rattle.std.proofs.lemmas.List.{take_all, take_more, drop_more, drop_all}
 use Rattle.resp_core.proofs.Cases.{by_test}
 use Rattle.resp.specs.declared.fault.Fault.TheVariants.{Incomplete, Malformed}
 use Rattle.resp.specs.Forms.{IsInLine}
-use Rattle.resp.specs.Reading.{ended, text_of, after_text}
+use Rattle.resp.specs.Reading.{ended, text_until_line_end, after_text}
 use Rattle.resp.proofs.Steps.{done, ok_is, chosen, both}
 
 abbrev pub is_end : ℕ → Bool
@@ -34,23 +34,23 @@ test_from_in_line b h =
     rw (f, g) refl
 
 -- a text and what follows it are the bytes
-pub line_is : (bytes : List ℕ) → bytes ≡ text_of bytes ++ after_text bytes
-unfolding text_of after_text
+pub line_is : (bytes : List ℕ) → bytes ≡ text_until_line_end bytes ++ after_text bytes
+unfolding text_until_line_end after_text
 line_is [] = refl
 line_is (b ∷ bytes) = by_test (is_end b)
     (λ t. rw t refl)
     (λ f. rw f (ap (λ (t : List ℕ). b ∷ t) (line_is bytes)))
 
-pub text_in_line : (bytes : List ℕ) → AllByRecursion IsInLine (text_of bytes)
-unfolding text_of
+pub text_in_line : (bytes : List ℕ) → AllByRecursion IsInLine (text_until_line_end bytes)
+unfolding text_until_line_end
 text_in_line [] = tt
 text_in_line (b ∷ bytes) = by_test (is_end b)
     (λ t. rw t tt)
     (λ f. rw f (in_line_from_test b f, text_in_line bytes))
 
 -- the text of a line that has its end
-pub text_again : (text rest : List ℕ) → AllByRecursion IsInLine text → text_of (text ++ (13 ∷ rest)) ≡ text
-unfolding text_of
+pub text_again : (text rest : List ℕ) → AllByRecursion IsInLine text → text_until_line_end (text ++ (13 ∷ rest)) ≡ text
+unfolding text_until_line_end
 text_again [] rest h = refl
 text_again (b ∷ text) rest h =
     let f = test_from_in_line b h.0 in
@@ -65,8 +65,8 @@ after_again (b ∷ text) rest h =
 
 -- more bytes after a line's text that ended
 pub ended_longer : (bytes more : List ℕ) (b : ℕ) (rest : List ℕ) → after_text bytes ≡ b ∷ rest
-    → (text_of (bytes ++ more) ≡ text_of bytes) × (after_text (bytes ++ more) ≡ b ∷ (rest ++ more))
-unfolding text_of after_text
+    → (text_until_line_end (bytes ++ more) ≡ text_until_line_end bytes) × (after_text (bytes ++ more) ≡ b ∷ (rest ++ more))
+unfolding text_until_line_end after_text
 ended_longer [] more b rest e = absurd cc
 ended_longer (c ∷ bytes) more b rest e = by_test (is_end c)
     (λ t.
@@ -78,8 +78,8 @@ ended_longer (c ∷ bytes) more b rest e = by_test (is_end c)
 
 -- more bytes after a line's text that goes on
 pub open_longer : (bytes more : List ℕ) → after_text bytes ≡ []
-    → (text_of bytes ≡ bytes) × (text_of (bytes ++ more) ≡ bytes ++ text_of more) × (after_text (bytes ++ more) ≡ after_text more)
-unfolding text_of after_text
+    → (text_until_line_end bytes ≡ bytes) × (text_until_line_end (bytes ++ more) ≡ bytes ++ text_until_line_end more) × (after_text (bytes ++ more) ≡ after_text more)
+unfolding text_until_line_end after_text
 open_longer [] more e = (refl, refl, refl)
 open_longer (c ∷ bytes) more e = by_test (is_end c)
     (λ t. absurd (no (rw t at e)))
@@ -110,36 +110,36 @@ ended_takes (b ∷ c ∷ more) rest e =
 -- ---- as the loop finds it
 
 abbrev pub OpenUntil : ℕ → List ℕ → Type 0
-OpenUntil i bytes = (text_of bytes ≡ take i bytes ++ text_of (drop i bytes)) × (after_text bytes ≡ after_text (drop i bytes))
+OpenUntil i bytes = (text_until_line_end bytes ≡ take i bytes ++ text_until_line_end (drop i bytes)) × (after_text bytes ≡ after_text (drop i bytes))
 
 pub open_more : (bytes : List ℕ) (i : ℕ) → i < length bytes → get_or bytes i 0 ≢ 13 → get_or bytes i 0 ≢ 10 → OpenUntil i bytes → OpenUntil (i + 1) bytes
-unfolding text_of after_text
+unfolding text_until_line_end after_text
 open_more bytes i lt one two so_far =
     let b = get_or bytes i 0 in
     let f = test_from_in_line b (one, two) in
     let here : drop i bytes ≡ b ∷ drop (i + 1) bytes = drop_more bytes i 0 lt in
     let front : take (i + 1) bytes ≡ take i bytes ++ b ∷ [] = take_more bytes i 0 lt in
-    let text : text_of (drop i bytes) ≡ b ∷ text_of (drop (i + 1) bytes) = ap text_of here ∙ rw f refl in
+    let text : text_until_line_end (drop i bytes) ≡ b ∷ text_until_line_end (drop (i + 1) bytes) = ap text_until_line_end here ∙ rw f refl in
     let after : after_text (drop i bytes) ≡ after_text (drop (i + 1) bytes) = ap after_text here ∙ rw f refl in
-    (so_far.0 ∙ ap (λ (t : List ℕ). take i bytes ++ t) text ∙ sym (append_assoc (take i bytes) (b ∷ []) (text_of (drop (i + 1) bytes))) ∙ ap (λ (t : List ℕ). t ++ text_of (drop (i + 1) bytes)) (sym front), so_far.1 ∙ after)
+    (so_far.0 ∙ ap (λ (t : List ℕ). take i bytes ++ t) text ∙ sym (append_assoc (take i bytes) (b ∷ []) (text_until_line_end (drop (i + 1) bytes))) ∙ ap (λ (t : List ℕ). t ++ text_until_line_end (drop (i + 1) bytes)) (sym front), so_far.1 ∙ after)
 
-pub open_stops : (bytes : List ℕ) (i : ℕ) → i < length bytes → is_end (get_or bytes i 0) ≡ true → OpenUntil i bytes → (take i bytes ≡ text_of bytes) × (drop i bytes ≡ after_text bytes)
-unfolding text_of after_text
+pub open_stops : (bytes : List ℕ) (i : ℕ) → i < length bytes → is_end (get_or bytes i 0) ≡ true → OpenUntil i bytes → (take i bytes ≡ text_until_line_end bytes) × (drop i bytes ≡ after_text bytes)
+unfolding text_until_line_end after_text
 open_stops bytes i lt t so_far =
     let b = get_or bytes i 0 in
     let here : drop i bytes ≡ b ∷ drop (i + 1) bytes = drop_more bytes i 0 lt in
-    let text : text_of (drop i bytes) ≡ [] = ap text_of here ∙ rw t refl in
+    let text : text_until_line_end (drop i bytes) ≡ [] = ap text_until_line_end here ∙ rw t refl in
     let after : after_text (drop i bytes) ≡ b ∷ drop (i + 1) bytes = ap after_text here ∙ rw t refl in
     (sym (so_far.0 ∙ ap (λ (u : List ℕ). take i bytes ++ u) text ∙ append-nil (take i bytes)), here ∙ sym (so_far.1 ∙ after))
 
-pub open_to_the_end : (bytes : List ℕ) (i : ℕ) → length bytes ≤ i → OpenUntil i bytes → (take (length bytes) bytes ≡ text_of bytes) × (drop (length bytes) bytes ≡ after_text bytes)
-unfolding text_of after_text
+pub open_to_the_end : (bytes : List ℕ) (i : ℕ) → length bytes ≤ i → OpenUntil i bytes → (take (length bytes) bytes ≡ text_until_line_end bytes) × (drop (length bytes) bytes ≡ after_text bytes)
+unfolding text_until_line_end after_text
 open_to_the_end bytes i le so_far =
     let none : drop i bytes ≡ [] = drop_all i bytes le in
     let nothing : drop (length bytes) bytes ≡ [] = drop_all (length bytes) bytes (omega arith) in
     let whole : take i bytes ≡ bytes = take_all i bytes le in
     let all : take (length bytes) bytes ≡ bytes = take_all (length bytes) bytes (omega arith) in
-    (all ∙ sym whole ∙ sym (so_far.0 ∙ ap (λ (u : List ℕ). take i bytes ++ text_of u) none ∙ append-nil (take i bytes)), nothing ∙ sym (so_far.1 ∙ ap after_text none))
+    (all ∙ sym whole ∙ sym (so_far.0 ∙ ap (λ (u : List ℕ). take i bytes ++ text_until_line_end u) none ∙ append-nil (take i bytes)), nothing ∙ sym (so_far.1 ∙ ap after_text none))
 
 pub end_13 : (b : ℕ) → b ≡ 13 → is_end b ≡ true
 end_13 b e = rw e refl

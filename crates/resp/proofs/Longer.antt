@@ -10,7 +10,7 @@ use Rattle.resp_core.specs.Reply.{int, bulk}
 use Rattle.resp.specs.declared.fault.Fault.{Fault}
 use Rattle.resp.specs.declared.fault.Fault.TheVariants.{Incomplete, Malformed, TooDeep}
 use Rattle.resp.specs.Forms.{Answer, answer_before, array_of_all, simple_of, int_in, length_in}
-use Rattle.resp.specs.Reading.{◌>>=◌, or_malformed, Items, ended, text_of, after_text, is_before_digits, int_at, length_at, bytes_at, flat_at, times_at, items_at, array_at, front_at, answer_at}
+use Rattle.resp.specs.Reading.{◌>>=◌, or_malformed, Items, ended, text_until_line_end, after_text, is_before_digits, int_at, length_at, bytes_at, flat_at, times_at, array_items_at, array_at, front_at, answer_at}
 use Rattle.resp.proofs.Digits.{HasDigits, int_longer, length_longer}
 use Rattle.resp.proofs.Lines.{ended_longer, open_longer}
 
@@ -55,15 +55,15 @@ pub cases_of : (xs : List ℕ) → (xs ≡ []) ⊎ ((b : ℕ) × (rest : List �
 cases_of [] = inl refl
 cases_of (b ∷ rest) = inr (b, rest, refl)
 
-pub line_continues : {A : Type 0} (by_text : List ℕ → List ℕ → Result (A × List ℕ) Fault) → Steady by_text → Continuous (λ bytes. by_text (text_of bytes) (after_text bytes))
+pub line_continues : {A : Type 0} (by_text : List ℕ → List ℕ → Result (A × List ℕ) Fault) → Steady by_text → Continuous (λ bytes. by_text (text_until_line_end bytes) (after_text bytes))
 line_continues by_text steady bytes more =
     elim (cases_of (after_text bytes)) [
       | inl e ↦
           let l = open_longer bytes more e in
-          rw (e, l.1, l.2, l.0) (steady.1 bytes (text_of more) (after_text more) more)
+          rw (e, l.1, l.2, l.0) (steady.1 bytes (text_until_line_end more) (after_text more) more)
       | inr p ↦
           let l = ended_longer bytes more p.0 p.1 p.2 in
-          rw (p.2, l.0, l.1) (steady.0 (text_of bytes) p.0 p.1 more)
+          rw (p.2, l.0, l.1) (steady.0 (text_until_line_end bytes) p.0 p.1 more)
     ]
 
 -- ---- numbers
@@ -147,7 +147,7 @@ int_steady = (λ text b rest more. rw (eqb_zero b rest, eqb_zero b (rest ++ more
         let has = has_digits text f in
         rw (f, digits_off (text ++ t) after (has_longer text t has)) (open_number (int_in text) (int_in (text ++ t)) (λ n. n) after more (int_longer text t has)))
 
-pub ints_continue : Continuous (λ bytes. int_at (text_of bytes) (after_text bytes))
+pub ints_continue : Continuous (λ bytes. int_at (text_until_line_end bytes) (after_text bytes))
 ints_continue = line_continues int_at int_steady
 
 -- ---- lengths
@@ -176,7 +176,7 @@ length_steady = (ended_text, unended)
         let r = empty_off (text ++ t) (not_empty_longer text t some) in
         rw (f, g, p, q, r, and_false (eqb (length after) 0)) (open_number (length_in text) (length_in (text ++ t)) (λ n. Some n) after more (length_longer text t some))))
 
-pub lengths_continue : Continuous (λ bytes. length_at (text_of bytes) (after_text bytes))
+pub lengths_continue : Continuous (λ bytes. length_at (text_until_line_end bytes) (after_text bytes))
 lengths_continue = line_continues length_at length_steady
 
 -- ---- an answer
@@ -205,12 +205,12 @@ bytes_continue (Some n) rest more = by_test (ltb (length rest) n)
 text_steady : {A : Type 0} (means : List ℕ → A) → Steady (λ text after. ended after >>= λ rest. Ok (means text, rest))
 text_steady means = (λ text b rest more. end_continues (means text) (b ∷ rest) more, λ text t after more. tt)
 
-flat_continues : (mark : ℕ) → Continuous (λ bytes. flat_at mark (text_of bytes) (after_text bytes))
+flat_continues : (mark : ℕ) → Continuous (λ bytes. flat_at mark (text_until_line_end bytes) (after_text bytes))
 unfolding flat_at
 flat_continues mark bytes more = by_test (eqb mark 36)
-    (λ t. rw t (continues_bind (length_at (text_of bytes) (after_text bytes)) (length_at (text_of (bytes ++ more)) (after_text (bytes ++ more))) (λ x. bytes_at x.0 x.1) more (lengths_continue bytes more) (λ n rest. bytes_continue n rest more)))
+    (λ t. rw t (continues_bind (length_at (text_until_line_end bytes) (after_text bytes)) (length_at (text_until_line_end (bytes ++ more)) (after_text (bytes ++ more))) (λ x. bytes_at x.0 x.1) more (lengths_continue bytes more) (λ n rest. bytes_continue n rest more)))
     (λ f. by_test (eqb mark 58)
-    (λ t. rw (f, t) (continues_bind (int_at (text_of bytes) (after_text bytes)) (int_at (text_of (bytes ++ more)) (after_text (bytes ++ more))) (λ x. Ok (Ok (int x.0), x.1)) more (ints_continue bytes more) (λ n rest. refl)))
+    (λ t. rw (f, t) (continues_bind (int_at (text_until_line_end bytes) (after_text bytes)) (int_at (text_until_line_end (bytes ++ more)) (after_text (bytes ++ more))) (λ x. Ok (Ok (int x.0), x.1)) more (ints_continue bytes more) (λ n rest. refl)))
     (λ g. by_test (eqb mark 43)
     (λ t. rw (f, g, t) (line_continues (λ text after. ended after >>= λ rest. Ok (Ok (simple_of text), rest)) (text_steady (λ text. Ok (simple_of text))) bytes more))
     (λ h. by_test (eqb mark 45)
@@ -224,8 +224,8 @@ times_continue read each (suc n) bytes more =
     continues_bind (read bytes) (read (bytes ++ more)) (λ first. times_at read n first.1 >>= λ others. Ok (answer_before first.0 others.0, others.1)) more (each bytes more)
     (λ a rest. continues_bind (times_at read n rest) (times_at read n (rest ++ more)) (λ others. Ok (answer_before a others.0, others.1)) more (times_continue read each n rest more) (λ answers after. refl))
 
-items_continue : (items : ℕ → List ℕ → Result (Items × List ℕ) Fault) → ((n : ℕ) → Continuous (items n)) → (n : Option ℕ) → Continuous (items_at items n)
-unfolding items_at
+items_continue : (items : ℕ → List ℕ → Result (Items × List ℕ) Fault) → ((n : ℕ) → Continuous (items n)) → (n : Option ℕ) → Continuous (array_items_at items n)
+unfolding array_items_at
 items_continue items each None rest more = refl
 items_continue items each (Some n) rest more =
     continues_bind (items n rest) (items n (rest ++ more)) (λ x. Ok (array_of_all x.0, x.1)) more (each n rest more) (λ answers after. refl)
@@ -233,7 +233,7 @@ items_continue items each (Some n) rest more =
 pub array_continues : (items : ℕ → List ℕ → Result (Items × List ℕ) Fault) → ((n : ℕ) → Continuous (items n)) → Continuous (array_at items)
 unfolding array_at
 array_continues items each bytes more =
-    continues_bind (length_at (text_of bytes) (after_text bytes)) (length_at (text_of (bytes ++ more)) (after_text (bytes ++ more))) (λ x. items_at items x.0 x.1) more (lengths_continue bytes more) (λ n rest. items_continue items each n rest more)
+    continues_bind (length_at (text_until_line_end bytes) (after_text bytes)) (length_at (text_until_line_end (bytes ++ more)) (after_text (bytes ++ more))) (λ x. array_items_at items x.0 x.1) more (lengths_continue bytes more) (λ n rest. items_continue items each n rest more)
 
 front_continues : (nested : List ℕ → Result (Answer × List ℕ) Fault) → Continuous nested → Continuous (front_at nested)
 unfolding front_at

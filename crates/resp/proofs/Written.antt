@@ -1,6 +1,6 @@
 -- What is written of values.
 use Rattle.std.proofs.Common.{◌≡◌, ◌++◌, ◌+◌, ◌<◌, ◌≤◌, ◌^◌, ℕ, zero, suc, List, [], ◌∷◌, Vec, Global, Some, None, slice_get, get_or, take, length, map, decimal, refl, sym, ap, subst, ◌∙◌, append_assoc, append-nil, arith}
-use Rattle.std.specs.List.{flat_map}
+use Rattle.std.specs.List.{flat_map, AllByRecursion}
 use Rattle.std.proofs.lemmas.List.{length-map, take_more}
 use Rattle.std.proofs.lemmas.List.Concat.{flat_map-append}
 use Rattle.std.proofs.lemmas.Option.{get_or_from_slice_get, slice_get-get_or}
@@ -39,6 +39,16 @@ words_more before head words i word lt is =
     ap (flat_map bulk_form) more ∙ flat_map-append bulk_form (take i words) (word ∷ []) ∙ ap (λ (t : List ℕ). flat_map bulk_form (take i words) ++ t) (append-nil (bulk_form word)) in
     append_assoc before (head ++ flat_map bulk_form (take i words)) (bulk_form word)
     ∙ ap (λ (t : List ℕ). before ++ t) (append_assoc head (flat_map bulk_form (take i words)) (bulk_form word) ∙ ap (λ (t : List ℕ). head ++ t) (sym spelt))
+
+short_push : (words : List (List ℕ)) (word : List ℕ) → AllByRecursion (λ w. length w < 2 ^ 63) words → length word < 2 ^ 63 → AllByRecursion (λ w. length w < 2 ^ 63) (words ++ word ∷ [])
+short_push [] word all short = (short, tt)
+short_push (w ∷ words) word all short = (all.0, short_push words word all.1 short)
+
+pub short_more : (words : List (List ℕ)) (i : ℕ) (word : List ℕ) → i < length words → word ≡ get_or words i [] → length word < 2 ^ 63
+    → AllByRecursion (λ w. length w < 2 ^ 63) (take i words) → AllByRecursion (λ w. length w < 2 ^ 63) (take (i + 1) words)
+short_more words i word lt is short so_far =
+    let more : take (i + 1) words ≡ take i words ++ word ∷ [] = take_more words i [] lt ∙ ap (λ (w : List ℕ). take i words ++ w ∷ []) (sym is) in
+    rw more (short_push (take i words) word so_far short)
 
 -- what holds of all values holds of the one at a place
 pub item_has_form : (vs : List Value) (i : ℕ) (v : Value) → i < length vs → v ≡ get_or vs i v → HaveForm (replies_of (map view vs)) → HasForm (view v)

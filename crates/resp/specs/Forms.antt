@@ -28,8 +28,8 @@ IsInLine b = (b ≢ 13) × (b ≢ 10)
 -- ---- numbers
 
 -- the number that one or more digits write, if it is below a limit: of "007", 7
-unfoldable pub number_in : ℕ → List ℕ → Option ℕ
-number_in limit text =
+unfoldable pub number_up_to : ℕ → List ℕ → Option ℕ
+number_up_to limit text =
     if nat_lt 0 (length text) && (all_ascii_digits text && nat_lt (digits_value 10 text) limit)
     then Some (digits_value 10 text)
     else None
@@ -47,13 +47,13 @@ below_zero (Some (suc n)) = Some (negsuc n)
 unfoldable pub int_in : List ℕ → Option ℤ
 int_in [] = None
 int_in (first ∷ more) =
-    if first == 45 then below_zero (number_in (2 ^ 63 + 1) more)
-    else (if first == 43 then not_below_zero (number_in (2 ^ 63) more)
-    else not_below_zero (number_in (2 ^ 63) (first ∷ more)))
+    if first == 45 then below_zero (number_up_to (2 ^ 63 + 1) more)
+    else (if first == 43 then not_below_zero (number_up_to (2 ^ 63) more)
+    else not_below_zero (number_up_to (2 ^ 63) (first ∷ more)))
 
 -- the length or the count that a text announces: of "5", 5, and none of "-5"
 abbrev pub length_in : List ℕ → Option ℕ
-length_in = number_in (2 ^ 63)
+length_in = number_up_to (2 ^ 63)
 
 -- ---- what a server answers
 
@@ -113,10 +113,10 @@ IsFlat a mark text body =
     × (body ≡ bytes ++ crlf) × (a ≡ Ok (bulk bytes)))
 
 -- each of these is a form of the one at its place, in the order of the list
-abbrev pub InOrder : (Answer → List ℕ → Type 0) → List Answer → List ℕ → Type 0
+abbrev pub InOrder : {X : Type 0} → (X → List ℕ → Type 0) → List X → List ℕ → Type 0
 InOrder Each [] bytes = bytes ≡ []
-InOrder Each (a ∷ answers) bytes = (form : List ℕ) × (rest : List ℕ)
-    × (bytes ≡ form ++ rest) × Each a form × InOrder Each answers rest
+InOrder Each (x ∷ xs) bytes = (form : List ℕ) × (rest : List ℕ)
+    × (bytes ≡ form ++ rest) × Each x form × InOrder Each xs rest
 
 -- "*-1", and an array with its items
 abbrev pub IsNested : (Answer → List ℕ → Type 0) → Answer → ℕ → List ℕ → List ℕ → Type 0
@@ -195,6 +195,18 @@ abbrev mutual
   HaveForm no_replies = Unit {0}
   HaveForm (reply r rs) = HasForm r × HaveForm rs
 
--- a request: an array of bulk strings
+-- ---- requests
+
+-- a bulk string: "$3", the end of a line, "abc", and the end of a line
+abbrev pub IsBulk : List ℕ → List ℕ → Type 0
+IsBulk bytes form = (text : List ℕ) × (length_in text ≡ Some (length bytes))
+    × (form ≡ line 36 text ++ (bytes ++ crlf))
+
+-- a request with these arguments: an array of bulk strings
+abbrev pub IsRequest : List (List ℕ) → List ℕ → Type 0
+IsRequest args form = (text : List ℕ) × (body : List ℕ) × (length_in text ≡ Some (length args))
+    × (form ≡ line 42 text ++ body) × InOrder IsBulk args body
+
+-- the one form that is written
 abbrev pub request : List (List ℕ) → List ℕ
 request args = line 42 (decimal (length args)) ++ flat_map bulk_form args

@@ -1,3 +1,4 @@
 pub mod Forms
 pub mod Reading
+pub mod Requests
 pub mod Texts

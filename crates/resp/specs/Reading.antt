@@ -2,6 +2,7 @@
 -- `IsForm`; the contract of `read` joins the two.
 use Rattle.std.specs.Prelude.{◌≡◌, ◌==◌, ◌++◌, ℕ, ℤ, zero, suc, Bool, ◌&&◌, ◌||◌, nat_lt, if◌then◌else◌, List, [], ◌∷◌, length, take, drop, codes, bytes_eq, Option, Some, None, Result, Ok, Err}
 use Rattle.resp_core.specs.Reply.{Reply, nil, int, bulk}
+use Rattle.resp.specs.declared.reading.TheConstants.{MAX_LEVELS}
 use Rattle.resp.specs.declared.fault.Fault.{Fault}
 use Rattle.resp.specs.declared.fault.Fault.TheVariants.{Incomplete, Malformed, TooDeep}
 use Rattle.resp.specs.declared.fault.ReadError.{ReadError}
@@ -25,9 +26,9 @@ Gives view (Err e) read = Fails e read
 -- ---- a line
 
 -- the text of the line that begins here, and what follows the text
-unfoldable pub text_of : List ℕ → List ℕ
-text_of [] = []
-text_of (b ∷ bytes) = if b == 13 || b == 10 then [] else b ∷ text_of bytes
+unfoldable pub text_until_line_end : List ℕ → List ℕ
+text_until_line_end [] = []
+text_until_line_end (b ∷ bytes) = if b == 13 || b == 10 then [] else b ∷ text_until_line_end bytes
 
 unfoldable pub after_text : List ℕ → List ℕ
 after_text [] = []
@@ -96,21 +97,21 @@ times_at read (suc n) bytes = read bytes >>= λ first.
     times_at read n first.1 >>= λ others. Ok (answer_before first.0 others.0, others.1)
 
 -- an array of so many items, or nil
-unfoldable pub items_at : (ℕ → List ℕ → Result (Items × List ℕ) Fault) → Option ℕ → List ℕ
+unfoldable pub array_items_at : (ℕ → List ℕ → Result (Items × List ℕ) Fault) → Option ℕ → List ℕ
     → Result (Answer × List ℕ) Fault
-items_at items None rest = nothing_at rest
-items_at items (Some n) rest = items n rest >>= λ x. Ok (array_of_all x.0, x.1)
+array_items_at items None rest = nothing_at rest
+array_items_at items (Some n) rest = items n rest >>= λ x. Ok (array_of_all x.0, x.1)
 
 -- an array, from behind its mark
 unfoldable pub array_at : (ℕ → List ℕ → Result (Items × List ℕ) Fault) → List ℕ
     → Result (Answer × List ℕ) Fault
-array_at items bytes = length_at (text_of bytes) (after_text bytes) >>= λ x. items_at items x.0 x.1
+array_at items bytes = length_at (text_until_line_end bytes) (after_text bytes) >>= λ x. array_items_at items x.0 x.1
 
 unfoldable pub front_at : (List ℕ → Result (Answer × List ℕ) Fault) → List ℕ
     → Result (Answer × List ℕ) Fault
 front_at nested [] = Err Incomplete
 front_at nested (mark ∷ bytes) =
-    if mark == 42 then nested bytes else flat_at mark (text_of bytes) (after_text bytes)
+    if mark == 42 then nested bytes else flat_at mark (text_until_line_end bytes) (after_text bytes)
 
 -- the answer at the front, in which arrays stand at most so deep in arrays, and what follows it
 unfoldable pub answer_at : ℕ → List ℕ → Result (Answer × List ℕ) Fault
@@ -121,12 +122,12 @@ answer_at (suc levels) bytes = front_at (array_at (times_at (answer_at levels)))
 
 -- some more bytes make a whole answer of these
 abbrev pub CanBeCompleted : List ℕ → Type 0
-CanBeCompleted bytes = (more : List ℕ) × (a : Answer) × IsForm 32 a (bytes ++ more)
+CanBeCompleted bytes = (more : List ℕ) × (a : Answer) × IsForm MAX_LEVELS a (bytes ++ more)
 
 -- whatever follows these bytes, no answer stands at the front
 abbrev pub BeginsNone : List ℕ → Type 0
 BeginsNone bytes = (more : List ℕ) (a : Answer) (form rest : List ℕ)
-    → IsForm 32 a form → bytes ++ more ≡ form ++ rest → ⊥
+    → IsForm MAX_LEVELS a form → bytes ++ more ≡ form ++ rest → ⊥
 
 abbrev pub Cause : List ℕ → ReadError → Type 0
 Cause bytes errors.Memory = Unit {0}

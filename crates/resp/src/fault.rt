@@ -1,5 +1,5 @@
 ghost use Rattle.std.specs.Prelude.{◌≡◌, Some};
-ghost use Rattle.resp.specs.Texts.{fault_text, read_error_text, write_error_text};
+ghost use Rattle.resp.specs.Texts.{fault_text, read_error_text, request_fault_text, request_error_text, write_error_text};
 ghost use Rattle.resp.specs.declared.fault.ReadError.TheVariants.{Memory};
 ghost use Rattle.resp.specs.declared.fault.WriteError.TheVariants as write;
 
@@ -14,7 +14,7 @@ pub enum Fault {
     Incomplete,
     /// No reply begins so, whatever follows.
     Malformed,
-    /// Arrays stand in arrays deeper than `MAX_LEVELS`.
+    /// More arrays than `MAX_LEVELS` stand in one another.
     TooDeep,
 }
 
@@ -69,6 +69,50 @@ impl<T: Drop> From<AllocFailed<T>> for ReadError {
         ReadError::Memory
     }
 }
+
+/// What is wrong with the bytes of a request.
+#[derive(Clone, Copy, Debug, PartialEq, Eq)]
+pub enum RequestFault {
+    /// The bytes end before the request does. More bytes can complete it.
+    Incomplete,
+    /// No request has the byte at this index there. What stands before it begins one.
+    Malformed(usize),
+}
+
+impl fmt::Display for RequestFault {
+    ghost output = { λ fault. Some (request_fault_text fault) };
+
+    fn fmt<W: fmt::Write>(&self, f: &mut fmt::Formatter<W>) -> fmt::Result {
+        match self {
+            RequestFault::Incomplete => write!(f, "the bytes end before the request does"),
+            RequestFault::Malformed(index) => write!(f, "the byte {index} stands in no request"),
+        }
+    }
+}
+
+impl Error for RequestFault {}
+
+/// Why no request could be read.
+#[derive(Debug, Drop)]
+pub enum RequestError {
+    /// Memory ran out.
+    Memory,
+    /// No whole request stands at the front of the bytes.
+    Fault(RequestFault),
+}
+
+impl fmt::Display for RequestError {
+    ghost output = { λ error. Some (request_error_text error) };
+
+    fn fmt<W: fmt::Write>(&self, f: &mut fmt::Formatter<W>) -> fmt::Result {
+        match self {
+            RequestError::Memory => write!(f, "out of memory"),
+            RequestError::Fault(fault) => write!(f, "{fault}"),
+        }
+    }
+}
+
+impl Error for RequestError {}
 
 /// Why a value could not be written.
 #[derive(Debug, Drop)]

@@ -1,6 +1,6 @@
 ghost use Rattle.std.specs.Prelude.{◌≡◌, IfOk};
 ghost use Rattle.resp.specs.Forms.{answer, simple_of};
-ghost use Rattle.resp.specs.Reading.{Gives, text_of, after_text, ended, is_before_digits, is_before_length, int_at, length_at, bytes_at, flat_at};
+ghost use Rattle.resp.specs.Reading.{Gives, text_until_line_end, after_text, ended, is_before_digits, is_before_length, int_at, length_at, bytes_at, flat_at};
 ghost use Rattle.resp_core.specs.View.{view};
 
 use crate::fault::{Fault, ReadError};
@@ -11,7 +11,7 @@ use std::alloc::{AllocError, Global};
 
 /// The text of the line that begins here, and what follows the text.
 pub(super) fn line_of(bytes: &[u8]) -> (&[u8], &[u8])
-    ensures text { result.0.now ≡ text_of bytes.now }
+    ensures text { result.0.now ≡ text_until_line_end bytes.now }
     ensures after { result.1.now ≡ after_text bytes.now }
 {
     for (end, b) in bytes.iter().enumerate() {

@@ -6,10 +6,13 @@ mod fault;
 mod fields;
 mod numbers;
 mod reading;
+mod requests;
 mod response;
+mod stop;
 mod writing;
 
-pub use fault::{Fault, ReadError, WriteError};
+pub use fault::{Fault, ReadError, RequestError, RequestFault, WriteError};
 pub use reading::{MAX_LEVELS, read};
+pub use requests::{read_request, request_len};
 pub use response::Response;
 pub use writing::{write, write_command};

@@ -1,10 +1,10 @@
 ghost use Rattle.std.specs.Prelude.{◌≡◌, ◌≤◌, ◌^◌, ◌+◌, ◌<◌, Some};
-ghost use Rattle.resp.specs.Forms.{number_in, int_in, length_in, below_zero, not_below_zero};
+ghost use Rattle.resp.specs.Forms.{number_up_to, int_in, length_in, below_zero, not_below_zero};
 
 /// The number that one or more digits write, if it is below a limit.
 pub(super) fn number_of(text: &[u8], limit: u64) -> Option<u64>
     requires { (10 ≤ limit) × (limit ≤ 2 ^ 63 + 1) }
-    ensures { result ≡ number_in limit text.now }
+    ensures { result ≡ number_up_to limit text.now }
 {
     let [_, ..] = text else {
         return None;

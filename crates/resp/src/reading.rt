@@ -8,7 +8,7 @@ use crate::response::Response;
 use resp_core::Value;
 use std::alloc::Global;
 
-/// How deep arrays may stand in arrays.
+/// How many arrays may stand in one another, the outermost counted.
 pub const MAX_LEVELS: u8 = 32;
 
 /// Reads the answer at the front of some bytes, and gives it with the bytes after it.
@@ -17,8 +17,8 @@ pub const MAX_LEVELS: u8 = 32;
 /// `Value` holds none. A simple string that is not UTF-8 is read as the bulk string of its bytes.
 /// `*-1` is nil. Inline commands and the types of version 3 are `Malformed`.
 ///
-/// Memory is taken for what was read alone, never for a length that is only announced, and the
-/// stack is bounded by `MAX_LEVELS`. The cost is linear in the bytes. A caller that reads anew
+/// Memory is taken for what was read alone, never for a length that is only announced, which tests
+/// show and no clause says. The stack is bounded by `MAX_LEVELS`. The cost is linear in the bytes. A caller that reads anew
 /// each time more bytes have come pays for all bytes so far each time.
 ///
 /// # Errors
@@ -28,14 +28,14 @@ pub const MAX_LEVELS: u8 = 32;
 pub fn read(alloc: Global, bytes: &[u8]) -> Result<(Response, &[u8]), ReadError>
     // What is read stands there,
     ensures found { IfOk result (λ x. (form : List ℕ)
-        × (bytes.now ≡ form ++ x.1.now) × IsForm 32 (answer x.0) form) }
+        × (bytes.now ≡ form ++ x.1.now) × IsForm MAX_LEVELS (answer x.0) form) }
     // and each form that stands there is read, whatever follows, unless memory runs out.
-    ensures only { (a : Answer) (form rest : List ℕ) → IsForm 32 a form → bytes.now ≡ form ++ rest
+    ensures only { (a : Answer) (form rest : List ℕ) → IsForm MAX_LEVELS a form → bytes.now ≡ form ++ rest
         → Gives {Y = Answer × List ℕ} (λ x. (answer x.0, x.1.now)) result (Ok (a, rest)) }
     // Incomplete bytes can be completed; malformed ones, and those too deep, can't.
     ensures cause { IfErr result (λ e. Cause bytes.now e) }
     // The first fault from the left is told.
-    ensures exact { Gives (λ x. (answer x.0, x.1.now)) result (answer_at 32 bytes.now) }
+    ensures exact { Gives (λ x. (answer x.0, x.1.now)) result (answer_at MAX_LEVELS bytes.now) }
 {
     response_at(alloc, bytes, MAX_LEVELS)
 }

@@ -5,6 +5,6 @@ use resp_core::Value;
 pub enum Response {
     /// A value.
     Value(Value),
-    /// The text of an error, as `ERR unknown command`: the bytes of the line behind its mark.
+    /// The text of an error, as `ERR unknown command`: the bytes of the line behind its `-`.
     Error(Vec<u8>),
 }

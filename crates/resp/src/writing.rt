@@ -1,8 +1,8 @@
-ghost use Rattle.std.specs.Prelude.{◌≡◌, ◌++◌, ◌≤◌, ◌↔◌, length, decimal, map, OnOk, IfOk, IfErr, IsTrue, Ok};
+ghost use Rattle.std.specs.Prelude.{◌≡◌, ◌++◌, ◌≤◌, ◌<◌, ◌^◌, ◌↔◌, length, decimal, map, OnOk, IfOk, IfErr, IsTrue, Ok};
 ghost use Rattle.std.specs.List.{flat_map, AllByRecursion};
 ghost use Rattle.resp_core.specs.Reply.{simple, replies_of};
 ghost use Rattle.resp_core.specs.View.{view};
-ghost use Rattle.resp.specs.Forms.{line, form, forms, bulk_form, request, depth, depth_items, HasForm, HaveForm, IsInLine, IsForm};
+ghost use Rattle.resp.specs.Forms.{line, form, forms, bulk_form, request, IsRequest, depth, depth_items, HasForm, HaveForm, IsInLine, IsForm};
 
 use crate::fault::WriteError;
 use crate::reading::MAX_LEVELS;
@@ -20,11 +20,11 @@ use std::alloc::{AllocError, Global};
 pub fn write(alloc: Global, value: &Value) -> Result<Vec<u8>, WriteError>
     ensures bytes { IfOk result (λ bytes. bytes.items ≡ form (view value.now)) }
     // They are a form of the value: `read` reads them, whatever follows.
-    ensures readable { IfOk result (λ bytes. IsForm 32 (Ok (view value.now)) bytes.items) }
+    ensures readable { IfOk result (λ bytes. IsForm MAX_LEVELS (Ok (view value.now)) bytes.items) }
     ensures form { IfOk result (λ bytes. HasForm (view value.now)) }
-    ensures depth { IfOk result (λ bytes. depth (view value.now) ≤ 32) }
+    ensures depth { IfOk result (λ bytes. depth (view value.now) ≤ MAX_LEVELS) }
     // It is refused for its form only where it has none.
-    ensures refused { HasForm (view value.now) → depth (view value.now) ≤ 32
+    ensures refused { HasForm (view value.now) → depth (view value.now) ≤ MAX_LEVELS
         → IfErr result (λ e. e ≡ WriteError.Memory) }
 {
     let mut out = Vec::new(alloc);
@@ -32,13 +32,15 @@ pub fn write(alloc: Global, value: &Value) -> Result<Vec<u8>, WriteError>
     Ok(out)
 }
 
-/// The bytes of a request: an array of bulk strings.
+/// The bytes of a request: an array of bulk strings, which `read_request` reads as this command.
 ///
 /// # Errors
 ///
 /// If memory runs out.
 pub fn write_command(alloc: Global, command: &Cmd) -> Result<Vec<u8>, AllocError>
-    ensures { IfOk result (λ bytes. bytes.items ≡ request command.now) }
+    ensures bytes { IfOk result (λ bytes. bytes.items ≡ request command.now) }
+    // They are a form of the command: `read_request` reads them, whatever follows.
+    ensures readable { IfOk result (λ bytes. IsRequest command.now bytes.items) }
 {
     let mut out = Vec::new(alloc);
     push_count(&mut out, b'*', command.len())?;
@@ -51,7 +53,8 @@ pub fn write_command(alloc: Global, command: &Cmd) -> Result<Vec<u8>, AllocError
 }
 
 fn push_bulk(out: &mut Vec<u8>, bytes: &[u8]) -> Result<(), AllocError>
-    ensures { OnOk result (out.new.items ≡ out.old.items ++ bulk_form bytes.now) }
+    ensures bytes { OnOk result (out.new.items ≡ out.old.items ++ bulk_form bytes.now) }
+    ensures short { OnOk result (length bytes.now < 2 ^ 63) }
 {
     push_count(out, b'$', bytes.len())?;
     out.extend_from_slice(bytes)?;

@@ -6,4 +6,6 @@ mod hostile;
 #[cfg(test)]
 mod reading;
 #[cfg(test)]
+mod requests;
+#[cfg(test)]
 mod writing;
