@@ -1,0 +1,130 @@
+-- Replies one after the other.
+use Rattle.std.proofs.Common.{◌≡◌, ℕ, ◌+◌, ◌-◌, ◌<◌, List, [], ◌∷◌, ◌++◌, length, append_assoc, append-nil, refl, sym, ap, subst, ◌∙◌, arith}
+use Rattle.std.proofs.lemmas.List.{length-append}
+use Rattle.resp_core.specs.Reply.{Reply}
+use Rattle.resp.specs.Forms.{InOrder}
+use Rattle.redis_bytes.specs.declared.fault.BytesFault.{BytesFault}
+use Rattle.redis_bytes.specs.declared.fault.BytesFault.TheVariants as faults
+use Rattle.redis_bytes.specs.Replies.{IsReply, AreReplies, IsNoValue, IsFirstUnread, AreFollowed, AreUnread}
+
+abbrev none : List Reply
+none = []
+
+-- replies that stand at the front
+pub record Stand (bytes rest : List ℕ) (replies : List Reply) : Type 0 where
+  pub front : List ℕ
+  pub bytes_are : bytes ≡ front ++ rest
+  pub are : AreReplies replies front
+
+pub none_stand : (bytes : List ℕ) → Stand bytes bytes []
+none_stand bytes = record { front = []; bytes_are = refl; are = refl }
+
+in_order_push : {X : Type 0} (Each : X → List ℕ → Type 0) (xs : List X) (x : X) (front form : List ℕ) → InOrder Each xs front → Each x form → InOrder Each (xs ++ x ∷ []) (front ++ form)
+in_order_push Each [] x front form are is = (form, [], ap (λ (t : List ℕ). t ++ form) are ∙ sym (append-nil form), is, refl)
+in_order_push Each (y ∷ ys) x front form are is = (
+  are.0,
+  are.1 ++ form,
+  ap (λ (t : List ℕ). t ++ form) are.2 ∙ append_assoc are.0 are.1 form,
+  are.3,
+  in_order_push Each ys x are.1 form are.4 is,
+)
+
+pub one_more_stands : (bytes rest after form : List ℕ) (replies : List Reply) (reply : Reply) → Stand bytes rest replies → rest ≡ form ++ after → IsReply reply form → Stand bytes after (replies ++ reply ∷ [])
+one_more_stands bytes rest after form replies reply so_far next is = record {
+  front = so_far.front ++ form;
+  bytes_are = so_far.bytes_are ∙ ap (λ (t : List ℕ). so_far.front ++ t) next ∙ sym (append_assoc so_far.front form after);
+  are = in_order_push IsReply replies reply so_far.front form so_far.are is;
+}
+
+-- replies that are all of the bytes begin with those that were read
+pub record Goes (all : List Reply) (rest : List ℕ) (replies : List Reply) : Type 0 where
+  pub later : List Reply
+  pub all_are : all ≡ replies ++ later
+  pub are : AreReplies later rest
+
+abbrev pub Only : ℕ → List ℕ → List ℕ → List Reply → Type 0
+Only count bytes rest replies = (all : List Reply) → length all ≡ count → AreReplies all bytes → Goes all rest replies
+
+pub only_none : (count : ℕ) (bytes : List ℕ) → Only count bytes bytes []
+only_none count bytes = λ all long are. record { later = all; all_are = refl; are = are }
+
+-- the reply that stands first in what is left is this one, with this after it
+abbrev pub IsNext : List ℕ → (Reply → List ℕ → Type 0) → Type 0
+IsNext rest Found = (reply : Reply) (form after : List ℕ) → IsReply reply form → rest ≡ form ++ after → Found reply after
+
+pub only_more : (count : ℕ) (bytes rest left : List ℕ) (replies : List Reply) (reply : Reply) → Only count bytes rest replies → length replies < count
+    → IsNext rest (λ r after. (reply ≡ r) × (left ≡ after)) → Only count bytes left (replies ++ reply ∷ [])
+only_more count bytes rest left replies reply so_far few next = λ all long are.
+    let o = so_far all long are in
+    goes all o.later o.all_are o.are long
+  where
+    goes : (all later : List Reply) → all ≡ replies ++ later → AreReplies later rest → length all ≡ count → Goes all left (replies ++ reply ∷ [])
+    goes all [] is are long = absurd (omega (arith, few, long, ap (length {A = Reply}) is, length-append replies none))
+    goes all (r ∷ later) is are long =
+        let found = next r are.0 are.1 are.3 are.2 in
+        record {
+          later = later;
+          all_are = is ∙ ap (λ (x : Reply). replies ++ x ∷ later) (sym found.0) ∙ sym (append_assoc replies (reply ∷ []) later);
+          are = subst (AreReplies later) (sym found.1) are.4;
+        }
+
+pub only_fails : {P : Type 0} (count : ℕ) (bytes rest : List ℕ) (replies : List Reply) → Only count bytes rest replies → length replies < count
+    → IsNext rest (λ r after. P) → (all : List Reply) → length all ≡ count → AreReplies all bytes → P
+only_fails {P = P} count bytes rest replies so_far few next all long are =
+    let o = so_far all long are in
+    fails o.later o.all_are o.are
+  where
+    fails : (later : List Reply) → all ≡ replies ++ later → AreReplies later rest → P
+    fails [] is a = absurd (omega (arith, few, long, ap (length {A = Reply}) is, length-append replies none))
+    fails (r ∷ later) is a = next r a.0 a.1 a.3 a.2
+
+pub only_done : (count : ℕ) (bytes rest : List ℕ) (replies : List Reply) → Only count bytes rest replies → length replies ≡ count
+    → (all : List Reply) → length all ≡ count → AreReplies all bytes → (replies ≡ all) × (rest ≡ [])
+only_done count bytes rest replies so_far every all long are =
+    let o = so_far all long are in
+    done o.later o.all_are o.are
+  where
+    done : (later : List Reply) → all ≡ replies ++ later → AreReplies later rest → (replies ≡ all) × (rest ≡ [])
+    done [] is a = (sym (is ∙ append-nil replies), a)
+    done (r ∷ later) is a = absurd (omega (arith, every, long, ap (length {A = Reply}) is, length-append replies (r ∷ later)))
+
+-- ---- the fault
+
+first_unread : (count number : ℕ) (bytes rest : List ℕ) (replies : List Reply) (fault : BytesFault) → Stand bytes rest replies → length replies ≡ number → number < count → IsNoValue number rest fault → IsFirstUnread count bytes fault
+first_unread count number bytes rest replies fault so_far long few next = record {
+  replies = replies;
+  front = so_far.front;
+  rest = rest;
+  bytes_are = so_far.bytes_are;
+  are = so_far.are;
+  few = omega (arith, long, few);
+  next = subst (λ (n : ℕ). IsNoValue n rest fault) (sym long) next;
+}
+
+pub unread : (count number : ℕ) (bytes rest : List ℕ) (replies : List Reply) (fault : BytesFault) → Stand bytes rest replies → length replies ≡ number → number < count → IsNoValue number rest fault → AreUnread count bytes fault
+unread count number bytes rest replies faults.Memory so_far long few next = tt
+unread count number bytes rest replies (faults.Request f) so_far long few next = absurd next
+unread count number bytes rest replies (faults.AfterRequest n) so_far long few next = absurd next
+unread count number bytes rest replies faults.NotMultiKey so_far long few next = absurd next
+unread count number bytes rest replies (faults.Reply n f) so_far long few next = first_unread count number bytes rest replies (faults.Reply n f) so_far long few next
+unread count number bytes rest replies (faults.Error n text) so_far long few next = first_unread count number bytes rest replies (faults.Error n text) so_far long few next
+unread count number bytes rest replies (faults.AfterReplies n) so_far long few next = absurd next
+unread count number bytes rest replies (faults.Unfit kind) so_far long few next = absurd next
+unread count number bytes rest replies faults.NoForm so_far long few next = absurd next
+unread count number bytes rest replies faults.LineFeedInHost so_far long few next = absurd next
+
+-- where the first of the bytes that are left stands
+pub left_at : (bytes rest : List ℕ) (replies : List Reply) (so_far : Stand bytes rest replies) → length bytes ≡ length so_far.front + length rest
+left_at bytes rest replies so_far = ap (length {A = ℕ}) so_far.bytes_are ∙ length-append so_far.front rest
+
+pub followed : (count : ℕ) (bytes rest : List ℕ) (replies : List Reply) → Stand bytes rest replies → length replies ≡ count → 0 < length rest → AreFollowed count bytes (length bytes - length rest)
+followed count bytes rest replies so_far every some = record {
+  replies = replies;
+  front = so_far.front;
+  rest = rest;
+  bytes_are = so_far.bytes_are;
+  are = so_far.are;
+  all = every;
+  end_is = omega (arith, left_at bytes rest replies so_far);
+  more = some;
+}

@@ -1,0 +1,4 @@
+pub mod Requests
+pub mod Replies
+pub mod Table
+pub mod Texts

@@ -1,0 +1,103 @@
+-- The replies to the parts of a request, as bytes, and the one reply.
+use Rattle.std.specs.Prelude.{◌≡◌, ◌<◌, ◌≤◌, ◌⊎◌, ℕ, List, ◌++◌, Ok, Err, length}
+use Rattle.resp_core.specs.Reply.{Reply}
+use Rattle.resp.specs.Forms.{Answer, IsForm, InOrder, form, depth, HasForm}
+use Rattle.resp.specs.Reading.{Cause, answer_at}
+use Rattle.resp.specs.declared.reading.TheConstants.{MAX_LEVELS}
+use Rattle.resp.specs.declared.fault.ReadError.TheVariants as errors
+use Rattle.redis_routing.specs.Names.{Names}
+use Rattle.redis_routing.specs.Split.{Split}
+use Rattle.redis_cluster.specs.Joined.{joined}
+use Rattle.redis_bytes.specs.declared.fault.BytesFault.{BytesFault}
+use Rattle.redis_bytes.specs.declared.fault.BytesFault.TheVariants as faults
+use Rattle.redis_bytes.specs.declared.fault.BytesFault.TheVariants.{Memory, Error, AfterReplies, Unfit, NoForm}
+use Rattle.redis_bytes.specs.Requests.{IsSplitRequest, IsUnsplit}
+
+-- the bytes are a form of the reply, or of the error
+abbrev pub IsAnswer : Answer → List ℕ → Type 0
+IsAnswer answer bytes = IsForm MAX_LEVELS answer bytes
+
+abbrev pub IsReply : Reply → List ℕ → Type 0
+IsReply reply bytes = IsAnswer (Ok reply) bytes
+
+-- the bytes are forms of the replies, in their order
+abbrev pub AreReplies : List Reply → List ℕ → Type 0
+AreReplies replies bytes = InOrder IsReply replies bytes
+
+-- no whole answer stands at the front
+abbrev pub HasNoAnswer : List ℕ → Type 0
+HasNoAnswer bytes = (answer : Answer) (form rest : List ℕ) → IsAnswer answer form
+    → bytes ≡ form ++ rest → ⊥
+
+-- an error with this text stands at the front
+pub record BeginsError (bytes text : List ℕ) : Type 0 where
+  pub form : List ℕ
+  pub rest : List ℕ
+  pub bytes_are : bytes ≡ form ++ rest
+  pub is : IsAnswer (Err text) form
+
+-- why the reply of this number, which these bytes begin with, is no value
+abbrev pub IsNoValue : ℕ → List ℕ → BytesFault → Type 0
+IsNoValue number bytes Memory = Unit {0}
+IsNoValue number bytes (faults.Reply n fault) =
+    (n ≡ number) × (answer_at MAX_LEVELS bytes ≡ Err fault) × Cause bytes (errors.Fault fault)
+    × HasNoAnswer bytes
+IsNoValue number bytes (Error n text) = (n ≡ number) × BeginsError bytes text.items
+IsNoValue number bytes _ = ⊥
+
+-- Some replies stand at the front, fewer than so many, and the next is no value for this reason.
+pub record IsFirstUnread (count : ℕ) (bytes : List ℕ) (fault : BytesFault) : Type 0 where
+  pub replies : List Reply
+  pub front : List ℕ
+  pub rest : List ℕ
+  pub bytes_are : bytes ≡ front ++ rest
+  pub are : AreReplies replies front
+  pub few : length replies < count
+  pub next : IsNoValue (length replies) rest fault
+
+-- So many replies stand at the front, which end at this index, and something after them.
+pub record AreFollowed (count : ℕ) (bytes : List ℕ) (end : ℕ) : Type 0 where
+  pub replies : List Reply
+  pub front : List ℕ
+  pub rest : List ℕ
+  pub bytes_are : bytes ≡ front ++ rest
+  pub are : AreReplies replies front
+  pub all : length replies ≡ count
+  pub end_is : end ≡ length front
+  pub more : 0 < length rest
+
+-- why the bytes are not so many replies
+abbrev pub AreUnread : ℕ → List ℕ → BytesFault → Type 0
+AreUnread count bytes Memory = Unit {0}
+AreUnread count bytes (AfterReplies end) = AreFollowed count bytes end
+AreUnread count bytes fault = IsFirstUnread count bytes fault
+
+-- The bytes are a reply to each part.
+pub record AreAnswered (split : Split) (bytes : List ℕ) (replies : List Reply) : Type 0 where
+  pub all : length replies ≡ length split.routes
+  pub are : AreReplies replies bytes
+
+-- They make one, whose form the others are.
+pub record AreCombined (split : Split) (bytes combined : List ℕ) : Type 0 where
+  pub replies : List Reply
+  pub answered : AreAnswered split bytes replies
+  pub one : Reply
+  pub made : joined split replies ≡ Ok one
+  pub written : combined ≡ form one
+
+-- the reply has no form, or is too deep
+abbrev pub HasNoForm : Reply → Type 0
+HasNoForm reply = HasForm reply → depth reply ≤ MAX_LEVELS → ⊥
+
+-- why the replies to the parts make no one reply in bytes
+abbrev pub IsUnjoined : Split → List ℕ → BytesFault → Type 0
+IsUnjoined split bytes (Unfit kind) = (replies : List Reply) × AreAnswered split bytes replies
+    × (joined split replies ≡ Err kind)
+IsUnjoined split bytes NoForm = (replies : List Reply) × AreAnswered split bytes replies
+    × (one : Reply) × (joined split replies ≡ Ok one) × HasNoForm one
+IsUnjoined split bytes fault = AreUnread (length split.routes) bytes fault
+
+-- why replies to a request are not combined: the request is not split, or they are not joined
+abbrev pub IsUncombined : Names → List ℕ → List ℕ → BytesFault → Type 0
+IsUncombined names request replies fault = IsUnsplit names request fault
+    ⊎ ((split : Split) × IsSplitRequest names request split × IsUnjoined split replies fault)

@@ -1,0 +1,60 @@
+-- A request as bytes, and the requests of its parts.
+use Rattle.std.specs.Prelude.{◌≡◌, ◌<◌, ℕ, List, ◌++◌, Some, None, map, length}
+use Rattle.std.specs.List.{flat_map}
+use Rattle.resp.specs.Forms.{IsRequest, request}
+use Rattle.resp.specs.Requests.{RequestCause}
+use Rattle.resp_core.specs.ItemEnds.{item_ends}
+use Rattle.redis_routing.specs.Names.{Names}
+use Rattle.redis_routing.specs.Complete.{multi_slot_routes}
+use Rattle.redis_routing.specs.Split.{Split, slots_of, split_part}
+use Rattle.redis_cluster.specs.Joined.{IsSplitOf}
+use Rattle.redis_bytes.specs.declared.fault.BytesFault.{BytesFault}
+use Rattle.redis_bytes.specs.declared.fault.BytesFault.TheVariants.{Memory, Request, AfterRequest, NotMultiKey}
+use Rattle.redis_bytes.specs.declared.splitting.Parts.{Parts}
+
+-- the words of a command, of which 0 is its name
+abbrev pub Words : Type 0
+Words = List (List ℕ)
+
+-- no whole request stands at the front
+abbrev pub HasNoRequest : List ℕ → Type 0
+HasNoRequest bytes = (words : Words) (form rest : List ℕ) → IsRequest words form
+    → bytes ≡ form ++ rest → ⊥
+
+-- a request stands at the front, which ends at this index, and something after it
+pub record IsFollowed (bytes : List ℕ) (end : ℕ) : Type 0 where
+  pub words : Words
+  pub form : List ℕ
+  pub rest : List ℕ
+  pub bytes_are : bytes ≡ form ++ rest
+  pub is : IsRequest words form
+  pub end_is : end ≡ length form
+  pub more : 0 < length rest
+
+-- why the bytes are not one request
+abbrev pub IsUnread : List ℕ → BytesFault → Type 0
+IsUnread bytes Memory = Unit {0}
+IsUnread bytes (Request fault) = RequestCause bytes fault × HasNoRequest bytes
+IsUnread bytes (AfterRequest end) = IsFollowed bytes end
+IsUnread bytes _ = ⊥
+
+-- The bytes are one request, and it is split like this.
+pub record IsSplitRequest (names : Names) (bytes : List ℕ) (split : Split) : Type 0 where
+  pub words : Words
+  pub is : IsRequest words bytes
+  pub split_is : IsSplitOf names (map Some words) split
+
+-- For each route its part: the part's request, one after the other, and where each ends.
+pub record AreParts (split : Split) (parts : Parts) : Type 0 where
+  pub commands : List Words
+  pub each : map (map Some) commands ≡ map (split_part split) (slots_of split.routes)
+  pub routes : parts.routes.items ≡ map (λ r. r.0) split.routes
+  pub ends : parts.ends.items ≡ item_ends 0 (map request commands)
+  pub bytes : parts.bytes.items ≡ flat_map request commands
+
+-- why the bytes are not split: they are not one request, or not that of a complete command of many
+-- keys
+abbrev pub IsUnsplit : Names → List ℕ → BytesFault → Type 0
+IsUnsplit names bytes NotMultiKey = (words : Words) × IsRequest words bytes
+    × (multi_slot_routes names (map Some words) ≡ None)
+IsUnsplit names bytes fault = IsUnread bytes fault

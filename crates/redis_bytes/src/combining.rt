@@ -1,0 +1,106 @@
+ghost use Rattle.std.specs.Prelude.{◌≡◌, ◌⊎◌, List, Ok, map, length, IfOk, IfErr, MatchResult};
+ghost use Rattle.resp.specs.Forms.{form};
+ghost use Rattle.resp_core.specs.Reply.{Reply};
+ghost use Rattle.resp_core.specs.View.{view};
+ghost use Rattle.redis_routing.specs.Names.{names_in};
+ghost use Rattle.redis_routing.specs.Split.{Split};
+ghost use Rattle.redis_cluster.specs.MultiKey.{ReplyForm};
+ghost use Rattle.redis_cluster.specs.Unsplit.{TupleResult, reply_by};
+ghost use Rattle.redis_cluster.specs.Plan.{ArePartsAnswered};
+ghost use Rattle.redis_bytes.specs.Requests.{IsSplitRequest};
+ghost use Rattle.redis_bytes.specs.Replies.{AreReplies, AreCombined, HasNoForm, IsUnjoined, IsUncombined};
+
+use crate::fault::BytesFault;
+use crate::replies::replies_in;
+use crate::requests::command_in;
+use redis_cluster::driver::join_replies;
+use redis_routing::{Names, Routable, SplitCommand};
+use resp::{WriteError, write};
+use resp_core::{ErrorKind, RedisError, Value};
+use std::alloc::Global;
+
+/// The one reply to a request, by the replies to its parts, which stand one after the other in the
+/// order of the parts, whatever the order is in which they came. Where the parts of
+/// `DEL foo bar baz` answered `:1`, `:0` and `:1`, it is `:2`.
+///
+/// An error among the replies is never combined: it is told with its number and its text.
+///
+/// # Errors
+///
+/// In this order. For the request as `split`. `Reply` or `Error` for the first reply that cannot be
+/// read or is an error. `AfterReplies` where bytes follow the last one. `Unfit` where they are not
+/// what the parts answer with. `NoForm` where the one reply has no form. `Memory` if memory runs
+/// out.
+pub fn combine(
+    alloc: Global,
+    request: &[u8],
+    names: Names<'_>,
+    replies: &[u8],
+) -> Result<Vec<u8>, BytesFault>
+    // The bytes are a reply to each part, and they are joined by the command's policy.
+    ensures combined { IfOk result (λ combined. (split : Split)
+        × IsSplitRequest (names_in names.entry) request.now split
+        × AreCombined split replies.now combined.items) }
+    // Where they are the replies to the parts, the one reply is that of the unsplit command.
+    ensures unsplit { (split : Split) (reply_form : ReplyForm) (results : List TupleResult)
+        (parts : List Reply) → IsSplitRequest (names_in names.entry) request.now split
+        → ArePartsAnswered split reply_form results parts → AreReplies parts replies.now
+        → MatchResult result (λ combined. combined.items ≡ form (reply_by reply_form results))
+        (λ fault. (fault ≡ BytesFault.Memory)
+        ⊎ ((fault ≡ BytesFault.NoForm) × HasNoForm (reply_by reply_form results))) }
+    // Each fault has its cause.
+    ensures fault { IfErr result
+        (λ fault. IsUncombined (names_in names.entry) request.now replies.now fault) }
+{
+    let command = command_in(alloc, request)?;
+    let Some(split) = SplitCommand::new(alloc, &command, names)? else {
+        return Err(BytesFault::NotMultiKey);
+    };
+    joined(alloc, &split, replies)
+}
+
+/// The one reply to a split command, by the bytes of those to its parts.
+fn joined<R: Routable>(
+    alloc: Global,
+    split: &SplitCommand<'_, R>,
+    replies: &[u8],
+) -> Result<Vec<u8>, BytesFault>
+    ensures combined { IfOk result (λ combined. AreCombined split.now replies.now combined.items) }
+    ensures unsplit { (reply_form : ReplyForm) (results : List TupleResult) (parts : List Reply)
+        → ArePartsAnswered split.now reply_form results parts → AreReplies parts replies.now
+        → MatchResult result (λ combined. combined.items ≡ form (reply_by reply_form results))
+        (λ fault. (fault ≡ BytesFault.Memory)
+        ⊎ ((fault ≡ BytesFault.NoForm) × HasNoForm (reply_by reply_form results))) }
+    ensures fault { IfErr result (λ fault. IsUnjoined split.now replies.now fault) }
+{
+    let values = replies_in(alloc, split.len(), replies)?;
+    match join_replies(alloc, split, values) {
+        Ok(one) => written(alloc, &one),
+        Err(error) => Err(unfit(&error)),
+    }
+}
+
+/// The bytes of the one reply.
+fn written(alloc: Global, one: &Value) -> Result<Vec<u8>, BytesFault>
+    ensures bytes { IfOk result (λ bytes. bytes.items ≡ form (view one.now)) }
+    ensures fault { IfErr result (λ fault. (fault ≡ BytesFault.Memory)
+        ⊎ ((fault ≡ BytesFault.NoForm) × HasNoForm (view one.now))) }
+{
+    match write(alloc, one) {
+        Ok(bytes) => Ok(bytes),
+        Err(WriteError::Memory) => Err(BytesFault::Memory),
+        Err(WriteError::NoForm) => Err(BytesFault::NoForm),
+    }
+}
+
+/// The fault of replies that are not joined.
+fn unfit(error: &RedisError) -> BytesFault
+    ensures memory { error.now.kind ≡ ErrorKind.OutOfMemory → result ≡ BytesFault.Memory }
+    ensures other { (error.now.kind ≡ ErrorKind.OutOfMemory → ⊥)
+        → result ≡ BytesFault.Unfit error.now.kind }
+{
+    match error.kind() {
+        ErrorKind::OutOfMemory => BytesFault::Memory,
+        kind => BytesFault::Unfit(kind),
+    }
+}

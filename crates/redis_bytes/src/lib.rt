@@ -1,0 +1,17 @@
+//! A cluster's commands from bytes to bytes: where a request goes, the requests of its parts, and the
+//! one reply that the replies to these make.
+#![tactic(auto)]
+
+mod combining;
+mod fault;
+mod replies;
+mod requests;
+mod routing;
+mod splitting;
+mod tables;
+
+pub use combining::combine;
+pub use fault::BytesFault;
+pub use routing::route;
+pub use splitting::{Parts, split};
+pub use tables::{NO_NODE, SLOTS, Table, slot_map, slot_table};

@@ -1,0 +1,39 @@
+ghost use Rattle.std.specs.Prelude.{◌≡◌, Some, map, option_map, IfOk, IfErr, MatchResult};
+ghost use Rattle.resp.specs.Forms.{IsRequest};
+ghost use Rattle.redis_routing.specs.Names.{names_in};
+ghost use Rattle.redis_routing.specs.Routing.{routing};
+ghost use Rattle.redis_routing.specs.RoutingInfo.{as_routing};
+ghost use Rattle.redis_bytes.specs.Requests.{Words, IsUnread};
+
+use crate::fault::BytesFault;
+use crate::requests::command_in;
+use redis_routing::{Names, RoutingInfo};
+use std::alloc::Global;
+
+/// Where a request goes: `*2\r\n$3\r\nGET\r\n$3\r\nfoo\r\n` to a node of slot 12182, a request of many
+/// keys to a node of each slot, others to any node or to all. There is nothing where the layer does
+/// not route it. `names` tell which commands only read, and which names are registered.
+///
+/// # Errors
+///
+/// `Request` where the bytes begin no whole request, `AfterRequest` where bytes follow it. `Memory`
+/// if memory runs out.
+pub fn route(
+    alloc: Global,
+    request: &[u8],
+    names: Names<'_>,
+) -> Result<Option<RoutingInfo>, BytesFault>
+    // The bytes are one request, and the routing is that of its words.
+    ensures routed { IfOk result (λ info. (words : Words) × IsRequest words request.now
+        × (option_map as_routing info ≡ routing (names_in names.entry) (map Some words))) }
+    // Each request is routed, unless memory runs out,
+    ensures only { (words : Words) → IsRequest words request.now
+        → MatchResult result
+        (λ info. option_map as_routing info ≡ routing (names_in names.entry) (map Some words))
+        (λ fault. fault ≡ BytesFault.Memory) }
+    // and each fault has its cause.
+    ensures fault { IfErr result (λ fault. IsUnread request.now fault) }
+{
+    let command = command_in(alloc, request)?;
+    Ok(RoutingInfo::for_routable_with(alloc, &command, names.read_only, names.registry)?)
+}
