@@ -7,14 +7,14 @@ use Rattle.resp_core.specs.ErrorParts.{ErrorParts, out_of_memory}
 use Rattle.resp_core.specs.View.{view}
 use Rattle.resp_core.specs.declared.error.ErrorKind.TheVariants.{Client}
 use Rattle.resp_core.specs.declared.value.Value.{Value}
-use Rattle.redis_commands.specs.declared.policy.ResponsePolicy.TheVariants.{CombineArrays}
+use Rattle.redis_routing.specs.declared.policy.ResponsePolicy.TheVariants.{CombineArrays}
 use Rattle.redis_cluster.specs.Joined.{joined}
 use Rattle.redis_cluster.specs.Plan.{Plan}
-use Rattle.uses.specs.Batch.{Answers, after_telling, IsGathered, IsNotCombined, IsUngathered, IsClientRefusal, IsUntold}
+use Rattle.uses.specs.Batch.{Answers, IsGathered, IsNotCombined, IsUngathered, IsClientRefusal, IsUntold}
 use Rattle.uses.specs.declared.batcher.BatchError.{BatchError}
 use Rattle.uses.specs.declared.batcher.BatchError.TheVariants.{NotPlanned, NotAnswered, NotCombined, Memory}
 use Rattle.resp_core.proofs.Cases.{by_test}
-use Rattle.uses.proofs.Telling.{told_each}
+use Rattle.uses.proofs.Telling.{after_telling, told_each}
 
 -- an answer to no part is refused so
 pub refused_so : (plan : Plan) (answers : Answers) (replies : List Value) (e : BatchError)

@@ -4,7 +4,12 @@ use Rattle.std.proofs.lemmas.List.{length-map, map-append}
 use Rattle.std.specs.Prelude.{slice_get, slice_set, is_none}
 use Rattle.std.specs.Result.{is_err}
 use Rattle.std.specs.List.{list_any}
-use Rattle.uses.specs.Batch.{after_telling}
+
+-- the replies of a plan after these were told to its first routes, one after the other
+abbrev pub after_telling : {V : Type 0} → List (Option V) → List V → List (Option V)
+after_telling slots [] = slots
+after_telling [] (r ∷ rs) = Some r ∷ after_telling [] rs
+after_telling (s ∷ ss) (r ∷ rs) = Some r ∷ after_telling ss rs
 
 -- one more is told to the next part
 pub tell_next : {V : Type 0} (slots : List (Option V)) (told : List V) (reply : V)

@@ -7,12 +7,12 @@ use Rattle.resp_core.specs.declared.error.ErrorKind.TheVariants.{Client}
 use Rattle.resp_core.specs.declared.value.Value.{Value}
 use Rattle.cluster_map.specs.RangeMap as ranges
 use Rattle.cluster_map.specs.SlotNodes.{SlotNodes}
-use Rattle.redis_commands.specs.Command.{Arguments}
-use Rattle.redis_commands.specs.ReadOnly.{is_among}
+use Rattle.redis_routing.specs.Command.{Arguments}
+use Rattle.redis_cluster.specs.Names.{names_of}
 use Rattle.redis_cluster.specs.Faults.{IsPlanFault}
 use Rattle.redis_cluster.specs.Joined.{joined}
 use Rattle.redis_cluster.specs.Plan.{Plan}
-use Rattle.redis_cluster.specs.Driven.{routes_by}
+use Rattle.redis_cluster.specs.Driven.{command_routes_by}
 use Rattle.redis_cluster.specs.MultiKey.{part_by_slot}
 use Rattle.redis_cluster.specs.Sends.{Target}
 use Rattle.cluster_map.specs.RouteNode.{IsNodeOfRoute}
@@ -25,12 +25,6 @@ use Rattle.uses.specs.declared.batcher.NoReply.{NoReply}
 -- what came back for the parts, in the order of the routes
 abbrev pub Answers : Type 0
 Answers = List (Result Value NoReply)
-
--- the replies of a plan after these were told to its first routes, one after the other
-abbrev pub after_telling : {V : Type 0} → List (Option V) → List V → List (Option V)
-after_telling slots [] = slots
-after_telling [] (r ∷ rs) = Some r ∷ after_telling [] rs
-after_telling (s ∷ ss) (r ∷ rs) = Some r ∷ after_telling ss rs
 
 -- no reply was told yet
 abbrev pub IsUntold : Plan → Type 0
@@ -80,8 +74,8 @@ IsUngathered plan answers (NotCombined error) = IsNotCombined plan answers error
 IsUngathered plan answers Memory = Unit {0}
 
 -- a command that has no plan has the plan's fault, and nothing was sent
-abbrev pub IsUnplanned : List (ranges.Entry SlotNodes) → Arguments → Type 0 → BatchError → Type 0
-IsUnplanned entries args Unsent (NotPlanned fault) = IsPlanFault entries (is_among []) args fault × Unsent
+abbrev pub IsUnplanned : List (ranges.RangeEntry SlotNodes) → Arguments → Type 0 → BatchError → Type 0
+IsUnplanned entries args Unsent (NotPlanned fault) = IsPlanFault entries (names_of [] []) args fault × Unsent
 IsUnplanned entries args Unsent (NotAnswered number cause) = Unit {0}
 IsUnplanned entries args Unsent (NotCombined error) = Unit {0}
 IsUnplanned entries args Unsent Memory = Unit {0}
@@ -99,18 +93,18 @@ abbrev pub IsSame : (old new : Handed → Type 0) → Type 0
 IsSame old new = (before : Handed) → old before → new before
 
 -- In one call the part of each slot was handed over, to the primary of the slot.
-pub record AreHanded (entries : List (ranges.Entry SlotNodes)) (args : Arguments)
+pub record AreHanded (entries : List (ranges.RangeEntry SlotNodes)) (args : Arguments)
     (old new : Handed → Type 0) : Type 0 where
   pub routes : List SlotRoute
   pub parts : List Target
-  pub routes_are : routes_by (is_among []) args ≡ Some routes
+  pub routes_are : command_routes_by (names_of [] []) args ≡ Some routes
   pub added : AreAdded old new parts
   pub each : AllZip (λ route part. IsNodeOfRoute entries route 0 part.0
-      × (map Some part.1 ≡ part_by_slot args route.slot)) routes parts
+      × (map Some part.1 ≡ part_by_slot [] args route.slot)) routes parts
 
 -- They were handed over so, too, where there is no reply; where memory ran out, they were or were
 -- not.
-abbrev pub AreHandedOrNone : List (ranges.Entry SlotNodes) → Arguments
+abbrev pub AreHandedOrNone : List (ranges.RangeEntry SlotNodes) → Arguments
     → (old new : Handed → Type 0) → BatchError → Type 0
 AreHandedOrNone entries args old new (NotPlanned fault) = IsSame old new
 AreHandedOrNone entries args old new (NotAnswered number cause) = AreHanded entries args old new

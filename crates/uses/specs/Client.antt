@@ -6,7 +6,8 @@ use Rattle.cluster_map.specs.RouteNode.{IsNodeOfRoute}
 use Rattle.cluster_map.specs.SlotNodes.{SlotNodes}
 use Rattle.cluster_map.specs.SlotRoute.{SlotRoute}
 use Rattle.redis_cluster.specs.Driven.{Request, request, IsDelivered}
-use Rattle.redis_cluster.specs.ReadOnly.{is_among}
+use Rattle.redis_cluster.specs.Names.{names_of}
+use Rattle.redis_cluster.specs.Registry.{Registrations}
 use Rattle.redis_cluster.specs.Trace.{Entry}
 
 -- the words of the command that writes
@@ -17,15 +18,16 @@ write = codes "MSET" ∷ codes "a" ∷ codes "1" ∷ codes "b" ∷ codes "2" ∷
 abbrev pub read : List (List ℕ)
 read = codes "MGET" ∷ codes "a" ∷ codes "b" ∷ []
 
-module _ (slots : List (ranges.Entry SlotNodes)) where
+module _ (slots : List (ranges.RangeEntry SlotNodes)) where
   -- an address is that of the primary of the route's slot
   abbrev pub IsPrimary : SlotRoute → Address → Type 0
   IsPrimary route address = IsNodeOfRoute slots route 0 address
 
+module _ (slots : List (ranges.RangeEntry SlotNodes)) (registered : Registrations) where
   -- a command, with its parts in this order
   abbrev pub asked : (words : List (List ℕ)) (order : List ℕ) → Request
-  asked words order = request (map Some words) (is_among []) slots order
+  asked words order = request (map Some words) (names_of [] registered) slots order
 
   -- each part of the command went once, in this order, to the primary of its slot, and was answered
   abbrev pub AreSentOnce : (words : List (List ℕ)) (order : List ℕ) (old new : List Entry) → Type 0
-  AreSentOnce words order old new = IsDelivered IsPrimary (asked words order) old new
+  AreSentOnce words order old new = IsDelivered (IsPrimary slots) (asked words order) old new

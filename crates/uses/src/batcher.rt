@@ -6,7 +6,7 @@ ghost use Rattle.uses.specs.Batch.{AreAdded, AreHanded, AreHandedOrNone, IsSame,
 
 use cluster_map::{NodeAddress, SlotMap};
 use redis_cluster::driver::{PlanFault, SplitPlan};
-use redis_cluster::routing::ReadOnlyNames;
+use redis_cluster::routing::{Names, ReadOnlyNames, Registry};
 use resp_core::{Cmd, ErrorKind, RedisError, Value};
 use std::alloc::{AllocError, AllocFailed, Global};
 use std::error::Error;
@@ -109,8 +109,12 @@ pub fn batch<C: Connections>(
     ensures unplanned { IfErr result (λ error.
         IsUnplanned slot_map.now (map Some command.now) (connections.new ≡ connections.old) error) }
 {
-    let none_only_reads = ReadOnlyNames::new(alloc);
-    let plan = match SplitPlan::new(alloc, command, &none_only_reads, slot_map, None, 0) {
+    let (none_only_reads, none_registered) = (ReadOnlyNames::new(alloc), Registry::new(alloc));
+    let names = Names {
+        read_only: &none_only_reads,
+        registry: &none_registered,
+    };
+    let plan = match SplitPlan::new(alloc, command, names, slot_map, None, 0) {
         Ok(plan) => plan,
         Err(fault) => return Err(BatchError::NotPlanned(fault)),
     };

@@ -6,14 +6,15 @@ ghost use Rattle.redis_cluster.specs.Driven.{state};
 ghost use Rattle.redis_cluster.specs.Faults.{IsCut, IsFault, unseen};
 ghost use Rattle.redis_cluster.specs.Joined.{IsJoined};
 ghost use Rattle.redis_cluster.specs.MultiKey.{multi_key};
-ghost use Rattle.redis_cluster.specs.ReadOnly.{is_among};
+ghost use Rattle.redis_cluster.specs.Names.{names_of};
 ghost use Rattle.redis_cluster.specs.Trace.{Entry};
 ghost use Rattle.redis_cluster.specs.Unsplit.{keyspace_after, reply_to};
+ghost use Rattle.wire_nodes.specs.Held.{registry_in};
 ghost use Rattle.uses.specs.Client.{asked, read, write, AreSentOnce, IsPrimary};
 
 use cluster_map::{NodeAddress, SlotMap};
 use redis_cluster::driver::{DriveError, Nodes, SendError, drive};
-use redis_cluster::routing::ReadOnlyNames;
+use redis_cluster::routing::{ReadOnlyNames, Registry};
 use resp_core::{Cmd, ErrorKind, RedisError, Value};
 use std::alloc::{AllocError, Global};
 use wire_nodes::{Logged, Meaning, Transport, Wire, WireNodes};
@@ -57,12 +58,16 @@ impl From<AllocError> for ClientFault {
 }
 
 /// A client over a transport, which has sent nothing yet.
-pub fn client_over<T: Transport, M: Meaning>(transport: T) -> WireNodes<Logged<T>, M>
+pub fn client_over<T: Transport, M: Meaning>(
+    transport: T,
+    registry: Registry,
+) -> WireNodes<Logged<T>, M>
+    ensures registered { registry_in result ≡ registry }
     ensures unsent { ⟦<WireNodes<Logged<T>, M> as Nodes>⟧.trace result ≡ [] }
     ensures kept { ⟦<WireNodes<Logged<T>, M> as Nodes>⟧.kept result }
     ensures initial { ⟦<WireNodes<Logged<T>, M> as Nodes>⟧.keyspace result ≡ M.initial }
 {
-    WireNodes::over(transport)
+    WireNodes::over(transport, registry)
 }
 
 /// Writes `a` and `b`, which have two slots, and reads them.
@@ -82,17 +87,17 @@ pub fn write_and_read<W: Wire, M: Meaning>(
 ) -> Result<Value, ClientFault>
     // A value comes only where each part of both commands went once, and was answered.
     ensures once { IfOk result (λ value. (between : List Entry)
-        × AreSentOnce slot_map.now write (0 ∷ 1 ∷ [])
+        × AreSentOnce slot_map.now (registry_in client.old) write (0 ∷ 1 ∷ [])
         (⟦<WireNodes<W, M> as Nodes>⟧.trace client.old) between
-        × AreSentOnce slot_map.now read (1 ∷ 0 ∷ [])
+        × AreSentOnce slot_map.now (registry_in client.old) read (1 ∷ 0 ∷ [])
         between (⟦<WireNodes<W, M> as Nodes>⟧.trace client.new)) }
     // It is made of the values that came to the read, as the policy of `MGET` says.
     ensures joined { IfOk result (λ value. (before : List Reply)
-        × IsJoined (is_among []) (map Some read) (1 ∷ 0 ∷ [])
+        × IsJoined (names_of [] (registry_in client.old)) (map Some read) (1 ∷ 0 ∷ [])
         (λ replies. replies ≡ before) (⟦<WireNodes<W, M> as Nodes>⟧.gave client.new) (Ok (view value))) }
     // Where the servers answered as one would, it is what was written.
     ensures as_one { IfOk result (λ value. ⟦<WireNodes<W, M> as Nodes>⟧.kept client.new
-        → IfSome (multi_key (map Some write)) (λ set. IfSome (multi_key (map Some read)) (λ get.
+        → IfSome (multi_key (registry_in client.old) (map Some write)) (λ set. IfSome (multi_key (registry_in client.old) (map Some read)) (λ get.
         view value ≡ reply_to M.step get (keyspace_after M.step set
         (⟦<WireNodes<W, M> as Nodes>⟧.keyspace client.old))))) }
     // Memory that ran out before the first send leaves the client as it was.
@@ -100,23 +105,23 @@ pub fn write_and_read<W: Wire, M: Meaning>(
     // Of a write that failed, so many parts were answered, and no later one was sent.
     ensures not_written { IfErr result (λ fault. (error : DriveError)
         → fault ≡ ClientFault.Write error
-        → IsCut (IsPrimary slot_map.now) (asked slot_map.now write (0 ∷ 1 ∷ []))
+        → IsCut (IsPrimary slot_map.now) (asked slot_map.now (registry_in client.old) write (0 ∷ 1 ∷ []))
         (unseen (⟦<WireNodes<W, M> as Nodes>⟧.trace client.old) (⟦<WireNodes<W, M> as Nodes>⟧.mark client.old))
         (unseen (⟦<WireNodes<W, M> as Nodes>⟧.trace client.new) (⟦<WireNodes<W, M> as Nodes>⟧.mark client.new))
         (λ count ending. ⊤) error.fault error.answered) }
     // So it is with a read that failed, and each part of the write was answered.
     ensures not_read { IfErr result (λ fault. (error : DriveError)
         → fault ≡ ClientFault.Read error → (between : List Entry) × (mark : Bool)
-        × AreSentOnce slot_map.now write (0 ∷ 1 ∷ [])
+        × AreSentOnce slot_map.now (registry_in client.old) write (0 ∷ 1 ∷ [])
         (⟦<WireNodes<W, M> as Nodes>⟧.trace client.old) between
-        × IsCut (IsPrimary slot_map.now) (asked slot_map.now read (1 ∷ 0 ∷ []))
+        × IsCut (IsPrimary slot_map.now) (asked slot_map.now (registry_in client.old) read (1 ∷ 0 ∷ []))
         (unseen between mark)
         (unseen (⟦<WireNodes<W, M> as Nodes>⟧.trace client.new) (⟦<WireNodes<W, M> as Nodes>⟧.mark client.new))
         (λ count ending. ⊤) error.fault error.answered) }
     // Where the servers answered as one would, the keys hold what the answered parts wrote,
     ensures written_so_far { IfErr result (λ fault. (error : DriveError)
         → fault ≡ ClientFault.Write error → ⟦<WireNodes<W, M> as Nodes>⟧.kept client.new
-        → IsFault (IsPrimary slot_map.now) M.step (asked slot_map.now write (0 ∷ 1 ∷ []))
+        → IsFault (IsPrimary slot_map.now) M.step (asked slot_map.now (registry_in client.old) write (0 ∷ 1 ∷ []))
         (state (⟦<WireNodes<W, M> as Nodes>⟧.keyspace client.old) (⟦<WireNodes<W, M> as Nodes>⟧.trace client.old)
         (⟦<WireNodes<W, M> as Nodes>⟧.mark client.old))
         (state (⟦<WireNodes<W, M> as Nodes>⟧.keyspace client.new) (⟦<WireNodes<W, M> as Nodes>⟧.trace client.new)
@@ -125,8 +130,8 @@ pub fn write_and_read<W: Wire, M: Meaning>(
     // and after a read that failed what the write leaves, as the answered parts of the read leave it.
     ensures written { IfErr result (λ fault. (error : DriveError)
         → fault ≡ ClientFault.Read error → ⟦<WireNodes<W, M> as Nodes>⟧.kept client.new
-        → IfSome (multi_key (map Some write)) (λ set. (between : List Entry) × (mark : Bool)
-        × IsFault (IsPrimary slot_map.now) M.step (asked slot_map.now read (1 ∷ 0 ∷ []))
+        → IfSome (multi_key (registry_in client.old) (map Some write)) (λ set. (between : List Entry) × (mark : Bool)
+        × IsFault (IsPrimary slot_map.now) M.step (asked slot_map.now (registry_in client.old) read (1 ∷ 0 ∷ []))
         (state (keyspace_after M.step set (⟦<WireNodes<W, M> as Nodes>⟧.keyspace client.old)) between mark)
         (state (⟦<WireNodes<W, M> as Nodes>⟧.keyspace client.new) (⟦<WireNodes<W, M> as Nodes>⟧.trace client.new)
         (⟦<WireNodes<W, M> as Nodes>⟧.mark client.new))
@@ -153,31 +158,32 @@ fn drive_over<W: Wire, M: Meaning>(
     order: &[usize],
     client: &mut WireNodes<W, M>,
 ) -> Result<Value, DriveError>
-    ensures once { IfOk result (λ value. AreSentOnce slot_map.now command.now order.now
+    ensures once { IfOk result (λ value. AreSentOnce slot_map.now (registry_in client.old) command.now order.now
         (⟦<WireNodes<W, M> as Nodes>⟧.trace client.old) (⟦<WireNodes<W, M> as Nodes>⟧.trace client.new)) }
     ensures joined { IfOk result (λ value.
-        IsJoined (is_among []) (map Some command.now) order.now
+        IsJoined (names_of [] (registry_in client.old)) (map Some command.now) order.now
         (⟦<WireNodes<W, M> as Nodes>⟧.gave client.old) (⟦<WireNodes<W, M> as Nodes>⟧.gave client.new)
         (Ok (view value))) }
     ensures as_one { IfOk result (λ value. ⟦<WireNodes<W, M> as Nodes>⟧.kept client.new
-        → IfSome (multi_key (map Some command.now)) (λ whole.
+        → IfSome (multi_key (registry_in client.old) (map Some command.now)) (λ whole.
         (view value ≡ reply_to M.step whole
         (⟦<WireNodes<W, M> as Nodes>⟧.keyspace client.old))
         × (⟦<WireNodes<W, M> as Nodes>⟧.keyspace client.new ≡ keyspace_after M.step whole
         (⟦<WireNodes<W, M> as Nodes>⟧.keyspace client.old)))) }
     ensures cut { IfErr result (λ error.
-        IsCut (IsPrimary slot_map.now) (asked slot_map.now command.now order.now)
+        IsCut (IsPrimary slot_map.now) (asked slot_map.now (registry_in client.old) command.now order.now)
         (unseen (⟦<WireNodes<W, M> as Nodes>⟧.trace client.old) (⟦<WireNodes<W, M> as Nodes>⟧.mark client.old))
         (unseen (⟦<WireNodes<W, M> as Nodes>⟧.trace client.new) (⟦<WireNodes<W, M> as Nodes>⟧.mark client.new))
         (λ count ending. ⊤) error.fault error.answered) }
     ensures fault { IfErr result (λ error. ⟦<WireNodes<W, M> as Nodes>⟧.kept client.new
-        → IsFault (IsPrimary slot_map.now) M.step (asked slot_map.now command.now order.now)
+        → IsFault (IsPrimary slot_map.now) M.step (asked slot_map.now (registry_in client.old) command.now order.now)
         (state (⟦<WireNodes<W, M> as Nodes>⟧.keyspace client.old) (⟦<WireNodes<W, M> as Nodes>⟧.trace client.old)
         (⟦<WireNodes<W, M> as Nodes>⟧.mark client.old))
         (state (⟦<WireNodes<W, M> as Nodes>⟧.keyspace client.new) (⟦<WireNodes<W, M> as Nodes>⟧.trace client.new)
         (⟦<WireNodes<W, M> as Nodes>⟧.mark client.new))
         (λ count ending. ⊤) error.fault error.answered) }
     ensures kept { ⟦<WireNodes<W, M> as Nodes>⟧.kept client.new → ⟦<WireNodes<W, M> as Nodes>⟧.kept client.old }
+    ensures registered { registry_in client.new ≡ registry_in client.old }
 {
     let none_only_reads = ReadOnlyNames::new(alloc);
     drive(

@@ -1,6 +1,7 @@
 use crate::client::{ClientFault, Connections, client_over, write_and_read};
 use crate::node_of_key::two_nodes;
 use redis_cluster::driver::DriveFault;
+use redis_cluster::routing::Registry;
 use resp_core::Value;
 use std::alloc::{AllocError, Global};
 use std::marker::Brand;
@@ -13,7 +14,7 @@ impl Meaning for Any {
 
     ghost Cell = { Unit {0} };
 
-    ghost step = { λ name shared key extras cell. record { cell = None; result = record { value = nil; counts = false } } };
+    ghost step = { λ registered name shared key extras cell. record { cell = None; result = record { value = nil; counts = false } } };
 
     ghost initial = { λ key. None };
 
@@ -32,7 +33,7 @@ fn list_of(alloc: Global, text: &str) -> Result<Value, AllocError> {
 /// What a client reads over connections that give these replies, the last one first.
 fn read_over(alloc: Global, replies: Vec<Value>) -> Result<&'static str, Fail> {
     let map = two_nodes(alloc)?;
-    let mut client = client_over::<Connections, Any>(Connections { replies });
+    let mut client = client_over::<Connections, Any>(Connections { replies }, Registry::new(alloc));
     let got = write_and_read(alloc, &map, &mut client);
     let _ = client.into_wire().into_transport();
     Ok(match &got {

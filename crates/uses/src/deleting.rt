@@ -10,8 +10,8 @@ use redis_cluster::routing::ReadOnlyNames;
 use resp_core::{Cmd, Value};
 use std::alloc::Global;
 
-/// Deletes the keys of a `DEL`, each at its node, and answers how many there were: as one server
-/// would that has all keys, whatever the nodes' keys hold, where the nodes keep to one meaning.
+/// Deletes the keys of a `DEL`, each at its node, and gives how many there were. That is the reply
+/// of one server that has all keys, whatever the keys hold, where the nodes keep to one meaning.
 pub fn delete<N: Nodes>(
     alloc: Global,
     command: &Cmd,
@@ -20,7 +20,7 @@ pub fn delete<N: Nodes>(
     nodes: &mut N,
 ) -> Result<Value, DriveError>
     ensures unsplit { IfOk result (λ count. N.kept nodes.new
-        → IfSome (multi_key (map Some command.now)) (λ whole.
+        → IfSome (multi_key (N.registered nodes.old) (map Some command.now)) (λ whole.
         (view count ≡ reply_to N.step whole (N.keyspace nodes.old))
         × (N.keyspace nodes.new ≡ keyspace_after N.step whole (N.keyspace nodes.old)))) }
 {

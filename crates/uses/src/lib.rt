@@ -13,9 +13,11 @@ pub mod pipelines;
 pub mod redirects;
 pub mod registering;
 pub mod replies;
+pub mod retrying;
 pub mod routing;
 pub mod sending;
 pub mod shared_strategy;
+pub mod splitting_bytes;
 #[cfg(test)]
 mod tests;
 pub mod threads;

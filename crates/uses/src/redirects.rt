@@ -57,7 +57,7 @@ pub fn send_on<C: Connections>(
     Ok(None)
 }
 
-/// Tells the retry what came, and answers whether `ASKING` goes before the next send.
+/// Tells the retry what came. Gives whether `ASKING` goes before the next send.
 fn next_target(retry: &mut Retry, unanswered: Unanswered, asking: bool) -> Result<bool, Unanswered>
     ensures counted { OnOk result (retry.new.left < retry.old.left) }
 {

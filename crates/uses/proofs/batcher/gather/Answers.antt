@@ -2,10 +2,10 @@ use Rattle.std.proofs.Common.{◌≡◌, Some, None, map, length, sym, ◌∙◌
 use Rattle.std.proofs.lemmas.Grind.{common_steps}
 use Rattle.redis_cluster.specs.Plan.{Plan}
 use Rattle.resp_core.specs.View.{view}
-use Rattle.uses.specs.Batch.{after_telling, IsGathered, IsNotCombined, IsUngathered}
+use Rattle.uses.specs.Batch.{IsGathered, IsNotCombined, IsUngathered}
 use Rattle.uses.specs.declared.batcher.BatchError.TheVariants.{NotCombined}
 use Rattle.uses.proofs.Ended.{ended, refused_so, if_ok, if_err}
-use Rattle.uses.proofs.Telling.{on_ok, tell_one}
+use Rattle.uses.proofs.Telling.{after_telling, on_ok, tell_one}
 use Rattle.uses.proofs.batcher.gather.Goals as goal
 
 pub loop-number-preserved : goal.loop-number-preserved

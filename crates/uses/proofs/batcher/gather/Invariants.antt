@@ -1,5 +1,5 @@
 use Rattle.std.proofs.Common.{◌≡◌, ◌++◌, map, length}
-use Rattle.uses.specs.Batch.{after_telling}
+use Rattle.uses.proofs.Telling.{after_telling}
 use Rattle.uses.proofs.batcher.gather.Given as goal
 
 abbrev pub invariant-loop-number : goal.invariant-loop-number

@@ -5,7 +5,8 @@ use Rattle.redis_cluster.specs.Driven.{state}
 use Rattle.redis_cluster.specs.Faults.{IsCut, IsFault, unseen}
 use Rattle.redis_cluster.specs.Joined.{IsJoined}
 use Rattle.redis_cluster.specs.MultiKey.{MultiKey, multi_key}
-use Rattle.redis_cluster.specs.ReadOnly.{is_among}
+use Rattle.redis_cluster.specs.Names.{names_of}
+use Rattle.redis_cluster.specs.Registry.{Registrations}
 use Rattle.redis_cluster.specs.Trace.{Entry}
 use Rattle.redis_cluster.specs.Unsplit.{Keyspace, keyspace_after, reply_to}
 use Rattle.redis_cluster.specs.declared.driver.DriveError.{DriveError}
@@ -20,15 +21,17 @@ pub returns-in-Ok-clause-once : goal.returns-in-Ok-clause-once
 returns-in-Ok-clause-once g c =
     let between = map entry_by (g.W.Wire.log c.drive_over.new.client.wire) in (
       between,
-      subst (λ (words : List (List ℕ)). AreSentOnce c.args.slot_map.now words (0 ∷ 1 ∷ []) (map entry_by (g.W.Wire.log c.args.client.now.wire)) between) c.in_ok-write.ensures c.in_default.ensures.once,
-      subst (λ (words : List (List ℕ)). AreSentOnce c.args.slot_map.now words (1 ∷ 0 ∷ []) between (map entry_by (g.W.Wire.log c.drive_over-2.new.client.wire))) c.in_ok-read.ensures c.in-Ok.ensures.once,
+      subst (λ (words : List (List ℕ)). AreSentOnce c.args.slot_map.now c.args.client.now.registry words (0 ∷ 1 ∷ []) (map entry_by (g.W.Wire.log c.args.client.now.wire)) between) c.in_ok-write.ensures c.in_default.ensures.once,
+      subst (λ (registered : Registrations). AreSentOnce c.args.slot_map.now registered read (1 ∷ 0 ∷ []) between (map entry_by (g.W.Wire.log c.drive_over-2.new.client.wire))) c.drive_over.ensures.registered
+          (subst (λ (words : List (List ℕ)). AreSentOnce c.args.slot_map.now c.drive_over.new.client.registry words (1 ∷ 0 ∷ []) between (map entry_by (g.W.Wire.log c.drive_over-2.new.client.wire))) c.in_ok-read.ensures c.in-Ok.ensures.once),
     )
 
 pub returns-in-Ok-clause-joined : goal.returns-in-Ok-clause-joined
 returns-in-Ok-clause-joined g c =
     let before = replies_in (g.W.Wire.log c.drive_over.new.client.wire) in (
       before,
-      subst (λ (words : List (List ℕ)). IsJoined (is_among []) (map Some words) (1 ∷ 0 ∷ []) (λ replies. replies ≡ before) (λ replies. replies ≡ replies_in (g.W.Wire.log c.drive_over-2.new.client.wire)) (Ok (view c.in-Ok.value))) c.in_ok-read.ensures c.in-Ok.ensures.joined,
+      subst (λ (registered : Registrations). IsJoined (names_of [] registered) (map Some read) (1 ∷ 0 ∷ []) (λ replies. replies ≡ before) (λ replies. replies ≡ replies_in (g.W.Wire.log c.drive_over-2.new.client.wire)) (Ok (view c.in-Ok.value))) c.drive_over.ensures.registered
+          (subst (λ (words : List (List ℕ)). IsJoined (names_of [] c.drive_over.new.client.registry) (map Some words) (1 ∷ 0 ∷ []) (λ replies. replies ≡ before) (λ replies. replies ≡ replies_in (g.W.Wire.log c.drive_over-2.new.client.wire)) (Ok (view c.in-Ok.value))) c.in_ok-read.ensures c.in-Ok.ensures.joined),
     )
 
 -- the error that a fault has
@@ -52,12 +55,13 @@ returns-clause-not_read g c =
     let stop = c.in-Err-drive_over.error in
     let same : stop ≡ error = ap (λ fault. error_of fault error) is in
     let cut =
-    subst (λ (words : List (List ℕ)). IsCut (IsPrimary slots) (asked slots words (1 ∷ 0 ∷ [])) (unseen between mark) (unseen last c.drive_over-2.new.client.mark) (λ count ending. ⊤) stop.fault stop.answered)
-    c.in_ok-read.ensures c.in-Err-drive_over.ensures.cut in (
+    subst (λ (registered : Registrations). IsCut (IsPrimary slots) (asked slots registered read (1 ∷ 0 ∷ [])) (unseen between mark) (unseen last c.drive_over-2.new.client.mark) (λ count ending. ⊤) stop.fault stop.answered) c.drive_over.ensures.registered
+    (subst (λ (words : List (List ℕ)). IsCut (IsPrimary slots) (asked slots c.drive_over.new.client.registry words (1 ∷ 0 ∷ [])) (unseen between mark) (unseen last c.drive_over-2.new.client.mark) (λ count ending. ⊤) stop.fault stop.answered)
+    c.in_ok-read.ensures c.in-Err-drive_over.ensures.cut) in (
       between,
       mark,
-      subst (λ (words : List (List ℕ)). AreSentOnce slots words (0 ∷ 1 ∷ []) (map entry_by (g.W.Wire.log c.args.client.now.wire)) between) c.in_ok-write.ensures c.in_default.ensures.once,
-      subst (λ (e : DriveError). IsCut (IsPrimary slots) (asked slots read (1 ∷ 0 ∷ [])) (unseen between mark) (unseen last c.drive_over-2.new.client.mark) (λ count ending. ⊤) e.fault e.answered) same cut,
+      subst (λ (words : List (List ℕ)). AreSentOnce slots c.args.client.now.registry words (0 ∷ 1 ∷ []) (map entry_by (g.W.Wire.log c.args.client.now.wire)) between) c.in_ok-write.ensures c.in_default.ensures.once,
+      subst (λ (e : DriveError). IsCut (IsPrimary slots) (asked slots c.args.client.now.registry read (1 ∷ 0 ∷ [])) (unseen between mark) (unseen last c.drive_over-2.new.client.mark) (λ count ending. ⊤) e.fault e.answered) same cut,
     )
 
 pub returns-clause-written : goal.returns-clause-written
@@ -65,22 +69,27 @@ returns-clause-written g c =
     λ error is kept.
     let slots = c.args.slot_map.now in
     let step = g.M.Meaning.step in
-    let keys : List Said → Keyspace g.M.Meaning.Cell = λ log. replay step g.M.Meaning.took log g.M.Meaning.initial in
+    let keys : List Said → Keyspace g.M.Meaning.Cell = λ log. replay c.args.client.now.registry step g.M.Meaning.took log g.M.Meaning.initial in
     let old = keys (g.W.Wire.log c.args.client.now.wire) in
     let middle = keys (g.W.Wire.log c.drive_over.new.client.wire) in
     let between = map entry_by (g.W.Wire.log c.drive_over.new.client.wire) in
     let mark = c.drive_over.new.client.mark in
-    let last = state (keys (g.W.Wire.log c.drive_over-2.new.client.wire)) (map entry_by (g.W.Wire.log c.drive_over-2.new.client.wire)) c.drive_over-2.new.client.mark in
+    let last = state (replay c.drive_over-2.new.client.registry step g.M.Meaning.took (g.W.Wire.log c.drive_over-2.new.client.wire) g.M.Meaning.initial) (map entry_by (g.W.Wire.log c.drive_over-2.new.client.wire)) c.drive_over-2.new.client.mark in
     let stop = c.in-Err-drive_over.error in
     let same : stop ≡ error = ap (λ fault. error_of fault error) is in
-    let of_read =
-    subst (λ (words : List (List ℕ)). IsFault (IsPrimary slots) step (asked slots words (1 ∷ 0 ∷ [])) (state middle between mark) last (λ count ending. ⊤) stop.fault stop.answered)
-    c.in_ok-read.ensures (c.in-Err-drive_over.ensures.fault kept) in
+    let Read : Registrations → List (List ℕ) → Type 0 = λ registered words.
+    IsFault (IsPrimary slots) step (asked slots registered words (1 ∷ 0 ∷ []))
+    (state (replay registered step g.M.Meaning.took (g.W.Wire.log c.drive_over.new.client.wire) g.M.Meaning.initial) between mark)
+    (state (replay c.drive_over-2.new.client.registry step g.M.Meaning.took (g.W.Wire.log c.drive_over-2.new.client.wire) g.M.Meaning.initial) (map entry_by (g.W.Wire.log c.drive_over-2.new.client.wire)) c.drive_over-2.new.client.mark) (λ count ending. ⊤) stop.fault stop.answered in
+    let of_read = subst (λ (registered : Registrations). Read registered read) c.drive_over.ensures.registered
+    (subst (λ (words : List (List ℕ)). Read c.drive_over.new.client.registry words) c.in_ok-read.ensures (c.in-Err-drive_over.ensures.fault kept)) in
     let of_error =
-    subst (λ (e : DriveError). IsFault (IsPrimary slots) step (asked slots read (1 ∷ 0 ∷ [])) (state middle between mark) last (λ count ending. ⊤) e.fault e.answered) same of_read in
-    let Written : MultiKey → Type 0 = λ whole. (view c.in_default.field-0 ≡ reply_to step whole old) × (middle ≡ keyspace_after step whole old) in
+    subst (λ (e : DriveError). IsFault (IsPrimary slots) step (asked slots c.args.client.now.registry read (1 ∷ 0 ∷ [])) (state middle between mark) last (λ count ending. ⊤) e.fault e.answered) same of_read in
+    let Written : Registrations → MultiKey → Type 0 = λ registered whole. (view c.in_default.field-0 ≡ reply_to step whole old)
+    × (replay registered step g.M.Meaning.took (g.W.Wire.log c.drive_over.new.client.wire) g.M.Meaning.initial ≡ keyspace_after step whole old) in
     let written =
-    subst (λ (words : List (List ℕ)). IfSome (multi_key (map Some words)) Written) c.in_ok-write.ensures (c.in_default.ensures.as_one (c.in-Err-drive_over.ensures.kept kept)) in
-    let Left : MultiKey → Type 0 = λ set. (between : List Entry) × (mark : Bool) × IsFault (IsPrimary slots) step (asked slots read (1 ∷ 0 ∷ [])) (state (keyspace_after step set old) between mark) last (λ count ending. ⊤) error.fault error.answered in
-    if_some (multi_key (map Some write)) Written Left
-    (λ set both. (between, mark, subst (λ (ks : Keyspace g.M.Meaning.Cell). IsFault (IsPrimary slots) step (asked slots read (1 ∷ 0 ∷ [])) (state ks between mark) last (λ count ending. ⊤) error.fault error.answered) both.1 of_error)) written
+    subst (λ (registered : Registrations). IfSome (multi_key c.args.client.now.registry (map Some write)) (Written registered)) c.drive_over.ensures.registered
+    (subst (λ (words : List (List ℕ)). IfSome (multi_key c.args.client.now.registry (map Some words)) (Written c.drive_over.new.client.registry)) c.in_ok-write.ensures (c.in_default.ensures.as_one (c.in-Err-drive_over.ensures.kept kept))) in
+    let Left : MultiKey → Type 0 = λ set. (between : List Entry) × (mark : Bool) × IsFault (IsPrimary slots) step (asked slots c.args.client.now.registry read (1 ∷ 0 ∷ [])) (state (keyspace_after step set old) between mark) last (λ count ending. ⊤) error.fault error.answered in
+    if_some (multi_key c.args.client.now.registry (map Some write)) (Written c.args.client.now.registry) Left
+    (λ set both. (between, mark, subst (λ (ks : Keyspace g.M.Meaning.Cell). IsFault (IsPrimary slots) step (asked slots c.args.client.now.registry read (1 ∷ 0 ∷ [])) (state ks between mark) last (λ count ending. ⊤) error.fault error.answered) both.1 of_error)) written
