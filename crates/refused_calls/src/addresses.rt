@@ -7,6 +7,7 @@ use std::alloc::Global;
 
 const TEXT: &str = "node-1.example.org:6379";
 
+/// Makes a call on addresses and slots, by its name.
 pub fn call(page: &Page<'_>, alloc: Global, name: &str) -> Result<(), Fault> {
     match name {
         "NodeAddress::new" => page.given(&NodeAddress::new(alloc, LONG_HOST, 1)),

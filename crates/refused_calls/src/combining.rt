@@ -9,6 +9,7 @@ use redis_cluster::routing::{
 use resp_core::Value;
 use std::alloc::Global;
 
+/// Makes a call that combine replies, by its name.
 pub fn call(page: &Page<'_>, alloc: Global, name: &str) -> Result<(), Fault> {
     match name {
         "aggregate" => {

@@ -17,6 +17,7 @@ pub fn cmd(alloc: Global, text: &str) -> Result<Cmd, AllocError> {
     Ok(cmd)
 }
 
+/// A bulk string.
 pub fn bulk(alloc: Global, text: &str) -> Result<Value, AllocError> {
     Ok(Value::BulkString(text.as_bytes().to_vec(alloc)?))
 }
@@ -45,6 +46,7 @@ pub fn pair(alloc: Global, text: &str, number: i64) -> Result<Value, AllocError>
     Ok(Value::Array(items))
 }
 
+/// The address of a host at port 1.
 pub fn address(alloc: Global, host: &str) -> Result<NodeAddress, AllocError> {
     NodeAddress::new(alloc, host, 1)
 }
@@ -68,6 +70,7 @@ pub fn ranges(alloc: Global) -> Result<Vec<SlotRange>, AllocError> {
     ]?)
 }
 
+/// A map of all slots.
 pub fn map(alloc: Global) -> Result<SlotMap, AllocError> {
     SlotMap::from_slots(alloc, ranges(alloc)?)
 }

@@ -19,6 +19,7 @@ mod pipelines;
 mod ranges;
 mod routing;
 mod serving;
+mod splitting_bytes;
 mod values;
 
 use fault::Fault;
@@ -28,23 +29,57 @@ use std::alloc::Global;
 use std::env;
 use std::process::ExitCode;
 
+/// Makes a call of `redis_cluster`: each module answers `Words` for a name that is not its own.
+fn call_of_redis_cluster(page: &Page<'_>, alloc: Global, name: &str) -> Result<(), Fault> {
+    match driving::call_of_nodes(page, alloc, name) {
+        Err(Fault::Words) => match driving::call(page, alloc, name) {
+            Err(Fault::Words) => pipelines::call(page, alloc, name),
+            given => given,
+        },
+        given => given,
+    }
+}
+
+/// Makes a call of `cluster_map`: each module answers `Words` for a name that is not its own.
+fn call_of_cluster_map(page: &Page<'_>, alloc: Global, name: &str) -> Result<(), Fault> {
+    match ranges::call(page, alloc, name) {
+        Err(Fault::Words) => match ranges::call_of_shards(page, alloc, name) {
+            Err(Fault::Words) => maps::call(page, alloc, name),
+            given => given,
+        },
+        given => given,
+    }
+}
+
+/// Makes a call of `slotroute_serve`: each module answers `Words` for a name that is not its own.
+fn call_of_slotroute_serve(page: &Page<'_>, alloc: Global, name: &str) -> Result<(), Fault> {
+    match serving::call_of_run(page, alloc, name) {
+        Err(Fault::Words) => serving::call(page, alloc, name),
+        given => given,
+    }
+}
+
+/// Makes a call of `redis_routing`: each module answers `Words` for a name that is not its own.
+fn call_of_redis_routing(page: &Page<'_>, alloc: Global, name: &str) -> Result<(), Fault> {
+    match routing::call_of_names(page, alloc, name) {
+        Err(Fault::Words) => routing::call(page, alloc, name),
+        given => given,
+    }
+}
+
 /// Makes the call of a library and a name there.
 fn call(page: &Page<'_>, alloc: Global, library: &str, name: &str) -> Result<(), Fault> {
     match library {
         "resp_core" => values::call(page, alloc, name),
         "resp" => bytes::call(page, alloc, name),
         "cluster_slots" => addresses::call(page, alloc, name),
-        "slot_ranges" => ranges::call(page, alloc, name),
-        "read_strategies" => ranges::call_of_shards(page, alloc, name),
-        "cluster_map" => maps::call(page, alloc, name),
-        "redis_commands" => routing::call_of_names(page, alloc, name),
-        "redis_routing" => routing::call(page, alloc, name),
+        "cluster_map" => call_of_cluster_map(page, alloc, name),
+        "redis_routing" => call_of_redis_routing(page, alloc, name),
         "redis_combiners" => combining::call(page, alloc, name),
-        "redis_pipeline" => pipelines::call(page, alloc, name),
-        "redis_driver" => driving::call(page, alloc, name),
-        "redis_nodes" | "memory_nodes" | "wire_nodes" => driving::call_of_nodes(page, alloc, name),
-        "slotroute_run" => serving::call_of_run(page, alloc, name),
-        "slotroute_serve" => serving::call(page, alloc, name),
+        "redis_cluster" => call_of_redis_cluster(page, alloc, name),
+        "redis_bytes" => splitting_bytes::call(page, alloc, name),
+        "memory_nodes" | "wire_nodes" => driving::call_of_nodes(page, alloc, name),
+        "slotroute_serve" => call_of_slotroute_serve(page, alloc, name),
         _ => Err(Fault::Words),
     }
 }

@@ -5,6 +5,7 @@ use crate::page::Page;
 use cluster_map::{Route, SlotAddr, SlotMap};
 use std::alloc::Global;
 
+/// Makes a call on maps of slots, by its name.
 pub fn call(page: &Page<'_>, alloc: Global, name: &str) -> Result<(), Fault> {
     match name {
         "SlotMap::new" => page.answer(&SlotMap::new(alloc)),

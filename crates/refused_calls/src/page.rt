@@ -1,14 +1,16 @@
 use crate::fault::Fault;
+use redis_bytes::BytesFault;
 use redis_cluster::driver::{DriveError, DriveFault, PlanFault, SendError};
 use redis_cluster::routing::RegisterError;
-use resp::{ReadError, WriteError};
+use resp::{ReadError, RequestError, WriteError};
 use resp_core::{ErrorKind, RedisError};
-use slotroute_run::CommandFault;
+use slotroute_serve::CommandFault;
 use std::alloc::AllocError;
 use std::{fmt, io};
 
 /// An error that tells whether memory ran out.
 pub trait TellsMemory {
+    /// Whether memory ran out.
     fn is_memory(&self) -> bool;
 }
 
@@ -33,6 +35,18 @@ impl TellsMemory for RegisterError {
 impl TellsMemory for ReadError {
     fn is_memory(&self) -> bool {
         matches!(self, ReadError::Memory)
+    }
+}
+
+impl TellsMemory for RequestError {
+    fn is_memory(&self) -> bool {
+        matches!(self, RequestError::Memory)
+    }
+}
+
+impl TellsMemory for BytesFault {
+    fn is_memory(&self) -> bool {
+        matches!(self, BytesFault::Memory)
     }
 }
 
@@ -73,6 +87,7 @@ pub struct Page<'a> {
 }
 
 impl<'a> Page<'a> {
+    /// A page that prints with these streams.
     pub fn new(rt: &'a HostRuntime) -> Self {
         Page { rt }
     }

@@ -1,10 +1,11 @@
-//! Calls of `redis_pipeline`.
+//! Calls of pipelines.
 use crate::fault::Fault;
 use crate::inputs::LONG_HOST;
 use crate::page::Page;
 use redis_cluster::pipeline::{ClusterPipeline, cluster_pipe};
 use std::alloc::{AllocError, Global};
 
+/// Makes a call on pipelines, by its name.
 pub fn call(page: &Page<'_>, alloc: Global, name: &str) -> Result<(), Fault> {
     match name {
         "cluster_pipe" => page.answer(&cluster_pipe(alloc)),

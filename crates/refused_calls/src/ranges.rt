@@ -1,11 +1,11 @@
-//! Calls of `slot_ranges` and `read_strategies`.
+//! Calls of `cluster_map` and `cluster_map`.
 use crate::fault::Fault;
 use crate::inputs::{LONG_HOST, address, one_node, range, slots_reply};
 use crate::page::Page;
 use cluster_map::{ClusterTopology, Shard, SlotRangeMap, parse_slots, slot_cmd};
 use std::alloc::{AllocError, Global};
 
-/// Calls of `slot_ranges`.
+/// Calls of `cluster_map`.
 pub fn call(page: &Page<'_>, alloc: Global, name: &str) -> Result<(), Fault> {
     match name {
         "SlotRange::clone" => page.given(&range(alloc, 0, 9, LONG_HOST)?.clone()),
@@ -46,7 +46,7 @@ fn extend(page: &Page<'_>, alloc: Global, mut map: SlotRangeMap<u8>) -> Result<(
     page.after(&map)
 }
 
-/// Calls of `read_strategies`.
+/// Calls of `cluster_map`.
 pub fn call_of_shards(page: &Page<'_>, alloc: Global, name: &str) -> Result<(), Fault> {
     match name {
         "ClusterTopology::from_shards" => {

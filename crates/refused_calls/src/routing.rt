@@ -1,9 +1,9 @@
-//! Calls of `redis_commands` and `redis_routing`.
+//! Calls of `redis_routing` and `redis_routing`.
 use crate::fault::Fault;
 use crate::inputs::{LONG_HOST, address, cmd, read_only, routes};
 use crate::page::Page;
 use redis_cluster::routing::{
-    AggregateOp, MultiSlotArgPattern, MultipleNodeRoutingInfo, ReadOnlyNames, Redirect,
+    AggregateOp, MultiSlotArgPattern, MultipleNodeRoutingInfo, Names, ReadOnlyNames, Redirect,
     RegisterError, Registry, ResponsePolicy, Routable, RoutingInfo, SingleNodeRoutingInfo,
     SplitCommand, command_for_multi_slot_indices, command_for_multi_slot_indices_with,
     multi_slot_routes,
@@ -13,7 +13,7 @@ use std::alloc::{AllocError, Global};
 /// What a name is registered with.
 type Registered = (MultiSlotArgPattern, ResponsePolicy);
 
-/// Calls of `redis_commands`.
+/// Calls of `redis_routing`.
 pub fn call_of_names(page: &Page<'_>, alloc: Global, name: &str) -> Result<(), Fault> {
     match name {
         "ReadOnlyNames::new" => page.answer(&has_names(&ReadOnlyNames::new(alloc))),
@@ -21,6 +21,7 @@ pub fn call_of_names(page: &Page<'_>, alloc: Global, name: &str) -> Result<(), F
         "RegisterError::Display" => page.given(&format!(in alloc; "{}", RegisterError::Taken)),
         "Registry::new" => page.answer(&standing(&Registry::new(alloc))),
         "Registry::register" => register(page, alloc),
+        "Registry::eq" => page.answer(&(registry(alloc)? == registry(alloc)?)),
         "Registry::clone" => page.given(&registry(alloc)?.clone().map(|copy| standing(&copy))),
         "Routable::command" => page.given(&cmd(alloc, "cluster info")?.command(alloc)),
         _ => Err(Fault::Words),
@@ -80,9 +81,17 @@ pub fn call(page: &Page<'_>, alloc: Global, name: &str) -> Result<(), Fault> {
             let command = cmd(alloc, "MGET a b a")?;
             page.given(&RoutingInfo::for_routable(alloc, &command, &read_only(alloc)?))
         }
+        "RoutingInfo::for_routable_with" => {
+            let command = cmd(alloc, "OBJECT PUT a 1 b 2 a 3")?;
+            let registry = registry(alloc)?;
+            let read_only = read_only(alloc)?;
+            let info = RoutingInfo::for_routable_with(alloc, &command, &read_only, &registry);
+            page.given(&info)
+        }
         "multi_slot_routes" => {
             let command = cmd(alloc, "MGET a b a")?;
-            page.given(&multi_slot_routes(alloc, &command, &read_only(alloc)?))
+            let (read_only, registry) = (read_only(alloc)?, Registry::new(alloc));
+            page.given(&multi_slot_routes(alloc, &command, names_of(&read_only, &registry)))
         }
         "command_for_multi_slot_indices" => {
             let command = cmd(alloc, "MGET a b a")?;
@@ -95,6 +104,13 @@ pub fn call(page: &Page<'_>, alloc: Global, name: &str) -> Result<(), Fault> {
         "SplitCommand::new" => split(page, alloc),
         "SplitCommand::part" => part(page, alloc),
         _ => Err(Fault::Words),
+    }
+}
+
+fn names_of<'a>(read_only: &'a ReadOnlyNames, registry: &'a Registry) -> Names<'a> {
+    Names {
+        read_only,
+        registry,
     }
 }
 
@@ -119,8 +135,8 @@ fn multi_slot(alloc: Global) -> Result<MultipleNodeRoutingInfo, AllocError> {
 
 fn split(page: &Page<'_>, alloc: Global) -> Result<(), Fault> {
     let command = cmd(alloc, "MSET a 1 b 2 a 3")?;
-    let names = read_only(alloc)?;
-    match SplitCommand::new(alloc, &command, &names) {
+    let (read_only, registry) = (read_only(alloc)?, Registry::new(alloc));
+    match SplitCommand::new(alloc, &command, names_of(&read_only, &registry)) {
         Ok(Some(split)) => page.answer(&split.routes()),
         Ok(None) => page.answer(&"not split"),
         Err(_) => page.out_of_memory(""),
@@ -129,8 +145,9 @@ fn split(page: &Page<'_>, alloc: Global) -> Result<(), Fault> {
 
 fn part(page: &Page<'_>, alloc: Global) -> Result<(), Fault> {
     let command = cmd(alloc, "MSET a 1 b 2 a 3")?;
-    let names = read_only(alloc)?;
-    let split = SplitCommand::new(alloc, &command, &names)?.ok_or(Fault::Refused)?;
+    let (read_only, registry) = (read_only(alloc)?, Registry::new(alloc));
+    let names = names_of(&read_only, &registry);
+    let split = SplitCommand::new(alloc, &command, names)?.ok_or(Fault::Refused)?;
     if split.len() < 2 {
         return Err(Fault::Refused);
     }

@@ -1,15 +1,15 @@
-//! Calls of `slotroute_run` and `slotroute_serve`.
+//! Calls of `slotroute_serve` and `slotroute_serve`.
 use crate::fault::Fault;
 use crate::inputs::map;
 use crate::page::Page;
 use memory_nodes::MemoryNodes;
-use slotroute_run::{
-    CommandFault, Direction, Refusal, cmd_from_words, push_word, read_only_names, run_command,
+use slotroute_serve::{
+    CommandFault, Direction, Refusal, Sink, Source, cmd_from_words, push_word, read_only_names,
+    run_command, serve, serve_streams,
 };
-use slotroute_serve::{Sink, Source, serve, serve_streams};
 use std::alloc::Global;
 
-/// Calls of `slotroute_run`.
+/// Calls of `slotroute_serve`.
 pub fn call_of_run(page: &Page<'_>, alloc: Global, name: &str) -> Result<(), Fault> {
     match name {
         "read_only_names" => {
@@ -76,7 +76,7 @@ pub fn call(page: &Page<'_>, alloc: Global, name: &str) -> Result<(), Fault> {
     }
 }
 
-const INPUT: &[u8] = b"0 16383 p:1\n\nMSET a 1 b 2\nMGET b a\n";
+const INPUT: &[u8] = b"0 16383 p:1\nmulti pairs ok OBJECT PUT\n\nOBJECT PUT a 1 b 2\nMGET b a\n";
 
 /// The program, over an input in memory and outputs that have room.
 fn served(page: &Page<'_>, alloc: Global, by_streams: bool) -> Result<(), Fault> {

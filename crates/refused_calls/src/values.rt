@@ -5,6 +5,7 @@ use crate::page::Page;
 use resp_core::{Cmd, ErrorKind, RedisError, Value};
 use std::alloc::{AllocError, Global};
 
+/// Makes a call on errors, commands and replies, by its name.
 pub fn call(page: &Page<'_>, alloc: Global, name: &str) -> Result<(), Fault> {
     match name {
         "Cmd::new" => page.answer(&Cmd::new(alloc)),
