@@ -1,0 +1,71 @@
+-- A routing as four numbers, which `include/slotroute.h` names.
+use Rattle.std.specs.Prelude.{◌==◌, ℕ, zero, suc, if◌then◌else◌, [], map, Option, None, Some}
+use Rattle.cluster_slots.specs.declared.slot.SlotAddr.{SlotAddr}
+use Rattle.cluster_slots.specs.declared.slot.SlotAddr.TheVariants.{Master, ReplicaOptional, ReplicaRequired}
+use Rattle.redis_routing.specs.declared.policy.ResponsePolicy.{ResponsePolicy}
+use Rattle.redis_routing.specs.declared.policy.ResponsePolicy.TheVariants.{OneSucceeded, FirstSucceededNonEmptyOrAllEmpty, AllSucceeded, AggregateLogical, Aggregate, CombineArrays, Special, CombineMaps}
+use Rattle.redis_routing.specs.declared.policy.AggregateOp.TheVariants.{Min, Sum}
+use Rattle.redis_routing.specs.declared.policy.LogicalAggregateOp.TheVariants.{And, Or}
+use Rattle.redis_routing.specs.Names.{names_of}
+use Rattle.redis_routing.specs.Routing.{routing}
+use Rattle.redis_bytes.specs.Requests.{Words}
+use Rattle.redis_routing.specs.RoutingInfo.{Routing, SingleNodeRouting, MultipleNodeRouting, single_node, multi_node, random, random_primary, specific_node, by_address, all_nodes, all_masters, multi_slot}
+use Rattle.slotroute_c.specs.declared.routes.Routed.{Routed}
+
+-- which node of a slot: 0 its primary, 1 any, 2 a replica
+abbrev pub addr_number : SlotAddr → ℕ
+addr_number Master = 0
+addr_number ReplicaOptional = 1
+addr_number ReplicaRequired = 2
+
+-- how several replies make one, or 0 where the layer has no rule
+abbrev pub policy_number : Option ResponsePolicy → ℕ
+policy_number None = 0
+policy_number (Some OneSucceeded) = 1
+policy_number (Some FirstSucceededNonEmptyOrAllEmpty) = 2
+policy_number (Some AllSucceeded) = 3
+policy_number (Some (AggregateLogical And)) = 4
+policy_number (Some (AggregateLogical Or)) = 5
+policy_number (Some (Aggregate Min)) = 6
+policy_number (Some (Aggregate Sum)) = 7
+policy_number (Some CombineArrays) = 8
+policy_number (Some Special) = 9
+policy_number (Some CombineMaps) = 10
+
+abbrev pub numbers : ℕ → ℕ → ℕ → ℕ → Routed
+numbers kind slot addr policy = record { kind = kind; slot = slot; addr = addr; policy = policy }
+
+-- the one node that a request goes to; no call answers 7, an address
+abbrev pub to_one : SingleNodeRouting → Routed
+to_one random = numbers 1 0 0 0
+to_one random_primary = numbers 2 0 0 0
+to_one (specific_node route) = numbers 3 route.slot (addr_number route.addr) 0
+to_one (by_address host port) = numbers 7 0 0 0
+
+-- the nodes that a request goes to, and how their replies make one
+abbrev pub to_several : MultipleNodeRouting → Option ResponsePolicy → Routed
+to_several all_nodes policy = numbers 4 0 0 (policy_number policy)
+to_several all_masters policy = numbers 5 0 0 (policy_number policy)
+to_several (multi_slot routes pattern) policy = numbers 6 0 0 (policy_number policy)
+
+-- 0 where the layer does not route the request
+abbrev pub routed_of : Option Routing → Routed
+routed_of None = numbers 0 0 0 0
+routed_of (Some (single_node single)) = to_one single
+routed_of (Some (multi_node multiple policy)) = to_several multiple policy
+
+-- Where a request goes by the words of its command. One that only reads, as the flag says by not
+-- being 0, may go to any node of its slot.
+abbrev pub with_reads : ℕ → Routed → Routed
+with_reads only_reads routed =
+    if only_reads == 0 then routed
+    else (if routed.kind == 3 then numbers 3 routed.slot 1 0 else routed)
+
+abbrev pub routed_by : ℕ → Words → Routed
+routed_by only_reads words =
+    with_reads only_reads (routed_of (routing (names_of [] []) (map Some words)))
+
+-- the node that a number asks for: the primary, or a replica where there is one
+abbrev pub addr_of : ℕ → SlotAddr
+addr_of zero = Master
+addr_of (suc n) = ReplicaRequired

@@ -1,0 +1,67 @@
+ghost use Rattle.std.specs.Prelude.{◌≡◌};
+ghost use Rattle.slotroute_c.specs.Outcomes.{code, of_reply};
+ghost use Rattle.slotroute_c.specs.Faults.{of_request, outcome_of, IsOther, IsRequestFaultTold, IsFaultTold};
+
+use crate::outcomes::Outcome;
+use crate::told::Told;
+use redis_bytes::BytesFault;
+use resp::{Fault, RequestFault};
+
+/// The code of a fault, whose place is told.
+pub(super) fn code_of(fault: &BytesFault, told: &mut Told) -> u32
+    ensures code { result ≡ code (outcome_of fault.now) }
+    ensures told { IsFaultTold fault.now told.new }
+    ensures other { IsOther result }
+{
+    match fault {
+        BytesFault::Memory => Outcome::NoMemory.code(),
+        BytesFault::Request(fault) => code_of_request(*fault, told),
+        BytesFault::AfterRequest(end) => {
+            told.at = *end;
+            Outcome::AfterRequest.code()
+        }
+        BytesFault::NotMultiKey => Outcome::NotMultiKey.code(),
+        BytesFault::Reply(number, fault) => {
+            told.reply = *number;
+            code_of_reply(*fault)
+        }
+        BytesFault::Error(number, _) => {
+            told.reply = *number;
+            Outcome::ReplyIsError.code()
+        }
+        BytesFault::AfterReplies(end) => {
+            told.at = *end;
+            Outcome::AfterReplies.code()
+        }
+        BytesFault::Unfit(_) => Outcome::Unfit.code(),
+        BytesFault::NoForm => Outcome::NoForm.code(),
+        BytesFault::LineFeedInHost => Outcome::LineFeedInHost.code(),
+    }
+}
+
+/// The same for the fault of a request.
+pub(super) fn code_of_request(fault: RequestFault, told: &mut Told) -> u32
+    ensures code { result ≡ code (of_request fault) }
+    ensures told { IsRequestFaultTold fault told.new }
+    ensures other { IsOther result }
+{
+    match fault {
+        RequestFault::Incomplete => Outcome::RequestIncomplete.code(),
+        RequestFault::Malformed(at) => {
+            told.at = at;
+            Outcome::RequestMalformed.code()
+        }
+    }
+}
+
+/// The same for the fault of a reply.
+pub(super) fn code_of_reply(fault: Fault) -> u32
+    ensures code { result ≡ code (of_reply fault) }
+    ensures other { IsOther result }
+{
+    match fault {
+        Fault::Incomplete => Outcome::ReplyIncomplete.code(),
+        Fault::Malformed => Outcome::ReplyMalformed.code(),
+        Fault::TooDeep => Outcome::ReplyTooDeep.code(),
+    }
+}

@@ -1,0 +1,67 @@
+ghost use Rattle.std.specs.Prelude.{◌≡◌, ◌≢◌, ◌++◌, ◌∷◌, [], ℕ, List, IsTrue, length};
+ghost use Rattle.resp.specs.Forms.{Answer, IsForm, IsRequest};
+ghost use Rattle.resp.specs.Requests.{RequestCause};
+ghost use Rattle.resp.specs.declared.fault.RequestFault as requests;
+ghost use Rattle.resp.specs.Reading.{CanBeCompleted, BeginsNone};
+ghost use Rattle.slotroute_c.specs.declared.outcomes.Outcome.TheVariants as outcome;
+ghost use Rattle.slotroute_c.specs.Faults.{of_request, IsRequestFaultTold};
+ghost use Rattle.slotroute_c.specs.Outcomes.{code, is_one_of};
+
+use crate::faults::{code_of_reply, code_of_request};
+use crate::outcomes::Outcome;
+use crate::told::Told;
+use resp::{ReadError, read, request_len};
+use std::alloc::Global;
+
+/// How many bytes the first reply has, which may be an error: `told.bytes`.
+///
+/// # Errors
+///
+/// `ReplyIncomplete` where more bytes can complete it, `ReplyMalformed` and `ReplyTooDeep` where none
+/// can; `NoMemory`.
+#[unsafe(no_mangle)]
+pub extern "C" fn slotroute_reply_len(alloc: Global, bytes: &[u8], told: &mut Told) -> u32
+    ensures done { result ≡ code outcome.Done → (a : Answer) × (form : List ℕ) × (rest : List ℕ)
+        × (bytes.now ≡ form ++ rest) × IsForm 32 a form × (told.new.bytes ≡ length form) }
+    ensures incomplete { result ≡ code outcome.ReplyIncomplete → CanBeCompleted bytes.now }
+    ensures malformed { result ≡ code outcome.ReplyMalformed → BeginsNone bytes.now }
+    ensures too_deep { result ≡ code outcome.ReplyTooDeep → BeginsNone bytes.now }
+    ensures no_other { IsTrue (is_one_of result (outcome.Done ∷ outcome.NoMemory
+        ∷ outcome.ReplyIncomplete ∷ outcome.ReplyMalformed ∷ outcome.ReplyTooDeep ∷ [])) }
+{
+    match read(alloc, bytes) {
+        Ok((_, rest)) => {
+            told.bytes = bytes.len() - rest.len();
+            Outcome::Done.code()
+        }
+        Err(ReadError::Memory) => Outcome::NoMemory.code(),
+        Err(ReadError::Fault(fault)) => {
+            told.reply = 0;
+            code_of_reply(fault)
+        }
+    }
+}
+
+/// How many bytes the first request has: `told.bytes`. It takes no memory.
+///
+/// # Errors
+///
+/// `RequestIncomplete` where more bytes can complete it; `RequestMalformed` where none can, with the
+/// index of the first byte that stands in no request there.
+#[unsafe(no_mangle)]
+pub extern "C" fn slotroute_request_len(bytes: &[u8], told: &mut Told) -> u32
+    ensures done { result ≡ code outcome.Done → (args : List (List ℕ)) × (form : List ℕ)
+        × (rest : List ℕ) × (bytes.now ≡ form ++ rest) × IsRequest args form
+        × (told.new.bytes ≡ length form) }
+    ensures fault { result ≢ code outcome.Done → (fault : requests.RequestFault)
+        × (result ≡ code (of_request fault)) × RequestCause bytes.now fault
+        × IsRequestFaultTold fault told.new }
+{
+    match request_len(bytes) {
+        Ok(len) => {
+            told.bytes = len;
+            Outcome::Done.code()
+        }
+        Err(fault) => code_of_request(fault, told),
+    }
+}

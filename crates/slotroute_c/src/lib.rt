@@ -1,0 +1,14 @@
+//! The routing layer for callers in C: buffers in, buffers out, and nothing kept between calls.
+//! `include/slotroute.h` declares what stands here.
+#![tactic(auto)]
+
+mod buffers;
+mod faults;
+mod keys;
+mod lengths;
+mod outcomes;
+mod parts;
+mod redirects;
+mod routes;
+mod tables;
+mod told;

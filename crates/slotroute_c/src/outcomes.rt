@@ -1,0 +1,113 @@
+ghost use Rattle.std.specs.Prelude.{◌≡◌, ◌<◌, ◌≤◌, length};
+ghost use Rattle.slotroute_c.specs.Outcomes.{code, message};
+ghost use Rattle.slotroute_c.specs.Buffers.{Begins};
+
+use crate::buffers::put;
+
+/// What comes of a call. `include/slotroute.h` says more of each.
+#[derive(Clone, Copy)]
+pub enum Outcome {
+    /// The call did what it is for.
+    Done,
+    /// Memory ran out.
+    NoMemory,
+    /// A buffer is too small.
+    TooSmall,
+    /// More bytes can complete the request.
+    RequestIncomplete,
+    /// No bytes complete the request.
+    RequestMalformed,
+    /// Bytes follow the request.
+    AfterRequest,
+    /// The request is no complete multi-key command.
+    NotMultiKey,
+    /// More bytes can complete a reply.
+    ReplyIncomplete,
+    /// No bytes complete a reply.
+    ReplyMalformed,
+    /// A reply has arrays in arrays that are too deep.
+    ReplyTooDeep,
+    /// A reply is an error.
+    ReplyIsError,
+    /// Bytes follow the replies.
+    AfterReplies,
+    /// The replies do not fit the parts.
+    Unfit,
+    /// The one reply has no written form.
+    NoForm,
+    /// A text or a host is not UTF-8.
+    NotText,
+    /// The text is no redirect.
+    NoRedirect,
+    LineFeedInHost,
+}
+
+impl Outcome {
+    /// The code that a call returns for this.
+    pub fn code(self) -> u32
+        ensures { result ≡ code self }
+    {
+        match self {
+            Outcome::Done => 0,
+            Outcome::NoMemory => 1,
+            Outcome::TooSmall => 2,
+            Outcome::RequestIncomplete => 3,
+            Outcome::RequestMalformed => 4,
+            Outcome::AfterRequest => 5,
+            Outcome::NotMultiKey => 6,
+            Outcome::ReplyIncomplete => 7,
+            Outcome::ReplyMalformed => 8,
+            Outcome::ReplyTooDeep => 9,
+            Outcome::ReplyIsError => 10,
+            Outcome::AfterReplies => 11,
+            Outcome::Unfit => 12,
+            Outcome::NoForm => 13,
+            Outcome::NotText => 14,
+            Outcome::NoRedirect => 15,
+            Outcome::LineFeedInHost => 16,
+        }
+    }
+}
+
+/// The text of a code.
+fn message(number: u32) -> &'static str
+    ensures { result.now ≡ message number }
+{
+    match number {
+        0 => "done",
+        1 => "out of memory",
+        2 => "a buffer is too small",
+        3 => "the bytes end before the request does",
+        4 => "the bytes begin no request",
+        5 => "bytes follow the request",
+        6 => "not a complete command over many keys that is split by slot",
+        7 => "the bytes end before the reply does",
+        8 => "the bytes begin no reply",
+        9 => "arrays stand too deep in arrays",
+        10 => "a reply is or holds an error",
+        11 => "bytes follow the last reply",
+        12 => "the replies are not what the parts answer with",
+        13 => "the one reply has no form",
+        14 => "a text is not UTF-8",
+        15 => "the text is no redirect",
+        16 => "a host has a line feed",
+        _ => "no answer of this library",
+    }
+}
+
+/// The length of the text of a code: of 1, `out of memory`. It is written where it fits.
+#[unsafe(no_mangle)]
+pub extern "C" fn slotroute_message(answer: u32, buffer: &mut [u8]) -> usize
+    // It has the length of the text,
+    ensures len { result ≡ length (message answer) }
+    // which is written,
+    ensures text { length (message answer) ≤ length buffer.old → Begins (message answer) buffer.new }
+    // or nothing is.
+    ensures too_small { length buffer.old < length (message answer) → buffer.new ≡ buffer.old }
+{
+    let text = message(answer).as_bytes();
+    if text.len() <= buffer.len() {
+        put(buffer, text);
+    }
+    text.len()
+}

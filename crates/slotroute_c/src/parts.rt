@@ -1,0 +1,138 @@
+ghost use Rattle.std.specs.Prelude.{◌≡◌, ◌≢◌, ◌<◌, [], ℕ, List, IfOk, length};
+ghost use Rattle.redis_routing.specs.Names.{names_of};
+ghost use Rattle.redis_routing.specs.Split.{Split};
+ghost use Rattle.redis_bytes.specs.declared.fault.BytesFault as faults;
+ghost use Rattle.redis_bytes.specs.declared.splitting.Parts as declared;
+ghost use Rattle.redis_bytes.specs.Requests.{IsSplitRequest, IsUnsplit};
+ghost use Rattle.redis_bytes.specs.Replies.{AreCombined, IsUncombined};
+ghost use Rattle.slotroute_c.specs.Outcomes.{code};
+ghost use Rattle.slotroute_c.specs.Buffers.{Begins};
+ghost use Rattle.slotroute_c.specs.Faults.{outcome_of, IsFaultTold};
+ghost use Rattle.slotroute_c.specs.Parts.{slots_of, ArePartsOf, AreWritten, IsTooSmall};
+
+use crate::buffers::put_all;
+use crate::faults::code_of;
+use crate::outcomes::Outcome;
+use crate::told::Told;
+use cluster_slots::Route;
+use redis_bytes::BytesFault;
+use redis_routing::{Names, ReadOnlyNames, Registry};
+use std::alloc::{AllocError, Global};
+
+/// Splits a request by slot: writes the slot of each part to `slots`, where the bytes of each end to
+/// `ends`, and these bytes, each part a request of its own, to `out`. `told` says how many parts and
+/// bytes there are.
+///
+/// # Errors
+///
+/// In this order: `RequestIncomplete`, `RequestMalformed` and `AfterRequest` where the bytes are not
+/// one request; `NotMultiKey` where it is not split by slot; `TooSmall` where a buffer is too small
+/// for what `told` says. `NoMemory` if memory runs out.
+#[unsafe(no_mangle)]
+pub extern "C" fn slotroute_split(
+    alloc: Global,
+    request: &[u8],
+    slots: &mut [u16],
+    ends: &mut [usize],
+    out: &mut [u8],
+    told: &mut Told,
+) -> u32
+    ensures done { result ≡ code Outcome.Done → (parts : declared.Parts)
+        × ArePartsOf request.now told.new parts × AreWritten parts slots.new ends.new out.new }
+    ensures too_small { result ≡ code Outcome.TooSmall → (parts : declared.Parts)
+        × ArePartsOf request.now told.new parts × IsTooSmall parts (length slots.old)
+        (length ends.old) (length out.old) }
+    ensures fault { result ≢ code Outcome.Done → result ≢ code Outcome.TooSmall
+        → (fault : faults.BytesFault) × (result ≡ code (outcome_of fault))
+        × IsUnsplit (names_of [] []) request.now fault × IsFaultTold fault told.new }
+    ensures unwritten { result ≢ code Outcome.Done → (slots.new ≡ slots.old)
+        × (ends.new ≡ ends.old) × (out.new ≡ out.old) }
+{
+    let (read_only, registry) = (ReadOnlyNames::new(alloc), Registry::new(alloc));
+    let no_names = Names {
+        read_only: &read_only,
+        registry: &registry,
+    };
+    let parts = match redis_bytes::split(alloc, request, no_names) {
+        Ok(parts) => parts,
+        Err(fault) => return code_of(&fault, told),
+    };
+    let Ok(found) = slots_in(alloc, &parts.routes) else {
+        return code_of(&BytesFault::Memory, told);
+    };
+    told.parts = parts.routes.len();
+    told.bytes = parts.bytes.len();
+    if slots.len() < parts.routes.len() {
+        return Outcome::TooSmall.code();
+    }
+    if ends.len() < parts.ends.len() {
+        return Outcome::TooSmall.code();
+    }
+    if out.len() < parts.bytes.len() {
+        return Outcome::TooSmall.code();
+    }
+    put_all(slots, &found);
+    put_all(ends, &parts.ends);
+    put_all(out, &parts.bytes);
+    Outcome::Done.code()
+}
+
+/// The slot of each route.
+fn slots_in(alloc: Global, routes: &[Route]) -> Result<Vec<u16>, AllocError>
+    ensures slots { IfOk result (λ slots. slots.items ≡ slots_of routes.now) }
+    ensures count { IfOk result (λ slots. length slots.items ≡ length routes.now) }
+{
+    let mut slots = Vec::with_capacity(alloc, routes.len())?;
+    for route in routes {
+        slots.push(route.slot())?;
+    }
+    Ok(slots)
+}
+
+/// Makes the one reply to a request of the replies to its parts, which stand one after the other in
+/// the order of the parts, and writes it. `told` says how many bytes it has.
+///
+/// # Errors
+///
+/// In this order. For the request as `slotroute_split`. `ReplyIncomplete`, `ReplyMalformed`,
+/// `ReplyTooDeep` or `ReplyIsError` for the first reply that is no value, whose number is told.
+/// `AfterReplies` where bytes follow the last one. `Unfit` where they are not what the parts answer
+/// with. `NoForm` where the one reply has no form. `TooSmall` where it does not fit. `NoMemory` if
+/// memory runs out.
+#[unsafe(no_mangle)]
+pub extern "C" fn slotroute_combine(
+    alloc: Global,
+    request: &[u8],
+    replies: &[u8],
+    out: &mut [u8],
+    told: &mut Told,
+) -> u32
+    ensures done { result ≡ code Outcome.Done → (split : Split)
+        × IsSplitRequest (names_of [] []) request.now split × (combined : List ℕ)
+        × AreCombined split replies.now combined × Begins combined out.new
+        × (told.new.bytes ≡ length combined) }
+    ensures too_small { result ≡ code Outcome.TooSmall → (split : Split)
+        × IsSplitRequest (names_of [] []) request.now split × (combined : List ℕ)
+        × AreCombined split replies.now combined × (length out.old < length combined)
+        × (told.new.bytes ≡ length combined) }
+    ensures fault { result ≢ code Outcome.Done → result ≢ code Outcome.TooSmall
+        → (fault : faults.BytesFault) × (result ≡ code (outcome_of fault))
+        × IsUncombined (names_of [] []) request.now replies.now fault × IsFaultTold fault told.new }
+    ensures unwritten { result ≢ code Outcome.Done → out.new ≡ out.old }
+{
+    let (read_only, registry) = (ReadOnlyNames::new(alloc), Registry::new(alloc));
+    let no_names = Names {
+        read_only: &read_only,
+        registry: &registry,
+    };
+    let reply = match redis_bytes::combine(alloc, request, no_names, replies) {
+        Ok(reply) => reply,
+        Err(fault) => return code_of(&fault, told),
+    };
+    told.bytes = reply.len();
+    if out.len() < reply.len() {
+        return Outcome::TooSmall.code();
+    }
+    put_all(out, &reply);
+    Outcome::Done.code()
+}

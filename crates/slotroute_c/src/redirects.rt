@@ -1,0 +1,98 @@
+ghost use Rattle.std.specs.Prelude.{◌≡◌, ◌≢◌, ◌<◌, ◌⊎◌, ◌∷◌, [], ℕ, IsTrue, length};
+ghost use Rattle.std.specs.Str.{IsUtf8};
+ghost use Rattle.redis_routing.specs.RedirectText.{IsRedirectText, IsNoRedirect, redirect_address};
+ghost use Rattle.redis_routing.specs.declared.info.Redirect as declared;
+ghost use Rattle.slotroute_c.specs.Outcomes.{code, is_one_of};
+ghost use Rattle.slotroute_c.specs.Buffers.{Begins};
+ghost use Rattle.slotroute_c.specs.Redirected.{numbers_of};
+
+use crate::buffers::put;
+use crate::outcomes::Outcome;
+use cluster_slots::Slot;
+use redis_routing::Redirect;
+use std::alloc::Global;
+
+/// A redirect, but for its host.
+#[repr(C)]
+#[derive(Clone, Copy)]
+pub struct RedirectNumbers {
+    /// 1: the slot has moved. 2: this command alone goes there, after `ASKING`.
+    pub kind: u32,
+    /// The slot that the text names.
+    pub slot: u32,
+    /// The port of the node that the text names.
+    pub port: u32,
+    /// How many bytes the host has.
+    pub host_len: usize,
+}
+
+/// Reads the text of an error, as `MOVED 3999 127.0.0.1:6381`: writes the host that it names, and
+/// tells the rest in `told`. `answering` is the host of the node that sent the error, which is meant
+/// where the text has none.
+///
+/// # Errors
+///
+/// `NotText` where the text or `answering` is not UTF-8, `NoRedirect` where the text is another one,
+/// `TooSmall` where the host does not fit, which has `told.host_len` bytes; `NoMemory`.
+#[unsafe(no_mangle)]
+pub extern "C" fn slotroute_redirect(
+    alloc: Global,
+    text: &[u8],
+    answering: &[u8],
+    host: &mut [u8],
+    told: &mut RedirectNumbers,
+) -> u32
+    ensures done { result ≡ code Outcome.Done → (slot : ℕ) × (redirect : declared.Redirect)
+        × IsRedirectText answering.now text.now slot redirect
+        × (told.new ≡ numbers_of slot redirect)
+        × Begins (redirect_address redirect).host host.new }
+    ensures too_small { result ≡ code Outcome.TooSmall → (slot : ℕ) × (redirect : declared.Redirect)
+        × IsRedirectText answering.now text.now slot redirect
+        × (told.new ≡ numbers_of slot redirect)
+        × (length host.old < length (redirect_address redirect).host) }
+    ensures no_redirect { result ≡ code Outcome.NoRedirect → IsNoRedirect answering.now text.now }
+    ensures not_text { result ≡ code Outcome.NotText
+        → ¬ (IsUtf8 text.now) ⊎ ¬ (IsUtf8 answering.now) }
+    ensures no_other { IsTrue (is_one_of result (Outcome.Done ∷ Outcome.NoMemory ∷ Outcome.TooSmall
+        ∷ Outcome.NotText ∷ Outcome.NoRedirect ∷ [])) }
+    ensures unwritten { result ≢ code Outcome.Done → host.new ≡ host.old }
+{
+    let Ok(text) = str::from_utf8(text) else {
+        return Outcome::NotText.code();
+    };
+    let Ok(answering) = str::from_utf8(answering) else {
+        return Outcome::NotText.code();
+    };
+    match Redirect::from_error_text(alloc, text, answering) {
+        Ok(Some((slot, redirect))) => tell(slot, &redirect, host, told).code(),
+        Ok(None) => Outcome::NoRedirect.code(),
+        Err(_) => Outcome::NoMemory.code(),
+    }
+}
+
+/// Tells a redirect, and writes its host where that fits.
+fn tell(slot: Slot, redirect: &Redirect, host: &mut [u8], told: &mut RedirectNumbers) -> Outcome
+    ensures told { told.new ≡ numbers_of slot redirect.now }
+    ensures done { result ≡ Outcome.Done
+        → Begins (redirect_address redirect.now).host host.new }
+    ensures too_small { result ≢ Outcome.Done → (result ≡ Outcome.TooSmall)
+        × (length host.old < length (redirect_address redirect.now).host)
+        × (host.new ≡ host.old) }
+{
+    let (kind, address) = match redirect {
+        Redirect::Moved(address) => (1, address),
+        Redirect::Ask(address) => (2, address),
+    };
+    let named = address.host().as_bytes();
+    *told = RedirectNumbers {
+        kind,
+        slot: u32::from(slot.number()),
+        port: u32::from(address.port()),
+        host_len: named.len(),
+    };
+    if host.len() < named.len() {
+        return Outcome::TooSmall;
+    }
+    put(host, named);
+    Outcome::Done
+}

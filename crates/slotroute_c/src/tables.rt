@@ -1,0 +1,75 @@
+ghost use Rattle.std.specs.Prelude.{◌≡◌, ◌≢◌, ◌⊎◌, ◌<◌, length};
+ghost use Rattle.std.specs.Str.{IsUtf8};
+ghost use Rattle.redis_bytes.specs.declared.fault.BytesFault as faults;
+ghost use Rattle.redis_bytes.specs.declared.tables.Table as declared;
+ghost use Rattle.redis_bytes.specs.Table.{IsNoTable};
+ghost use Rattle.slotroute_c.specs.Outcomes.{code};
+ghost use Rattle.slotroute_c.specs.Buffers.{Begins};
+ghost use Rattle.slotroute_c.specs.Faults.{outcome_of, IsFaultTold};
+ghost use Rattle.slotroute_c.specs.Routed.{addr_of};
+ghost use Rattle.slotroute_c.specs.Tables.{IsTableOf};
+
+use crate::buffers::put_all;
+use crate::faults::code_of;
+use crate::outcomes::Outcome;
+use crate::routes::addr_of;
+use crate::told::Told;
+use std::alloc::Global;
+
+/// The table of a reply to `CLUSTER SLOTS`: writes for each slot the number of the node that a route
+/// there asks for, or 65535, to `numbers`, and the lines of the nodes to `nodes`. `answering` is the
+/// host of the node that answered, which stands where the reply names none. `addr` is 0 for primaries,
+/// else the replica at `pick` modulo their count, or the primary where there is none. `told` says how
+/// many numbers and bytes there are.
+///
+/// # Errors
+///
+/// `NotText` where `answering` is not UTF-8; `ReplyIncomplete`, `ReplyMalformed`, `ReplyTooDeep` or
+/// `ReplyIsError` where the reply is no value, and `AfterReplies` where bytes follow it;
+/// `LineFeedInHost` where a slot's node has a line feed in its host, so that no line tells it;
+/// `TooSmall` where a buffer is too small for what `told` says. `NoMemory` if memory runs out.
+#[unsafe(no_mangle)]
+pub extern "C" fn slotroute_table(
+    alloc: Global,
+    reply: &[u8],
+    answering: &[u8],
+    addr: u32,
+    pick: usize,
+    numbers: &mut [u16],
+    nodes: &mut [u8],
+    told: &mut Told,
+) -> u32
+    ensures done { result ≡ code Outcome.Done → (table : declared.Table)
+        × IsTableOf reply.now answering.now addr pick told.new table
+        × Begins table.numbers.items numbers.new × Begins table.nodes.items nodes.new }
+    ensures too_small { result ≡ code Outcome.TooSmall → (table : declared.Table)
+        × IsTableOf reply.now answering.now addr pick told.new table
+        × ((length numbers.old < length table.numbers.items)
+        ⊎ (length nodes.old < length table.nodes.items)) }
+    ensures not_text { result ≡ code Outcome.NotText → ¬ (IsUtf8 answering.now) }
+    ensures fault { result ≢ code Outcome.Done → result ≢ code Outcome.TooSmall
+        → result ≢ code Outcome.NotText → (fault : faults.BytesFault)
+        × (result ≡ code (outcome_of fault))
+        × IsNoTable answering.now reply.now (addr_of addr) pick fault × IsFaultTold fault told.new }
+    ensures unwritten { result ≢ code Outcome.Done
+        → (numbers.new ≡ numbers.old) × (nodes.new ≡ nodes.old) }
+{
+    let Ok(answering) = str::from_utf8(answering) else {
+        return Outcome::NotText.code();
+    };
+    let table = match redis_bytes::slot_table(alloc, reply, answering, addr_of(addr), pick) {
+        Ok(table) => table,
+        Err(fault) => return code_of(&fault, told),
+    };
+    told.parts = table.numbers.len();
+    told.bytes = table.nodes.len();
+    if numbers.len() < table.numbers.len() {
+        return Outcome::TooSmall.code();
+    }
+    if nodes.len() < table.nodes.len() {
+        return Outcome::TooSmall.code();
+    }
+    put_all(numbers, &table.numbers);
+    put_all(nodes, &table.nodes);
+    Outcome::Done.code()
+}

@@ -1,0 +1,179 @@
+"""The routing layer from Python, by ctypes over the shared object that tools/c-archive makes.
+
+    python3 examples/slotroute.py LIBRARY
+
+prints the split of a request, and the one reply of the replies to its parts.
+"""
+
+import ctypes
+import sys
+from ctypes import POINTER, byref, c_char_p, c_size_t, c_uint16, c_uint32
+from itertools import pairwise
+
+TOO_SMALL, REQUEST_INCOMPLETE, REPLY_INCOMPLETE, REPLY_IS_ERROR, NO_REDIRECT = 2, 3, 7, 10, 15
+TO_SLOT, TO_ALL, TO_ALL_PRIMARIES, TO_SLOTS = 3, 4, 5, 6
+SLOTS, NO_NODE = 16384, 65535
+BYTES_IN = [c_char_p, c_size_t]
+BYTES_OUT = [c_char_p, c_size_t]
+
+
+class Told(ctypes.Structure):
+    _fields_ = [("parts", c_size_t), ("bytes", c_size_t), ("reply", c_size_t), ("at", c_size_t)]
+
+
+class Routed(ctypes.Structure):
+    _fields_ = [(name, c_uint32) for name in ("kind", "slot", "addr", "policy")]
+
+
+class Redirected(ctypes.Structure):
+    _fields_ = [(name, c_uint32) for name in ("kind", "slot", "port")] + [("host_len", c_size_t)]
+
+
+class Refused(Exception):
+    """An answer that is not the one that was asked for: its number, its text, and what is told."""
+
+    def __init__(self, answer, text, told):
+        super().__init__(text)
+        self.answer, self.reply, self.at = answer, told.reply, told.at
+
+
+class Library:
+    def __init__(self, path):
+        lib = self.lib = ctypes.CDLL(path)
+        told = [POINTER(Told)]
+        slots, ends = [POINTER(c_uint16), c_size_t], [POINTER(c_size_t), c_size_t]
+        for name, takes, gives in (
+            ("message", [c_uint32, *BYTES_OUT], c_size_t),
+            ("slot", BYTES_IN, c_uint16),
+            ("request_len", BYTES_IN + told, c_uint32),
+            ("reply_len", BYTES_IN + told, c_uint32),
+            ("route", [*BYTES_IN, c_uint32, POINTER(Routed), *told], c_uint32),
+            ("split", BYTES_IN + slots + ends + BYTES_OUT + told, c_uint32),
+            ("combine", BYTES_IN * 2 + BYTES_OUT + told, c_uint32),
+            ("table", BYTES_IN * 2 + [c_uint32, c_size_t] + slots + BYTES_OUT + told, c_uint32),
+            ("redirect", BYTES_IN * 2 + BYTES_OUT + [POINTER(Redirected)], c_uint32),
+        ):
+            call = getattr(lib, "slotroute_" + name)
+            call.argtypes, call.restype = takes, gives
+
+    def message(self, answer):
+        text = ctypes.create_string_buffer(100)
+        length = self.lib.slotroute_message(answer, text, 100)
+        return text.raw[:length].decode()
+
+    def slot(self, key):
+        return self.lib.slotroute_slot(key, len(key))
+
+    def request_len(self, data):
+        """How many bytes the first request has; None where more are needed."""
+        return self._len(self.lib.slotroute_request_len, data, REQUEST_INCOMPLETE)
+
+    def reply_len(self, data):
+        """How many bytes the first reply has; None where more are needed."""
+        return self._len(self.lib.slotroute_reply_len, data, REPLY_INCOMPLETE)
+
+    def _len(self, call, data, incomplete):
+        told = Told()
+        answer = call(data, len(data), byref(told))
+        if answer == incomplete:
+            return None
+        self._expect_done(answer, told)
+        return told.bytes
+
+    def route(self, request, only_reads=False):
+        routed, told = Routed(), Told()
+        answer = self.lib.slotroute_route(
+            request, len(request), only_reads, byref(routed), byref(told)
+        )
+        self._expect_done(answer, told)
+        return routed
+
+    def split(self, request):
+        """The slot and the bytes of each part."""
+        parts, room, told = 16, 2 * len(request) + 64, Told()
+        while True:
+            slots, ends = (c_uint16 * parts)(), (c_size_t * parts)()
+            out = ctypes.create_string_buffer(room)
+            answer = self.lib.slotroute_split(
+                request, len(request), slots, parts, ends, parts, out, room, byref(told)
+            )
+            if answer != TOO_SMALL:
+                break
+            parts, room = told.parts, told.bytes
+        self._expect_done(answer, told)
+        data = out.raw
+        starts = [0, *ends[: told.parts]]
+        return [(slot, data[a:b]) for slot, (a, b) in zip(slots, pairwise(starts))]
+
+    def combine(self, request, replies):
+        """The one reply, by the replies to the parts in their order."""
+        replies, told = b"".join(replies), Told()
+        room = len(replies) + 64
+        while True:
+            out = ctypes.create_string_buffer(room)
+            answer = self.lib.slotroute_combine(
+                request, len(request), replies, len(replies), out, room, byref(told)
+            )
+            if answer != TOO_SMALL:
+                break
+            room = told.bytes
+        self._expect_done(answer, told)
+        return out.raw[: told.bytes]
+
+    def table(self, reply, answering, addr=0, pick=0):
+        """The number of each slot's node, or NO_NODE, and the host and port of each node."""
+        numbers, told = (c_uint16 * SLOTS)(), Told()
+        room = len(reply) + 64
+        while True:
+            nodes = ctypes.create_string_buffer(room)
+            answer = self.lib.slotroute_table(
+                reply, len(reply), answering, len(answering), addr, pick,
+                numbers, SLOTS, nodes, room, byref(told),
+            )  # fmt: skip
+            if answer != TOO_SMALL:
+                break
+            room = told.bytes
+        self._expect_done(answer, told)
+        lines = nodes.raw[: told.bytes].decode().split("\n")[:-1]
+        return list(numbers), [(host, int(port)) for host, _, port in (it.rpartition(":") for it in lines)]
+
+    def redirect(self, text, answering):
+        """What the text of an error tells of a redirect, with its host; None of another text."""
+        told, host = Redirected(), ctypes.create_string_buffer(len(text) + len(answering) + 1)
+        answer = self.lib.slotroute_redirect(
+            text, len(text), answering, len(answering), host, len(host), byref(told)
+        )
+        if answer == NO_REDIRECT:
+            return None
+        self._expect_done(answer, Told())
+        return told, host.raw[: told.host_len].decode()
+
+    def _expect_done(self, answer, told):
+        if answer:
+            raise Refused(answer, self.message(answer), told)
+
+
+def request(*words):
+    """The bytes of a request."""
+    words = [it if isinstance(it, bytes) else str(it).encode() for it in words]
+    return b"*%d\r\n" % len(words) + b"".join(b"$%d\r\n%s\r\n" % (len(it), it) for it in words)
+
+
+def main():
+    library = Library(sys.argv[1])
+    print("slot of foo:", library.slot(b"foo"))
+    asked = request("MGET", "foo", "bar", "foo")
+    for slot, part in library.split(asked):
+        print(slot, part)
+    replies = [b"*2\r\n$1\r\nx\r\n$1\r\nx\r\n", b"*1\r\n$-1\r\n"]
+    print(library.combine(asked, replies))
+    told, host = library.redirect(b"MOVED 3999 127.0.0.1:6381", b"n1")
+    print("moved to", host, told.port, "slot", told.slot)
+    try:
+        library.split(request("GET", "foo"))
+    except Refused as refused:
+        print("GET foo:", refused)
+
+
+if __name__ == "__main__":
+    main()

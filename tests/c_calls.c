@@ -1,0 +1,242 @@
+/* Calls the library for C as careless and hostile callers may.
+
+   c_calls pages     random calls, each buffer ending where memory that may not be touched begins
+   c_calls small     buffers that are too small: nothing is written, and told says what is needed
+   c_calls threads   random calls by four threads at once, with the results of one thread
+   c_calls once N    the call of number N, and its answer; nothing where there is no such call */
+#define _GNU_SOURCE
+#include "slotroute.h"
+
+#include <pthread.h>
+#include <stdio.h>
+#include <stdlib.h>
+#include <string.h>
+#include <sys/mman.h>
+
+#define PAGE 4096u
+#define ROOM (8 * PAGE)
+#define REGIONS 5
+
+static const char *const messages[] = {
+    "*4\r\n$3\r\nDEL\r\n$3\r\nfoo\r\n$3\r\nbar\r\n$8\r\n{bar}vaz\r\n",
+    "*7\r\n$4\r\nMSET\r\n$3\r\nfoo\r\n$1\r\n1\r\n$3\r\nbar\r\n$1\r\n2\r\n$3\r\nbaz\r\n$1\r\n3\r\n",
+    "*4\r\n$4\r\nMGET\r\n$3\r\nfoo\r\n$3\r\nbar\r\n$3\r\nfoo\r\n",
+    "*2\r\n$3\r\nGET\r\n$3\r\nfoo\r\n",
+    "*1\r\n$6\r\nDBSIZE\r\n",
+    ":1\r\n:2\r\n",
+    "+OK\r\n+OK\r\n+OK\r\n",
+    "*2\r\n$1\r\nx\r\n:7\r\n*1\r\n$-1\r\n",
+    "-MOVED 3999 127.0.0.1:6381\r\n",
+    "*2\r\n*3\r\n:0\r\n:8191\r\n*2\r\n$2\r\nn1\r\n:7000\r\n"
+    "*4\r\n:8192\r\n:16383\r\n*2\r\n$0\r\n\r\n:7001\r\n*2\r\n$2\r\nn3\r\n:7002\r\n",
+    "MOVED 3999 127.0.0.1:6381",
+    "ASK 3999 :6381",
+};
+#define MESSAGES (sizeof messages / sizeof *messages)
+
+/* Memory in regions, behind each of which a page may not be touched. */
+typedef struct pool {
+    uint8_t *end[REGIONS];
+} pool;
+
+static void make_pool(pool *of) {
+    for (int i = 0; i < REGIONS; i++) {
+        uint8_t *start = mmap(NULL, ROOM + PAGE, PROT_READ | PROT_WRITE,
+                              MAP_PRIVATE | MAP_ANONYMOUS, -1, 0);
+        if (start == MAP_FAILED || mprotect(start + ROOM, PAGE, PROT_NONE) != 0) exit(3);
+        of->end[i] = start + ROOM;
+    }
+}
+
+static uint32_t next(uint64_t *seed) {
+    *seed = *seed * 6364136223846793005u + 1442695040888963407u;
+    return (uint32_t)(*seed >> 33);
+}
+
+/* A message with some changes, at the end of a region. */
+static uint8_t *some_message(pool *of, int region, uint64_t *seed, size_t *len) {
+    const char *text = messages[next(seed) % MESSAGES];
+    size_t whole = strlen(text), kept = next(seed) % 2 ? whole : next(seed) % (whole + 1);
+    uint8_t *bytes = of->end[region] - kept;
+    memcpy(bytes, text, kept);
+    for (uint32_t changes = next(seed) % 3; kept > 0 && changes > 0; changes--)
+        bytes[next(seed) % kept] = (uint8_t)("0123456789*$:+-\r\nx"[next(seed) % 18]);
+    *len = kept;
+    return bytes;
+}
+
+static size_t most(uint64_t *seed, size_t bytes) {
+    return next(seed) % 2 ? bytes : next(seed) % (bytes + 1);
+}
+
+static uint64_t mixed(uint64_t sum, const void *bytes, size_t len) {
+    for (size_t i = 0; i < len; i++) sum = (sum ^ ((const uint8_t *)bytes)[i]) * 1099511628211u;
+    return sum;
+}
+
+/* Makes random calls, and gives a sum of all that they answer and write. */
+static uint64_t some_calls(pool *of, uint64_t seed, int times) {
+    uint64_t sum = 14695981039346656037u;
+    for (int i = 0; i < times; i++) {
+        size_t len, other_len, slots_len, ends_len, out_len = most(&seed, 512);
+        uint8_t *bytes = some_message(of, 0, &seed, &len);
+        uint8_t *others = some_message(of, 1, &seed, &other_len);
+        uint8_t *out = of->end[2] - out_len;
+        slotroute_told told = {0};
+        slotroute_routed routed = {0};
+        slotroute_redirected redirected = {0};
+        uint32_t answer = 0;
+        memset(out, 0xA5, out_len);
+        switch (next(&seed) % 9) {
+        case 0: answer = slotroute_slot(bytes, len); break;
+        case 1: answer = slotroute_request_len(bytes, len, &told); break;
+        case 2: answer = slotroute_reply_len(bytes, len, &told); break;
+        case 3: answer = slotroute_route(bytes, len, next(&seed) % 2, &routed, &told); break;
+        case 4: {
+            slots_len = most(&seed, 4);
+            ends_len = most(&seed, 4);
+            uint16_t *slots = (uint16_t *)(void *)of->end[3] - slots_len;
+            size_t *ends = (size_t *)(void *)of->end[4] - ends_len;
+            memset(slots, 0xA5, 2 * slots_len);
+            memset(ends, 0xA5, sizeof *ends * ends_len);
+            answer = slotroute_split(bytes, len, slots, slots_len, ends, ends_len, out, out_len, &told);
+            sum = mixed(mixed(sum, slots, 2 * slots_len), ends, sizeof *ends * ends_len);
+            break;
+        }
+        case 5: answer = slotroute_combine(bytes, len, others, other_len, out, out_len, &told); break;
+        case 6: {
+            slots_len = next(&seed) % 2 ? SLOTROUTE_SLOTS : most(&seed, 8);
+            uint16_t *numbers = (uint16_t *)(void *)of->end[3] - slots_len;
+            answer = slotroute_table(bytes, len, others, other_len, next(&seed) % 3, next(&seed) % 3,
+                                     numbers, slots_len, out, out_len, &told);
+            if (answer == SLOTROUTE_DONE) sum = mixed(sum, numbers, 2 * slots_len);
+            break;
+        }
+        case 7: answer = slotroute_redirect(bytes, len, others, other_len, out, out_len, &redirected); break;
+        case 8: answer = (uint32_t)slotroute_message(next(&seed) % 20, out, out_len); break;
+        }
+        sum = mixed(mixed(sum, &answer, sizeof answer), out, out_len);
+        sum = mixed(mixed(sum, &told, sizeof told), &routed, sizeof routed);
+        sum = mixed(sum, &redirected.host_len, sizeof redirected.host_len);
+    }
+    return sum;
+}
+
+#define TIMES 100000
+
+static int pages(void) {
+    pool of;
+    make_pool(&of);
+    some_calls(&of, 1, 10 * TIMES);
+    return 0;
+}
+
+typedef struct work {
+    uint64_t seed, sum;
+} work;
+
+static void *worked(void *of) {
+    work *it = of;
+    pool own;
+    make_pool(&own);
+    it->sum = some_calls(&own, it->seed, TIMES);
+    return NULL;
+}
+
+static int threads(void) {
+    work alone[4], beside[4];
+    pthread_t ids[4];
+    for (int i = 0; i < 4; i++) {
+        alone[i].seed = beside[i].seed = 100 + (uint64_t)i;
+        worked(&alone[i]);
+    }
+    for (int i = 0; i < 4; i++)
+        if (pthread_create(&ids[i], NULL, worked, &beside[i]) != 0) return 3;
+    for (int i = 0; i < 4; i++) pthread_join(ids[i], NULL);
+    for (int i = 0; i < 4; i++)
+        if (alone[i].sum != beside[i].sum) return 1;
+    return 0;
+}
+
+#define BYTES(text) (const uint8_t *)(text), strlen(text)
+
+static int is_untouched(const void *bytes, size_t len) {
+    for (size_t i = 0; i < len; i++)
+        if (((const uint8_t *)bytes)[i] != 0xA5) return 0;
+    return 1;
+}
+
+/* Whether a split into these rooms is refused as too small, tells what it needs, and writes nothing. */
+static int is_refused(size_t parts, size_t ends_len, size_t bytes) {
+    uint16_t slots[2];
+    size_t ends[2];
+    uint8_t out[64];
+    slotroute_told told = {0};
+    memset(slots, 0xA5, sizeof slots);
+    memset(ends, 0xA5, sizeof ends);
+    memset(out, 0xA5, sizeof out);
+    uint32_t answer = slotroute_split(BYTES(messages[0]), slots, parts, ends, ends_len, out, bytes, &told);
+    return answer == SLOTROUTE_TOO_SMALL && told.parts == 2 && told.bytes == 58
+        && is_untouched(slots, sizeof slots) && is_untouched(ends, sizeof ends)
+        && is_untouched(out, sizeof out);
+}
+
+static int small(void) {
+    static uint16_t numbers[SLOTROUTE_SLOTS];
+    uint8_t out[64];
+    slotroute_told told = {0};
+    slotroute_redirected redirected = {0};
+    memset(out, 0xA5, sizeof out);
+    memset(numbers, 0xA5, sizeof numbers);
+    if (!is_refused(1, 2, 58) || !is_refused(2, 1, 58) || !is_refused(2, 2, 57)) return 1;
+    if (slotroute_combine(BYTES(messages[0]), BYTES(":1\r\n:2\r\n"), out, 3, &told) != SLOTROUTE_TOO_SMALL
+        || told.bytes != 4 || !is_untouched(out, sizeof out))
+        return 2;
+    if (slotroute_table(BYTES(messages[9]), BYTES("n2"), 0, 0, numbers, SLOTROUTE_SLOTS, out, 15, &told)
+            != SLOTROUTE_TOO_SMALL
+        || told.bytes != 16 || told.parts != SLOTROUTE_SLOTS || !is_untouched(out, sizeof out)
+        || !is_untouched(numbers, sizeof numbers))
+        return 3;
+    if (slotroute_redirect(BYTES(messages[10]), BYTES("n1"), out, 8, &redirected) != SLOTROUTE_TOO_SMALL
+        || redirected.host_len != 9 || !is_untouched(out, sizeof out))
+        return 4;
+    if (slotroute_message(SLOTROUTE_NO_MEMORY, out, 12) != 13 || !is_untouched(out, sizeof out)) return 5;
+    return 0;
+}
+
+static int once(int call) {
+    static uint16_t slots[SLOTROUTE_SLOTS];
+    static uint8_t out[512];
+    static char line[64];
+    size_t ends[8] = {0};
+    slotroute_told told = {0};
+    slotroute_routed routed = {0};
+    slotroute_redirected redirected = {0};
+    uint32_t answer;
+    switch (call) {
+    case 1: answer = slotroute_reply_len(BYTES(messages[9]), &told); break;
+    case 2: answer = slotroute_route(BYTES(messages[2]), 1, &routed, &told); break;
+    case 3: answer = slotroute_split(BYTES(messages[1]), slots, 8, ends, 8, out, sizeof out, &told); break;
+    case 4: answer = slotroute_combine(BYTES(messages[2]), BYTES(messages[7]), out, sizeof out, &told); break;
+    case 5:
+        answer = slotroute_table(BYTES(messages[9]), BYTES("n2"), 2, 0, slots, SLOTROUTE_SLOTS, out,
+                                 sizeof out, &told);
+        break;
+    case 6:
+        answer = slotroute_redirect(BYTES("MOVED 1 a-host-of-more-than-sixteen-bytes:1"), BYTES("n1"), out,
+                                    sizeof out, &redirected);
+        break;
+    default: return 0;
+    }
+    setvbuf(stdout, line, _IOFBF, sizeof line);
+    printf("%u\n", (unsigned)answer);
+    return 0;
+}
+
+int main(int count, char **words) {
+    if (count == 2 && strcmp(words[1], "pages") == 0) return pages();
+    if (count == 2 && strcmp(words[1], "small") == 0) return small();
+    if (count == 2 && strcmp(words[1], "threads") == 0) return threads();
+    if (count == 3 && strcmp(words[1], "once") == 0) return once(atoi(words[2]));
+    return 2;
+}
