@@ -1,0 +1,58 @@
+-- The answers to the parts of a command, taken out of a list from its end.
+use Rattle.std.proofs.Common.{◌≡◌, ◌<◌, ◌≤◌, ℕ, List, [], ◌∷◌, ◌++◌, Ok, Err, Result, refl, sym, ap, ◌∙◌, arith, length, map, reverse, append_assoc, length-append}
+use Rattle.std.proofs.lemmas.List.{reverse-append, length-reverse}
+use Rattle.resp_core.specs.ErrorParts.{ErrorParts}
+use Rattle.resp_core.specs.Reply.{Reply}
+use Rattle.redis_batches.specs.Pipeline.{Answer}
+use Rattle.redis_batches.specs.Replies.{all_replies, with_reply}
+
+-- one more was taken out
+pub taken_out : {X : Type 0} (all left rest own more : List X) (x : X) → all ≡ left ++ reverse own → left ≡ rest ++ x ∷ [] → more ≡ own ++ x ∷ [] → all ≡ rest ++ reverse more
+taken_out all left rest own more x is next push =
+    is ∙ ap (λ l. l ++ reverse own) next ∙ append_assoc rest (x ∷ []) (reverse own)
+    ∙ ap (λ l. rest ++ l) (sym (ap reverse push ∙ reverse-append own (x ∷ [])))
+
+-- none is left only where as many were taken out
+pub none_left : {X : Type 0} (all left own : List X) (count : ℕ) → all ≡ left ++ reverse own → left ≡ [] → length own < count → count ≤ length all → ⊥
+none_left all left own count is none few room =
+    omega (arith, room, few, ap length is, length-append left (reverse own), ap length none, length-reverse own)
+
+-- replies in front of others, unless there was an error
+abbrev pub replies_then : List Reply → Result (List Reply) ErrorParts → Result (List Reply) ErrorParts
+replies_then [] later = later
+replies_then (reply ∷ replies) later = with_reply reply (replies_then replies later)
+
+-- one more in front of the others
+pub then_push : (replies : List Reply) (reply : Reply) (later : Result (List Reply) ErrorParts) → replies_then (replies ++ reply ∷ []) later ≡ replies_then replies (with_reply reply later)
+then_push [] reply later = refl
+then_push (r ∷ replies) reply later = ap (with_reply r) (then_push replies reply later)
+
+-- an error stays the first
+pub then_error : (replies : List Reply) (error : ErrorParts) → replies_then replies (Err error) ≡ Err error
+then_error [] error = refl
+then_error (r ∷ replies) error = ap (with_reply r) (then_error replies error)
+
+-- with none behind them they are all
+pub then_none : (replies : List Reply) → replies_then replies (Ok []) ≡ Ok replies
+then_none [] = refl
+then_none (r ∷ replies) = ap (with_reply r) (then_none replies)
+
+-- an element at the end comes first from the end
+pub from_end : {X Y : Type 0} (f : X → Y) (left rest : List X) (x : X) → left ≡ rest ++ x ∷ [] → map f (reverse left) ≡ f x ∷ map f (reverse rest)
+from_end f left rest x is = ap (λ l. map f (reverse l)) is ∙ ap (map f) (reverse-append rest (x ∷ []))
+
+-- replies that were found to all answers are as many
+replies_long : (answer : Answer) (answers : List Answer) (replies : List Reply) → ((found : List Reply) → all_replies answers ≡ Ok found → length found ≡ length answers)
+    → (later : Result (List Reply) ErrorParts) → all_replies answers ≡ later → all_replies (answer ∷ answers) ≡ Ok replies → length replies ≡ length (answer ∷ answers)
+replies_long (Ok reply) answers replies shorter (Ok found) is all =
+    let e : Ok (reply ∷ found) ≡ Ok replies = ap (with_reply reply) (sym is) ∙ all in
+    let same : reply ∷ found ≡ replies = cc in
+    omega (arith, ap length same, shorter found is)
+replies_long (Ok reply) answers replies shorter (Err error) is all =
+    let e : Err error ≡ Ok replies = ap (with_reply reply) (sym is) ∙ all in absurd (cc)
+replies_long (Err error) answers replies shorter later is all = absurd (cc)
+
+pub all_replies_long : (answers : List Answer) (replies : List Reply) → all_replies answers ≡ Ok replies → length replies ≡ length answers
+all_replies_long [] replies all = let same : [] ≡ replies = cc in ap length (sym same)
+all_replies_long (answer ∷ answers) replies all =
+    replies_long answer answers replies (all_replies_long answers) (all_replies answers) refl all

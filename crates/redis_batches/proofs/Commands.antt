@@ -1,0 +1,107 @@
+-- What is kept of the commands of a pipeline, and what they mean.
+use Rattle.std.proofs.Common.{◌≡◌, ◌<◌, ◌+◌, ℕ, true, List, [], ◌∷◌, ◌++◌, Option, Some, None, All, refl, sym, ap, subst, ◌∙◌, length, map, take, get_or}
+use Rattle.std.specs.List.{AllZip, list_any}
+use Rattle.std.specs.Prelude.{IfSome, nat_eq}
+use Rattle.std.proofs.lemmas.List.{take_more}
+use Rattle.std.proofs.lemmas.List.Elements.{All-map, All-weaker}
+use Rattle.std.proofs.lemmas.Option.{slice_get_read}
+use Rattle.std.proofs.lemmas.Slice.Zip.{all_zipped_more}
+use Rattle.cluster_slots.specs.KeySlot.{key_slot}
+use Rattle.cluster_slots.specs.SlotRoute.{SlotRoute}
+use Rattle.redis_routing.specs.Command.{Arguments, command_name}
+use Rattle.redis_routing.specs.Names.{Names, names_of}
+use Rattle.redis_routing.specs.PresentArguments.{present_arguments}
+use Rattle.redis_routing.specs.Registry.{Registrations}
+use Rattle.redis_routing.specs.Complete.{multi_slot_routes, pattern_by_name, pattern_of}
+use Rattle.redis_routing.specs.Routing.{routing}
+use Rattle.redis_routing.specs.Split.{Split, IsSplit, split_part, policy_by_name, slots_of}
+use Rattle.redis_cluster.specs.MultiKey.{MultiKey, form_of_policy, multi_key, part_of}
+use Rattle.redis_cluster.specs.PlacedTuples.{tuples_of}
+use Rattle.redis_cluster.proofs.Constructors.{same_some}
+use Rattle.redis_cluster.proofs.Planned.{joining, part_is}
+use Rattle.redis_cluster.proofs.SplitParts.{command_of_routes, is_made, part_means}
+use Rattle.redis_batches.specs.Pipeline.{Task, over_keys}
+use Rattle.redis_batches.specs.Taken.{slot_routed, task_of, task_with}
+use Rattle.redis_batches.specs.Tasks.{AreTasksOf, IsSplitOfTask}
+use Rattle.redis_batches.specs.CommandTask.{IsKeptOf, IsTaskFor}
+use Rattle.redis_batches.specs.Pipelined.{IsFirstMeaningless}
+use Rattle.redis_batches.specs.declared.task.CommandTask.{CommandTask}
+use Rattle.redis_batches.specs.declared.task.CommandTask.TheVariants.{OverKeys}
+
+module _ (names : Names) (args : Arguments) (split : Split) (arguments : split.arguments ≡ args) (routes : Some split.routes ≡ multi_slot_routes names args)
+    (pattern : Some split.pattern ≡ pattern_by_name names.registered (command_name args)) (policy : Some split.policy ≡ policy_by_name names.registered (command_name args)) (held : IsSplit split) where
+  abbrev registry : Registrations
+  registry = names.registered
+
+  -- the command that a split is of
+  pub split_of_task : (command : MultiKey) × (multi_key names.registered args ≡ Some command) × IsSplitOfTask names.registered command split
+  split_of_task =
+      let found = command_of_routes names args split.routes (joining names args split policy held) (sym routes) in
+      let command : MultiKey = found.0 in
+      let made = is_made registry args command found.1 in
+      let pattern_is : split.pattern ≡ made.0 = same_some split.pattern made.0 (pattern ∙ ap (pattern_by_name registry) made.1.name ∙ ap pattern_of made.1.split) in
+      let Meant : ℕ → Type 0 = λ slot. multi_key registry (split_part split slot) ≡ Some (part_of command slot) in
+      let Has : ℕ → Type 0 = λ slot. list_any (λ t. nat_eq (key_slot t.key) slot) command.tuples ≡ true in
+      let meant : All Meant (slots_of split.routes) =
+      All-map Meant (λ r. r.0.slot) split.routes
+      (All-weaker (λ (r : SlotRoute × List ℕ). Has r.0.slot) (λ r. Meant r.0.slot) (λ r has. ap (multi_key registry) (part_is registry args split r.0.slot arguments pattern) ∙ part_means registry args command r.0.slot found.1 has) split.routes found.2.of_keys) in (
+        command,
+        found.1,
+        record {
+          split_is = held;
+          command_is = ap (multi_key registry) arguments ∙ found.1;
+          form = ap form_of_policy (policy ∙ ap (policy_by_name registry) made.1.name) ∙ made.1.form;
+          tuples = made.1.whole.tuples ∙ ap (λ p. tuples_of p (present_arguments args)) (sym pattern_is)
+              ∙ ap (λ a. tuples_of split.pattern (present_arguments a)) (sym arguments);
+          slots = found.2.slots;
+          parts = meant;
+        },
+      )
+
+-- a split command is kept as its split
+pub kept_split : (names : Names) (args : List (List ℕ)) (split : Split) → split.arguments ≡ map Some args → Some split.routes ≡ multi_slot_routes names (map Some args)
+    → Some split.pattern ≡ pattern_by_name names.registered (command_name (map Some args)) → Some split.policy ≡ policy_by_name names.registered (command_name (map Some args)) → IsSplit split
+    → IsTaskFor names.registered args (OverKeys split)
+kept_split names args split arguments routes pattern policy held =
+    let found = split_of_task names (map Some args) split arguments routes pattern policy held in (
+      over_keys found.0,
+      ap (λ m. task_with m (slot_routed (routing (names_of [] names.registered) (map Some args))) args) found.1,
+      (found.0, refl, found.2),
+    )
+
+-- what holds of an option that is there
+pub of_some : {X : Type 0} (P : X → Type 0) (o : Option X) (x : X) → o ≡ Some x → IfSome o P → P x
+of_some P o x is holds = subst (λ v. IfSome v P) is holds
+
+-- one more is kept
+pub kept_next : {X Y : Type 0} (R : X → Y → Type 0) (xs : List X) (ys more : List Y) (i : ℕ) (x : X) (y : Y) → i < length xs → x ≡ get_or xs i x → more ≡ ys ++ y ∷ []
+    → AllZip R (take i xs) ys → R x y → AllZip R (take (i + 1) xs) more
+kept_next R xs ys more i x y inside is push so_far next =
+    let e : take (i + 1) xs ≡ take i xs ++ x ∷ [] = take_more xs i x inside ∙ ap (λ z. take i xs ++ z ∷ []) (sym is) in
+    subst (λ l. AllZip R l more) (sym e) (subst (AllZip R (take i xs ++ x ∷ [])) (sym push) (all_zipped_more R (take i xs) ys x y so_far next))
+
+-- commands of which something is kept mean something
+pub tasks_from : (registered : Registrations) (commands : List (List (List ℕ))) (kept : List CommandTask) → AllZip (IsTaskFor registered) commands kept
+    → (tasks : List Task) × AreTasksOf registered commands tasks × AllZip (IsKeptOf registered) tasks kept
+tasks_from registered [] [] each = ([], refl, tt)
+tasks_from registered [] (k ∷ kept) each = absurd each
+tasks_from registered (a ∷ commands) [] each = absurd each
+tasks_from registered (a ∷ commands) (k ∷ kept) each =
+    let rest = tasks_from registered commands kept each.1 in (
+      each.0.0 ∷ rest.0,
+      ap (λ t. t ∷ map (task_of registered) commands) each.0.1 ∙ ap (λ l. Some each.0.0 ∷ l) rest.1,
+      (each.0.2, rest.2),
+    )
+
+-- the first command that means nothing
+pub first_meaningless : (registered : Registrations) (commands : List (List (List ℕ))) (kept : List CommandTask) (number : ℕ) (args : List (List ℕ)) → number < length commands → args ≡ get_or commands number args
+    → AllZip (IsTaskFor registered) (take number commands) kept → task_of registered args ≡ None → IsFirstMeaningless registered commands number
+first_meaningless registered commands kept number args within is so_far none =
+    let found = tasks_from registered (take number commands) kept so_far in
+    record {
+      earlier = found.0;
+      earlier_are = found.1;
+      args = args;
+      args_are = slice_get_read commands (length commands) number args refl within is;
+      none = none;
+    }

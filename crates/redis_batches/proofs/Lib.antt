@@ -1,0 +1,15 @@
+pub mod Lists
+pub mod Schedule
+pub mod Local
+pub mod Whole
+pub mod Refused
+pub mod KeptSlots
+pub mod Ends
+pub mod Sends
+pub mod Putting
+pub mod ByNode
+pub mod Entries
+pub mod Round
+pub mod OneServer
+pub mod Commands
+pub mod Answered

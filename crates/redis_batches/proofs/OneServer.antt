@@ -1,0 +1,58 @@
+-- Where nothing was refused, a pipeline is as one server takes its commands.
+use Rattle.std.proofs.Common.{◌≡◌, ◌≤◌, ℕ, ◌+◌, suc, List, [], ◌∷◌, Option, None, Some, All, refl, sym, ap, subst, ◌∙◌, arith, map, length}
+use Rattle.std.specs.Prelude.{nat_eq}
+use Rattle.std.proofs.lemmas.List.Elements.{All-nil, All-cons, All-filter}
+use Rattle.resp_core.specs.ErrorParts.{ErrorParts}
+use Rattle.cluster_slots.specs.Address.{Address}
+use Rattle.redis_routing.specs.Registry.{Registrations}
+use Rattle.redis_cluster.specs.Orders.{NamesOnce}
+use Rattle.redis_cluster.specs.Trace.{Ending, refused}
+use Rattle.redis_cluster.specs.Unsplit.{Step}
+use Rattle.redis_cluster.specs.Driven.{State}
+use Rattle.redis_batches.specs.Turns.{all_after}
+use Rattle.redis_batches.specs.Pipeline.{Answer, Serve, run, AreSlotsOf, Planned, pieces, piece_answers, Numbered, numbered, slot_of, Refusals}
+use Rattle.redis_batches.specs.Batched.{AreBatches}
+use Rattle.redis_batches.specs.Taken.{AreAllowed}
+use Rattle.redis_batches.specs.Driven.{IsServed, NeverRefuses, in_batches}
+use Rattle.redis_batches.proofs.Ends.{after_agree, answers_agree}
+use Rattle.redis_batches.proofs.KeptSlots.{batches_keep_slots, numbered_after, numbered_list}
+use Rattle.redis_batches.proofs.Lists.{all_by_slot}
+use Rattle.redis_batches.proofs.Whole.{pieces_answer, pieces_leave}
+
+-- an end that may not be an error is none
+no_error : (o : Option ErrorParts) → ((error : ErrorParts) → o ≡ Some error → ⊥) → o ≡ None
+no_error None none = refl
+no_error (Some error) none = absurd (none error refl)
+
+-- where nodes may refuse nothing, no part is refused
+none_refused : (may_refuse : ℕ → Ending → Type 0) (refusals : Refusals) (from place : ℕ) → NeverRefuses may_refuse from → from ≤ place → (xs : List Numbered)
+    → AreAllowed may_refuse place (map refusals xs) → All (λ x. refusals x ≡ None) xs
+none_refused may_refuse refusals from place never later [] allowed = All-nil (λ x. refusals x ≡ None)
+none_refused may_refuse refusals from place never later (x ∷ xs) allowed =
+    All-cons (λ y. refusals y ≡ None) x xs
+    (no_error (refusals x) (λ error is. never (place + 0) error (omega (arith, later)) (allowed 0 error (ap Some is))))
+    (none_refused may_refuse refusals from (place + 1) never (omega (arith, later)) xs
+    (λ i error at. subst (λ n. may_refuse n (refused error)) (omega arith) (allowed (suc i) error at)))
+
+module _ {C : Type 0} (step : Step C) (serve : Serve C) (registered : Registrations) (kept : Type 0) (may_refuse : ℕ → Ending → Type 0) (ps : List Planned) (are : All (λ p. AreSlotsOf p.task p.slots) ps)
+    (parts : List (List (List ℕ))) (places : List (List ℕ)) (is : AreBatches registered ps parts places) (nodes : List Address) (order : List ℕ) (names : NamesOnce (length places) order)
+    (old new : State C) (given : List Answer) (served : IsServed step serve kept may_refuse ps parts nodes is.batch order old new given) (never : NeverRefuses may_refuse (length old.trace)) where
+  none : Refusals
+  none x = None
+
+  agree : All (λ x. served.refusals x ≡ none x) (numbered ps)
+  unfolding none
+  agree =
+      let sent = in_batches is.batch order ps in
+      let taken : All (λ x. served.refusals x ≡ None) sent = none_refused may_refuse served.refusals (length old.trace) (length old.trace) never (omega arith) sent served.allowed in
+      all_by_slot slot_of (λ x. served.refusals x ≡ None) (numbered ps)
+      (λ s. subst (All (λ x. served.refusals x ≡ None)) (sym (batches_keep_slots is.batch (length places) order names ps is.below s))
+      (All-filter (λ x. nat_eq (slot_of x) s) (λ x. served.refusals x ≡ None) sent taken))
+
+  pub as_one_server : kept → (new.keyspace ≡ all_after (λ p. run step serve p.task) ps old.keyspace) × (given ≡ piece_answers step serve ps old.keyspace)
+  unfolding none
+  as_one_server keep = (
+    served.keyspace keep ∙ after_agree step serve served.refusals none (numbered ps) agree old.keyspace ∙ numbered_after step serve 0 (pieces ps) old.keyspace ∙ pieces_leave step serve ps are old.keyspace,
+    served.answers_are keep ∙ ap (map (λ (a : Numbered × Answer). a.1)) (answers_agree step serve served.refusals none (numbered ps) agree old.keyspace)
+        ∙ numbered_list step serve 0 (pieces ps) old.keyspace ∙ pieces_answer step serve ps are old.keyspace,
+  )

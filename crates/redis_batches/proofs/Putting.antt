@@ -1,0 +1,86 @@
+-- One answer is put at its place.
+use Rattle.std.proofs.Common.{◌≡◌, ◌<◌, ◌≤◌, ℕ, ◌+◌, zero, suc, List, [], ◌∷◌, ◌++◌, false, Some, Result, All, refl, sym, ap, ◌∙◌, subst, arith, length, drop, get_or, option_map, map}
+use Rattle.std.specs.Prelude.{nat_eq, slice_get, slice_set}
+use Rattle.std.proofs.lemmas.Bool.{eqb-true}
+use Rattle.std.proofs.lemmas.Bool.Decides.{nat_tests}
+use Rattle.std.proofs.lemmas.List.{drop_more, length-set, length_push}
+use Rattle.std.proofs.lemmas.List.Elements.{All-cons}
+use Rattle.std.proofs.lemmas.Option.{slice_get-map, slice_get_read}
+use Rattle.resp_core.proofs.Cases.{by_test}
+use Rattle.resp_core.specs.ErrorParts.{ErrorParts}
+use Rattle.resp_core.specs.declared.value.Value.{Value}
+use Rattle.redis_batches.specs.Pipeline.{Answer}
+use Rattle.redis_batches.specs.Batched.{AreFor, IsRight}
+use Rattle.redis_batches.specs.Taken.{answer_of}
+
+-- what is put at a place stands there, and elsewhere nothing changes
+pub set_here : {X : Type 0} (xs : List X) (k : ℕ) (x : X) → k < length xs → slice_get (slice_set xs k x) k ≡ Some x
+set_here [] k x within = absurd (omega arith)
+set_here (y ∷ xs) zero x within = refl
+set_here (y ∷ xs) (suc k) x within = set_here xs k x (omega arith)
+
+pub set_there : {X : Type 0} (xs : List X) (k j : ℕ) (x : X) → nat_eq j k ≡ false → slice_get (slice_set xs k x) j ≡ slice_get xs j
+set_there [] k j x apart = refl
+set_there (y ∷ xs) zero zero x apart = absurd (cc apart)
+set_there (y ∷ xs) zero (suc j) x apart = refl
+set_there (y ∷ xs) (suc k) zero x apart = refl
+set_there (y ∷ xs) (suc k) (suc j) x apart = set_there xs k j x (grind (arith, nat_tests))
+
+-- the elements before the last, and the last
+pub get_front : {X : Type 0} (xs ys : List X) (i : ℕ) → i < length xs → slice_get (xs ++ ys) i ≡ slice_get xs i
+get_front [] ys i within = absurd (omega arith)
+get_front (x ∷ xs) ys zero within = refl
+get_front (x ∷ xs) ys (suc i) within = get_front xs ys i (omega arith)
+
+pub get_last : {X : Type 0} (xs : List X) (x : X) → slice_get (xs ++ x ∷ []) (length xs) ≡ Some x
+get_last [] x = refl
+get_last (y ∷ xs) x = get_last xs x
+
+-- what the loop over answers keeps
+pub record ArePut (out now : List (Result Value ErrorParts)) (given left : List (Result Value ErrorParts)) (places : List ℕ) : Type 0 where
+  pub len : length now ≡ length out
+  pub few : length left ≤ length places
+  pub front : (i : ℕ) → i < length left → slice_get left i ≡ slice_get given i
+  pub right : (all : List Answer) → AreFor all places given → All (IsRight now all) (drop (length left) places)
+  pub kept : (all : List Answer) → AreFor all places given → (place : ℕ) → IsRight out all place → IsRight now all place
+
+-- one answer more is put at its place
+pub put_one : (out now given left rest : List (Result Value ErrorParts)) (answer : Result Value ErrorParts) (places : List ℕ)
+    → ArePut out now given left places → left ≡ rest ++ answer ∷ [] → length left ≡ length rest + 1
+    → All (λ place. place < length out) places
+    → ArePut out (slice_set now (get_or places (length rest) 0) answer) given rest places
+put_one out now given left rest answer places are is more within =
+    let place = get_or places (length rest) 0 in
+    let inside : length rest < length places = omega (arith, more, are.few) in
+    let room : place < length now = omega (arith, within (length rest) 0 inside, are.len) in
+    let there : slice_get given (length rest) ≡ Some answer =
+    sym (are.front (length rest) (omega (arith, more))) ∙ ap (λ l. slice_get l (length rest)) is ∙ get_last rest answer in
+    let here : (all : List Answer) → AreFor all places given → IsRight (slice_set now place answer) all place =
+    λ all for. ap (option_map answer_of) (set_here now place answer room ∙ sym there) ∙ for (length rest) inside in
+    let stays : (all : List Answer) → AreFor all places given → (p : ℕ) → IsRight now all p → IsRight (slice_set now place answer) all p =
+    λ all for p was. by_test (nat_eq p place)
+    (λ same. let e : p ≡ place = eqb-true p place same in ap (λ q. option_map answer_of (slice_get (slice_set now place answer) q)) e ∙ here all for ∙ ap (slice_get all) (sym e))
+    (λ apart. ap (option_map answer_of) (set_there now place p answer apart) ∙ was) in
+    record {
+      len = length-set now place answer ∙ are.len;
+      few = omega (arith, more, are.few);
+      front = λ i under. sym (get_front rest (answer ∷ []) i under) ∙ ap (λ l. slice_get l i) (sym is) ∙ are.front i (omega (arith, more, under));
+      right = λ all for.
+          let first : drop (length rest) places ≡ place ∷ drop (length rest + 1) places = drop_more places (length rest) 0 inside in
+          let later : All (IsRight now all) (drop (length rest + 1) places) = rw more at (are.right all for) in
+          rw first (All-cons (IsRight (slice_set now place answer) all) place (drop (length rest + 1) places) (here all for) (λ i d under. stays all for _ (later i d under)));
+      kept = λ all for p was. stays all for p (are.kept all for p was);
+    }
+
+-- the same, where the place is read at a number that is computed
+pub put_next : (out now given left rest : List (Result Value ErrorParts)) (answer : Result Value ErrorParts) (places : List ℕ) (n : ℕ)
+    → ArePut out now given left places → left ≡ rest ++ answer ∷ [] → n ≡ length rest
+    → All (λ place. place < length out) places
+    → ArePut out (slice_set now (get_or places n 0) answer) given rest places
+put_next out now given left rest answer places n are is e within =
+    subst (λ k. ArePut out (slice_set now (get_or places k 0) answer) given rest places) (sym e)
+    (put_one out now given left rest answer places are is (ap length is ∙ length_push rest answer) within)
+
+-- a list that is read is the one that stands there
+pub read_list : {X : Type 0} (f : X → List ℕ) (lists : List X) (n : ℕ) (v : X) (l : List ℕ) → n < length lists → v ≡ get_or lists n v → l ≡ f v → slice_get (map f lists) n ≡ Some l
+read_list f lists n v l within is l_is = slice_get-map f lists n ∙ ap (option_map f) (slice_get_read lists (length lists) n v refl within is) ∙ ap Some (sym l_is)

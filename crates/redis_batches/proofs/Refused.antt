@@ -1,0 +1,75 @@
+-- Where nodes refuse some parts: what stands, and what is answered, is as if one server had taken the others alone.
+use Rattle.std.proofs.Common.{◌≡◌, ℕ, List, [], ◌∷◌, Bool, cond, Option, None, Some, All, refl, sym, subst, filter}
+use Rattle.std.specs.Prelude.{nat_eq, is_none}
+use Rattle.std.proofs.lemmas.List.Elements.{All-nil, All-cons, All-head, All-tail, All-filter}
+use Rattle.resp_core.specs.ErrorParts.{ErrorParts}
+use Rattle.redis_cluster.specs.Unsplit.{Step, Keyspace}
+use Rattle.redis_batches.specs.Served.{Effect, IsLocal}
+use Rattle.redis_batches.specs.Turns.{all_after, answers, of_slot}
+use Rattle.redis_batches.specs.Pipeline.{piece_of, ended, Answer, Serve, AreSlotsOf, Planned, pieces, Numbered, numbered, slot_of, KeepsSlots, Refusals, refused_by, is_taken}
+use Rattle.redis_batches.proofs.Lists.{all_by_slot}
+use Rattle.redis_batches.proofs.Schedule.{one_keyspace, answers_hold}
+use Rattle.redis_batches.proofs.Whole.{pieces_local}
+use Rattle.redis_batches.proofs.KeptSlots.{numbered_local}
+
+-- a refusal touches no slot
+refused_local : {C : Type 0} (s : ℕ) (effect : Effect C Answer) (o : Option ErrorParts) → IsLocal s effect → IsLocal s (refused_by o effect)
+refused_local s effect None local = local
+refused_local s effect (Some error) local = record {
+  elsewhere = λ ks key away. refl;
+  here = λ ks other agree. agree;
+  reply = λ ks other agree. refl;
+}
+
+module _ {C : Type 0} (step : Step C) (serve : Serve C) (refusals : Refusals) where
+  ended_local : (xs : List Numbered) → All (λ x. IsLocal (slot_of x) (piece_of step serve x)) xs → All (λ x. IsLocal (slot_of x) ((ended step serve refusals) x)) xs
+  ended_local [] local = All-nil (λ x. IsLocal (slot_of x) ((ended step serve refusals) x))
+  ended_local (x ∷ xs) local =
+      All-cons (λ y. IsLocal (slot_of y) ((ended step serve refusals) y)) x xs
+      (refused_local (slot_of x) (piece_of step serve x) (refusals x) (All-head (λ y. IsLocal (slot_of y) (piece_of step serve y)) x xs local))
+      (ended_local xs (All-tail (λ y. IsLocal (slot_of y) (piece_of step serve y)) x xs local))
+
+  -- one part, by whether it is refused
+  taken_one : (o : Option ErrorParts) (x : Numbered) (xs : List Numbered) → ((k : Keyspace C) → all_after (ended step serve refusals) xs k ≡ all_after (piece_of step serve) (filter (is_taken refusals) xs) k)
+      → (ks : Keyspace C) → all_after (ended step serve refusals) xs (refused_by o (piece_of step serve x) ks).keys
+      ≡ all_after (piece_of step serve) (cond (is_none o) (x ∷ filter (is_taken refusals) xs) (filter (is_taken refusals) xs)) ks
+  taken_one None x xs rest ks = rest (piece_of step serve x ks).keys
+  taken_one (Some error) x xs rest ks = rest ks
+
+  -- refused parts may be left out
+  pub taken_alone : (xs : List Numbered) (ks : Keyspace C) → all_after (ended step serve refusals) xs ks ≡ all_after (piece_of step serve) (filter (is_taken refusals) xs) ks
+  taken_alone [] ks = refl
+  taken_alone (x ∷ xs) ks = taken_one (refusals x) x xs (taken_alone xs) ks
+
+  module _ (ps : List Planned) (are : All (λ p. AreSlotsOf p.task p.slots) ps) (sent : List Numbered) (keeps : KeepsSlots ps sent) (ks : Keyspace C) where
+    local_all : All (λ x. IsLocal (slot_of x) ((ended step serve refusals) x)) (numbered ps)
+    local_all = ended_local (numbered ps) (numbered_local step serve 0 (pieces ps) (pieces_local step serve ps are))
+
+    local_sent : All (λ x. IsLocal (slot_of x) ((ended step serve refusals) x)) sent
+    local_sent = all_by_slot slot_of (λ x. IsLocal (slot_of x) ((ended step serve refusals) x)) sent
+        (λ s. subst (All (λ x. IsLocal (slot_of x) ((ended step serve refusals) x))) (keeps s) (All-filter (λ x. nat_eq (slot_of x) s) (λ x. IsLocal (slot_of x) ((ended step serve refusals) x)) (numbered ps) local_all))
+
+    -- The keyspace is what the parts that were not refused leave, in the order of the pipeline.
+    pub refused_leaves : all_after (ended step serve refusals) sent ks ≡ all_after (ended step serve refusals) (numbered ps) ks
+    refused_leaves = sym (one_keyspace slot_of (ended step serve refusals) (numbered ps) sent local_all local_sent keeps ks)
+
+    -- What holds of each part with its answer there holds of each that was sent.
+    pub refused_answers : (P : Numbered × Answer → Type 0) → All P (answers (ended step serve refusals) (numbered ps) ks) → All P (answers (ended step serve refusals) sent ks)
+    refused_answers = answers_hold slot_of (ended step serve refusals) (numbered ps) sent local_all local_sent keeps ks
+
+-- Sent again after refusals, in any rounds: what was taken in the end, in the order of time, leaves what one server leaves that takes
+-- these parts in the order of the pipeline, as long as those of each slot were taken in that order.
+module _ {C : Type 0} (step : Step C) (serve : Serve C) (taken : Numbered → Bool) (ps : List Planned) (are : All (λ p. AreSlotsOf p.task p.slots) ps)
+    (sent : List Numbered) (keeps : (slot : ℕ) → of_slot slot_of slot (filter taken (numbered ps)) ≡ of_slot slot_of slot sent) (ks : Keyspace C) where
+  local_taken : All (λ x. IsLocal (slot_of x) (piece_of step serve x)) (filter taken (numbered ps))
+  local_taken = All-filter taken (λ x. IsLocal (slot_of x) (piece_of step serve x)) (numbered ps) (numbered_local step serve 0 (pieces ps) (pieces_local step serve ps are))
+
+  local_in_time : All (λ x. IsLocal (slot_of x) (piece_of step serve x)) sent
+  local_in_time = all_by_slot slot_of (λ x. IsLocal (slot_of x) (piece_of step serve x)) sent
+      (λ s. subst (All (λ x. IsLocal (slot_of x) (piece_of step serve x))) (keeps s) (All-filter (λ x. nat_eq (slot_of x) s) (λ x. IsLocal (slot_of x) (piece_of step serve x)) (filter taken (numbered ps)) local_taken))
+
+  pub rounds_leave : all_after (piece_of step serve) sent ks ≡ all_after (piece_of step serve) (filter taken (numbered ps)) ks
+  rounds_leave = sym (one_keyspace slot_of (piece_of step serve) (filter taken (numbered ps)) sent local_taken local_in_time keeps ks)
+
+  pub rounds_answer : (P : Numbered × Answer → Type 0) → All P (answers (piece_of step serve) (filter taken (numbered ps)) ks) → All P (answers (piece_of step serve) sent ks)
+  rounds_answer = answers_hold slot_of (piece_of step serve) (filter taken (numbered ps)) sent local_taken local_in_time keeps ks

@@ -1,0 +1,195 @@
+use Rattle.std.proofs.Common.{◌≡◌, ◌<◌, ◌∙◌, ℕ, ◌+◌, List, false, true, Some, refl, sym, ap, subst, arith, cond, map, length, get_or, take}
+use Rattle.std.specs.Prelude.{nat_eq, slice_get, slice_set}
+use Rattle.resp_core.proofs.Cases.{by_test}
+use Rattle.cluster_slots.specs.Address.{Address}
+use Rattle.redis_cluster.specs.Orders.{NamesOnce, in_order, times}
+use Rattle.redis_cluster.specs.Trace.{Ending, refused}
+use Rattle.redis_cluster.specs.Unsplit.{Step}
+use Rattle.redis_cluster.proofs.Counts.{same_number}
+use Rattle.redis_cluster.proofs.Once.{times_more, times-take, names_once-apart}
+use Rattle.redis_cluster.specs.Driven.{State, state}
+use Rattle.redis_routing.specs.Registry.{Registrations}
+use Rattle.redis_batches.specs.Pipeline.{Answer, Serve}
+use Rattle.redis_batches.specs.Batched.{AreFor, numbers_in}
+use Rattle.redis_batches.specs.Taken.{answer_of, IsTaken}
+use Rattle.redis_batches.specs.Driven.{node_at}
+use Rattle.redis_batches.proofs.Entries.{get_there}
+use Rattle.redis_batches.proofs.OneServer.{as_one_server}
+use Rattle.redis_batches.proofs.Putting.{set_there}
+use Rattle.redis_batches.proofs.Round as round
+use Rattle.redis_batches.proofs.send.send_batches.Goals as goal
+
+-- a batch that is sent was not sent before
+fresh : (count : ℕ) (order : List ℕ) (i : ℕ) → NamesOnce count order → i < length order → times (get_or order i 0) (take i order) ≡ 0
+fresh count order i names inside =
+    let k = get_or order i 0 in
+    let more : times k (take (i + 1) order) ≡ times k (take i order) + 1 =
+    times_more k order i 0 inside ∙ ap (λ b. times k (take i order) + cond b 1 0) (same_number k) in
+    omega (arith, more, times-take k order (i + 1), names_once-apart count order names k)
+
+-- after it the others are untold
+untold_less : (told : List _) (order : List ℕ) (i count : ℕ) → i < length order
+    → ((k : ℕ) → times k (take i order) ≡ 0 → k < count → slice_get told k ≡ Some false)
+    → (k : ℕ) → times k (take (i + 1) order) ≡ 0 → k < count → slice_get (slice_set told (get_or order i 0) true) k ≡ Some false
+untold_less told order i count inside untold k none below =
+    let n = get_or order i 0 in
+    by_test (nat_eq k n)
+    (λ own. absurd (omega (arith, none, times_more k order i 0 inside ∙ ap (λ b. times k (take i order) + cond b 1 0) own)))
+    (λ other. set_there told n k true other ∙ untold k (omega (arith, none, times_more k order i 0 inside ∙ ap (λ b. times k (take i order) + cond b 1 0) other)) below)
+
+-- what was taken by nodes that may refuse less
+widened : {C : Type 0} {step : Step C} {serve : Serve C} {registered : Registrations} {kept : Type 0} {node : Address} {batch : List (List (List ℕ))} {old new : State C} {given : List Answer} (may wide : ℕ → Ending → Type 0)
+    → ((count : ℕ) (ending : Ending) → may count ending → wide count ending) → IsTaken step serve registered kept may node batch old new given → IsTaken step serve registered kept wide node batch old new given
+widened may wide more taken = record {
+  ends = taken.ends;
+  long = taken.long;
+  trace = taken.trace;
+  allowed = λ i error at. more _ (refused error) (taken.allowed i error at);
+  served = taken.served;
+}
+
+pub send_one-requires : goal.send_one-requires
+send_one-requires g c = record {
+  within = subst (λ ps. get_or c.args.order.now c.loop-number.number-index 0 < length ps) (sym c.loop-number.invariant.same_places)
+      (c.requires.order.below c.loop-number.number-index 0 c.loop-number-test.true);
+}
+
+pub tell_first-requires-clause-first : goal.tell_first-requires-clause-first
+tell_first-requires-clause-first g c =
+    let order = c.args.order.now in
+    let i = c.loop-number.number-index in
+    c.loop-number.invariant.untold (get_or order i 0) (fresh (length c.args.plan.now.places) order i c.requires.order c.loop-number-test.true) (c.requires.order.below i 0 c.loop-number-test.true)
+
+pub tell_first-requires-clause-long : goal.tell_first-requires-clause-long
+tell_first-requires-clause-long g c =
+    let nodes = g.N.BatchNodes in
+    let plan = c.args.plan.now in
+    let order = c.args.order.now in
+    let i = c.loop-number.number-index in
+    let k = get_or order i 0 in
+    let inv = c.loop-number.invariant in
+    let ps = c.requires.batches.0 in
+    let is = c.requires.batches.2 in
+    let below : k < length plan.places = c.requires.order.below i 0 c.loop-number-test.true in
+    let at : slice_get c.loop-number.plan.places k ≡ Some (numbers_in is.batch ps k) = ap (λ ls. slice_get ls k) inv.same_places ∙ is.places_are k below in (
+      numbers_in is.batch ps k,
+      at,
+      c.in-Ok.ensures.answers (numbers_in is.batch ps k) at
+          ∙ ap (λ parts. length (in_order parts (numbers_in is.batch ps k))) inv.same_parts
+          ∙ round.batch_long nodes.step nodes.serve (nodes.registered c.args.nodes.now) ps c.requires.batches.1 plan.parts plan.places is order c.requires.order plan.nodes
+          (state (nodes.keyspace c.args.nodes.now) (nodes.trace c.args.nodes.now) (nodes.mark c.args.nodes.now)) k,
+    )
+
+pub loop-number-init : goal.loop-number-init
+loop-number-init g c =
+    let nodes = g.N.BatchNodes in
+    let plan = c.args.plan.now in
+    record {
+      same_nodes = refl;
+      same_places = refl;
+      same_parts = refl;
+      room = c.requires.plan.answers;
+      untold = λ k none below.
+          let within : k < length plan.told = subst (λ n. k < n) (sym c.requires.plan.told) below in
+          get_there plan.told k true within ∙ ap Some (c.requires.untold k true within);
+      so_far = λ ps are is names. round.at_first nodes.step nodes.serve (nodes.registered c.args.nodes.now) ps are plan.parts plan.places is c.args.order.now names plan.nodes
+          (state (nodes.keyspace c.args.nodes.now) (nodes.trace c.args.nodes.now) (nodes.mark c.args.nodes.now)) (nodes.kept c.args.nodes.now) (nodes.may_refuse c.args.nodes.now) plan.answers;
+      kept = λ now. now;
+      may_refuse = λ count ending. (λ may. may, λ may. may);
+      registered = refl;
+      answered = refl;
+    }
+
+pub loop-number-preserved : goal.loop-number-preserved
+loop-number-preserved g c =
+    let nodes = g.N.BatchNodes in
+    let plan = c.args.plan.now in
+    let order = c.args.order.now in
+    let i = c.loop-number.number-index in
+    let k = get_or order i 0 in
+    let inv = c.loop-number.invariant in
+    let inside : i < length order = c.loop-number-test.true in
+    let below : k < length plan.places = c.requires.order.below i 0 inside in
+    let old = state (nodes.keyspace c.args.nodes.now) (nodes.trace c.args.nodes.now) (nodes.mark c.args.nodes.now) in
+    let now = state (nodes.keyspace c.loop-number.nodes) (nodes.trace c.loop-number.nodes) (nodes.mark c.loop-number.nodes) in
+    let new = state (nodes.keyspace c.send_one.new.nodes) (nodes.trace c.send_one.new.nodes) (nodes.mark c.send_one.new.nodes) in
+    let same = c.tell_first.ensures.same in
+    record {
+      same_nodes = same.0 ∙ inv.same_nodes;
+      same_places = same.1 ∙ inv.same_places;
+      same_parts = same.2 ∙ inv.same_parts;
+      room = same.3 ∙ inv.room;
+      untold = subst (λ told. (j : ℕ) → times j (take (i + 1) order) ≡ 0 → j < length plan.places → slice_get told j ≡ Some false) (sym c.tell_first.ensures.told)
+          (untold_less c.loop-number.plan.told order i (length plan.places) inside inv.untold);
+      so_far = λ ps are is names.
+          let list = numbers_in is.batch ps k in
+          let at : slice_get c.loop-number.plan.places k ≡ Some list = ap (λ ls. slice_get ls k) inv.same_places ∙ is.places_are k below in
+          let so_far = inv.so_far ps are is names in
+          let named : IsTaken nodes.step nodes.serve (nodes.registered c.args.nodes.now) (nodes.kept c.send_one.new.nodes) (nodes.may_refuse c.loop-number.nodes) (node_at c.loop-number.plan.nodes k) (in_order c.loop-number.plan.parts list) now new (map answer_of c.in-Ok.answers.items) =
+          subst (λ r. IsTaken nodes.step nodes.serve r (nodes.kept c.send_one.new.nodes) (nodes.may_refuse c.loop-number.nodes) (node_at c.loop-number.plan.nodes k) (in_order c.loop-number.plan.parts list) now new (map answer_of c.in-Ok.answers.items)) inv.registered (c.in-Ok.ensures.taken list at) in
+          let sent = widened (nodes.may_refuse c.loop-number.nodes) (nodes.may_refuse c.args.nodes.now) (λ count ending. (inv.may_refuse count ending).0) named in
+          let taken : IsTaken nodes.step nodes.serve (nodes.registered c.args.nodes.now) (nodes.kept c.send_one.new.nodes) (nodes.may_refuse c.args.nodes.now) (node_at plan.nodes k) (in_order plan.parts list) now new (map answer_of c.in-Ok.answers.items) =
+          subst (λ ns. IsTaken nodes.step nodes.serve (nodes.registered c.args.nodes.now) (nodes.kept c.send_one.new.nodes) (nodes.may_refuse c.args.nodes.now) (node_at ns k) (in_order plan.parts list) now new (map answer_of c.in-Ok.answers.items)) inv.same_nodes
+          (subst (λ parts. IsTaken nodes.step nodes.serve (nodes.registered c.args.nodes.now) (nodes.kept c.send_one.new.nodes) (nodes.may_refuse c.args.nodes.now) (node_at c.loop-number.plan.nodes k) (in_order parts list) now new (map answer_of c.in-Ok.answers.items)) inv.same_parts sent) in
+          let all = round.expected_next nodes.step nodes.serve (nodes.registered c.args.nodes.now) ps are plan.parts plan.places is order names plan.nodes old i k inside refl (nodes.kept c.loop-number.nodes) (nodes.kept c.send_one.new.nodes) c.send_one.ensures.kept (nodes.may_refuse c.args.nodes.now) now new c.loop-number.plan.answers c.in-Ok.answers.items so_far taken in
+          let for : nodes.kept c.send_one.new.nodes → AreFor all list c.in-Ok.answers.items =
+          λ keep. round.replies_right nodes.step nodes.serve (nodes.registered c.args.nodes.now) ps are plan.parts plan.places is order names plan.nodes old i k inside refl (nodes.kept c.loop-number.nodes) (nodes.kept c.send_one.new.nodes) c.send_one.ensures.kept (nodes.may_refuse c.args.nodes.now) now new c.loop-number.plan.answers c.in-Ok.answers.items so_far taken keep in
+          round.one_more nodes.step nodes.serve (nodes.registered c.args.nodes.now) ps are plan.parts plan.places is order names plan.nodes old i k inside refl (nodes.kept c.loop-number.nodes) (nodes.kept c.send_one.new.nodes) c.send_one.ensures.kept (nodes.may_refuse c.args.nodes.now) now new c.loop-number.plan.answers c.in-Ok.answers.items so_far taken
+          c.tell_first.new.plan.answers (λ keep. c.tell_first.ensures.right all list at (for keep)) (λ keep. c.tell_first.ensures.others all list at (for keep));
+      kept = λ keep. inv.kept (c.send_one.ensures.kept keep);
+      may_refuse = λ count ending.
+          let one = c.send_one.ensures.may_refuse count ending in
+          let before = inv.may_refuse count ending in
+          (λ may. before.0 (one.0 may), λ may. one.1 (before.1 may));
+      registered = c.send_one.ensures.registered ∙ inv.registered;
+      answered = omega (arith, inv.answered);
+    }
+
+pub returns-clause-served : goal.returns-clause-served
+returns-clause-served g c = λ ps are is.
+    let nodes = g.N.BatchNodes in
+    let plan = c.args.plan.now in
+    let old = state (nodes.keyspace c.args.nodes.now) (nodes.trace c.args.nodes.now) (nodes.mark c.args.nodes.now) in
+    let now = state (nodes.keyspace c.loop-number.nodes) (nodes.trace c.loop-number.nodes) (nodes.mark c.loop-number.nodes) in
+    round.at_end nodes.step nodes.serve (nodes.registered c.args.nodes.now) ps are plan.parts plan.places is c.args.order.now c.requires.order plan.nodes old (nodes.kept c.loop-number.nodes) (nodes.may_refuse c.args.nodes.now)
+    c.loop-number.number-index (omega (arith, c.loop-number-test.false)) now c.loop-number.plan.answers c.loop-number.invariant.room (c.loop-number.invariant.so_far ps are is c.requires.order)
+
+pub returns-clause-one_server : goal.returns-clause-one_server
+returns-clause-one_server g c = λ ps are is never keep.
+    let nodes = g.N.BatchNodes in
+    let plan = c.args.plan.now in
+    let old = state (nodes.keyspace c.args.nodes.now) (nodes.trace c.args.nodes.now) (nodes.mark c.args.nodes.now) in
+    let now = state (nodes.keyspace c.loop-number.nodes) (nodes.trace c.loop-number.nodes) (nodes.mark c.loop-number.nodes) in
+    as_one_server nodes.step nodes.serve (nodes.registered c.args.nodes.now) (nodes.kept c.loop-number.nodes) (nodes.may_refuse c.args.nodes.now) ps are plan.parts plan.places is plan.nodes c.args.order.now c.requires.order old now (map answer_of c.loop-number.plan.answers)
+    (round.at_end nodes.step nodes.serve (nodes.registered c.args.nodes.now) ps are plan.parts plan.places is c.args.order.now c.requires.order plan.nodes old (nodes.kept c.loop-number.nodes) (nodes.may_refuse c.args.nodes.now)
+    c.loop-number.number-index (omega (arith, c.loop-number-test.false)) now c.loop-number.plan.answers c.loop-number.invariant.room (c.loop-number.invariant.so_far ps are is c.requires.order)) never keep
+
+pub returns-in-Err-clause-stopped : goal.returns-in-Err-clause-stopped
+returns-in-Err-clause-stopped g c = λ ps are is.
+    let nodes = g.N.BatchNodes in
+    let plan = c.args.plan.now in
+    let order = c.args.order.now in
+    let inv = c.loop-number.invariant in
+    let old = state (nodes.keyspace c.args.nodes.now) (nodes.trace c.args.nodes.now) (nodes.mark c.args.nodes.now) in
+    let now = state (nodes.keyspace c.loop-number.nodes) (nodes.trace c.loop-number.nodes) (nodes.mark c.loop-number.nodes) in
+    let so_far = inv.so_far ps are is c.requires.order in
+    let earlier = round.only_kept nodes.step nodes.serve (nodes.registered c.args.nodes.now) ps are plan.parts plan.places is order c.requires.order plan.nodes old (nodes.kept c.loop-number.nodes) (nodes.kept c.send_one.new.nodes) c.send_one.ensures.kept (nodes.may_refuse c.args.nodes.now)
+    c.loop-number.number-index now c.loop-number.plan.answers so_far in
+    record {
+      between = now;
+      taken = rw inv.answered (round.taken_so_far nodes.step nodes.serve (nodes.registered c.args.nodes.now) ps are plan.parts plan.places is order c.requires.order plan.nodes old (nodes.kept c.send_one.new.nodes) (nodes.may_refuse c.args.nodes.now)
+          c.loop-number.number-index now c.loop-number.plan.answers earlier);
+      idle = c.in-Err.ensures.idle;
+    }
+
+pub returns-in-Err-clause-within : goal.returns-in-Err-clause-within
+returns-in-Err-clause-within g c = omega (arith, c.loop-number.invariant.answered, c.loop-number-test.true)
+
+pub returns-in-Err-clause-kept : goal.returns-in-Err-clause-kept
+returns-in-Err-clause-kept g c = λ keep. c.loop-number.invariant.kept (c.send_one.ensures.kept keep)
+
+pub returns-in-Err-clause-may_refuse : goal.returns-in-Err-clause-may_refuse
+returns-in-Err-clause-may_refuse g c = λ count ending.
+    let one = c.send_one.ensures.may_refuse count ending in
+    let before = c.loop-number.invariant.may_refuse count ending in
+    (λ may. before.0 (one.0 may), λ may. one.1 (before.1 may))

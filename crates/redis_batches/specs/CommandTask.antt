@@ -1,0 +1,41 @@
+-- What a plan keeps of a command: its slot, or its split.
+use Rattle.std.specs.Prelude.{◌≡◌, ℕ, List, [], ◌∷◌, Option, None, Some, map}
+use Rattle.redis_routing.specs.Command.{Arguments}
+use Rattle.redis_routing.specs.Registry.{Registrations}
+use Rattle.redis_routing.specs.Split.{Split, split_part, slots_of}
+use Rattle.redis_cluster.specs.MultiKey.{MultiKey}
+use Rattle.redis_batches.specs.Pipeline.{Task, over_keys, in_slot}
+use Rattle.redis_batches.specs.Taken.{task_of}
+use Rattle.redis_batches.specs.Tasks.{IsSplitOfTask}
+use Rattle.redis_batches.specs.declared.task.CommandTask.{CommandTask}
+use Rattle.redis_batches.specs.declared.task.CommandTask.TheVariants.{InSlot, OverKeys}
+
+-- its split, where it is over many keys
+abbrev pub split_in : CommandTask → Option Split
+split_in (InSlot slot command) = None
+split_in (OverKeys split) = Some split
+
+-- the slot of a part, and its arguments
+abbrev pub SlotPart : Type 0
+SlotPart = ℕ × Arguments
+
+-- those of the parts of a command, in their order
+abbrev pub slot_parts : CommandTask → List SlotPart
+slot_parts (InSlot slot command) = (slot, map Some command.now) ∷ []
+slot_parts (OverKeys split) = map (λ slot. (slot, split_part split slot)) (slots_of split.routes)
+
+-- the slots of a command, as they are kept
+abbrev pub slots_kept : CommandTask → List ℕ
+slots_kept kept = map (λ part. part.0) (slot_parts kept)
+
+-- this is kept of a command that means this
+abbrev pub IsKeptOf : Registrations → Task → CommandTask → Type 0
+IsKeptOf registered task (InSlot slot command) =
+    (task ≡ in_slot slot command.now) × (task_of registered command.now ≡ Some task)
+IsKeptOf registered task (OverKeys split) =
+    (command : MultiKey) × (task ≡ over_keys command) × IsSplitOfTask registered command split
+
+-- the command with these arguments means something in a pipeline, and this is kept of it
+abbrev pub IsTaskFor : Registrations → List (List ℕ) → CommandTask → Type 0
+IsTaskFor registered args kept =
+    (task : Task) × (task_of registered args ≡ Some task) × IsKeptOf registered task kept

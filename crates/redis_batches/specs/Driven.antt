@@ -1,0 +1,61 @@
+-- How the batches of a pipeline were sent, and what they leave and answer.
+use Rattle.std.specs.Prelude.{◌≡◌, ◌≤◌, ◌++◌, ℕ, List, [], map, length, get_or}
+use Rattle.resp_core.specs.ErrorParts.{ErrorParts}
+use Rattle.cluster_slots.specs.Address.{Address}
+use Rattle.redis_cluster.specs.Trace.{Ending, refused}
+use Rattle.redis_cluster.specs.Unsplit.{Step}
+use Rattle.redis_cluster.specs.Driven.{State}
+use Rattle.redis_batches.specs.Turns.{all_after, answers, batch_by_batch}
+use Rattle.redis_batches.specs.Pipeline.{Answer, Serve, Planned, Numbered, numbered, slot_of, Refusals, ended}
+use Rattle.redis_batches.specs.Batched.{part_entry}
+use Rattle.redis_cluster.specs.declared.nodes.SendError.{SendError}
+use Rattle.redis_batches.specs.Taken.{AreAllowed, IsIdle}
+
+-- the node at a number of a list
+abbrev pub node_at : List Address → ℕ → Address
+node_at nodes k = get_or nodes k (record { host = []; port = 0 })
+
+-- the parts of these batches, batch after batch
+abbrev pub in_batches : (ℕ → ℕ) → List ℕ → List Planned → List Numbered
+in_batches batch order ps = batch_by_batch (λ x. batch (slot_of x)) order (numbered ps)
+
+module _ {C : Type 0} (step : Step C) (serve : Serve C) (kept : Type 0)
+    (may_refuse : ℕ → Ending → Type 0) (ps : List Planned) (parts : List (List (List ℕ)))
+    (nodes : List Address) (batch : ℕ → ℕ) (order : List ℕ) (old new : State C) where
+  -- Batches of these numbers were taken, one after the other, and nothing else was: the trace grew
+  -- by an entry for each part, at the node of its batch, answered or refused, as it may be. Where
+  -- nodes keep to the meaning, the keyspace is that of the parts that were not refused.
+  pub record AreTaken : Type 0 where
+    pub refusals : Refusals
+    pub trace : new.trace ≡ old.trace
+        ++ map (part_entry (node_at nodes) batch parts refusals) (in_batches batch order ps)
+    pub allowed : AreAllowed may_refuse (length old.trace) (map refusals (in_batches batch order ps))
+    pub keyspace : kept
+        → new.keyspace ≡ all_after (ended step serve refusals) (in_batches batch order ps) old.keyspace
+
+  -- All were taken. Where nodes keep to the meaning, keyspace and answers are those of one server
+  -- that takes the parts in the order of the pipeline, but for those that were refused: a refused
+  -- part does nothing, and its answer is the error.
+  pub record IsServed (given : List Answer) : Type 0 where
+    pub refusals : Refusals
+    pub trace : new.trace ≡ old.trace
+        ++ map (part_entry (node_at nodes) batch parts refusals) (in_batches batch order ps)
+    pub allowed : AreAllowed may_refuse (length old.trace) (map refusals (in_batches batch order ps))
+    pub keyspace : kept → new.keyspace ≡ all_after (ended step serve refusals) (numbered ps) old.keyspace
+    pub answers_are : kept
+        → given ≡ map (λ a. a.1) (answers (ended step serve refusals) (numbered ps) old.keyspace)
+
+-- from this place in the trace on, nodes may refuse nothing
+abbrev pub NeverRefuses : (ℕ → Ending → Type 0) → ℕ → Type 0
+NeverRefuses may_refuse from =
+    (place : ℕ) (error : ErrorParts) → from ≤ place → may_refuse place (refused error) → ⊥
+
+-- Batches of these numbers were taken, and then one was not: it did nothing, or its answers were
+-- lost.
+pub record WasStopped {C : Type 0} (step : Step C) (serve : Serve C) (kept : Type 0)
+    (may_refuse : ℕ → Ending → Type 0) (ps : List Planned) (parts : List (List (List ℕ)))
+    (nodes : List Address) (batch : ℕ → ℕ) (order : List ℕ) (old new : State C) (error : SendError)
+    : Type 0 where
+  pub between : State C
+  pub taken : AreTaken step serve kept may_refuse ps parts nodes batch order old between
+  pub idle : IsIdle kept between new error

@@ -1,0 +1,13 @@
+pub mod Served
+pub mod Turns
+pub mod Pipeline
+pub mod Taken
+pub mod Batched
+pub mod Grouped
+pub mod Plan
+pub mod Driven
+pub mod PartArguments
+pub mod Tasks
+pub mod CommandTask
+pub mod Pipelined
+pub mod Replies

@@ -1,0 +1,55 @@
+-- The reply to each command of a pipeline, by the answers to its parts.
+use Rattle.std.specs.Prelude.{◌≡◌, ℕ, List, [], ◌∷◌, Option, None, Some, Result, Ok, Err, map, length, take, drop}
+use Rattle.std.specs.declared.alloc.Global.{Global}
+use Rattle.std.specs.declared.vec.Vec.{Vec}
+use Rattle.resp_core.specs.ErrorParts.{ErrorParts}
+use Rattle.resp_core.specs.Reply.{Reply}
+use Rattle.resp_core.specs.View.{view}
+use Rattle.resp_core.specs.declared.value.Value.{Value}
+use Rattle.redis_routing.specs.Split.{Split}
+use Rattle.redis_cluster.specs.Joined.{joined}
+use Rattle.redis_batches.specs.Pipeline.{Answer}
+
+-- one reply more in front, unless there was an error
+abbrev pub with_reply : Reply → Result (List Reply) ErrorParts → Result (List Reply) ErrorParts
+with_reply reply (Ok replies) = Ok (reply ∷ replies)
+with_reply reply (Err error) = Err error
+
+-- the replies among some answers, or else the first error
+abbrev pub all_replies : List Answer → Result (List Reply) ErrorParts
+all_replies [] = Ok []
+all_replies (Ok reply ∷ answers) = with_reply reply (all_replies answers)
+all_replies (Err error ∷ answers) = Err error
+
+-- the values that were found, as replies, or the error
+abbrev pub values_among : Result (Vec Value Global) ErrorParts → Result (List Reply) ErrorParts
+values_among (Ok values) = Ok (map view values.items)
+values_among (Err error) = Err error
+
+-- how many parts a command has
+abbrev pub part_count : Option Split → ℕ
+part_count None = 1
+part_count (Some split) = length split.routes
+
+-- the one reply that is made of those to the parts, or an error of the kind of the refusal
+abbrev pub IsJoinedAs : Split → List Reply → Answer → Type 0
+IsJoinedAs split replies (Ok reply) = joined split replies ≡ Ok reply
+IsJoinedAs split replies (Err error) = joined split replies ≡ Err error.kind
+
+abbrev pub IsSplitReply : Split → Result (List Reply) ErrorParts → Answer → Type 0
+IsSplitReply split (Ok replies) answer = IsJoinedAs split replies answer
+IsSplitReply split (Err error) answer = answer ≡ Err error
+
+-- The reply to a command: its own answer; of one that is split the one reply that is made of those
+-- to its parts, or the error of its first part that has one.
+abbrev pub IsReplyTo : Option Split → List Answer → Answer → Type 0
+IsReplyTo None answers answer = answers ≡ answer ∷ []
+IsReplyTo (Some split) answers answer = IsSplitReply split (all_replies answers) answer
+
+-- the replies to commands, by the answers to their parts, one command after the other
+abbrev pub AreRepliesTo : List (Option Split) → List Answer → List Answer → Type 0
+AreRepliesTo [] answers replies = (answers ≡ []) × (replies ≡ [])
+AreRepliesTo (split ∷ splits) answers [] = ⊥
+AreRepliesTo (split ∷ splits) answers (reply ∷ replies) =
+    IsReplyTo split (take (part_count split) answers) reply
+    × AreRepliesTo splits (drop (part_count split) answers) replies

@@ -1,0 +1,93 @@
+-- What a node leaves that took a batch of commands.
+use Rattle.std.specs.Prelude.{◌≡◌, ◌+◌, ℕ, List, [], ◌++◌, Option, None, Some, Result, Ok, Err, map, length, slice_get}
+use Rattle.std.specs.List.{zip}
+use Rattle.cluster_slots.specs.Address.{Address}
+use Rattle.resp_core.specs.ErrorParts.{ErrorParts}
+use Rattle.resp_core.specs.View.{view}
+use Rattle.resp_core.specs.declared.value.Value.{Value}
+use Rattle.redis_routing.specs.Names.{names_of}
+use Rattle.redis_routing.specs.Registry.{Registrations}
+use Rattle.redis_routing.specs.Routing.{routing}
+use Rattle.redis_routing.specs.RoutingInfo.{Routing, specific_node, single_node}
+use Rattle.redis_cluster.specs.MultiKey.{MultiKey, multi_key}
+use Rattle.redis_cluster.specs.Trace.{Entry, Ending, answered, refused, entry}
+use Rattle.redis_cluster.specs.Unsplit.{Step, Keyspace}
+use Rattle.redis_cluster.specs.declared.nodes.SendError.{SendError}
+use Rattle.redis_cluster.specs.declared.nodes.SendError.TheVariants as sent
+use Rattle.redis_cluster.specs.Driven.{State}
+use Rattle.redis_batches.specs.Turns.{all_after, answers}
+use Rattle.redis_batches.specs.Pipeline.{Answer, Serve, Task, over_keys, in_slot, run_ended}
+
+-- what was answered
+abbrev pub answer_of : Result Value ErrorParts → Answer
+answer_of (Ok value) = Ok (view value)
+answer_of (Err error) = Err error
+
+-- the slot that a command goes to, where it goes to a node of one slot
+abbrev pub slot_routed : Option Routing → Option ℕ
+slot_routed (Some (single_node (specific_node route))) = Some route.slot
+slot_routed _ = None
+
+abbrev pub task_with : Option MultiKey → Option ℕ → List (List ℕ) → Option Task
+task_with (Some command) slot args = Some (over_keys command)
+task_with None (Some slot) args = Some (in_slot slot args)
+task_with None None args = None
+
+-- What a command means in a pipeline: one over many keys, or one that keeps to the slot that it is
+-- routed to. Commands for all nodes, or for any, mean nothing here.
+abbrev pub task_of : Registrations → List (List ℕ) → Option Task
+task_of registered args =
+    task_with (multi_key registered (map Some args))
+    (slot_routed (routing (names_of [] registered) (map Some args))) args
+
+-- how a command of a batch ended, by the error that it was refused with, if it was
+abbrev pub ending_by : Option ErrorParts → Ending
+ending_by None = answered
+ending_by (Some error) = refused error
+
+-- the entries of a batch, in its order
+abbrev pub batch_entries : Address → List (List (List ℕ)) → List (Option ErrorParts) → List Entry
+batch_entries node batch ends = map (λ x. entry node x.0 (ending_by x.1)) (zip batch ends)
+
+-- each refusal is one with which nodes may end at its place in the trace, counted from this one
+abbrev pub AreAllowed : (ℕ → Ending → Type 0) → ℕ → List (Option ErrorParts) → Type 0
+AreAllowed may_refuse place ends =
+    (i : ℕ) (error : ErrorParts) → slice_get ends i ≡ Some (Some error)
+    → may_refuse (place + i) (refused error)
+
+module _ {C : Type 0} (step : Step C) (serve : Serve C) where
+  -- One server took these commands one after the other, but for those that were refused: keyspace
+  -- and answers are its own.
+  pub record AreServed (tasks : List Task) (ends : List (Option ErrorParts)) (old new : Keyspace C)
+      (given : List Answer) : Type 0 where
+    pub keyspace : new ≡ all_after (run_ended step serve) (zip tasks ends) old
+    pub answers_are : given ≡ map (λ a. a.1) (answers (run_ended step serve) (zip tasks ends) old)
+
+  -- A node took a batch: the trace grew by an entry for each command, answered or refused, as it may
+  -- be; and where nodes keep to the meaning, the commands are served.
+  pub record IsTaken (registered : Registrations) (kept : Type 0) (may_refuse : ℕ → Ending → Type 0) (node : Address)
+      (batch : List (List (List ℕ))) (old new : State C) (given : List Answer) : Type 0 where
+    pub ends : List (Option ErrorParts)
+    pub long : length ends ≡ length batch
+    pub trace : new.trace ≡ old.trace ++ batch_entries node batch ends
+    pub allowed : AreAllowed may_refuse (length old.trace) ends
+    pub served : kept → (tasks : List Task) → map (task_of registered) batch ≡ map Some tasks
+        → AreServed tasks ends old.keyspace new.keyspace given
+
+-- what holds of the tasks of some commands
+abbrev pub AreTasks : Registrations → List (List (List ℕ)) → (List Task → Type 0) → Type 0
+AreTasks registered batch P =
+    (tasks : List Task) × (map (task_of registered) batch ≡ map Some tasks) × P tasks
+
+-- one server took all of these commands, one after the other
+abbrev pub IsServedBy : {C : Type 0} → Step C → Serve C → List Task → (old new : Keyspace C)
+    → List Answer → Type 0
+IsServedBy step serve tasks old new given =
+    AreServed step serve tasks (map (λ task. None) tasks) old new given
+
+-- A node that refused a batch, or to which none was sent for want of memory, did nothing. Of one
+-- whose answers were lost this says nothing.
+abbrev pub IsIdle : {C : Type 0} → (kept : Type 0) → (old new : State C) → SendError → Type 0
+IsIdle kept old new (sent.Lost error) = Unit {0}
+IsIdle kept old new error =
+    (new.trace ≡ old.trace) × (kept → new.keyspace ≡ old.keyspace)

@@ -1,0 +1,75 @@
+ghost use Rattle.std.specs.Prelude.{◌≡◌, ◌≤◌, ◌++◌, List, Result, map, length, IfOk, IfErr, reverse};
+ghost use Rattle.std.specs.List.{sum_by};
+ghost use Rattle.resp_core.specs.View.{view};
+ghost use Rattle.resp_core.specs.declared.error.ErrorKind.TheVariants.{OutOfMemory};
+ghost use Rattle.redis_batches.specs.CommandTask.{split_in};
+ghost use Rattle.redis_batches.specs.Pipeline.{Answer};
+ghost use Rattle.redis_batches.specs.Replies.{AreRepliesTo, IsJoinedAs, IsReplyTo, IsSplitReply, all_replies, part_count, values_among};
+ghost use Rattle.redis_batches.specs.Taken.{answer_of};
+
+use crate::task::CommandTask;
+use redis_cluster::driver::join_replies;
+use redis_routing::SplitCommand;
+use resp_core::{Cmd, ErrorKind, RedisError, RedisResult, Value};
+use std::alloc::{AllocError, Global};
+
+/// So many last answers, the last one first. They are taken out.
+fn last_answers(
+    alloc: Global,
+    count: usize,
+    answers: &mut Vec<Result<Value, RedisError>>,
+) -> Result<Vec<Result<Value, RedisError>>, AllocError>
+    requires room { count ≤ length answers.old.items }
+    ensures len { IfOk result (λ own. length own.items ≡ count) }
+    ensures own { IfOk result (λ own. answers.old.items ≡ answers.new.items ++ reverse own.items) }
+{
+    let mut own = Vec::with_capacity(alloc, count)?;
+    for _ in 0..count {
+        let Some(answer) = answers.pop() else {
+            unreachable!()
+        };
+        own.push(answer)?;
+    }
+    Ok(own)
+}
+
+/// The values of some answers, of which the last one comes first, or else the first error.
+fn values_in(
+    alloc: Global,
+    mut answers: Vec<Result<Value, RedisError>>,
+) -> Result<Result<Vec<Value>, RedisError>, AllocError>
+    ensures { IfOk result (λ values.
+        values_among values ≡ all_replies (map answer_of (reverse answers.items))) }
+{
+    let mut values = Vec::with_capacity(alloc, answers.len())?;
+    while let Some(answer) = answers.pop() {
+        match answer {
+            Ok(value) => values.push(value)?,
+            Err(error) => return Ok(Err(error)),
+        }
+    }
+    Ok(Ok(values))
+}
+
+/// The one reply of those to the parts, or the error that they can't be combined.
+fn joined_reply(
+    alloc: Global,
+    split: &SplitCommand<'_, Cmd>,
+    values: Vec<Value>,
+) -> RedisResult<Result<Value, RedisError>>
+    requires len { length values.items ≡ length split.now.routes }
+    ensures reply { IfOk result (λ reply.
+        IsJoinedAs split.now (map view values.items) (answer_of reply)) }
+    ensures memory { IfErr result (λ error. error.kind ≡ OutOfMemory) }
+{
+    match join_replies(alloc, split, values) {
+        Ok(value) => Ok(Ok(value)),
+        Err(error) => {
+            if error.kind() == ErrorKind::OutOfMemory {
+                Err(error)
+            } else {
+                Ok(Err(error))
+            }
+        }
+    }
+}

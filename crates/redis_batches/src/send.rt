@@ -1,0 +1,142 @@
+ghost use Rattle.std.specs.Prelude.{◌≡◌, ◌<◌, ◌↔◌, ℕ, List, Some, true, false, length, map, slice_get, slice_set, take, IfOk, IfErr, OnOk};
+ghost use Rattle.std.specs.List.{All};
+ghost use Rattle.redis_cluster.specs.Orders.{NamesOnce, in_order};
+ghost use Rattle.redis_cluster.specs.Trace.{Ending};
+ghost use Rattle.redis_cluster.specs.Driven.{state};
+ghost use Rattle.redis_batches.specs.Turns.{all_after};
+ghost use Rattle.redis_batches.specs.Pipeline.{Answer, AreSlotsOf, Planned, piece_answers, run};
+ghost use Rattle.redis_batches.specs.Batched.{AreBatches, AreFor, IsRight};
+ghost use Rattle.redis_batches.specs.Taken.{answer_of, IsTaken, IsIdle};
+ghost use Rattle.redis_batches.specs.Driven.{node_at, IsServed, NeverRefuses, WasStopped};
+ghost use Rattle.redis_batches.specs.Plan.{IsPlan};
+
+use crate::nodes::BatchNodes;
+use crate::plan::BatchPlan;
+use redis_cluster::driver::SendError;
+use resp_core::{RedisError, Value};
+use std::alloc::Global;
+
+/// A batch was not taken, for this cause. The first `answered` batches of the order were, and no
+/// later one was sent.
+#[derive(Debug, Drop)]
+pub struct Stopped {
+    /// How the batch ended that was not taken.
+    pub error: SendError,
+    /// How many batches were taken before it.
+    pub answered: usize,
+}
+
+/// Sends the batches of a plan in an order, a list that names each once, and tells the plan their
+/// answers. Whatever the order, keyspace and answers are those of one server that takes the parts in
+/// the order of the pipeline, but for those that a node refused.
+///
+/// # Errors
+///
+/// Where a node took none of a batch, or memory ran out: how many batches were taken before it.
+pub fn send_batches<N: BatchNodes>(
+    alloc: Global,
+    plan: &mut BatchPlan<'_>,
+    order: &[usize],
+    nodes: &mut N,
+) -> Result<(), Stopped>
+    requires plan { IsPlan plan.old }
+    requires untold { All (λ told. told ≡ false) plan.old.told }
+    requires order { NamesOnce (length plan.old.places) order.now }
+    requires batches { (ps : List Planned) × All (λ p. AreSlotsOf p.task p.slots) ps
+        × AreBatches (N.registered nodes.old) ps plan.old.parts plan.old.places }
+    ensures served { OnOk result ((ps : List Planned) → All (λ p. AreSlotsOf p.task p.slots) ps
+        → (is : AreBatches (N.registered nodes.old) ps plan.old.parts plan.old.places)
+        → IsServed N.step N.serve (N.kept nodes.new) (N.may_refuse nodes.old) ps plan.old.parts
+        plan.old.nodes is.batch order.now
+        (state (N.keyspace nodes.old) (N.trace nodes.old) (N.mark nodes.old))
+        (state (N.keyspace nodes.new) (N.trace nodes.new) (N.mark nodes.new))
+        (map answer_of plan.new.answers)) }
+    // Where nothing may be refused, they are those of one server that takes the commands.
+    ensures one_server { OnOk result ((ps : List Planned) → All (λ p. AreSlotsOf p.task p.slots) ps
+        → AreBatches (N.registered nodes.old) ps plan.old.parts plan.old.places
+        → NeverRefuses (N.may_refuse nodes.old) (length (N.trace nodes.old)) → N.kept nodes.new
+        → (N.keyspace nodes.new ≡ all_after (λ p. run N.step N.serve p.task) ps (N.keyspace nodes.old))
+        × (map answer_of plan.new.answers ≡ piece_answers N.step N.serve ps (N.keyspace nodes.old))) }
+    // The batches before the one that was not taken were, and nothing else was, unless its answers
+    // were lost.
+    ensures stopped { IfErr result (λ stop. (ps : List Planned)
+        → All (λ p. AreSlotsOf p.task p.slots) ps
+        → (is : AreBatches (N.registered nodes.old) ps plan.old.parts plan.old.places)
+        → WasStopped N.step N.serve (N.kept nodes.new) (N.may_refuse nodes.old) ps plan.old.parts
+        plan.old.nodes is.batch (take stop.answered order.now)
+        (state (N.keyspace nodes.old) (N.trace nodes.old) (N.mark nodes.old))
+        (state (N.keyspace nodes.new) (N.trace nodes.new) (N.mark nodes.new)) stop.error) }
+    ensures within { IfErr result (λ stop. stop.answered < length order.now) }
+    ensures kept { N.kept nodes.new → N.kept nodes.old }
+    ensures may_refuse { (count : ℕ) (ending : Ending) → N.may_refuse nodes.new count ending
+        ↔ N.may_refuse nodes.old count ending }
+    ensures registered { N.registered nodes.new ≡ N.registered nodes.old }
+{
+    let mut answered = 0;
+    for number in order {
+        match send_one(alloc, plan, *number, nodes) {
+            Ok(answers) => tell_first(plan, *number, answers),
+            Err(error) => return Err(Stopped { error, answered }),
+        }
+        answered += 1;
+    }
+    Ok(())
+}
+
+/// Sends one batch.
+fn send_one<N: BatchNodes>(
+    alloc: Global,
+    plan: &BatchPlan<'_>,
+    number: usize,
+    nodes: &mut N,
+) -> Result<Vec<Result<Value, RedisError>>, SendError>
+    requires within { number < length plan.now.places }
+    ensures answers { IfOk result (λ answers. (places : List ℕ)
+        → slice_get plan.now.places number ≡ Some places
+        → length answers.items ≡ length (in_order plan.now.parts places)) }
+    ensures taken { IfOk result (λ answers. (places : List ℕ)
+        → slice_get plan.now.places number ≡ Some places
+        → IsTaken N.step N.serve (N.registered nodes.old) (N.kept nodes.new) (N.may_refuse nodes.old)
+        (node_at plan.now.nodes number) (in_order plan.now.parts places)
+        (state (N.keyspace nodes.old) (N.trace nodes.old) (N.mark nodes.old))
+        (state (N.keyspace nodes.new) (N.trace nodes.new) (N.mark nodes.new))
+        (map answer_of answers.items)) }
+    ensures idle { IfErr result (λ error. IsIdle (N.kept nodes.new)
+        (state (N.keyspace nodes.old) (N.trace nodes.old) (N.mark nodes.old))
+        (state (N.keyspace nodes.new) (N.trace nodes.new) (N.mark nodes.new)) error) }
+    ensures kept { N.kept nodes.new → N.kept nodes.old }
+    ensures may_refuse { (count : ℕ) (ending : Ending) → N.may_refuse nodes.new count ending
+        ↔ N.may_refuse nodes.old count ending }
+    ensures registered { N.registered nodes.new ≡ N.registered nodes.old }
+{
+    let batch = match plan.batch(alloc, number) {
+        Ok(batch) => batch,
+        Err(_) => return Err(SendError::Memory),
+    };
+    let Some(batch) = batch else { unreachable!() };
+    let Some(node) = plan.node(number) else {
+        unreachable!()
+    };
+    nodes.send_batch(node, batch.as_slice())
+}
+
+/// Tells the answers to a batch that was not told yet.
+fn tell_first(plan: &mut BatchPlan<'_>, number: usize, answers: Vec<Result<Value, RedisError>>)
+    requires first { slice_get plan.old.told number ≡ Some false }
+    requires long { (places : List ℕ) × (slice_get plan.old.places number ≡ Some places)
+        × (length answers.items ≡ length places) }
+    ensures told { plan.new.told ≡ slice_set plan.old.told number true }
+    ensures same { (plan.new.nodes ≡ plan.old.nodes) × (plan.new.places ≡ plan.old.places)
+        × (plan.new.parts ≡ plan.old.parts) × (length plan.new.answers ≡ length plan.old.answers) }
+    ensures right { (all : List Answer) (places : List ℕ)
+        → slice_get plan.old.places number ≡ Some places → AreFor all places answers.items
+        → All (IsRight plan.new.answers all) places }
+    ensures others { (all : List Answer) (places : List ℕ)
+        → slice_get plan.old.places number ≡ Some places → AreFor all places answers.items
+        → (place : ℕ) → IsRight plan.old.answers all place → IsRight plan.new.answers all place }
+{
+    match plan.tell(number, answers) {
+        Ok(()) => {}
+        Err(_) => unreachable!(),
+    }
+}
