@@ -323,15 +323,39 @@ fn policy(name: &[u8]) -> Option<ResponsePolicy> {
     Some(policy)
 }
 
+/// Whether commands of this name only read, as a program has it that knows these names when it is
+/// compiled.
+#[rustfmt::skip]
+fn only_reads(name: &[u8]) -> bool {
+    matches!(
+        name,
+        b"BITCOUNT" | b"BITFIELD_RO" | b"BITPOS" | b"DBSIZE" | b"DUMP" | b"EVALSHA_RO" | b"EVAL_RO"
+        | b"EXISTS" | b"EXPIRETIME" | b"FCALL_RO" | b"GEODIST" | b"GEOHASH" | b"GEOPOS"
+        | b"GEORADIUSBYMEMBER_RO" | b"GEORADIUS_RO" | b"GEOSEARCH" | b"GET" | b"GETBIT"
+        | b"GETRANGE" | b"HEXISTS" | b"HGET" | b"HGETALL" | b"HKEYS" | b"HLEN" | b"HMGET"
+        | b"HRANDFIELD" | b"HSCAN" | b"HSTRLEN" | b"HVALS" | b"JSON.MGET" | b"KEYS" | b"LCS"
+        | b"LINDEX" | b"LLEN" | b"LOLWUT" | b"LPOS" | b"LRANGE" | b"MEMORY USAGE" | b"MGET"
+        | b"OBJECT ENCODING" | b"OBJECT FREQ" | b"OBJECT IDLETIME" | b"OBJECT REFCOUNT"
+        | b"PEXPIRETIME" | b"PFCOUNT" | b"PTTL" | b"RANDOMKEY" | b"SCAN" | b"SCARD" | b"SDIFF"
+        | b"SINTER" | b"SINTERCARD" | b"SISMEMBER" | b"SMEMBERS" | b"SMISMEMBER" | b"SORT_RO"
+        | b"SRANDMEMBER" | b"SSCAN" | b"STRLEN" | b"SUBSTR" | b"SUNION" | b"TOUCH" | b"TTL"
+        | b"TYPE" | b"XINFO CONSUMERS" | b"XINFO GROUPS" | b"XINFO STREAM" | b"XLEN" | b"XPENDING"
+        | b"XRANGE" | b"XREAD" | b"XREVRANGE" | b"ZCARD" | b"ZCOUNT" | b"ZDIFF" | b"ZINTER"
+        | b"ZINTERCARD" | b"ZLEXCOUNT" | b"ZMSCORE" | b"ZRANDMEMBER" | b"ZRANGE" | b"ZRANGEBYLEX"
+        | b"ZRANGEBYSCORE" | b"ZRANK" | b"ZREVRANGE" | b"ZREVRANGEBYLEX" | b"ZREVRANGEBYSCORE"
+        | b"ZREVRANK" | b"ZSCAN" | b"ZSCORE" | b"ZUNION"
+    )
+}
+
 #[inline(never)]
-fn route_of(command: &Cmd, read_only: &HashSet<&[u8]>) -> Option<RoutingInfo> {
+fn route_of(command: &Cmd, only_reads: impl Fn(&[u8]) -> bool) -> Option<RoutingInfo> {
     let name = command.name()?;
     match base_routing(&name) {
         RouteBy::AllNodes => Some(RoutingInfo::AllNodes(policy(&name))),
         RouteBy::AllMasters => Some(RoutingInfo::AllMasters(policy(&name))),
         RouteBy::KeyAt(place) => {
             let slot = slot_of(command.arg_idx(place)?);
-            let addr = if read_only.contains(name.as_slice()) {
+            let addr = if only_reads(&name) {
                 SlotAddr::ReplicaOptional
             } else {
                 SlotAddr::Master
@@ -345,19 +369,11 @@ fn route_of(command: &Cmd, read_only: &HashSet<&[u8]>) -> Option<RoutingInfo> {
 }
 
 /// Calls it at a command, and looks at the slot or at the policy, so that both are computed.
-fn time_route(words: &[&[u8]]) {
+fn time_route(words: &[&[u8]], only_reads: impl Fn(&[u8]) -> bool) {
     let command = command(words);
-    let read_only: HashSet<&[u8]> = [
-        b"GET".as_slice(),
-        b"MGET",
-        b"EXISTS",
-        b"JSON.MGET",
-        b"XREAD",
-    ]
-    .into();
     time(
         || (),
-        |()| match route_of(&command, &read_only) {
+        |()| match route_of(&command, &only_reads) {
             Some(RoutingInfo::SpecificNode(route)) => route.0,
             Some(RoutingInfo::AllNodes(policy) | RoutingInfo::AllMasters(policy)) => {
                 u16::from(policy.is_some())
@@ -365,6 +381,18 @@ fn time_route(words: &[&[u8]]) {
             _ => 0,
         },
     );
+}
+
+/// Names that only read, in a set that is filled when the program runs.
+fn read_only_set() -> HashSet<&'static [u8]> {
+    [
+        b"GET".as_slice(),
+        b"MGET",
+        b"EXISTS",
+        b"JSON.MGET",
+        b"XREAD",
+    ]
+    .into()
 }
 
 /// Calls it at four names in turn.
@@ -575,6 +603,15 @@ fn time_slots(size: usize) {
     );
 }
 
+/// A map of ranges of one slot each, put in one after the other.
+fn inserted(slots: impl Iterator<Item = usize>) -> BTreeMap<u16, (u16, u16)> {
+    let mut map = BTreeMap::new();
+    for slot in slots {
+        map.insert(slot as u16, (slot as u16, slot as u16));
+    }
+    map
+}
+
 fn time_nodes(size: usize) {
     let map = map_of(ranges(size));
     let mut turn = 0_usize;
@@ -602,12 +639,18 @@ fn main() {
             let ranges = ranges(size);
             time(|| ranges.clone(), map_of);
         }
+        "insert-ascending" => time(|| (), |()| inserted(0..size)),
+        "insert-descending" => time(|| (), |()| inserted((0..size).rev())),
         "name-get" => time_command(&[b"get", &vec![b'k'; size]]),
         "name-cluster-info" => time_command(&[b"cluster", b"info"]),
         "policy-found" => time_policy([b"DEL", b"MSET", b"SCRIPT EXISTS", b"WAIT"]),
         "policy-not-found" => time_policy([b"GET", b"SET", b"CLUSTER NODES", b"ZADD"]),
-        "route-get" => time_route(&[b"GET", &vec![b'k'; size]]),
-        "route-flushall" => time_route(&[b"FLUSHALL", &vec![b'k'; size]]),
+        "route-get" => time_route(&[b"GET", &vec![b'k'; size]], only_reads),
+        "route-get-by-set" => {
+            let set = read_only_set();
+            time_route(&[b"GET", &vec![b'k'; size]], |name| set.contains(name));
+        }
+        "route-flushall" => time_route(&[b"FLUSHALL", &vec![b'k'; size]], only_reads),
         "split-del" => {
             let command = del();
             time(|| (), |()| split(&command, 1, SlotAddr::Master));

@@ -2,8 +2,8 @@ use crate::fault::Fault;
 use crate::watch::Watch;
 use bench_inputs::{bulks, cmd, counts, ints, read_only, repeated, turned_counts};
 use redis_cluster::routing::{
-    AggregateOp, LogicalAggregateOp, SplitCommand, aggregate, combine_and_sort_array_results,
-    combine_array_results, combine_map_results, logical_aggregate,
+    AggregateOp, LogicalAggregateOp, Names, Registry, SplitCommand, aggregate,
+    combine_and_sort_array_results, combine_array_results, combine_map_results, logical_aggregate,
 };
 use resp_core::{Cmd, Value};
 use std::alloc::Global;
@@ -11,12 +11,19 @@ use std::alloc::Global;
 /// Calls that make one reply of several.
 #[derive(Clone, Copy)]
 pub enum Combining {
+    /// The sum of numbers.
     Sums,
+    /// The least of numbers.
     Least,
+    /// Arrays of bits.
     Logical,
+    /// Maps of the same keys in one order.
     Maps,
+    /// Maps of the same keys, of which one has them in the reverse order.
     TurnedMaps,
+    /// Arrays, one after the other.
     Arrays,
+    /// Arrays by the places of keys.
     Sorted,
 }
 
@@ -116,8 +123,12 @@ fn replies_to(alloc: Global, split: &SplitCommand<Cmd>) -> Result<Vec<Value>, Fa
 
 /// The items of the replies to the parts of a command, in the order of its keys.
 fn sorted(watch: &mut Watch<'_>, alloc: Global, command: &Cmd) -> Result<(), Fault> {
-    let read_only = read_only(alloc)?;
-    let split = SplitCommand::new(alloc, command, &read_only)?.ok_or(Fault::Refused)?;
+    let (read_only, registry) = (read_only(alloc)?, Registry::new(alloc));
+    let names = Names {
+        read_only: &read_only,
+        registry: &registry,
+    };
+    let split = SplitCommand::new(alloc, command, names)?.ok_or(Fault::Refused)?;
     let replies = replies_to(alloc, &split)?;
     let (routes, pattern) = (split.routes(), split.pattern());
     watch.time_with(

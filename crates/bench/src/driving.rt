@@ -3,15 +3,18 @@ use crate::watch::Watch;
 use bench_inputs::{Hosts, cmd, map, read_only};
 use memory_nodes::MemoryNodes;
 use redis_cluster::driver::{SplitPlan, drive};
-use redis_cluster::routing::SplitCommand;
+use redis_cluster::routing::{Names, Registry, SplitCommand};
 use resp_core::Cmd;
 use std::alloc::Global;
 
 /// Calls on commands that are driven.
 #[derive(Clone, Copy)]
 pub enum Driving {
+    /// The plan of a `DEL`.
     DelPlan,
+    /// A `DEL`, driven.
     Del,
+    /// An `MGET`, driven.
     Mget,
 }
 
@@ -30,17 +33,25 @@ const RANGES: usize = 16384;
 /// The plan of a command.
 fn plan(watch: &mut Watch<'_>, alloc: Global, command: &Cmd) -> Result<(), Fault> {
     let map = map(alloc, Hosts::Shared, RANGES)?;
-    let read_only = read_only(alloc)?;
+    let (read_only, registry) = (read_only(alloc)?, Registry::new(alloc));
+    let names = Names {
+        read_only: &read_only,
+        registry: &registry,
+    };
     watch.time(|_| {
-        let plan = SplitPlan::new(alloc, command, &read_only, &map, None, 0);
+        let plan = SplitPlan::new(alloc, command, names, &map, None, 0);
         Ok(plan.map_err(|_| Fault::Refused)?.len())
     })
 }
 
 /// The route numbers of a command, in order.
 fn order_of(alloc: Global, command: &Cmd) -> Result<Vec<usize>, Fault> {
-    let read_only = read_only(alloc)?;
-    let split = SplitCommand::new(alloc, command, &read_only)?.ok_or(Fault::Refused)?;
+    let (read_only, registry) = (read_only(alloc)?, Registry::new(alloc));
+    let names = Names {
+        read_only: &read_only,
+        registry: &registry,
+    };
+    let split = SplitCommand::new(alloc, command, names)?.ok_or(Fault::Refused)?;
     let mut order = Vec::new(alloc);
     for number in 0..split.len() {
         order.push(number)?;

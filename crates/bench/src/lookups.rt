@@ -1,18 +1,29 @@
 use crate::fault::Fault;
 use crate::watch::Watch;
 use bench_inputs::{Hosts, keys, map, ranges, slots_reply};
-use cluster_map::{Route, Slot, SlotAddr, SlotMap};
-use std::alloc::Global;
+use cluster_map::{Route, Slot, SlotAddr, SlotMap, SlotRangeMap};
+use std::alloc::{AllocError, Global};
 
 /// Calls on slots of keys and maps of slots.
 #[derive(Clone, Copy)]
 pub enum Lookups {
+    /// The slot of a key.
     KeySlot,
+    /// The node of a slot.
     Node,
+    /// A map of ranges.
     FromSlots,
+    /// A map of a reply to `CLUSTER SLOTS`.
     FromReply,
+    /// Ranges put in one by one, the least slot first.
+    InsertAscending,
+    /// Ranges put in one by one, the greatest slot first.
+    InsertDescending,
+    /// The shards of a map.
     Topology(Hosts),
+    /// All nodes of a map.
     Nodes(Hosts),
+    /// The shard of a slot.
     Shard,
 }
 
@@ -23,6 +34,8 @@ pub fn call(what: Lookups, watch: &mut Watch<'_>, alloc: Global, size: usize) ->
         Lookups::Node => node_of_slot(watch, &map(alloc, Hosts::Shared, size)?),
         Lookups::FromSlots => from_slots(watch, alloc, size),
         Lookups::FromReply => from_reply(watch, alloc, size),
+        Lookups::InsertAscending => inserts(watch, alloc, &ascending(alloc, size)?),
+        Lookups::InsertDescending => inserts(watch, alloc, &descending(alloc, size)?),
         Lookups::Topology(hosts) => topology(watch, alloc, &map(alloc, hosts, size)?),
         Lookups::Nodes(hosts) => nodes(watch, alloc, &map(alloc, hosts, size)?),
         Lookups::Shard => shard_of_slot(watch, alloc, &map(alloc, Hosts::Shared, size)?),
@@ -71,6 +84,41 @@ fn from_slots(watch: &mut Watch<'_>, alloc: Global, count: usize) -> Result<(), 
 fn from_reply(watch: &mut Watch<'_>, alloc: Global, count: usize) -> Result<(), Fault> {
     let reply = slots_reply(alloc, count)?;
     watch.time(|_| Ok(port_at(&SlotMap::from_reply(alloc, &reply, "10.0.0.1")?, 0)))
+}
+
+/// The numbers of so many slots, from 0 on.
+fn ascending(alloc: Global, count: usize) -> Result<Vec<u16>, AllocError> {
+    let mut slots = Vec::with_capacity(alloc, count)?;
+    for slot in 0..count {
+        slots.push(u16::try_from(slot).unwrap_or(0))?;
+    }
+    Ok(slots)
+}
+
+/// The numbers of so many slots, down to 0.
+fn descending(alloc: Global, count: usize) -> Result<Vec<u16>, AllocError> {
+    let mut slots = Vec::with_capacity(alloc, count)?;
+    for slot in (0..count).rev() {
+        slots.push(u16::try_from(slot).unwrap_or(0))?;
+    }
+    Ok(slots)
+}
+
+/// The map of ranges of one slot each, put in one after the other, each with its slot.
+fn inserted(alloc: Global, slots: &[u16]) -> Result<SlotRangeMap<u16>, AllocError> {
+    let mut map = SlotRangeMap::new(alloc);
+    for slot in slots {
+        map.insert(*slot, *slot, *slot)?;
+    }
+    Ok(map)
+}
+
+/// A map that is filled by one insert for each slot.
+fn inserts(watch: &mut Watch<'_>, alloc: Global, slots: &[u16]) -> Result<(), Fault> {
+    watch.time(|_| {
+        let map = inserted(alloc, slots)?;
+        Ok(usize::from(map.get(0).is_some()))
+    })
 }
 
 /// The topology of a map.

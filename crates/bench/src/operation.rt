@@ -13,11 +13,17 @@ use std::alloc::Global;
 /// What can be timed.
 #[derive(Clone, Copy)]
 pub enum Operation {
+    /// On slots of keys and maps of slots.
     LookUp(Lookups),
+    /// On where commands go.
     Route(Routing),
+    /// On splitting commands.
     Split(Splitting),
+    /// On combining replies.
     Combine(Combining),
+    /// On commands, replies and pipelines.
     Value(Values),
+    /// On driving commands.
     Drive(Driving),
 }
 
@@ -27,6 +33,8 @@ pub type Sizes = (&'static str, &'static [usize]);
 const BYTES: Sizes = ("bytes", &[3, 64, 1024]);
 
 const RANGES: Sizes = ("ranges", &[3, 1000, 16384]);
+
+const INSERTS: Sizes = ("ranges", &[3, 1000, 4000]);
 
 const REPLIES: Sizes = ("replies", &[3, 1000, 16384]);
 
@@ -38,6 +46,8 @@ const KEYS: Sizes = ("keys", &[10, 1000, 100_000]);
 
 const WORDS: Sizes = ("words", &[10, 1000, 100_000]);
 
+const COMMANDS: Sizes = ("commands", &[10, 1000, 100_000]);
+
 const ITEMS: Sizes = ("items", &[10, 1000, 100_000]);
 
 const LEVELS: Sizes = ("levels", &[10, 1000, 100_000]);
@@ -47,11 +57,22 @@ const ONE: Sizes = ("call", &[1]);
 /// An operation, its name and its sizes.
 pub type Row = (Operation, &'static str, Sizes);
 
-pub static ROWS: [Row; 41] = [
+/// All operations, in the order in which they are printed.
+pub static ROWS: [Row; 47] = [
     (LookUp(Lookups::KeySlot), "key-slot", BYTES),
     (LookUp(Lookups::Node), "look-up", RANGES),
     (LookUp(Lookups::FromSlots), "map-from-slots", RANGES),
     (LookUp(Lookups::FromReply), "map-from-reply", RANGES),
+    (
+        LookUp(Lookups::InsertAscending),
+        "insert-ascending",
+        INSERTS,
+    ),
+    (
+        LookUp(Lookups::InsertDescending),
+        "insert-descending",
+        INSERTS,
+    ),
     (LookUp(Lookups::Topology(Hosts::Shared)), "topology", RANGES),
     (
         LookUp(Lookups::Topology(Hosts::Own)),
@@ -78,6 +99,7 @@ pub static ROWS: [Row; 41] = [
     (Route(Routing::Flushall), "route-flushall", BYTES),
     (Route(Routing::Sadd), "route-sadd", WORDS),
     (Route(Routing::Mget), "route-mget", KEYS),
+    (Route(Routing::Registered), "route-registered", KEYS),
     (Split(Splitting::Del), "split-del", KEYS),
     (Split(Splitting::Mget), "split-mget", KEYS),
     (Split(Splitting::Mset), "split-mset", KEYS),
@@ -97,6 +119,9 @@ pub static ROWS: [Row; 41] = [
     (Value(Values::DropNested), "drop-nested", LEVELS),
     (Value(Values::CloneBulks), "clone-bulk-array", ITEMS),
     (Value(Values::CloneNested), "clone-nested", LEVELS),
+    (Value(Values::EqualBulks), "equal-bulk-array", ITEMS),
+    (Value(Values::EqualNested), "equal-nested", LEVELS),
+    (Value(Values::Check), "pipeline-check", COMMANDS),
     (Split(Splitting::DelWithParts), "split-and-parts-del", KEYS),
     (Drive(Driving::DelPlan), "plan-del", KEYS),
     (Drive(Driving::Del), "drive-del", KEYS),

@@ -2,7 +2,8 @@ use crate::fault::Fault;
 use crate::watch::Watch;
 use bench_inputs::{cmd, one_key, read_only};
 use redis_cluster::routing::{
-    MultipleNodeRoutingInfo, ResponsePolicy, Routable, RoutingInfo, SingleNodeRoutingInfo,
+    AggregateOp, MultiSlotArgPattern, MultipleNodeRoutingInfo, RegisterError, Registry,
+    ResponsePolicy, Routable, RoutingInfo, SingleNodeRoutingInfo,
 };
 use resp_core::Cmd;
 use std::alloc::Global;
@@ -10,14 +11,24 @@ use std::alloc::Global;
 /// Calls on where commands go.
 #[derive(Clone, Copy)]
 pub enum Routing {
+    /// The name of a `get`.
     Name,
+    /// A name of two words.
     TwoWordName,
+    /// Names that have a policy.
     Policy,
+    /// Names that have none.
     NoPolicy,
+    /// The route of a `GET`.
     Get,
+    /// The route of a `FLUSHALL`.
     Flushall,
+    /// The route of a `SADD` of one key.
     Sadd,
+    /// The routes of an `MGET`.
     Mget,
+    /// The routes of a registered name.
+    Registered,
 }
 
 /// Names that have a policy, and names that have none.
@@ -36,6 +47,7 @@ pub fn call(what: Routing, watch: &mut Watch<'_>, alloc: Global, size: usize) ->
         Routing::Flushall => route(watch, alloc, &one_key(alloc, b"FLUSHALL", size)?),
         Routing::Sadd => route(watch, alloc, &cmd(alloc, b"SADD", size, None)?),
         Routing::Mget => route(watch, alloc, &cmd(alloc, b"MGET", size, None)?),
+        Routing::Registered => registered(watch, alloc, &cmd(alloc, b"COUNTKEYS", size, None)?),
     }
 }
 
@@ -58,6 +70,38 @@ fn route(watch: &mut Watch<'_>, alloc: Global, command: &Cmd) -> Result<(), Faul
     let read_only = read_only(alloc)?;
     watch.time(|_| {
         let info = RoutingInfo::for_routable(alloc, command, &read_only)?;
+        Ok(slot_or_slots(&info.ok_or(Fault::Refused)?))
+    })
+}
+
+/// The names of a module, as users register them.
+const MODULE: [&[u8]; 8] = [
+    b"BULKGET",
+    b"COUNTKEYS",
+    b"JSON.MDEL",
+    b"OBJECT COUNT",
+    b"OBJECT PUT",
+    b"READKEYS",
+    b"TOUCHALL",
+    b"ZSETS",
+];
+
+/// A registry of these names, each with keys alone, whose counts are added up.
+fn module(alloc: Global) -> Result<Registry, RegisterError> {
+    let mut registry = Registry::new(alloc);
+    let sum = ResponsePolicy::Aggregate(AggregateOp::Sum);
+    for name in MODULE {
+        registry.register(alloc, name, MultiSlotArgPattern::KeysOnly, sum)?;
+    }
+    Ok(registry)
+}
+
+/// Where a command of a registered name goes.
+fn registered(watch: &mut Watch<'_>, alloc: Global, command: &Cmd) -> Result<(), Fault> {
+    let read_only = read_only(alloc)?;
+    let registry = module(alloc).map_err(|_| Fault::Refused)?;
+    watch.time(|_| {
+        let info = RoutingInfo::for_routable_with(alloc, command, &read_only, &registry)?;
         Ok(slot_or_slots(&info.ok_or(Fault::Refused)?))
     })
 }

@@ -1,18 +1,24 @@
 use crate::fault::Fault;
 use crate::watch::Watch;
 use bench_inputs::{cmd, read_only};
-use redis_cluster::routing::SplitCommand;
+use redis_cluster::routing::{Names, Registry, SplitCommand};
 use resp_core::Cmd;
 use std::alloc::{AllocError, Global};
 
 /// Calls on splits of commands by slot.
 #[derive(Clone, Copy)]
 pub enum Splitting {
+    /// The split of a `DEL`.
     Del,
+    /// The split of an `MGET`.
     Mget,
+    /// The split of an `MSET`.
     Mset,
+    /// The parts of a `DEL` that is split.
     DelParts,
+    /// The parts of an `MSET` that is split.
     MsetParts,
+    /// The split of a `DEL` and its parts.
     DelWithParts,
 }
 
@@ -35,9 +41,13 @@ pub fn call(
 
 /// The split of a command, without its parts.
 fn split(watch: &mut Watch<'_>, alloc: Global, command: &Cmd) -> Result<(), Fault> {
-    let read_only = read_only(alloc)?;
+    let (read_only, registry) = (read_only(alloc)?, Registry::new(alloc));
+    let names = Names {
+        read_only: &read_only,
+        registry: &registry,
+    };
     watch.time(|_| {
-        let split = SplitCommand::new(alloc, command, &read_only)?;
+        let split = SplitCommand::new(alloc, command, names)?;
         Ok(split.ok_or(Fault::Refused)?.len())
     })
 }
@@ -53,16 +63,24 @@ fn parts_of(alloc: Global, split: &SplitCommand<Cmd>) -> Result<Vec<Cmd>, AllocE
 
 /// The parts of a command that is split before.
 fn parts(watch: &mut Watch<'_>, alloc: Global, command: &Cmd) -> Result<(), Fault> {
-    let read_only = read_only(alloc)?;
-    let split = SplitCommand::new(alloc, command, &read_only)?.ok_or(Fault::Refused)?;
+    let (read_only, registry) = (read_only(alloc)?, Registry::new(alloc));
+    let names = Names {
+        read_only: &read_only,
+        registry: &registry,
+    };
+    let split = SplitCommand::new(alloc, command, names)?.ok_or(Fault::Refused)?;
     watch.time(|_| Ok(parts_of(alloc, &split)?.len()))
 }
 
 /// The split of a command and its parts, with no plan, nodes or replies.
 fn with_parts(watch: &mut Watch<'_>, alloc: Global, command: &Cmd) -> Result<(), Fault> {
-    let read_only = read_only(alloc)?;
+    let (read_only, registry) = (read_only(alloc)?, Registry::new(alloc));
+    let names = Names {
+        read_only: &read_only,
+        registry: &registry,
+    };
     watch.time(|_| {
-        let split = SplitCommand::new(alloc, command, &read_only)?.ok_or(Fault::Refused)?;
+        let split = SplitCommand::new(alloc, command, names)?.ok_or(Fault::Refused)?;
         Ok(parts_of(alloc, &split)?.len())
     })
 }

@@ -9,7 +9,7 @@ pub struct Watch<'a> {
     clock: &'a HostRuntime,
     calls: usize,
     rounds: usize,
-    /// The sum of what the calls answered, so that no compiler leaves one out.
+    /// The sum of what the calls gave, so that no compiler leaves one out.
     pub answers: usize,
     began: Duration,
     least: Duration,
@@ -28,7 +28,7 @@ impl<'a> Watch<'a> {
         }
     }
 
-    /// Times rounds of a call, which gets the number of its turn and answers something of what it
+    /// Times rounds of a call, which gets the number of its turn and gives something of what it
     /// made.
     pub fn time<F: Fn(usize) -> Result<usize, Fault>>(&mut self, call: F) -> Result<(), Fault>
         requires { F.IsAlwaysCallable call }
@@ -68,7 +68,7 @@ impl<'a> Watch<'a> {
         Ok(())
     }
 
-    /// `time` for a call whose answer is dropped after the round.
+    /// `time` for a call whose result is dropped after the round.
     pub fn time_kept<T, F>(&mut self, alloc: Global, call: F) -> Result<(), Fault>
     where
         T: Drop,
