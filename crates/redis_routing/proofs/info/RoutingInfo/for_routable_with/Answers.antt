@@ -28,3 +28,6 @@ returns-clause-parts g c =
     let args = g.R.Routable.args c.args.command.now in
     let names = names_of c.args.read_only.now c.args.registry.now in
     IfOk-weaker c.for_command.result _ _ (λ info routed. subst (IfSplit (λ pattern routes. ArePartsRouted names args pattern routes)) (sym routed) (of_any_name (λ pattern routes. ArePartsRouted names args pattern routes) names args (split_parts names args) (command_name args) refl)) c.for_command.ensures
+
+pub returns-clause-routed : goal.returns-clause-routed
+returns-clause-routed g c = c.for_command.ensures
