@@ -1,4 +1,5 @@
 //! Commands of registered names.
+use crate::splitting::{routes_of, to_several};
 use cluster_map::{Route, SlotAddr};
 use fixtures::{cmd_of, cmd_of_text};
 use redis_cluster::routing::{
@@ -96,19 +97,15 @@ fn unlike_the_tables(alloc: Global) -> Result<Registry, Fail> {
 fn splits_to(
     alloc: Global,
     text: &str,
-    routes: [(Route, &[usize]); 2],
+    nodes: SlotAddr,
+    parts: &[(u16, &[usize])],
     how: (MultiSlotArgPattern, ResponsePolicy),
 ) -> Result<bool, Fail> {
     let registry = unlike_the_tables(alloc)?;
     let mut read_only = ReadOnlyNames::new(alloc);
     read_only.insert(alloc, b"OBJECT READAT")?;
-    let mut lists = Vec::new(alloc);
-    for (route, indices) in routes {
-        lists.push((route, indices.to_vec(alloc)?))?;
-    }
     let (pattern, policy) = how;
-    let slots = MultipleNodeRoutingInfo::MultiSlot((lists, pattern));
-    let want = RoutingInfo::MultiNode((slots, Some(policy)));
+    let want = to_several(routes_of(alloc, nodes, parts)?, pattern, policy);
     let cmd = cmd_of_text(alloc, text)?;
     let got = RoutingInfo::for_routable_with(alloc, &cmd, &read_only, &registry)?;
     Ok(got == Some(want))
@@ -118,13 +115,10 @@ fn splits_to(
 fn a_registered_name_has_its_own_policy(rt: HostRuntime) -> Result<(), Fail> {
     let alloc = rt.alloc();
     let sum = ResponsePolicy::Aggregate(AggregateOp::Sum);
-    let (a, b) = (
-        Route::new(15495, SlotAddr::Master),
-        Route::new(3300, SlotAddr::Master),
-    );
-    let routes: [(Route, &[usize]); 2] = [(a, &[0, 1, 4, 5]), (b, &[2, 3])];
+    let parts: [(u16, &[usize]); 2] = [(15495, &[0, 1, 4, 5]), (3300, &[2, 3])];
     let how = (MultiSlotArgPattern::KeyValuePairs, sum);
-    assert!(rt; splits_to(alloc, "countpairs a 1 b 2 a 3", routes, how)?);
+    let text = "countpairs a 1 b 2 a 3";
+    assert!(rt; splits_to(alloc, text, SlotAddr::Master, &parts, how)?);
     let registry = unlike_the_tables(alloc)?;
     assert!(rt; registry.get(b"COUNTPAIRS") == Some(how));
     assert!(rt; ResponsePolicy::for_command(b"MSET") == Some(ResponsePolicy::AllSucceeded));
@@ -134,14 +128,13 @@ fn a_registered_name_has_its_own_policy(rt: HostRuntime) -> Result<(), Fail> {
 #[test]
 fn a_name_of_two_words_shares_its_last_argument(rt: HostRuntime) -> Result<(), Fail> {
     let alloc = rt.alloc();
-    let a = Route::new(15495, SlotAddr::ReplicaOptional);
-    let b = Route::new(3300, SlotAddr::ReplicaOptional);
-    let routes: [(Route, &[usize]); 2] = [(b, &[0, 2]), (a, &[1, 2])];
+    let parts: [(u16, &[usize]); 2] = [(3300, &[0, 2]), (15495, &[1, 2])];
     let how = (
         MultiSlotArgPattern::KeysAndLastArg,
         ResponsePolicy::CombineArrays,
     );
-    assert!(rt; splits_to(alloc, "object readat b a $", routes, how)?);
+    let nodes = SlotAddr::ReplicaOptional;
+    assert!(rt; splits_to(alloc, "object readat b a $", nodes, &parts, how)?);
     Ok(())
 }
 

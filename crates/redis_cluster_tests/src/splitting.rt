@@ -22,7 +22,7 @@ fn to_one(slot: u16, nodes: SlotAddr) -> RoutingInfo {
     to_specific_node(Route::new(slot, nodes))
 }
 
-fn routes_of(
+pub(super) fn routes_of(
     alloc: Global,
     nodes: SlotAddr,
     parts: &[(u16, &[usize])],
@@ -34,7 +34,7 @@ fn routes_of(
     Ok(routes)
 }
 
-fn to_several(
+pub(super) fn to_several(
     routes: Vec<(Route, Vec<usize>)>,
     pattern: MultiSlotArgPattern,
     policy: ResponsePolicy,
