@@ -1,10 +1,15 @@
 -- The answers to the parts of a command, taken out of a list from its end.
 use Rattle.std.proofs.Common.{◌≡◌, ◌<◌, ◌≤◌, ℕ, List, [], ◌∷◌, ◌++◌, Ok, Err, Result, refl, sym, ap, ◌∙◌, arith, length, map, reverse, append_assoc, length-append}
-use Rattle.std.proofs.lemmas.List.{reverse-append, length-reverse}
+use Rattle.std.proofs.lemmas.List.{length-map, reverse-append, length-reverse}
+use Rattle.std.specs.declared.alloc.Global.{Global}
+use Rattle.std.specs.declared.vec.Vec.{Vec}
 use Rattle.resp_core.specs.ErrorParts.{ErrorParts}
 use Rattle.resp_core.specs.Reply.{Reply}
+use Rattle.resp_core.specs.View.{view}
+use Rattle.resp_core.specs.declared.value.Value.{Value}
 use Rattle.redis_batches.specs.Pipeline.{Answer}
-use Rattle.redis_batches.specs.Replies.{all_replies, with_reply}
+use Rattle.redis_batches.specs.Taken.{answer_of}
+use Rattle.redis_batches.specs.Replies.{all_replies, values_among, with_reply}
 
 -- one more was taken out
 pub taken_out : {X : Type 0} (all left rest own more : List X) (x : X) → all ≡ left ++ reverse own → left ≡ rest ++ x ∷ [] → more ≡ own ++ x ∷ [] → all ≡ rest ++ reverse more
@@ -56,3 +61,10 @@ pub all_replies_long : (answers : List Answer) (replies : List Reply) → all_re
 all_replies_long [] replies all = let same : [] ≡ replies = cc in ap length (sym same)
 all_replies_long (answer ∷ answers) replies all =
     replies_long answer answers replies (all_replies_long answers) (all_replies answers) refl all
+
+-- values that were found of all answers are as many
+pub values_long : (found : Result (Vec Value Global) ErrorParts) (values : Vec Value Global) (answers : List (Result Value ErrorParts)) → found ≡ Ok values
+    → values_among found ≡ all_replies (map answer_of (reverse answers)) → length values.items ≡ length answers
+values_long found values answers is all =
+    let long = all_replies_long (map answer_of (reverse answers)) (map view values.items) (sym all ∙ ap values_among is) in
+    sym (length-map values.items view) ∙ long ∙ length-map (reverse answers) answer_of ∙ length-reverse answers

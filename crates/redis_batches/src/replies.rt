@@ -73,3 +73,22 @@ fn joined_reply(
         }
     }
 }
+
+/// The answer to a split command, by those to its parts, of which the last one comes first: the error
+/// of the first part that has one, or else what is made of the replies. `DEL a b` whose parts answer
+/// 1 and 1 answers 2.
+fn split_reply(
+    alloc: Global,
+    split: &SplitCommand<'_, Cmd>,
+    answers: Vec<Result<Value, RedisError>>,
+) -> RedisResult<Result<Value, RedisError>>
+    requires len { length answers.items ≡ length split.now.routes }
+    ensures reply { IfOk result (λ reply. IsSplitReply split.now
+        (all_replies (map answer_of (reverse answers.items))) (answer_of reply)) }
+    ensures memory { IfErr result (λ error. error.kind ≡ OutOfMemory) }
+{
+    match values_in(alloc, answers)? {
+        Ok(values) => joined_reply(alloc, split, values),
+        Err(error) => Ok(Err(error)),
+    }
+}
