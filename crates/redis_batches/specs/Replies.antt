@@ -1,5 +1,5 @@
 -- The reply to each command of a pipeline, by the answers to its parts.
-use Rattle.std.specs.Prelude.{◌≡◌, ℕ, List, [], ◌∷◌, Option, None, Some, Result, Ok, Err, map, length, take, drop}
+use Rattle.std.specs.Prelude.{◌≡◌, ℕ, List, [], ◌∷◌, ◌++◌, Option, None, Some, Result, Ok, Err, map, length, take, drop}
 use Rattle.std.specs.declared.alloc.Global.{Global}
 use Rattle.std.specs.declared.vec.Vec.{Vec}
 use Rattle.resp_core.specs.ErrorParts.{ErrorParts}
@@ -9,6 +9,7 @@ use Rattle.resp_core.specs.declared.value.Value.{Value}
 use Rattle.redis_routing.specs.Split.{Split}
 use Rattle.redis_cluster.specs.Joined.{joined}
 use Rattle.redis_batches.specs.Pipeline.{Answer}
+use Rattle.redis_batches.specs.Taken.{answer_of}
 
 -- one reply more in front, unless there was an error
 abbrev pub with_reply : Reply → Result (List Reply) ErrorParts → Result (List Reply) ErrorParts
@@ -53,3 +54,12 @@ AreRepliesTo (split ∷ splits) answers [] = ⊥
 AreRepliesTo (split ∷ splits) answers (reply ∷ replies) =
     IsReplyTo split (take (part_count split) answers) reply
     × AreRepliesTo splits (drop (part_count split) answers) replies
+
+-- The last of some answers are those to the parts of a command, and its reply is this. The others
+-- are left.
+pub record IsTakenFor (split : Option Split) (all left : List (Result Value ErrorParts))
+    (reply : Result Value ErrorParts) : Type 0 where
+  pub own : List (Result Value ErrorParts)
+  pub all_are : all ≡ left ++ own
+  pub long : length own ≡ part_count split
+  pub reply_is : IsReplyTo split (map answer_of own) (answer_of reply)

@@ -4,7 +4,7 @@ ghost use Rattle.resp_core.specs.View.{view};
 ghost use Rattle.resp_core.specs.declared.error.ErrorKind.TheVariants.{OutOfMemory};
 ghost use Rattle.redis_batches.specs.CommandTask.{split_in};
 ghost use Rattle.redis_batches.specs.Pipeline.{Answer};
-ghost use Rattle.redis_batches.specs.Replies.{AreRepliesTo, IsJoinedAs, IsReplyTo, IsSplitReply, all_replies, part_count, values_among};
+ghost use Rattle.redis_batches.specs.Replies.{AreRepliesTo, IsJoinedAs, IsReplyTo, IsSplitReply, IsTakenFor, all_replies, part_count, values_among};
 ghost use Rattle.redis_batches.specs.Taken.{answer_of};
 
 use crate::task::CommandTask;
@@ -90,5 +90,30 @@ fn split_reply(
     match values_in(alloc, answers)? {
         Ok(values) => joined_reply(alloc, split, values),
         Err(error) => Ok(Err(error)),
+    }
+}
+
+/// The answer to a command, by those to its parts, which are the last of these. They are taken out.
+fn reply_of(
+    alloc: Global,
+    task: &CommandTask<'_>,
+    answers: &mut Vec<Result<Value, RedisError>>,
+) -> RedisResult<Result<Value, RedisError>>
+    requires room { part_count (split_in task.now) ≤ length answers.old.items }
+    ensures reply { IfOk result (λ reply.
+        IsTakenFor (split_in task.now) answers.old.items answers.new.items reply) }
+    ensures memory { IfErr result (λ error. error.kind ≡ OutOfMemory) }
+{
+    match task {
+        CommandTask::InSlot(_, _) => {
+            let Some(answer) = answers.pop() else {
+                unreachable!()
+            };
+            Ok(answer)
+        }
+        CommandTask::OverKeys(split) => {
+            let own = last_answers(alloc, split.routes().len(), answers)?;
+            split_reply(alloc, split, own)
+        }
     }
 }
