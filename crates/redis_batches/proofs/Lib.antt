@@ -13,3 +13,4 @@ pub mod Round
 pub mod OneServer
 pub mod Commands
 pub mod Answered
+pub mod PutBack

@@ -117,3 +117,28 @@ fn reply_of(
         }
     }
 }
+
+/// The answer to each command, by those to the parts of all, in the order of the parts. Of
+/// `SET a 1`, `DEL a b`, `GET b` whose parts answer `OK`, 1, 0 and nil these are `OK`, 1 and nil.
+///
+/// # Errors
+///
+/// `OutOfMemory`. The answers are used up then, too.
+pub(super) fn replies_of(
+    alloc: Global,
+    tasks: &[CommandTask<'_>],
+    mut answers: Vec<Result<Value, RedisError>>,
+) -> RedisResult<Vec<Result<Value, RedisError>>>
+    requires long { sum_by (λ task. part_count (split_in task)) tasks.now ≡ length answers.items }
+    ensures replies { IfOk result (λ replies. AreRepliesTo (map split_in tasks.now)
+        (map answer_of answers.items) (map answer_of replies.items)) }
+    ensures memory { IfErr result (λ error. error.kind ≡ OutOfMemory) }
+{
+    let mut replies = Vec::with_capacity(alloc, tasks.len())?;
+    // The last command first, so that the answers to its parts are at the end of the list.
+    for number in (0..tasks.len()).rev() {
+        replies.push(reply_of(alloc, &tasks[number], &mut answers)?)?;
+    }
+    replies.reverse();
+    Ok(replies)
+}

@@ -1,0 +1,70 @@
+-- Replies are put back in the order of the commands, from the last command to the first.
+use Rattle.std.proofs.Common.{◌≡◌, ◌<◌, ℕ, ◌+◌, List, [], ◌∷◌, ◌++◌, Option, Result, refl, sym, ap, subst, ◌∙◌, arith, length, map, reverse, append_assoc, length-append, take, get_or}
+use Rattle.std.specs.List.{sum_by}
+use Rattle.std.proofs.lemmas.List.{append-nil, drop_at, length-map, map-append, reverse-append, take_at, take_more}
+use Rattle.std.proofs.lemmas.List.Sums.{sum_by_push}
+use Rattle.resp_core.specs.ErrorParts.{ErrorParts}
+use Rattle.resp_core.specs.declared.value.Value.{Value}
+use Rattle.redis_routing.specs.Split.{Split}
+use Rattle.redis_batches.specs.declared.task.CommandTask.{CommandTask}
+use Rattle.redis_batches.specs.CommandTask.{split_in}
+use Rattle.redis_batches.specs.Pipeline.{Answer}
+use Rattle.redis_batches.specs.Taken.{answer_of}
+use Rattle.redis_batches.specs.Replies.{AreRepliesTo, IsReplyTo, IsTakenFor, part_count}
+
+-- one command more in front
+pub reply_in_front : (split : Option Split) (splits : List (Option Split)) (own answers : List Answer) (reply : Answer) (replies : List Answer) → length own ≡ part_count split
+    → IsReplyTo split own reply → AreRepliesTo splits answers replies → AreRepliesTo (split ∷ splits) (own ++ answers) (reply ∷ replies)
+reply_in_front split splits own answers reply replies long is later = (
+  subst (λ l. IsReplyTo split l reply) (sym (take_at own answers (part_count split) long)) is,
+  subst (λ l. AreRepliesTo splits l replies) (sym (drop_at own answers (part_count split) long)) later,
+)
+
+-- how many parts some commands have
+abbrev pub parts_in : List CommandTask → ℕ
+parts_in tasks = sum_by (λ task. part_count (split_in task)) tasks
+
+-- The last of some commands have their replies, the last one first, by the last of the answers. These are taken out, and left are those to the parts of the other commands.
+pub record ArePutBack (tasks left : List CommandTask) (all rest replies : List (Result Value ErrorParts)) : Type 0 where
+  pub later : List CommandTask
+  pub tasks_are : tasks ≡ left ++ later
+  pub taken : List (Result Value ErrorParts)
+  pub all_are : all ≡ rest ++ taken
+  pub enough : parts_in left ≡ length rest
+  pub replies_are : AreRepliesTo (map split_in later) (map answer_of taken) (map answer_of (reverse replies))
+
+-- none has, at first
+pub none_put_back : (tasks left : List CommandTask) (all replies : List (Result Value ErrorParts)) → left ≡ tasks → replies ≡ [] → parts_in tasks ≡ length all → ArePutBack tasks left all all replies
+none_put_back tasks left all replies is none enough = record {
+  later = [];
+  tasks_are = sym (append-nil left ∙ is);
+  taken = [];
+  all_are = sym (append-nil all);
+  enough = ap parts_in is ∙ enough;
+  replies_are = (refl, ap (λ l. map answer_of (reverse l)) none);
+}
+
+-- so many first commands are those before the last of them, and it
+pub last_of : {X : Type 0} (xs : List X) (n i : ℕ) (x : X) → n ≡ i + 1 → i < length xs → x ≡ get_or xs i x → take n xs ≡ take i xs ++ x ∷ []
+last_of xs n i x next within is = ap (λ m. take m xs) next ∙ take_more xs i x within ∙ ap (λ y. take i xs ++ y ∷ []) (sym is)
+
+module _ (tasks left fewer : List CommandTask) (all rest less replies more : List (Result Value ErrorParts)) (task : CommandTask) (reply : Result Value ErrorParts) where
+  -- the reply of one command more
+  pub one_put_back : ArePutBack tasks left all rest replies → left ≡ fewer ++ task ∷ [] → IsTakenFor (split_in task) rest less reply → more ≡ replies ++ reply ∷ [] → ArePutBack tasks fewer all less more
+  one_put_back are is took push =
+      let answers : map answer_of (took.own ++ are.taken) ≡ map answer_of took.own ++ map answer_of are.taken = map-append answer_of took.own are.taken in
+      let put : map answer_of (reverse more) ≡ answer_of reply ∷ map answer_of (reverse replies) =
+      ap (λ l. map answer_of (reverse l)) push ∙ ap (map answer_of) (reverse-append replies (reply ∷ [])) in
+      let counted : length (map answer_of took.own) ≡ part_count (split_in task) = length-map took.own answer_of ∙ took.long in
+      let splits = map split_in (task ∷ are.later) in
+      record {
+        later = task ∷ are.later;
+        tasks_are = are.tasks_are ∙ ap (λ l. l ++ are.later) is ∙ append_assoc fewer (task ∷ []) are.later;
+        taken = took.own ++ are.taken;
+        all_are = are.all_are ∙ ap (λ l. l ++ are.taken) took.all_are ∙ append_assoc less took.own are.taken;
+        enough = omega (arith, are.enough, ap parts_in is, sum_by_push (λ t. part_count (split_in t)) fewer task, ap length took.all_are, length-append less took.own, took.long);
+        replies_are =
+            subst (AreRepliesTo splits (map answer_of (took.own ++ are.taken))) (sym put)
+            (subst (λ l. AreRepliesTo splits l (answer_of reply ∷ map answer_of (reverse replies))) (sym answers)
+            (reply_in_front (split_in task) (map split_in are.later) (map answer_of took.own) (map answer_of are.taken) (answer_of reply) (map answer_of (reverse replies)) counted took.reply_is are.replies_are));
+      }

@@ -1,0 +1,17 @@
+use Rattle.std.proofs.Common.{◌-◌, arith, length, take}
+use Rattle.std.proofs.Math.Seq.{take-length}
+use Rattle.redis_batches.proofs.PutBack.{last_of, none_put_back, one_put_back}
+use Rattle.redis_batches.proofs.replies.replies_of.Goals as goal
+
+pub loop-number-init : goal.loop-number-init
+loop-number-init c =
+    none_put_back c.args.tasks.now (take (length c.args.tasks.now) c.args.tasks.now) c.args.answers.items c.in_ok-replies.replies.items
+    (take-length c.args.tasks.now) c.in_ok-replies.ensures.items c.requires.long
+
+pub loop-number-preserved : goal.loop-number-preserved
+loop-number-preserved c =
+    let tasks = c.args.tasks.now in
+    let number = c.loop-number.number in
+    let task = c.index-tasks-number.result in
+    one_put_back tasks (take number tasks) (take (number - 1) tasks) c.args.answers.items c.loop-number.answers.items c.reply_of.new.answers.items c.loop-number.replies.items c.push.new.self.items task
+    c.in_ok-reply_of.field-0 c.loop-number.invariant (last_of tasks number (number - 1) task (omega arith) (omega arith) c.index-tasks-number.is) c.in_ok-reply_of.ensures.reply c.in_ok-push.ensures.items
