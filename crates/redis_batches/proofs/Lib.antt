@@ -14,3 +14,4 @@ pub mod OneServer
 pub mod Commands
 pub mod Answered
 pub mod PutBack
+pub mod ServerReplies

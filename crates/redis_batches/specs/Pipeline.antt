@@ -9,7 +9,7 @@ use Rattle.redis_cluster.specs.Orders.{times}
 use Rattle.redis_cluster.specs.SlotResults.{results_of_slot}
 use Rattle.redis_cluster.specs.Unsplit.{Step, Keyspace, keyspace_after, reply_to, reply_by, results_of}
 use Rattle.redis_batches.specs.Served.{Effect, in_shelf}
-use Rattle.redis_batches.specs.Turns.{of_slot}
+use Rattle.redis_batches.specs.Turns.{answers, of_slot}
 
 -- what a command answers: a reply, or an error of its own, such as that of a wrong type
 abbrev pub Answer : Type 0
@@ -79,6 +79,10 @@ module _ {C : Type 0} (step : Step C) (serve : Serve C) where
   piece_answers [] keyspace = []
   piece_answers (p ∷ ps) keyspace =
       map (part_answer p.task keyspace) p.slots ++ piece_answers ps (run step serve p.task keyspace).keys
+
+  -- what one server answers to the commands, one after the other
+  abbrev pub one_server_answers : List Planned → Keyspace C → List Answer
+  one_server_answers ps keyspace = map (λ a. a.1) (answers (λ p. run step serve p.task) ps keyspace)
 
 -- a part beside its number in the pipeline
 abbrev pub Numbered : Type 0

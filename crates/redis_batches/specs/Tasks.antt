@@ -1,6 +1,6 @@
 -- What the commands of a pipeline mean, each with its slots, and how one over many keys is split.
 use Rattle.std.specs.Prelude.{◌≡◌, ℕ, List, [], ◌∷◌, Option, None, Some, map}
-use Rattle.std.specs.List.{All}
+use Rattle.std.specs.List.{All, AllZip}
 use Rattle.redis_routing.specs.Registry.{Registrations}
 use Rattle.redis_routing.specs.Split.{Split, IsSplit, split_part, slots_of}
 use Rattle.redis_cluster.specs.MultiKey.{MultiKey, multi_key, part_of, form_by_policy, slots_in}
@@ -39,3 +39,7 @@ IsSplitAs registered (Some split) (over_keys command) = IsSplitOfTask registered
 IsSplitAs registered None (in_slot slot args) = Unit {0}
 IsSplitAs registered (Some split) (in_slot slot args) = ⊥
 IsSplitAs registered None (over_keys command) = ⊥
+
+-- the commands over many keys have their splits, and the others none
+abbrev pub AreSplitsOf : Registrations → List (Option Split) → List Task → Type 0
+AreSplitsOf registered splits tasks = AllZip (IsSplitAs registered) splits tasks
