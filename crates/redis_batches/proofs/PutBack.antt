@@ -1,7 +1,7 @@
 -- Replies are put back in the order of the commands, from the last command to the first.
 use Rattle.std.proofs.Common.{◌≡◌, ◌<◌, ℕ, ◌+◌, List, [], ◌∷◌, ◌++◌, Option, Result, refl, sym, ap, subst, ◌∙◌, arith, length, map, reverse, append_assoc, length-append, take, get_or}
 use Rattle.std.specs.List.{sum_by}
-use Rattle.std.proofs.lemmas.List.{append-nil, drop_at, length-map, map-append, reverse-append, take_at, take_more}
+use Rattle.std.proofs.lemmas.List.{append-nil, drop_at, length-map, map-append, map_push, reverse-append, take_at, take_more}
 use Rattle.std.proofs.lemmas.List.Sums.{sum_by_push}
 use Rattle.resp_core.specs.ErrorParts.{ErrorParts}
 use Rattle.resp_core.specs.declared.value.Value.{Value}
@@ -22,7 +22,11 @@ reply_in_front split splits own answers reply replies long is later = (
 
 -- how many parts some commands have
 abbrev pub parts_in : List CommandTask → ℕ
-parts_in tasks = sum_by (λ task. part_count (split_in task)) tasks
+parts_in tasks = sum_by part_count (map split_in tasks)
+
+-- one command more has its parts
+parts_push : (tasks : List CommandTask) (task : CommandTask) → parts_in (tasks ++ task ∷ []) ≡ parts_in tasks + part_count (split_in task)
+parts_push tasks task = ap (sum_by part_count) (map_push split_in tasks task) ∙ sum_by_push part_count (map split_in tasks) (split_in task)
 
 -- The last of some commands have their replies, the last one first, by the last of the answers. These are taken out, and left are those to the parts of the other commands.
 pub record ArePutBack (tasks left : List CommandTask) (all rest replies : List (Result Value ErrorParts)) : Type 0 where
@@ -62,7 +66,7 @@ module _ (tasks left fewer : List CommandTask) (all rest less replies more : Lis
         tasks_are = are.tasks_are ∙ ap (λ l. l ++ are.later) is ∙ append_assoc fewer (task ∷ []) are.later;
         taken = took.own ++ are.taken;
         all_are = are.all_are ∙ ap (λ l. l ++ are.taken) took.all_are ∙ append_assoc less took.own are.taken;
-        enough = omega (arith, are.enough, ap parts_in is, sum_by_push (λ t. part_count (split_in t)) fewer task, ap length took.all_are, length-append less took.own, took.long);
+        enough = omega (arith, are.enough, ap parts_in is, parts_push fewer task, ap length took.all_are, length-append less took.own, took.long);
         replies_are =
             subst (AreRepliesTo splits (map answer_of (took.own ++ are.taken))) (sym put)
             (subst (λ l. AreRepliesTo splits l (answer_of reply ∷ map answer_of (reverse replies))) (sym answers)

@@ -129,7 +129,7 @@ pub(super) fn replies_of(
     tasks: &[CommandTask<'_>],
     mut answers: Vec<Result<Value, RedisError>>,
 ) -> RedisResult<Vec<Result<Value, RedisError>>>
-    requires long { sum_by (λ task. part_count (split_in task)) tasks.now ≡ length answers.items }
+    requires long { sum_by part_count (map split_in tasks.now) ≡ length answers.items }
     ensures replies { IfOk result (λ replies. AreRepliesTo (map split_in tasks.now)
         (map answer_of answers.items) (map answer_of replies.items)) }
     ensures memory { IfErr result (λ error. error.kind ≡ OutOfMemory) }
