@@ -15,3 +15,4 @@ pub mod Commands
 pub mod Answered
 pub mod PutBack
 pub mod ServerReplies
+pub mod Untouched

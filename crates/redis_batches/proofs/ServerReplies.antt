@@ -1,10 +1,10 @@
 -- Where the parts of commands answer what they do on one server, the replies are those of the server.
-use Rattle.std.proofs.Common.{◌≡◌, ℕ, List, [], ◌∷◌, ◌++◌, Option, None, Some, Ok, Err, refl, sym, ap, subst, ◌∙◌, length, map}
+use Rattle.std.proofs.Common.{◌≡◌, ℕ, List, [], ◌∷◌, Option, None, Some, Ok, Err, refl, sym, ap, subst, ◌∙◌, length, map}
 use Rattle.std.specs.List.{AllZip}
 use Rattle.std.proofs.lemmas.List.{drop_at, length-map, take_at}
 use Rattle.resp_core.specs.Reply.{Reply}
 use Rattle.redis_routing.specs.Registry.{Registrations}
-use Rattle.redis_routing.specs.Split.{Split, slots_of}
+use Rattle.redis_routing.specs.Split.{Split}
 use Rattle.redis_cluster.specs.MultiKey.{MultiKey, slots_in}
 use Rattle.redis_cluster.specs.Plan.{ArePartsAnswered, tuples_in_split}
 use Rattle.redis_cluster.specs.SlotResults.{results_of_slot}

@@ -67,7 +67,7 @@ module _ {C : Type 0} (step : Step C) (serve : Serve C) where
       ap (λ l. all_after (piece step serve) (parts_of (record { task = in_slot own args; slots = l })) ks) are
 
   -- and answer what its tuples do
-  task_answers : (task : Task) (slots : List ℕ) → AreSlotsOf task slots → (ks : Keyspace C)
+  pub task_answers : (task : Task) (slots : List ℕ) → AreSlotsOf task slots → (ks : Keyspace C)
       → map (λ a. a.1) (answers (piece step serve) (parts_of (record { task = task; slots = slots })) ks) ≡ map (part_answer step serve task ks) slots
   task_answers (over_keys command) slots are ks = parts_answer command ks [] slots are.apart
   task_answers (in_slot own args) slots are ks =

@@ -1,5 +1,5 @@
 -- What a pipeline means: one server takes its commands one after the other.
-use Rattle.std.specs.Prelude.{◌≡◌, ◌≤◌, ℕ, List, [], ◌∷◌, ◌++◌, map, Option, None, Some, is_none, Bool, Result, Ok, Err}
+use Rattle.std.specs.Prelude.{◌≡◌, ◌≤◌, ℕ, List, [], ◌∷◌, ◌++◌, filter, length, map, Option, None, Some, is_none, Bool, Result, Ok, Err}
 use Rattle.std.specs.List.{All, enumerate_from}
 use Rattle.cluster_slots.specs.KeySlot.{key_slot}
 use Rattle.resp_core.specs.ErrorParts.{ErrorParts}
@@ -9,7 +9,7 @@ use Rattle.redis_cluster.specs.Orders.{times}
 use Rattle.redis_cluster.specs.SlotResults.{results_of_slot}
 use Rattle.redis_cluster.specs.Unsplit.{Step, Keyspace, keyspace_after, reply_to, reply_by, results_of}
 use Rattle.redis_batches.specs.Served.{Effect, in_shelf}
-use Rattle.redis_batches.specs.Turns.{answers, of_slot}
+use Rattle.redis_batches.specs.Turns.{all_after, answers, of_slot}
 
 -- what a command answers: a reply, or an error of its own, such as that of a wrong type
 abbrev pub Answer : Type 0
@@ -92,6 +92,10 @@ Numbered = ℕ × Part
 abbrev pub numbered : List Planned → List Numbered
 numbered ps = enumerate_from 0 (pieces ps)
 
+-- the parts of a command behind others, beside their numbers in the pipeline
+abbrev pub numbered_behind : List Planned → Planned → List Numbered
+numbered_behind before p = enumerate_from (length (pieces before)) (parts_of p)
+
 -- the slot of a numbered part
 abbrev pub slot_of : Numbered → ℕ
 slot_of x = x.1.slot
@@ -124,6 +128,16 @@ module _ {C : Type 0} (step : Step C) (serve : Serve C) where
   -- what a part does that may be refused
   abbrev pub ended : Refusals → Numbered → Effect C Answer
   ended refusals x = refused_by (refusals x) (piece_of x)
+
+  -- what the parts of a pipeline answer, of which some were refused
+  abbrev pub ended_answers : Refusals → List Planned → Keyspace C → List Answer
+  ended_answers refusals ps keyspace =
+      map (λ a. a.1) (answers (ended refusals) (numbered ps) keyspace)
+
+  -- the keyspace after the parts that were not refused, one after the other
+  abbrev pub after_taken : Refusals → List Planned → Keyspace C → Keyspace C
+  after_taken refusals ps keyspace =
+      all_after piece_of (filter (is_taken refusals) (numbered ps)) keyspace
 
 -- a command of a batch, and the error that it was refused with, if it was
 abbrev pub Ended : Type 0

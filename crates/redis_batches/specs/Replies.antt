@@ -1,5 +1,6 @@
 -- The reply to each command of a pipeline, by the answers to its parts.
-use Rattle.std.specs.Prelude.{◌≡◌, ℕ, List, [], ◌∷◌, ◌++◌, Option, None, Some, Result, Ok, Err, map, length, take, drop}
+use Rattle.std.specs.Prelude.{◌≡◌, ℕ, List, [], ◌∷◌, ◌++◌, Option, None, Some, Result, Ok, Err, map, length, take, drop, slice_get}
+use Rattle.std.specs.List.{All}
 use Rattle.std.specs.declared.alloc.Global.{Global}
 use Rattle.std.specs.declared.vec.Vec.{Vec}
 use Rattle.resp_core.specs.ErrorParts.{ErrorParts}
@@ -8,8 +9,10 @@ use Rattle.resp_core.specs.View.{view}
 use Rattle.resp_core.specs.declared.value.Value.{Value}
 use Rattle.redis_routing.specs.Split.{Split}
 use Rattle.redis_cluster.specs.Joined.{joined}
-use Rattle.redis_batches.specs.Pipeline.{Answer}
+use Rattle.redis_cluster.specs.Unsplit.{Step, Keyspace}
+use Rattle.redis_batches.specs.Pipeline.{Answer, Refusals, Serve, Task, after_taken, numbered_behind, run}
 use Rattle.redis_batches.specs.Taken.{answer_of}
+use Rattle.redis_batches.specs.Tasks.{with_slots}
 
 -- one reply more in front, unless there was an error
 abbrev pub with_reply : Reply → Result (List Reply) ErrorParts → Result (List Reply) ErrorParts
@@ -63,3 +66,18 @@ pub record IsTakenFor (split : Option Split) (all left : List (Result Value Erro
   pub all_are : all ≡ left ++ own
   pub long : length own ≡ part_count split
   pub reply_is : IsReplyTo split (map answer_of own) (answer_of reply)
+
+-- the reply at this place is made of these answers
+abbrev pub IsMadeOf : List Answer → ℕ → Option Split → List Answer → Type 0
+IsMadeOf replies place split own =
+    (reply : Answer) × (slice_get replies place ≡ Some reply) × IsReplyTo split own reply
+
+-- Each command none of whose parts was refused has the reply of one server that takes the parts
+-- that were not refused, one after the other.
+abbrev pub AreUntouched : {C : Type 0} → Step C → Serve C → Refusals → List Task → Keyspace C
+    → List Answer → Type 0
+AreUntouched step serve refusals tasks keyspace replies =
+    (before later : List Task) (task : Task) → tasks ≡ before ++ task ∷ later
+    → All (λ x. refusals x ≡ None) (numbered_behind (map with_slots before) (with_slots task))
+    → slice_get replies (length before) ≡ Some
+    (run step serve task (after_taken step serve refusals (map with_slots before) keyspace)).reply
