@@ -74,9 +74,9 @@ fn joined_reply(
     }
 }
 
-/// The answer to a split command, by those to its parts, of which the last one comes first: the error
-/// of the first part that has one, or else what is made of the replies. `DEL a b` whose parts answer
-/// 1 and 1 answers 2.
+/// The answer to a split command, by those to its parts, of which the last one comes first. It is the
+/// error of the first part that has one, or else what is made of the replies: `DEL a b` whose parts
+/// answer 1 and 1 answers 2.
 fn split_reply(
     alloc: Global,
     split: &SplitCommand<'_, Cmd>,
