@@ -12,6 +12,7 @@ pub mod Entries
 pub mod Round
 pub mod OneServer
 pub mod Commands
+pub mod Placing
 pub mod Answered
 pub mod PutBack
 pub mod ServerReplies

@@ -19,14 +19,19 @@ split_in (OverKeys split) = Some split
 abbrev pub SlotPart : Type 0
 SlotPart = ℕ × Arguments
 
--- those of the parts of a command, in their order
+-- the parts of a split command, in the order of its routes
+abbrev pub split_parts : Split → List SlotPart
+split_parts split = map (λ slot. (slot, split_part split slot)) (slots_of split.routes)
+
+-- the parts of a command, in their order
 abbrev pub slot_parts : CommandTask → List SlotPart
 slot_parts (InSlot slot command) = (slot, map Some command.now) ∷ []
-slot_parts (OverKeys split) = map (λ slot. (slot, split_part split slot)) (slots_of split.routes)
+slot_parts (OverKeys split) = split_parts split
 
 -- the slots of a command, as they are kept
 abbrev pub slots_kept : CommandTask → List ℕ
-slots_kept kept = map (λ part. part.0) (slot_parts kept)
+slots_kept (InSlot slot command) = slot ∷ []
+slots_kept (OverKeys split) = slots_of split.routes
 
 -- this is kept of a command that means this
 abbrev pub IsKeptOf : Registrations → Task → CommandTask → Type 0

@@ -9,5 +9,6 @@ pub mod Driven
 pub mod PartArguments
 pub mod Tasks
 pub mod CommandTask
+pub mod Placed
 pub mod Pipelined
 pub mod Replies

@@ -6,6 +6,7 @@ mod fault;
 mod grouping;
 mod nodes;
 mod part;
+mod parts;
 mod plan;
 mod replies;
 mod send;

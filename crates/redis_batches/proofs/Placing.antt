@@ -1,0 +1,112 @@
+-- Parts are placed one by one, up to the first whose slot has no node.
+use Rattle.std.proofs.Common.{◌≡◌, ◌<◌, ◌+◌, ℕ, List, [], ◌∷◌, ◌++◌, Some, All, Bor, refl, sym, ap, subst, ◌∙◌, length, map, option_map, take, drop, get_or}
+use Rattle.std.specs.Prelude.{slice_get}
+use Rattle.std.specs.List.{flat_map}
+use Rattle.std.specs.declared.alloc.Global.{Global}
+use Rattle.std.specs.declared.vec.Vec.{Vec}
+use Rattle.std.proofs.lemmas.Grind.{flat_map-append}
+use Rattle.std.proofs.lemmas.List.{append_assoc, append-nil, map_push, take-append-drop, take-map, take_more}
+use Rattle.std.proofs.lemmas.List.Elements.{All-append, All-cons, All-map, All-more, All-nil}
+use Rattle.std.proofs.lemmas.Option.{same_Some, slice_get-map, slice_get_read}
+use Rattle.std.proofs.lemmas.Slice.Zip.{all_zipped_more}
+use Rattle.cluster_slots.specs.Address.{Address}
+use Rattle.cluster_slots.specs.SlotRoute.{SlotRoute}
+use Rattle.cluster_map.specs.RangeMap.{IsUncovered}
+use Rattle.cluster_map.specs.ReplyNode.{IsCovered}
+use Rattle.redis_routing.specs.RoutingInfo.{route_lists}
+use Rattle.redis_routing.specs.Split.{Split, route_part, slots_of, split_part}
+use Rattle.redis_batches.specs.CommandTask.{SlotPart, slot_parts, slots_kept, split_parts}
+use Rattle.redis_batches.specs.PartArguments.{sent_args}
+use Rattle.redis_batches.specs.Placed.{AreIn, ArePlaced, IsFirstUncovered, IsFirstWithout, IsOwnFault, IsPartFault, IsPrimaryOf, Ranges}
+use Rattle.redis_batches.specs.declared.part.PartCommand.{PartCommand}
+use Rattle.redis_batches.specs.declared.parts.Placed.{Placed}
+use Rattle.redis_batches.specs.declared.fault.PipelineFault.{PipelineFault}
+use Rattle.redis_batches.specs.declared.fault.PipelineFault.TheVariants.{NotRoutable, NotCovered, Memory}
+use Rattle.redis_batches.specs.declared.task.CommandTask.{CommandTask}
+use Rattle.redis_batches.proofs.ByNode.{at_drop, at_take}
+
+-- one part more
+placed_more : (ranges : Ranges) (of : List SlotPart) (parts : List (List (List ℕ))) (nodes : List Address) (part : SlotPart) (args : List (List ℕ)) (node : Address) → map Some args ≡ part.1 → IsPrimaryOf ranges part.0 node
+    → ArePlaced ranges of parts nodes → ArePlaced ranges (of ++ part ∷ []) (parts ++ args ∷ []) (nodes ++ node ∷ [])
+placed_more ranges of parts nodes part args node same primary placed = record {
+  parts_are =
+      map_push (map Some) parts args ∙ ap (λ l. l ++ map Some args ∷ []) placed.parts_are
+      ∙ ap (λ a. map (λ (p : SlotPart). p.1) of ++ a ∷ []) same ∙ sym (map_push (λ (p : SlotPart). p.1) of part);
+  nodes_are = all_zipped_more (λ (p : SlotPart) (n : Address). IsPrimaryOf ranges p.0 n) of nodes part node placed.nodes_are primary;
+}
+
+-- as vectors have them
+pub in_more : (ranges : Ranges) (of : List SlotPart) (old new : Placed) (part : SlotPart) (command : PartCommand) (node : Bor Address) → new.parts.items ≡ old.parts.items ++ command ∷ [] → new.nodes.items ≡ old.nodes.items ++ node ∷ []
+    → map Some (sent_args command) ≡ part.1 → IsPrimaryOf ranges part.0 node.now → AreIn ranges of old → AreIn ranges (of ++ part ∷ []) new
+in_more ranges of old new part command node parts nodes same primary placed =
+    let now : Bor Address → Address = λ n. n.now in
+    subst (λ ps. ArePlaced ranges (of ++ part ∷ []) ps (map now new.nodes.items)) (sym (ap (map sent_args) parts ∙ map_push sent_args old.parts.items command))
+    (subst (ArePlaced ranges (of ++ part ∷ []) (map sent_args old.parts.items ++ sent_args command ∷ [])) (sym (ap (map now) nodes ∙ map_push now old.nodes.items node))
+    (placed_more ranges of (map sent_args old.parts.items) (map now old.nodes.items) part (sent_args command) node.now same primary placed))
+
+-- a route as its split has it
+pub route_at : (routes : List (SlotRoute × Vec ℕ Global)) (split : Split) (i : ℕ) (route : SlotRoute × Vec ℕ Global) → i < length routes → route ≡ get_or routes i route → route_lists routes ≡ split.routes
+    → slice_get split.routes i ≡ Some (route.0, route.1.items)
+route_at routes split i route within is are =
+    let listed : SlotRoute × Vec ℕ Global → SlotRoute × List ℕ = λ r. (r.0, r.1.items) in
+    ap (λ rs. slice_get rs i) (sym are) ∙ slice_get-map listed routes i ∙ ap (option_map listed) (slice_get_read routes (length routes) i route refl within is)
+
+-- the parts of a split and its slots, with the next route
+pub parts_next : (split : Split) (i : ℕ) (route : SlotRoute × List ℕ) → slice_get split.routes i ≡ Some route → take (i + 1) (split_parts split) ≡ take i (split_parts split) ++ (route.0.slot, split_part split route.0.slot) ∷ []
+parts_next split i route at =
+    let part : ℕ → SlotPart = λ slot. (slot, split_part split slot) in
+    at_take part (slots_of split.routes) i route.0.slot (slice_get-map (λ (r : SlotRoute × List ℕ). r.0.slot) split.routes i ∙ ap (option_map (λ (r : SlotRoute × List ℕ). r.0.slot)) at)
+
+pub part_next : (split : Split) (i : ℕ) (route : SlotRoute × List ℕ) (args : List (List ℕ)) → slice_get split.routes i ≡ Some route → Some (map Some args) ≡ route_part split i → map Some args ≡ split_part split route.0.slot
+part_next split i route args at is =
+    same_Some (map Some args) (split_part split route.0.slot) (is ∙ ap (option_map (λ (r : SlotRoute × List ℕ). split_part split r.0.slot)) at)
+
+-- one that is covered, after those before
+pub covered_next : (ranges : Ranges) {X : Type 0} (slot : X → ℕ) (xs : List X) (i : ℕ) (x : X) → slice_get xs i ≡ Some x → IsCovered ranges (slot x) → All (IsCovered ranges) (take i (map slot xs)) → All (IsCovered ranges) (take (i + 1) (map slot xs))
+covered_next ranges slot xs i x at here before =
+    subst (All (IsCovered ranges)) (sym (at_take slot xs i x at))
+    (All-append (IsCovered ranges) (take i (map slot xs)) (slot x ∷ []) before (All-cons (IsCovered ranges) (slot x) [] here (All-nil (IsCovered ranges))))
+
+-- the first that is not
+pub first_without : (ranges : Ranges) {X : Type 0} (slot : X → ℕ) (xs : List X) (i : ℕ) (x : X) → slice_get xs i ≡ Some x → All (IsCovered ranges) (take i (map slot xs)) → IsUncovered ranges (slot x) → IsFirstWithout ranges (map slot xs) (slot x)
+first_without ranges slot xs i x at covered uncovered = record {
+  before = take i (map slot xs);
+  rest = drop (i + 1) (map slot xs);
+  slots_are = sym (take-append-drop i (map slot xs)) ∙ ap (λ l. take i (map slot xs) ++ l) (at_drop slot xs i x at);
+  covered = covered;
+  uncovered = uncovered;
+}
+
+-- the part of the next route is placed
+pub placed_next : (ranges : Ranges) (split : Split) (i : ℕ) (route : SlotRoute × List ℕ) (of : List SlotPart) (old new : Placed) (command : PartCommand) (node : Bor Address) → slice_get split.routes i ≡ Some route
+    → new.parts.items ≡ old.parts.items ++ command ∷ [] → new.nodes.items ≡ old.nodes.items ++ node ∷ [] → map Some (sent_args command) ≡ split_part split route.0.slot → IsPrimaryOf ranges route.0.slot node.now
+    → AreIn ranges (of ++ take i (split_parts split)) old → AreIn ranges (of ++ take (i + 1) (split_parts split)) new
+placed_next ranges split i route of old new command node at parts nodes same primary before =
+    let part : SlotPart = (route.0.slot, split_part split route.0.slot) in
+    subst (λ ps. AreIn ranges ps new) (append_assoc of (take i (split_parts split)) (part ∷ []) ∙ ap (λ l. of ++ l) (sym (parts_next split i route at)))
+    (in_more ranges (of ++ take i (split_parts split)) old new part command node parts nodes same primary before)
+
+-- why the parts of one command can't be placed, after those that could be
+pub fault_of_command : (ranges : Ranges) (tasks : List CommandTask) (i : ℕ) (task : CommandTask) (fault : PipelineFault) → i < length tasks → task ≡ get_or tasks i task
+    → All (λ t. All (IsCovered ranges) (slots_kept t)) (take i tasks) → IsOwnFault ranges (slots_kept task) i fault → IsPartFault ranges (map slots_kept tasks) fault
+fault_of_command ranges tasks i task (NotRoutable number) within is covered own = absurd own
+fault_of_command ranges tasks i task Memory within is covered own = tt
+fault_of_command ranges tasks i task (NotCovered number slot) within is covered own =
+    subst (λ n. IsFirstUncovered ranges (map slots_kept tasks) n slot) (sym own.0) (record {
+      covered = subst (All (All (IsCovered ranges))) (sym (take-map slots_kept i tasks)) (All-map (All (IsCovered ranges)) slots_kept (take i tasks) covered);
+      own = slots_kept task;
+      own_are = slice_get-map slots_kept tasks i ∙ ap (option_map slots_kept) (slice_get_read tasks (length tasks) i task refl within is);
+      first = own.1;
+    })
+
+-- one command more
+pub command_next : (ranges : Ranges) (tasks : List CommandTask) (i : ℕ) (task : CommandTask) (new : Placed) → i < length tasks → task ≡ get_or tasks i task
+    → AreIn ranges (flat_map slot_parts (take i tasks) ++ slot_parts task) new → AreIn ranges (flat_map slot_parts (take (i + 1) tasks)) new
+command_next ranges tasks i task new within is placed =
+    subst (λ l. AreIn ranges l new)
+    (sym (ap (flat_map slot_parts) (take_more tasks i task within ∙ ap (λ t. take i tasks ++ t ∷ []) (sym is)) ∙ flat_map-append slot_parts (take i tasks) (task ∷ []) ∙ ap (λ l. flat_map slot_parts (take i tasks) ++ l) (append-nil (slot_parts task))))
+    placed
+
+pub commands_covered : (ranges : Ranges) (tasks : List CommandTask) (i : ℕ) (task : CommandTask) → i < length tasks → task ≡ get_or tasks i task → All (λ t. All (IsCovered ranges) (slots_kept t)) (take i tasks)
+    → All (IsCovered ranges) (slots_kept task) → All (λ t. All (IsCovered ranges) (slots_kept t)) (take (i + 1) tasks)
+commands_covered ranges tasks i task within is before own = All-more (λ t. All (IsCovered ranges) (slots_kept t)) tasks i task within before (subst (λ t. All (IsCovered ranges) (slots_kept t)) is own)
