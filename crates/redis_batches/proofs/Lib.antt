@@ -13,6 +13,7 @@ pub mod Round
 pub mod OneServer
 pub mod Commands
 pub mod Placing
+pub mod Planning
 pub mod Answered
 pub mod PutBack
 pub mod ServerReplies

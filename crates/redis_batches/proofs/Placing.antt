@@ -1,5 +1,5 @@
 -- Parts are placed one by one, up to the first whose slot has no node.
-use Rattle.std.proofs.Common.{◌≡◌, ◌<◌, ◌+◌, ℕ, List, [], ◌∷◌, ◌++◌, Some, All, Bor, refl, sym, ap, subst, ◌∙◌, length, map, option_map, take, drop, get_or}
+use Rattle.std.proofs.Common.{◌≡◌, ◌<◌, ◌+◌, ℕ, List, [], ◌∷◌, ◌++◌, Some, Result, Ok, Err, IfErr, IsErrAnd, All, Bor, refl, sym, ap, subst, ◌∙◌, length, map, option_map, take, drop, get_or}
 use Rattle.std.specs.Prelude.{slice_get}
 use Rattle.std.specs.List.{flat_map}
 use Rattle.std.specs.declared.alloc.Global.{Global}
@@ -24,6 +24,11 @@ use Rattle.redis_batches.specs.declared.fault.PipelineFault.{PipelineFault}
 use Rattle.redis_batches.specs.declared.fault.PipelineFault.TheVariants.{NotRoutable, NotCovered, Memory}
 use Rattle.redis_batches.specs.declared.task.CommandTask.{CommandTask}
 use Rattle.redis_batches.proofs.ByNode.{at_drop, at_take}
+
+-- what holds of the error of a result that is one
+pub err_from : {T E : Type 0} (P Q : E → Type 0) (r : Result T E) → IsErrAnd r P → ((e : E) → P e → Q e) → IfErr r Q
+err_from P Q (Ok x) is gives = tt
+err_from P Q (Err e) is gives = gives e is
 
 -- one part more
 placed_more : (ranges : Ranges) (of : List SlotPart) (parts : List (List (List ℕ))) (nodes : List Address) (part : SlotPart) (args : List (List ℕ)) (node : Address) → map Some args ≡ part.1 → IsPrimaryOf ranges part.0 node

@@ -12,3 +12,4 @@ pub mod CommandTask
 pub mod Placed
 pub mod Pipelined
 pub mod Replies
+pub mod PipelinePlan

@@ -1,15 +1,10 @@
-use Rattle.std.proofs.Common.{Result, Ok, Err, IfErr, IsErrAnd, sym, subst}
+use Rattle.std.proofs.Common.{sym, subst}
 use Rattle.std.specs.List.{flat_map}
 use Rattle.std.specs.Prelude.{map, take}
 use Rattle.redis_batches.specs.CommandTask.{slot_parts, slots_kept}
 use Rattle.redis_batches.specs.Placed.{IsPartFault}
-use Rattle.redis_batches.proofs.Placing.{command_next, commands_covered, fault_of_command}
+use Rattle.redis_batches.proofs.Placing.{command_next, commands_covered, err_from, fault_of_command}
 use Rattle.redis_batches.proofs.parts.parts_of.Goals as goal
-
--- what holds of the error of a result that is one
-err_from : {T E : Type 0} (P Q : E → Type 0) (r : Result T E) → IsErrAnd r P → ((e : E) → P e → Q e) → IfErr r Q
-err_from P Q (Ok x) is gives = tt
-err_from P Q (Err e) is gives = gives e is
 
 pub returns-in_err-add_task-clause-fault : goal.returns-in_err-add_task-clause-fault
 returns-in_err-add_task-clause-fault c =

@@ -1,0 +1,261 @@
+-- The plan of a pipeline over commands: what its parts mean, and the one node of each slot.
+use Rattle.std.proofs.Common.{◌≡◌, ◌≤◌, ◌+◌, ℕ, zero, suc, List, [], ◌∷◌, ◌++◌, Bool, true, false, cond, None, Some, All, refl, sym, ap, subst, ◌∙◌, arith, map, length, get_or}
+use Rattle.std.specs.Prelude.{nat_eq}
+use Rattle.std.specs.List.{AllZip, flat_map, list_any, sum_by}
+use Rattle.std.proofs.lemmas.Bool.{eqb-true}
+use Rattle.std.proofs.lemmas.List.{length-append, length-map}
+use Rattle.std.proofs.lemmas.List.Sums.{sum_by-cons}
+use Rattle.std.proofs.lemmas.List.Elements.{All-nil, All-cons, All-head, All-tail, All-weaker}
+use Rattle.resp_core.proofs.Cases.{by_test, or_second}
+use Rattle.cluster_slots.specs.Address.{Address}
+use Rattle.cluster_slots.specs.KeySlot.{key_slot}
+use Rattle.cluster_map.specs.RangeMap.{Ascends}
+use Rattle.cluster_map.proofs.Ranges.{IsAnswerAt-unique}
+use Rattle.redis_routing.specs.Names.{names_of}
+use Rattle.redis_routing.specs.Registry.{Registrations}
+use Rattle.redis_routing.specs.Routing.{routing}
+use Rattle.redis_routing.specs.Split.{Split, slots_of, split_part}
+use Rattle.redis_routing.proofs.Cover.{count_firsts}
+use Rattle.redis_routing.proofs.SelfRouting.{all_there}
+use Rattle.redis_cluster.specs.MultiKey.{KeyTuple, MultiKey, multi_key, part_of, slots_in}
+use Rattle.redis_cluster.specs.Orders.{times}
+use Rattle.redis_cluster.proofs.Constructors.{same_head, same_some, same_tail}
+use Rattle.redis_cluster.proofs.Counts.{same_number}
+use Rattle.redis_batches.specs.Pipeline.{AreSlotsOf, HasSlots, Part, Planned, Task, over_keys, in_slot, parts_of}
+use Rattle.redis_batches.specs.Batched.{AreBatches}
+use Rattle.redis_batches.specs.Taken.{slot_routed, task_of, task_with}
+use Rattle.redis_batches.specs.Tasks.{IsSplitAs, IsSplitOfTask, slots_of_task, with_slots}
+use Rattle.redis_batches.specs.CommandTask.{IsKeptOf, IsTaskFor, SlotPart, slot_parts, slots_kept, split_in, split_parts}
+use Rattle.redis_batches.specs.Pipelined.{IsTaskFault}
+use Rattle.redis_batches.specs.Placed.{ArePlaced, IsPartFault, IsPrimaryOf, Ranges}
+use Rattle.redis_batches.specs.PipelinePlan.{IsPlanFault, IsPlanOfCommands, PipelineBatches, pieces_of}
+use Rattle.redis_batches.specs.Plan.{Batches, IsByNode, IsPlan}
+use Rattle.redis_batches.specs.Replies.{part_count}
+use Rattle.redis_batches.specs.declared.fault.PipelineFault.{PipelineFault}
+use Rattle.redis_batches.specs.declared.fault.PipelineFault.TheVariants.{NotRoutable, NotCovered, Memory}
+use Rattle.redis_batches.specs.declared.task.CommandTask.{CommandTask}
+use Rattle.redis_batches.specs.declared.task.CommandTask.TheVariants.{InSlot, OverKeys}
+use Rattle.redis_batches.proofs.ByNode.{by_node_batches}
+use Rattle.redis_batches.proofs.Commands.{tasks_from}
+
+-- what is sent is the part of the pipeline
+abbrev IsPartOf : Registrations → SlotPart → Part → Type 0
+IsPartOf registered p q = (p.0 ≡ q.slot) × ((args : List (List ℕ)) → map Some args ≡ p.1 → task_of registered args ≡ Some q.task)
+
+zip_append : {A B : Type 0} (R : A → B → Type 0) (xs others : List A) (ys more : List B) → AllZip R xs ys → AllZip R others more → AllZip R (xs ++ others) (ys ++ more)
+zip_append R [] others [] more first second = second
+zip_append R [] others (y ∷ ys) more first second = absurd first
+zip_append R (x ∷ xs) others [] more first second = absurd first
+zip_append R (x ∷ xs) others (y ∷ ys) more first second = (first.0, zip_append R xs others ys more first.1 second)
+
+zip_maps : {X A B : Type 0} (R : A → B → Type 0) (f : X → A) (g : X → B) (xs : List X) → All (λ x. R (f x) (g x)) xs → AllZip R (map f xs) (map g xs)
+zip_maps R f g [] all = tt
+zip_maps R f g (x ∷ xs) all = (All-head (λ y. R (f y) (g y)) x xs all, zip_maps R f g xs (All-tail (λ y. R (f y) (g y)) x xs all))
+
+unsome : (xs ys : List (List ℕ)) → map Some xs ≡ map Some ys → xs ≡ ys
+unsome [] [] e = refl
+unsome [] (y ∷ ys) e = absurd (cc e)
+unsome (x ∷ xs) [] e = absurd (cc e)
+unsome (x ∷ xs) (y ∷ ys) e = ap (λ z. z ∷ xs) (same_some x y (same_head e)) ∙ ap (λ l. y ∷ l) (unsome xs ys (same_tail e))
+
+-- a command of a slot is sent whole
+whole_part : (registered : Registrations) (slot : ℕ) (args : List (List ℕ)) (task : Task) → task ≡ in_slot slot args → task_of registered args ≡ Some task
+    → AllZip (IsPartOf registered) ((slot, map Some args) ∷ []) (parts_of (with_slots task))
+whole_part registered slot args task is means =
+    subst (λ t. AllZip (IsPartOf registered) ((slot, map Some args) ∷ []) (parts_of (with_slots t))) (sym is)
+    ((refl, λ other same. ap (task_of registered) (unsome other args same) ∙ means ∙ ap Some is), tt)
+
+-- one over many keys as its split
+parts_of_split : (registered : Registrations) (command : MultiKey) (split : Split) (task : Task) → task ≡ over_keys command → IsSplitOfTask registered command split
+    → AllZip (IsPartOf registered) (split_parts split) (parts_of (with_slots task))
+parts_of_split registered command split task is of =
+    let sent : ℕ → SlotPart = λ slot. (slot, split_part split slot) in
+    let own : ℕ → Part = λ slot. record { slot = slot; task = over_keys (part_of command slot) } in
+    subst (λ t. AllZip (IsPartOf registered) (split_parts split) (parts_of (with_slots t))) (sym is)
+    (subst (λ slots. AllZip (IsPartOf registered) (split_parts split) (map own slots)) of.slots
+    (zip_maps (IsPartOf registered) sent own (slots_of split.routes)
+    (All-weaker (λ slot. multi_key registered (split_part split slot) ≡ Some (part_of command slot)) (λ slot. IsPartOf registered (sent slot) (own slot))
+    (λ slot means. (refl, λ args same. ap (λ m. task_with m (slot_routed (routing (names_of [] registered) (map Some args))) args) (ap (multi_key registered) same ∙ means)))
+    (slots_of split.routes) of.parts)))
+
+part_of_kept : (registered : Registrations) (task : Task) (kept : CommandTask) → IsKeptOf registered task kept → AllZip (IsPartOf registered) (slot_parts kept) (parts_of (with_slots task))
+part_of_kept registered task (InSlot slot command) is = whole_part registered slot command.now task is.0 is.1
+part_of_kept registered task (OverKeys split) is = parts_of_split registered is.0 split task is.1 is.2
+
+parts_of_kept : (registered : Registrations) (tasks : List Task) (kept : List CommandTask) → AllZip (IsKeptOf registered) tasks kept → AllZip (IsPartOf registered) (flat_map slot_parts kept) (pieces_of tasks)
+parts_of_kept registered [] [] each = tt
+parts_of_kept registered [] (k ∷ kept) each = absurd each
+parts_of_kept registered (t ∷ tasks) [] each = absurd each
+parts_of_kept registered (t ∷ tasks) (k ∷ kept) each =
+    zip_append (IsPartOf registered) (slot_parts k) (flat_map slot_parts kept) (parts_of (with_slots t)) (pieces_of tasks) (part_of_kept registered t k each.0) (parts_of_kept registered tasks kept each.1)
+
+-- what the parts mean
+meant : (registered : Registrations) (parts : List (List (List ℕ))) (of : List SlotPart) (qs : List Part) → map (map Some) parts ≡ map (λ p. p.1) of → AllZip (IsPartOf registered) of qs
+    → map (task_of registered) parts ≡ map (λ q. Some q.task) qs
+meant registered [] [] [] same each = refl
+meant registered [] [] (q ∷ qs) same each = absurd each
+meant registered (a ∷ parts) [] qs same each = absurd (cc same)
+meant registered [] (p ∷ of) qs same each = absurd (cc same)
+meant registered (a ∷ parts) (p ∷ of) [] same each = absurd each
+meant registered (a ∷ parts) (p ∷ of) (q ∷ qs) same each =
+    ap (λ t. t ∷ map (task_of registered) parts) (each.0.1 a (same_head same)) ∙ ap (λ l. Some q.task ∷ l) (meant registered parts of qs (same_tail same) each.1)
+
+-- the nodes of the parts
+nodes_of : (ranges : Ranges) (registered : Registrations) (of : List SlotPart) (qs : List Part) (nodes : List Address) → AllZip (λ p node. IsPrimaryOf ranges p.0 node) of nodes → AllZip (IsPartOf registered) of qs
+    → AllZip (λ q node. IsPrimaryOf ranges q.slot node) qs nodes
+nodes_of ranges registered [] [] [] placed each = tt
+nodes_of ranges registered [] (q ∷ qs) nodes placed each = absurd each
+nodes_of ranges registered [] [] (n ∷ nodes) placed each = absurd placed
+nodes_of ranges registered (p ∷ of) [] nodes placed each = absurd each
+nodes_of ranges registered (p ∷ of) (q ∷ qs) [] placed each = absurd placed
+nodes_of ranges registered (p ∷ of) (q ∷ qs) (n ∷ nodes) placed each =
+    (subst (λ slot. IsPrimaryOf ranges slot n) each.0.0 placed.0, nodes_of ranges registered of qs nodes placed.1 each.1)
+
+-- the node of the first part of a slot
+node_in : List Part → List Address → ℕ → Address
+node_in [] nodes slot = record { host = []; port = 0 }
+node_in (q ∷ qs) [] slot = record { host = []; port = 0 }
+node_in (q ∷ qs) (n ∷ nodes) slot = cond (nat_eq q.slot slot) n (node_in qs nodes slot)
+
+primary_in : (ranges : Ranges) (qs : List Part) (nodes : List Address) → AllZip (λ q node. IsPrimaryOf ranges q.slot node) qs nodes → (slot : ℕ) → list_any (λ q. nat_eq q.slot slot) qs ≡ true
+    → IsPrimaryOf ranges slot (node_in qs nodes slot)
+unfolding node_in
+primary_in ranges [] nodes each slot there = absurd (cc there)
+primary_in ranges (q ∷ qs) [] each slot there = absurd each
+primary_in ranges (q ∷ qs) (n ∷ nodes) each slot there =
+    by_test (nat_eq q.slot slot)
+    (λ here. rw here (subst (λ s. IsPrimaryOf ranges s n) (eqb-true q.slot slot here) each.0))
+    (λ away. rw away (primary_in ranges qs nodes each.1 slot (rw away at there)))
+
+-- a slot has one primary
+one_primary : (ranges : Ranges) → Ascends ranges → (slot : ℕ) (a b : Address) → IsPrimaryOf ranges slot a → IsPrimaryOf ranges slot b → a ≡ b
+one_primary ranges ascends slot a b is_a is_b = is_a.2 ∙ ap (λ n. n.primary) (IsAnswerAt-unique ranges slot is_a.0 is_b.0 ascends is_a.1 is_b.1) ∙ sym is_b.2
+
+same_nodes : (ranges : Ranges) → Ascends ranges → (node : ℕ → Address) (qs : List Part) (nodes : List Address) → AllZip (λ q n. IsPrimaryOf ranges q.slot n) qs nodes → All (λ q. IsPrimaryOf ranges q.slot (node q.slot)) qs
+    → nodes ≡ map (λ q. node q.slot) qs
+same_nodes ranges ascends node [] [] each all = refl
+same_nodes ranges ascends node [] (n ∷ nodes) each all = absurd each
+same_nodes ranges ascends node (q ∷ qs) [] each all = absurd each
+same_nodes ranges ascends node (q ∷ qs) (n ∷ nodes) each all =
+    ap (λ m. m ∷ nodes) (one_primary ranges ascends q.slot n (node q.slot) each.0 (All-head (λ r. IsPrimaryOf ranges r.slot (node r.slot)) q qs all))
+    ∙ ap (λ l. node q.slot ∷ l) (same_nodes ranges ascends node qs nodes each.1 (All-tail (λ r. IsPrimaryOf ranges r.slot (node r.slot)) q qs all))
+
+-- the splits of commands
+split_of_kept : (registered : Registrations) (task : Task) (kept : CommandTask) → IsKeptOf registered task kept → IsSplitAs registered (split_in kept) task
+split_of_kept registered task (InSlot slot command) is = subst (IsSplitAs registered None) (sym is.0) tt
+split_of_kept registered task (OverKeys split) is = subst (IsSplitAs registered (Some split)) (sym is.1) is.2
+
+splits_of_kept : (registered : Registrations) (tasks : List Task) (kept : List CommandTask) → AllZip (IsKeptOf registered) tasks kept → AllZip (IsSplitAs registered) (map split_in kept) tasks
+splits_of_kept registered [] [] each = tt
+splits_of_kept registered [] (k ∷ kept) each = absurd each
+splits_of_kept registered (t ∷ tasks) [] each = absurd each
+splits_of_kept registered (t ∷ tasks) (k ∷ kept) each = (split_of_kept registered t k each.0, splits_of_kept registered tasks kept each.1)
+
+-- their slots
+slots_of_kept : (registered : Registrations) (task : Task) (kept : CommandTask) → IsKeptOf registered task kept → slots_kept kept ≡ slots_of_task task
+slots_of_kept registered task (InSlot slot command) is = sym (ap slots_of_task is.0)
+slots_of_kept registered task (OverKeys split) is = is.2.slots ∙ sym (ap slots_of_task is.1)
+
+all_slots_of_kept : (registered : Registrations) (tasks : List Task) (kept : List CommandTask) → AllZip (IsKeptOf registered) tasks kept → map slots_kept kept ≡ map slots_of_task tasks
+all_slots_of_kept registered [] [] each = refl
+all_slots_of_kept registered [] (k ∷ kept) each = absurd each
+all_slots_of_kept registered (t ∷ tasks) [] each = absurd each
+all_slots_of_kept registered (t ∷ tasks) (k ∷ kept) each =
+    ap (λ s. s ∷ map slots_kept kept) (slots_of_kept registered t k each.0) ∙ ap (λ l. slots_of_task t ∷ l) (all_slots_of_kept registered tasks kept each.1)
+
+-- how many parts there are
+count_of_kept : (kept : CommandTask) → length (slot_parts kept) ≡ part_count (split_in kept)
+count_of_kept (InSlot slot command) = refl
+count_of_kept (OverKeys split) = length-map (slots_of split.routes) (λ slot. (slot, split_part split slot)) ∙ length-map split.routes (λ r. r.0.slot)
+
+counts_of_kept : (kept : List CommandTask) → length (flat_map slot_parts kept) ≡ sum_by part_count (map split_in kept)
+counts_of_kept [] = refl
+counts_of_kept (k ∷ kept) =
+    length-append (slot_parts k) (flat_map slot_parts kept) ∙ ap (λ n. n + length (flat_map slot_parts kept)) (count_of_kept k) ∙ ap (λ n. part_count (split_in k) + n) (counts_of_kept kept)
+    ∙ sym (sum_by-cons part_count (split_in k) (map split_in kept))
+
+pub has_parts : (ranges : Ranges) (kept : List CommandTask) (parts : List (List (List ℕ))) (nodes : List Address) → ArePlaced ranges (flat_map slot_parts kept) parts nodes → sum_by part_count (map split_in kept) ≡ length parts
+has_parts ranges kept parts nodes placed =
+    sym (counts_of_kept kept) ∙ sym (length-map (flat_map slot_parts kept) (λ p. p.1)) ∙ sym (ap length placed.parts_are) ∙ length-map parts (map Some)
+
+-- there are as many nodes as parts
+pub as_many : (ranges : Ranges) (of : List SlotPart) (nodes : List Address) → AllZip (λ p node. IsPrimaryOf ranges p.0 node) of nodes → length nodes ≡ length of
+as_many ranges [] [] each = refl
+as_many ranges [] (n ∷ nodes) each = absurd each
+as_many ranges (p ∷ of) [] each = absurd each
+as_many ranges (p ∷ of) (n ∷ nodes) each = ap suc (as_many ranges of nodes each.1)
+
+pub nodes_for_parts : (ranges : Ranges) (of : List SlotPart) (parts : List (List (List ℕ))) (nodes : List Address) → ArePlaced ranges of parts nodes → length nodes ≡ length parts
+nodes_for_parts ranges of parts nodes placed =
+    as_many ranges of nodes placed.nodes_are ∙ sym (length-map of (λ p. p.1)) ∙ sym (ap length placed.parts_are) ∙ length-map parts (map Some)
+
+-- The plan of commands.
+pub is_plan_of : (registered : Registrations) (ranges : Ranges) (commands : List (List (List ℕ))) (kept : List CommandTask) (batches : Batches) (nodes : List Address) → Ascends ranges
+    → AllZip (IsTaskFor registered) commands kept → ArePlaced ranges (flat_map slot_parts kept) batches.parts nodes → IsByNode batches nodes
+    → IsPlanOfCommands registered ranges commands (record { splits = map split_in kept; batches = batches })
+is_plan_of registered ranges commands kept batches nodes ascends each placed by_node =
+    let found = tasks_from registered commands kept each in
+    let tasks : List Task = found.0 in
+    let qs : List Part = pieces_of tasks in
+    let parts = parts_of_kept registered tasks kept found.2 in
+    let at : AllZip (λ q node. IsPrimaryOf ranges q.slot node) qs nodes = nodes_of ranges registered (flat_map slot_parts kept) qs nodes placed.nodes_are parts in
+    let node : ℕ → Address = λ slot. node_in qs nodes slot in
+    let all : All (λ q. IsPrimaryOf ranges q.slot (node q.slot)) qs =
+    All-weaker (λ (q : Part). list_any (λ r. nat_eq r.slot q.slot) qs ≡ true) (λ q. IsPrimaryOf ranges q.slot (node q.slot)) (λ q there. primary_in ranges qs nodes at q.slot there) qs (all_there (λ (q : Part). q.slot) qs) in
+    record {
+      tasks = tasks;
+      tasks_are = found.1;
+      splits_are = splits_of_kept registered tasks kept found.2;
+      parts_are = meant registered batches.parts (flat_map slot_parts kept) qs placed.parts_are parts;
+      node_of = node;
+      primaries = all;
+      by_node = subst (IsByNode batches) (same_nodes ranges ascends node qs nodes at all) by_node;
+    }
+
+-- why there is none
+pub task_fault : (registered : Registrations) (ranges : Ranges) (commands : List (List (List ℕ))) (fault : PipelineFault) → IsTaskFault registered commands fault → IsPlanFault registered ranges commands fault
+task_fault registered ranges commands (NotRoutable number) is = is
+task_fault registered ranges commands (NotCovered number slot) is = absurd is
+task_fault registered ranges commands Memory is = tt
+
+pub part_fault : (registered : Registrations) (ranges : Ranges) (commands : List (List (List ℕ))) (kept : List CommandTask) (fault : PipelineFault) → AllZip (IsTaskFor registered) commands kept → IsPartFault ranges (map slots_kept kept) fault
+    → IsPlanFault registered ranges commands fault
+part_fault registered ranges commands kept (NotRoutable number) each is = absurd is
+part_fault registered ranges commands kept Memory each is = tt
+part_fault registered ranges commands kept (NotCovered number slot) each is =
+    let found = tasks_from registered commands kept each in
+    (found.0, found.1, subst (λ slots. IsPartFault ranges slots (NotCovered number slot)) (all_slots_of_kept registered found.0 kept found.2) is)
+
+-- a number stands among those of some things, of which it is one's
+all_here : {X : Type 0} (number : X → ℕ) (xs : List X) → All (λ x. list_any (nat_eq (number x)) (map number xs) ≡ true) xs
+all_here number [] k d inside = absurd (omega arith)
+all_here number (x ∷ xs) zero d inside = rw (same_number (number x)) refl
+all_here number (x ∷ xs) (suc k) d inside = or_second (nat_eq (number (get_or xs k d)) (number x)) _ (all_here number xs k d (omega arith))
+
+one_at_most : (b : Bool) → cond b 1 0 ≤ 1
+one_at_most true = omega arith
+one_at_most false = omega arith
+
+-- the slots of a command over many keys are those of its keys, each once
+has_slots : (command : MultiKey) → HasSlots command (slots_in command)
+has_slots command =
+    let slot : KeyTuple → ℕ = λ t. key_slot t.key in
+    let ns : List ℕ = map slot command.tuples in
+    record {
+      apart = λ s. subst (λ n. n ≤ 1) (sym (count_firsts s ns)) (one_at_most (list_any (nat_eq s) ns));
+      each = All-weaker (λ t. list_any (nat_eq (slot t)) ns ≡ true) (λ t. times (slot t) (slots_in command) ≡ 1) (λ t there. count_firsts (slot t) ns ∙ ap (λ b. cond b 1 0) there) command.tuples (all_here slot command.tuples);
+    }
+
+slots_of_one : (task : Task) → AreSlotsOf task (slots_of_task task)
+slots_of_one (over_keys command) = has_slots command
+slots_of_one (in_slot slot args) = refl
+
+pub slots_of_all : (tasks : List Task) → All (λ p. AreSlotsOf p.task p.slots) (map with_slots tasks)
+slots_of_all [] = All-nil (λ (p : Planned). AreSlotsOf p.task p.slots)
+slots_of_all (task ∷ tasks) = All-cons (λ (p : Planned). AreSlotsOf p.task p.slots) (with_slots task) (map with_slots tasks) (slots_of_one task) (slots_of_all tasks)
+
+-- A plan of commands has the batches of the pipeline, so it can be sent.
+pub plan_has_batches : (registered : Registrations) (ranges : Ranges) (commands : List (List (List ℕ))) (plan : PipelineBatches) → IsPlan plan.batches → (is : IsPlanOfCommands registered ranges commands plan)
+    → AreBatches registered (map with_slots is.tasks) plan.batches.parts plan.batches.places
+plan_has_batches registered ranges commands plan whole is =
+    by_node_batches registered (map with_slots is.tasks) plan.batches (map (λ q. is.node_of q.slot) (pieces_of is.tasks)) is.node_of refl is.parts_are (sym whole.nodes) is.by_node

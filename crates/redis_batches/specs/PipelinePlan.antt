@@ -1,0 +1,50 @@
+-- The plan of a pipeline over commands.
+use Rattle.std.specs.Prelude.{◌≡◌, ℕ, List, Option, Some, map, length}
+use Rattle.std.specs.List.{All, AllZip, sum_by}
+use Rattle.cluster_slots.specs.Address.{Address}
+use Rattle.redis_routing.specs.Registry.{Registrations}
+use Rattle.redis_routing.specs.Split.{Split}
+use Rattle.redis_batches.specs.Pipeline.{Part, Task, pieces}
+use Rattle.redis_batches.specs.Taken.{task_of}
+use Rattle.redis_batches.specs.Tasks.{AreTasksOf, IsSplitAs, slots_of_task, with_slots}
+use Rattle.redis_batches.specs.Pipelined.{IsFirstMeaningless}
+use Rattle.redis_batches.specs.Placed.{IsFirstUncovered, IsPrimaryOf, Ranges}
+use Rattle.redis_batches.specs.Plan.{Batches, IsByNode}
+use Rattle.redis_batches.specs.Replies.{part_count}
+use Rattle.redis_batches.specs.declared.fault.PipelineFault.{PipelineFault}
+use Rattle.redis_batches.specs.declared.fault.PipelineFault.TheVariants.{NotRoutable, NotCovered, Memory}
+
+-- the split of each command, if it is over many keys, and the batches of their parts
+pub record PipelineBatches : Type 0 where
+  pub splits : List (Option Split)
+  pub batches : Batches
+
+-- each command has its parts
+abbrev pub HasParts : PipelineBatches → Type 0
+HasParts plan = sum_by part_count plan.splits ≡ length plan.batches.parts
+
+-- the parts of commands that mean this
+abbrev pub pieces_of : List Task → List Part
+pieces_of tasks = pieces (map with_slots tasks)
+
+-- The plan is of these commands: each means something, and the parts are those of the pipeline. The
+-- node of a slot is its primary by the map, and there is one batch for each node.
+pub record IsPlanOfCommands (registered : Registrations) (ranges : Ranges)
+    (commands : List (List (List ℕ))) (plan : PipelineBatches) : Type 0 where
+  pub tasks : List Task
+  pub tasks_are : AreTasksOf registered commands tasks
+  pub splits_are : AllZip (IsSplitAs registered) plan.splits tasks
+  pub parts_are : map (task_of registered) plan.batches.parts
+      ≡ map (λ q. Some q.task) (pieces_of tasks)
+  pub node_of : ℕ → Address
+  pub primaries : All (λ q. IsPrimaryOf ranges q.slot (node_of q.slot)) (pieces_of tasks)
+  pub by_node : IsByNode plan.batches (map (λ q. node_of q.slot) (pieces_of tasks))
+
+-- Why commands have no plan. Where a slot has no node, each command means something.
+abbrev pub IsPlanFault : Registrations → Ranges → List (List (List ℕ)) → PipelineFault → Type 0
+IsPlanFault registered ranges commands (NotRoutable number) =
+    IsFirstMeaningless registered commands number
+IsPlanFault registered ranges commands (NotCovered number slot) =
+    (tasks : List Task) × AreTasksOf registered commands tasks
+    × IsFirstUncovered ranges (map slots_of_task tasks) number slot
+IsPlanFault registered ranges commands Memory = Unit {0}

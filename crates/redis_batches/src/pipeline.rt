@@ -1,0 +1,148 @@
+ghost use Rattle.std.specs.Prelude.{◌≡◌, ℕ, List, Some, true, false, length, map, option_map, slice_get, slice_set, IfOk, OnOk, IfErr};
+ghost use Rattle.std.specs.List.{All};
+ghost use Rattle.redis_cluster.specs.Orders.{in_order};
+ghost use Rattle.redis_batches.specs.Pipeline.{Answer};
+ghost use Rattle.redis_batches.specs.Batched.{AreFor, IsRight};
+ghost use Rattle.redis_batches.specs.PipelinePlan.{IsPlanFault, IsPlanOfCommands};
+ghost use Rattle.redis_batches.specs.Plan.{IsPlan};
+
+use crate::fault::PipelineFault;
+use crate::parts::{Placed, parts_of};
+use crate::plan::BatchPlan;
+use crate::task::{CommandTask, tasks_of};
+use cluster_map::SlotMap;
+use cluster_slots::NodeAddress;
+use redis_routing::Registry;
+use resp_core::{Cmd, RedisError, Value};
+use std::alloc::{AllocError, Global};
+use std::marker::Model;
+
+/// A pipeline of commands in batches, one for each node, with room for the answers. It sends
+/// nothing: a client with connections of its own sends each `batch` to its `node`, at once or in any
+/// order, and tells the answers as they come.
+///
+/// Each command either keeps to one slot, and goes out whole, or is one of those over many keys, and
+/// goes out as a part for each of its slots.
+#[derive(Drop)]
+pub struct PipelinePlan<'a> {
+    tasks: Vec<CommandTask<'a>>,
+    batches: BatchPlan<'a>,
+}
+
+impl<'a> Model for PipelinePlan<'a> {
+    ghost use Rattle.std.specs.Prelude.{map};
+    ghost use Rattle.std.specs.Coded.{codes};
+    ghost use Rattle.resp_core.specs.contracts.value.Value as value;
+    ghost use Rattle.redis_batches.specs.CommandTask.{split_in};
+    ghost use Rattle.redis_batches.specs.PipelinePlan.{HasParts, PipelineBatches};
+
+    ghost Value = { PipelineBatches };
+
+    ghost coded = { Prim.hlevel (codes, value.the_row.coded) };
+
+    ghost view = { λ p. record { splits = map split_in p.tasks.items; batches = p.batches } };
+
+    ghost invariant = { λ p. HasParts (record {
+      splits = map split_in p.tasks.items;
+      batches = p.batches;
+    }) };
+}
+
+impl<'a> PipelinePlan<'a> {
+    /// Plans commands, by the names that are registered beside those of the tables. Each part goes to
+    /// the primary of its slot. Of `SET a 1`, `SET b 2`, `MGET b a`, where n2 serves the slot of `a`
+    /// and n1 that of `b`, the batches are `SET a 1`, `MGET a` for n2, and `SET b 2`, `MGET b` for n1.
+    ///
+    /// # Errors
+    ///
+    /// In this order: `NotRoutable` for the first command that goes to no single slot and is not
+    /// split by slot, as `PING` and `DBSIZE`. `NotCovered` for the first slot, in the order of the
+    /// commands and of the routes of each, that has no node. `Memory` where memory ran out.
+    pub fn new(
+        alloc: Global,
+        commands: &'a [Cmd],
+        registry: &Registry,
+        slot_map: &'a SlotMap,
+    ) -> Result<Self, PipelineFault>
+        ensures plan { IfOk result (λ plan.
+            IsPlanOfCommands registry.now slot_map.now commands.now plan) }
+        ensures untold { IfOk result (λ plan. All (λ told. told ≡ false) plan.batches.told) }
+        ensures fault { IfErr result (λ fault.
+            IsPlanFault registry.now slot_map.now commands.now fault) }
+    {
+        // Its ranges ascend, so that a slot has one node.
+        let _ranges = slot_map.values();
+        let tasks = tasks_of(alloc, commands, registry)?;
+        let Placed { parts, nodes } = parts_of(alloc, tasks.as_slice(), slot_map)?;
+        let batches = BatchPlan::new(alloc, parts, nodes.as_slice())?;
+        Ok(PipelinePlan { tasks, batches })
+    }
+
+    /// How many batches there are.
+    pub fn len(&self) -> usize
+        ensures len { result ≡ length self.now.batches.places }
+        ensures plan { IsPlan self.now.batches }
+    {
+        self.batches.len()
+    }
+
+    /// The node that a batch goes to, where there is such a batch.
+    pub fn node(&self, number: usize) -> Option<&'a NodeAddress>
+        ensures node { option_map (λ node. node.now) result
+            ≡ slice_get self.now.batches.nodes number }
+        ensures plan { IsPlan self.now.batches }
+    {
+        self.batches.node(number)
+    }
+
+    /// The commands of a batch, in the order in which its node is to take them, where there is such a
+    /// batch.
+    ///
+    /// # Errors
+    ///
+    /// If memory runs out.
+    pub fn batch(&self, alloc: Global, number: usize) -> Result<Option<Vec<&Cmd>>, AllocError>
+        ensures { IfOk result (λ batch. option_map (λ v. map (λ part. part.now) v.items) batch
+            ≡ option_map (in_order self.now.batches.parts)
+            (slice_get self.now.batches.places number)) }
+    {
+        self.batches.batch(alloc, number)
+    }
+
+    /// Tells the answers to the commands of a batch, in their order. No memory is taken. An error is
+    /// an answer, too.
+    ///
+    /// # Errors
+    ///
+    /// Gives the answers back where there is no such batch, its answers were told before, or there
+    /// are not as many as commands.
+    pub fn tell(
+        &mut self,
+        number: usize,
+        answers: Vec<Result<Value, RedisError>>,
+    ) -> Result<(), Vec<Result<Value, RedisError>>>
+        ensures first { OnOk result (slice_get self.old.batches.told number ≡ Some false) }
+        ensures told { OnOk result
+            (self.new.batches.told ≡ slice_set self.old.batches.told number true) }
+        ensures same { (self.new.splits ≡ self.old.splits)
+            × (self.new.batches.nodes ≡ self.old.batches.nodes)
+            × (self.new.batches.places ≡ self.old.batches.places)
+            × (self.new.batches.parts ≡ self.old.batches.parts)
+            × (length self.new.batches.answers ≡ length self.old.batches.answers) }
+        ensures right { OnOk result ((all : List Answer) (places : List ℕ)
+            → slice_get self.old.batches.places number ≡ Some places
+            → AreFor all places answers.items
+            → All (IsRight self.new.batches.answers all) places) }
+        ensures others { OnOk result ((all : List Answer) (places : List ℕ)
+            → slice_get self.old.batches.places number ≡ Some places
+            → AreFor all places answers.items → (place : ℕ)
+            → IsRight self.old.batches.answers all place
+            → IsRight self.new.batches.answers all place) }
+        ensures back { IfErr result (λ back. (back ≡ answers) × (self.new ≡ self.old)
+            × (slice_get self.old.batches.told number ≡ Some false → (places : List ℕ)
+            → slice_get self.old.batches.places number ≡ Some places
+            → length answers.items ≡ length places → ⊥)) }
+    {
+        self.batches.tell(number, answers)
+    }
+}
