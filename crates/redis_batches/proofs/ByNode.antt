@@ -1,14 +1,16 @@
 -- Parts are numbered by their nodes, and the places of each number are a batch.
-use Rattle.std.proofs.Common.{◌≡◌, ◌<◌, ◌≤◌, ℕ, ◌+◌, zero, suc, List, [], ◌∷◌, ◌++◌, true, false, cond, Some, All, refl, sym, ap, subst, ◌∙◌, arith, filter, map, length, take, drop, get_or, option_map}
+use Rattle.std.proofs.Common.{◌≡◌, ◌<◌, ◌≤◌, ℕ, ◌+◌, zero, suc, List, [], ◌∷◌, ◌++◌, true, false, cond, Option, None, Some, MatchOption, Bor, All, refl, sym, ap, subst, ◌∙◌, arith, filter, map, length, take, drop, get_or, option_map}
 use Rattle.std.specs.Prelude.{nat_eq, slice_get, slice_set}
-use Rattle.std.specs.List.{enumerate_from}
+use Rattle.std.specs.List.{enumerate_from, list_any}
 use Rattle.std.proofs.lemmas.Bool.{eqb-true}
 use Rattle.std.proofs.lemmas.Bool.Decides.{nat_tests}
 use Rattle.std.proofs.lemmas.List.{append-nil, length_push, map_push, length-map, length-take-le, take_more}
 use Rattle.std.proofs.lemmas.List.Elements.{filter-append, All-nil, All-cons, All-head, All-tail, All-append}
 use Rattle.std.proofs.lemmas.Option.{same_Some, slice_get-map}
 use Rattle.cluster_slots.specs.Address.{Address, same_address}
-use Rattle.cluster_slots.proofs.Orders.{address_decides}
+use Rattle.cluster_slots.proofs.Orders.{address_decides, same_from_address}
+use Rattle.cluster_map.proofs.Groups.{same_sym}
+use Rattle.cluster_map.proofs.Members.{added_more}
 use Rattle.resp_core.proofs.Cases.{by_test}
 use Rattle.redis_routing.specs.Registry.{Registrations}
 use Rattle.redis_batches.specs.Pipeline.{Planned, Part, pieces}
@@ -17,7 +19,7 @@ use Rattle.redis_batches.specs.Taken.{task_of}
 use Rattle.redis_batches.specs.Plan.{Batches, IsByNode}
 use Rattle.redis_batches.proofs.Sends.{all_unmap, numbers_below}
 use Rattle.redis_batches.proofs.Putting.{set_here, set_there, get_front, get_last}
-use Rattle.redis_batches.specs.Grouped.{AreNumbered, index_of, places_in}
+use Rattle.redis_batches.specs.Grouped.{AreNumbered, index_of, number_in, places_in}
 
 -- an address is itself
 pub own_address : (a : Address) → same_address a a ≡ true
@@ -69,10 +71,35 @@ index_last node (first ∷ nodes) same none =
     (λ other. index_next node first (nodes ++ node ∷ []) other
     ∙ ap (λ n. n + 1) (index_last node nodes same (omega (arith, none, index_next node first nodes other))) ∙ omega arith)
 
+-- a node that is no last one, and not there, is behind it
+index_behind : (node last : Address) (nodes : List Address) → same_address last node ≡ false → index_of node nodes ≡ length nodes → index_of node (nodes ++ last ∷ []) ≡ length nodes + 1
+index_behind node last [] other none = index_next node last [] other
+index_behind node last (first ∷ nodes) other none =
+    by_test (same_address first node)
+    (λ here. absurd (omega (arith, none, index_here node first nodes here)))
+    (λ away. index_next node first (nodes ++ last ∷ []) away
+    ∙ ap (λ n. n + 1) (index_behind node last nodes other (omega (arith, none, index_next node first nodes away))) ∙ omega arith)
+
+-- whether a node is there, by its number
+is_listed : (node : Address) (nodes : List Address) → index_of node nodes < length nodes → list_any (same_address node) nodes ≡ true
+is_listed node [] there = absurd (omega arith)
+is_listed node (first ∷ nodes) there =
+    by_test (same_address first node)
+    (λ here. rw (same_sym node first ∙ here) refl)
+    (λ other. rw (same_sym node first ∙ other) (is_listed node nodes (omega (arith, there, index_next node first nodes other))))
+
+not_listed : (node : Address) (nodes : List Address) → index_of node nodes ≡ length nodes → list_any (same_address node) nodes ≡ false
+not_listed node [] none = refl
+not_listed node (first ∷ nodes) none =
+    by_test (same_address first node)
+    (λ here. absurd (omega (arith, none, index_here node first nodes here)))
+    (λ other. rw (same_sym node first ∙ other) (not_listed node nodes (omega (arith, none, index_next node first nodes other))))
+
 -- a node that was found before
 pub numbered_known : (nodes found : List Address) (numbers : List ℕ) (node : Address) → AreNumbered nodes found numbers → index_of node found < length found
     → AreNumbered (nodes ++ node ∷ []) found (numbers ++ index_of node found ∷ [])
 numbered_known nodes found numbers node are there = record {
+  once = sym (ap (λ b. cond b found (found ++ node ∷ [])) (is_listed node found there)) ∙ added_more nodes (node ∷ []) found are.once;
   numbers_are = ap (λ l. l ++ index_of node found ∷ []) are.numbers_are ∙ sym (map_push (λ n. index_of n found) nodes node);
   below = All-append (λ k. k < length found) numbers (index_of node found ∷ []) are.below (All-cons (λ k. k < length found) (index_of node found) [] there (All-nil (λ k. k < length found)));
 }
@@ -91,6 +118,7 @@ pub numbered_new : (nodes found : List Address) (numbers : List ℕ) (node : Add
 numbered_new nodes found numbers node same are none =
     let long : length (found ++ node ∷ []) ≡ length found + 1 = length_push found node in
     record {
+      once = sym (ap (λ b. cond b found (found ++ node ∷ [])) (not_listed node found none)) ∙ added_more nodes (node ∷ []) found are.once;
       numbers_are =
           ap (λ l. l ++ index_of node found ∷ []) (are.numbers_are ∙ sym (stay nodes found node (subst (All (λ k. k < length found)) are.numbers_are are.below)))
           ∙ ap (λ n. map (λ m. index_of m (found ++ node ∷ [])) nodes ++ n ∷ []) (none ∙ sym (index_last node found same none))
@@ -210,3 +238,47 @@ by_node_batches registered ps batches nodes node_of by_slot tasks long is =
           (subst (All (λ n. n < length batches.places)) numbers (λ j d inside. omega (arith, long, is.numbered.below j d inside)));
       places_are = λ k below. is.places k (omega (arith, below, long)) ∙ ap Some (places_are_batch ps batch is.numbers numbers k);
     }
+
+-- the number in a tree is that of the node, and nodes that it doesn't have are not there
+abbrev pub HasNumber : List Address → Address → Option ℕ → Type 0
+HasNumber found node number = MatchOption number (index_of node found ≡ length found) (λ k. (k ≡ index_of node found) × (k < length found))
+
+abbrev pub HasNumbers : List (Bor Address × ℕ) → List Address → Type 0
+HasNumbers entries found = (node : Bor Address) → HasNumber found node.now (number_in entries node.now)
+
+-- what was found in it or is next is the node's number
+pub number_is : (found : List Address) (node : Address) (there : Option ℕ) (number next : ℕ) → HasNumber found node there → next ≡ length found → MatchOption there (number ≡ next) (λ k. number ≡ k) → number ≡ index_of node found
+number_is found node None number next has is same = same ∙ is ∙ sym has
+number_is found node (Some k) number next has is same = same ∙ has.0
+
+module _ (found : List Address) (node : Address) (number : ℕ) (old new : Option ℕ) (other : Address) (told : new ≡ cond (same_address node other) (Some number) old) (has : HasNumber found other old) (is : number ≡ index_of node found) where
+  -- a node that was there
+  number_known : number < length found → HasNumber found other new
+  number_known there =
+      by_test (same_address node other)
+      (λ same. subst (HasNumber found other) (sym (told ∙ ap (λ b. cond b (Some number) old) same)) (is ∙ ap (λ a. index_of a found) (same_from_address node other same), there))
+      (λ away. subst (HasNumber found other) (sym (told ∙ ap (λ b. cond b (Some number) old) away)) has)
+
+  -- and one that is new
+  number_new : number ≡ length found → HasNumber (found ++ node ∷ []) other new
+  number_new none =
+      let longer : List Address = found ++ node ∷ [] in
+      let long : length longer ≡ length found + 1 = length_push found node in
+      by_test (same_address node other)
+      (λ same.
+      let last : index_of other longer ≡ length found = ap (λ a. index_of a longer) (sym (same_from_address node other same)) ∙ index_last node found (own_address node) (sym is ∙ none) in
+      subst (HasNumber longer other) (sym (told ∙ ap (λ b. cond b (Some number) old) same)) (none ∙ sym last, omega (arith, none, long)))
+      (λ away. subst (HasNumber longer other) (sym (told ∙ ap (λ b. cond b (Some number) old) away)) (kept_number old away has))
+    where
+      kept_number : (o : Option ℕ) → same_address node other ≡ false → HasNumber found other o → HasNumber (found ++ node ∷ []) other o
+      kept_number None away absent = index_behind other node found away absent ∙ sym (length_push found node)
+      kept_number (Some k) away there = (there.0 ∙ sym (index_stays other node found (subst (λ n. n < length found) there.0 there.1)), omega (arith, there.1, length_push found node))
+
+-- as the loop has it
+pub numbers_known : (old new : List (Bor Address × ℕ)) (found : List Address) (node : Bor Address) (number : ℕ) → ((other : Bor Address) → number_in new other.now ≡ cond (same_address node.now other.now) (Some number) (number_in old other.now))
+    → number ≡ index_of node.now found → number < length found → HasNumbers old found → HasNumbers new found
+numbers_known old new found node number told is there has = λ other. number_known found node.now number (number_in old other.now) (number_in new other.now) other.now (told other) (has other) is there
+
+pub numbers_new : (old new : List (Bor Address × ℕ)) (found : List Address) (node : Bor Address) (number : ℕ) → ((other : Bor Address) → number_in new other.now ≡ cond (same_address node.now other.now) (Some number) (number_in old other.now))
+    → number ≡ index_of node.now found → number ≡ length found → HasNumbers old found → HasNumbers new (found ++ node.now ∷ [])
+numbers_new old new found node number told is none has = λ other. number_new found node.now number (number_in old other.now) (number_in new other.now) other.now (told other) (has other) is none

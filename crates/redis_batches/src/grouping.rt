@@ -1,11 +1,15 @@
-ghost use Rattle.std.specs.Prelude.{◌≡◌, ◌<◌, ℕ, Some, IfOk, length, map, slice_get};
+ghost use denote.Ref.{Bor};
+ghost use Rattle.std.specs.Prelude.{◌≡◌, ◌<◌, ℕ, Some, IfOk, MatchOption, cond, length, map, slice_get};
 ghost use Rattle.std.specs.List.{All};
-ghost use Rattle.redis_batches.specs.Grouped.{AreNumbered, index_of, places_in};
+ghost use Rattle.cluster_slots.specs.Address.{Address, same_address};
+ghost use Rattle.redis_batches.specs.Grouped.{AreNumbered, number_in, places_in};
 
 use cluster_slots::NodeAddress;
 use std::alloc::{AllocError, Global};
+use std::collections::BTreeMap;
 
 /// The nodes of parts, each once, by first appearance, and for each part the number of its node.
+/// Each is found in a tree, so that for many nodes, whatever their hosts, the time is near linear.
 pub(super) fn number_nodes<'a>(
     alloc: Global,
     nodes: &[&'a NodeAddress],
@@ -14,9 +18,10 @@ pub(super) fn number_nodes<'a>(
         (map (λ node. node.now) found.0.items) found.1.items) }
 {
     let mut targets: Vec<&'a NodeAddress> = Vec::new(alloc);
+    let mut known: BTreeMap<&'a NodeAddress, usize> = BTreeMap::new(alloc);
     let mut numbers = Vec::with_capacity(alloc, nodes.len())?;
     for node in nodes {
-        let number = index_of(targets.as_slice(), *node);
+        let number = number_of(&mut known, *node, targets.len())?;
         if number == targets.len() {
             targets.push(*node)?;
         }
@@ -25,16 +30,26 @@ pub(super) fn number_nodes<'a>(
     Ok((targets, numbers))
 }
 
-/// The number of the first of these nodes that is this one, or else how many they are.
-fn index_of(targets: &[&NodeAddress], node: &NodeAddress) -> usize
-    ensures { result ≡ index_of node.now (map (λ target. target.now) targets.now) }
+/// The number that a tree has for a node, or else this next one, which it has for it then.
+fn number_of<'a>(
+    known: &mut BTreeMap<&'a NodeAddress, usize>,
+    node: &'a NodeAddress,
+    next: usize,
+) -> Result<usize, AllocError>
+    ensures number { IfOk result (λ number. MatchOption (number_in known.old.entries node.now)
+        (number ≡ next) (λ there. number ≡ there)) }
+    ensures told { IfOk result (λ number. (other : Bor Address)
+        → number_in known.new.entries other.now
+        ≡ cond (same_address node.now other.now) (Some number)
+        (number_in known.old.entries other.now)) }
 {
-    for (number, target) in targets.iter().enumerate() {
-        if **target == *node {
-            return number;
+    match known.get(&node).copied() {
+        Some(number) => Ok(number),
+        None => {
+            known.insert(node, next)?;
+            Ok(next)
         }
     }
-    targets.len()
 }
 
 /// For each number below `count` the places at which it stands, in order.
