@@ -13,8 +13,8 @@ pub mod Round
 pub mod OneServer
 pub mod Commands
 pub mod Placing
-pub mod Planning
 pub mod Answered
 pub mod PutBack
 pub mod ServerReplies
 pub mod Untouched
+pub mod Planning

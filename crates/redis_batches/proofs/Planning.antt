@@ -1,5 +1,5 @@
 -- The plan of a pipeline over commands: what its parts mean, and the one node of each slot.
-use Rattle.std.proofs.Common.{◌≡◌, ◌≤◌, ◌+◌, ℕ, zero, suc, List, [], ◌∷◌, ◌++◌, Bool, true, false, cond, None, Some, All, refl, sym, ap, subst, ◌∙◌, arith, map, length, get_or}
+use Rattle.std.proofs.Common.{◌≡◌, ◌≤◌, ◌+◌, ℕ, zero, suc, List, [], ◌∷◌, ◌++◌, Bool, true, false, cond, Some, All, refl, sym, ap, subst, ◌∙◌, arith, map, length, get_or}
 use Rattle.std.specs.Prelude.{nat_eq}
 use Rattle.std.specs.List.{AllZip, flat_map, list_any, sum_by}
 use Rattle.std.proofs.lemmas.Bool.{eqb-true}
@@ -24,7 +24,7 @@ use Rattle.redis_cluster.proofs.Counts.{same_number}
 use Rattle.redis_batches.specs.Pipeline.{AreSlotsOf, HasSlots, Part, Planned, Task, over_keys, in_slot, parts_of}
 use Rattle.redis_batches.specs.Batched.{AreBatches}
 use Rattle.redis_batches.specs.Taken.{slot_routed, task_of, task_with}
-use Rattle.redis_batches.specs.Tasks.{IsSplitAs, IsSplitOfTask, slots_of_task, with_slots}
+use Rattle.redis_batches.specs.Tasks.{IsSplitOfTask, slots_of_task, with_slots}
 use Rattle.redis_batches.specs.CommandTask.{IsKeptOf, IsTaskFor, SlotPart, slot_parts, slots_kept, split_in, split_parts}
 use Rattle.redis_batches.specs.Pipelined.{IsTaskFault}
 use Rattle.redis_batches.specs.Placed.{ArePlaced, IsPartFault, IsPrimaryOf, Ranges}
@@ -37,6 +37,7 @@ use Rattle.redis_batches.specs.declared.task.CommandTask.{CommandTask}
 use Rattle.redis_batches.specs.declared.task.CommandTask.TheVariants.{InSlot, OverKeys}
 use Rattle.redis_batches.proofs.ByNode.{by_node_batches}
 use Rattle.redis_batches.proofs.Commands.{tasks_from}
+use Rattle.redis_batches.proofs.ServerReplies.{splits_of_kept}
 
 -- what is sent is the part of the pipeline
 abbrev IsPartOf : Registrations → SlotPart → Part → Type 0
@@ -139,17 +140,6 @@ same_nodes ranges ascends node (q ∷ qs) [] each all = absurd each
 same_nodes ranges ascends node (q ∷ qs) (n ∷ nodes) each all =
     ap (λ m. m ∷ nodes) (one_primary ranges ascends q.slot n (node q.slot) each.0 (All-head (λ r. IsPrimaryOf ranges r.slot (node r.slot)) q qs all))
     ∙ ap (λ l. node q.slot ∷ l) (same_nodes ranges ascends node qs nodes each.1 (All-tail (λ r. IsPrimaryOf ranges r.slot (node r.slot)) q qs all))
-
--- the splits of commands
-split_of_kept : (registered : Registrations) (task : Task) (kept : CommandTask) → IsKeptOf registered task kept → IsSplitAs registered (split_in kept) task
-split_of_kept registered task (InSlot slot command) is = subst (IsSplitAs registered None) (sym is.0) tt
-split_of_kept registered task (OverKeys split) is = subst (IsSplitAs registered (Some split)) (sym is.1) is.2
-
-splits_of_kept : (registered : Registrations) (tasks : List Task) (kept : List CommandTask) → AllZip (IsKeptOf registered) tasks kept → AllZip (IsSplitAs registered) (map split_in kept) tasks
-splits_of_kept registered [] [] each = tt
-splits_of_kept registered [] (k ∷ kept) each = absurd each
-splits_of_kept registered (t ∷ tasks) [] each = absurd each
-splits_of_kept registered (t ∷ tasks) (k ∷ kept) each = (split_of_kept registered t k each.0, splits_of_kept registered tasks kept each.1)
 
 -- their slots
 slots_of_kept : (registered : Registrations) (task : Task) (kept : CommandTask) → IsKeptOf registered task kept → slots_kept kept ≡ slots_of_task task

@@ -1,12 +1,12 @@
 -- The plan of a pipeline over commands.
 use Rattle.std.specs.Prelude.{◌≡◌, ℕ, List, Option, Some, map, length}
-use Rattle.std.specs.List.{All, AllZip, sum_by}
+use Rattle.std.specs.List.{All, sum_by}
 use Rattle.cluster_slots.specs.Address.{Address}
 use Rattle.redis_routing.specs.Registry.{Registrations}
 use Rattle.redis_routing.specs.Split.{Split}
 use Rattle.redis_batches.specs.Pipeline.{Part, Task, pieces}
 use Rattle.redis_batches.specs.Taken.{task_of}
-use Rattle.redis_batches.specs.Tasks.{AreTasksOf, IsSplitAs, slots_of_task, with_slots}
+use Rattle.redis_batches.specs.Tasks.{AreSplitsOf, AreTasksOf, slots_of_task, with_slots}
 use Rattle.redis_batches.specs.Pipelined.{IsFirstMeaningless}
 use Rattle.redis_batches.specs.Placed.{IsFirstUncovered, IsPrimaryOf, Ranges}
 use Rattle.redis_batches.specs.Plan.{Batches, IsByNode}
@@ -33,7 +33,7 @@ pub record IsPlanOfCommands (registered : Registrations) (ranges : Ranges)
     (commands : List (List (List ℕ))) (plan : PipelineBatches) : Type 0 where
   pub tasks : List Task
   pub tasks_are : AreTasksOf registered commands tasks
-  pub splits_are : AllZip (IsSplitAs registered) plan.splits tasks
+  pub splits_are : AreSplitsOf registered plan.splits tasks
   pub parts_are : map (task_of registered) plan.batches.parts
       ≡ map (λ q. Some q.task) (pieces_of tasks)
   pub node_of : ℕ → Address

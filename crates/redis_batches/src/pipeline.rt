@@ -1,19 +1,25 @@
-ghost use Rattle.std.specs.Prelude.{◌≡◌, ℕ, List, Some, true, false, length, map, option_map, slice_get, slice_set, IfOk, OnOk, IfErr};
-ghost use Rattle.std.specs.List.{All};
+ghost use Rattle.std.specs.Prelude.{◌≡◌, ◌⊎◌, ℕ, List, Some, true, false, length, map, option_map, slice_get, slice_set, IfOk, OnOk, IfErr};
+ghost use Rattle.std.specs.List.{All, list_all};
+ghost use Rattle.std.specs.Result.{IsErrAnd};
+ghost use Rattle.resp_core.specs.declared.error.ErrorKind.TheVariants.{Client, OutOfMemory};
 ghost use Rattle.redis_cluster.specs.Orders.{in_order};
 ghost use Rattle.redis_batches.specs.Pipeline.{Answer};
 ghost use Rattle.redis_batches.specs.Batched.{AreFor, IsRight};
-ghost use Rattle.redis_batches.specs.PipelinePlan.{IsPlanFault, IsPlanOfCommands};
+ghost use Rattle.redis_batches.specs.CommandTask.{split_in};
+ghost use Rattle.redis_batches.specs.PipelinePlan.{HasParts, IsPlanFault, IsPlanOfCommands};
 ghost use Rattle.redis_batches.specs.Plan.{IsPlan};
+ghost use Rattle.redis_batches.specs.Replies.{AreRepliesTo};
+ghost use Rattle.redis_batches.specs.Taken.{answer_of};
 
 use crate::fault::PipelineFault;
 use crate::parts::{Placed, parts_of};
 use crate::plan::BatchPlan;
+use crate::replies::replies_of;
 use crate::task::{CommandTask, tasks_of};
 use cluster_map::SlotMap;
 use cluster_slots::NodeAddress;
 use redis_routing::Registry;
-use resp_core::{Cmd, RedisError, Value};
+use resp_core::{Cmd, RedisError, RedisResult, Value};
 use std::alloc::{AllocError, Global};
 use std::marker::Model;
 
@@ -144,5 +150,36 @@ impl<'a> PipelinePlan<'a> {
             → length answers.items ≡ length places → ⊥)) }
     {
         self.batches.tell(number, answers)
+    }
+
+    /// The reply to each command, in the order of the commands, once each batch was told: its own
+    /// answer, or the one reply that those to its parts make, or the error of its first part that has
+    /// one.
+    ///
+    /// # Errors
+    ///
+    /// Of kind `Client` where a batch was not told, and `OutOfMemory`.
+    pub fn combine(self, alloc: Global) -> RedisResult<Vec<Result<Value, RedisError>>>
+        ensures replies { IfOk result (λ replies. AreRepliesTo self.entry.splits
+            (map answer_of self.entry.batches.answers) (map answer_of replies.items)) }
+        ensures all { OnOk result (list_all (λ told. told) self.entry.batches.told ≡ true) }
+        ensures untold { list_all (λ told. told) self.entry.batches.told ≡ false
+            → IsErrAnd result (λ error. error.kind ≡ Client) }
+        ensures error { IfErr result (λ error. (error.kind ≡ OutOfMemory)
+            ⊎ ((error.kind ≡ Client)
+            × (list_all (λ told. told) self.entry.batches.told ≡ false))) }
+    {
+        let PipelinePlan { tasks, batches } = self;
+        let answers = batches.finish()?;
+        replies_of(alloc, tasks.as_slice(), answers)
+    }
+
+    /// What is kept of each command, and the batches.
+    pub(super) fn into_parts(self) -> (Vec<CommandTask<'a>>, BatchPlan<'a>)
+        ensures splits { map split_in result.0.items ≡ self.entry.splits }
+        ensures batches { result.1 ≡ self.entry.batches }
+        ensures parts { HasParts self.entry }
+    {
+        (self.tasks, self.batches)
     }
 }

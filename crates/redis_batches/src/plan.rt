@@ -170,6 +170,8 @@ impl<'a> BatchPlan<'a> {
         ensures untold { list_all (λ told. told) self.entry.told ≡ false
             → IsErrAnd result (λ error. error.kind ≡ Client) }
         ensures error { IfErr result (λ error. error.kind ≡ Client) }
+        ensures only { IfErr result (λ error. list_all (λ told. told) self.entry.told ≡ false) }
+        ensures long { IfOk result (λ answers. length answers.items ≡ length self.entry.parts) }
     {
         let BatchPlan {
             targets: _,
@@ -182,6 +184,13 @@ impl<'a> BatchPlan<'a> {
             return Err(RedisError::from((ErrorKind::Client, "a batch has no answers")));
         }
         Ok(answers)
+    }
+
+    /// The answer to each part, and nil where none was told.
+    pub(super) fn into_answers(self) -> Vec<Result<Value, RedisError>>
+        ensures answers { result.items ≡ self.entry.answers }
+    {
+        self.answers
     }
 }
 

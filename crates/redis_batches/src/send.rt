@@ -67,6 +67,7 @@ pub fn send_batches<N: BatchNodes>(
         (state (N.keyspace nodes.old) (N.trace nodes.old) (N.mark nodes.old))
         (state (N.keyspace nodes.new) (N.trace nodes.new) (N.mark nodes.new)) stop.error) }
     ensures within { IfErr result (λ stop. stop.answered < length order.now) }
+    ensures room { length plan.new.answers ≡ length plan.old.parts }
     ensures kept { N.kept nodes.new → N.kept nodes.old }
     ensures may_refuse { (count : ℕ) (ending : Ending) → N.may_refuse nodes.new count ending
         ↔ N.may_refuse nodes.old count ending }
