@@ -282,3 +282,20 @@ numbers_known old new found node number told is there has = λ other. number_kno
 pub numbers_new : (old new : List (Bor Address × ℕ)) (found : List Address) (node : Bor Address) (number : ℕ) → ((other : Bor Address) → number_in new other.now ≡ cond (same_address node.now other.now) (Some number) (number_in old other.now))
     → number ≡ index_of node.now found → number ≡ length found → HasNumbers old found → HasNumbers new (found ++ node.now ∷ [])
 numbers_new old new found node number told is none has = λ other. number_new found node.now number (number_in old other.now) (number_in new other.now) other.now (told other) (has other) is none
+
+-- the batch of a slot is the number of its node
+pub batch_by_node : (registered : Registrations) (ps : List Planned) (batches : Batches) (nodes : List Address) (node_of : ℕ → Address) (by_slot : nodes ≡ map (λ q. node_of q.slot) (pieces ps))
+    (tasks : map (task_of registered) batches.parts ≡ map (λ q. Some q.task) (pieces ps)) (long : length batches.places ≡ length batches.nodes) (is : IsByNode batches nodes) (slot : ℕ)
+    → (by_node_batches registered ps batches nodes node_of by_slot tasks long is).batch slot ≡ index_of (node_of slot) batches.nodes
+unfolding by_node_batches
+batch_by_node registered ps batches nodes node_of by_slot tasks long is slot = refl
+
+-- at its number stands the node
+pub node_at_index : (node : Address) (nodes : List Address) (other : Address) → index_of node nodes < length nodes → get_or nodes (index_of node nodes) other ≡ node
+node_at_index node [] other there = absurd (omega arith)
+node_at_index node (first ∷ nodes) other there =
+    by_test (same_address first node)
+    (λ here. ap (λ i. get_or (first ∷ nodes) i other) (index_here node first nodes here) ∙ same_from_address first node here)
+    (λ away.
+    let next : index_of node (first ∷ nodes) ≡ suc (index_of node nodes) = omega (arith, index_next node first nodes away) in
+    ap (λ i. get_or (first ∷ nodes) i other) next ∙ node_at_index node nodes other (omega (arith, there, next)))

@@ -18,3 +18,4 @@ pub mod PutBack
 pub mod ServerReplies
 pub mod Untouched
 pub mod Planning
+pub mod Driving

@@ -1,5 +1,5 @@
 -- The plan of a pipeline over commands: what its parts mean, and the one node of each slot.
-use Rattle.std.proofs.Common.{◌≡◌, ◌≤◌, ◌+◌, ℕ, zero, suc, List, [], ◌∷◌, ◌++◌, Bool, true, false, cond, Some, All, refl, sym, ap, subst, ◌∙◌, arith, map, length, get_or}
+use Rattle.std.proofs.Common.{◌≡◌, ◌<◌, ◌≤◌, ◌+◌, ℕ, zero, suc, List, [], ◌∷◌, ◌++◌, Bool, true, false, cond, Some, All, refl, sym, ap, subst, ◌∙◌, arith, map, length, get_or}
 use Rattle.std.specs.Prelude.{nat_eq}
 use Rattle.std.specs.List.{AllZip, flat_map, list_any, sum_by}
 use Rattle.std.proofs.lemmas.Bool.{eqb-true}
@@ -35,7 +35,9 @@ use Rattle.redis_batches.specs.declared.fault.PipelineFault.{PipelineFault}
 use Rattle.redis_batches.specs.declared.fault.PipelineFault.TheVariants.{NotRoutable, NotCovered, Memory}
 use Rattle.redis_batches.specs.declared.task.CommandTask.{CommandTask}
 use Rattle.redis_batches.specs.declared.task.CommandTask.TheVariants.{InSlot, OverKeys}
-use Rattle.redis_batches.proofs.ByNode.{by_node_batches}
+use Rattle.redis_batches.specs.Grouped.{index_of}
+use Rattle.redis_batches.specs.Driven.{node_at}
+use Rattle.redis_batches.proofs.ByNode.{batch_by_node, by_node_batches, node_at_index}
 use Rattle.redis_batches.proofs.Commands.{tasks_from}
 use Rattle.redis_batches.proofs.ServerReplies.{splits_of_kept}
 
@@ -249,3 +251,16 @@ pub plan_has_batches : (registered : Registrations) (ranges : Ranges) (commands 
     → AreBatches registered (map with_slots is.tasks) plan.batches.parts plan.batches.places
 plan_has_batches registered ranges commands plan whole is =
     by_node_batches registered (map with_slots is.tasks) plan.batches (map (λ q. is.node_of q.slot) (pieces_of is.tasks)) is.node_of refl is.parts_are (sym whole.nodes) is.by_node
+
+-- The batch of a part's slot goes to the node of the slot.
+pub own_nodes : (registered : Registrations) (ranges : Ranges) (commands : List (List (List ℕ))) (plan : PipelineBatches) (whole : IsPlan plan.batches) (is : IsPlanOfCommands registered ranges commands plan)
+    → All (λ q. node_at plan.batches.nodes ((plan_has_batches registered ranges commands plan whole is).batch q.slot) ≡ is.node_of q.slot) (pieces_of is.tasks)
+unfolding plan_has_batches
+own_nodes registered ranges commands plan whole is =
+    let nodes = plan.batches.nodes in
+    let batches = plan_has_batches registered ranges commands plan whole is in
+    let number : (slot : ℕ) → batches.batch slot ≡ index_of (is.node_of slot) nodes =
+    λ slot. batch_by_node registered (map with_slots is.tasks) plan.batches (map (λ q. is.node_of q.slot) (pieces_of is.tasks)) is.node_of refl is.parts_are (sym whole.nodes) is.by_node slot in
+    All-weaker (λ (q : Part). batches.batch q.slot < length plan.batches.places) (λ q. node_at nodes (batches.batch q.slot) ≡ is.node_of q.slot)
+    (λ q below. ap (node_at nodes) (number q.slot) ∙ node_at_index (is.node_of q.slot) nodes (record { host = []; port = 0 }) (omega (arith, below, number q.slot, whole.nodes)))
+    (pieces_of is.tasks) batches.below

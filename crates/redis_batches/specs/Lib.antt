@@ -13,3 +13,4 @@ pub mod Placed
 pub mod Pipelined
 pub mod Replies
 pub mod PipelinePlan
+pub mod DrivenPipeline

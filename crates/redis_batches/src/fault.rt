@@ -1,5 +1,6 @@
 ghost use Rattle.std.specs.Prelude.{◌≡◌};
 
+use crate::send::Stopped;
 use std::alloc::{AllocError, AllocFailed};
 
 /// Why a pipeline has no plan. Commands are numbered from 0.
@@ -33,4 +34,17 @@ impl<T: Drop> From<AllocFailed<T>> for PipelineFault {
     fn from(_: AllocFailed<T>) -> Self {
         PipelineFault::Memory
     }
+}
+
+/// Why a pipeline was not driven to its end.
+#[derive(Debug, Drop)]
+pub enum PipelineError {
+    /// The commands have no plan, or memory ran out before anything was sent.
+    Plan(PipelineFault),
+    /// The order does not name each batch once. Nothing was sent.
+    BadOrder,
+    /// A batch was not taken. Those before it in the order were, and no later one was sent.
+    Node(Stopped),
+    /// Memory ran out once all batches were taken: the replies are lost.
+    Memory,
 }

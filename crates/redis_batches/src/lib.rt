@@ -2,9 +2,11 @@
 //! that takes the commands one after the other.
 #![tactic(auto)]
 
+mod drive;
 mod fault;
 mod grouping;
 mod nodes;
+mod order;
 mod part;
 mod parts;
 mod pipeline;
@@ -13,7 +15,8 @@ mod replies;
 mod send;
 mod task;
 
-pub use fault::PipelineFault;
+pub use drive::drive_pipeline;
+pub use fault::{PipelineError, PipelineFault};
 pub use nodes::BatchNodes;
 pub use part::PartCommand;
 pub use pipeline::PipelinePlan;

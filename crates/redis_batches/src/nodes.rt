@@ -8,6 +8,7 @@ ghost use Rattle.redis_batches.specs.Taken.{answer_of, AreTasks, IsServedBy, IsT
 
 use cluster_slots::NodeAddress;
 use redis_cluster::driver::SendError;
+use redis_routing::Registry;
 use resp_core::{Cmd, RedisError, Value};
 
 /// Nodes of one cluster, to which commands are sent in batches.
@@ -45,6 +46,10 @@ pub trait BatchNodes {
     /// nothing. For a real client this is a premise; where an `impl` does not write it, its
     /// `send_batch` ensures it always.
     ghost kept: { Self → Type 0 } = { λ _. Unit {0} };
+
+    /// The registered names: a command of one of them may be part of a pipeline, too.
+    fn registry(&self) -> &Registry
+        ensures { result.now ≡ registered self.now };
 
     /// Sends commands to a node, which takes them one after the other, and gives an answer to each,
     /// in their order. That is a reply, an error of the command's own, or the error that the node

@@ -1,0 +1,94 @@
+-- How a pipeline was sent batch by batch, and its replies.
+use Rattle.std.specs.Prelude.{◌≡◌, ◌<◌, ℕ, List, map, length, take}
+use Rattle.std.specs.List.{All}
+use Rattle.redis_routing.specs.Registry.{Registrations}
+use Rattle.redis_cluster.specs.Orders.{NamesOnce}
+use Rattle.redis_cluster.specs.Trace.{Ending}
+use Rattle.redis_cluster.specs.Unsplit.{Step}
+use Rattle.redis_cluster.specs.Driven.{State}
+use Rattle.redis_batches.specs.Turns.{all_after}
+use Rattle.redis_batches.specs.Pipeline.{Answer, Serve, Task, one_server_answers, run}
+use Rattle.redis_batches.specs.Tasks.{AreTasksOf, with_slots}
+use Rattle.redis_batches.specs.Batched.{AreBatches}
+use Rattle.redis_batches.specs.Driven.{IsServed, WasStopped, node_at}
+use Rattle.redis_batches.specs.Placed.{Ranges}
+use Rattle.redis_batches.specs.PipelinePlan.{IsPlanFault, IsPlanOfCommands, PipelineBatches, pieces_of}
+use Rattle.redis_batches.specs.Replies.{AreRepliesTo, AreUntouched}
+use Rattle.redis_batches.specs.declared.fault.PipelineError.{PipelineError}
+use Rattle.redis_batches.specs.declared.fault.PipelineError.TheVariants.{Plan, BadOrder, Node, Memory}
+
+-- A plan of commands can be sent in an order that names each of its batches once. The batch of a
+-- slot goes to the node of the slot.
+pub record IsSendable (registered : Registrations) (ranges : Ranges)
+    (commands : List (List (List ℕ))) (order : List ℕ) (plan : PipelineBatches) : Type 0 where
+  pub of_commands : IsPlanOfCommands registered ranges commands plan
+  pub order_is : NamesOnce (length plan.batches.places) order
+  pub batches : AreBatches registered (map with_slots of_commands.tasks) plan.batches.parts
+      plan.batches.places
+  pub nodes : All
+      (λ q. node_at plan.batches.nodes (batches.batch q.slot) ≡ of_commands.node_of q.slot)
+      (pieces_of of_commands.tasks)
+
+-- One server takes the commands one after the other: keyspace and replies are its own.
+abbrev pub IsOneServer : {C : Type 0} → Step C → Serve C → Registrations → List (List (List ℕ))
+    → (old new : State C) → List Answer → Type 0
+IsOneServer step serve registered commands old new replies =
+    (tasks : List Task) × AreTasksOf registered commands tasks
+    × (new.keyspace ≡ all_after (λ p. run step serve p.task) (map with_slots tasks) old.keyspace)
+    × (replies ≡ one_server_answers step serve (map with_slots tasks) old.keyspace)
+
+-- why nothing is sent: there is no plan, or the order does not name each of its batches once
+abbrev pub IsEarlyFault : Registrations → Ranges → List (List (List ℕ)) → List ℕ → PipelineError
+    → Type 0
+IsEarlyFault registered ranges commands order (Plan fault) =
+    IsPlanFault registered ranges commands fault
+IsEarlyFault registered ranges commands order BadOrder =
+    (plan : PipelineBatches) × IsPlanOfCommands registered ranges commands plan
+    × (NamesOnce (length plan.batches.places) order → ⊥)
+IsEarlyFault registered ranges commands order (Node stop) = ⊥
+IsEarlyFault registered ranges commands order Memory = ⊥
+
+module _ {C : Type 0} (step : Step C) (serve : Serve C) (kept : Type 0)
+    (may_refuse : ℕ → Ending → Type 0) (registered : Registrations) (ranges : Ranges)
+    (commands : List (List (List ℕ))) (order : List ℕ) (old new : State C) where
+  -- The batches of a plan of the commands were all taken, and these are the answers to the parts.
+  pub record AreAllTaken (given : List Answer) : Type 0 where
+    pub plan : PipelineBatches
+    pub sendable : IsSendable registered ranges commands order plan
+    pub served : IsServed step serve kept may_refuse (map with_slots sendable.of_commands.tasks)
+        plan.batches.parts plan.batches.nodes sendable.batches.batch order old new given
+
+  -- And these are the replies to the commands. Where nodes keep to the meaning, a command with no
+  -- refused part has the reply of one server that takes the parts that were not refused.
+  pub record IsPipelineServed (replies : List Answer) : Type 0 where
+    pub given : List Answer
+    pub taken : AreAllTaken given
+    pub replies_are : AreRepliesTo taken.plan.splits given replies
+    pub untouched : kept → AreUntouched step serve taken.served.refusals
+        taken.sendable.of_commands.tasks old.keyspace replies
+
+  -- the batches before the one that was not taken were, or all of them
+  abbrev pub IsLateFault : PipelineError → Type 0
+  IsLateFault (Plan fault) = ⊥
+  IsLateFault BadOrder = ⊥
+  IsLateFault (Node stop) =
+      (plan : PipelineBatches) × (sendable : IsSendable registered ranges commands order plan)
+      × (stop.answered < length order)
+      × WasStopped step serve kept may_refuse (map with_slots sendable.of_commands.tasks)
+      plan.batches.parts plan.batches.nodes sendable.batches.batch (take stop.answered order) old new
+      stop.error
+  IsLateFault Memory = (given : List Answer) × AreAllTaken given
+
+  -- why there are no replies
+  abbrev pub IsPipelineFault : PipelineError → Type 0
+  IsPipelineFault (Plan fault) = IsEarlyFault registered ranges commands order (Plan fault)
+  IsPipelineFault BadOrder = IsEarlyFault registered ranges commands order BadOrder
+  IsPipelineFault (Node stop) = IsLateFault (Node stop)
+  IsPipelineFault Memory = IsLateFault Memory
+
+-- nothing was sent
+abbrev pub IsBeforeSending : PipelineError → Type 0
+IsBeforeSending (Plan fault) = Unit {0}
+IsBeforeSending BadOrder = Unit {0}
+IsBeforeSending (Node stop) = ⊥
+IsBeforeSending Memory = ⊥
