@@ -1,8 +1,9 @@
 -- What is kept of the commands of a pipeline, and what they mean.
 use Rattle.std.proofs.Common.{◌≡◌, ◌<◌, ◌+◌, ℕ, true, List, [], ◌∷◌, ◌++◌, Option, Some, None, All, refl, sym, ap, subst, ◌∙◌, length, map, take, get_or}
-use Rattle.std.specs.List.{AllZip, list_any}
+use Rattle.std.specs.List.{AllZip, flat_map, list_any}
 use Rattle.std.specs.Prelude.{IfSome, nat_eq}
-use Rattle.std.proofs.lemmas.List.{take_more}
+use Rattle.std.proofs.Math.Path.{fun_ext}
+use Rattle.std.proofs.lemmas.List.{map-append, take_more}
 use Rattle.std.proofs.lemmas.List.Elements.{All-map, All-weaker}
 use Rattle.std.proofs.lemmas.Option.{slice_get_read}
 use Rattle.std.proofs.lemmas.Slice.Zip.{all_zipped_more}
@@ -15,17 +16,19 @@ use Rattle.redis_routing.specs.Registry.{Registrations}
 use Rattle.redis_routing.specs.Complete.{multi_slot_routes, pattern_by_name, pattern_of}
 use Rattle.redis_routing.specs.Routing.{routing}
 use Rattle.redis_routing.specs.Split.{Split, IsSplit, split_part, policy_by_name, slots_of}
-use Rattle.redis_cluster.specs.MultiKey.{MultiKey, form_of_policy, multi_key, part_of}
+use Rattle.redis_cluster.specs.MultiKey.{MultiKey, form_of_policy, multi_key, part_by_slot, part_of, slots_in}
 use Rattle.redis_cluster.specs.PlacedTuples.{tuples_of}
+use Rattle.redis_cluster.proofs.CommandParts.{part_by_command}
 use Rattle.redis_cluster.proofs.Constructors.{same_some}
 use Rattle.redis_cluster.proofs.Planned.{joining, part_is}
 use Rattle.redis_cluster.proofs.SplitParts.{command_of_routes, is_made, part_means}
 use Rattle.redis_batches.specs.Pipeline.{Task, over_keys}
 use Rattle.redis_batches.specs.Taken.{slot_routed, task_of, task_with}
-use Rattle.redis_batches.specs.Tasks.{AreTasksOf, IsSplitOfTask}
-use Rattle.redis_batches.specs.CommandTask.{IsKeptOf, IsTaskFor}
+use Rattle.redis_batches.specs.Tasks.{AreTasksOf, IsSplitOfTask, all_arguments, part_arguments}
+use Rattle.redis_batches.specs.CommandTask.{IsKeptOf, IsTaskFor, SlotPart, slot_parts}
 use Rattle.redis_batches.specs.Pipelined.{IsFirstMeaningless}
 use Rattle.redis_batches.specs.declared.task.CommandTask.{CommandTask}
+use Rattle.redis_batches.proofs.ByNode.{map_map}
 use Rattle.redis_batches.specs.declared.task.CommandTask.TheVariants.{OverKeys}
 
 module _ (names : Names) (args : Arguments) (split : Split) (arguments : split.arguments ≡ args) (routes : Some split.routes ≡ multi_slot_routes names args)
@@ -35,6 +38,7 @@ module _ (names : Names) (args : Arguments) (split : Split) (arguments : split.a
 
   -- the command that a split is of
   pub split_of_task : (command : MultiKey) × (multi_key names.registered args ≡ Some command) × IsSplitOfTask names.registered command split
+      × (map (split_part split) (slots_of split.routes) ≡ map (part_by_slot names.registered args) (slots_in command))
   split_of_task =
       let found = command_of_routes names args split.routes (joining names args split policy held) (sym routes) in
       let command : MultiKey = found.0 in
@@ -56,6 +60,8 @@ module _ (names : Names) (args : Arguments) (split : Split) (arguments : split.a
           slots = found.2.slots;
           parts = meant;
         },
+        ap (λ part. map part (slots_of split.routes)) (fun_ext (λ slot. part_is registry args split slot arguments pattern ∙ part_by_command registry args command slot found.1))
+            ∙ ap (map (part_by_slot registry args)) found.2.slots,
       )
 
 -- a split command is kept as its split
@@ -67,6 +73,7 @@ kept_split names args split arguments routes pattern policy held =
       over_keys found.0,
       ap (λ m. task_with m (slot_routed (routing (names_of [] names.registered) (map Some args))) args) found.1,
       (found.0, refl, found.2),
+      sym (map_map (λ (part : SlotPart). part.1) (λ slot. (slot, split_part split slot)) (slots_of split.routes)) ∙ found.3,
     )
 
 -- what holds of an option that is there
@@ -82,8 +89,8 @@ kept_next R xs ys more i x y inside is push so_far next =
 
 -- commands of which something is kept mean something
 pub tasks_from : (registered : Registrations) (commands : List (List (List ℕ))) (kept : List CommandTask) → AllZip (IsTaskFor registered) commands kept
-    → (tasks : List Task) × AreTasksOf registered commands tasks × AllZip (IsKeptOf registered) tasks kept
-tasks_from registered [] [] each = ([], refl, tt)
+    → (tasks : List Task) × AreTasksOf registered commands tasks × AllZip (IsKeptOf registered) tasks kept × (map (λ part. part.1) (flat_map slot_parts kept) ≡ all_arguments registered commands tasks)
+tasks_from registered [] [] each = ([], refl, tt, refl)
 tasks_from registered [] (k ∷ kept) each = absurd each
 tasks_from registered (a ∷ commands) [] each = absurd each
 tasks_from registered (a ∷ commands) (k ∷ kept) each =
@@ -91,6 +98,8 @@ tasks_from registered (a ∷ commands) (k ∷ kept) each =
       each.0.0 ∷ rest.0,
       ap (λ t. t ∷ map (task_of registered) commands) each.0.1 ∙ ap (λ l. Some each.0.0 ∷ l) rest.1,
       (each.0.2, rest.2),
+      map-append (λ (part : SlotPart). part.1) (slot_parts k) (flat_map slot_parts kept) ∙ ap (λ l. l ++ map (λ (part : SlotPart). part.1) (flat_map slot_parts kept)) each.0.3
+          ∙ ap (λ l. part_arguments registered a each.0.0 ++ l) rest.3,
     )
 
 -- the first command that means nothing

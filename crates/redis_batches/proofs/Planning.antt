@@ -199,6 +199,7 @@ is_plan_of registered ranges commands kept batches nodes ascends each placed by_
       tasks_are = found.1;
       splits_are = splits_of_kept registered tasks kept found.2;
       parts_are = meant registered batches.parts (flat_map slot_parts kept) qs placed.parts_are parts;
+      arguments = placed.parts_are ∙ found.3;
       node_of = node;
       primaries = all;
       by_node = subst (IsByNode batches) (same_nodes ranges ascends node qs nodes at all) by_node;

@@ -6,7 +6,7 @@ use Rattle.redis_routing.specs.Split.{Split, split_part, slots_of}
 use Rattle.redis_cluster.specs.MultiKey.{MultiKey}
 use Rattle.redis_batches.specs.Pipeline.{Task, over_keys, in_slot}
 use Rattle.redis_batches.specs.Taken.{task_of}
-use Rattle.redis_batches.specs.Tasks.{IsSplitOfTask}
+use Rattle.redis_batches.specs.Tasks.{IsSplitOfTask, part_arguments}
 use Rattle.redis_batches.specs.declared.task.CommandTask.{CommandTask}
 use Rattle.redis_batches.specs.declared.task.CommandTask.TheVariants.{InSlot, OverKeys}
 
@@ -40,7 +40,9 @@ IsKeptOf registered task (InSlot slot command) =
 IsKeptOf registered task (OverKeys split) =
     (command : MultiKey) × (task ≡ over_keys command) × IsSplitOfTask registered command split
 
--- the command with these arguments means something in a pipeline, and this is kept of it
+-- the command with these arguments means something in a pipeline, and this is kept of it, whose
+-- parts have the arguments of the command's parts
 abbrev pub IsTaskFor : Registrations → List (List ℕ) → CommandTask → Type 0
 IsTaskFor registered args kept =
     (task : Task) × (task_of registered args ≡ Some task) × IsKeptOf registered task kept
+    × (map (λ part. part.1) (slot_parts kept) ≡ part_arguments registered args task)

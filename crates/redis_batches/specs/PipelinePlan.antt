@@ -6,7 +6,7 @@ use Rattle.redis_routing.specs.Registry.{Registrations}
 use Rattle.redis_routing.specs.Split.{Split}
 use Rattle.redis_batches.specs.Pipeline.{Part, Task, pieces}
 use Rattle.redis_batches.specs.Taken.{task_of}
-use Rattle.redis_batches.specs.Tasks.{AreSplitsOf, AreTasksOf, slots_of_task, with_slots}
+use Rattle.redis_batches.specs.Tasks.{AreSplitsOf, AreTasksOf, all_arguments, slots_of_task, with_slots}
 use Rattle.redis_batches.specs.Pipelined.{IsFirstMeaningless}
 use Rattle.redis_batches.specs.Placed.{IsFirstUncovered, IsPrimaryOf, Ranges}
 use Rattle.redis_batches.specs.Plan.{Batches, IsByNode}
@@ -27,8 +27,8 @@ HasParts plan = sum_by part_count plan.splits ≡ length plan.batches.parts
 abbrev pub pieces_of : List Task → List Part
 pieces_of tasks = pieces (map with_slots tasks)
 
--- The plan is of these commands: each means something, and the parts are those of the pipeline. The
--- node of a slot is its primary by the map, and there is one batch for each node.
+-- The plan is of these commands: each means something, and the parts are those of the pipeline, by
+-- what they mean and by their arguments. The node of a slot is its primary by the map, and there is one batch for each node.
 pub record IsPlanOfCommands (registered : Registrations) (ranges : Ranges)
     (commands : List (List (List ℕ))) (plan : PipelineBatches) : Type 0 where
   pub tasks : List Task
@@ -36,6 +36,7 @@ pub record IsPlanOfCommands (registered : Registrations) (ranges : Ranges)
   pub splits_are : AreSplitsOf registered plan.splits tasks
   pub parts_are : map (task_of registered) plan.batches.parts
       ≡ map (λ q. Some q.task) (pieces_of tasks)
+  pub arguments : map (map Some) plan.batches.parts ≡ all_arguments registered commands tasks
   pub node_of : ℕ → Address
   pub primaries : All (λ q. IsPrimaryOf ranges q.slot (node_of q.slot)) (pieces_of tasks)
   pub by_node : IsByNode plan.batches (map (λ q. node_of q.slot) (pieces_of tasks))

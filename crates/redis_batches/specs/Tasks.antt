@@ -1,9 +1,10 @@
 -- What the commands of a pipeline mean, each with its slots, and how one over many keys is split.
-use Rattle.std.specs.Prelude.{◌≡◌, ℕ, List, [], ◌∷◌, Option, None, Some, map}
+use Rattle.std.specs.Prelude.{◌≡◌, ℕ, List, [], ◌∷◌, ◌++◌, Option, None, Some, map}
 use Rattle.std.specs.List.{All, AllZip}
+use Rattle.redis_routing.specs.Command.{Arguments}
 use Rattle.redis_routing.specs.Registry.{Registrations}
 use Rattle.redis_routing.specs.Split.{Split, IsSplit, split_part, slots_of}
-use Rattle.redis_cluster.specs.MultiKey.{MultiKey, multi_key, part_of, form_by_policy, slots_in}
+use Rattle.redis_cluster.specs.MultiKey.{MultiKey, multi_key, part_by_slot, part_of, form_by_policy, slots_in}
 use Rattle.redis_cluster.specs.Plan.{tuples_in_split}
 use Rattle.redis_batches.specs.Pipeline.{Task, over_keys, in_slot, Planned}
 use Rattle.redis_batches.specs.Taken.{task_of}
@@ -21,6 +22,19 @@ with_slots task = record { task = task; slots = slots_of_task task }
 -- Each of these commands means something in a pipeline, and this is what they mean.
 abbrev pub AreTasksOf : Registrations → List (List (List ℕ)) → List Task → Type 0
 AreTasksOf registered commands tasks = map (task_of registered) commands ≡ map Some tasks
+
+-- the arguments of the parts of a command that means this: its own, or those of each slot's part
+abbrev pub part_arguments : Registrations → List (List ℕ) → Task → List Arguments
+part_arguments registered args (over_keys command) =
+    map (part_by_slot registered (map Some args)) (slots_in command)
+part_arguments registered args (in_slot slot own) = map Some args ∷ []
+
+-- those of commands, one command after the other
+abbrev pub all_arguments : Registrations → List (List (List ℕ)) → List Task → List Arguments
+all_arguments registered [] tasks = []
+all_arguments registered (args ∷ commands) [] = []
+all_arguments registered (args ∷ commands) (task ∷ tasks) =
+    part_arguments registered args task ++ all_arguments registered commands tasks
 
 -- The split of a command over many keys: a route for each of its slots, whose part is that of the
 -- slot.
