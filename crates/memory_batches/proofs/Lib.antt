@@ -1,0 +1,6 @@
+pub mod Shelves
+pub mod Verbs
+pub mod Batches
+pub mod Stores
+pub mod Traces
+pub mod Sets

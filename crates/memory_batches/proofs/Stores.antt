@@ -1,0 +1,27 @@
+-- What commands that the nodes make leave in the store.
+use Rattle.std.proofs.Common.{◌≡◌, List, [], ◌∷◌, ℕ, Some, None, map, refl, subst}
+use Rattle.std.specs.Prelude.{codes, IfSome}
+use Rattle.redis_routing.specs.RouteBy.{base_routing}
+use Rattle.redis_routing.specs.TwoWords.{takes_second}
+use Rattle.redis_routing.specs.Policies.{policy_of}
+use Rattle.redis_routing.specs.Registry.{Registrations}
+use Rattle.redis_cluster.specs.MultiKey.{MultiKey, multi_key, okay}
+use Rattle.redis_cluster.specs.Unsplit.{Keyspace, keyspace_after}
+use Rattle.memory_nodes.specs.Cells.{Cell}
+use Rattle.memory_nodes.specs.Steps.{step}
+
+-- MSET of one key
+abbrev pub mset_args : List ℕ → List ℕ → List (List ℕ)
+mset_args key string = codes "MSET" ∷ key ∷ string ∷ []
+
+abbrev pub mset : List ℕ → List ℕ → MultiKey
+mset key string = record { name = codes "MSET"; registered = None; shared = None; tuples = (record { key = key; extras = string ∷ [] }) ∷ []; form = okay }
+
+pub mset_is : (registered : Registrations) (key string : List ℕ) → multi_key registered (map Some (mset_args key string)) ≡ Some (mset key string)
+unfolding base_routing takes_second policy_of
+mset_is registered key string = refl
+
+-- what is left by a command that is known
+pub left_by : (registered : Registrations) (args : List (List ℕ)) (command : MultiKey) (old new : Keyspace Cell) → multi_key registered (map Some args) ≡ Some command
+    → IfSome (multi_key registered (map Some args)) (λ command. new ≡ keyspace_after step command old) → new ≡ keyspace_after step command old
+left_by registered args command old new is left = subst (λ o. IfSome o (λ command. new ≡ keyspace_after step command old)) is left

@@ -1,0 +1,14 @@
+use Rattle.std.proofs.Common.{◌≡◌, Some, subst, sym}
+use Rattle.std.specs.Prelude.{IfOk}
+use Rattle.redis_batches.specs.Pipeline.{Task, run_ended}
+use Rattle.redis_batches.specs.Taken.{task_of}
+use Rattle.memory_nodes.specs.Nodes.{keyspace_in, registered_in}
+use Rattle.memory_nodes.specs.Steps.{step}
+use Rattle.memory_batches.specs.Meaning.{IsDone}
+use Rattle.memory_batches.specs.Strings.{serve}
+use Rattle.memory_batches.proofs.answering.answer_or_refuse.Goals as goal
+
+pub returns-in-None-clause-done : goal.returns-in-None-clause-done
+returns-in-None-clause-done c =
+    subst (λ refusal. IfOk c.answer.result (λ answer. (task : Task) → task_of (registered_in c.args.store.now) c.args.cmd.now ≡ Some task → IsDone (run_ended step serve (task, refusal)) (keyspace_in c.args.store.now) (keyspace_in c.answer.new.store) answer))
+    (sym c.in-None.is) c.answer.ensures.done

@@ -1,0 +1,50 @@
+-- What nodes in memory that take batches hold, have been sent, and refuse.
+use Rattle.std.specs.Prelude.{◌≡◌, ℕ, ◌-◌, List, Bool, Option, None, Some, cond, map, nat_le, slice_get}
+use Rattle.resp_core.specs.ErrorParts.{ErrorParts}
+use Rattle.redis_routing.specs.Registry.{Registrations}
+use Rattle.redis_cluster.specs.Trace.{Entry, Ending, refused, entry}
+use Rattle.redis_cluster.specs.Unsplit.{Keyspace}
+use Rattle.redis_batches.specs.Taken.{ending_by}
+use Rattle.memory_nodes.specs.Cells.{Cell}
+use Rattle.memory_nodes.specs.Nodes as store
+use Rattle.memory_batches.specs.declared.nodes.MemoryBatchNodes.{MemoryBatchNodes}
+use Rattle.memory_batches.specs.declared.trace_entry.BatchEntry.{BatchEntry}
+
+-- what stands in the trace of one command
+abbrev pub entry_of : BatchEntry → Entry
+entry_of e = entry e.node e.command (ending_by e.refusal)
+
+abbrev pub keyspace_in : MemoryBatchNodes → Keyspace Cell
+keyspace_in nodes = store.keyspace_in nodes.store
+
+-- the names that commands may have beside those of the tables
+abbrev pub registered_in : MemoryBatchNodes → Registrations
+registered_in nodes = store.registered_in nodes.store
+
+abbrev pub trace_in : MemoryBatchNodes → List Entry
+trace_in nodes = map entry_of nodes.trace.items
+
+-- whether the last batch ran out of memory
+abbrev pub mark_in : MemoryBatchNodes → Bool
+mark_in nodes = nodes.mark
+
+-- the error that is planned for the command that finds so many entries in the trace, if one is,
+-- where the plan was made when there were `base`
+abbrev pub listed : Option (Option ErrorParts) → Option ErrorParts
+listed None = None
+listed (Some item) = item
+
+abbrev pub refusal_for : List (Option ErrorParts) → (base count : ℕ) → Option ErrorParts
+refusal_for plan base count = cond (nat_le base count) (listed (slice_get plan (count - base))) None
+
+-- a command may be refused at a place of the trace with the error that is planned for it
+abbrev pub may_end : List (Option ErrorParts) → (base count : ℕ) → Ending → Type 0
+may_end plan base count ending =
+    (error : ErrorParts) × (refusal_for plan base count ≡ Some error) × (ending ≡ refused error)
+
+abbrev pub MayRefuse : MemoryBatchNodes → ℕ → Ending → Type 0
+MayRefuse nodes = may_end nodes.plan.items nodes.base
+
+-- what the plan has for the command that finds so many entries
+abbrev pub refusal_in : MemoryBatchNodes → ℕ → Option ErrorParts
+refusal_in nodes count = refusal_for nodes.plan.items nodes.base count

@@ -1,0 +1,195 @@
+ghost use Rattle.std.specs.Prelude.{◌≡◌, ◌+◌, ◌∷◌, ◌↔◌, ℕ, [], None, Some, false, IfOk, OnOk, length, map, option_copied};
+ghost use Rattle.redis_cluster.specs.Trace.{Ending};
+ghost use Rattle.redis_cluster.specs.Driven.{state};
+ghost use Rattle.redis_batches.specs.Taken.{answer_of, IsTaken};
+ghost use Rattle.memory_nodes.specs.Cells.{Cell, value_at};
+ghost use Rattle.memory_nodes.specs.Steps.{step};
+ghost use Rattle.memory_batches.specs.Nodes.{registered_in, keyspace_in, trace_in, mark_in, refusal_in, may_end, MayRefuse, entry_of};
+ghost use Rattle.memory_batches.specs.Strings.{serve};
+
+use crate::answering::answer_or_refuse;
+use crate::planned::planned_refusal;
+use crate::trace_entry::BatchEntry;
+use cluster_slots::NodeAddress;
+use memory_nodes::MemoryNodes;
+use redis_batches::BatchNodes;
+use redis_cluster::driver::SendError;
+use redis_routing::Registry;
+use resp_core::{Cmd, RedisError, Value};
+use std::alloc::{AllocError, Global};
+
+/// Nodes that share one keyspace in memory, take batches of commands, keep a trace of these, and
+/// refuse those commands that were planned to be refused.
+///
+/// They know the commands over many keys, `GET key` and `SET key value`. A key's string is its value
+/// at the empty path, which `MSET` writes too. Any other command is answered with the error
+/// `ERR unknown command`.
+#[derive(Drop)]
+pub struct MemoryBatchNodes {
+    alloc: Global,
+    /// The keyspace. Its own trace is not looked at.
+    store: MemoryNodes,
+    trace: Vec<BatchEntry>,
+    plan: Vec<Option<RedisError>>,
+    /// How many entries the trace had when the plan was made.
+    base: usize,
+    mark: bool,
+}
+
+impl MemoryBatchNodes {
+    /// Nodes that hold no key, have been sent nothing, refuse nothing, and know the names of the
+    /// tables alone. Takes no memory.
+    pub fn new(alloc: Global) -> MemoryBatchNodes
+        ensures registered { registered_in result ≡ [] }
+        ensures keyspace { keyspace_in result ≡ (λ key. None) }
+        ensures trace { trace_in result ≡ [] }
+        ensures mark { mark_in result ≡ false }
+        ensures may_refuse { (count : ℕ) (ending : Ending) → ¬ (MayRefuse result count ending) }
+    {
+        MemoryBatchNodes::with_registry(alloc, Registry::new(alloc))
+    }
+
+    /// `new`, for nodes that know registered names too, as `MemoryNodes::with_registry` has them.
+    /// Takes no memory.
+    pub fn with_registry(alloc: Global, registry: Registry) -> MemoryBatchNodes
+        ensures registered { registered_in result ≡ registry }
+        ensures keyspace { keyspace_in result ≡ (λ key. None) }
+        ensures trace { trace_in result ≡ [] }
+        ensures mark { mark_in result ≡ false }
+        ensures may_refuse { (count : ℕ) (ending : Ending) → ¬ (MayRefuse result count ending) }
+    {
+        MemoryBatchNodes {
+            alloc,
+            store: MemoryNodes::with_registry(alloc, registry),
+            trace: Vec::new(alloc),
+            plan: Vec::new(alloc),
+            base: 0,
+            mark: false,
+        }
+    }
+}
+
+impl MemoryBatchNodes {
+    /// From now on each command does what its entry of this plan says, the next command the first
+    /// one's: with an error it is refused, and else answered, as are those behind the last. An
+    /// earlier plan is gone. `[None, Some(error)]` refuses the second of the commands that come.
+    pub fn plan(&mut self, plan: Vec<Option<RedisError>>)
+        ensures registered { registered_in self.new ≡ registered_in self.old }
+        ensures keyspace { keyspace_in self.new ≡ keyspace_in self.old }
+        ensures trace { trace_in self.new ≡ trace_in self.old }
+        ensures mark { mark_in self.new ≡ mark_in self.old }
+        ensures may_refuse { (count : ℕ) (ending : Ending) → MayRefuse self.new count ending
+            ↔ may_end plan.items (length (trace_in self.old)) count ending }
+    {
+        self.base = self.trace.len();
+        self.plan = plan;
+    }
+
+    /// The value at a path of a key. Values that no path was given for stand at the empty one.
+    pub fn get(&self, key: &[u8], path: &[u8]) -> Option<&[u8]>
+        ensures { option_copied result ≡ value_at (keyspace_in self.now key.now) path.now }
+    {
+        self.store.get(key, path)
+    }
+
+    /// What was sent so far, the first command first.
+    pub fn trace(&self) -> &[BatchEntry]
+        ensures { map entry_of result.now ≡ trace_in self.now }
+    {
+        self.trace.as_slice()
+    }
+
+    /// The error that is planned for the next command, if it is to be refused.
+    fn next_refusal(&self) -> Result<Option<RedisError>, AllocError>
+        ensures { IfOk result (λ refusal. refusal ≡ refusal_in self.now (length (trace_in self.now))) }
+    {
+        planned_refusal(self.alloc, &self.plan, self.base, self.trace.len())
+    }
+
+    /// Answers one command, or refuses it, and notes that.
+    fn take(
+        &mut self,
+        node: &NodeAddress,
+        cmd: &Cmd,
+    ) -> Result<Result<Value, RedisError>, AllocError>
+        ensures taken { IfOk result (λ answer. IsTaken step serve (registered_in self.old) (Unit {0})
+            (MayRefuse self.old) node.now (cmd.now ∷ [])
+            (state (keyspace_in self.old) (trace_in self.old) (mark_in self.old))
+            (state (keyspace_in self.new) (trace_in self.new) (mark_in self.new))
+            (answer_of answer ∷ [])) }
+        ensures plan { self.new.plan ≡ self.old.plan }
+        ensures base { self.new.base ≡ self.old.base }
+        ensures registered { registered_in self.new ≡ registered_in self.old }
+    {
+        let refusal = self.next_refusal()?;
+        let noted = self.next_refusal()?;
+        let entry = BatchEntry::new(node, cmd, noted)?;
+        self.trace.reserve(1)?;
+        let answer = answer_or_refuse(self.alloc, &mut self.store, node, cmd, refusal)?;
+        self.trace.push_reserved(entry);
+        Ok(answer)
+    }
+
+    /// Takes the commands of a batch, one after the other, and adds the answers.
+    fn take_all(
+        &mut self,
+        node: &NodeAddress,
+        batch: &[&Cmd],
+        answers: &mut Vec<Result<Value, RedisError>>,
+    ) -> Result<(), AllocError>
+        requires none { answers.old.items ≡ [] }
+        ensures answers { OnOk result (length answers.new.items ≡ length batch.now) }
+        ensures taken { OnOk result (IsTaken step serve (registered_in self.old) (Unit {0})
+            (MayRefuse self.old) node.now (map (λ cmd. cmd.now) batch.now)
+            (state (keyspace_in self.old) (trace_in self.old) (mark_in self.old))
+            (state (keyspace_in self.new) (trace_in self.new) (mark_in self.new))
+            (map answer_of answers.new.items)) }
+        ensures plan { self.new.plan ≡ self.old.plan }
+        ensures base { self.new.base ≡ self.old.base }
+        ensures registered { registered_in self.new ≡ registered_in self.old }
+    {
+        for cmd in batch {
+            let answer = self.take(node, *cmd)?;
+            answers.push(answer)?;
+        }
+        Ok(())
+    }
+}
+
+impl BatchNodes for MemoryBatchNodes {
+    ghost Cell = { Cell };
+
+    ghost step = { step };
+
+    ghost serve = { serve };
+
+    ghost registered = { registered_in };
+
+    ghost keyspace = { keyspace_in };
+
+    ghost trace = { trace_in };
+
+    ghost mark = { mark_in };
+
+    ghost may_refuse = { MayRefuse };
+
+    /// Where memory runs out before the first command, none is taken. Once one was begun, the answers
+    /// are lost: what was taken stays, as at a node that fails between two commands, since undoing it
+    /// would take a copy of the keys.
+    fn send_batch(
+        &mut self,
+        node: &NodeAddress,
+        batch: &[&Cmd],
+    ) -> Result<Vec<Result<Value, RedisError>>, SendError> {
+        let Ok(mut answers) = Vec::with_capacity(self.alloc, batch.len()) else {
+            self.mark = true;
+            return Err(SendError::Memory);
+        };
+        let Ok(()) = self.take_all(node, batch, &mut answers) else {
+            self.mark = true;
+            return Err(SendError::Lost(RedisError::from(AllocError)));
+        };
+        self.mark = false;
+        Ok(answers)
+    }
+}

@@ -1,0 +1,42 @@
+ghost use Rattle.std.specs.Prelude.{◌≡◌, OnOk, option_copied};
+ghost use Rattle.memory_nodes.specs.Nodes.{keyspace_in, registered_in};
+ghost use Rattle.redis_batches.specs.Served.{shelf};
+ghost use Rattle.memory_batches.specs.Strings.{string_at, with_string};
+
+use cluster_slots::{NodeAddress, Slot};
+use memory_nodes::MemoryNodes;
+use redis_cluster::driver::Nodes;
+use resp_core::Cmd;
+use std::alloc::{AllocError, Global};
+
+/// The string at a key, where the keys of a slot alone are seen.
+pub(super) fn string_in<'a>(store: &'a MemoryNodes, slot: u16, key: &[u8]) -> Option<&'a [u8]>
+    ensures { option_copied result ≡ string_at (shelf slot (keyspace_in store.now)) key.now }
+{
+    if Slot::for_key(key).number() != slot {
+        return None;
+    }
+    store.get(key, b"")
+}
+
+/// Puts a string at a key, in the place of all that is there.
+pub(super) fn write(
+    alloc: Global,
+    store: &mut MemoryNodes,
+    node: &NodeAddress,
+    key: &[u8],
+    string: &[u8],
+) -> Result<(), AllocError>
+    ensures keyspace { OnOk result
+        (keyspace_in store.new ≡ with_string key.now string.now (keyspace_in store.old)) }
+    ensures registered { registered_in store.new ≡ registered_in store.old }
+{
+    let mut command = Cmd::new(alloc);
+    command.write_arg(b"MSET")?;
+    command.write_arg(key)?;
+    command.write_arg(string)?;
+    match store.send(node, &command) {
+        Ok(_) => Ok(()),
+        Err(_) => Err(AllocError),
+    }
+}

@@ -1,0 +1,92 @@
+ghost use Rattle.std.specs.Prelude.{◌≡◌, ◌<◌, [], IfOk, length, slice_index_or, Some, Err, map};
+ghost use Rattle.resp_core.specs.View.{view};
+ghost use Rattle.memory_nodes.specs.Nodes.{keyspace_in, registered_in};
+ghost use Rattle.redis_batches.specs.Served.{in_shelf};
+ghost use Rattle.redis_batches.specs.Taken.{answer_of};
+ghost use Rattle.memory_batches.specs.Strings.{get, set, serve, own_error};
+ghost use Rattle.memory_batches.specs.Meaning.{IsDone};
+ghost use Rattle.std.specs.Prelude.{codes};
+
+use crate::store::{string_in, write};
+use crate::verb::Verb;
+use cluster_slots::{NodeAddress, Slot};
+use memory_nodes::MemoryNodes;
+use resp_core::{Cmd, ErrorKind, RedisError, Value};
+use std::alloc::{AllocError, Global};
+
+/// Serves a command of a slot, over the keys of that slot alone.
+pub(super) fn serve(
+    alloc: Global,
+    store: &mut MemoryNodes,
+    node: &NodeAddress,
+    slot: u16,
+    cmd: &Cmd,
+) -> Result<Result<Value, RedisError>, AllocError>
+    ensures done { IfOk result (λ answer. IsDone (in_shelf slot (serve cmd.now))
+        (keyspace_in store.old) (keyspace_in store.new) answer) }
+    ensures registered { registered_in store.new ≡ registered_in store.old }
+{
+    let Some(verb) = Verb::of(alloc, cmd)? else {
+        return Ok(Err(unknown_command()));
+    };
+    if cmd.len() != verb.len() {
+        return Ok(Err(unknown_command()));
+    }
+    match verb {
+        Verb::Get => get(alloc, store, slot, word(cmd, 1)),
+        Verb::Set => set(alloc, store, node, slot, word(cmd, 1), word(cmd, 2)),
+    }
+}
+
+/// The answer to a command that the nodes do not know.
+pub(super) fn unknown_command() -> RedisError
+    ensures { result ≡ own_error (codes "ERR unknown command") }
+{
+    RedisError::from((ErrorKind::Client, "ERR unknown command"))
+}
+
+/// Answers the string at a key.
+fn get(
+    alloc: Global,
+    store: &MemoryNodes,
+    slot: u16,
+    key: &[u8],
+) -> Result<Result<Value, RedisError>, AllocError>
+    ensures { IfOk result (λ answer. IsDone (in_shelf slot (get key.now))
+        (keyspace_in store.now) (keyspace_in store.now) answer) }
+{
+    match string_in(store, slot, key) {
+        Some(string) => Ok(Ok(Value::BulkString(string.to_vec(alloc)?))),
+        None => Ok(Ok(Value::Nil)),
+    }
+}
+
+/// Puts a string at a key.
+fn set(
+    alloc: Global,
+    store: &mut MemoryNodes,
+    node: &NodeAddress,
+    slot: u16,
+    key: &[u8],
+    string: &[u8],
+) -> Result<Result<Value, RedisError>, AllocError>
+    ensures done { IfOk result (λ answer. IsDone (in_shelf slot (set key.now string.now))
+        (keyspace_in store.old) (keyspace_in store.new) answer) }
+    ensures registered { registered_in store.new ≡ registered_in store.old }
+{
+    if Slot::for_key(key).number() != slot {
+        return Ok(Ok(Value::Okay));
+    }
+    write(alloc, store, node, key, string)?;
+    Ok(Ok(Value::Okay))
+}
+
+/// The argument at a place, or no bytes.
+fn word(cmd: &Cmd, place: usize) -> &[u8]
+    ensures { result.now ≡ slice_index_or cmd.now place [] }
+{
+    match cmd.arg_idx(place) {
+        Some(arg) => arg,
+        None => b"",
+    }
+}
