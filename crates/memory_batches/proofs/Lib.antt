@@ -3,4 +3,5 @@ pub mod Verbs
 pub mod Batches
 pub mod Stores
 pub mod Traces
-pub mod Sets
+pub mod Effects
+pub mod IntTexts

@@ -21,15 +21,18 @@ module _ {C : Type 0} (slot : ℕ) (ks : Keyspace C) where
     same_slot : (other : List ℕ) (b : Bool) → nat_eq (key_slot key) slot ≡ b → bytes_eq key other ≡ true → nat_eq (key_slot other) slot ≡ b
     same_slot other b is same = ap (λ k. nat_eq (key_slot k) slot) (sym ((bytes_eq-Decides key other).0 same)) ∙ is
 
-    -- a write at a key of the slot
-    pub put_here : nat_eq (key_slot key) slot ≡ true → with_shelf slot (put key x (shelf slot ks)) ks ≡ put key x ks
-    put_here is = λ i other. at other i
+    -- a write at a key of the slot, whatever else was written
+    pub put_more : nat_eq (key_slot key) slot ≡ true → (written : Keyspace C) → with_shelf slot (put key x written) ks ≡ put key x (with_shelf slot written ks)
+    put_more is written = λ i other. at other i
       where
-        at : (other : List ℕ) → with_shelf slot (put key x (shelf slot ks)) ks other ≡ put key x ks other
+        at : (other : List ℕ) → with_shelf slot (put key x written) ks other ≡ put key x (with_shelf slot written ks) other
         at other =
             by_test (bytes_eq key other)
             (λ same. rw (same, same_slot other true is same) refl)
             (λ differs. by_test (nat_eq (key_slot other) slot) (λ e. rw (differs, e) refl) (λ e. rw (differs, e) refl))
+
+    pub put_here : nat_eq (key_slot key) slot ≡ true → with_shelf slot (put key x (shelf slot ks)) ks ≡ put key x ks
+    put_here is = put_more is (shelf slot ks) ∙ ap (put key x) shelf_back
 
     -- a write at a key of another slot
     pub put_elsewhere : nat_eq (key_slot key) slot ≡ false → with_shelf slot (put key x (shelf slot ks)) ks ≡ ks

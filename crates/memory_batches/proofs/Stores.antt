@@ -5,7 +5,7 @@ use Rattle.redis_routing.specs.RouteBy.{base_routing}
 use Rattle.redis_routing.specs.TwoWords.{takes_second}
 use Rattle.redis_routing.specs.Policies.{policy_of}
 use Rattle.redis_routing.specs.Registry.{Registrations}
-use Rattle.redis_cluster.specs.MultiKey.{MultiKey, multi_key, okay}
+use Rattle.redis_cluster.specs.MultiKey.{MultiKey, multi_key, count, okay}
 use Rattle.redis_cluster.specs.Unsplit.{Keyspace, keyspace_after}
 use Rattle.memory_nodes.specs.Cells.{Cell}
 use Rattle.memory_nodes.specs.Steps.{step}
@@ -20,6 +20,17 @@ mset key string = record { name = codes "MSET"; registered = None; shared = None
 pub mset_is : (registered : Registrations) (key string : List ℕ) → multi_key registered (map Some (mset_args key string)) ≡ Some (mset key string)
 unfolding base_routing takes_second policy_of
 mset_is registered key string = refl
+
+-- DEL of one key
+abbrev pub del_args : List ℕ → List (List ℕ)
+del_args key = codes "DEL" ∷ key ∷ []
+
+abbrev pub del : List ℕ → MultiKey
+del key = record { name = codes "DEL"; registered = None; shared = None; tuples = (record { key = key; extras = [] }) ∷ []; form = count }
+
+pub del_is : (registered : Registrations) (key : List ℕ) → multi_key registered (map Some (del_args key)) ≡ Some (del key)
+unfolding base_routing takes_second policy_of
+del_is registered key = refl
 
 -- what is left by a command that is known
 pub left_by : (registered : Registrations) (args : List (List ℕ)) (command : MultiKey) (old new : Keyspace Cell) → multi_key registered (map Some args) ≡ Some command

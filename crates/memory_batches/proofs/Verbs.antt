@@ -3,7 +3,7 @@ use Rattle.std.proofs.Common.{◌≡◌, List, [], ◌∷◌, ℕ, zero, suc, le
 use Rattle.std.specs.Prelude.{slice_get, slice_index_or}
 use Rattle.memory_batches.specs.Strings.{arguments_of, by_verb, length_of, unknown_command}
 use Rattle.memory_batches.specs.declared.verb.Verb.{Verb}
-use Rattle.memory_batches.specs.declared.verb.Verb.TheVariants.{Get, Set}
+use Rattle.memory_batches.specs.declared.verb.Verb.TheVariants.{Get, Set, Incr, Rename}
 
 -- a name that is not known
 pub none_known : (arguments : List (List ℕ)) → by_verb None arguments ≡ unknown_command
@@ -18,6 +18,15 @@ wrong_number Get [] differs = refl
 wrong_number Get (n ∷ []) differs = refl
 wrong_number Get (n ∷ a ∷ []) differs = absurd (differs refl)
 wrong_number Get (n ∷ a ∷ b ∷ rest) differs = refl
+wrong_number Incr [] differs = refl
+wrong_number Incr (n ∷ []) differs = refl
+wrong_number Incr (n ∷ a ∷ []) differs = absurd (differs refl)
+wrong_number Incr (n ∷ a ∷ b ∷ rest) differs = refl
+wrong_number Rename [] differs = refl
+wrong_number Rename (n ∷ []) differs = refl
+wrong_number Rename (n ∷ a ∷ []) differs = refl
+wrong_number Rename (n ∷ a ∷ b ∷ []) differs = absurd (differs refl)
+wrong_number Rename (n ∷ a ∷ b ∷ c ∷ rest) differs = refl
 wrong_number Set [] differs = refl
 wrong_number Set (n ∷ []) differs = refl
 wrong_number Set (n ∷ a ∷ []) differs = refl

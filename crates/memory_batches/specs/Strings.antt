@@ -1,8 +1,12 @@
 -- What commands over the keys of one slot do to strings, each as Redis documents it.
-use Rattle.std.specs.Prelude.{ℕ, List, [], ◌∷◌, Option, None, Some, Ok, Err, map, codes}
+use Rattle.std.specs.Prelude.{ℕ, ◌^◌, ℤ, pos, negsuc, ◌+ℤ◌, List, [], ◌∷◌, Bool, cond, Option, None, Some, Ok, Err, map, codes, nat_eq, nat_lt, option_and_then}
+use Rattle.std.specs.Fmt.{signed_decimal}
+use Rattle.std.specs.Str.{bytes_eq}
+use Rattle.std.specs.Str.Parse.{signed_digits_value}
+use Rattle.cluster_slots.specs.KeySlot.{key_slot}
 use Rattle.resp_core.specs.ErrorParts.{ErrorParts}
 use Rattle.resp_core.specs.declared.error.ErrorKind.TheVariants.{Client}
-use Rattle.resp_core.specs.Reply.{okay}
+use Rattle.resp_core.specs.Reply.{int, okay}
 use Rattle.redis_routing.specs.Command.{command_name}
 use Rattle.redis_routing.specs.Lookup.{lookup}
 use Rattle.redis_cluster.specs.Unsplit.{Keyspace, put}
@@ -11,7 +15,7 @@ use Rattle.redis_batches.specs.Pipeline.{Answer, Serve}
 use Rattle.memory_nodes.specs.Cells.{Cell, value_at}
 use Rattle.memory_nodes.specs.Steps.{alone, shown}
 use Rattle.memory_batches.specs.declared.verb.Verb.{Verb}
-use Rattle.memory_batches.specs.declared.verb.Verb.TheVariants.{Get, Set}
+use Rattle.memory_batches.specs.declared.verb.Verb.TheVariants.{Get, Set, Incr, Rename}
 
 -- the string at a key: its value at the empty path
 abbrev pub string_at : Keyspace Cell → List ℕ → Option (List ℕ)
@@ -37,12 +41,65 @@ get key = λ keyspace. record { keys = keyspace; reply = Ok (shown (string_at ke
 abbrev pub set : List ℕ → List ℕ → Effect Cell Answer
 set key value = λ keyspace. record { keys = with_string key value keyspace; reply = Ok okay }
 
+-- whether a number has 64 bits, with its sign
+abbrev pub has_64_bits : ℤ → Bool
+has_64_bits (pos n) = nat_lt n (2 ^ 63)
+has_64_bits (negsuc n) = nat_lt n (2 ^ 63)
+
+abbrev pub in_64_bits : ℤ → Option ℤ
+in_64_bits n = cond (has_64_bits n) (Some n) None
+
+-- The number of 64 bits that is written so, if there is one: a text that has a plus, or a space or a
+-- zero in front, is none.
+abbrev pub number_in : List ℕ → Option ℤ
+number_in text =
+    cond (bytes_eq (signed_decimal (signed_digits_value 10 text)) text)
+    (in_64_bits (signed_digits_value 10 text)) None
+
+-- the number at a key, which is 0 where the key is absent
+abbrev pub number_at : Option (List ℕ) → Option ℤ
+number_at None = Some (pos 0)
+number_at (Some text) = number_in text
+
+abbrev pub one_more : Option ℤ → Option ℤ
+one_more number = option_and_then (λ n. in_64_bits (n +ℤ pos 1)) number
+
+-- INCR key: the key holds one more, and the answer is that number
+abbrev pub counted : List ℕ → Option ℤ → Effect Cell Answer
+counted key None = fails (codes "ERR value is not an integer or out of range")
+counted key (Some n) = λ keyspace. record {
+  keys = with_string key (signed_decimal n) keyspace;
+  reply = Ok (int n);
+}
+
+abbrev pub incr : List ℕ → Effect Cell Answer
+incr key = λ keyspace. counted key (one_more (number_at (string_at keyspace key))) keyspace
+
+-- RENAME key new: the new key holds the string of the key, which is gone, whatever the new key held
+abbrev pub renamed : List ℕ → List ℕ → Option (List ℕ) → Effect Cell Answer
+renamed key new None = fails (codes "ERR no such key")
+renamed key new (Some string) = λ keyspace. record {
+  keys = with_string new string (put key None keyspace);
+  reply = Ok okay;
+}
+
+abbrev pub rename : List ℕ → List ℕ → Effect Cell Answer
+rename key new = λ keyspace. renamed key new (string_at keyspace key) keyspace
+
+-- in a cluster its keys must have one slot
+abbrev pub cross_slot : Effect Cell Answer
+cross_slot = fails (codes "CROSSSLOT Keys in request don't hash to the same slot")
+
+abbrev pub rename_in_slot : List ℕ → List ℕ → Effect Cell Answer
+rename_in_slot key new = cond (nat_eq (key_slot key) (key_slot new)) (rename key new) cross_slot
+
 abbrev pub unknown_command : Effect Cell Answer
 unknown_command = fails (codes "ERR unknown command")
 
 -- the commands that are known, by their names
 abbrev pub verbs : List (List ℕ × Verb)
-verbs = (codes "GET", Get) ∷ (codes "SET", Set) ∷ []
+verbs =
+    (codes "GET", Get) ∷ (codes "SET", Set) ∷ (codes "INCR", Incr) ∷ (codes "RENAME", Rename) ∷ []
 
 abbrev pub verb_of : List ℕ → Option Verb
 verb_of name = lookup verbs name
@@ -55,11 +112,15 @@ verb_in (Some name) = verb_of name
 abbrev pub length_of : Verb → ℕ
 length_of Get = 2
 length_of Set = 3
+length_of Incr = 2
+length_of Rename = 3
 
 -- what a command does by its arguments after the name, which must be as many as it takes
 abbrev pub by_verb : Option Verb → List (List ℕ) → Effect Cell Answer
 by_verb (Some Get) (key ∷ []) = get key
 by_verb (Some Set) (key ∷ value ∷ []) = set key value
+by_verb (Some Incr) (key ∷ []) = incr key
+by_verb (Some Rename) (key ∷ new ∷ []) = rename_in_slot key new
 by_verb verb arguments = unknown_command
 
 abbrev pub arguments_of : List (List ℕ) → List (List ℕ)

@@ -4,6 +4,7 @@
 mod answering;
 mod meaning;
 mod nodes;
+mod numbers;
 mod planned;
 mod store;
 mod strings;

@@ -1,6 +1,7 @@
-ghost use Rattle.std.specs.Prelude.{◌≡◌, OnOk, option_copied};
+ghost use Rattle.std.specs.Prelude.{◌≡◌, None, OnOk, option_copied};
+ghost use Rattle.redis_cluster.specs.Unsplit.{put};
 ghost use Rattle.memory_nodes.specs.Nodes.{keyspace_in, registered_in};
-ghost use Rattle.redis_batches.specs.Served.{shelf};
+ghost use Rattle.redis_batches.specs.Served.{shelf, with_shelf};
 ghost use Rattle.memory_batches.specs.Strings.{string_at, with_string};
 
 use cluster_slots::{NodeAddress, Slot};
@@ -39,4 +40,43 @@ pub(super) fn write(
         Ok(_) => Ok(()),
         Err(_) => Err(AllocError),
     }
+}
+
+/// Removes a key.
+pub(super) fn remove(
+    alloc: Global,
+    store: &mut MemoryNodes,
+    node: &NodeAddress,
+    key: &[u8],
+) -> Result<(), AllocError>
+    ensures keyspace { OnOk result (keyspace_in store.new ≡ put key.now None (keyspace_in store.old)) }
+    ensures registered { registered_in store.new ≡ registered_in store.old }
+{
+    let mut command = Cmd::new(alloc);
+    command.write_arg(b"DEL")?;
+    command.write_arg(key)?;
+    match store.send(node, &command) {
+        Ok(_) => Ok(()),
+        Err(_) => Err(AllocError),
+    }
+}
+
+/// Puts a string at a key, where the keys of a slot alone are seen and kept.
+pub(super) fn put_in(
+    alloc: Global,
+    store: &mut MemoryNodes,
+    node: &NodeAddress,
+    slot: u16,
+    key: &[u8],
+    string: &[u8],
+) -> Result<(), AllocError>
+    ensures keyspace { OnOk result (keyspace_in store.new
+        ≡ with_shelf slot (with_string key.now string.now (shelf slot (keyspace_in store.old)))
+        (keyspace_in store.old)) }
+    ensures registered { registered_in store.new ≡ registered_in store.old }
+{
+    if Slot::for_key(key).number() != slot {
+        return Ok(());
+    }
+    write(alloc, store, node, key, string)
 }

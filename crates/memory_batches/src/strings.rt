@@ -1,13 +1,14 @@
 ghost use Rattle.std.specs.Prelude.{◌≡◌, ◌<◌, [], IfOk, length, slice_index_or, Some, Err, map};
 ghost use Rattle.resp_core.specs.View.{view};
 ghost use Rattle.memory_nodes.specs.Nodes.{keyspace_in, registered_in};
-ghost use Rattle.redis_batches.specs.Served.{in_shelf};
+ghost use Rattle.redis_batches.specs.Served.{in_shelf, shelf};
 ghost use Rattle.redis_batches.specs.Taken.{answer_of};
-ghost use Rattle.memory_batches.specs.Strings.{get, set, serve, own_error};
+ghost use Rattle.memory_batches.specs.Strings.{get, set, incr, rename_in_slot, serve, own_error, string_at, number_at, one_more};
 ghost use Rattle.memory_batches.specs.Meaning.{IsDone};
 ghost use Rattle.std.specs.Prelude.{codes};
 
-use crate::store::{string_in, write};
+use crate::numbers::{decimal_of, next, number_in};
+use crate::store::{put_in, remove, string_in, write};
 use crate::verb::Verb;
 use cluster_slots::{NodeAddress, Slot};
 use memory_nodes::MemoryNodes;
@@ -35,6 +36,8 @@ pub(super) fn serve(
     match verb {
         Verb::Get => get(alloc, store, slot, word(cmd, 1)),
         Verb::Set => set(alloc, store, node, slot, word(cmd, 1), word(cmd, 2)),
+        Verb::Incr => incr(alloc, store, node, slot, word(cmd, 1)),
+        Verb::Rename => rename(alloc, store, node, slot, word(cmd, 1), word(cmd, 2)),
     }
 }
 
@@ -74,10 +77,77 @@ fn set(
         (keyspace_in store.old) (keyspace_in store.new) answer) }
     ensures registered { registered_in store.new ≡ registered_in store.old }
 {
-    if Slot::for_key(key).number() != slot {
-        return Ok(Ok(Value::Okay));
+    put_in(alloc, store, node, slot, key, string)?;
+    Ok(Ok(Value::Okay))
+}
+
+/// Adds one to the number at a key.
+fn incr(
+    alloc: Global,
+    store: &mut MemoryNodes,
+    node: &NodeAddress,
+    slot: u16,
+    key: &[u8],
+) -> Result<Result<Value, RedisError>, AllocError>
+    ensures done { IfOk result (λ answer. IsDone (in_shelf slot (incr key.now))
+        (keyspace_in store.old) (keyspace_in store.new) answer) }
+    ensures registered { registered_in store.new ≡ registered_in store.old }
+{
+    let Some(number) = next_number(alloc, store, slot, key)? else {
+        let error = (
+            ErrorKind::Client,
+            "ERR value is not an integer or out of range",
+        );
+        return Ok(Err(RedisError::from(error)));
+    };
+    let string = decimal_of(alloc, number)?;
+    put_in(alloc, store, node, slot, key, string.as_bytes())?;
+    Ok(Ok(Value::Int(number)))
+}
+
+/// One more than the number at a key, or than 0 where the key is absent.
+fn next_number(
+    alloc: Global,
+    store: &MemoryNodes,
+    slot: u16,
+    key: &[u8],
+) -> Result<Option<i64>, AllocError>
+    ensures { IfOk result (λ number. number
+        ≡ one_more (number_at (string_at (shelf slot (keyspace_in store.now)) key.now))) }
+{
+    let number = match string_in(store, slot, key) {
+        Some(string) => number_in(alloc, string)?,
+        None => Some(0),
+    };
+    let Some(number) = number else {
+        return Ok(None);
+    };
+    Ok(next(number))
+}
+
+/// Moves the string of a key to another key.
+fn rename(
+    alloc: Global,
+    store: &mut MemoryNodes,
+    node: &NodeAddress,
+    slot: u16,
+    key: &[u8],
+    new: &[u8],
+) -> Result<Result<Value, RedisError>, AllocError>
+    ensures done { IfOk result (λ answer. IsDone (in_shelf slot (rename_in_slot key.now new.now))
+        (keyspace_in store.old) (keyspace_in store.new) answer) }
+    ensures registered { registered_in store.new ≡ registered_in store.old }
+{
+    if Slot::for_key(key).number() != Slot::for_key(new).number() {
+        let text = "CROSSSLOT Keys in request don't hash to the same slot";
+        return Ok(Err(RedisError::from((ErrorKind::Client, text))));
     }
-    write(alloc, store, node, key, string)?;
+    let Some(string) = string_in(store, slot, key) else {
+        return Ok(Err(RedisError::from((ErrorKind::Client, "ERR no such key"))));
+    };
+    let string = string.to_vec(alloc)?;
+    remove(alloc, store, node, key)?;
+    write(alloc, store, node, new, &string)?;
     Ok(Ok(Value::Okay))
 }
 

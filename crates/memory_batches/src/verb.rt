@@ -13,6 +13,10 @@ pub(super) enum Verb {
     Get,
     /// Puts a string at a key.
     Set,
+    /// Adds one to the number at a key.
+    Incr,
+    /// Moves the string of a key to another key.
+    Rename,
 }
 
 impl Verb {
@@ -33,6 +37,8 @@ impl Verb {
         match name {
             b"GET" => Some(Verb::Get),
             b"SET" => Some(Verb::Set),
+            b"INCR" => Some(Verb::Incr),
+            b"RENAME" => Some(Verb::Rename),
             _ => None,
         }
     }
@@ -44,6 +50,8 @@ impl Verb {
         match self {
             Verb::Get => 2,
             Verb::Set => 3,
+            Verb::Incr => 2,
+            Verb::Rename => 3,
         }
     }
 }
