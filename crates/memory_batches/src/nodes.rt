@@ -21,9 +21,11 @@ use std::alloc::{AllocError, Global};
 /// Nodes that share one keyspace in memory, take batches of commands, keep a trace of these, and
 /// refuse those commands that were planned to be refused.
 ///
-/// They know the commands over many keys, `GET key` and `SET key value`. A key's string is its value
-/// at the empty path, which `MSET` writes too. Any other command is answered with the error
-/// `ERR unknown command`.
+/// They know the commands over many keys, as `MemoryNodes` does, and `GET key`, `SET key value`,
+/// `INCR key` and `RENAME key new`, which answer what Redis answers. To these four a key is its
+/// string, the value at the empty path, which `MSET` writes too; a key with no such value is absent.
+/// What they write takes the place of all values of the key. Any other command is answered with the
+/// error `ERR unknown command`.
 #[derive(Drop)]
 pub struct MemoryBatchNodes {
     alloc: Global,
