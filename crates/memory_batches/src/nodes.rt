@@ -13,7 +13,7 @@ use crate::trace_entry::BatchEntry;
 use cluster_slots::NodeAddress;
 use memory_nodes::MemoryNodes;
 use redis_batches::BatchNodes;
-use redis_cluster::driver::SendError;
+use redis_cluster::driver::{Nodes, SendError};
 use redis_routing::Registry;
 use resp_core::{Cmd, RedisError, Value};
 use std::alloc::{AllocError, Global};
@@ -174,6 +174,10 @@ impl BatchNodes for MemoryBatchNodes {
     ghost mark = { mark_in };
 
     ghost may_refuse = { MayRefuse };
+
+    fn registry(&self) -> &Registry {
+        self.store.registry()
+    }
 
     /// Where memory runs out before the first command, none is taken. Once one was begun, the answers
     /// are lost: what was taken stays, as at a node that fails between two commands, since undoing it

@@ -1,29 +1,33 @@
 //! Batches and their answers, as the tests write them.
 use cluster_slots::NodeAddress;
+use fixtures::cmd_of_text;
 use memory_batches::MemoryBatchNodes;
-use redis_batches::BatchNodes;
+use redis_batches::{BatchNodes, PipelineFault};
 use resp_core::{Cmd, RedisError, Value};
 use std::alloc::{AllocError, Global};
 use std::process::Abort;
 use std::str;
 use std::test::Fail;
 
-/// The command with these words.
-pub fn cmd_of(alloc: Global, line: &str) -> Result<Cmd, AllocError> {
-    let mut cmd = Cmd::new(alloc);
-    for word in line.split(' ') {
-        cmd.write_arg(word.as_bytes())?;
-    }
-    Ok(cmd)
-}
-
-/// The commands of a text, with a semicolon between two.
+/// The commands of a text, with a semicolon between two, or none.
 pub fn commands_of(alloc: Global, text: &str) -> Result<Vec<Cmd>, AllocError> {
     let mut commands = Vec::new(alloc);
+    if text.is_empty() {
+        return Ok(commands);
+    }
     for line in text.split(';') {
-        commands.push(cmd_of(alloc, line)?)?;
+        commands.push(cmd_of_text(alloc, line)?)?;
     }
     Ok(commands)
+}
+
+/// Why a pipeline has no plan.
+pub fn fault_text(alloc: Global, fault: &PipelineFault) -> Result<String, Fail> {
+    Ok(match fault {
+        PipelineFault::NotRoutable(number) => format!(in alloc; "NotRoutable {number}")?,
+        PipelineFault::NotCovered(number, slot) => format!(in alloc; "NotCovered {number} {slot}")?,
+        PipelineFault::Memory => format!(in alloc; "Memory")?,
+    })
 }
 
 // A value that has no items.

@@ -1,9 +1,11 @@
-//! Tests of nodes in memory that take batches.
+//! Tests of pipelines in batches, and of nodes in memory that take them.
 #![tactic(auto)]
 
 #[cfg(test)]
 mod given;
 #[cfg(test)]
 mod pipelines;
+#[cfg(test)]
+mod planned;
 #[cfg(test)]
 mod strings;

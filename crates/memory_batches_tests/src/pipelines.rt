@@ -1,100 +1,54 @@
-use crate::given::{answers_text, answers_to, check, commands_of};
-use cluster_slots::NodeAddress;
+//! Pipelines that are driven over nodes in memory.
+use crate::given::{answers_text, commands_of, fault_text};
+use cluster_map::SlotMap;
+use fixtures::{Line, TWO_NODES, map_of};
 use memory_batches::MemoryBatchNodes;
-use redis_batches::{BatchNodes, BatchPlan, PartCommand};
-use resp_core::{Cmd, ErrorKind, RedisError, Value};
+use redis_batches::{PipelineError, drive_pipeline};
+use resp_core::{ErrorKind, RedisError};
 use std::alloc::{AllocError, Global};
 use std::test::Fail;
 
-// The parts of `SET a 1`, `SET b 2`, `MGET b a`, `DEL a b c` and `GET a`, where n2 has the slot of
-// `a`, and n1 those of `b` and `c`.
-const PARTS: &str = "SET a 1;SET b 2;MGET b;MGET a;DEL a;DEL b;DEL c;GET a";
+// Of the two batches that of n2 has `SET a 1`, `MGET a`, `DEL a` and `GET a`, that of n1 `SET b 2`,
+// `MGET b`, `DEL b` and `DEL c`.
+const PIPELINE: &str = "SET a 1;SET b 2;MGET b a;DEL a b c;GET a";
 
-const NODES: [&str; 8] = [
-    "n2:2", "n1:1", "n1:1", "n2:2", "n2:2", "n1:1", "n1:1", "n2:2",
-];
-
-// What is answered to one batch.
-fn send_one(
-    alloc: Global,
-    plan: &BatchPlan<'_>,
-    number: usize,
-    nodes: &mut MemoryBatchNodes,
-) -> Result<Vec<Result<Value, RedisError>>, Fail> {
-    let node = plan.node(number).ok_or("no node")?;
-    let batch = plan.batch(alloc, number)?.ok_or("no batch")?;
-    match nodes.send_batch(node, batch.as_slice()) {
-        Ok(answers) => Ok(answers),
-        Err(_) => Err(Fail::from("a batch that was not taken")),
-    }
+fn error_text(alloc: Global, error: &PipelineError) -> Result<String, Fail> {
+    Ok(match error {
+        PipelineError::Plan(fault) => fault_text(alloc, fault)?,
+        PipelineError::BadOrder => format!(in alloc; "BadOrder")?,
+        PipelineError::Node(stopped) => format!(in alloc; "Node {}", stopped.answered)?,
+        PipelineError::Memory => format!(in alloc; "Memory")?,
+    })
 }
 
-// The parts, as they go out.
-fn parts_of<'a>(alloc: Global, commands: &'a [Cmd]) -> Result<Vec<PartCommand<'a>>, AllocError> {
-    let mut parts = Vec::new(alloc);
-    for command in commands {
-        parts.push(PartCommand::Whole(command))?;
-    }
-    Ok(parts)
-}
-
-// The node of each part.
-fn addresses_of(alloc: Global) -> Result<Vec<NodeAddress>, Fail> {
-    let mut addresses = Vec::new(alloc);
-    for node in NODES {
-        addresses.push(NodeAddress::try_from(alloc, node)?)?;
-    }
-    Ok(addresses)
-}
-
-fn refs_to<'a>(
-    alloc: Global,
-    addresses: &'a [NodeAddress],
-) -> Result<Vec<&'a NodeAddress>, AllocError> {
-    let mut refs = Vec::new(alloc);
-    for address in addresses {
-        refs.push(address)?;
-    }
-    Ok(refs)
-}
-
-fn plan_of<'a>(
-    alloc: Global,
-    commands: &'a [Cmd],
-    addresses: &'a [NodeAddress],
-) -> Result<BatchPlan<'a>, Fail> {
-    let parts = parts_of(alloc, commands)?;
-    let nodes = refs_to(alloc, addresses)?;
-    if nodes.len() != parts.len() {
-        return Err(Fail::from("a node for each part"));
-    }
-    Ok(BatchPlan::new(alloc, parts, nodes.as_slice())?)
-}
-
-// What is answered to the parts where their batches go out in this order.
-fn sent_in_order(
+// The replies to the commands of a text, whose batches go out in this order, or why there are none.
+fn driven(
     alloc: Global,
     nodes: &mut MemoryBatchNodes,
+    map: &SlotMap,
+    text: &str,
     order: &[usize],
 ) -> Result<String, Fail> {
-    let commands = commands_of(alloc, PARTS)?;
-    let addresses = addresses_of(alloc)?;
-    let mut plan = plan_of(alloc, commands.as_slice(), addresses.as_slice())?;
-    for number in order {
-        let answers = send_one(alloc, &plan, *number, nodes)?;
-        if plan.tell(*number, answers).is_err() {
-            return Err(Fail::from("not told"));
-        }
+    let commands = commands_of(alloc, text)?;
+    match drive_pipeline(alloc, commands.as_slice(), map, order, nodes) {
+        Ok(replies) => answers_text(alloc, replies.as_slice()),
+        Err(error) => error_text(alloc, &error),
     }
-    answers_text(alloc, plan.finish()?.as_slice())
+}
+
+fn driven_anew(map: &[Line<'_>], text: &str, order: &[usize], alloc: Global) -> Result<String, Fail> {
+    let map = map_of(alloc, map)?;
+    driven(alloc, &mut MemoryBatchNodes::new(alloc), &map, text, order)
 }
 
 #[test]
-fn answers_are_those_of_one_server_in_each_order(rt: HostRuntime) -> Result<(), Fail> {
+fn replies_are_those_of_one_server_in_each_order(rt: HostRuntime) -> Result<(), Fail> {
+    let alloc = rt.alloc();
+    let map = map_of(alloc, &TWO_NODES)?;
     for order in [[0, 1], [1, 0]] {
-        let mut nodes = MemoryBatchNodes::new(rt.alloc());
-        let given = sent_in_order(rt.alloc(), &mut nodes, &order)?;
-        assert_eq!(&rt; given.as_str(), "OK;OK;[2];[1];1;1;0;nil;");
+        let mut nodes = MemoryBatchNodes::new(alloc);
+        let given = driven(alloc, &mut nodes, &map, PIPELINE, &order)?;
+        assert_eq!(&rt; given.as_str(), "OK;OK;[2][1];2;nil;");
         for key in [b"a", b"b", b"c"] {
             assert!(&rt; nodes.get(key, b"").is_none());
         }
@@ -104,35 +58,82 @@ fn answers_are_those_of_one_server_in_each_order(rt: HostRuntime) -> Result<(), 
 }
 
 #[test]
-fn what_is_refused_does_nothing(rt: HostRuntime) -> Result<(), Fail> {
-    let alloc = rt.alloc();
-    // Of the two batches the second is that of n1, whose third command is `DEL b`.
-    let mut nodes = MemoryBatchNodes::new(alloc);
-    let mut plan = Vec::new(alloc);
-    for _ in 0..6 {
-        plan.push(None)?;
+fn pipelines_have_their_replies(rt: HostRuntime) -> Result<(), Fail> {
+    let table: [(&str, &[usize], &str); 8] = [
+        ("SET a 1;RENAME a {a}x;GET {a}x;GET a", &[0], "OK;OK;1;nil;"),
+        ("LPUSH a x;INCR a;GET b", &[1, 0], "ERR unknown command;1;nil;"),
+        ("GET b;GET a;GET foo;GET bar", &[0, 1], "nil;nil;nil;nil;"),
+        ("SET a 1;PING", &[0], "NotRoutable 1"),
+        ("MSET a", &[], "NotRoutable 0"),
+        ("GET a;GET b", &[0, 0], "BadOrder"),
+        ("GET a;GET b", &[1], "BadOrder"),
+        ("", &[], ""),
+    ];
+    for (text, order, want) in table {
+        let given = driven_anew(&TWO_NODES, text, order, rt.alloc())?;
+        assert_eq!(&rt; given.as_str(), want, "{text}");
     }
-    plan.push(Some(RedisError::from((ErrorKind::Client, "TRYAGAIN"))))?;
-    nodes.plan(plan);
-    let given = sent_in_order(alloc, &mut nodes, &[0, 1])?;
-    assert_eq!(&rt; given.as_str(), "OK;OK;[2];[1];1;TRYAGAIN;0;nil;");
-    assert_eq!(&rt; nodes.get(b"b", b""), Some(b"2".as_slice()));
-    let refused = nodes.trace().iter().filter(|entry| entry.refusal.is_some());
-    assert_eq!(&rt; refused.count(), 1);
-    let given = answers_to(alloc, &mut nodes, "n1:1", "DEL b")?;
-    assert_eq!(&rt; given.as_str(), "1;");
     Ok(())
 }
 
 #[test]
-fn an_error_of_a_command_stops_nothing(rt: HostRuntime) -> Result<(), Fail> {
-    check(
-        &rt,
-        rt.alloc(),
-        &[
-            ("n2:2", "LPUSH a x;INCR a", "ERR unknown command;1;"),
-            ("n1:1", "GET b", "nil;"),
-            ("n2:2", "MSET a 5 b 6 foo 7;MGET foo b a", "OK;[7][6][5];"),
-        ],
-    )
+fn a_slot_without_a_node_is_told(rt: HostRuntime) -> Result<(), Fail> {
+    let half: [Line<'static>; 1] = [(8192, 16383, "n2:2", &[])];
+    let given = driven_anew(&half, "SET a 1;MGET a b", &[0], rt.alloc())?;
+    assert_eq!(&rt; given.as_str(), "NotCovered 1 3300");
+    Ok(())
+}
+
+#[test]
+fn reads_go_to_the_primary(rt: HostRuntime) -> Result<(), Fail> {
+    let alloc = rt.alloc();
+    let whole: [Line<'static>; 1] = [(0, 16383, "p:1", &["r:1"])];
+    let map = map_of(alloc, &whole)?;
+    let mut nodes = MemoryBatchNodes::new(alloc);
+    let given = driven(alloc, &mut nodes, &map, "SET a 1;GET a", &[0])?;
+    assert_eq!(&rt; given.as_str(), "OK;1;");
+    assert!(&rt; nodes.trace().iter().all(|entry| entry.node.port() == 1));
+    assert!(&rt; nodes.trace().iter().all(|entry| entry.node.host() == "p"));
+    Ok(())
+}
+
+// A plan that refuses commands of these places in the trace, each with the error of its text.
+fn refusing(alloc: Global, refused: &[(usize, &'static str)]) -> Result<MemoryBatchNodes, AllocError> {
+    let mut plan = Vec::new(alloc);
+    for place in 0..8 {
+        let mut refusal = None;
+        for (at, text) in refused {
+            if *at == place {
+                refusal = Some(RedisError::from((ErrorKind::Client, *text)));
+            }
+        }
+        plan.push(refusal)?;
+    }
+    let mut nodes = MemoryBatchNodes::new(alloc);
+    nodes.plan(plan);
+    Ok(nodes)
+}
+
+#[test]
+fn what_is_refused_does_nothing(rt: HostRuntime) -> Result<(), Fail> {
+    let alloc = rt.alloc();
+    let map = map_of(alloc, &TWO_NODES)?;
+    let mut nodes = refusing(alloc, &[(6, "e")])?;
+    let given = driven(alloc, &mut nodes, &map, PIPELINE, &[0, 1])?;
+    assert_eq!(&rt; given.as_str(), "OK;OK;[2][1];e;nil;");
+    assert_eq!(&rt; nodes.get(b"b", b""), Some(b"2".as_slice()));
+    assert!(&rt; nodes.get(b"a", b"").is_none());
+    Ok(())
+}
+
+#[test]
+fn an_error_of_one_part_is_the_reply_of_its_command(rt: HostRuntime) -> Result<(), Fail> {
+    let alloc = rt.alloc();
+    let map = map_of(alloc, &TWO_NODES)?;
+    let mut nodes = refusing(alloc, &[(1, "e"), (2, "f")])?;
+    let given = driven(alloc, &mut nodes, &map, PIPELINE, &[0, 1])?;
+    assert_eq!(&rt; given.as_str(), "OK;OK;e;f;1;");
+    assert_eq!(&rt; nodes.get(b"a", b""), Some(b"1".as_slice()));
+    assert!(&rt; nodes.get(b"b", b"").is_none());
+    Ok(())
 }
