@@ -36,7 +36,12 @@ fn driven(
     }
 }
 
-fn driven_anew(map: &[Line<'_>], text: &str, order: &[usize], alloc: Global) -> Result<String, Fail> {
+fn driven_anew(
+    map: &[Line<'_>],
+    text: &str,
+    order: &[usize],
+    alloc: Global,
+) -> Result<String, Fail> {
     let map = map_of(alloc, map)?;
     driven(alloc, &mut MemoryBatchNodes::new(alloc), &map, text, order)
 }
@@ -61,7 +66,11 @@ fn replies_are_those_of_one_server_in_each_order(rt: HostRuntime) -> Result<(), 
 fn pipelines_have_their_replies(rt: HostRuntime) -> Result<(), Fail> {
     let table: [(&str, &[usize], &str); 8] = [
         ("SET a 1;RENAME a {a}x;GET {a}x;GET a", &[0], "OK;OK;1;nil;"),
-        ("LPUSH a x;INCR a;GET b", &[1, 0], "ERR unknown command;1;nil;"),
+        (
+            "LPUSH a x;INCR a;GET b",
+            &[1, 0],
+            "ERR unknown command;1;nil;",
+        ),
         ("GET b;GET a;GET foo;GET bar", &[0, 1], "nil;nil;nil;nil;"),
         ("SET a 1;PING", &[0], "NotRoutable 1"),
         ("MSET a", &[], "NotRoutable 0"),
@@ -98,7 +107,10 @@ fn reads_go_to_the_primary(rt: HostRuntime) -> Result<(), Fail> {
 }
 
 // A plan that refuses commands of these places in the trace, each with the error of its text.
-fn refusing(alloc: Global, refused: &[(usize, &'static str)]) -> Result<MemoryBatchNodes, AllocError> {
+fn refusing(
+    alloc: Global,
+    refused: &[(usize, &'static str)],
+) -> Result<MemoryBatchNodes, AllocError> {
     let mut plan = Vec::new(alloc);
     for place in 0..8 {
         let mut refusal = None;

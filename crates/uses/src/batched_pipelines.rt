@@ -1,0 +1,84 @@
+//! Pipelines that go out as one batch for each node.
+ghost use Rattle.std.specs.Prelude.{◌≡◌, IfErr};
+ghost use Rattle.redis_batches.specs.DrivenPipeline.{IsBeforeSending};
+
+use cluster_map::{NodeAddress, SlotMap};
+use redis_batches::{BatchNodes, PipelineError, PipelineFault, PipelinePlan, drive_pipeline};
+use redis_cluster::routing::Registry;
+use resp_core::{Cmd, RedisError, Value};
+use std::alloc::{AllocError, Global};
+
+/// What is answered to a command: a reply, or an error of the server.
+pub type Answer = Result<Value, RedisError>;
+
+/// Connections to the nodes of a cluster.
+pub trait BatchConnections {
+    /// Writes these commands to the node at once, and reads an answer to each, in their order.
+    fn exchange(&mut self, node: &NodeAddress, batch: &[&Cmd]) -> Result<Vec<Answer>, AllocError>;
+}
+
+/// Why a pipeline has no replies.
+#[derive(Debug, Drop)]
+pub enum NoReplies {
+    /// It has no plan. Nothing was sent.
+    NotPlanned(PipelineFault),
+    /// There are not as many answers to the batch of this number as commands. Batches before it took
+    /// effect, and so may this one.
+    NotAnswered(usize),
+    /// The answers make no replies. All batches took effect.
+    NotCombined(RedisError),
+    /// Memory ran out. Batches may have taken effect.
+    Memory,
+}
+
+/// Sends a pipeline, batch after batch, and gives the reply to each command.
+pub fn send_by_plan<C: BatchConnections>(
+    alloc: Global,
+    commands: &[Cmd],
+    registry: &Registry,
+    slot_map: &SlotMap,
+    connections: &mut C,
+) -> Result<Vec<Answer>, NoReplies> {
+    let mut plan = match PipelinePlan::new(alloc, commands, registry, slot_map) {
+        Ok(plan) => plan,
+        Err(fault) => return Err(NoReplies::NotPlanned(fault)),
+    };
+    for number in 0..plan.len() {
+        let answers = exchange_batch(alloc, &plan, number, connections)?;
+        if plan.tell(number, answers).is_err() {
+            return Err(NoReplies::NotAnswered(number));
+        }
+    }
+    plan.combine(alloc).map_err(NoReplies::NotCombined)
+}
+
+/// Sends one batch of a plan.
+fn exchange_batch<C: BatchConnections>(
+    alloc: Global,
+    plan: &PipelinePlan<'_>,
+    number: usize,
+    connections: &mut C,
+) -> Result<Vec<Answer>, NoReplies> {
+    let Ok(Some(batch)) = plan.batch(alloc, number) else {
+        return Err(NoReplies::Memory);
+    };
+    let Some(node) = plan.node(number) else {
+        return Err(NoReplies::NotAnswered(number));
+    };
+    connections
+        .exchange(node, batch.as_slice())
+        .map_err(|_| NoReplies::Memory)
+}
+
+/// Sends a pipeline over nodes that take batches, in this order of the batches.
+pub fn send_over<N: BatchNodes>(
+    alloc: Global,
+    commands: &[Cmd],
+    slot_map: &SlotMap,
+    order: &[usize],
+    nodes: &mut N,
+) -> Result<Vec<Answer>, PipelineError>
+    ensures untouched { IfErr result (λ error. IsBeforeSending error → nodes.new ≡ nodes.old) }
+{
+    drive_pipeline(alloc, commands, slot_map, order, nodes)
+}
