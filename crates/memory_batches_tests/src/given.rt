@@ -2,7 +2,7 @@
 use cluster_slots::NodeAddress;
 use fixtures::cmd_of_text;
 use memory_batches::MemoryBatchNodes;
-use redis_batches::{BatchNodes, PipelineFault};
+use redis_batches::BatchNodes;
 use resp_core::{Cmd, RedisError, Value};
 use std::alloc::{AllocError, Global};
 use std::process::Abort;
@@ -19,15 +19,6 @@ pub fn commands_of(alloc: Global, text: &str) -> Result<Vec<Cmd>, AllocError> {
         commands.push(cmd_of_text(alloc, line)?)?;
     }
     Ok(commands)
-}
-
-/// Why a pipeline has no plan.
-pub fn fault_text(alloc: Global, fault: &PipelineFault) -> Result<String, Fail> {
-    Ok(match fault {
-        PipelineFault::NotRoutable(number) => format!(in alloc; "NotRoutable {number}")?,
-        PipelineFault::NotCovered(number, slot) => format!(in alloc; "NotCovered {number} {slot}")?,
-        PipelineFault::Memory => format!(in alloc; "Memory")?,
-    })
 }
 
 // A value that has no items.

@@ -1,9 +1,9 @@
 //! Pipelines that are driven over nodes in memory.
-use crate::given::{answers_text, commands_of, fault_text};
+use crate::given::{answers_text, commands_of};
 use cluster_map::SlotMap;
 use fixtures::{Line, TWO_NODES, map_of};
 use memory_batches::MemoryBatchNodes;
-use redis_batches::{PipelineError, drive_pipeline};
+use redis_batches::drive_pipeline;
 use resp_core::{ErrorKind, RedisError};
 use std::alloc::{AllocError, Global};
 use std::test::Fail;
@@ -11,15 +11,6 @@ use std::test::Fail;
 // Of the two batches that of n2 has `SET a 1`, `MGET a`, `DEL a` and `GET a`, that of n1 `SET b 2`,
 // `MGET b`, `DEL b` and `DEL c`.
 const PIPELINE: &str = "SET a 1;SET b 2;MGET b a;DEL a b c;GET a";
-
-fn error_text(alloc: Global, error: &PipelineError) -> Result<String, Fail> {
-    Ok(match error {
-        PipelineError::Plan(fault) => fault_text(alloc, fault)?,
-        PipelineError::BadOrder => format!(in alloc; "BadOrder")?,
-        PipelineError::Node(stopped) => format!(in alloc; "Node {}", stopped.answered)?,
-        PipelineError::Memory => format!(in alloc; "Memory")?,
-    })
-}
 
 // The replies to the commands of a text, whose batches go out in this order, or why there are none.
 fn driven(
@@ -32,7 +23,7 @@ fn driven(
     let commands = commands_of(alloc, text)?;
     match drive_pipeline(alloc, commands.as_slice(), map, order, nodes) {
         Ok(replies) => answers_text(alloc, replies.as_slice()),
-        Err(error) => error_text(alloc, &error),
+        Err(error) => Ok(format!(in alloc; "{error}")?),
     }
 }
 
@@ -72,10 +63,26 @@ fn pipelines_have_their_replies(rt: HostRuntime) -> Result<(), Fail> {
             "ERR unknown command;1;nil;",
         ),
         ("GET b;GET a;GET foo;GET bar", &[0, 1], "nil;nil;nil;nil;"),
-        ("SET a 1;PING", &[0], "NotRoutable 1"),
-        ("MSET a", &[], "NotRoutable 0"),
-        ("GET a;GET b", &[0, 0], "BadOrder"),
-        ("GET a;GET b", &[1], "BadOrder"),
+        (
+            "SET a 1;PING",
+            &[0],
+            "command 1 goes to no single slot and is not split",
+        ),
+        (
+            "MSET a",
+            &[],
+            "command 0 goes to no single slot and is not split",
+        ),
+        (
+            "GET a;GET b",
+            &[0, 0],
+            "the order does not name each batch once",
+        ),
+        (
+            "GET a;GET b",
+            &[1],
+            "the order does not name each batch once",
+        ),
         ("", &[], ""),
     ];
     for (text, order, want) in table {
@@ -89,7 +96,7 @@ fn pipelines_have_their_replies(rt: HostRuntime) -> Result<(), Fail> {
 fn a_slot_without_a_node_is_told(rt: HostRuntime) -> Result<(), Fail> {
     let half: [Line<'static>; 1] = [(8192, 16383, "n2:2", &[])];
     let given = driven_anew(&half, "SET a 1;MGET a b", &[0], rt.alloc())?;
-    assert_eq!(&rt; given.as_str(), "NotCovered 1 3300");
+    assert_eq!(&rt; given.as_str(), "slot 3300 of command 1 not covered");
     Ok(())
 }
 

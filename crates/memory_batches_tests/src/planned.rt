@@ -1,5 +1,5 @@
 //! Pipelines that are planned, and told by hand.
-use crate::given::{answers_text, commands_of, fault_text};
+use crate::given::{answers_text, commands_of};
 use cluster_map::SlotMap;
 use fixtures::{Line, TWO_NODES, map_of};
 use redis_batches::PipelinePlan;
@@ -39,7 +39,7 @@ fn planned(alloc: Global, map: &SlotMap, text: &str) -> Result<String, Fail> {
     let commands = commands_of(alloc, text)?;
     match PipelinePlan::new(alloc, commands.as_slice(), &registry, map) {
         Ok(plan) => plan_text(alloc, &plan),
-        Err(fault) => fault_text(alloc, &fault),
+        Err(fault) => Ok(format!(in alloc; "{fault}")?),
     }
 }
 
@@ -83,8 +83,14 @@ fn there_is_a_batch_for_each_node(rt: HostRuntime) -> Result<(), Fail> {
             "GET b;GET a;GET foo;GET bar",
             "n1:1: GET b: GET bar;n2:2: GET a: GET foo;",
         ),
-        ("SET a 1;DBSIZE", "NotRoutable 1"),
-        ("EVAL s 0", "NotRoutable 0"),
+        (
+            "SET a 1;DBSIZE",
+            "command 1 goes to no single slot and is not split",
+        ),
+        (
+            "EVAL s 0",
+            "command 0 goes to no single slot and is not split",
+        ),
         ("", ""),
     ];
     for (text, want) in table {

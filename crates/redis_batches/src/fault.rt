@@ -2,6 +2,8 @@ ghost use Rattle.std.specs.Prelude.{◌≡◌};
 
 use crate::send::Stopped;
 use std::alloc::{AllocError, AllocFailed};
+use std::error::Error;
+use std::fmt;
 
 /// Why a pipeline has no plan. Commands are numbered from 0.
 #[derive(Debug, Drop)]
@@ -36,6 +38,25 @@ impl<T: Drop> From<AllocFailed<T>> for PipelineFault {
     }
 }
 
+impl fmt::Display for PipelineFault {
+    fn fmt<W: fmt::Write>(&self, f: &mut fmt::Formatter<W>) -> fmt::Result {
+        match self {
+            PipelineFault::NotRoutable(number) => {
+                write!(
+                    f,
+                    "command {number} goes to no single slot and is not split"
+                )
+            }
+            PipelineFault::NotCovered(number, slot) => {
+                write!(f, "slot {slot} of command {number} not covered")
+            }
+            PipelineFault::Memory => write!(f, "out of memory"),
+        }
+    }
+}
+
+impl Error for PipelineFault {}
+
 /// Why a pipeline was not driven to its end.
 #[derive(Debug, Drop)]
 pub enum PipelineError {
@@ -48,3 +69,16 @@ pub enum PipelineError {
     /// Memory ran out once all batches were taken: the replies are lost.
     Memory,
 }
+
+impl fmt::Display for PipelineError {
+    fn fmt<W: fmt::Write>(&self, f: &mut fmt::Formatter<W>) -> fmt::Result {
+        match self {
+            PipelineError::Plan(fault) => write!(f, "{fault}"),
+            PipelineError::BadOrder => write!(f, "the order does not name each batch once"),
+            PipelineError::Node(stopped) => write!(f, "{stopped}"),
+            PipelineError::Memory => write!(f, "out of memory"),
+        }
+    }
+}
+
+impl Error for PipelineError {}

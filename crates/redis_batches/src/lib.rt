@@ -18,7 +18,5 @@ mod task;
 pub use drive::drive_pipeline;
 pub use fault::{PipelineError, PipelineFault};
 pub use nodes::BatchNodes;
-pub use part::PartCommand;
 pub use pipeline::PipelinePlan;
-pub use plan::BatchPlan;
-pub use send::{Stopped, send_batches};
+pub use send::Stopped;

@@ -15,6 +15,8 @@ use crate::plan::BatchPlan;
 use redis_cluster::driver::SendError;
 use resp_core::{RedisError, Value};
 use std::alloc::Global;
+use std::error::Error;
+use std::fmt;
 
 /// A batch was not taken, for this cause. The first `answered` batches of the order were, and no
 /// later one was sent.
@@ -25,6 +27,16 @@ pub struct Stopped {
     /// How many batches were taken before it.
     pub answered: usize,
 }
+
+impl fmt::Display for Stopped {
+    fn fmt<W: fmt::Write>(&self, f: &mut fmt::Formatter<W>) -> fmt::Result {
+        let error = &self.error;
+        let answered = self.answered;
+        write!(f, "{error} (batches taken: {answered})")
+    }
+}
+
+impl Error for Stopped {}
 
 /// Sends the batches of a plan in an order, a list that names each once, and tells the plan their
 /// answers. Whatever the order, keyspace and answers are those of one server that takes the parts in
