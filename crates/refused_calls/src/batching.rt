@@ -2,9 +2,12 @@
 use crate::fault::Fault;
 use crate::inputs::{address, cmd, map};
 use crate::page::{Page, TellsMemory};
+use crate::values::error;
 use cluster_map::SlotMap;
 use memory_batches::MemoryBatchNodes;
-use redis_batches::{BatchNodes, PipelineError, PipelineFault, PipelinePlan, drive_pipeline};
+use redis_batches::{
+    BatchNodes, PipelineError, PipelineFault, PipelinePlan, Stopped, drive_pipeline,
+};
 use redis_cluster::driver::SendError;
 use redis_cluster::routing::Registry;
 use resp_core::{Cmd, ErrorKind, RedisError, Value};
@@ -21,7 +24,10 @@ pub fn call(page: &Page<'_>, alloc: Global, name: &str) -> Result<(), Fault> {
         "PipelineFault::Display" => {
             page.given(&format!(in alloc; "{}", PipelineFault::NotCovered(1, 3300)))
         }
-        "PipelineError::Display" => page.given(&format!(in alloc; "{}", PipelineError::BadOrder)),
+        "PipelineError::Display" => {
+            page.given(&format!(in alloc; "{}", PipelineError::Node(stopped(alloc)?)))
+        }
+        "Stopped::Display" => page.given(&format!(in alloc; "{}", stopped(alloc)?)),
         "MemoryBatchNodes::new" => page.answer(&MemoryBatchNodes::new(alloc).trace().len()),
         "MemoryBatchNodes::with_registry" => {
             let nodes = MemoryBatchNodes::with_registry(alloc, Registry::new(alloc));
@@ -30,6 +36,13 @@ pub fn call(page: &Page<'_>, alloc: Global, name: &str) -> Result<(), Fault> {
         "MemoryBatchNodes::send_batch" => sent(page, alloc),
         _ => Err(Fault::Words),
     }
+}
+
+fn stopped(alloc: Global) -> Result<Stopped, AllocError> {
+    Ok(Stopped {
+        error: SendError::Refused(error(alloc)?),
+        answered: 1,
+    })
 }
 
 /// What a batch answers whose answers are lost for want of memory tells that memory ran out, too.

@@ -7,6 +7,7 @@
 #![tactic(auto)]
 
 mod addresses;
+mod batching;
 mod bytes;
 mod combining;
 mod driving;
@@ -78,6 +79,7 @@ fn call(page: &Page<'_>, alloc: Global, library: &str, name: &str) -> Result<(),
         "redis_combiners" => combining::call(page, alloc, name),
         "redis_cluster" => call_of_redis_cluster(page, alloc, name),
         "redis_bytes" => splitting_bytes::call(page, alloc, name),
+        "redis_batches" | "memory_batches" => batching::call(page, alloc, name),
         "memory_nodes" | "wire_nodes" => driving::call_of_nodes(page, alloc, name),
         "slotroute_serve" => call_of_slotroute_serve(page, alloc, name),
         _ => Err(Fault::Words),

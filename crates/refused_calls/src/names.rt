@@ -1,5 +1,16 @@
 /// Each public call that may take memory. `tools/memory-calls` prints those that have to be here.
-pub static NAMES: [&str; 126] = [
+pub static NAMES: [&str; 137] = [
+    "memory_batches::MemoryBatchNodes::new",
+    "memory_batches::MemoryBatchNodes::with_registry",
+    "memory_batches::MemoryBatchNodes::send_batch",
+    "redis_batches::drive_pipeline",
+    "redis_batches::PipelinePlan::new",
+    "redis_batches::PipelinePlan::batch",
+    "redis_batches::PipelinePlan::tell",
+    "redis_batches::PipelinePlan::combine",
+    "redis_batches::PipelineFault::Display",
+    "redis_batches::PipelineError::Display",
+    "redis_batches::Stopped::Display",
     "cluster_map::SlotMap::new",
     "cluster_map::SlotMap::default",
     "cluster_map::SlotMap::fill_slots",
