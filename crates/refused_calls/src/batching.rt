@@ -10,7 +10,7 @@ use redis_batches::{
 };
 use redis_cluster::driver::SendError;
 use redis_cluster::routing::Registry;
-use resp_core::{Cmd, ErrorKind, RedisError, Value};
+use resp_core::{Cmd, RedisError, Value};
 use std::alloc::{AllocError, Global};
 
 /// Makes a call on pipelines in batches, by its name.
@@ -45,15 +45,6 @@ fn stopped(alloc: Global) -> Result<Stopped, AllocError> {
     })
 }
 
-/// What a batch answers whose answers are lost for want of memory tells that memory ran out, too.
-fn is_short(error: &SendError) -> bool {
-    match error {
-        SendError::Memory => true,
-        SendError::Lost(error) => error.kind() == ErrorKind::OutOfMemory,
-        _ => false,
-    }
-}
-
 impl TellsMemory for PipelineFault {
     fn is_memory(&self) -> bool {
         matches!(self, PipelineFault::Memory)
@@ -64,7 +55,7 @@ impl TellsMemory for PipelineError {
     fn is_memory(&self) -> bool {
         match self {
             PipelineError::Plan(fault) => fault.is_memory(),
-            PipelineError::Node(stopped) => is_short(&stopped.error),
+            PipelineError::Node(stopped) => stopped.error.is_memory(),
             PipelineError::Memory => true,
             PipelineError::BadOrder => false,
         }
@@ -83,12 +74,13 @@ fn driven(page: &Page<'_>, alloc: Global) -> Result<(), Fault> {
 }
 
 fn sent(page: &Page<'_>, alloc: Global) -> Result<(), Fault> {
-    let (node, command) = (address(alloc, "n1")?, cmd(alloc, "SET a 1")?);
-    let mut nodes = MemoryBatchNodes::new(alloc);
-    match nodes.send_batch(&node, &[&command]) {
-        Err(error) if is_short(&error) => page.out_of_memory(""),
-        given => page.given(&given),
+    let (node, commands) = (address(alloc, "n1")?, commands(alloc)?);
+    let mut batch = Vec::new(alloc);
+    for command in &commands {
+        batch.push(command)?;
     }
+    let mut nodes = MemoryBatchNodes::new(alloc);
+    page.given(&nodes.send_batch(&node, batch.as_slice()))
 }
 
 /// The plan of some commands, where no name is registered.

@@ -62,9 +62,14 @@ impl TellsMemory for PlanFault {
     }
 }
 
+// The answers to a batch are lost where memory runs out between two of its commands.
 impl TellsMemory for SendError {
     fn is_memory(&self) -> bool {
-        matches!(self, SendError::Memory)
+        match self {
+            SendError::Memory => true,
+            SendError::Lost(error) => error.is_memory(),
+            _ => false,
+        }
     }
 }
 
