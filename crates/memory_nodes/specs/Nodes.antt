@@ -5,6 +5,7 @@ use Rattle.resp_core.specs.declared.error.ErrorKind.TheVariants.{Client}
 use Rattle.redis_routing.specs.Registry.{Registrations}
 use Rattle.redis_routing.specs.declared.info.Redirect.{Redirect}
 use Rattle.redis_cluster.specs.Trace.{Entry, Ending, answered, refused, redirected, entry}
+use Rattle.redis_cluster.specs.State.{State, state}
 use Rattle.redis_cluster.specs.Unsplit.{Keyspace}
 use Rattle.memory_nodes.specs.Cells.{Cell, keyspace_of}
 use Rattle.memory_nodes.specs.Parts.{words}
@@ -62,6 +63,9 @@ trace_in nodes = map entry_of nodes.trace.items
 -- whether the last send ran out of memory
 abbrev pub mark_in : MemoryNodes → Bool
 mark_in nodes = nodes.mark
+
+abbrev pub state_in : MemoryNodes → State Cell
+state_in nodes = state (keyspace_in nodes) (trace_in nodes) (mark_in nodes)
 
 -- the limit of the fuse, if one was set
 abbrev pub fuse_in : MemoryNodes → Option ℕ

@@ -5,7 +5,7 @@ ghost use Rattle.redis_cluster.specs.Sent.{IsLeft, IsUnanswered, ending_of};
 ghost use Rattle.redis_cluster.specs.Trace.{Ending, answered, refused, redirected, entry};
 ghost use Rattle.redis_cluster.specs.Unsplit.{keyspace_after, reply_to};
 ghost use Rattle.memory_nodes.specs.Cells.{Cell, value_at};
-ghost use Rattle.memory_nodes.specs.Nodes.{registered_in, keyspace_in, trace_in, mark_in, fuse_in, planned_in, planned_for, EndsSo, MayRefuse, IsFused, entry_of, node_refused};
+ghost use Rattle.memory_nodes.specs.Nodes.{registered_in, keyspace_in, trace_in, mark_in, state_in, fuse_in, planned_in, planned_for, EndsSo, MayRefuse, IsFused, entry_of, node_refused};
 ghost use Rattle.memory_nodes.specs.Steps.{step};
 
 use crate::cells::{Cells, value_at};
@@ -228,11 +228,7 @@ impl Nodes for MemoryNodes {
 
     ghost registered = { registered_in };
 
-    ghost keyspace = { keyspace_in };
-
-    ghost trace = { trace_in };
-
-    ghost mark = { mark_in };
+    ghost state = { state_in };
 
     ghost may_refuse = { MayRefuse };
 

@@ -1,7 +1,7 @@
 -- A split command by its lists of indices is the command by its tuples: the same routes and parts.
-use Rattle.std.proofs.Common.{◌≡◌, ℕ, ◌+◌, ◌-◌, ◌≤◌, ◌<◌, List, [], ◌∷◌, ◌++◌, Bool, true, cond, Option, None, Some, map, option_map, length, take, drop, refl, sym, ap, ◌∙◌, arith}
+use Rattle.std.proofs.Common.{◌≡◌, ℕ, ◌≤◌, List, [], ◌∷◌, ◌++◌, Bool, Option, None, Some, map, option_map, length, take, refl, sym, ap, ◌∙◌, arith}
 use Rattle.std.specs.Prelude.{IfSome, nat_eq, slice_get}
-use Rattle.std.specs.List.{filter, flat_map}
+use Rattle.std.specs.List.{flat_map}
 use Rattle.std.specs.Option.{option_to_list}
 use Rattle.std.proofs.lemmas.Bool.Decides.{nat_tests}
 use Rattle.std.proofs.lemmas.List.{length-drop}
@@ -13,14 +13,14 @@ use Rattle.redis_routing.specs.Names.{Names}
 use Rattle.redis_routing.specs.NameWords.{name_words_of}
 use Rattle.redis_routing.specs.PresentArguments.{present_arguments}
 use Rattle.redis_routing.specs.Registry.{Registrations}
-use Rattle.redis_routing.specs.Tuples.{Tuple, arguments_of, is_complete, tuple_args_count, shared_in, tuples_in}
+use Rattle.redis_routing.specs.Tuples.{Tuple, arguments_of, tuple_args_count, shared_in, tuples_in}
 use Rattle.redis_routing.specs.declared.route_by.MultiSlotArgPattern.{MultiSlotArgPattern}
 use Rattle.redis_routing.specs.declared.route_by.MultiSlotArgPattern.TheVariants.{KeysOnly, KeyValuePairs, KeysAndLastArg, KeyWithTwoArgTriples}
 use Rattle.redis_routing.specs.Complete.{multi_slot_routes, part_by_name, part_by_pattern, pattern_by_name, pattern_of}
 use Rattle.redis_routing.specs.Split.{HasJoiningPolicy}
 use Rattle.redis_routing.specs.Parts.{first_appearances, slot_of, tuples_in_slot}
 use Rattle.redis_routing.specs.Routing.{nodes_for, route_of_slot, routes_of}
-use Rattle.redis_cluster.specs.MultiKey.{KeyTuple, MultiKey, command_routes, multi_key, part_args, part_args_in, part_by_slot, tuple_args, tuples_of_slot}
+use Rattle.redis_cluster.specs.MultiKey.{MultiKey, command_routes, multi_key, part_args_in, part_by_slot, tuple_args, tuples_of_slot}
 use Rattle.redis_cluster.specs.PlacedTuples.{unplaced}
 use Rattle.redis_cluster.proofs.SplitParts.{command_of_routes, filter-map, is_made, no_command, routes_made, same_slots}
 

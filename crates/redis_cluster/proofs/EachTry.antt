@@ -1,5 +1,5 @@
 -- What is tried for the routes of a command, each with its retry.
-use Rattle.std.proofs.Common.{◌≡◌, ◌∙◌, ℕ, zero, suc, ◌+◌, arith, List, [], ◌∷◌, ◌++◌, Option, Some, All, ap, sym, subst, rules, map, take, length}
+use Rattle.std.proofs.Common.{◌≡◌, ◌∙◌, ℕ, zero, suc, ◌+◌, arith, List, [], ◌∷◌, ◌++◌, Some, All, ap, sym, subst, rules, map, take, length}
 use Rattle.std.specs.Prelude.{IsSome, slice_get}
 use Rattle.std.specs.declared.alloc.Global.{Global}
 use Rattle.std.specs.declared.vec.Vec.{Vec}

@@ -1,5 +1,5 @@
 -- What stands when the parts were sent, or the sends stopped.
-use Rattle.std.proofs.Common.{◌≡◌, ◌<◌, ◌≤◌, ℕ, zero, suc, ◌+◌, List, [], ◌∷◌, ◌++◌, Option, Some, None, All, inl, inr, ◌⊎◌, refl, sym, ap, ◌∙◌, arith, subst, map, take, length, get_or}
+use Rattle.std.proofs.Common.{◌≡◌, ◌<◌, ℕ, zero, suc, ◌+◌, List, [], ◌∷◌, ◌++◌, Option, Some, None, All, inl, inr, ◌⊎◌, refl, sym, ap, ◌∙◌, arith, subst, map, take, length, get_or}
 use Rattle.std.specs.Prelude.{slice_get, cond, Bool}
 use Rattle.std.specs.Str.{bytes_eq}
 use Rattle.std.proofs.Common.{⊎_elim}
@@ -7,7 +7,7 @@ use Rattle.std.proofs.Math.Path.{fun_ext}
 use Rattle.resp_core.proofs.Cases.{by_test}
 use Rattle.std.specs.List.{AllZip}
 use Rattle.std.specs.Option.{option_to_list}
-use Rattle.std.proofs.lemmas.List.{append-nil, length-map, take_all}
+use Rattle.std.proofs.lemmas.List.{length-map, take_all}
 use Rattle.std.proofs.lemmas.List.Elements.{All-head, All-tail}
 use Rattle.std.proofs.lemmas.Option.{slice_get-get_or}
 use Rattle.std.proofs.lemmas.Simd.{map-map}
@@ -15,7 +15,7 @@ use Rattle.resp_core.specs.ErrorParts.{ErrorParts}
 use Rattle.cluster_slots.specs.Address.{Address}
 use Rattle.cluster_slots.specs.SlotRoute.{SlotRoute}
 use Rattle.redis_routing.specs.Registry.{Registrations}
-use Rattle.redis_cluster.specs.MultiKey.{MultiKey, KeyTuple, list}
+use Rattle.redis_cluster.specs.MultiKey.{MultiKey, KeyTuple}
 use Rattle.redis_cluster.specs.Orders.{NamesOnce, in_order, tuples_of_slots}
 use Rattle.redis_cluster.specs.Sent.{ending_of}
 use Rattle.redis_cluster.specs.Trace.{Entry, Ending, answered, refused, redirected, lost}
@@ -26,9 +26,10 @@ use Rattle.redis_cluster.proofs.Fold.{joined}
 use Rattle.redis_cluster.proofs.Orders.{map-in_order}
 use Rattle.redis_cluster.proofs.Once.{length-names_once}
 use Rattle.redis_cluster.proofs.Whole.{keyspace_of_all, keyspace_at_stop, names_slots_from}
-use Rattle.redis_cluster.specs.Driven.{Request, State, IsCoveredCommand, IsDrivable, IsLeftBy}
+use Rattle.redis_cluster.specs.Driven.{Request, IsCoveredCommand, IsDrivable, IsLeftBy}
+use Rattle.redis_cluster.specs.State.{State, state}
 use Rattle.redis_cluster.specs.Ended.{AreEndedEarly, AreStopped, IsReplyEnded}
-use Rattle.redis_cluster.specs.Faults.{fault_of_send, IsBefore, IsCauseBeforeSending, nothing, unseen, unseen_step}
+use Rattle.redis_cluster.specs.Faults.{fault_of_send, IsBefore, IsCauseBeforeSending, nothing, unseen_step}
 use Rattle.redis_cluster.specs.Plan.{Plan}
 use Rattle.redis_routing.specs.Split.{slots_of}
 use Rattle.redis_cluster.specs.Attempts.{Try}
@@ -240,12 +241,12 @@ cut_retried IsTry r old new may_refuse (early.Reply error) count f = absurd f
 
 pub retry_cut : {C : Type 0} (IsNode : SlotRoute → Address → Type 0) (step : Step C) (r : Request) (kept : Type 0) (old_keys new_keys : Keyspace C) (old new : List Entry) (old_mark new_mark : Bool) (plan : Plan) (command : MultiKey) (is : IsReady IsNode r plan command) (order : NamesOnce (length plan.split.routes) r.order)
     (IsTry : SlotRoute → Try → Type 0) (tries : List Try) → AllZip IsTry (map (λ t. t.0) plan.split.routes) tries → (may_refuse : ℕ → Ending → Type 0) (fault : DriveFault) (count : ℕ)
-    → AreEndedEarly kept r.names.registered step may_refuse plan tries r.order old_keys new_keys old new new_mark fault count → IsRetryCut IsTry r (unseen old old_mark) (unseen new new_mark) may_refuse fault count
+    → AreEndedEarly kept r.names.registered step may_refuse plan tries r.order old_keys new_keys old new new_mark fault count → IsRetryCut IsTry r (state nothing old old_mark) (state nothing new new_mark) may_refuse fault count
 retry_cut IsNode step r kept old_keys new_keys old new old_mark new_mark plan command is order IsTry tries are may_refuse fault count ended =
-    ⊎_elim (λ e. cut_retried IsTry r (unseen old old_mark) (unseen new new_mark) may_refuse fault count
-    (retry_fault IsNode unseen_step r (unseen old old_mark) (unseen new new_mark) plan command is order IsTry tries are (Unit {0}) tt may_refuse fault count e))
-    (λ e. subst (λ (f : DriveFault). IsRetryCut IsTry r (unseen old old_mark) (unseen new new_mark) may_refuse f count) (sym e.fault_is)
-    (command, collected IsNode unseen_step r (unseen old old_mark) (unseen new new_mark) plan command is order IsTry tries are count e.count_is e.trace (after_nothing command command.tuples)))
+    ⊎_elim (λ e. cut_retried IsTry r (state nothing old old_mark) (state nothing new new_mark) may_refuse fault count
+    (retry_fault IsNode unseen_step r (state nothing old old_mark) (state nothing new new_mark) plan command is order IsTry tries are (Unit {0}) tt may_refuse fault count e))
+    (λ e. subst (λ (f : DriveFault). IsRetryCut IsTry r (state nothing old old_mark) (state nothing new new_mark) may_refuse f count) (sym e.fault_is)
+    (command, collected IsNode unseen_step r (state nothing old old_mark) (state nothing new new_mark) plan command is order IsTry tries are count e.count_is e.trace (after_nothing command command.tuples)))
     (unseen_ended step kept r.names.registered may_refuse plan tries r.order old_keys new_keys old new new_mark fault count ended)
 
 -- a fault that comes before the first send leaves all as it was

@@ -16,7 +16,8 @@ use Rattle.redis_cluster.proofs.Once.{length-names_once}
 use Rattle.redis_cluster.proofs.Orders.{length-in_order}
 use Rattle.std.proofs.lemmas.Slice.Zip.{AllZip-long}
 use Rattle.redis_cluster.specs.Unsplit.{Step}
-use Rattle.redis_cluster.specs.Driven.{Request, State, command_routes_by, IsDrivable, IsEntryOf, AreSent, AreAllAnswered, IsUnhindered}
+use Rattle.redis_cluster.specs.Driven.{Request, command_routes_by, IsDrivable, IsEntryOf, AreSent, AreAllAnswered, IsUnhindered}
+use Rattle.redis_cluster.specs.State.{State}
 use Rattle.redis_cluster.specs.Faults.{IsCauseBeforeSending, IsFault, IsNodeFault, IsLostFault}
 use Rattle.redis_cluster.specs.declared.fault.DriveFault.{DriveFault}
 use Rattle.redis_cluster.specs.declared.fault.DriveFault.TheVariants.{NotMultiKey, NotCovered, BadOrder, Memory, Node, Redirected, Lost, Reply}

@@ -1,5 +1,5 @@
 -- A plan that was made of a multi-key command has a part for each slot of its keys, and a node for each.
-use Rattle.std.proofs.Common.{◌≡◌, ℕ, Bool, true, List, [], ◌∷◌, Some, option_map, All, sym, ap, ◌∙◌, map}
+use Rattle.std.proofs.Common.{◌≡◌, ℕ, true, List, [], ◌∷◌, Some, option_map, All, sym, ap, ◌∙◌, map}
 use Rattle.std.specs.List.{AllZip, list_any, zip}
 use Rattle.std.specs.Prelude.{IfSome, nat_eq}
 use Rattle.std.proofs.lemmas.List.Elements.{All-head, All-tail, All-map, All-weaker}

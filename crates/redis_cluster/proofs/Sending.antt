@@ -1,5 +1,5 @@
 -- One part more is sent and its reply told, and the replies are all there in the end.
-use Rattle.std.proofs.Common.{◌≡◌, ◌<◌, ◌↔◌, inl, inr, ⊎_elim, ℕ, zero, suc, ◌+◌, List, [], ◌∷◌, Bool, false, cond, Option, Some, None, refl, sym, ap, ◌∙◌, arith, length, map, take, get_or, subst}
+use Rattle.std.proofs.Common.{◌≡◌, ◌<◌, inl, inr, ⊎_elim, ℕ, zero, suc, ◌+◌, List, [], ◌∷◌, false, cond, Option, Some, None, refl, sym, ap, ◌∙◌, arith, length, map, take, get_or, subst}
 use Rattle.std.specs.Prelude.{nat_eq, slice_get, slice_set}
 use Rattle.std.specs.List.{All, AllZip, zip}
 use Rattle.std.proofs.lemmas.List.Elements.{All-nil, All-cons}

@@ -1,13 +1,13 @@
 -- The tuples of a shape are those of the pattern with the indices of their arguments left out.
-use Rattle.std.proofs.Common.{◌≡◌, ℕ, zero, suc, ◌+◌, ◌-◌, ◌*◌, ◌/◌, ◌%◌, ◌≤◌, ◌<◌, List, [], ◌∷◌, Bool, true, Option, None, Some, map, length, take, drop, cond, refl, sym, ap, ◌∙◌, arith}
+use Rattle.std.proofs.Common.{◌≡◌, ℕ, zero, suc, ◌+◌, ◌-◌, ◌*◌, ◌/◌, ◌%◌, ◌≤◌, List, [], ◌∷◌, true, map, length, take, drop, cond, refl, sym, ap, ◌∙◌, arith}
 use Rattle.std.specs.Prelude.{slice_get}
 use Rattle.std.proofs.Math.Seq.{take-length}
 use Rattle.std.specs.Simd.{first_chunks}
 use Rattle.std.proofs.lemmas.Bool.Decides.{nat_tests}
-use Rattle.redis_routing.specs.Tuples.{Tuple, is_complete, keys_alone, keys_and_values, keys_and_two, tuple_args_count, shared_in, tuples_in}
+use Rattle.redis_routing.specs.Tuples.{is_complete, keys_alone, keys_and_values, keys_and_two, shared_in}
 use Rattle.redis_routing.specs.declared.route_by.MultiSlotArgPattern.{MultiSlotArgPattern}
 use Rattle.redis_routing.specs.declared.route_by.MultiSlotArgPattern.TheVariants.{KeysOnly, KeyValuePairs, KeysAndLastArg, KeyWithTwoArgTriples}
-use Rattle.redis_cluster.specs.MultiKey.{KeyTuple, is_whole, shape_of, shared_by, tuple_by, tuples_by}
+use Rattle.redis_cluster.specs.MultiKey.{is_whole, shape_of, shared_by, tuple_by, tuples_by}
 use Rattle.redis_cluster.specs.PlacedTuples.{unplaced, tuples_of}
 
 -- as many arguments are whole by the shape as are complete by the pattern

@@ -1,6 +1,5 @@
 -- What stands where each part was sent once.
-use Rattle.std.proofs.Common.{◌≡◌, ◌<◌, ◌≤◌, ◌⊎◌, ℕ, zero, suc, ◌+◌, List, [], ◌∷◌, ◌++◌, Option, Some, None, inl, inr, refl, sym, ap, ◌∙◌, arith, subst, map, take, length, append_assoc}
-use Rattle.std.specs.Prelude.{slice_get}
+use Rattle.std.proofs.Common.{◌≡◌, ◌<◌, ◌⊎◌, ℕ, zero, suc, List, [], ◌∷◌, ◌++◌, Option, Some, None, inl, inr, refl, sym, ap, ◌∙◌, arith, subst, map, take, length, append_assoc}
 use Rattle.std.specs.List.{AllZip}
 use Rattle.std.specs.Prelude.{Bool}
 use Rattle.std.proofs.lemmas.List.{append-nil, length-map, length_push, take_all}
@@ -10,16 +9,17 @@ use Rattle.resp_core.specs.Reply.{Reply}
 use Rattle.cluster_slots.specs.Address.{Address}
 use Rattle.cluster_slots.specs.SlotRoute.{SlotRoute}
 use Rattle.redis_routing.specs.Registry.{Registrations}
-use Rattle.redis_cluster.specs.MultiKey.{KeyTuple, MultiKey, list, part_by_slot}
+use Rattle.redis_cluster.specs.MultiKey.{KeyTuple, MultiKey, part_by_slot}
 use Rattle.redis_cluster.specs.Orders.{NamesOnce, in_order, tuples_of_slots}
 use Rattle.redis_cluster.specs.Trace.{Entry, Ending, answered, refused, redirected, lost, entry}
 use Rattle.redis_cluster.specs.Unsplit.{Step, Keyspace, act_of, after, keyspace_after, reply_to}
 use Rattle.redis_cluster.proofs.Once.{length-names_once}
 use Rattle.redis_cluster.proofs.Orders.{length-in_order}
 use Rattle.redis_cluster.specs.Attempts.{Try}
-use Rattle.redis_cluster.specs.Driven.{Request, State, IsDrivable, IsEntryOf, AreSent, IsDelivered, IsDriven, IsLeftBy}
+use Rattle.redis_cluster.specs.Driven.{Request, IsDrivable, IsEntryOf, AreSent, IsDelivered, IsDriven, IsLeftBy}
+use Rattle.redis_cluster.specs.State.{State, state}
 use Rattle.redis_cluster.specs.Ended.{AreEndedEarly}
-use Rattle.redis_cluster.specs.Faults.{fault_of_plan, unseen, IsCauseBeforeSending, IsPlanFault, IsUntouched, IsStopped, IsNodeFault, IsLostFault, IsLateMemory, IsFault, IsMisfit, IsCut, unseen_step}
+use Rattle.redis_cluster.specs.Faults.{fault_of_plan, nothing, IsCauseBeforeSending, IsPlanFault, IsUntouched, IsStopped, IsNodeFault, IsLostFault, IsLateMemory, IsFault, IsCut, unseen_step}
 use Rattle.redis_cluster.specs.Plan.{Plan}
 use Rattle.redis_cluster.specs.Ready.{IsTarget, IsPlanFor, IsPlanNode}
 use Rattle.redis_cluster.specs.Retried.{AreTried, AreAllTried, AreCollected, IsRetried, IsStoppedAt, IsRetryFault, IsRetryCut}
@@ -293,11 +293,11 @@ module _ {C : Type 0} (step : Step C) (r : Request) (order : List ℕ) (register
 
 pub plan_cut : {C : Type 0} (step : Step C) (r : Request) (order : List ℕ) (registered : Registrations) (kept : Type 0) (old_keys new_keys : Keyspace C) (old new : List Entry) (old_mark new_mark : Bool) (plan : Plan) (command : MultiKey) (is : IsPlanFor r order registered plan command)
     (names : NamesOnce (length plan.split.routes) order) (may_refuse : ℕ → Ending → Type 0) (fault : DriveFault) (count : ℕ) → 0 < length plan.split.routes
-    → AreEndedEarly kept registered step may_refuse plan (tries_with (targets plan) []) order old_keys new_keys old new new_mark fault count → IsCut (IsPlanNode plan) r (unseen old old_mark) (unseen new new_mark) may_refuse fault count
+    → AreEndedEarly kept registered step may_refuse plan (tries_with (targets plan) []) order old_keys new_keys old new new_mark fault count → IsCut (IsPlanNode plan) r (state nothing old old_mark) (state nothing new new_mark) may_refuse fault count
 plan_cut step r order registered kept old_keys new_keys old new old_mark new_mark plan command is names may_refuse fault count some ended =
-    cut_once (IsPlanNode plan) r (unseen old old_mark) (unseen new new_mark) may_refuse fault count (whole_left unseen_step r order registered (unseen old old_mark) (unseen new new_mark) plan command is names some count)
-    (retry_cut (IsPlanNode plan) step r kept old_keys new_keys old new old_mark new_mark plan command is.0 (names_asked unseen_step r order registered (unseen old old_mark) (unseen new new_mark) plan command is names)
-    (IsOnce (IsPlanNode plan) r) (tries_with (targets plan) []) (each_try unseen_step r order registered (unseen old old_mark) (unseen new new_mark) plan command is names) may_refuse fault count
+    cut_once (IsPlanNode plan) r (state nothing old old_mark) (state nothing new new_mark) may_refuse fault count (whole_left unseen_step r order registered (state nothing old old_mark) (state nothing new new_mark) plan command is names some count)
+    (retry_cut (IsPlanNode plan) step r kept old_keys new_keys old new old_mark new_mark plan command is.0 (names_asked unseen_step r order registered (state nothing old old_mark) (state nothing new new_mark) plan command is names)
+    (IsOnce (IsPlanNode plan) r) (tries_with (targets plan) []) (each_try unseen_step r order registered (state nothing old old_mark) (state nothing new new_mark) plan command is names) may_refuse fault count
     (subst (λ o. AreEndedEarly kept r.names.registered step may_refuse plan (tries_with (targets plan) []) o old_keys new_keys old new new_mark fault count) (sym is.1)
     (subst (λ (reg : Registrations). AreEndedEarly kept reg step may_refuse plan (tries_with (targets plan) []) order old_keys new_keys old new new_mark fault count) (sym is.2) ended)))
 

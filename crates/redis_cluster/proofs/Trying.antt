@@ -8,7 +8,6 @@ use Rattle.std.proofs.lemmas.List.Sums.{sum_by_push}
 use Rattle.resp_core.specs.ErrorParts.{ErrorParts}
 use Rattle.cluster_slots.specs.Address.{Address}
 use Rattle.redis_cluster.specs.Trace.{Entry, Ending, answered, refused, redirected, lost, entry}
-use Rattle.redis_routing.specs.RedirectText.{redirect_address}
 use Rattle.redis_routing.specs.declared.info.Redirect.{Redirect}
 use Rattle.redis_cluster.specs.Retry.{Attempt, FollowsRedirect, FallsBack}
 use Rattle.redis_cluster.specs.Sent.{IsUnanswered}

@@ -11,7 +11,8 @@ use Rattle.redis_cluster.specs.Orders.{in_order}
 use Rattle.redis_cluster.specs.Trace.{Entry, Ending, answered, refused, redirected, lost}
 use Rattle.redis_cluster.specs.Unsplit.{Step}
 use Rattle.redis_cluster.specs.Attempts.{Try, refusals, last_ending, next_place, next_address, AreBegun, AreAllowed, IsTried}
-use Rattle.redis_cluster.specs.Driven.{Request, State, IsDrivable, IsEntryOf, IsDelivered, AreAllAnswered, AreWilling, IsUnhindered}
+use Rattle.redis_cluster.specs.Driven.{Request, IsDrivable, IsEntryOf, IsDelivered, AreAllAnswered, AreWilling, IsUnhindered}
+use Rattle.redis_cluster.specs.State.{State}
 use Rattle.redis_cluster.specs.Retried.{IsTryOf, AreTried, AreAllTried, IsStoppedAt, IsRetryFault}
 use Rattle.redis_cluster.specs.declared.fault.DriveFault.{DriveFault}
 use Rattle.redis_cluster.specs.declared.fault.DriveFault.TheVariants.{NotMultiKey, NotCovered, BadOrder, Memory, Node, Redirected, Lost, Reply}

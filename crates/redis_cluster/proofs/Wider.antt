@@ -1,5 +1,5 @@
 -- What holds at nodes of one kind holds at those of a wider kind.
-use Rattle.std.proofs.Common.{◌≡◌, ℕ, zero, suc, List, [], ◌∷◌, ◌⊎◌, Some, inl, inr, refl, sym, arith, map, length, take}
+use Rattle.std.proofs.Common.{◌≡◌, ℕ, zero, suc, List, [], ◌∷◌, Some, inl, inr, refl, sym, arith, length}
 use Rattle.std.specs.Prelude.{slice_get}
 use Rattle.std.specs.List.{AllZip}
 use Rattle.resp_core.specs.Reply.{Reply}
@@ -8,7 +8,8 @@ use Rattle.cluster_slots.specs.SlotRoute.{SlotRoute}
 use Rattle.redis_cluster.specs.MultiKey.{MultiKey}
 use Rattle.redis_cluster.specs.Trace.{Entry, Ending, answered}
 use Rattle.redis_cluster.specs.Unsplit.{Step}
-use Rattle.redis_cluster.specs.Driven.{Request, State, IsEntryOf, AreSent, IsDelivered, IsDriven}
+use Rattle.redis_cluster.specs.Driven.{Request, IsEntryOf, AreSent, IsDelivered, IsDriven}
+use Rattle.redis_cluster.specs.State.{State}
 use Rattle.redis_cluster.specs.Faults.{IsUntouched, IsStopped, IsNodeFault, IsFault, IsCut, unseen_step}
 use Rattle.redis_cluster.specs.Plan.{Plan}
 use Rattle.redis_cluster.specs.Ready.{IsPlanNode}

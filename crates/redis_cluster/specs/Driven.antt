@@ -1,5 +1,5 @@
 -- What a multi-key command leaves at the nodes, and answers, when it was sent part by part.
-use Rattle.std.specs.Prelude.{◌≡◌, ◌<◌, ◌≤◌, ◌+◌, ℕ, Bool, List, ◌∷◌, ◌++◌, Option, Some, map, option_map, length}
+use Rattle.std.specs.Prelude.{◌≡◌, ◌<◌, ◌≤◌, ◌+◌, ℕ, List, ◌∷◌, ◌++◌, Option, Some, map, option_map, length}
 use Rattle.std.specs.List.{All, AllZip}
 use Rattle.resp_core.specs.Reply.{Reply}
 use Rattle.cluster_slots.specs.Address.{Address}
@@ -13,7 +13,8 @@ use Rattle.redis_routing.specs.Names.{Names}
 use Rattle.redis_cluster.specs.MultiKey.{MultiKey, command_routes, multi_key, part_by_slot}
 use Rattle.redis_cluster.specs.Orders.{NamesOnce, in_order, tuples_of_slots}
 use Rattle.redis_cluster.specs.Trace.{Entry, Ending, answered}
-use Rattle.redis_cluster.specs.Unsplit.{Step, Keyspace, act_of, after, keyspace_after, reply_to}
+use Rattle.redis_cluster.specs.State.{State}
+use Rattle.redis_cluster.specs.Unsplit.{Step, act_of, after, keyspace_after, reply_to}
 
 -- what is asked of the driver: a command's arguments, which names only read and which are
 -- registered, the entries of the map, and the order of the routes
@@ -26,15 +27,6 @@ pub record Request : Type 0 where
 abbrev pub request : Arguments → Names → List (ranges.RangeEntry SlotNodes) → List ℕ → Request
 request args names entries order =
     record { arguments = args; names = names; map = entries; order = order }
-
--- what contracts see of nodes
-pub record State (C : Type 0) : Type 0 where
-  pub keyspace : Keyspace C
-  pub trace : List Entry
-  pub mark : Bool
-
-abbrev pub state : {C : Type 0} → Keyspace C → List Entry → Bool → State C
-state keyspace trace mark = record { keyspace = keyspace; trace = trace; mark = mark }
 
 -- the routes of a command, by their numbers, if it is complete
 abbrev pub command_routes_by : Names → Arguments → Option (List SlotRoute)

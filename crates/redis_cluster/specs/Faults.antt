@@ -1,5 +1,5 @@
 -- Why a command was not driven to its end, and what stands then.
-use Rattle.std.specs.Prelude.{◌≡◌, ◌<◌, ◌≤◌, ◌⊎◌, ℕ, ◌+◌, Bool, true, false, List, [], ◌∷◌, ◌++◌, None, Some, length, take, slice_get}
+use Rattle.std.specs.Prelude.{◌≡◌, ◌<◌, ◌≤◌, ◌⊎◌, ℕ, ◌+◌, true, false, List, [], ◌∷◌, ◌++◌, None, Some, length, take, slice_get}
 use Rattle.resp_core.specs.ErrorParts.{ErrorParts}
 use Rattle.cluster_slots.specs.Address.{Address}
 use Rattle.cluster_slots.specs.SlotRoute.{SlotRoute}
@@ -14,7 +14,8 @@ use Rattle.cluster_map.specs.SlotNodes.{SlotNodes}
 use Rattle.cluster_map.specs.RangeMap as ranges
 use Rattle.redis_routing.specs.Command.{Arguments}
 use Rattle.redis_routing.specs.Names.{Names}
-use Rattle.redis_cluster.specs.Driven.{Request, State, state, command_routes_by, IsFirstUncovered, IsCoveredCommand, IsDrivable, IsEntryOf, AreSent, IsLeftBy, AreAnswered}
+use Rattle.redis_cluster.specs.Driven.{Request, command_routes_by, IsFirstUncovered, IsCoveredCommand, IsDrivable, IsEntryOf, AreSent, IsLeftBy, AreAnswered}
+use Rattle.redis_cluster.specs.State.{State, state}
 use Rattle.redis_cluster.specs.declared.fault.DriveFault.{DriveFault}
 use Rattle.redis_cluster.specs.declared.fault.DriveFault.TheVariants.{NotMultiKey, NotCovered, BadOrder, Memory, Node, Redirected, Lost, Reply}
 use Rattle.redis_cluster.specs.declared.fault.PlanFault.{PlanFault}
@@ -144,8 +145,8 @@ unseen_step registered name shared key extras cell =
 abbrev pub nothing : Keyspace (Unit {0})
 nothing = λ key. None
 
-abbrev pub unseen : List Entry → Bool → State (Unit {0})
-unseen trace mark = state nothing trace mark
+abbrev pub unseen : {C : Type 0} → State C → State (Unit {0})
+unseen nodes = state nothing nodes.trace nodes.mark
 
 module _ (IsNode : SlotRoute → Address → Type 0) (r : Request) (old new : State (Unit {0})) where
   -- all parts were sent and answered, and the replies do not fit

@@ -1,5 +1,5 @@
 -- A command with gaps is split and sent as its front.
-use Rattle.std.specs.Prelude.{◌≡◌, ℕ, List, ◌++◌, Bool, Some, map, take}
+use Rattle.std.specs.Prelude.{◌≡◌, ℕ, ◌++◌, Some, map, take}
 use Rattle.redis_routing.specs.Command.{Arguments}
 use Rattle.redis_routing.specs.Names.{Names}
 use Rattle.redis_routing.specs.NameWords.{name_words_of}

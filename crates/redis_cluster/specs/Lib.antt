@@ -41,6 +41,7 @@ pub mod Unsplit
 pub mod Orders
 pub mod SlotResults
 pub mod Trace
+pub mod State
 pub mod Sent
 pub mod Front
 pub mod SendErrorText

@@ -5,15 +5,13 @@ use Rattle.resp_core.specs.Reply.{Reply}
 use Rattle.cluster_slots.specs.Address.{Address}
 use Rattle.cluster_slots.specs.SlotRoute.{SlotRoute}
 use Rattle.cluster_map.specs.Fallback.{IsFallback}
-use Rattle.cluster_map.specs.SlotNodes.{SlotNodes}
-use Rattle.cluster_map.specs.RangeMap as ranges
-use Rattle.redis_routing.specs.Command.{Arguments}
 use Rattle.redis_cluster.specs.MultiKey.{MultiKey, list, part_by_slot}
 use Rattle.redis_cluster.specs.Orders.{in_order}
 use Rattle.redis_cluster.specs.Trace.{Entry, Ending, answered, refused, redirected, lost}
 use Rattle.redis_cluster.specs.Unsplit.{Step, keyspace_after, reply_to}
 use Rattle.redis_cluster.specs.Attempts.{Try, IsTried, IsCause}
-use Rattle.redis_cluster.specs.Driven.{Request, State, IsDrivable, IsLeftBy}
+use Rattle.redis_cluster.specs.Driven.{Request, IsDrivable, IsLeftBy}
+use Rattle.redis_cluster.specs.State.{State}
 use Rattle.redis_cluster.specs.Faults.{IsCauseBeforeSending, unseen_step}
 use Rattle.redis_cluster.specs.declared.fault.DriveFault.{DriveFault}
 use Rattle.redis_cluster.specs.declared.fault.DriveFault.TheVariants as drive

@@ -22,10 +22,10 @@ pub(super) fn send_once<N: Nodes>(
     requires part { IsPart (N.registered nodes.old) (map Some part.now) }
     ensures reply { IfOk result (λ value. (command : MultiKey)
         → multi_key (N.registered nodes.old) (map Some part.now) ≡ Some command
-        → N.kept nodes.new → view value ≡ reply_to N.step command (N.keyspace nodes.old)) }
+        → N.kept nodes.new → view value ≡ reply_to N.step command (N.state nodes.old).keyspace) }
     ensures keyspace { OnOk result ((command : MultiKey)
         → multi_key (N.registered nodes.old) (map Some part.now) ≡ Some command → N.kept nodes.new
-        → N.keyspace nodes.new ≡ keyspace_after N.step command (N.keyspace nodes.old)) }
+        → (N.state nodes.new).keyspace ≡ keyspace_after N.step command (N.state nodes.old).keyspace) }
     ensures kept { N.kept nodes.new → N.kept nodes.old }
     ensures gave { IfOk result
         (λ value. (replies : List Reply) → N.gave nodes.old replies
@@ -33,17 +33,17 @@ pub(super) fn send_once<N: Nodes>(
     ensures gave_none { OnErr result
         ((replies : List Reply) → N.gave nodes.old replies → N.gave nodes.new replies) }
     ensures answered { OnOk result (IsTried (try_once node.now part.now) (Some answered)
-        (N.trace nodes.old) (N.trace nodes.new)) }
+        (N.state nodes.old).trace (N.state nodes.new).trace) }
     ensures unanswered { IfErr result
         (λ error. IsTried (try_once node.now part.now) (ending_of error)
-        (N.trace nodes.old) (N.trace nodes.new)) }
+        (N.state nodes.old).trace (N.state nodes.new).trace) }
     ensures cause { IfErr result
-        (λ error. IsCause (N.may_refuse nodes.old) (length (N.trace nodes.new)) (N.mark nodes.new)
+        (λ error. IsCause (N.may_refuse nodes.old) (length (N.state nodes.new).trace) (N.state nodes.new).mark
         (ending_of error)) }
-    ensures allowed { AreAllowed (N.may_refuse nodes.old) (N.trace nodes.old) (N.trace nodes.new) }
+    ensures allowed { AreAllowed (N.may_refuse nodes.old) (N.state nodes.old).trace (N.state nodes.new).trace }
     ensures left { IfErr result (λ error. (command : MultiKey)
         → multi_key (N.registered nodes.old) (map Some part.now) ≡ Some command → N.kept nodes.new
-        → IsLeft N.step command (N.keyspace nodes.old) (N.keyspace nodes.new) (ending_of error)) }
+        → IsLeft N.step command (N.state nodes.old).keyspace (N.state nodes.new).keyspace (ending_of error)) }
     ensures registered { N.registered nodes.new ≡ N.registered nodes.old }
     ensures may_refuse { (count : ℕ) (ending : Ending) → N.may_refuse nodes.new count ending
         ↔ N.may_refuse nodes.old count ending }
@@ -61,10 +61,10 @@ pub(super) fn send_with_retries<N: Nodes>(
     requires named { IsSome retry.old.target }
     ensures reply { IfOk result (λ value. (command : MultiKey)
         → multi_key (N.registered nodes.old) (map Some part.now) ≡ Some command
-        → N.kept nodes.new → view value ≡ reply_to N.step command (N.keyspace nodes.old)) }
+        → N.kept nodes.new → view value ≡ reply_to N.step command (N.state nodes.old).keyspace) }
     ensures keyspace { OnOk result ((command : MultiKey)
         → multi_key (N.registered nodes.old) (map Some part.now) ≡ Some command → N.kept nodes.new
-        → N.keyspace nodes.new ≡ keyspace_after N.step command (N.keyspace nodes.old)) }
+        → (N.state nodes.new).keyspace ≡ keyspace_after N.step command (N.state nodes.old).keyspace) }
     ensures kept { N.kept nodes.new → N.kept nodes.old }
     ensures gave { IfOk result
         (λ value. (replies : List Reply) → N.gave nodes.old replies
@@ -72,17 +72,17 @@ pub(super) fn send_with_retries<N: Nodes>(
     ensures gave_none { OnErr result
         ((replies : List Reply) → N.gave nodes.old replies → N.gave nodes.new replies) }
     ensures answered { OnOk result (IsTried (try_by part.now retry.old) (Some answered)
-        (N.trace nodes.old) (N.trace nodes.new)) }
+        (N.state nodes.old).trace (N.state nodes.new).trace) }
     ensures unanswered { IfErr result
         (λ error. IsTried (try_by part.now retry.old) (ending_of error)
-        (N.trace nodes.old) (N.trace nodes.new)) }
+        (N.state nodes.old).trace (N.state nodes.new).trace) }
     ensures cause { IfErr result
-        (λ error. IsCause (N.may_refuse nodes.old) (length (N.trace nodes.new)) (N.mark nodes.new)
+        (λ error. IsCause (N.may_refuse nodes.old) (length (N.state nodes.new).trace) (N.state nodes.new).mark
         (ending_of error)) }
-    ensures allowed { AreAllowed (N.may_refuse nodes.old) (N.trace nodes.old) (N.trace nodes.new) }
+    ensures allowed { AreAllowed (N.may_refuse nodes.old) (N.state nodes.old).trace (N.state nodes.new).trace }
     ensures left { IfErr result (λ error. (command : MultiKey)
         → multi_key (N.registered nodes.old) (map Some part.now) ≡ Some command → N.kept nodes.new
-        → IsLeft N.step command (N.keyspace nodes.old) (N.keyspace nodes.new) (ending_of error)) }
+        → IsLeft N.step command (N.state nodes.old).keyspace (N.state nodes.new).keyspace (ending_of error)) }
     ensures registered { N.registered nodes.new ≡ N.registered nodes.old }
     ensures may_refuse { (count : ℕ) (ending : Ending) → N.may_refuse nodes.new count ending
         ↔ N.may_refuse nodes.old count ending }

@@ -13,7 +13,7 @@ ghost use Rattle.redis_cluster.specs.MultiKey.{MultiKey};
 ghost use Rattle.redis_cluster.specs.Orders.{NamesOnce, in_order};
 ghost use Rattle.redis_cluster.specs.Trace.{Ending};
 ghost use Rattle.redis_cluster.specs.Unsplit.{keyspace_after, reply_to};
-ghost use Rattle.redis_cluster.specs.Driven.{Request, request, state, AreAllAnswered, IsDelivered, IsDrivable, IsDriven, IsUnhindered};
+ghost use Rattle.redis_cluster.specs.Driven.{Request, request, AreAllAnswered, IsDelivered, IsDrivable, IsDriven, IsUnhindered};
 ghost use Rattle.redis_cluster.specs.Faults.{IsBefore, IsCauseBeforeSending, IsFault, IsCut, unseen};
 ghost use Rattle.redis_cluster.specs.Joined.{joined, IsJoined, IsSplitOf};
 ghost use Rattle.redis_cluster.specs.Plan.{HaveGiven};
@@ -88,7 +88,7 @@ pub fn drive<R: Routable, N: Nodes>(
         IsDelivered (IsRouteNode strategy.entry (λ s. picks s.now) slot_map.now pick)
         (request (R.args command.now) (names_of read_only.now (N.registered nodes.old))
         slot_map.now order.now)
-        (N.trace nodes.old) (N.trace nodes.new)) }
+        (N.state nodes.old).trace (N.state nodes.new).trace) }
     // And the reply is made of what they answered, as the command's policy says.
     ensures joined { IfOk result (λ value.
         IsJoined (names_of read_only.now (N.registered nodes.old)) (R.args command.now)
@@ -106,28 +106,26 @@ pub fn drive<R: Routable, N: Nodes>(
         IsDriven (IsRouteNode strategy.entry (λ s. picks s.now) slot_map.now pick) N.step
         (request (R.args command.now) (names_of read_only.now (N.registered nodes.old))
         slot_map.now order.now)
-        (state (N.keyspace nodes.old) (N.trace nodes.old) (N.mark nodes.old))
-        (state (N.keyspace nodes.new) (N.trace nodes.new) (N.mark nodes.new))
+        (N.state nodes.old) (N.state nodes.new)
         (view value)) }
     // There is a reply where the command can be driven, no node may refuse or redirect and no reply
     // may be lost, unless memory runs out. Of connections nobody knows that: see `carried`.
     ensures headline { IsUnhindered (N.may_refuse nodes.old)
         (request (R.args command.now) (names_of read_only.now (N.registered nodes.old))
         slot_map.now order.now)
-        (N.trace nodes.old) → IfErr result (λ e. N.kept nodes.new → e.fault ≡ DriveFault.Memory) }
+        (N.state nodes.old).trace → IfErr result (λ e. N.kept nodes.new → e.fault ≡ DriveFault.Memory) }
     // And where each send was answered, whatever nodes may refuse.
     ensures carried { (routes : List SlotRoute) (c : MultiKey) → IsDrivable
         (request (R.args command.now) (names_of read_only.now (N.registered nodes.old))
         slot_map.now order.now) routes c
-        → AreAllAnswered (N.trace nodes.old) (N.trace nodes.new)
+        → AreAllAnswered (N.state nodes.old).trace (N.state nodes.new).trace
         → IfErr result (λ e. N.kept nodes.new → e.fault ≡ DriveFault.Memory) }
     // So many parts were answered, and no other, whatever the answers are.
     ensures cut { IfErr result (λ e.
         IsCut (IsRouteNode strategy.entry (λ s. picks s.now) slot_map.now pick)
         (request (R.args command.now) (names_of read_only.now (N.registered nodes.old))
         slot_map.now order.now)
-        (unseen (N.trace nodes.old) (N.mark nodes.old))
-        (unseen (N.trace nodes.new) (N.mark nodes.new))
+        (unseen (N.state nodes.old)) (unseen (N.state nodes.new))
         (N.may_refuse nodes.old) e.fault e.answered) }
     // Each fault but out of memory before any answer has its cause, and what was answered
     // stands.
@@ -135,8 +133,7 @@ pub fn drive<R: Routable, N: Nodes>(
         IsFault (IsRouteNode strategy.entry (λ s. picks s.now) slot_map.now pick) N.step
         (request (R.args command.now) (names_of read_only.now (N.registered nodes.old))
         slot_map.now order.now)
-        (state (N.keyspace nodes.old) (N.trace nodes.old) (N.mark nodes.old))
-        (state (N.keyspace nodes.new) (N.trace nodes.new) (N.mark nodes.new))
+        (N.state nodes.old) (N.state nodes.new)
         (N.may_refuse nodes.old) e.fault e.answered) }
     // These may be the replies that the nodes gave: one to each part that was answered.
     ensures given { IfErr result
@@ -229,7 +226,7 @@ pub fn drive_plan<R: Routable, N: Nodes>(
     // For each request that the plan is of, each part goes to the plan's own node of its route.
     ensures delivered { IfOk result (λ value.
         (asked : Request) (c : MultiKey) → IsPlanFor asked order.now (N.registered nodes.old) plan.entry c
-        → IsDelivered (IsPlanNode plan.entry) asked (N.trace nodes.old) (N.trace nodes.new)) }
+        → IsDelivered (IsPlanNode plan.entry) asked (N.state nodes.old).trace (N.state nodes.new).trace) }
     ensures joined { IfOk result (λ value. (replies : List Reply)
         × (length replies ≡ length plan.entry.split.routes)
         × ((before : List Reply) → N.gave nodes.old before
@@ -244,29 +241,26 @@ pub fn drive_plan<R: Routable, N: Nodes>(
     ensures driven { IfOk result (λ value.
         (asked : Request) (c : MultiKey) → IsPlanFor asked order.now (N.registered nodes.old) plan.entry c → N.kept nodes.new
         → IsDriven (IsPlanNode plan.entry) N.step asked
-        (state (N.keyspace nodes.old) (N.trace nodes.old) (N.mark nodes.old))
-        (state (N.keyspace nodes.new) (N.trace nodes.new) (N.mark nodes.new))
+        (N.state nodes.old) (N.state nodes.new)
         (view value)) }
     ensures headline { IfErr result (λ e.
         (asked : Request) (c : MultiKey) → IsPlanFor asked order.now (N.registered nodes.old) plan.entry c
-        → IsUnhindered (N.may_refuse nodes.old) asked (N.trace nodes.old)
+        → IsUnhindered (N.may_refuse nodes.old) asked (N.state nodes.old).trace
         → N.kept nodes.new → e.fault ≡ DriveFault.Memory) }
     ensures carried { IfErr result (λ e.
         (asked : Request) (c : MultiKey) → IsPlanFor asked order.now (N.registered nodes.old) plan.entry c
         → (routes : List SlotRoute) → IsDrivable asked routes c
-        → AreAllAnswered (N.trace nodes.old) (N.trace nodes.new)
+        → AreAllAnswered (N.state nodes.old).trace (N.state nodes.new).trace
         → N.kept nodes.new → e.fault ≡ DriveFault.Memory) }
     ensures cut { IfErr result (λ e.
         (asked : Request) (c : MultiKey) → IsPlanFor asked order.now (N.registered nodes.old) plan.entry c
         → IsCut (IsPlanNode plan.entry) asked
-        (unseen (N.trace nodes.old) (N.mark nodes.old))
-        (unseen (N.trace nodes.new) (N.mark nodes.new))
+        (unseen (N.state nodes.old)) (unseen (N.state nodes.new))
         (N.may_refuse nodes.old) e.fault e.answered) }
     ensures fault { IfErr result (λ e.
         (asked : Request) (c : MultiKey) → IsPlanFor asked order.now (N.registered nodes.old) plan.entry c → N.kept nodes.new
         → IsFault (IsPlanNode plan.entry) N.step asked
-        (state (N.keyspace nodes.old) (N.trace nodes.old) (N.mark nodes.old))
-        (state (N.keyspace nodes.new) (N.trace nodes.new) (N.mark nodes.new))
+        (N.state nodes.old) (N.state nodes.new)
         (N.may_refuse nodes.old) e.fault e.answered) }
     ensures given { IfErr result
         (λ e. HaveGiven (N.gave nodes.old) (N.gave nodes.new) e.answered) }
@@ -302,14 +296,14 @@ pub(super) fn drive_tries<R: Routable, N: Nodes>(
     requires order { NamesOnce (length plan.split.routes) order.now }
     requires named { All (λ retry. IsSome retry.target) retries.old }
     ensures trace { OnOk result (AllTried (in_order (tries_with (targets plan.entry) retries.old)
-        order.now) (N.trace nodes.old) (N.trace nodes.new)) }
-    ensures allowed { AreAllowed (N.may_refuse nodes.old) (N.trace nodes.old) (N.trace nodes.new) }
+        order.now) (N.state nodes.old).trace (N.state nodes.new).trace) }
+    ensures allowed { AreAllowed (N.may_refuse nodes.old) (N.state nodes.old).trace (N.state nodes.new).trace }
     ensures kept { N.kept nodes.new → N.kept nodes.old }
     ensures keyspace { OnOk result ((c : MultiKey) → IsPlanOf (N.registered nodes.old) c plan.entry
-        → N.kept nodes.new → N.keyspace nodes.new ≡ keyspace_after N.step c (N.keyspace nodes.old)) }
+        → N.kept nodes.new → (N.state nodes.new).keyspace ≡ keyspace_after N.step c (N.state nodes.old).keyspace) }
     ensures reply { IfOk result
         (λ value. (c : MultiKey) → IsPlanOf (N.registered nodes.old) c plan.entry
-        → N.kept nodes.new → view value ≡ reply_to N.step c (N.keyspace nodes.old)) }
+        → N.kept nodes.new → view value ≡ reply_to N.step c (N.state nodes.old).keyspace) }
     ensures joined { IfOk result
         (λ value. (replies : List Reply) × (length replies ≡ length plan.entry.split.routes)
         × ((before : List Reply) → N.gave nodes.old before
@@ -327,8 +321,8 @@ pub(super) fn drive_tries<R: Routable, N: Nodes>(
         (λ e. AreEndedEarly (N.kept nodes.new) (N.registered nodes.old) N.step
         (N.may_refuse nodes.old) plan.entry
         (tries_with (targets plan.entry) retries.old) order.now
-        (N.keyspace nodes.old) (N.keyspace nodes.new) (N.trace nodes.old) (N.trace nodes.new)
-        (N.mark nodes.new) e.fault e.answered) }
+        (N.state nodes.old).keyspace (N.state nodes.new).keyspace (N.state nodes.old).trace (N.state nodes.new).trace
+        (N.state nodes.new).mark e.fault e.answered) }
     ensures registered { N.registered nodes.new ≡ N.registered nodes.old }
     ensures may_refuse { (count : ℕ) (ending : Ending) → N.may_refuse nodes.new count ending
         ↔ N.may_refuse nodes.old count ending }

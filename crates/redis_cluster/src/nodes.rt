@@ -1,10 +1,11 @@
-ghost use Rattle.std.specs.Prelude.{◌≡◌, ℕ, List, [], ◌∷◌, ◌++◌, Bool, false, Some, map, IfOk, OnOk, OnErr, IfErr, IfSome, ◌↔◌};
+ghost use Rattle.std.specs.Prelude.{◌≡◌, ℕ, List, [], ◌∷◌, ◌++◌, false, Some, map, IfOk, OnOk, OnErr, IfErr, IfSome, ◌↔◌};
 ghost use Rattle.resp_core.specs.Reply.{Reply};
 ghost use Rattle.resp_core.specs.View.{view};
 ghost use Rattle.redis_routing.specs.Registry.{Registrations};
 ghost use Rattle.redis_cluster.specs.MultiKey.{multi_key, IsPart};
-ghost use Rattle.redis_cluster.specs.Unsplit.{Step, Keyspace, keyspace_after, reply_to};
-ghost use Rattle.redis_cluster.specs.Trace.{Entry, Ending, answered, entry};
+ghost use Rattle.redis_cluster.specs.Unsplit.{Step, keyspace_after, reply_to};
+ghost use Rattle.redis_cluster.specs.State.{State};
+ghost use Rattle.redis_cluster.specs.Trace.{Ending, answered, entry};
 ghost use Rattle.redis_cluster.specs.Sent.{IsIdleIfRefused, IsLeft, IsUnanswered, ending_of};
 
 use cluster_slots::NodeAddress;
@@ -65,14 +66,8 @@ pub trait Nodes {
     /// Which names are registered, beside those of the tables. No send changes them.
     ghost registered: { Self → Registrations };
 
-    /// What the nodes hold.
-    ghost keyspace: { Self → Keyspace Cell };
-
-    /// What was sent so far.
-    ghost trace: { Self → List Entry };
-
-    /// Whether the last send ran out of memory.
-    ghost mark: { Self → Bool };
+    /// What the nodes hold, what was sent so far, and whether the last send ran out of memory.
+    ghost state: { Self → State Cell };
 
     /// Whether the send that finds so many entries in the trace may end so, without an answer: by
     /// this refusal, this redirect, or this loss.
@@ -104,39 +99,39 @@ pub trait Nodes {
         requires part { IsPart (registered self.old) (map Some cmd.now) }
         ensures reply { IfOk result
             (λ value. IfSome (multi_key (registered self.old) (map Some cmd.now))
-            (λ command. kept self.new → view value ≡ reply_to step command (keyspace self.old))) }
+            (λ command. kept self.new → view value ≡ reply_to step command (state self.old).keyspace)) }
         ensures keyspace { OnOk result (IfSome (multi_key (registered self.old) (map Some cmd.now))
             (λ command. kept self.new
-            → keyspace self.new ≡ keyspace_after step command (keyspace self.old))) }
+            → (state self.new).keyspace ≡ keyspace_after step command (state self.old).keyspace)) }
         ensures kept { kept self.new → kept self.old }
         // Nodes to which nothing was sent kept to the meaning.
-        ensures kept_at_first { trace self.old ≡ [] → kept self.old }
+        ensures kept_at_first { (state self.old).trace ≡ [] → kept self.old }
         // They still do after a value that is the one by it,
         ensures stays_kept { IfOk result (λ value.
             IfSome (multi_key (registered self.old) (map Some cmd.now))
-            (λ command. kept self.old → view value ≡ reply_to step command (keyspace self.old)
+            (λ command. kept self.old → view value ≡ reply_to step command (state self.old).keyspace
             → kept self.new)) }
         // and where no value came, unless a refused or redirected command did something.
         ensures kept_unanswered { IfErr result (λ error. kept self.old
-            → IsIdleIfRefused (keyspace self.old) (keyspace self.new) error → kept self.new) }
+            → IsIdleIfRefused (state self.old).keyspace (state self.new).keyspace error → kept self.new) }
         // Where nothing was sent, it may be that no reply came.
-        ensures gave_at_first { trace self.old ≡ [] → gave self.old [] }
+        ensures gave_at_first { (state self.old).trace ≡ [] → gave self.old [] }
         ensures gave { IfOk result (λ value. (replies : List Reply) → gave self.old replies
             → gave self.new (replies ++ view value ∷ [])) }
         ensures gave_none { OnErr result ((replies : List Reply) → gave self.old replies
             → gave self.new replies) }
         ensures trace { OnOk result
-            (trace self.new ≡ trace self.old ++ entry node.now cmd.now answered ∷ []) }
-        ensures mark { OnOk result (mark self.new ≡ false) }
+            ((state self.new).trace ≡ (state self.old).trace ++ entry node.now cmd.now answered ∷ []) }
+        ensures mark { OnOk result ((state self.new).mark ≡ false) }
         ensures unanswered { IfErr result
-            (λ error. IsUnanswered (may_refuse self.old) (trace self.old) (trace self.new)
-            (mark self.new) node.now cmd.now (ending_of error)) }
+            (λ error. IsUnanswered (may_refuse self.old) (state self.old).trace (state self.new).trace
+            (state self.new).mark node.now cmd.now (ending_of error)) }
         ensures memory { IfErr result (λ error. error ≡ SendError.Memory
-            → keyspace self.new ≡ keyspace self.old) }
+            → (state self.new).keyspace ≡ (state self.old).keyspace) }
         ensures left { IfErr result (λ error.
             IfSome (multi_key (registered self.old) (map Some cmd.now))
             (λ command. kept self.new
-            → IsLeft step command (keyspace self.old) (keyspace self.new) (ending_of error))) }
+            → IsLeft step command (state self.old).keyspace (state self.new).keyspace (ending_of error))) }
         ensures may_refuse { (count : ℕ) (ending : Ending) → may_refuse self.new count ending
             ↔ may_refuse self.old count ending }
         ensures registered { registered self.new ≡ registered self.old };

@@ -9,7 +9,7 @@ ghost use Rattle.redis_cluster.specs.Front.{IsSameCommand, front};
 ghost use Rattle.redis_cluster.specs.MultiKey.{MultiKey};
 ghost use Rattle.redis_cluster.specs.Trace.{Ending};
 ghost use Rattle.redis_cluster.specs.Attempts.{AreAllowed, HaveOneAnswer};
-ghost use Rattle.redis_cluster.specs.Driven.{request, state, AreAllAnswered, IsDelivered, IsDrivable, IsUnhindered};
+ghost use Rattle.redis_cluster.specs.Driven.{request, AreAllAnswered, IsDelivered, IsDrivable, IsUnhindered};
 ghost use Rattle.redis_cluster.specs.Faults.{IsBefore, unseen};
 ghost use Rattle.redis_cluster.specs.Joined.{IsJoined};
 ghost use Rattle.redis_cluster.specs.Plan.{HaveGiven};
@@ -78,18 +78,18 @@ pub fn drive_retrying<R: Routable, N: Nodes>(
         (IsTryOf (IsRouteNode strategy.entry (λ s. picks s.now) slot_map.now pick)
         (request (R.args command.now) (names_of read_only.now (N.registered nodes.old)) slot_map.now order.now) retries)
         (request (R.args command.now) (names_of read_only.now (N.registered nodes.old)) slot_map.now order.now)
-        (N.trace nodes.old) (N.trace nodes.new)) }
+        (N.state nodes.old).trace (N.state nodes.new).trace) }
     // Attempts that end with an answer have no other answered entry.
     ensures one_answer { HaveOneAnswer }
     // Each send was answered, or allowed to end otherwise, whether there is a reply or not.
-    ensures allowed { AreAllowed (N.may_refuse nodes.old) (N.trace nodes.old) (N.trace nodes.new) }
+    ensures allowed { AreAllowed (N.may_refuse nodes.old) (N.state nodes.old).trace (N.state nodes.new).trace }
     // So where no send may end but with an answer, each part went once, as `drive` sends it.
     ensures once { IsUnhindered (N.may_refuse nodes.old)
         (request (R.args command.now) (names_of read_only.now (N.registered nodes.old)) slot_map.now order.now)
-        (N.trace nodes.old) → IfOk result (λ value.
+        (N.state nodes.old).trace → IfOk result (λ value.
         IsDelivered (IsRouteNode strategy.entry (λ s. picks s.now) slot_map.now pick)
         (request (R.args command.now) (names_of read_only.now (N.registered nodes.old)) slot_map.now order.now)
-        (N.trace nodes.old) (N.trace nodes.new)) }
+        (N.state nodes.old).trace (N.state nodes.new).trace) }
     // And the reply is made of what the nodes answered, as the command's policy says.
     ensures joined { IfOk result (λ value.
         IsJoined (names_of read_only.now (N.registered nodes.old)) (R.args command.now) order.now
@@ -104,34 +104,31 @@ pub fn drive_retrying<R: Routable, N: Nodes>(
         (IsTryOf (IsRouteNode strategy.entry (λ s. picks s.now) slot_map.now pick)
         (request (R.args command.now) (names_of read_only.now (N.registered nodes.old)) slot_map.now order.now) retries)
         N.step (request (R.args command.now) (names_of read_only.now (N.registered nodes.old)) slot_map.now order.now)
-        (state (N.keyspace nodes.old) (N.trace nodes.old) (N.mark nodes.old))
-        (state (N.keyspace nodes.new) (N.trace nodes.new) (N.mark nodes.new))
+        (N.state nodes.old) (N.state nodes.new)
         (view value)) }
     // There is a reply where the command can be driven, no node may refuse or redirect and no reply
     // may be lost, unless memory runs out. Of connections nobody knows that: see `carried`.
     ensures headline { IsUnhindered (N.may_refuse nodes.old)
         (request (R.args command.now) (names_of read_only.now (N.registered nodes.old)) slot_map.now order.now)
-        (N.trace nodes.old) → IfErr result (λ e. N.kept nodes.new → e.fault ≡ DriveFault.Memory) }
+        (N.state nodes.old).trace → IfErr result (λ e. N.kept nodes.new → e.fault ≡ DriveFault.Memory) }
     // And where each send was answered, whatever nodes may refuse.
     ensures carried { (routes : List SlotRoute) (c : MultiKey) → IsDrivable
         (request (R.args command.now) (names_of read_only.now (N.registered nodes.old)) slot_map.now order.now)
-        routes c → AreAllAnswered (N.trace nodes.old) (N.trace nodes.new)
+        routes c → AreAllAnswered (N.state nodes.old).trace (N.state nodes.new).trace
         → IfErr result (λ e. N.kept nodes.new → e.fault ≡ DriveFault.Memory) }
     // So many parts were answered, and no other, whatever the answers are.
     ensures cut { IfErr result (λ e. IsRetryCut
         (IsTryOf (IsRouteNode strategy.entry (λ s. picks s.now) slot_map.now pick)
         (request (R.args command.now) (names_of read_only.now (N.registered nodes.old)) slot_map.now order.now) retries)
         (request (R.args command.now) (names_of read_only.now (N.registered nodes.old)) slot_map.now order.now)
-        (unseen (N.trace nodes.old) (N.mark nodes.old))
-        (unseen (N.trace nodes.new) (N.mark nodes.new))
+        (unseen (N.state nodes.old)) (unseen (N.state nodes.new))
         (N.may_refuse nodes.old) e.fault e.answered) }
     // Each fault but out of memory before any send has its cause, and what was answered stands.
     ensures fault { IfErr result (λ e. N.kept nodes.new → IsRetryFault
         (IsTryOf (IsRouteNode strategy.entry (λ s. picks s.now) slot_map.now pick)
         (request (R.args command.now) (names_of read_only.now (N.registered nodes.old)) slot_map.now order.now) retries)
         N.step (request (R.args command.now) (names_of read_only.now (N.registered nodes.old)) slot_map.now order.now)
-        (state (N.keyspace nodes.old) (N.trace nodes.old) (N.mark nodes.old))
-        (state (N.keyspace nodes.new) (N.trace nodes.new) (N.mark nodes.new))
+        (N.state nodes.old) (N.state nodes.new)
         (N.may_refuse nodes.old) e.fault e.answered) }
     // These may be the replies that the nodes gave: one to each part that was answered.
     ensures given { IfErr result

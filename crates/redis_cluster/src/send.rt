@@ -41,14 +41,14 @@ pub(super) fn send_all<R: Routable, N: Nodes>(
     ensures replies { OnOk result ((command : MultiKey)
         → IsPlanOf (N.registered nodes.old) command plan.old
         → N.kept nodes.new
-        → ArePartReplies plan.new command.form (results_of N.step command (N.keyspace nodes.old))) }
+        → ArePartReplies plan.new command.form (results_of N.step command (N.state nodes.old).keyspace)) }
     ensures trace { OnOk result
         (AllTried (in_order (tries_with (targets plan.old) retries.old) order.now)
-        (N.trace nodes.old) (N.trace nodes.new)) }
-    ensures allowed { AreAllowed (N.may_refuse nodes.old) (N.trace nodes.old) (N.trace nodes.new) }
+        (N.state nodes.old).trace (N.state nodes.new).trace) }
+    ensures allowed { AreAllowed (N.may_refuse nodes.old) (N.state nodes.old).trace (N.state nodes.new).trace }
     ensures keyspace { OnOk result ((command : MultiKey) → IsPlanOf (N.registered nodes.old) command plan.old
         → N.kept nodes.new
-        → N.keyspace nodes.new ≡ keyspace_after N.step command (N.keyspace nodes.old)) }
+        → (N.state nodes.new).keyspace ≡ keyspace_after N.step command (N.state nodes.old).keyspace) }
     ensures kept { N.kept nodes.new → N.kept nodes.old }
     ensures within { IfErr result (λ stop. stop.answered < length order.now) }
     ensures given { IfErr result
@@ -57,8 +57,8 @@ pub(super) fn send_all<R: Routable, N: Nodes>(
         (λ stop. (error : SendError) × (stop.fault ≡ fault_of_send error)
         × ((command : MultiKey) → IsPlanOf (N.registered nodes.old) command plan.old
         → AreStopped (N.kept nodes.new) N.step (N.may_refuse nodes.old) command plan.old
-        (tries_with (targets plan.old) retries.old) order.now stop.answered (N.keyspace nodes.old) (N.keyspace nodes.new) (N.trace nodes.old) (N.trace nodes.new)
-        (N.mark nodes.new) (ending_of error))) }
+        (tries_with (targets plan.old) retries.old) order.now stop.answered (N.state nodes.old).keyspace (N.state nodes.new).keyspace (N.state nodes.old).trace (N.state nodes.new).trace
+        (N.state nodes.new).mark (ending_of error))) }
     ensures registered { N.registered nodes.new ≡ N.registered nodes.old }
     ensures may_refuse { (count : ℕ) (ending : Ending) → N.may_refuse nodes.new count ending
         ↔ N.may_refuse nodes.old count ending }
@@ -94,7 +94,7 @@ fn send_part<R: Routable, N: Nodes>(
         (λ value. (target : Target) (command : MultiKey)
         → slice_get (targets plan.now) number ≡ Some target
         → multi_key (N.registered nodes.old) (map Some target.1) ≡ Some command
-        → N.kept nodes.new → view value ≡ reply_to N.step command (N.keyspace nodes.old)) }
+        → N.kept nodes.new → view value ≡ reply_to N.step command (N.state nodes.old).keyspace) }
     ensures kept { N.kept nodes.new → N.kept nodes.old }
     ensures gave { IfOk result
         (λ value. (replies : List Reply) → N.gave nodes.old replies
@@ -105,24 +105,24 @@ fn send_part<R: Routable, N: Nodes>(
         → slice_get (targets plan.now) number ≡ Some target
         → multi_key (N.registered nodes.old) (map Some target.1) ≡ Some command
         → N.kept nodes.new
-        → N.keyspace nodes.new ≡ keyspace_after N.step command (N.keyspace nodes.old)) }
+        → (N.state nodes.new).keyspace ≡ keyspace_after N.step command (N.state nodes.old).keyspace) }
     ensures trace { OnOk result ((target : Target)
         → slice_get (targets plan.now) number ≡ Some target
         → IsTried (try_with target (slice_get retries.old number)) (Some answered)
-        (N.trace nodes.old) (N.trace nodes.new)) }
+        (N.state nodes.old).trace (N.state nodes.new).trace) }
     ensures unanswered { IfErr result
         (λ error. (target : Target) → slice_get (targets plan.now) number ≡ Some target
         → IsTried (try_with target (slice_get retries.old number)) (ending_of error)
-        (N.trace nodes.old) (N.trace nodes.new)) }
+        (N.state nodes.old).trace (N.state nodes.new).trace) }
     ensures cause { IfErr result
-        (λ error. IsCause (N.may_refuse nodes.old) (length (N.trace nodes.new)) (N.mark nodes.new)
+        (λ error. IsCause (N.may_refuse nodes.old) (length (N.state nodes.new).trace) (N.state nodes.new).mark
         (ending_of error)) }
-    ensures allowed { AreAllowed (N.may_refuse nodes.old) (N.trace nodes.old) (N.trace nodes.new) }
+    ensures allowed { AreAllowed (N.may_refuse nodes.old) (N.state nodes.old).trace (N.state nodes.new).trace }
     ensures left { IfErr result (λ error. (target : Target) (command : MultiKey)
         → slice_get (targets plan.now) number ≡ Some target
         → multi_key (N.registered nodes.old) (map Some target.1) ≡ Some command
         → N.kept nodes.new
-        → IsLeft N.step command (N.keyspace nodes.old) (N.keyspace nodes.new) (ending_of error)) }
+        → IsLeft N.step command (N.state nodes.old).keyspace (N.state nodes.new).keyspace (ending_of error)) }
     ensures others { (other : ℕ) → nat_eq other number ≡ false
         → slice_get retries.new other ≡ slice_get retries.old other }
     ensures many { length retries.new ≡ length retries.old }

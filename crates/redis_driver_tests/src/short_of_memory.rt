@@ -1,4 +1,5 @@
 //! Nodes that run out of memory at one send, and at no later one.
+ghost use Rattle.redis_cluster.specs.State.{state};
 ghost use Rattle.memory_nodes.specs.Cells.{Cell};
 ghost use Rattle.memory_nodes.specs.Nodes.{keyspace_in, registered_in, trace_in, MayRefuse};
 ghost use Rattle.memory_nodes.specs.Steps.{step};
@@ -28,11 +29,7 @@ impl Nodes for ShortOfMemory {
 
     ghost registered = { λ short. registered_in short.nodes };
 
-    ghost keyspace = { λ short. keyspace_in short.nodes };
-
-    ghost trace = { λ short. trace_in short.nodes };
-
-    ghost mark = { λ short. short.mark };
+    ghost state = { λ short. state (keyspace_in short.nodes) (trace_in short.nodes) short.mark };
 
     ghost may_refuse = { λ short. MayRefuse short.nodes };
 

@@ -2,8 +2,8 @@
 ghost use Rattle.std.specs.Prelude.{◌≡◌, [], ◌∷◌, List, Bool, Ok, Some, map, IfOk, IfErr, IfSome, ⊤};
 ghost use Rattle.resp_core.specs.Reply.{Reply};
 ghost use Rattle.resp_core.specs.View.{view};
-ghost use Rattle.redis_cluster.specs.Driven.{state};
-ghost use Rattle.redis_cluster.specs.Faults.{IsCut, IsFault, unseen};
+ghost use Rattle.redis_cluster.specs.State.{state};
+ghost use Rattle.redis_cluster.specs.Faults.{IsCut, IsFault, nothing, unseen};
 ghost use Rattle.redis_cluster.specs.Joined.{IsJoined};
 ghost use Rattle.redis_cluster.specs.MultiKey.{multi_key};
 ghost use Rattle.redis_cluster.specs.Names.{names_of};
@@ -63,9 +63,9 @@ pub fn client_over<T: Transport, M: Meaning>(
     registry: Registry,
 ) -> WireNodes<Logged<T>, M>
     ensures registered { registry_in result ≡ registry }
-    ensures unsent { ⟦<WireNodes<Logged<T>, M> as Nodes>⟧.trace result ≡ [] }
+    ensures unsent { (⟦<WireNodes<Logged<T>, M> as Nodes>⟧.state result).trace ≡ [] }
     ensures kept { ⟦<WireNodes<Logged<T>, M> as Nodes>⟧.kept result }
-    ensures initial { ⟦<WireNodes<Logged<T>, M> as Nodes>⟧.keyspace result ≡ M.initial }
+    ensures initial { (⟦<WireNodes<Logged<T>, M> as Nodes>⟧.state result).keyspace ≡ M.initial }
 {
     WireNodes::over(transport, registry)
 }
@@ -88,9 +88,9 @@ pub fn write_and_read<W: Wire, M: Meaning>(
     // A value comes only where each part of both commands went once, and was answered.
     ensures once { IfOk result (λ value. (between : List Entry)
         × AreSentOnce slot_map.now (registry_in client.old) write (0 ∷ 1 ∷ [])
-        (⟦<WireNodes<W, M> as Nodes>⟧.trace client.old) between
+        (⟦<WireNodes<W, M> as Nodes>⟧.state client.old).trace between
         × AreSentOnce slot_map.now (registry_in client.old) read (1 ∷ 0 ∷ [])
-        between (⟦<WireNodes<W, M> as Nodes>⟧.trace client.new)) }
+        between (⟦<WireNodes<W, M> as Nodes>⟧.state client.new).trace) }
     // It is made of the values that came to the read, as the policy of `MGET` says.
     ensures joined { IfOk result (λ value. (before : List Reply)
         × IsJoined (names_of [] (registry_in client.old)) (map Some read) (1 ∷ 0 ∷ [])
@@ -99,42 +99,39 @@ pub fn write_and_read<W: Wire, M: Meaning>(
     ensures as_one { IfOk result (λ value. ⟦<WireNodes<W, M> as Nodes>⟧.kept client.new
         → IfSome (multi_key (registry_in client.old) (map Some write)) (λ set. IfSome (multi_key (registry_in client.old) (map Some read)) (λ get.
         view value ≡ reply_to M.step get (keyspace_after M.step set
-        (⟦<WireNodes<W, M> as Nodes>⟧.keyspace client.old))))) }
+        (⟦<WireNodes<W, M> as Nodes>⟧.state client.old).keyspace)))) }
     // Memory that ran out before the first send leaves the client as it was.
     ensures unsent { IfErr result (λ fault. fault ≡ ClientFault.Memory → client.new ≡ client.old) }
     // Of a write that failed, so many parts were answered, and no later one was sent.
     ensures not_written { IfErr result (λ fault. (error : DriveError)
         → fault ≡ ClientFault.Write error
         → IsCut (IsPrimary slot_map.now) (asked slot_map.now (registry_in client.old) write (0 ∷ 1 ∷ []))
-        (unseen (⟦<WireNodes<W, M> as Nodes>⟧.trace client.old) (⟦<WireNodes<W, M> as Nodes>⟧.mark client.old))
-        (unseen (⟦<WireNodes<W, M> as Nodes>⟧.trace client.new) (⟦<WireNodes<W, M> as Nodes>⟧.mark client.new))
+        (unseen (⟦<WireNodes<W, M> as Nodes>⟧.state client.old))
+        (unseen (⟦<WireNodes<W, M> as Nodes>⟧.state client.new))
         (λ count ending. ⊤) error.fault error.answered) }
     // So it is with a read that failed, and each part of the write was answered.
     ensures not_read { IfErr result (λ fault. (error : DriveError)
         → fault ≡ ClientFault.Read error → (between : List Entry) × (mark : Bool)
         × AreSentOnce slot_map.now (registry_in client.old) write (0 ∷ 1 ∷ [])
-        (⟦<WireNodes<W, M> as Nodes>⟧.trace client.old) between
+        (⟦<WireNodes<W, M> as Nodes>⟧.state client.old).trace between
         × IsCut (IsPrimary slot_map.now) (asked slot_map.now (registry_in client.old) read (1 ∷ 0 ∷ []))
-        (unseen between mark)
-        (unseen (⟦<WireNodes<W, M> as Nodes>⟧.trace client.new) (⟦<WireNodes<W, M> as Nodes>⟧.mark client.new))
+        (state nothing between mark)
+        (unseen (⟦<WireNodes<W, M> as Nodes>⟧.state client.new))
         (λ count ending. ⊤) error.fault error.answered) }
     // Where the servers answered as one would, the keys hold what the answered parts wrote,
     ensures written_so_far { IfErr result (λ fault. (error : DriveError)
         → fault ≡ ClientFault.Write error → ⟦<WireNodes<W, M> as Nodes>⟧.kept client.new
         → IsFault (IsPrimary slot_map.now) M.step (asked slot_map.now (registry_in client.old) write (0 ∷ 1 ∷ []))
-        (state (⟦<WireNodes<W, M> as Nodes>⟧.keyspace client.old) (⟦<WireNodes<W, M> as Nodes>⟧.trace client.old)
-        (⟦<WireNodes<W, M> as Nodes>⟧.mark client.old))
-        (state (⟦<WireNodes<W, M> as Nodes>⟧.keyspace client.new) (⟦<WireNodes<W, M> as Nodes>⟧.trace client.new)
-        (⟦<WireNodes<W, M> as Nodes>⟧.mark client.new))
+        (⟦<WireNodes<W, M> as Nodes>⟧.state client.old)
+        (⟦<WireNodes<W, M> as Nodes>⟧.state client.new)
         (λ count ending. ⊤) error.fault error.answered) }
     // and after a read that failed what the write leaves, as the answered parts of the read leave it.
     ensures written { IfErr result (λ fault. (error : DriveError)
         → fault ≡ ClientFault.Read error → ⟦<WireNodes<W, M> as Nodes>⟧.kept client.new
         → IfSome (multi_key (registry_in client.old) (map Some write)) (λ set. (between : List Entry) × (mark : Bool)
         × IsFault (IsPrimary slot_map.now) M.step (asked slot_map.now (registry_in client.old) read (1 ∷ 0 ∷ []))
-        (state (keyspace_after M.step set (⟦<WireNodes<W, M> as Nodes>⟧.keyspace client.old)) between mark)
-        (state (⟦<WireNodes<W, M> as Nodes>⟧.keyspace client.new) (⟦<WireNodes<W, M> as Nodes>⟧.trace client.new)
-        (⟦<WireNodes<W, M> as Nodes>⟧.mark client.new))
+        (state (keyspace_after M.step set (⟦<WireNodes<W, M> as Nodes>⟧.state client.old).keyspace) between mark)
+        (⟦<WireNodes<W, M> as Nodes>⟧.state client.new)
         (λ count ending. ⊤) error.fault error.answered)) }
     // Servers that answered so until now did so before.
     ensures kept { ⟦<WireNodes<W, M> as Nodes>⟧.kept client.new → ⟦<WireNodes<W, M> as Nodes>⟧.kept client.old }
@@ -159,7 +156,7 @@ fn drive_over<W: Wire, M: Meaning>(
     client: &mut WireNodes<W, M>,
 ) -> Result<Value, DriveError>
     ensures once { IfOk result (λ value. AreSentOnce slot_map.now (registry_in client.old) command.now order.now
-        (⟦<WireNodes<W, M> as Nodes>⟧.trace client.old) (⟦<WireNodes<W, M> as Nodes>⟧.trace client.new)) }
+        (⟦<WireNodes<W, M> as Nodes>⟧.state client.old).trace (⟦<WireNodes<W, M> as Nodes>⟧.state client.new).trace) }
     ensures joined { IfOk result (λ value.
         IsJoined (names_of [] (registry_in client.old)) (map Some command.now) order.now
         (⟦<WireNodes<W, M> as Nodes>⟧.gave client.old) (⟦<WireNodes<W, M> as Nodes>⟧.gave client.new)
@@ -167,20 +164,18 @@ fn drive_over<W: Wire, M: Meaning>(
     ensures as_one { IfOk result (λ value. ⟦<WireNodes<W, M> as Nodes>⟧.kept client.new
         → IfSome (multi_key (registry_in client.old) (map Some command.now)) (λ whole.
         (view value ≡ reply_to M.step whole
-        (⟦<WireNodes<W, M> as Nodes>⟧.keyspace client.old))
-        × (⟦<WireNodes<W, M> as Nodes>⟧.keyspace client.new ≡ keyspace_after M.step whole
-        (⟦<WireNodes<W, M> as Nodes>⟧.keyspace client.old)))) }
+        (⟦<WireNodes<W, M> as Nodes>⟧.state client.old).keyspace)
+        × ((⟦<WireNodes<W, M> as Nodes>⟧.state client.new).keyspace ≡ keyspace_after M.step whole
+        (⟦<WireNodes<W, M> as Nodes>⟧.state client.old).keyspace))) }
     ensures cut { IfErr result (λ error.
         IsCut (IsPrimary slot_map.now) (asked slot_map.now (registry_in client.old) command.now order.now)
-        (unseen (⟦<WireNodes<W, M> as Nodes>⟧.trace client.old) (⟦<WireNodes<W, M> as Nodes>⟧.mark client.old))
-        (unseen (⟦<WireNodes<W, M> as Nodes>⟧.trace client.new) (⟦<WireNodes<W, M> as Nodes>⟧.mark client.new))
+        (unseen (⟦<WireNodes<W, M> as Nodes>⟧.state client.old))
+        (unseen (⟦<WireNodes<W, M> as Nodes>⟧.state client.new))
         (λ count ending. ⊤) error.fault error.answered) }
     ensures fault { IfErr result (λ error. ⟦<WireNodes<W, M> as Nodes>⟧.kept client.new
         → IsFault (IsPrimary slot_map.now) M.step (asked slot_map.now (registry_in client.old) command.now order.now)
-        (state (⟦<WireNodes<W, M> as Nodes>⟧.keyspace client.old) (⟦<WireNodes<W, M> as Nodes>⟧.trace client.old)
-        (⟦<WireNodes<W, M> as Nodes>⟧.mark client.old))
-        (state (⟦<WireNodes<W, M> as Nodes>⟧.keyspace client.new) (⟦<WireNodes<W, M> as Nodes>⟧.trace client.new)
-        (⟦<WireNodes<W, M> as Nodes>⟧.mark client.new))
+        (⟦<WireNodes<W, M> as Nodes>⟧.state client.old)
+        (⟦<WireNodes<W, M> as Nodes>⟧.state client.new)
         (λ count ending. ⊤) error.fault error.answered) }
     ensures kept { ⟦<WireNodes<W, M> as Nodes>⟧.kept client.new → ⟦<WireNodes<W, M> as Nodes>⟧.kept client.old }
     ensures registered { registry_in client.new ≡ registry_in client.old }

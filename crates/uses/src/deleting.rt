@@ -21,8 +21,8 @@ pub fn delete<N: Nodes>(
 ) -> Result<Value, DriveError>
     ensures unsplit { IfOk result (λ count. N.kept nodes.new
         → IfSome (multi_key (N.registered nodes.old) (map Some command.now)) (λ whole.
-        (view count ≡ reply_to N.step whole (N.keyspace nodes.old))
-        × (N.keyspace nodes.new ≡ keyspace_after N.step whole (N.keyspace nodes.old)))) }
+        (view count ≡ reply_to N.step whole (N.state nodes.old).keyspace)
+        × ((N.state nodes.new).keyspace ≡ keyspace_after N.step whole (N.state nodes.old).keyspace))) }
 {
     let none_only_reads = ReadOnlyNames::new(alloc);
     drive(

@@ -16,14 +16,14 @@ of_command P found command is said = subst (λ (o : Option MultiKey). IfSome o P
 pub returns-in-Ok-clause-answered : goal.returns-in-Ok-clause-answered
 returns-in-Ok-clause-answered g c =
     let nodes = g.N.Nodes in
-    answers (try_by c.args.part.now c.args.retry.now) (nodes.trace c.args.nodes.now) (nodes.trace c.loop-node.nodes) (nodes.trace c.send.new.self) c.loop-node.retry c.in-Some.node.now
+    answers (try_by c.args.part.now c.args.retry.now) (nodes.state c.args.nodes.now).trace (nodes.state c.loop-node.nodes).trace (nodes.state c.send.new.self).trace c.loop-node.retry c.in-Some.node.now
     c.loop-node.invariant.tried (sym c.in-Some.ensures.target) c.in-Ok.ensures.trace
 
 pub returns-then-not-on_failure-clause-unanswered : goal.returns-then-not-on_failure-clause-unanswered
 returns-then-not-on_failure-clause-unanswered g c =
     let nodes = g.N.Nodes in
     let told = rw c.in-Refused.is at c.in-Err.ensures.unanswered in
-    refuses_last (try_by c.args.part.now c.args.retry.now) (nodes.trace c.args.nodes.now) (nodes.trace c.loop-node.nodes) (nodes.trace c.send.new.self) c.loop-node.retry c.in-Some.node.now
+    refuses_last (try_by c.args.part.now c.args.retry.now) (nodes.state c.args.nodes.now).trace (nodes.state c.loop-node.nodes).trace (nodes.state c.send.new.self).trace c.loop-node.retry c.in-Some.node.now
     c.loop-node.invariant.tried (sym c.in-Some.ensures.target) c.in-Refused.refusal told.1 (c.on_failure.ensures.ended c.if-not-on_failure.true).0
 
 pub loop-node-preserved-else-not-on_failure : goal.loop-node-preserved-else-not-on_failure
@@ -33,12 +33,12 @@ loop-node-preserved-else-not-on_failure g c =
     let told = rw c.in-Refused.is at c.in-Err.ensures.unanswered in
     let left = rw c.in-Refused.is at c.in-Err.ensures.left in
     record {
-      tried = refuses (try_by c.args.part.now c.args.retry.now) (nodes.trace c.args.nodes.now) (nodes.trace c.loop-node.nodes) (nodes.trace c.send.new.self) c.loop-node.retry c.in-Some.node.now
+      tried = refuses (try_by c.args.part.now c.args.retry.now) (nodes.state c.args.nodes.now).trace (nodes.state c.loop-node.nodes).trace (nodes.state c.send.new.self).trace c.loop-node.retry c.in-Some.node.now
           inv.tried (sym c.in-Some.ensures.target) c.in-Refused.refusal c.on_failure.new.self told.1 (c.on_failure.ensures.named c.if-not-on_failure.false);
-      allowed = allowed_more (nodes.may_refuse c.args.nodes.now) (nodes.may_refuse c.loop-node.nodes) (nodes.trace c.args.nodes.now) (nodes.trace c.loop-node.nodes) (nodes.trace c.send.new.self) c.loop-node.invariant.may_refuse c.loop-node.invariant.allowed
-          (allowed_sent (nodes.may_refuse c.loop-node.nodes) c.send.result (nodes.trace c.loop-node.nodes) (nodes.trace c.send.new.self) (nodes.mark c.send.new.self) c.in-Some.node.now c.args.part.now c.send.ensures.trace c.send.ensures.unanswered);
+      allowed = allowed_more (nodes.may_refuse c.args.nodes.now) (nodes.may_refuse c.loop-node.nodes) (nodes.state c.args.nodes.now).trace (nodes.state c.loop-node.nodes).trace (nodes.state c.send.new.self).trace c.loop-node.invariant.may_refuse c.loop-node.invariant.allowed
+          (allowed_sent (nodes.may_refuse c.loop-node.nodes) c.send.result (nodes.state c.loop-node.nodes).trace (nodes.state c.send.new.self).trace (nodes.state c.send.new.self).mark c.in-Some.node.now c.args.part.now c.send.ensures.trace c.send.ensures.unanswered);
       kept = λ now. inv.kept (c.send.ensures.kept now);
-      keyspace = λ now. of_command (λ command. nodes.kept c.send.new.self → nodes.keyspace c.send.new.self ≡ nodes.keyspace c.loop-node.nodes) (multi_key (nodes.registered c.loop-node.nodes) (map Some c.args.part.now)) c.requires.part.command (ap (λ registered. multi_key registered (map Some c.args.part.now)) inv.registered ∙ c.requires.part.command_is) left now
+      keyspace = λ now. of_command (λ command. nodes.kept c.send.new.self → (nodes.state c.send.new.self).keyspace ≡ (nodes.state c.loop-node.nodes).keyspace) (multi_key (nodes.registered c.loop-node.nodes) (map Some c.args.part.now)) c.requires.part.command (ap (λ registered. multi_key registered (map Some c.args.part.now)) inv.registered ∙ c.requires.part.command_is) left now
           ∙ inv.keyspace (c.send.ensures.kept now);
       registered = c.send.ensures.registered ∙ inv.registered;
       gave = λ replies was. c.in-Err.ensures.gave_none replies (inv.gave replies was);
@@ -52,12 +52,12 @@ loop-node-preserved-else-not-on_failure-2 g c =
     let told = rw c.in-Refused.is at c.in-Err.ensures.unanswered in
     let left = rw c.in-Refused.is at c.in-Err.ensures.left in
     record {
-      tried = refuses (try_by c.args.part.now c.args.retry.now) (nodes.trace c.args.nodes.now) (nodes.trace c.loop-node.nodes) (nodes.trace c.send.new.self) c.loop-node.retry c.in-Some.node.now
+      tried = refuses (try_by c.args.part.now c.args.retry.now) (nodes.state c.args.nodes.now).trace (nodes.state c.loop-node.nodes).trace (nodes.state c.send.new.self).trace c.loop-node.retry c.in-Some.node.now
           inv.tried (sym c.in-Some.ensures.target) c.in-Refused.refusal c.on_failure.new.self told.1 (c.on_failure.ensures.named c.if-not-on_failure.false);
-      allowed = allowed_more (nodes.may_refuse c.args.nodes.now) (nodes.may_refuse c.loop-node.nodes) (nodes.trace c.args.nodes.now) (nodes.trace c.loop-node.nodes) (nodes.trace c.send.new.self) c.loop-node.invariant.may_refuse c.loop-node.invariant.allowed
-          (allowed_sent (nodes.may_refuse c.loop-node.nodes) c.send.result (nodes.trace c.loop-node.nodes) (nodes.trace c.send.new.self) (nodes.mark c.send.new.self) c.in-Some.node.now c.args.part.now c.send.ensures.trace c.send.ensures.unanswered);
+      allowed = allowed_more (nodes.may_refuse c.args.nodes.now) (nodes.may_refuse c.loop-node.nodes) (nodes.state c.args.nodes.now).trace (nodes.state c.loop-node.nodes).trace (nodes.state c.send.new.self).trace c.loop-node.invariant.may_refuse c.loop-node.invariant.allowed
+          (allowed_sent (nodes.may_refuse c.loop-node.nodes) c.send.result (nodes.state c.loop-node.nodes).trace (nodes.state c.send.new.self).trace (nodes.state c.send.new.self).mark c.in-Some.node.now c.args.part.now c.send.ensures.trace c.send.ensures.unanswered);
       kept = λ now. inv.kept (c.send.ensures.kept now);
-      keyspace = λ now. of_command (λ command. nodes.kept c.send.new.self → nodes.keyspace c.send.new.self ≡ nodes.keyspace c.loop-node.nodes) (multi_key (nodes.registered c.loop-node.nodes) (map Some c.args.part.now)) c.requires.part.command (ap (λ registered. multi_key registered (map Some c.args.part.now)) inv.registered ∙ c.requires.part.command_is) left now
+      keyspace = λ now. of_command (λ command. nodes.kept c.send.new.self → (nodes.state c.send.new.self).keyspace ≡ (nodes.state c.loop-node.nodes).keyspace) (multi_key (nodes.registered c.loop-node.nodes) (map Some c.args.part.now)) c.requires.part.command (ap (λ registered. multi_key registered (map Some c.args.part.now)) inv.registered ∙ c.requires.part.command_is) left now
           ∙ inv.keyspace (c.send.ensures.kept now);
       registered = c.send.ensures.registered ∙ inv.registered;
       gave = λ replies was. c.in-Err.ensures.gave_none replies (inv.gave replies was);
@@ -69,9 +69,9 @@ returns-in-Err-on_redirect-clause-unanswered g c =
     let nodes = g.N.Nodes in
     let told = rw c.in-Redirected.is at c.in-Err.ensures.unanswered in
     let ended = c.in-Err-on_redirect.ensures.ended in
-    let tried = redirects_last (try_by c.args.part.now c.args.retry.now) (nodes.trace c.args.nodes.now) (nodes.trace c.loop-node.nodes) (nodes.trace c.send.new.self) c.loop-node.retry c.in-Some.node.now
+    let tried = redirects_last (try_by c.args.part.now c.args.retry.now) (nodes.state c.args.nodes.now).trace (nodes.state c.loop-node.nodes).trace (nodes.state c.send.new.self).trace c.loop-node.retry c.in-Some.node.now
     c.loop-node.invariant.tried (sym c.in-Some.ensures.target) c.in-Redirected.redirect told.1 ended.1 in
-    subst (λ (r : Redirect). IsTried (try_by c.args.part.now c.args.retry.now) (Some (redirected r)) (nodes.trace c.args.nodes.now) (nodes.trace c.send.new.self)) (sym ended.0) tried
+    subst (λ (r : Redirect). IsTried (try_by c.args.part.now c.args.retry.now) (Some (redirected r)) (nodes.state c.args.nodes.now).trace (nodes.state c.send.new.self).trace) (sym ended.0) tried
 
 pub loop-node-preserved : goal.loop-node-preserved
 loop-node-preserved g c =
@@ -80,12 +80,12 @@ loop-node-preserved g c =
     let told = rw c.in-Redirected.is at c.in-Err.ensures.unanswered in
     let left = rw c.in-Redirected.is at c.in-Err.ensures.left in
     record {
-      tried = redirects (try_by c.args.part.now c.args.retry.now) (nodes.trace c.args.nodes.now) (nodes.trace c.loop-node.nodes) (nodes.trace c.send.new.self) c.loop-node.retry c.in-Some.node.now
+      tried = redirects (try_by c.args.part.now c.args.retry.now) (nodes.state c.args.nodes.now).trace (nodes.state c.loop-node.nodes).trace (nodes.state c.send.new.self).trace c.loop-node.retry c.in-Some.node.now
           inv.tried (sym c.in-Some.ensures.target) c.in-Redirected.redirect c.on_redirect.new.self told.1 c.in_default-on_redirect.ensures.named;
-      allowed = allowed_more (nodes.may_refuse c.args.nodes.now) (nodes.may_refuse c.loop-node.nodes) (nodes.trace c.args.nodes.now) (nodes.trace c.loop-node.nodes) (nodes.trace c.send.new.self) c.loop-node.invariant.may_refuse c.loop-node.invariant.allowed
-          (allowed_sent (nodes.may_refuse c.loop-node.nodes) c.send.result (nodes.trace c.loop-node.nodes) (nodes.trace c.send.new.self) (nodes.mark c.send.new.self) c.in-Some.node.now c.args.part.now c.send.ensures.trace c.send.ensures.unanswered);
+      allowed = allowed_more (nodes.may_refuse c.args.nodes.now) (nodes.may_refuse c.loop-node.nodes) (nodes.state c.args.nodes.now).trace (nodes.state c.loop-node.nodes).trace (nodes.state c.send.new.self).trace c.loop-node.invariant.may_refuse c.loop-node.invariant.allowed
+          (allowed_sent (nodes.may_refuse c.loop-node.nodes) c.send.result (nodes.state c.loop-node.nodes).trace (nodes.state c.send.new.self).trace (nodes.state c.send.new.self).mark c.in-Some.node.now c.args.part.now c.send.ensures.trace c.send.ensures.unanswered);
       kept = λ now. inv.kept (c.send.ensures.kept now);
-      keyspace = λ now. of_command (λ command. nodes.kept c.send.new.self → nodes.keyspace c.send.new.self ≡ nodes.keyspace c.loop-node.nodes) (multi_key (nodes.registered c.loop-node.nodes) (map Some c.args.part.now)) c.requires.part.command (ap (λ registered. multi_key registered (map Some c.args.part.now)) inv.registered ∙ c.requires.part.command_is) left now
+      keyspace = λ now. of_command (λ command. nodes.kept c.send.new.self → (nodes.state c.send.new.self).keyspace ≡ (nodes.state c.loop-node.nodes).keyspace) (multi_key (nodes.registered c.loop-node.nodes) (map Some c.args.part.now)) c.requires.part.command (ap (λ registered. multi_key registered (map Some c.args.part.now)) inv.registered ∙ c.requires.part.command_is) left now
           ∙ inv.keyspace (c.send.ensures.kept now);
       registered = c.send.ensures.registered ∙ inv.registered;
       gave = λ replies was. c.in-Err.ensures.gave_none replies (inv.gave replies was);
@@ -96,35 +96,35 @@ pub returns-in-Lost-clause-unanswered : goal.returns-in-Lost-clause-unanswered
 returns-in-Lost-clause-unanswered g c =
     let nodes = g.N.Nodes in
     let told = rw c.in-Lost.is at c.in-Err.ensures.unanswered in
-    loses (try_by c.args.part.now c.args.retry.now) (nodes.trace c.args.nodes.now) (nodes.trace c.loop-node.nodes) (nodes.trace c.send.new.self) c.loop-node.retry c.in-Some.node.now
+    loses (try_by c.args.part.now c.args.retry.now) (nodes.state c.args.nodes.now).trace (nodes.state c.loop-node.nodes).trace (nodes.state c.send.new.self).trace c.loop-node.retry c.in-Some.node.now
     c.loop-node.invariant.tried (sym c.in-Some.ensures.target) c.in-Lost.loss told.1
 
 pub returns-in-Ok-clause-allowed : goal.returns-in-Ok-clause-allowed
 returns-in-Ok-clause-allowed g c =
     let nodes = g.N.Nodes in
-    allowed_more (nodes.may_refuse c.args.nodes.now) (nodes.may_refuse c.loop-node.nodes) (nodes.trace c.args.nodes.now) (nodes.trace c.loop-node.nodes) (nodes.trace c.send.new.self) c.loop-node.invariant.may_refuse c.loop-node.invariant.allowed
-    (allowed_sent (nodes.may_refuse c.loop-node.nodes) c.send.result (nodes.trace c.loop-node.nodes) (nodes.trace c.send.new.self) (nodes.mark c.send.new.self) c.in-Some.node.now c.args.part.now c.send.ensures.trace c.send.ensures.unanswered)
+    allowed_more (nodes.may_refuse c.args.nodes.now) (nodes.may_refuse c.loop-node.nodes) (nodes.state c.args.nodes.now).trace (nodes.state c.loop-node.nodes).trace (nodes.state c.send.new.self).trace c.loop-node.invariant.may_refuse c.loop-node.invariant.allowed
+    (allowed_sent (nodes.may_refuse c.loop-node.nodes) c.send.result (nodes.state c.loop-node.nodes).trace (nodes.state c.send.new.self).trace (nodes.state c.send.new.self).mark c.in-Some.node.now c.args.part.now c.send.ensures.trace c.send.ensures.unanswered)
 
 pub returns-then-not-on_failure-clause-allowed : goal.returns-then-not-on_failure-clause-allowed
 returns-then-not-on_failure-clause-allowed g c =
     let nodes = g.N.Nodes in
-    allowed_more (nodes.may_refuse c.args.nodes.now) (nodes.may_refuse c.loop-node.nodes) (nodes.trace c.args.nodes.now) (nodes.trace c.loop-node.nodes) (nodes.trace c.send.new.self) c.loop-node.invariant.may_refuse c.loop-node.invariant.allowed
-    (allowed_sent (nodes.may_refuse c.loop-node.nodes) c.send.result (nodes.trace c.loop-node.nodes) (nodes.trace c.send.new.self) (nodes.mark c.send.new.self) c.in-Some.node.now c.args.part.now c.send.ensures.trace c.send.ensures.unanswered)
+    allowed_more (nodes.may_refuse c.args.nodes.now) (nodes.may_refuse c.loop-node.nodes) (nodes.state c.args.nodes.now).trace (nodes.state c.loop-node.nodes).trace (nodes.state c.send.new.self).trace c.loop-node.invariant.may_refuse c.loop-node.invariant.allowed
+    (allowed_sent (nodes.may_refuse c.loop-node.nodes) c.send.result (nodes.state c.loop-node.nodes).trace (nodes.state c.send.new.self).trace (nodes.state c.send.new.self).mark c.in-Some.node.now c.args.part.now c.send.ensures.trace c.send.ensures.unanswered)
 
 pub returns-in-Err-on_redirect-clause-allowed : goal.returns-in-Err-on_redirect-clause-allowed
 returns-in-Err-on_redirect-clause-allowed g c =
     let nodes = g.N.Nodes in
-    allowed_more (nodes.may_refuse c.args.nodes.now) (nodes.may_refuse c.loop-node.nodes) (nodes.trace c.args.nodes.now) (nodes.trace c.loop-node.nodes) (nodes.trace c.send.new.self) c.loop-node.invariant.may_refuse c.loop-node.invariant.allowed
-    (allowed_sent (nodes.may_refuse c.loop-node.nodes) c.send.result (nodes.trace c.loop-node.nodes) (nodes.trace c.send.new.self) (nodes.mark c.send.new.self) c.in-Some.node.now c.args.part.now c.send.ensures.trace c.send.ensures.unanswered)
+    allowed_more (nodes.may_refuse c.args.nodes.now) (nodes.may_refuse c.loop-node.nodes) (nodes.state c.args.nodes.now).trace (nodes.state c.loop-node.nodes).trace (nodes.state c.send.new.self).trace c.loop-node.invariant.may_refuse c.loop-node.invariant.allowed
+    (allowed_sent (nodes.may_refuse c.loop-node.nodes) c.send.result (nodes.state c.loop-node.nodes).trace (nodes.state c.send.new.self).trace (nodes.state c.send.new.self).mark c.in-Some.node.now c.args.part.now c.send.ensures.trace c.send.ensures.unanswered)
 
 pub returns-in-Lost-clause-allowed : goal.returns-in-Lost-clause-allowed
 returns-in-Lost-clause-allowed g c =
     let nodes = g.N.Nodes in
-    allowed_more (nodes.may_refuse c.args.nodes.now) (nodes.may_refuse c.loop-node.nodes) (nodes.trace c.args.nodes.now) (nodes.trace c.loop-node.nodes) (nodes.trace c.send.new.self) c.loop-node.invariant.may_refuse c.loop-node.invariant.allowed
-    (allowed_sent (nodes.may_refuse c.loop-node.nodes) c.send.result (nodes.trace c.loop-node.nodes) (nodes.trace c.send.new.self) (nodes.mark c.send.new.self) c.in-Some.node.now c.args.part.now c.send.ensures.trace c.send.ensures.unanswered)
+    allowed_more (nodes.may_refuse c.args.nodes.now) (nodes.may_refuse c.loop-node.nodes) (nodes.state c.args.nodes.now).trace (nodes.state c.loop-node.nodes).trace (nodes.state c.send.new.self).trace c.loop-node.invariant.may_refuse c.loop-node.invariant.allowed
+    (allowed_sent (nodes.may_refuse c.loop-node.nodes) c.send.result (nodes.state c.loop-node.nodes).trace (nodes.state c.send.new.self).trace (nodes.state c.send.new.self).mark c.in-Some.node.now c.args.part.now c.send.ensures.trace c.send.ensures.unanswered)
 
 pub returns-in-Memory-clause-allowed : goal.returns-in-Memory-clause-allowed
 returns-in-Memory-clause-allowed g c =
     let nodes = g.N.Nodes in
-    allowed_more (nodes.may_refuse c.args.nodes.now) (nodes.may_refuse c.loop-node.nodes) (nodes.trace c.args.nodes.now) (nodes.trace c.loop-node.nodes) (nodes.trace c.send.new.self) c.loop-node.invariant.may_refuse c.loop-node.invariant.allowed
-    (allowed_sent (nodes.may_refuse c.loop-node.nodes) c.send.result (nodes.trace c.loop-node.nodes) (nodes.trace c.send.new.self) (nodes.mark c.send.new.self) c.in-Some.node.now c.args.part.now c.send.ensures.trace c.send.ensures.unanswered)
+    allowed_more (nodes.may_refuse c.args.nodes.now) (nodes.may_refuse c.loop-node.nodes) (nodes.state c.args.nodes.now).trace (nodes.state c.loop-node.nodes).trace (nodes.state c.send.new.self).trace c.loop-node.invariant.may_refuse c.loop-node.invariant.allowed
+    (allowed_sent (nodes.may_refuse c.loop-node.nodes) c.send.result (nodes.state c.loop-node.nodes).trace (nodes.state c.send.new.self).trace (nodes.state c.send.new.self).mark c.in-Some.node.now c.args.part.now c.send.ensures.trace c.send.ensures.unanswered)

@@ -11,10 +11,10 @@ abbrev pub invariant-loop-node : goal.invariant-loop-node
 invariant-loop-node g l =
     let nodes = g.N.Nodes in
     record {
-      tried : IsTrying (try_by l.fn.part l.fn.retry) (nodes.trace l.fn.nodes) (nodes.trace l.nodes) l.retry;
-      allowed : AreAllowed (nodes.may_refuse l.fn.nodes) (nodes.trace l.fn.nodes) (nodes.trace l.nodes);
+      tried : IsTrying (try_by l.fn.part l.fn.retry) (nodes.state l.fn.nodes).trace (nodes.state l.nodes).trace l.retry;
+      allowed : AreAllowed (nodes.may_refuse l.fn.nodes) (nodes.state l.fn.nodes).trace (nodes.state l.nodes).trace;
       kept : nodes.kept l.nodes → nodes.kept l.fn.nodes;
-      keyspace : nodes.kept l.nodes → nodes.keyspace l.nodes ≡ nodes.keyspace l.fn.nodes;
+      keyspace : nodes.kept l.nodes → (nodes.state l.nodes).keyspace ≡ (nodes.state l.fn.nodes).keyspace;
       registered : nodes.registered l.nodes ≡ nodes.registered l.fn.nodes;
       gave : (replies : List Reply) → nodes.gave l.fn.nodes replies → nodes.gave l.nodes replies;
       may_refuse : (count : ℕ) (ending : Ending) → nodes.may_refuse l.nodes count ending ↔ nodes.may_refuse l.fn.nodes count ending;

@@ -1,4 +1,4 @@
-use Rattle.std.proofs.Common.{◌≡◌, [], map, refl, sym, Result, Ok, Err, IfOk, subst}
+use Rattle.std.proofs.Common.{[], refl, sym, subst}
 use Rattle.std.proofs.lemmas.List.{append-nil}
 use Rattle.std.proofs.lemmas.Result.{IfErr-weaker, IfOk-weaker}
 use Rattle.cluster_slots.specs.Address.{Address}
@@ -6,7 +6,7 @@ use Rattle.cluster_slots.specs.SlotRoute.{SlotRoute}
 use Rattle.redis_routing.specs.Names.{names_of}
 use Rattle.redis_routing.specs.Registry.{Registrations}
 use Rattle.redis_cluster.specs.MultiKey.{MultiKey}
-use Rattle.redis_cluster.specs.Driven.{Request, request, state}
+use Rattle.redis_cluster.specs.Driven.{Request, request}
 use Rattle.redis_cluster.specs.Joined.{IsSplitOf}
 use Rattle.redis_cluster.specs.Faults.{fault_of_plan, unseen, IsCauseBeforeSending}
 use Rattle.redis_cluster.specs.declared.fault.DriveFault.{DriveFault}
@@ -29,7 +29,7 @@ returns-in-Ok-clause-delivered g c =
     let ready = subst (λ registered. (command : MultiKey) × IsPlanFor (asked_by registered) c.args.order.now registered c.in-Ok.plan command) c.registry.ensures (c.in-Ok.ensures.ready c.args.order.now) in
     let asked = request (g.R.Routable.args c.args.command.now) (names_of c.args.read_only.now (g.N.Nodes.registered c.args.nodes.now)) c.args.slot_map.now c.args.order.now in
     IfOk-weaker c.drive_plan.result _ _
-    (λ value said. delivered_at (IsPlanNode c.in-Ok.plan) _ (plan_node _ c.in-Ok.plan c.in-Ok.ensures.nodes) asked (g.N.Nodes.trace c.args.nodes.now) (g.N.Nodes.trace c.drive_plan.new.nodes) (said asked ready.0 ready.1))
+    (λ value said. delivered_at (IsPlanNode c.in-Ok.plan) _ (plan_node _ c.in-Ok.plan c.in-Ok.ensures.nodes) asked (g.N.Nodes.state c.args.nodes.now).trace (g.N.Nodes.state c.drive_plan.new.nodes).trace (said asked ready.0 ready.1))
     c.drive_plan.ensures.delivered
 
 pub returns-in-Ok-clause-driven : goal.returns-in-Ok-clause-driven
@@ -37,8 +37,8 @@ returns-in-Ok-clause-driven g c =
     let asked_by : Registrations → Request = λ registered. request (g.R.Routable.args c.args.command.now) (names_of c.args.read_only.now registered) c.args.slot_map.now c.args.order.now in
     let ready = subst (λ registered. (command : MultiKey) × IsPlanFor (asked_by registered) c.args.order.now registered c.in-Ok.plan command) c.registry.ensures (c.in-Ok.ensures.ready c.args.order.now) in
     let asked = request (g.R.Routable.args c.args.command.now) (names_of c.args.read_only.now (g.N.Nodes.registered c.args.nodes.now)) c.args.slot_map.now c.args.order.now in
-    let old = state (g.N.Nodes.keyspace c.args.nodes.now) (g.N.Nodes.trace c.args.nodes.now) (g.N.Nodes.mark c.args.nodes.now) in
-    let new = state (g.N.Nodes.keyspace c.drive_plan.new.nodes) (g.N.Nodes.trace c.drive_plan.new.nodes) (g.N.Nodes.mark c.drive_plan.new.nodes) in
+    let old = g.N.Nodes.state c.args.nodes.now in
+    let new = g.N.Nodes.state c.drive_plan.new.nodes in
     IfOk-weaker c.drive_plan.result _ _
     (λ value said now. driven_at (IsPlanNode c.in-Ok.plan) _ (plan_node _ c.in-Ok.plan c.in-Ok.ensures.nodes) g.N.Nodes.step asked old new _ (said asked ready.0 ready.1 now))
     c.drive_plan.ensures.driven
@@ -50,7 +50,7 @@ returns-in-Ok-clause-cut g c =
     let asked = request (g.R.Routable.args c.args.command.now) (names_of c.args.read_only.now (g.N.Nodes.registered c.args.nodes.now)) c.args.slot_map.now c.args.order.now in
     let nodes = g.N.Nodes in
     IfErr-weaker c.drive_plan.result _ _
-    (λ e said. cut_at (IsPlanNode c.in-Ok.plan) _ (plan_node _ c.in-Ok.plan c.in-Ok.ensures.nodes) asked (unseen (nodes.trace c.args.nodes.now) (nodes.mark c.args.nodes.now)) (unseen (nodes.trace c.drive_plan.new.nodes) (nodes.mark c.drive_plan.new.nodes)) (nodes.may_refuse c.args.nodes.now) e.fault e.answered (said asked ready.0 ready.1))
+    (λ e said. cut_at (IsPlanNode c.in-Ok.plan) _ (plan_node _ c.in-Ok.plan c.in-Ok.ensures.nodes) asked (unseen (nodes.state c.args.nodes.now)) (unseen (nodes.state c.drive_plan.new.nodes)) (nodes.may_refuse c.args.nodes.now) e.fault e.answered (said asked ready.0 ready.1))
     c.drive_plan.ensures.cut
 
 pub returns-in-Ok-clause-fault : goal.returns-in-Ok-clause-fault
@@ -58,8 +58,8 @@ returns-in-Ok-clause-fault g c =
     let asked_by : Registrations → Request = λ registered. request (g.R.Routable.args c.args.command.now) (names_of c.args.read_only.now registered) c.args.slot_map.now c.args.order.now in
     let ready = subst (λ registered. (command : MultiKey) × IsPlanFor (asked_by registered) c.args.order.now registered c.in-Ok.plan command) c.registry.ensures (c.in-Ok.ensures.ready c.args.order.now) in
     let asked = request (g.R.Routable.args c.args.command.now) (names_of c.args.read_only.now (g.N.Nodes.registered c.args.nodes.now)) c.args.slot_map.now c.args.order.now in
-    let old = state (g.N.Nodes.keyspace c.args.nodes.now) (g.N.Nodes.trace c.args.nodes.now) (g.N.Nodes.mark c.args.nodes.now) in
-    let new = state (g.N.Nodes.keyspace c.drive_plan.new.nodes) (g.N.Nodes.trace c.drive_plan.new.nodes) (g.N.Nodes.mark c.drive_plan.new.nodes) in
+    let old = g.N.Nodes.state c.args.nodes.now in
+    let new = g.N.Nodes.state c.drive_plan.new.nodes in
     IfErr-weaker c.drive_plan.result _ _
     (λ e said now. fault_at (IsPlanNode c.in-Ok.plan) _ (plan_node _ c.in-Ok.plan c.in-Ok.ensures.nodes) g.N.Nodes.step asked old new (g.N.Nodes.may_refuse c.args.nodes.now) e.fault e.answered (said asked ready.0 ready.1 now))
     c.drive_plan.ensures.fault
@@ -89,8 +89,8 @@ returns-in-Ok-clause-unjoined g c =
 pub returns-in-Ok-clause-headline : goal.returns-in-Ok-clause-headline
 returns-in-Ok-clause-headline g c =
     let asked = request (g.R.Routable.args c.args.command.now) (names_of c.args.read_only.now (g.N.Nodes.registered c.args.nodes.now)) c.args.slot_map.now c.args.order.now in
-    let old = state (g.N.Nodes.keyspace c.args.nodes.now) (g.N.Nodes.trace c.args.nodes.now) (g.N.Nodes.mark c.args.nodes.now) in
-    let new = state (g.N.Nodes.keyspace c.drive_plan.new.nodes) (g.N.Nodes.trace c.drive_plan.new.nodes) (g.N.Nodes.mark c.drive_plan.new.nodes) in
+    let old = g.N.Nodes.state c.args.nodes.now in
+    let new = g.N.Nodes.state c.drive_plan.new.nodes in
     λ headline. IfErr-weaker c.drive_plan.result _ _
     (λ e fault now. headline_fault _ g.N.Nodes.step asked old new (g.N.Nodes.may_refuse c.args.nodes.now) headline e.fault e.answered (fault now))
     (returns-in-Ok-clause-fault g c)
@@ -98,8 +98,8 @@ returns-in-Ok-clause-headline g c =
 pub returns-in-Ok-clause-carried : goal.returns-in-Ok-clause-carried
 returns-in-Ok-clause-carried g c =
     let asked = request (g.R.Routable.args c.args.command.now) (names_of c.args.read_only.now (g.N.Nodes.registered c.args.nodes.now)) c.args.slot_map.now c.args.order.now in
-    let old = state (g.N.Nodes.keyspace c.args.nodes.now) (g.N.Nodes.trace c.args.nodes.now) (g.N.Nodes.mark c.args.nodes.now) in
-    let new = state (g.N.Nodes.keyspace c.drive_plan.new.nodes) (g.N.Nodes.trace c.drive_plan.new.nodes) (g.N.Nodes.mark c.drive_plan.new.nodes) in
+    let old = g.N.Nodes.state c.args.nodes.now in
+    let new = g.N.Nodes.state c.drive_plan.new.nodes in
     λ routes command can all. IfErr-weaker c.drive_plan.result _ _
     (λ e fault now. carried_fault _ g.N.Nodes.step asked old new (g.N.Nodes.may_refuse c.args.nodes.now) routes command can all e.fault e.answered (fault now))
     (returns-in-Ok-clause-fault g c)
@@ -113,7 +113,7 @@ returns-in-Err-clause-gaps g c = same_command (g.R.Routable.args c.args.command.
 pub returns-in-Err-clause-fault : goal.returns-in-Err-clause-fault
 returns-in-Err-clause-fault g c =
     let asked = request (g.R.Routable.args c.args.command.now) (names_of c.args.read_only.now (g.N.Nodes.registered c.args.nodes.now)) c.args.slot_map.now c.args.order.now in
-    let old = state (g.N.Nodes.keyspace c.args.nodes.now) (g.N.Nodes.trace c.args.nodes.now) (g.N.Nodes.mark c.args.nodes.now) in
+    let old = g.N.Nodes.state c.args.nodes.now in
     let is_early : IsCauseBeforeSending asked c.from.result = subst (λ (f : DriveFault). IsCauseBeforeSending asked f) (sym c.from.ensures) (subst (λ registered. IsCauseBeforeSending (request (g.R.Routable.args c.args.command.now) (names_of c.args.read_only.now registered) c.args.slot_map.now c.args.order.now) (fault_of_plan c.in-Err.fault)) c.registry.ensures
     (early_plan (request (g.R.Routable.args c.args.command.now) (names_of c.args.read_only.now c.registry.result.now) c.args.slot_map.now c.args.order.now) c.in-Err.fault c.in-Err.ensures.fault)) in
     λ now. early_fault _ g.N.Nodes.step asked old (g.N.Nodes.may_refuse c.args.nodes.now) c.from.result is_early
@@ -123,12 +123,12 @@ returns-in-Err-clause-cut g c =
     let asked = request (g.R.Routable.args c.args.command.now) (names_of c.args.read_only.now (g.N.Nodes.registered c.args.nodes.now)) c.args.slot_map.now c.args.order.now in
     let is_early : IsCauseBeforeSending asked c.from.result = subst (λ (f : DriveFault). IsCauseBeforeSending asked f) (sym c.from.ensures) (subst (λ registered. IsCauseBeforeSending (request (g.R.Routable.args c.args.command.now) (names_of c.args.read_only.now registered) c.args.slot_map.now c.args.order.now) (fault_of_plan c.in-Err.fault)) c.registry.ensures
     (early_plan (request (g.R.Routable.args c.args.command.now) (names_of c.args.read_only.now c.registry.result.now) c.args.slot_map.now c.args.order.now) c.in-Err.fault c.in-Err.ensures.fault)) in
-    early_cut _ asked (unseen (g.N.Nodes.trace c.args.nodes.now) (g.N.Nodes.mark c.args.nodes.now)) (g.N.Nodes.may_refuse c.args.nodes.now) c.from.result is_early
+    early_cut _ asked (unseen (g.N.Nodes.state c.args.nodes.now)) (g.N.Nodes.may_refuse c.args.nodes.now) c.from.result is_early
 
 pub returns-in-Err-clause-headline : goal.returns-in-Err-clause-headline
 returns-in-Err-clause-headline g c =
     let asked = request (g.R.Routable.args c.args.command.now) (names_of c.args.read_only.now (g.N.Nodes.registered c.args.nodes.now)) c.args.slot_map.now c.args.order.now in
-    let old = state (g.N.Nodes.keyspace c.args.nodes.now) (g.N.Nodes.trace c.args.nodes.now) (g.N.Nodes.mark c.args.nodes.now) in
+    let old = g.N.Nodes.state c.args.nodes.now in
     let is_early : IsCauseBeforeSending asked c.from.result = subst (λ (f : DriveFault). IsCauseBeforeSending asked f) (sym c.from.ensures) (subst (λ registered. IsCauseBeforeSending (request (g.R.Routable.args c.args.command.now) (names_of c.args.read_only.now registered) c.args.slot_map.now c.args.order.now) (fault_of_plan c.in-Err.fault)) c.registry.ensures
     (early_plan (request (g.R.Routable.args c.args.command.now) (names_of c.args.read_only.now c.registry.result.now) c.args.slot_map.now c.args.order.now) c.in-Err.fault c.in-Err.ensures.fault)) in
     let IsNode : SlotRoute → Address → Type 0 = λ route address. Unit {0} in
@@ -138,7 +138,7 @@ returns-in-Err-clause-headline g c =
 pub returns-in-Err-clause-carried : goal.returns-in-Err-clause-carried
 returns-in-Err-clause-carried g c =
     let asked = request (g.R.Routable.args c.args.command.now) (names_of c.args.read_only.now (g.N.Nodes.registered c.args.nodes.now)) c.args.slot_map.now c.args.order.now in
-    let old = state (g.N.Nodes.keyspace c.args.nodes.now) (g.N.Nodes.trace c.args.nodes.now) (g.N.Nodes.mark c.args.nodes.now) in
+    let old = g.N.Nodes.state c.args.nodes.now in
     let is_early : IsCauseBeforeSending asked c.from.result = subst (λ (f : DriveFault). IsCauseBeforeSending asked f) (sym c.from.ensures) (subst (λ registered. IsCauseBeforeSending (request (g.R.Routable.args c.args.command.now) (names_of c.args.read_only.now registered) c.args.slot_map.now c.args.order.now) (fault_of_plan c.in-Err.fault)) c.registry.ensures
     (early_plan (request (g.R.Routable.args c.args.command.now) (names_of c.args.read_only.now c.registry.result.now) c.args.slot_map.now c.args.order.now) c.in-Err.fault c.in-Err.ensures.fault)) in
     let IsNode : SlotRoute → Address → Type 0 = λ route address. Unit {0} in

@@ -7,7 +7,6 @@ use Rattle.std.proofs.lemmas.Result.{IfErr-weaker}
 use Rattle.redis_routing.specs.Registry.{Registrations}
 use Rattle.redis_cluster.specs.Sends.{IsPlanOf}
 use Rattle.redis_cluster.specs.Orders.{NamesOnce}
-use Rattle.redis_cluster.specs.Driven.{state}
 use Rattle.redis_cluster.specs.Faults.{unseen}
 use Rattle.redis_cluster.specs.Retry.{Attempt}
 use Rattle.redis_cluster.proofs.Ended.{ended_late, memory_is_no_reply}
@@ -34,15 +33,15 @@ pub returns-in-Ok-true-clause-delivered : goal.returns-in-Ok-true-clause-deliver
 returns-in-Ok-true-clause-delivered g c =
     let names : NamesOnce (length c.args.plan.split.routes) c.args.order.now = subst (λ n. NamesOnce n c.args.order.now) c.len.ensures.len (c.in-Ok-true.ensures.0 c.in-Ok-true.field-0-test) in
     traced_so _ c.drive_tries.result
-    (λ value tried asked command is. delivered_once (IsPlanNode c.args.plan) asked (g.N.Nodes.trace c.args.nodes.now) (g.N.Nodes.trace c.drive_tries.new.nodes)
-    (plan_tried g.N.Nodes.step asked c.args.order.now (g.N.Nodes.registered c.args.nodes.now) (state (g.N.Nodes.keyspace c.args.nodes.now) (g.N.Nodes.trace c.args.nodes.now) (g.N.Nodes.mark c.args.nodes.now)) (state (g.N.Nodes.keyspace c.drive_tries.new.nodes) (g.N.Nodes.trace c.drive_tries.new.nodes) (g.N.Nodes.mark c.drive_tries.new.nodes)) c.args.plan command is names tried))
+    (λ value tried asked command is. delivered_once (IsPlanNode c.args.plan) asked (g.N.Nodes.state c.args.nodes.now).trace (g.N.Nodes.state c.drive_tries.new.nodes).trace
+    (plan_tried g.N.Nodes.step asked c.args.order.now (g.N.Nodes.registered c.args.nodes.now) (g.N.Nodes.state c.args.nodes.now) (g.N.Nodes.state c.drive_tries.new.nodes) c.args.plan command is names tried))
     c.drive_tries.ensures.trace
 
 pub returns-in-Ok-true-clause-driven : goal.returns-in-Ok-true-clause-driven
 returns-in-Ok-true-clause-driven g c =
     let names : NamesOnce (length c.args.plan.split.routes) c.args.order.now = subst (λ n. NamesOnce n c.args.order.now) c.len.ensures.len (c.in-Ok-true.ensures.0 c.in-Ok-true.field-0-test) in
     all_three _ _ c.drive_tries.result
-    (λ value tried keyspace reply asked command is now. plan_driven g.N.Nodes.step asked c.args.order.now (g.N.Nodes.registered c.args.nodes.now) (state (g.N.Nodes.keyspace c.args.nodes.now) (g.N.Nodes.trace c.args.nodes.now) (g.N.Nodes.mark c.args.nodes.now)) (state (g.N.Nodes.keyspace c.drive_tries.new.nodes) (g.N.Nodes.trace c.drive_tries.new.nodes) (g.N.Nodes.mark c.drive_tries.new.nodes)) c.args.plan command is names _ tried (keyspace command (subst (λ (reg : Registrations). IsPlanOf reg command c.args.plan) is.2 is.0.plan_is) now) (reply command (subst (λ (reg : Registrations). IsPlanOf reg command c.args.plan) is.2 is.0.plan_is) now))
+    (λ value tried keyspace reply asked command is now. plan_driven g.N.Nodes.step asked c.args.order.now (g.N.Nodes.registered c.args.nodes.now) (g.N.Nodes.state c.args.nodes.now) (g.N.Nodes.state c.drive_tries.new.nodes) c.args.plan command is names _ tried (keyspace command (subst (λ (reg : Registrations). IsPlanOf reg command c.args.plan) is.2 is.0.plan_is) now) (reply command (subst (λ (reg : Registrations). IsPlanOf reg command c.args.plan) is.2 is.0.plan_is) now))
     c.drive_tries.ensures.trace c.drive_tries.ensures.keyspace c.drive_tries.ensures.reply
 
 pub returns-in-Ok-true-clause-cut : goal.returns-in-Ok-true-clause-cut
@@ -51,7 +50,7 @@ returns-in-Ok-true-clause-cut g c =
     let some : 0 < length c.args.plan.split.routes = omega (arith, c.len.ensures.some, c.len.ensures.len) in
     let nodes = g.N.Nodes in
     IfErr-weaker c.drive_tries.result _ _
-    (λ e ended asked command is. plan_cut nodes.step asked c.args.order.now (g.N.Nodes.registered c.args.nodes.now) (nodes.kept c.drive_tries.new.nodes) (nodes.keyspace c.args.nodes.now) (nodes.keyspace c.drive_tries.new.nodes) (nodes.trace c.args.nodes.now) (nodes.trace c.drive_tries.new.nodes) (nodes.mark c.args.nodes.now) (nodes.mark c.drive_tries.new.nodes)
+    (λ e ended asked command is. plan_cut nodes.step asked c.args.order.now (g.N.Nodes.registered c.args.nodes.now) (nodes.kept c.drive_tries.new.nodes) (nodes.state c.args.nodes.now).keyspace (nodes.state c.drive_tries.new.nodes).keyspace (nodes.state c.args.nodes.now).trace (nodes.state c.drive_tries.new.nodes).trace (nodes.state c.args.nodes.now).mark (nodes.state c.drive_tries.new.nodes).mark
     c.args.plan command is names (nodes.may_refuse c.args.nodes.now) e.fault e.answered some ended)
     c.drive_tries.ensures.stopped
 
@@ -61,7 +60,7 @@ returns-in-Ok-true-clause-fault g c =
     let some : 0 < length c.args.plan.split.routes = omega (arith, c.len.ensures.some, c.len.ensures.len) in
     let nodes = g.N.Nodes in
     IfErr-weaker c.drive_tries.result _ _
-    (λ e ended asked command is now. plan_fault nodes.step asked c.args.order.now (g.N.Nodes.registered c.args.nodes.now) (state (g.N.Nodes.keyspace c.args.nodes.now) (g.N.Nodes.trace c.args.nodes.now) (g.N.Nodes.mark c.args.nodes.now)) (state (g.N.Nodes.keyspace c.drive_tries.new.nodes) (g.N.Nodes.trace c.drive_tries.new.nodes) (g.N.Nodes.mark c.drive_tries.new.nodes))
+    (λ e ended asked command is now. plan_fault nodes.step asked c.args.order.now (g.N.Nodes.registered c.args.nodes.now) (g.N.Nodes.state c.args.nodes.now) (g.N.Nodes.state c.drive_tries.new.nodes)
     c.args.plan command is names (nodes.kept c.drive_tries.new.nodes) now (nodes.may_refuse c.args.nodes.now) e.fault e.answered some ended)
     c.drive_tries.ensures.stopped
 
@@ -73,12 +72,12 @@ returns-in-Ok-true-clause-untouched g c =
 
 pub returns-in-Ok-false-clause-fault : goal.returns-in-Ok-false-clause-fault
 returns-in-Ok-false-clause-fault g c = λ asked command is now.
-    early_fault (IsPlanNode c.args.plan) g.N.Nodes.step asked (state (g.N.Nodes.keyspace c.args.nodes.now) (g.N.Nodes.trace c.args.nodes.now) (g.N.Nodes.mark c.args.nodes.now)) (g.N.Nodes.may_refuse c.args.nodes.now) BadOrder
+    early_fault (IsPlanNode c.args.plan) g.N.Nodes.step asked (g.N.Nodes.state c.args.nodes.now) (g.N.Nodes.may_refuse c.args.nodes.now) BadOrder
     (bad_order asked c.args.order.now (g.N.Nodes.registered c.args.nodes.now) c.args.plan command is (λ named. absurd (let is : c.in-Ok-false.field-0 ≡ true = c.in-Ok-false.ensures.1 (subst (λ n. NamesOnce n c.args.order.now) (sym c.len.ensures.len) named) in cc (is, c.in-Ok-false.field-0-test))))
 
 pub returns-in-Ok-false-clause-cut : goal.returns-in-Ok-false-clause-cut
 returns-in-Ok-false-clause-cut g c = λ asked command is.
-    early_cut (IsPlanNode c.args.plan) asked (unseen (g.N.Nodes.trace c.args.nodes.now) (g.N.Nodes.mark c.args.nodes.now)) (g.N.Nodes.may_refuse c.args.nodes.now) BadOrder
+    early_cut (IsPlanNode c.args.plan) asked (unseen (g.N.Nodes.state c.args.nodes.now)) (g.N.Nodes.may_refuse c.args.nodes.now) BadOrder
     (bad_order asked c.args.order.now (g.N.Nodes.registered c.args.nodes.now) c.args.plan command is (λ named. absurd (let is : c.in-Ok-false.field-0 ≡ true = c.in-Ok-false.ensures.1 (subst (λ n. NamesOnce n c.args.order.now) (sym c.len.ensures.len) named) in cc (is, c.in-Ok-false.field-0-test))))
 
 pub returns-in-Ok-false-clause-unjoined : goal.returns-in-Ok-false-clause-unjoined
@@ -90,11 +89,11 @@ returns-in-Ok-false-clause-given g c =
 
 pub returns-in-Err-clause-fault : goal.returns-in-Err-clause-fault
 returns-in-Err-clause-fault g c = λ asked command is now.
-    early_fault (IsPlanNode c.args.plan) g.N.Nodes.step asked (state (g.N.Nodes.keyspace c.args.nodes.now) (g.N.Nodes.trace c.args.nodes.now) (g.N.Nodes.mark c.args.nodes.now)) (g.N.Nodes.may_refuse c.args.nodes.now) Memory tt
+    early_fault (IsPlanNode c.args.plan) g.N.Nodes.step asked (g.N.Nodes.state c.args.nodes.now) (g.N.Nodes.may_refuse c.args.nodes.now) Memory tt
 
 pub returns-in-Err-clause-cut : goal.returns-in-Err-clause-cut
 returns-in-Err-clause-cut g c = λ asked command is.
-    early_cut (IsPlanNode c.args.plan) asked (unseen (g.N.Nodes.trace c.args.nodes.now) (g.N.Nodes.mark c.args.nodes.now)) (g.N.Nodes.may_refuse c.args.nodes.now) Memory tt
+    early_cut (IsPlanNode c.args.plan) asked (unseen (g.N.Nodes.state c.args.nodes.now)) (g.N.Nodes.may_refuse c.args.nodes.now) Memory tt
 
 pub returns-in-Err-clause-unjoined : goal.returns-in-Err-clause-unjoined
 returns-in-Err-clause-unjoined g c = λ error is. absurd (memory_is_no_reply error is)
@@ -105,16 +104,16 @@ returns-in-Err-clause-given g c =
 
 pub returns-in-Ok-true-clause-headline : goal.returns-in-Ok-true-clause-headline
 returns-in-Ok-true-clause-headline g c =
-    let old = state (g.N.Nodes.keyspace c.args.nodes.now) (g.N.Nodes.trace c.args.nodes.now) (g.N.Nodes.mark c.args.nodes.now) in
-    let new = state (g.N.Nodes.keyspace c.drive_tries.new.nodes) (g.N.Nodes.trace c.drive_tries.new.nodes) (g.N.Nodes.mark c.drive_tries.new.nodes) in
+    let old = g.N.Nodes.state c.args.nodes.now in
+    let new = g.N.Nodes.state c.drive_tries.new.nodes in
     IfErr-weaker c.drive_tries.result _ _
     (λ e fault asked command is headline now. headline_fault (IsPlanNode c.args.plan) g.N.Nodes.step asked old new (g.N.Nodes.may_refuse c.args.nodes.now) headline e.fault e.answered (fault asked command is now))
     (returns-in-Ok-true-clause-fault g c)
 
 pub returns-in-Ok-true-clause-carried : goal.returns-in-Ok-true-clause-carried
 returns-in-Ok-true-clause-carried g c =
-    let old = state (g.N.Nodes.keyspace c.args.nodes.now) (g.N.Nodes.trace c.args.nodes.now) (g.N.Nodes.mark c.args.nodes.now) in
-    let new = state (g.N.Nodes.keyspace c.drive_tries.new.nodes) (g.N.Nodes.trace c.drive_tries.new.nodes) (g.N.Nodes.mark c.drive_tries.new.nodes) in
+    let old = g.N.Nodes.state c.args.nodes.now in
+    let new = g.N.Nodes.state c.drive_tries.new.nodes in
     IfErr-weaker c.drive_tries.result _ _
     (λ e fault asked command is routes can all now. carried_fault (IsPlanNode c.args.plan) g.N.Nodes.step asked old new (g.N.Nodes.may_refuse c.args.nodes.now) routes command can all e.fault e.answered (fault asked command is now))
     (returns-in-Ok-true-clause-fault g c)

@@ -45,7 +45,7 @@ returns-in-Err-combine-clause-stopped g c =
       trace = c.in_default.ensures.trace;
       misfit = λ now.
           let command = c.requires.command.0 in
-          let none = c.in-Err-combine.ensures.unsplit command.form (results_of g.N.Nodes.step command (g.N.Nodes.keyspace c.args.nodes.now)) (c.in_default.ensures.replies command c.requires.command.1 now) in
+          let none = c.in-Err-combine.ensures.unsplit command.form (results_of g.N.Nodes.step command (g.N.Nodes.state c.args.nodes.now).keyspace) (c.in_default.ensures.replies command c.requires.command.1 now) in
           misfit.0 (ap (λ (e : ErrorParts). e.kind) none.0);
     })))
     c.of_combining.ensures

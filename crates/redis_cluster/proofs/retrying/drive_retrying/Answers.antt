@@ -6,7 +6,7 @@ use Rattle.std.proofs.Common.{Result, Ok, Err, IfOk}
 use Rattle.std.proofs.lemmas.List.{append-nil}
 use Rattle.std.proofs.lemmas.Result.{IfErr-weaker, IfOk-weaker}
 use Rattle.redis_routing.specs.Names.{names_of}
-use Rattle.redis_cluster.specs.Driven.{request, state}
+use Rattle.redis_cluster.specs.Driven.{request}
 use Rattle.redis_cluster.specs.Faults.{unseen, IsCauseBeforeSending}
 use Rattle.redis_cluster.specs.Sends.{targets}
 use Rattle.redis_cluster.specs.Tries.{tries_with}
@@ -46,8 +46,8 @@ returns-in-Ok-retries_of-clause-tried g c =
     let command = c.in-Ok.ensures.ready.0 in
     let is = c.in-Ok.ensures.ready.1 in
     let asked = request (g.R.Routable.args c.args.command.now) (names_of c.args.read_only.now (g.N.Nodes.registered c.args.nodes.now)) c.args.slot_map.now c.args.order.now in
-    let old = state (nodes.keyspace c.args.nodes.now) (nodes.trace c.args.nodes.now) (nodes.mark c.args.nodes.now) in
-    let new = state (nodes.keyspace c.drive_tries.new.nodes) (nodes.trace c.drive_tries.new.nodes) (nodes.mark c.drive_tries.new.nodes) in
+    let old = nodes.state c.args.nodes.now in
+    let new = nodes.state c.drive_tries.new.nodes in
     let are = each_try _ asked c.args.retries (map (λ t. t.0) plan.split.routes) plan.nodes plan.parts own is.targets_are (subst (λ (o : List Attempt). AllZip (IsRetryOf c.args.slot_map.now c.args.retries) (zip (map (λ t. t.0) c.in-Ok.plan.split.routes) c.in-Ok.plan.nodes) o) (sym c.deref_mut.ensures.value) c.in-Ok-retries_of.ensures.each) in
     traced_so _ c.drive_tries.result
     (λ value tried. record {
@@ -66,8 +66,8 @@ returns-in-Ok-retries_of-clause-driven g c =
     let command = c.in-Ok.ensures.ready.0 in
     let is = c.in-Ok.ensures.ready.1 in
     let asked = request (g.R.Routable.args c.args.command.now) (names_of c.args.read_only.now (g.N.Nodes.registered c.args.nodes.now)) c.args.slot_map.now c.args.order.now in
-    let old = state (nodes.keyspace c.args.nodes.now) (nodes.trace c.args.nodes.now) (nodes.mark c.args.nodes.now) in
-    let new = state (nodes.keyspace c.drive_tries.new.nodes) (nodes.trace c.drive_tries.new.nodes) (nodes.mark c.drive_tries.new.nodes) in
+    let old = nodes.state c.args.nodes.now in
+    let new = nodes.state c.drive_tries.new.nodes in
     let are = each_try _ asked c.args.retries (map (λ t. t.0) plan.split.routes) plan.nodes plan.parts own is.targets_are (subst (λ (o : List Attempt). AllZip (IsRetryOf c.args.slot_map.now c.args.retries) (zip (map (λ t. t.0) c.in-Ok.plan.split.routes) c.in-Ok.plan.nodes) o) (sym c.deref_mut.ensures.value) c.in-Ok-retries_of.ensures.each) in
     all_three _ _ c.drive_tries.result
     (λ value tried keyspace reply now. record {
@@ -88,11 +88,11 @@ returns-in-Ok-retries_of-clause-cut g c =
     let command = c.in-Ok.ensures.ready.0 in
     let is = c.in-Ok.ensures.ready.1 in
     let asked = request (g.R.Routable.args c.args.command.now) (names_of c.args.read_only.now (g.N.Nodes.registered c.args.nodes.now)) c.args.slot_map.now c.args.order.now in
-    let old = state (nodes.keyspace c.args.nodes.now) (nodes.trace c.args.nodes.now) (nodes.mark c.args.nodes.now) in
-    let new = state (nodes.keyspace c.drive_tries.new.nodes) (nodes.trace c.drive_tries.new.nodes) (nodes.mark c.drive_tries.new.nodes) in
+    let old = nodes.state c.args.nodes.now in
+    let new = nodes.state c.drive_tries.new.nodes in
     let are = each_try _ asked c.args.retries (map (λ t. t.0) plan.split.routes) plan.nodes plan.parts own is.targets_are (subst (λ (o : List Attempt). AllZip (IsRetryOf c.args.slot_map.now c.args.retries) (zip (map (λ t. t.0) c.in-Ok.plan.split.routes) c.in-Ok.plan.nodes) o) (sym c.deref_mut.ensures.value) c.in-Ok-retries_of.ensures.each) in
     IfErr-weaker c.drive_tries.result _ _
-    (λ e ended. retry_cut _ nodes.step asked (nodes.kept c.drive_tries.new.nodes) (nodes.keyspace c.args.nodes.now) (nodes.keyspace c.drive_tries.new.nodes) (nodes.trace c.args.nodes.now) (nodes.trace c.drive_tries.new.nodes) (nodes.mark c.args.nodes.now) (nodes.mark c.drive_tries.new.nodes)
+    (λ e ended. retry_cut _ nodes.step asked (nodes.kept c.drive_tries.new.nodes) (nodes.state c.args.nodes.now).keyspace (nodes.state c.drive_tries.new.nodes).keyspace (nodes.state c.args.nodes.now).trace (nodes.state c.drive_tries.new.nodes).trace (nodes.state c.args.nodes.now).mark (nodes.state c.drive_tries.new.nodes).mark
     plan command is c.in-Ok.ensures.order _ (tries_with (targets plan) own) are (nodes.may_refuse c.args.nodes.now) e.fault e.answered ended)
     c.drive_tries.ensures.stopped
 
@@ -104,8 +104,8 @@ returns-in-Ok-retries_of-clause-fault g c =
     let command = c.in-Ok.ensures.ready.0 in
     let is = c.in-Ok.ensures.ready.1 in
     let asked = request (g.R.Routable.args c.args.command.now) (names_of c.args.read_only.now (g.N.Nodes.registered c.args.nodes.now)) c.args.slot_map.now c.args.order.now in
-    let old = state (nodes.keyspace c.args.nodes.now) (nodes.trace c.args.nodes.now) (nodes.mark c.args.nodes.now) in
-    let new = state (nodes.keyspace c.drive_tries.new.nodes) (nodes.trace c.drive_tries.new.nodes) (nodes.mark c.drive_tries.new.nodes) in
+    let old = nodes.state c.args.nodes.now in
+    let new = nodes.state c.drive_tries.new.nodes in
     let are = each_try _ asked c.args.retries (map (λ t. t.0) plan.split.routes) plan.nodes plan.parts own is.targets_are (subst (λ (o : List Attempt). AllZip (IsRetryOf c.args.slot_map.now c.args.retries) (zip (map (λ t. t.0) c.in-Ok.plan.split.routes) c.in-Ok.plan.nodes) o) (sym c.deref_mut.ensures.value) c.in-Ok-retries_of.ensures.each) in
     IfErr-weaker c.drive_tries.result _ _
     (λ e ended now. retry_fault _ nodes.step asked old new plan command is c.in-Ok.ensures.order _ (tries_with (targets plan) own) are (nodes.kept c.drive_tries.new.nodes) now (nodes.may_refuse c.args.nodes.now) e.fault e.answered ended)
@@ -138,19 +138,19 @@ returns-in-Err-clause-gaps g c = same_command (g.R.Routable.args c.args.command.
 pub returns-in-Err-clause-fault : goal.returns-in-Err-clause-fault
 returns-in-Err-clause-fault g c =
     let asked = request (g.R.Routable.args c.args.command.now) (names_of c.args.read_only.now (g.N.Nodes.registered c.args.nodes.now)) c.args.slot_map.now c.args.order.now in
-    let old = state (g.N.Nodes.keyspace c.args.nodes.now) (g.N.Nodes.trace c.args.nodes.now) (g.N.Nodes.mark c.args.nodes.now) in
+    let old = g.N.Nodes.state c.args.nodes.now in
     λ now. early_retried _ g.N.Nodes.step asked old (g.N.Nodes.may_refuse c.args.nodes.now) c.in-Err.fault c.in-Err.ensures.early
 
 pub returns-in-Err-clause-cut : goal.returns-in-Err-clause-cut
 returns-in-Err-clause-cut g c =
     let asked = request (g.R.Routable.args c.args.command.now) (names_of c.args.read_only.now (g.N.Nodes.registered c.args.nodes.now)) c.args.slot_map.now c.args.order.now in
-    let old = state (g.N.Nodes.keyspace c.args.nodes.now) (g.N.Nodes.trace c.args.nodes.now) (g.N.Nodes.mark c.args.nodes.now) in
-    early_retried_cut _ asked (unseen (g.N.Nodes.trace c.args.nodes.now) (g.N.Nodes.mark c.args.nodes.now)) (g.N.Nodes.may_refuse c.args.nodes.now) c.in-Err.fault c.in-Err.ensures.early
+    let old = g.N.Nodes.state c.args.nodes.now in
+    early_retried_cut _ asked (unseen (g.N.Nodes.state c.args.nodes.now)) (g.N.Nodes.may_refuse c.args.nodes.now) c.in-Err.fault c.in-Err.ensures.early
 
 pub returns-in-Err-clause-unjoined : goal.returns-in-Err-clause-unjoined
 returns-in-Err-clause-unjoined g c = λ error is.
     let asked = request (g.R.Routable.args c.args.command.now) (names_of c.args.read_only.now (g.N.Nodes.registered c.args.nodes.now)) c.args.slot_map.now c.args.order.now in
-    let old = state (g.N.Nodes.keyspace c.args.nodes.now) (g.N.Nodes.trace c.args.nodes.now) (g.N.Nodes.mark c.args.nodes.now) in
+    let old = g.N.Nodes.state c.args.nodes.now in
     absurd (subst (λ (f : DriveFault). IsCauseBeforeSending asked f) is c.in-Err.ensures.early)
 
 pub returns-in-Err-clause-given : goal.returns-in-Err-clause-given
@@ -163,19 +163,19 @@ returns-in-Err-retries_of-clause-gaps g c = same_command (g.R.Routable.args c.ar
 pub returns-in-Err-retries_of-clause-fault : goal.returns-in-Err-retries_of-clause-fault
 returns-in-Err-retries_of-clause-fault g c =
     let asked = request (g.R.Routable.args c.args.command.now) (names_of c.args.read_only.now (g.N.Nodes.registered c.args.nodes.now)) c.args.slot_map.now c.args.order.now in
-    let old = state (g.N.Nodes.keyspace c.args.nodes.now) (g.N.Nodes.trace c.args.nodes.now) (g.N.Nodes.mark c.args.nodes.now) in
+    let old = g.N.Nodes.state c.args.nodes.now in
     λ now. early_retried _ g.N.Nodes.step asked old (g.N.Nodes.may_refuse c.args.nodes.now) Memory tt
 
 pub returns-in-Err-retries_of-clause-cut : goal.returns-in-Err-retries_of-clause-cut
 returns-in-Err-retries_of-clause-cut g c =
     let asked = request (g.R.Routable.args c.args.command.now) (names_of c.args.read_only.now (g.N.Nodes.registered c.args.nodes.now)) c.args.slot_map.now c.args.order.now in
-    let old = state (g.N.Nodes.keyspace c.args.nodes.now) (g.N.Nodes.trace c.args.nodes.now) (g.N.Nodes.mark c.args.nodes.now) in
-    early_retried_cut _ asked (unseen (g.N.Nodes.trace c.args.nodes.now) (g.N.Nodes.mark c.args.nodes.now)) (g.N.Nodes.may_refuse c.args.nodes.now) Memory tt
+    let old = g.N.Nodes.state c.args.nodes.now in
+    early_retried_cut _ asked (unseen (g.N.Nodes.state c.args.nodes.now)) (g.N.Nodes.may_refuse c.args.nodes.now) Memory tt
 
 pub returns-in-Err-retries_of-clause-unjoined : goal.returns-in-Err-retries_of-clause-unjoined
 returns-in-Err-retries_of-clause-unjoined g c = λ error is.
     let asked = request (g.R.Routable.args c.args.command.now) (names_of c.args.read_only.now (g.N.Nodes.registered c.args.nodes.now)) c.args.slot_map.now c.args.order.now in
-    let old = state (g.N.Nodes.keyspace c.args.nodes.now) (g.N.Nodes.trace c.args.nodes.now) (g.N.Nodes.mark c.args.nodes.now) in
+    let old = g.N.Nodes.state c.args.nodes.now in
     absurd (memory_is_no_reply error is)
 
 pub returns-in-Err-retries_of-clause-given : goal.returns-in-Err-retries_of-clause-given
@@ -196,14 +196,14 @@ returns-in-Ok-retries_of-clause-once g c =
     let asked = request (g.R.Routable.args c.args.command.now) (names_of c.args.read_only.now (g.N.Nodes.registered c.args.nodes.now)) c.args.slot_map.now c.args.order.now in
     let nodes = g.N.Nodes in
     λ headline. IfOk-weaker c.drive_tries.result _ _
-    (λ value tried. delivered_alone _ asked c.args.retries (nodes.trace c.args.nodes.now) (nodes.trace c.drive_tries.new.nodes) (nodes.may_refuse c.args.nodes.now) headline c.drive_tries.ensures.allowed tried)
+    (λ value tried. delivered_alone _ asked c.args.retries (nodes.state c.args.nodes.now).trace (nodes.state c.drive_tries.new.nodes).trace (nodes.may_refuse c.args.nodes.now) headline c.drive_tries.ensures.allowed tried)
     (returns-in-Ok-retries_of-clause-tried g c)
 
 pub returns-in-Ok-retries_of-clause-headline : goal.returns-in-Ok-retries_of-clause-headline
 returns-in-Ok-retries_of-clause-headline g c =
     let asked = request (g.R.Routable.args c.args.command.now) (names_of c.args.read_only.now (g.N.Nodes.registered c.args.nodes.now)) c.args.slot_map.now c.args.order.now in
-    let old = state (g.N.Nodes.keyspace c.args.nodes.now) (g.N.Nodes.trace c.args.nodes.now) (g.N.Nodes.mark c.args.nodes.now) in
-    let new = state (g.N.Nodes.keyspace c.drive_tries.new.nodes) (g.N.Nodes.trace c.drive_tries.new.nodes) (g.N.Nodes.mark c.drive_tries.new.nodes) in
+    let old = g.N.Nodes.state c.args.nodes.now in
+    let new = g.N.Nodes.state c.drive_tries.new.nodes in
     λ headline. IfErr-weaker c.drive_tries.result _ _
     (λ e fault now. headline_retried _ g.N.Nodes.step asked old new (g.N.Nodes.may_refuse c.args.nodes.now) headline c.drive_tries.ensures.allowed e.fault e.answered (fault now))
     (returns-in-Ok-retries_of-clause-fault g c)
@@ -211,14 +211,14 @@ returns-in-Ok-retries_of-clause-headline g c =
 pub returns-in-Ok-retries_of-clause-carried : goal.returns-in-Ok-retries_of-clause-carried
 returns-in-Ok-retries_of-clause-carried g c =
     let asked = request (g.R.Routable.args c.args.command.now) (names_of c.args.read_only.now (g.N.Nodes.registered c.args.nodes.now)) c.args.slot_map.now c.args.order.now in
-    let old = state (g.N.Nodes.keyspace c.args.nodes.now) (g.N.Nodes.trace c.args.nodes.now) (g.N.Nodes.mark c.args.nodes.now) in
-    let new = state (g.N.Nodes.keyspace c.drive_tries.new.nodes) (g.N.Nodes.trace c.drive_tries.new.nodes) (g.N.Nodes.mark c.drive_tries.new.nodes) in
+    let old = g.N.Nodes.state c.args.nodes.now in
+    let new = g.N.Nodes.state c.drive_tries.new.nodes in
     λ routes command can all. IfErr-weaker c.drive_tries.result _ _
     (λ e fault now. carried_retried _ g.N.Nodes.step asked old new (g.N.Nodes.may_refuse c.args.nodes.now) routes command can all e.fault e.answered (fault now))
     (returns-in-Ok-retries_of-clause-fault g c)
 
 pub returns-in-Err-clause-allowed : goal.returns-in-Err-clause-allowed
-returns-in-Err-clause-allowed g c = allowed_none (g.N.Nodes.may_refuse c.args.nodes.now) (g.N.Nodes.trace c.args.nodes.now) (g.N.Nodes.trace c.args.nodes.now) refl
+returns-in-Err-clause-allowed g c = allowed_none (g.N.Nodes.may_refuse c.args.nodes.now) (g.N.Nodes.state c.args.nodes.now).trace (g.N.Nodes.state c.args.nodes.now).trace refl
 
 pub returns-in-Err-clause-headline : goal.returns-in-Err-clause-headline
 returns-in-Err-clause-headline g c =
@@ -231,7 +231,7 @@ returns-in-Err-clause-carried g c =
     λ routes command can all now. begins asked routes command can c.in-Err.fault c.in-Err.ensures.early
 
 pub returns-in-Err-retries_of-clause-allowed : goal.returns-in-Err-retries_of-clause-allowed
-returns-in-Err-retries_of-clause-allowed g c = allowed_none (g.N.Nodes.may_refuse c.args.nodes.now) (g.N.Nodes.trace c.args.nodes.now) (g.N.Nodes.trace c.args.nodes.now) refl
+returns-in-Err-retries_of-clause-allowed g c = allowed_none (g.N.Nodes.may_refuse c.args.nodes.now) (g.N.Nodes.state c.args.nodes.now).trace (g.N.Nodes.state c.args.nodes.now).trace refl
 
 pub returns-in-Err-retries_of-clause-headline : goal.returns-in-Err-retries_of-clause-headline
 returns-in-Err-retries_of-clause-headline g c = λ headline now. refl

@@ -56,7 +56,7 @@ loop-number-init g c =
       told = λ command is now number slot at some. absurd (omega (arith, some));
       untold = λ number inside none. ap (λ rs. slice_get rs number) c.requires.untold ∙ none_at plan.split.routes number (omega (arith, inside, many plan));
       trace = refl;
-      allowed = allowed_none (g.N.Nodes.may_refuse c.args.nodes.now) (g.N.Nodes.trace c.args.nodes.now) (g.N.Nodes.trace c.args.nodes.now) refl;
+      allowed = allowed_none (g.N.Nodes.may_refuse c.args.nodes.now) (g.N.Nodes.state c.args.nodes.now).trace (g.N.Nodes.state c.args.nodes.now).trace refl;
       others = λ other none. refl;
       registered = refl;
       keyspace = λ command is now. refl;
@@ -98,7 +98,7 @@ loop-number-preserved g c =
     let plan = c.args.plan.now in
     let order = c.args.order.now in
     let slots = slots_of plan.split.routes in
-    let old = nodes.keyspace c.args.nodes.now in
+    let old = (nodes.state c.args.nodes.now).keyspace in
     let i = c.loop-number.number-index in
     let k = get_or order i 0 in
     let inv = c.loop-number.invariant in
@@ -138,10 +138,10 @@ loop-number-preserved g c =
           (told_more c.loop-number.plan.replies slots order i k inside refl room reply_of own.slot c.in-Ok.reply own.slot_at says (inv.told command is was));
       untold = subst (λ rs. AreUntold rs order (i + 1) (length slots)) (sym replies_are)
           (untold_less c.loop-number.plan.replies slots order i k inside refl room (length slots) c.in-Ok.reply inv.untold);
-      trace = tried_more (in_order tries (take i order)) (in_order tries (take (i + 1) order)) (try_with t.target (slice_get retries k)) (nodes.trace c.args.nodes.now) (nodes.trace c.loop-number.nodes) (nodes.trace c.send_part.new.nodes) inv.trace
-          (subst (λ (o : Option Attempt). IsTried (try_with t.target o) (Some answered) (nodes.trace c.loop-number.nodes) (nodes.trace c.send_part.new.nodes)) unsent (c.in-Ok.ensures.trace t.target (at t.target t.target_at)))
+      trace = tried_more (in_order tries (take i order)) (in_order tries (take (i + 1) order)) (try_with t.target (slice_get retries k)) (nodes.state c.args.nodes.now).trace (nodes.state c.loop-number.nodes).trace (nodes.state c.send_part.new.nodes).trace inv.trace
+          (subst (λ (o : Option Attempt). IsTried (try_with t.target o) (Some answered) (nodes.state c.loop-number.nodes).trace (nodes.state c.send_part.new.nodes).trace) unsent (c.in-Ok.ensures.trace t.target (at t.target t.target_at)))
           (in_order_more tries order i k (try_with t.target (slice_get retries k)) inside refl (try_there (targets plan) retries k t.target t.target_at));
-      allowed = allowed_more (nodes.may_refuse c.args.nodes.now) (nodes.may_refuse c.loop-number.nodes) (nodes.trace c.args.nodes.now) (nodes.trace c.loop-number.nodes) (nodes.trace c.send_part.new.nodes) inv.may_refuse inv.allowed c.send_part.ensures.allowed;
+      allowed = allowed_more (nodes.may_refuse c.args.nodes.now) (nodes.may_refuse c.loop-number.nodes) (nodes.state c.args.nodes.now).trace (nodes.state c.loop-number.nodes).trace (nodes.state c.send_part.new.nodes).trace inv.may_refuse inv.allowed c.send_part.ensures.allowed;
       others = others_more retries c.loop-number.retries c.send_part.new.retries order i k inside refl inv.others c.send_part.ensures.others;
       registered = c.send_part.ensures.registered ∙ inv.registered;
       keyspace = λ command is now.
@@ -164,7 +164,7 @@ returns-in-Err-clause-stopped g c =
     let retries = c.args.retries.now in
     let tries = tries_with (targets plan) retries in
     let slots = slots_of plan.split.routes in
-    let old = nodes.keyspace c.args.nodes.now in
+    let old = (nodes.state c.args.nodes.now).keyspace in
     let i = c.loop-number.number-index in
     let k = get_or order i 0 in
     let inv = c.loop-number.invariant in
@@ -182,24 +182,24 @@ returns-in-Err-clause-stopped g c =
           let there : slice_get (targets c.loop-number.plan) k ≡ Some t.target = ap (λ ts. slice_get ts k) inv.same_targets ∙ t.target_at in
           let next : slice_get (in_order tries order) i ≡ Some try =
           next_in_order tries order i try (subst (λ n. All (λ j. j < n) order) (sym (tries_many (targets plan) retries ∙ targets_many (nodes.registered c.args.nodes.now) command plan is)) names.below) inside (try_there (targets plan) retries k t.target t.target_at) in
-          let stopped : AreStopped (nodes.kept c.send_part.new.nodes) nodes.step (nodes.may_refuse c.args.nodes.now) command plan tries order i old (nodes.keyspace c.send_part.new.nodes) (nodes.trace c.args.nodes.now) (nodes.trace c.send_part.new.nodes) (nodes.mark c.send_part.new.nodes) ending =
+          let stopped : AreStopped (nodes.kept c.send_part.new.nodes) nodes.step (nodes.may_refuse c.args.nodes.now) command plan tries order i old (nodes.state c.send_part.new.nodes).keyspace (nodes.state c.args.nodes.now).trace (nodes.state c.send_part.new.nodes).trace (nodes.state c.send_part.new.nodes).mark ending =
           record {
-            before = nodes.trace c.loop-number.nodes;
+            before = (nodes.state c.loop-number.nodes).trace;
             trace = inv.trace;
             keyspace = λ now.
                 let act = act_of nodes.step command in
                 let was = inv.keyspace command is (c.send_part.ensures.kept now) in
-                left_at nodes.step act command.tuples (part_of command t.slot) (in_order slots (take i order)) (in_order slots (take (i + 1) order)) old (nodes.keyspace c.loop-number.nodes) (nodes.keyspace c.send_part.new.nodes) ending
+                left_at nodes.step act command.tuples (part_of command t.slot) (in_order slots (take i order)) (in_order slots (take (i + 1) order)) old (nodes.state c.loop-number.nodes).keyspace (nodes.state c.send_part.new.nodes).keyspace ending
                 (was ∙ keyspace_at_stop act slots order command.tuples old i names is.at_most_once)
                 (ap (λ ks. after act (tuples_of_slot t.slot command.tuples) ks) was ∙ keyspace_more act slots order command.tuples old i k t.slot inside refl t.slot_at
                 ∙ keyspace_at_stop act slots order command.tuples old (i + 1) names is.at_most_once)
                 (c.in-Err.ensures.left t.target (part_of command t.slot) there (ap (λ registered. multi_key registered (map Some t.target.1)) inv.registered ∙ t.part) now);
             try = try;
             next = next;
-            tried = subst (λ (o : Option Attempt). IsTried (try_with t.target o) ending (nodes.trace c.loop-number.nodes) (nodes.trace c.send_part.new.nodes)) unsent (c.in-Err.ensures.unanswered t.target there);
-            cause = same_cause (nodes.may_refuse c.args.nodes.now) (nodes.may_refuse c.loop-number.nodes) (length (nodes.trace c.send_part.new.nodes)) (nodes.mark c.send_part.new.nodes) ending inv.may_refuse c.in-Err.ensures.cause;
+            tried = subst (λ (o : Option Attempt). IsTried (try_with t.target o) ending (nodes.state c.loop-number.nodes).trace (nodes.state c.send_part.new.nodes).trace) unsent (c.in-Err.ensures.unanswered t.target there);
+            cause = same_cause (nodes.may_refuse c.args.nodes.now) (nodes.may_refuse c.loop-number.nodes) (length (nodes.state c.send_part.new.nodes).trace) (nodes.state c.send_part.new.nodes).mark ending inv.may_refuse c.in-Err.ensures.cause;
           } in
-          subst (λ n. AreStopped (nodes.kept c.send_part.new.nodes) nodes.step (nodes.may_refuse c.args.nodes.now) command plan tries order n old (nodes.keyspace c.send_part.new.nodes) (nodes.trace c.args.nodes.now) (nodes.trace c.send_part.new.nodes) (nodes.mark c.send_part.new.nodes) ending) (sym inv.answered) stopped,
+          subst (λ n. AreStopped (nodes.kept c.send_part.new.nodes) nodes.step (nodes.may_refuse c.args.nodes.now) command plan tries order n old (nodes.state c.send_part.new.nodes).keyspace (nodes.state c.args.nodes.now).trace (nodes.state c.send_part.new.nodes).trace (nodes.state c.send_part.new.nodes).mark ending) (sym inv.answered) stopped,
     )
 
 pub returns-clause-replies : goal.returns-clause-replies
@@ -212,7 +212,7 @@ returns-clause-replies g c =
     let i = c.loop-number.number-index in
     let whole : take i order ≡ order = take_all i order (omega (arith, c.loop-number-test.false)) in
     λ command is now.
-    let rs = results_of nodes.step command (nodes.keyspace c.args.nodes.now) in
+    let rs = results_of nodes.step command (nodes.state c.args.nodes.now).keyspace in
     let reply_of : ℕ → Reply = λ slot. reply_by command.form (results_of_slot slot command.tuples rs) in
     let all = all_told c.loop-number.plan.replies slots reply_of inv.room
     (λ number slot at. inv.told command is now number slot at
@@ -223,7 +223,7 @@ returns-clause-replies g c =
       all_told = all.1;
       answered = record {
         form_is = ap (λ (s : Split). form_by_policy s.policy) inv.split ∙ is.form;
-        each = length-results (act_of nodes.step command) command.tuples (nodes.keyspace c.args.nodes.now) ∙ ap length is.tuples ∙ ap (λ (s : Split). length (tuples_in_split s)) (sym inv.split);
+        each = length-results (act_of nodes.step command) command.tuples (nodes.state c.args.nodes.now).keyspace ∙ ap length is.tuples ∙ ap (λ (s : Split). length (tuples_in_split s)) (sym inv.split);
         replies_are = all.2 ∙ ap (λ ts. map (λ slot. reply_by command.form (results_of_slot slot ts rs)) slots) is.tuples
             ∙ ap (λ (s : Split). map (λ slot. reply_by command.form (results_of_slot slot (tuples_in_split s) rs)) (slots_of s.routes)) (sym inv.split);
       };
@@ -235,7 +235,7 @@ returns-clause-keyspace g c =
     let plan = c.args.plan.now in
     let order = c.args.order.now in
     let slots = slots_of plan.split.routes in
-    let old = nodes.keyspace c.args.nodes.now in
+    let old = (nodes.state c.args.nodes.now).keyspace in
     let i = c.loop-number.number-index in
     let whole : take i order ≡ order = take_all i order (omega (arith, c.loop-number-test.false)) in
     let names : NamesOnce (length slots) order = subst (λ n. NamesOnce n order) (sym (many plan)) c.requires.order in
@@ -288,4 +288,4 @@ pub returns-in-Err-clause-allowed : goal.returns-in-Err-clause-allowed
 returns-in-Err-clause-allowed g c =
     let nodes = g.N.Nodes in
     let inv = c.loop-number.invariant in
-    allowed_more (nodes.may_refuse c.args.nodes.now) (nodes.may_refuse c.loop-number.nodes) (nodes.trace c.args.nodes.now) (nodes.trace c.loop-number.nodes) (nodes.trace c.send_part.new.nodes) inv.may_refuse inv.allowed c.send_part.ensures.allowed
+    allowed_more (nodes.may_refuse c.args.nodes.now) (nodes.may_refuse c.loop-number.nodes) (nodes.state c.args.nodes.now).trace (nodes.state c.loop-number.nodes).trace (nodes.state c.send_part.new.nodes).trace inv.may_refuse inv.allowed c.send_part.ensures.allowed

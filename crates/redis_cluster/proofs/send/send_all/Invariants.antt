@@ -18,7 +18,7 @@ abbrev pub invariant-loop-number : goal.invariant-loop-number
 invariant-loop-number g l =
     let nodes = g.N.Nodes in
     let slots = slots_of l.fn.plan.split.routes in
-    let old = nodes.keyspace l.fn.nodes in
+    let old = (nodes.state l.fn.nodes).keyspace in
     record {
       split : l.plan.split ≡ l.fn.plan.split;
       same_targets : targets l.plan ≡ targets l.fn.plan;
@@ -28,10 +28,10 @@ invariant-loop-number g l =
       given : AreGivenSo (nodes.gave l.fn.nodes) (nodes.gave l.nodes) l.plan.replies (take l.number-index l.order);
       told : (command : MultiKey) → IsPlanOf (nodes.registered l.fn.nodes) command l.fn.plan → nodes.kept l.nodes → AreTold l.plan.replies slots l.order l.number-index (λ slot. reply_by command.form (results_of_slot slot command.tuples (results_of nodes.step command old)));
       untold : AreUntold l.plan.replies l.order l.number-index (length slots);
-      trace : AllTried (in_order (tries_with (targets l.fn.plan) l.fn.retries) (take l.number-index l.order)) (nodes.trace l.fn.nodes) (nodes.trace l.nodes);
-      allowed : AreAllowed (nodes.may_refuse l.fn.nodes) (nodes.trace l.fn.nodes) (nodes.trace l.nodes);
+      trace : AllTried (in_order (tries_with (targets l.fn.plan) l.fn.retries) (take l.number-index l.order)) (nodes.state l.fn.nodes).trace (nodes.state l.nodes).trace;
+      allowed : AreAllowed (nodes.may_refuse l.fn.nodes) (nodes.state l.fn.nodes).trace (nodes.state l.nodes).trace;
       others : (other : ℕ) → times other (take l.number-index l.order) ≡ 0 → slice_get l.retries other ≡ slice_get l.fn.retries other;
-      keyspace : (command : MultiKey) → IsPlanOf (nodes.registered l.fn.nodes) command l.fn.plan → nodes.kept l.nodes → nodes.keyspace l.nodes ≡ after (act_of nodes.step command) (joined (in_order slots (take l.number-index l.order)) command.tuples) old;
+      keyspace : (command : MultiKey) → IsPlanOf (nodes.registered l.fn.nodes) command l.fn.plan → nodes.kept l.nodes → (nodes.state l.nodes).keyspace ≡ after (act_of nodes.step command) (joined (in_order slots (take l.number-index l.order)) command.tuples) old;
       registered : nodes.registered l.nodes ≡ nodes.registered l.fn.nodes;
       may_refuse : (count : ℕ) (ending : Ending) → nodes.may_refuse l.nodes count ending ↔ nodes.may_refuse l.fn.nodes count ending;
       answered : l.answered ≡ l.number-index;

@@ -1,6 +1,7 @@
 use Rattle.std.proofs.Common.{List, ℕ, Some, map, subst}
 use Rattle.std.specs.Prelude.{IfErr, ⊤}
-use Rattle.redis_cluster.specs.Driven.{request, state}
+use Rattle.redis_cluster.specs.Driven.{request}
+use Rattle.redis_cluster.specs.State.{state}
 use Rattle.redis_cluster.specs.Faults.{IsFault}
 use Rattle.redis_cluster.specs.Names.{names_of}
 use Rattle.wire_nodes.specs.Said.{entry_by}

@@ -1,8 +1,8 @@
 use Rattle.std.proofs.Common.{◌≡◌, [], ◌∷◌, List, ℕ, Bool, Ok, Option, None, Some, ap, map, subst}
 use Rattle.std.specs.Prelude.{IfSome, ⊤}
 use Rattle.resp_core.specs.View.{view}
-use Rattle.redis_cluster.specs.Driven.{state}
-use Rattle.redis_cluster.specs.Faults.{IsCut, IsFault, unseen}
+use Rattle.redis_cluster.specs.State.{state}
+use Rattle.redis_cluster.specs.Faults.{IsCut, IsFault, nothing}
 use Rattle.redis_cluster.specs.Joined.{IsJoined}
 use Rattle.redis_cluster.specs.MultiKey.{MultiKey, multi_key}
 use Rattle.redis_cluster.specs.Names.{names_of}
@@ -55,13 +55,13 @@ returns-clause-not_read g c =
     let stop = c.in-Err-drive_over.error in
     let same : stop ≡ error = ap (λ fault. error_of fault error) is in
     let cut =
-    subst (λ (registered : Registrations). IsCut (IsPrimary slots) (asked slots registered read (1 ∷ 0 ∷ [])) (unseen between mark) (unseen last c.drive_over-2.new.client.mark) (λ count ending. ⊤) stop.fault stop.answered) c.drive_over.ensures.registered
-    (subst (λ (words : List (List ℕ)). IsCut (IsPrimary slots) (asked slots c.drive_over.new.client.registry words (1 ∷ 0 ∷ [])) (unseen between mark) (unseen last c.drive_over-2.new.client.mark) (λ count ending. ⊤) stop.fault stop.answered)
+    subst (λ (registered : Registrations). IsCut (IsPrimary slots) (asked slots registered read (1 ∷ 0 ∷ [])) (state nothing between mark) (state nothing last c.drive_over-2.new.client.mark) (λ count ending. ⊤) stop.fault stop.answered) c.drive_over.ensures.registered
+    (subst (λ (words : List (List ℕ)). IsCut (IsPrimary slots) (asked slots c.drive_over.new.client.registry words (1 ∷ 0 ∷ [])) (state nothing between mark) (state nothing last c.drive_over-2.new.client.mark) (λ count ending. ⊤) stop.fault stop.answered)
     c.in_ok-read.ensures c.in-Err-drive_over.ensures.cut) in (
       between,
       mark,
       subst (λ (words : List (List ℕ)). AreSentOnce slots c.args.client.now.registry words (0 ∷ 1 ∷ []) (map entry_by (g.W.Wire.log c.args.client.now.wire)) between) c.in_ok-write.ensures c.in_default.ensures.once,
-      subst (λ (e : DriveError). IsCut (IsPrimary slots) (asked slots c.args.client.now.registry read (1 ∷ 0 ∷ [])) (unseen between mark) (unseen last c.drive_over-2.new.client.mark) (λ count ending. ⊤) e.fault e.answered) same cut,
+      subst (λ (e : DriveError). IsCut (IsPrimary slots) (asked slots c.args.client.now.registry read (1 ∷ 0 ∷ [])) (state nothing between mark) (state nothing last c.drive_over-2.new.client.mark) (λ count ending. ⊤) e.fault e.answered) same cut,
     )
 
 pub returns-clause-written : goal.returns-clause-written

@@ -1,4 +1,4 @@
-use Rattle.std.proofs.Common.{◌≡◌, ◌⊎◌, ℕ, Bool, List, Option, Some, IfSome, Result, Ok, Err, IsErrAnd, IfErr, inl, inr, refl, ap, sym, subst, ◌∙◌, false, length, map, option_map, replicate}
+use Rattle.std.proofs.Common.{◌≡◌, ◌⊎◌, ℕ, List, Option, Some, IfSome, Result, Ok, Err, IsErrAnd, IfErr, inl, inr, refl, ap, sym, subst, ◌∙◌, false, length, map, option_map, replicate}
 use Rattle.std.specs.List.{AllZip}
 use Rattle.std.specs.declared.alloc.Global.{Global}
 use Rattle.std.specs.declared.vec.Vec.{Vec}
