@@ -16,13 +16,23 @@ fn node_of(alloc: Global, number: usize, port: u16) -> Result<NodeAddress, Alloc
     NodeAddress::new(alloc, host.as_str(), port)
 }
 
-/// The map of the ranges, of which each has a primary and a replica at its host.
+/// One replica, at the host of a number.
+fn replicas_of(alloc: Global, number: usize) -> Result<Vec<NodeAddress>, AllocError> {
+    let node = node_of(alloc, number, 2)?;
+    Ok(vec![in alloc; node]?)
+}
+
+/// The range of a slot, which has a primary and a replica at its host.
+fn range_of(alloc: Global, slot: u16) -> Result<SlotRange, AllocError> {
+    let number = usize::from(slot) % HOSTS;
+    let replicas = replicas_of(alloc, number)?;
+    Ok(SlotRange::new(slot, slot, node_of(alloc, number, 1)?, replicas))
+}
+
 fn map_of_ranges(alloc: Global) -> Result<SlotMap, AllocError> {
     let mut ranges = Vec::new(alloc);
     for slot in 0..RANGES {
-        let number = usize::from(slot) % HOSTS;
-        let replicas = vec![in alloc; node_of(alloc, number, 2)?]?;
-        ranges.push(SlotRange::new(slot, slot, node_of(alloc, number, 1)?, replicas))?;
+        ranges.push(range_of(alloc, slot)?)?;
     }
     SlotMap::from_slots(alloc, ranges)
 }
@@ -42,19 +52,23 @@ fn are_these(found: &[&NodeAddress], wanted: &[NodeAddress]) -> bool {
     found.len() == wanted.len() && found.iter().zip(wanted.iter()).all(|(a, b)| **a == *b)
 }
 
-#[test]
-fn primaries_of_one_hash_are_each_listed_once(rt: HostRuntime) -> Result<(), Fail> {
-    let map = map_of_ranges(rt.alloc())?;
-    let found = map.addresses_for_all_primaries(rt.alloc())?;
-    assert!(rt; are_these(&found, &nodes_of_hosts(rt.alloc(), &[1])?));
-    Ok(())
+fn lists_each_primary(alloc: Global, map: &SlotMap) -> Result<bool, AllocError> {
+    let wanted = nodes_of_hosts(alloc, &[1])?;
+    let found = map.addresses_for_all_primaries(alloc)?;
+    Ok(are_these(&found, &wanted))
+}
+
+fn lists_each_node(alloc: Global, map: &SlotMap) -> Result<bool, AllocError> {
+    let wanted = nodes_of_hosts(alloc, &[1, 2])?;
+    let found = map.addresses_for_all_nodes(alloc)?;
+    Ok(are_these(&found, &wanted))
 }
 
 #[test]
 fn nodes_of_one_hash_are_each_listed_once(rt: HostRuntime) -> Result<(), Fail> {
     let map = map_of_ranges(rt.alloc())?;
-    let found = map.addresses_for_all_nodes(rt.alloc())?;
-    assert!(rt; are_these(&found, &nodes_of_hosts(rt.alloc(), &[1, 2])?));
+    assert!(rt; lists_each_primary(rt.alloc(), &map)?, "primaries");
+    assert!(rt; lists_each_node(rt.alloc(), &map)?, "nodes");
     Ok(())
 }
 
@@ -73,7 +87,12 @@ fn first_other_shard(map: &SlotMap, topology: &ClusterTopology) -> Option<u16> {
 fn primaries_of_one_hash_have_a_shard_each(rt: HostRuntime) -> Result<(), Fail> {
     let map = map_of_ranges(rt.alloc())?;
     let topology = map.topology(rt.alloc())?;
-    assert_eq!(rt; topology.shards().count(), HOSTS);
-    assert_eq!(rt; first_other_shard(&map, &topology), None);
+    assert_eq!(rt;
+        (
+            topology.shards().count(),
+            first_other_shard(&map, &topology)
+        ),
+        (HOSTS, None)
+    );
     Ok(())
 }

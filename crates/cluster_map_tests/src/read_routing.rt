@@ -5,26 +5,39 @@ use cluster_map::{
 };
 use example_strategies::FirstReplica;
 use fixtures::nodes_of;
-use resp_core::RedisResult;
 use std::alloc::{AllocError, Global};
 use std::test::Fail;
 
-/// The number of the replicas, the first, and all in order.
-fn replicas_text(alloc: Global, replicas: Replicas<'_>) -> Result<String, AllocError> {
-    let (number, first) = (replicas.len(), replicas.first());
-    let mut text = format!(in alloc; "{number} from {first}:")?;
-    for node in replicas.iter() {
-        text.push_str(format!(in alloc; " {node}")?.as_str())?;
-    }
-    Ok(text)
+fn push_node(alloc: Global, text: &mut String, node: &NodeAddress) -> Result<(), AllocError> {
+    let name = format!(in alloc; " {node}")?;
+    text.push_str(name.as_str())
 }
 
-fn told_by_replicas(alloc: Global, texts: &[&str]) -> RedisResult<String> {
-    let nodes = nodes_of(alloc, texts)?;
-    match Replicas::new(&nodes) {
-        Some(replicas) => Ok(replicas_text(alloc, replicas)?),
-        None => Ok(String::from_str(alloc, "none")?),
+fn push_begin(alloc: Global, text: &mut String, replicas: &Replicas<'_>) -> Result<(), AllocError> {
+    let (number, first) = (replicas.len(), replicas.first());
+    let begin = format!(in alloc; "{number} from {first}:")?;
+    text.push_str(begin.as_str())
+}
+
+/// Puts to a text the number of the replicas, the first, and all in order.
+fn push_replicas(
+    alloc: Global,
+    text: &mut String,
+    replicas: Replicas<'_>,
+) -> Result<(), AllocError> {
+    push_begin(alloc, text, &replicas)?;
+    for node in replicas.iter() {
+        push_node(alloc, text, node)?;
     }
+    Ok(())
+}
+
+fn told_by_replicas(alloc: Global, nodes: &[NodeAddress]) -> Result<String, AllocError> {
+    let mut text = String::new(alloc);
+    if let Some(replicas) = Replicas::new(nodes) {
+        push_replicas(alloc, &mut text, replicas)?;
+    }
+    Ok(text)
 }
 
 fn port_at(nodes: &[NodeAddress], place: usize) -> Option<u16> {
@@ -38,17 +51,23 @@ fn chosen_port(nodes: &[NodeAddress], pick: usize) -> Option<u16> {
 }
 
 #[test]
-fn replicas_are_told_in_order_and_chosen_modulo_their_number(rt: HostRuntime) -> Result<(), Fail> {
-    let none: [&str; 0] = [];
-    let three = ["r:1", "r:2", "r:3"];
-    for (texts, wanted) in [
-        (none.as_slice(), "none"),
-        (three.as_slice(), "3 from r:1: r:1 r:2 r:3"),
-    ] {
-        let told = told_by_replicas(rt.alloc(), texts)?;
-        assert_eq!(rt; told.as_str(), wanted, "{texts:?}");
-    }
-    let nodes = nodes_of(rt.alloc(), &three)?;
+fn no_nodes_are_no_replicas(rt: HostRuntime) {
+    assert!(rt; Replicas::new(&[]).is_none());
+}
+
+const THREE: [&str; 3] = ["r:1", "r:2", "r:3"];
+
+#[test]
+fn replicas_are_told_in_order(rt: HostRuntime) -> Result<(), Fail> {
+    let nodes = nodes_of(rt.alloc(), &THREE)?;
+    let told = told_by_replicas(rt.alloc(), &nodes)?;
+    assert_eq!(rt; told.as_str(), "3 from r:1: r:1 r:2 r:3");
+    Ok(())
+}
+
+#[test]
+fn replicas_have_places_and_are_chosen_modulo_their_number(rt: HostRuntime) -> Result<(), Fail> {
+    let nodes = nodes_of(rt.alloc(), &THREE)?;
     for (place, port) in [(2, Some(3)), (3, None)] {
         assert_eq!(rt; port_at(&nodes, place), port, "get {place}");
     }
@@ -66,47 +85,67 @@ fn replicas_only<'a>(nodes: &'a [NodeAddress]) -> Option<ReadCandidates<'a>> {
     Some(ReadCandidates::replicas_only(7, Replicas::new(nodes)?))
 }
 
-/// The slot of candidates, as such and as those of a kind, the primary, where it is one of them,
-/// and the replicas.
-fn candidates_text(alloc: Global, candidates: ReadCandidates<'_>) -> Result<String, AllocError> {
+/// The slot of candidates, as such and as those of a kind, and the primary, where it is one of them.
+fn push_head(
+    alloc: Global,
+    text: &mut String,
+    candidates: &ReadCandidates<'_>,
+) -> Result<(), AllocError> {
     let slot = candidates.slot();
-    match candidates {
+    let head = match candidates {
         ReadCandidates::AnyNode(any) => {
             let (own, primary) = (any.slot(), any.primary());
-            let replicas = replicas_text(alloc, any.replicas())?;
-            format!(in alloc; "{slot} {own}, {primary} or {replicas}")
+            format!(in alloc; "{slot} {own}, {primary} or ")?
         }
         ReadCandidates::ReplicasOnly(only) => {
             let own = only.slot();
-            let replicas = replicas_text(alloc, only.replicas())?;
-            format!(in alloc; "{slot} {own}, {replicas}")
+            format!(in alloc; "{slot} {own}, ")?
         }
+    };
+    text.push_str(head.as_str())
+}
+
+fn replicas_among<'a>(candidates: &ReadCandidates<'a>) -> Replicas<'a> {
+    match candidates {
+        ReadCandidates::AnyNode(any) => any.replicas(),
+        ReadCandidates::ReplicasOnly(only) => only.replicas(),
     }
 }
 
-fn told_by_candidates(alloc: Global, has_primary: bool) -> RedisResult<String> {
-    let primary = NodeAddress::new(alloc, "p", 1)?;
-    let nodes = nodes_of(alloc, &["r:1", "r:2"])?;
-    let candidates = if has_primary {
-        any_node(&primary, &nodes)
-    } else {
-        replicas_only(&nodes)
-    };
-    match candidates {
-        Some(candidates) => Ok(candidates_text(alloc, candidates)?),
-        None => Ok(String::from_str(alloc, "none")?),
+/// What candidates tell, if there are any, with a semicolon behind it.
+fn push_candidates(
+    alloc: Global,
+    text: &mut String,
+    candidates: Option<ReadCandidates<'_>>,
+) -> Result<(), AllocError> {
+    if let Some(candidates) = candidates {
+        push_head(alloc, text, &candidates)?;
+        push_replicas(alloc, text, replicas_among(&candidates))?;
     }
+    text.push(';')
+}
+
+/// What all nodes tell as candidates, and what the replicas alone do.
+fn told_by_candidates<'a>(
+    alloc: Global,
+    primary: &'a NodeAddress,
+    nodes: &'a [NodeAddress],
+) -> Result<String, AllocError> {
+    let mut text = String::new(alloc);
+    push_candidates(alloc, &mut text, any_node(primary, nodes))?;
+    push_candidates(alloc, &mut text, replicas_only(nodes))?;
+    Ok(text)
 }
 
 #[test]
 fn candidates_tell_their_slot_and_their_nodes(rt: HostRuntime) -> Result<(), Fail> {
-    for (has_primary, wanted) in [
-        (true, "500 500, p:1 or 2 from r:1: r:1 r:2"),
-        (false, "7 7, 2 from r:1: r:1 r:2"),
-    ] {
-        let told = told_by_candidates(rt.alloc(), has_primary)?;
-        assert_eq!(rt; told.as_str(), wanted, "with the primary: {has_primary}");
-    }
+    let primary = NodeAddress::new(rt.alloc(), "p", 1)?;
+    let nodes = nodes_of(rt.alloc(), &["r:1", "r:2"])?;
+    let told = told_by_candidates(rt.alloc(), &primary, &nodes)?;
+    assert_eq!(rt;
+        told.as_str(),
+        "500 500, p:1 or 2 from r:1: r:1 r:2;7 7, 2 from r:1: r:1 r:2;"
+    );
     Ok(())
 }
 
@@ -118,15 +157,33 @@ fn made_strategy(alloc: Global) -> Result<FirstReplica, AllocError> {
     Ok(strategy)
 }
 
+/// The host and the port of the node that a strategy picks of these.
+fn picked<'a>(
+    strategy: &FirstReplica,
+    primary: &'a NodeAddress,
+    nodes: &'a [NodeAddress],
+) -> Option<(&'a str, u16)> {
+    let candidates = any_node(primary, nodes)?;
+    let node = strategy.route_read(&candidates);
+    Some((node.host(), node.port()))
+}
+
+/// Whether the strategy that the factory makes picks the first replica of these.
+fn picks_the_first<'a>(
+    alloc: Global,
+    primary: &'a NodeAddress,
+    nodes: &'a [NodeAddress],
+) -> Result<bool, AllocError> {
+    let strategy = made_strategy(alloc)?;
+    Ok(picked(&strategy, primary, nodes) == Some(("r", 1)))
+}
+
 #[test]
 fn a_factory_makes_the_default_strategy(rt: HostRuntime) -> Result<(), Fail> {
-    let strategy = made_strategy(rt.alloc())?;
     let primary = NodeAddress::new(rt.alloc(), "p", 1)?;
-    let nodes = nodes_of(rt.alloc(), &["r:1", "r:2", "r:3"])?;
-    let node = any_node(&primary, &nodes).map(|candidates| strategy.route_read(&candidates));
-    assert_eq!(rt;
-        node.map(|n| (n.host(), n.port())),
-        Some(("r", 1)),
+    let nodes = nodes_of(rt.alloc(), &THREE)?;
+    assert!(rt;
+        picks_the_first(rt.alloc(), &primary, &nodes)?,
         "the first replica"
     );
     Ok(())

@@ -1,14 +1,24 @@
 //! Strategies that are lent to a map.
 use cluster_map::{
-    DefaultFactory, ReadRoutingStrategy, ReadRoutingStrategyFactory, Route, SlotAddr,
+    ClusterTopology, DefaultFactory, NodeAddress, ReadRoutingStrategy, ReadRoutingStrategyFactory,
+    Route, SlotAddr,
 };
 use example_strategies::{FirstReplica, PickIndex, ShardAware};
 use fixtures::{Line, THREE_SHARDS, map_of};
 use resp_core::RedisResult;
-use std::alloc::Global;
+use std::alloc::{AllocError, Global};
+use std::process::Abort;
 use std::test::Fail;
 
 const ONE_SHARD: [Line<'static>; 1] = [(1, 1000, "p:1", &["r:1", "r:2", "r:3"])];
+
+/// The text of a node, or `none`.
+fn text_of(alloc: Global, node: Option<&NodeAddress>) -> Result<String, AllocError> {
+    match node {
+        Some(node) => format!(in alloc; "{node}"),
+        None => String::from_str(alloc, "none"),
+    }
+}
 
 /// The node that a map of these ranges has for a route, or `none`.
 fn node_at(
@@ -19,10 +29,8 @@ fn node_at(
     pick: usize,
 ) -> RedisResult<String> {
     let map = map_of(alloc, lines)?;
-    match map.slot_addr_for_route(route, Some(strategy), pick) {
-        Some(node) => Ok(format!(in alloc; "{node}")?),
-        None => Ok(String::from_str(alloc, "none")?),
-    }
+    let node = map.slot_addr_for_route(route, Some(strategy), pick);
+    Ok(text_of(alloc, node)?)
 }
 
 #[test]
@@ -40,10 +48,14 @@ fn a_lent_strategy_is_asked_for_reads_where_there_are_replicas(
     ];
     for (replicas, addr, wanted) in table {
         let lines = [(1, 1000, "p:1", replicas)];
-        let node = node_at(rt.alloc(), &lines, Route::new(500, addr), &FirstReplica, 4)?;
-        assert_eq!(rt; node.as_str(), wanted, "{addr:?}, replicas {replicas:?}");
-        let node = node_at(rt.alloc(), &lines, Route::new(1001, addr), &FirstReplica, 4)?;
-        assert_eq!(rt; node.as_str(), "none", "no range, {addr:?}");
+        for (slot, wanted) in [(500, wanted), (1001, "none")] {
+            let node = node_at(rt.alloc(), &lines, Route::new(slot, addr), &FirstReplica, 4)?;
+            assert_eq!(rt;
+                node.as_str(),
+                wanted,
+                "{slot}, {addr:?}, replicas {replicas:?}"
+            );
+        }
     }
     Ok(())
 }
@@ -85,21 +97,36 @@ fn read_at(alloc: Global, slot: u16, strategy: &dyn ReadRoutingStrategy) -> Redi
     node_at(alloc, &THREE_SHARDS, route, strategy, 0)
 }
 
+/// Sees which nodes a strategy picks for reads of three shards.
+fn check_reads(
+    rt: &impl Abort,
+    alloc: Global,
+    strategy: &dyn ReadRoutingStrategy,
+    reads: &[(u16, &str)],
+) -> Result<(), Fail> {
+    for (slot, wanted) in reads {
+        let node = read_at(alloc, *slot, strategy)?;
+        assert_eq!(rt; node.as_str(), *wanted, "slot {slot}");
+    }
+    Ok(())
+}
+
+fn three_shards(alloc: Global) -> RedisResult<ClusterTopology> {
+    let map = map_of(alloc, &THREE_SHARDS)?;
+    Ok(map.topology(alloc)?)
+}
+
+const TOLD: [(u16, &str); 3] = [
+    (500, "replica1:6379"),
+    (1500, "replica3:6379"),
+    (2500, "replica4:6379"),
+];
+
 #[test]
 fn a_boxed_strategy_goes_by_the_topology_that_it_is_told(rt: HostRuntime) -> Result<(), Fail> {
     let alloc = rt.alloc();
     let mut strategy: Box<dyn ReadRoutingStrategy> = Box::new(alloc, ShardAware::new())?;
-    let node = read_at(alloc, 1500, &*strategy)?;
-    assert_eq!(rt; node.as_str(), "replica2:6379", "not told");
-    strategy.on_topology_changed(map_of(alloc, &THREE_SHARDS)?.topology(alloc)?);
-    let table = [
-        (500, "replica1:6379"),
-        (1500, "replica3:6379"),
-        (2500, "replica4:6379"),
-    ];
-    for (slot, wanted) in table {
-        let node = read_at(alloc, slot, &*strategy)?;
-        assert_eq!(rt; node.as_str(), wanted, "slot {slot}");
-    }
-    Ok(())
+    check_reads(&rt, alloc, &*strategy, &[(1500, "replica2:6379")])?;
+    strategy.on_topology_changed(three_shards(alloc)?);
+    check_reads(&rt, alloc, &*strategy, &TOLD)
 }

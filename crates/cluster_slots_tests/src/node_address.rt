@@ -1,5 +1,5 @@
 use cluster_map::{NodeAddress, split_node_address};
-use resp_core::{ErrorKind, RedisResult};
+use resp_core::{ErrorKind, RedisError, RedisResult};
 use std::alloc::{AllocError, Global};
 use std::cmp::Ordering;
 use std::sync::ArcStr;
@@ -19,28 +19,43 @@ fn a_text_is_cut_into_host_and_port(rt: HostRuntime) -> Result<(), Fail> {
         ("h:0", "h", 0),
     ];
     for (text, host, port) in table {
-        let cut = split_node_address(text);
-        assert!(rt; cut.is_ok(), "{text} is taken");
-        let (cut_host, cut_port) = cut?;
-        assert_eq!(rt; cut_host, host, "host of {text}");
-        assert_eq!(rt; cut_port, port, "port of {text}");
+        assert_eq!(rt; cut(text), Some((host, port)), "{text}");
         let address = NodeAddress::try_from(alloc, text)?;
-        assert_eq!(rt; address.host(), host, "host of the address of {text}");
-        assert_eq!(rt; address.port(), port, "port of the address of {text}");
-        assert!(rt; address.matches_text(text), "{text} matches its address");
+        assert_eq!(rt;
+            (address.host(), address.port(), address.matches_text(text)),
+            (host, port, true),
+            "the address of {text}"
+        );
     }
     Ok(())
 }
 
-/// Whether a text was refused as one that names no address.
-fn is_refused<T: Drop>(answer: RedisResult<T>) -> bool {
-    match answer {
+/// The host and the port that a text is cut into, if it is not refused.
+fn cut(text: &str) -> Option<(&str, u16)> {
+    match split_node_address(text) {
+        Ok(parts) => Some(parts),
+        Err(_) => None,
+    }
+}
+
+/// Whether an error tells that a text names no address.
+fn is_refusal(error: &RedisError) -> bool {
+    error.kind() == ErrorKind::InvalidClientConfig
+        && error.desc() == "Invalid node string"
+        && error.detail().is_none()
+}
+
+fn refuses_to_cut(text: &str) -> bool {
+    match split_node_address(text) {
         Ok(_) => false,
-        Err(error) => {
-            error.kind() == ErrorKind::InvalidClientConfig
-                && error.desc() == "Invalid node string"
-                && error.detail().is_none()
-        }
+        Err(error) => is_refusal(&error),
+    }
+}
+
+fn refuses_an_address(alloc: Global, text: &str) -> bool {
+    match NodeAddress::try_from(alloc, text) {
+        Ok(_) => false,
+        Err(error) => is_refusal(&error),
     }
 }
 
@@ -49,12 +64,15 @@ fn a_text_that_names_no_address_is_refused(rt: HostRuntime) -> Result<(), Fail> 
     let alloc = rt.alloc();
     let address = NodeAddress::new(alloc, "h", 1)?;
     for text in [":0", "[]:6379", "h:65536", "h:-1", "h:", "h", ""] {
-        assert!(rt; is_refused(split_node_address(text)), "split of {text}");
-        assert!(rt;
-            is_refused(NodeAddress::try_from(alloc, text)),
-            "try_from of {text}"
+        assert_eq!(rt;
+            (
+                refuses_to_cut(text),
+                refuses_an_address(alloc, text),
+                address.matches_text(text)
+            ),
+            (true, true, false),
+            "{text}"
         );
-        assert!(rt; !address.matches_text(text), "{text} matches no address");
     }
     Ok(())
 }
@@ -66,23 +84,28 @@ fn repeated(alloc: Global, piece: &str, times: usize, end: &str) -> Result<Strin
     Ok(text)
 }
 
-/// Whether a text makes an address, which it matches, or makes none and matches none.
+/// Whether a text makes an address, which it matches, or makes none.
 fn is_taken(alloc: Global, text: &str) -> RedisResult<bool> {
-    let other = NodeAddress::new(alloc, "no host", 0)?;
     match NodeAddress::try_from(alloc, text) {
-        Ok(address) => Ok(address.matches_text(text) && !other.matches_text(text)),
+        Ok(address) => Ok(address.matches_text(text)),
         Err(error) => match error.kind() {
-            ErrorKind::InvalidClientConfig => Ok(other.matches_text(text)),
+            ErrorKind::InvalidClientConfig => Ok(false),
             _ => Err(error),
         },
     }
 }
 
+/// Whether a text matches an address that it does not name.
+fn matches_another(alloc: Global, text: &str) -> Result<bool, AllocError> {
+    let other = NodeAddress::new(alloc, "no host", 0)?;
+    Ok(other.matches_text(text))
+}
+
 /// How long the host is that a text names, and the port; or -1 and 0, if it is refused.
-fn cut(text: &str) -> (i64, u16) {
-    match split_node_address(text) {
-        Ok((host, port)) => (host.len() as i64, port),
-        Err(_) => (-1, 0),
+fn sizes(text: &str) -> (i64, u16) {
+    match cut(text) {
+        Some((host, port)) => (host.len() as i64, port),
+        None => (-1, 0),
     }
 }
 
@@ -118,23 +141,23 @@ fn hostile_texts_are_cut_or_refused(rt: HostRuntime) -> Result<(), Fail> {
     for (piece, times, end, want) in table {
         let text = repeated(rt.alloc(), piece, times, end)?;
         assert_eq!(rt;
-            cut(text.as_str()),
-            want,
+            (
+                sizes(text.as_str()),
+                is_taken(rt.alloc(), text.as_str())?,
+                matches_another(rt.alloc(), text.as_str())?
+            ),
+            (want, want.0 >= 0, false),
             "{times} times {piece:?}, {end:?}"
         );
-        assert_eq!(rt;
-            is_taken(rt.alloc(), text.as_str())?,
-            want.0 >= 0,
-            "an address of {times} times {piece:?}, {end:?}"
-        );
     }
-    let zeros = repeated(
-        rt.alloc(),
-        "h:",
-        1,
-        "0".repeat(rt.alloc(), 65_536)?.as_str(),
-    )?;
-    assert_eq!(rt; cut(zeros.as_str()), (1, 0), "65536 zeros");
+    Ok(())
+}
+
+#[test]
+fn a_port_may_have_many_zeros(rt: HostRuntime) -> Result<(), Fail> {
+    let zeros = "0".repeat(rt.alloc(), 65_536)?;
+    let text = repeated(rt.alloc(), "h:", 1, zeros.as_str())?;
+    assert_eq!(rt; sizes(text.as_str()), (1, 0), "65536 zeros");
     Ok(())
 }
 
@@ -174,35 +197,91 @@ fn addresses_print_as_host_colon_port(rt: HostRuntime) -> Result<(), Fail> {
     Ok(())
 }
 
-/// Whether an address of a host of so many bytes, its clone and the address that its text names
-/// print the host whole and are equal.
-fn keeps_host(alloc: Global, length: usize) -> RedisResult<bool> {
-    let host = "h".repeat(alloc, length)?;
-    let text = format!(in alloc; "{host}:6379")?;
-    let address = NodeAddress::new(alloc, host.as_str(), 6379)?;
+/// Whether an address prints as this text.
+fn prints(alloc: Global, address: &NodeAddress, text: &str) -> Result<bool, AllocError> {
+    let printed = format!(in alloc; "{address}")?;
+    Ok(printed.as_str() == text)
+}
+
+/// Whether an address prints as this text to a programmer.
+fn debugs(alloc: Global, address: &NodeAddress, text: &str) -> Result<bool, AllocError> {
+    let printed = format!(in alloc; "{address:?}")?;
+    Ok(printed.as_str() == text)
+}
+
+/// Whether an address prints as this text and is equal to another.
+fn is_as(
+    alloc: Global,
+    address: &NodeAddress,
+    other: &NodeAddress,
+    text: &str,
+) -> Result<bool, AllocError> {
+    Ok(*address == *other && prints(alloc, address, text)?)
+}
+
+fn clone_is_as(alloc: Global, address: &NodeAddress, text: &str) -> Result<bool, AllocError> {
     let copy = address.clone()?;
-    let named = NodeAddress::try_from(alloc, text.as_str())?;
-    let printed = format!(in alloc; "{address} {address:?} {copy} {named}")?;
-    let want = format!(in alloc; "{text} {text} {text} {text}")?;
-    Ok(printed == want && copy == address && named == address)
+    is_as(alloc, &copy, address, text)
+}
+
+/// Whether a text names an address that prints as the text and is equal to this one.
+fn named_is_as(alloc: Global, address: &NodeAddress, text: &str) -> Result<bool, AllocError> {
+    match NodeAddress::try_from(alloc, text) {
+        Ok(named) => is_as(alloc, &named, address, text),
+        Err(_) => Ok(false),
+    }
+}
+
+/// Whether an address prints as this text, and so do its clone and the address that the text
+/// names, which are equal to it.
+fn keeps_text(alloc: Global, address: &NodeAddress, text: &str) -> Result<bool, AllocError> {
+    Ok(
+        prints(alloc, address, text)?
+            && debugs(alloc, address, text)?
+            && clone_is_as(alloc, address, text)?
+            && named_is_as(alloc, address, text)?,
+    )
+}
+
+/// Whether an address of this host and port 6379 prints as this text, wherever it comes from.
+fn keeps_host(alloc: Global, host: &str, text: &str) -> Result<bool, AllocError> {
+    let address = NodeAddress::new(alloc, host, 6379)?;
+    keeps_text(alloc, &address, text)
 }
 
 // Up to 16 bytes a host stands in the address itself.
 #[test]
 fn hosts_of_each_length_are_kept_whole(rt: HostRuntime) -> Result<(), Fail> {
+    let alloc = rt.alloc();
     for length in [1, 15, 16, 17, 18, 300, 70_000] {
-        assert!(rt; keeps_host(rt.alloc(), length)?, "a host of {length} bytes");
+        let host = repeated(alloc, "h", length, "")?;
+        let text = repeated(alloc, "h", length, ":6379")?;
+        assert!(rt;
+            keeps_host(alloc, host.as_str(), text.as_str())?,
+            "a host of {length} bytes"
+        );
     }
     Ok(())
 }
 
+/// The address of a shared text as host, and a port.
+fn of_parts(alloc: Global, host: &str, port: u16) -> Result<NodeAddress, AllocError> {
+    let host = ArcStr::from_str(alloc, host)?;
+    Ok(NodeAddress::from_parts(host, port))
+}
+
+/// Whether an address is equal to that of a host and a port.
+fn equals(alloc: Global, address: &NodeAddress, host: &str, port: u16) -> Result<bool, AllocError> {
+    let other = NodeAddress::new(alloc, host, port)?;
+    Ok(other == *address)
+}
+
 #[test]
 fn addresses_of_the_same_parts_are_equal(rt: HostRuntime) -> Result<(), Fail> {
-    let alloc = rt.alloc();
-    let address = NodeAddress::from_parts(ArcStr::from_str(alloc, "h")?, 1);
+    let address = of_parts(rt.alloc(), "h", 1)?;
     for (host, port, same) in [("h", 1, true), ("h", 2, false), ("g", 1, false)] {
-        let other = NodeAddress::new(alloc, host, port)?;
-        assert_eq!(rt; other == address, same, "host {host}, port {port}");
+        let is_equal = equals(rt.alloc(), &address, host, port)?;
+        assert_eq!(rt; is_equal, same, "host {host}, port {port}");
     }
     Ok(())
 }
@@ -221,31 +300,38 @@ fn the_default_address_has_no_host_and_port_0(rt: HostRuntime) -> Result<(), Fai
     Ok(())
 }
 
-type Parts = (&'static str, u16);
-
 /// How two addresses are ordered, and whether the first is below the second.
-fn compared(alloc: Global, one: Parts, other: Parts) -> Result<(Ordering, bool), AllocError> {
-    let first = NodeAddress::new(alloc, one.0, one.1)?;
-    let second = NodeAddress::new(alloc, other.0, other.1)?;
-    Ok((first.cmp(&second), first < second))
+fn compared(first: &NodeAddress, second: &NodeAddress) -> (Ordering, bool) {
+    (first.cmp(second), first < second)
 }
+
+/// The addresses of these hosts and ports.
+fn addresses(alloc: Global, parts: &[(&str, u16)]) -> Result<Vec<NodeAddress>, AllocError> {
+    let mut addresses = Vec::new(alloc);
+    for (host, port) in parts {
+        addresses.push(NodeAddress::new(alloc, *host, *port)?)?;
+    }
+    Ok(addresses)
+}
+
+const ASCENDING: [(&str, u16); 8] = [
+    ("", 9),
+    ("10", 1),
+    ("9", 1),
+    ("B", 7),
+    ("a", 2),
+    ("a", 10),
+    ("aa", 1),
+    ("é", 1),
+];
 
 #[test]
 fn addresses_are_ordered_by_host_bytes_then_port(rt: HostRuntime) -> Result<(), Fail> {
-    let ascending: [Parts; 8] = [
-        ("", 9),
-        ("10", 1),
-        ("9", 1),
-        ("B", 7),
-        ("a", 2),
-        ("a", 10),
-        ("aa", 1),
-        ("é", 1),
-    ];
+    let ascending = addresses(rt.alloc(), &ASCENDING)?;
     for (i, one) in ascending.iter().enumerate() {
         for (j, other) in ascending.iter().enumerate() {
-            let found = compared(rt.alloc(), *one, *other)?;
-            assert_eq!(rt; found, (i.cmp(&j), i < j), "{one:?} against {other:?}");
+            let wanted = (i.cmp(&j), i < j);
+            assert_eq!(rt; compared(one, other), wanted, "{one} against {other}");
         }
     }
     Ok(())

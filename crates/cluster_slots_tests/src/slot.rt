@@ -1,5 +1,12 @@
 use cluster_map::{Route, SLOT_SIZE, Slot, SlotAddr};
 
+/// The slot of a key, and the slot and the nodes of a route to it.
+fn of_key(key: &str) -> (u16, u16, SlotAddr) {
+    let route = Route::with_key(key.as_bytes(), SlotAddr::ReplicaOptional);
+    let slot = Slot::for_key(key.as_bytes());
+    (slot.number(), route.slot(), route.slot_addr())
+}
+
 #[test]
 fn keys_have_the_slots_of_their_hash_tags(rt: HostRuntime) {
     let table = [
@@ -19,18 +26,17 @@ fn keys_have_the_slots_of_their_hash_tags(rt: HostRuntime) {
     ];
     for (key, slot) in table {
         assert_eq!(rt;
-            Slot::for_key(key.as_bytes()).number(),
-            slot,
-            "slot of {key}"
-        );
-        let route = Route::with_key(key.as_bytes(), SlotAddr::ReplicaOptional);
-        assert_eq!(rt; route.slot(), slot, "slot of a route to {key}");
-        assert_eq!(rt;
-            route.slot_addr(),
-            SlotAddr::ReplicaOptional,
-            "nodes of a route to {key}"
+            of_key(key),
+            (slot, slot, SlotAddr::ReplicaOptional),
+            "{key}"
         );
     }
+}
+
+/// The number of the slot that holds a number, if there is one.
+fn number_of(number: u16) -> Option<u16> {
+    let slot = Slot::new(number)?;
+    Some(slot.number())
 }
 
 #[test]
@@ -42,41 +48,47 @@ fn slots_have_numbers_below_the_slot_count(rt: HostRuntime) {
         (65535, None),
     ];
     for (number, slot) in table {
-        assert_eq!(rt;
-            Slot::new(number).map(|s| s.number()),
-            slot,
-            "slot {number}"
-        );
+        assert_eq!(rt; number_of(number), slot, "slot {number}");
     }
     assert_eq!(rt; SLOT_SIZE, 16384);
 }
 
+const KINDS: [SlotAddr; 3] = [
+    SlotAddr::Master,
+    SlotAddr::ReplicaOptional,
+    SlotAddr::ReplicaRequired,
+];
+
+/// The slot of a route, and which of its nodes it asks for.
+fn parts(route: Route) -> (u16, SlotAddr) {
+    (route.slot(), route.slot_addr())
+}
+
 #[test]
 fn routes_hold_a_slot_and_which_of_its_nodes(rt: HostRuntime) {
-    for addr in [
-        SlotAddr::Master,
-        SlotAddr::ReplicaOptional,
-        SlotAddr::ReplicaRequired,
-    ] {
-        let route = Route::new(65535, addr);
-        assert_eq!(rt; route.slot(), 65535, "{addr:?}");
-        assert_eq!(rt; route.slot_addr(), addr, "{addr:?}");
-        assert_eq!(rt;
-            Some(Route::new(964, addr)),
-            Slot::new(964).map(|s| Route::with_slot(s, addr)),
-            "{addr:?}"
-        );
+    for addr in KINDS {
+        assert_eq!(rt; parts(Route::new(65535, addr)), (65535, addr));
     }
-    assert_ne!(rt;
-        Route::new(1, SlotAddr::Master),
-        Route::new(2, SlotAddr::Master),
-        "two slots"
-    );
-    assert_ne!(rt;
-        Route::new(1, SlotAddr::Master),
-        Route::new(1, SlotAddr::ReplicaRequired),
-        "two kinds of nodes"
-    );
+}
+
+/// The route to the slot of a number, if there is one.
+fn with_slot(number: u16, addr: SlotAddr) -> Option<Route> {
+    let slot = Slot::new(number)?;
+    Some(Route::with_slot(slot, addr))
+}
+
+#[test]
+fn a_route_to_a_slot_is_that_to_its_number(rt: HostRuntime) {
+    for addr in KINDS {
+        assert_eq!(rt; Some(Route::new(964, addr)), with_slot(964, addr));
+    }
+}
+
+#[test]
+fn routes_to_other_slots_or_other_nodes_differ(rt: HostRuntime) {
+    for (slot, addr) in [(2, SlotAddr::Master), (1, SlotAddr::ReplicaRequired)] {
+        assert_ne!(rt; Route::new(1, SlotAddr::Master), Route::new(slot, addr));
+    }
 }
 
 /// The polynomial of the Redis cluster specification without x^16.
