@@ -8,7 +8,7 @@ use Rattle.resp_core.specs.ErrorParts.{ErrorParts}
 use Rattle.redis_routing.specs.Registry.{Registrations}
 use Rattle.redis_cluster.specs.Trace.{Ending, refused, entry}
 use Rattle.redis_cluster.specs.Unsplit.{Step, Keyspace}
-use Rattle.redis_cluster.specs.Driven.{State}
+use Rattle.redis_cluster.specs.State.{State}
 use Rattle.redis_batches.specs.Turns.{all_after, answers}
 use Rattle.redis_batches.specs.Pipeline.{Answer, Serve, Task, run_ended}
 use Rattle.redis_batches.specs.Taken.{AreAllowed, AreServed, IsTaken, batch_entries, ending_by, task_of}

@@ -1,13 +1,23 @@
 -- What stands in a trace, and what a plan refuses.
-use Rattle.std.proofs.Common.{◌≡◌, ℕ, List, [], ◌∷◌, ◌++◌, Option, Some, map, length, refl, sym, ap, ◌∙◌}
-use Rattle.std.proofs.lemmas.List.{map-append}
+use Rattle.std.proofs.Common.{◌≡◌, ◌<◌, ◌≤◌, ℕ, zero, suc, List, [], ◌∷◌, ◌++◌, Option, Some, Result, Ok, Err, map, length, take, refl, sym, ap, subst, ◌∙◌, arith, inl, inr}
+use Rattle.std.specs.Prelude.{OnErr, slice_get}
+use Rattle.std.specs.List.{zip}
+use Rattle.std.proofs.lemmas.Bool.{cases_lt}
+use Rattle.std.proofs.lemmas.List.{length-append, map-append}
+use Rattle.std.proofs.lemmas.Option.{same_Some, slice_get_within}
 use Rattle.cluster_slots.specs.Address.{Address}
 use Rattle.resp_core.specs.ErrorParts.{ErrorParts}
-use Rattle.redis_cluster.specs.Trace.{refused, entry}
-use Rattle.redis_batches.specs.Taken.{ending_by}
-use Rattle.memory_batches.specs.Nodes.{entry_of, MayRefuse, may_end, refusal_in, trace_in}
+use Rattle.redis_cluster.specs.Trace.{Entry, refused, entry}
+use Rattle.redis_batches.specs.Taken.{batch_entries, ending_by}
+use Rattle.redis_batches.proofs.Putting.{get_front, get_last}
+use Rattle.memory_batches.specs.Nodes.{AreAsPlanned, IsBegun, entry_of, MayRefuse, may_end, refusal_for, refusal_in, trace_in}
 use Rattle.memory_batches.specs.declared.nodes.MemoryBatchNodes.{MemoryBatchNodes}
 use Rattle.memory_batches.specs.declared.trace_entry.BatchEntry.{BatchEntry}
+
+-- what holds whatever comes
+pub on_err_always : {T E P : Type 0} (r : Result T E) → P → OnErr r P
+on_err_always (Ok value) is = tt
+on_err_always (Err error) is = is
 
 -- an entry more
 pub noted : (items more : List BatchEntry) (e : BatchEntry) (node : Address) (args : List (List ℕ)) (end : Option ErrorParts) → more ≡ items ++ e ∷ [] → e.node ≡ node → e.command ≡ args → e.refusal ≡ end
@@ -24,3 +34,55 @@ as_planned nodes end planned error is = (error, sym planned ∙ is, refl)
 -- nodes of one plan may refuse the same
 pub same_plan : (nodes other : MemoryBatchNodes) → nodes.plan ≡ other.plan → nodes.base ≡ other.base → MayRefuse nodes ≡ MayRefuse other
 same_plan nodes other plan base = ap (λ p. may_end p.items nodes.base) plan ∙ ap (may_end other.plan.items) base
+
+-- what is planned is the same
+pub same_refusal : (nodes other : MemoryBatchNodes) (count : ℕ) → nodes.plan ≡ other.plan → nodes.base ≡ other.base → refusal_in nodes count ≡ refusal_in other count
+same_refusal nodes other count plan base = ap (λ p. refusal_for p.items nodes.base count) plan ∙ ap (λ b. refusal_for other.plan.items b count) base
+
+-- each entry from a place on ended as a plan has it
+abbrev EndSo : (ℕ → Option ErrorParts) → ℕ → List Entry → Type 0
+EndSo planned from trace = (place : ℕ) (e : Entry) → from ≤ place → slice_get trace place ≡ Some e → e.ending ≡ ending_by (planned place)
+
+end_so_next : (planned : ℕ → Option ErrorParts) (from : ℕ) (trace : List Entry) (last : Entry) → EndSo planned from trace → last.ending ≡ ending_by (planned (length trace)) → EndSo planned from (trace ++ last ∷ [])
+end_so_next planned from trace last are is place e later at =
+    elim (cases_lt place (length trace)) as (λ _. e.ending ≡ ending_by (planned place)) [
+      | inl small ↦ are place e later (sym (get_front trace (last ∷ []) place small) ∙ at)
+      | inr large ↦
+          let below : place < length (trace ++ last ∷ []) = slice_get_within (trace ++ last ∷ []) place e at in
+          let same : place ≡ length trace = omega (arith, large, below, length-append trace (last ∷ [])) in
+          ap (λ (x : Entry). x.ending) (same_Some e last (sym at ∙ ap (slice_get (trace ++ last ∷ [])) same ∙ get_last trace last)) ∙ is ∙ ap (λ p. ending_by (planned p)) (sym same)
+    ]
+
+-- no entry yet
+pub planned_none : (nodes : MemoryBatchNodes) → AreAsPlanned nodes nodes
+planned_none nodes place e later at = let below : place < length (trace_in nodes) = slice_get_within (trace_in nodes) place e at in absurd (omega (arith, later, below))
+
+-- one entry more
+pub planned_next : (first now later : MemoryBatchNodes) (node : Address) (args : List (List ℕ)) → now.plan ≡ first.plan → now.base ≡ first.base → AreAsPlanned first now
+    → trace_in later ≡ trace_in now ++ entry node args (ending_by (refusal_in now (length (trace_in now)))) ∷ [] → AreAsPlanned first later
+planned_next first now later node args plan base are grew =
+    let last : Entry = entry node args (ending_by (refusal_in now (length (trace_in now)))) in
+    subst (EndSo (refusal_in first) (length (trace_in first))) (sym grew)
+    (end_so_next (refusal_in first) (length (trace_in first)) (trace_in now) last are (ap ending_by (same_refusal now first (length (trace_in now)) plan base)))
+
+zip_take : {X Y : Type 0} (i : ℕ) (xs : List X) (ys : List Y) → length ys ≡ length (take i xs) → zip (take i xs) ys ≡ zip xs ys
+zip_take zero [] ys long = refl
+zip_take (suc i) [] ys long = refl
+zip_take zero (x ∷ xs) [] long = refl
+zip_take zero (x ∷ xs) (y ∷ ys) long = absurd (omega arith)
+zip_take (suc i) (x ∷ xs) [] long = absurd (omega arith)
+zip_take (suc i) (x ∷ xs) (y ∷ ys) long = ap (λ l. (x, y) ∷ l) (zip_take i xs ys (omega arith))
+
+take_most : {X : Type 0} (i : ℕ) (xs : List X) → length (take i xs) ≤ length xs
+take_most zero [] = omega arith
+take_most (suc i) [] = omega arith
+take_most zero (x ∷ xs) = omega arith
+take_most (suc i) (x ∷ xs) = omega (arith, take_most i xs)
+
+-- the entries of the first commands of a batch
+pub begun_by : (node : Address) (batch : List (List (List ℕ))) (i : ℕ) (old new : List Entry) (ends : List (Option ErrorParts)) → length ends ≡ length (take i batch) → new ≡ old ++ batch_entries node (take i batch) ends → IsBegun node batch old new
+begun_by node batch i old new ends long grew = record {
+  ends = ends;
+  within = omega (arith, long, take_most i batch);
+  grew = grew ∙ ap (λ l. old ++ map (λ x. entry node x.0 (ending_by x.1)) l) (zip_take i batch ends long);
+}

@@ -1,10 +1,12 @@
 -- What nodes in memory that take batches hold, have been sent, and refuse.
-use Rattle.std.specs.Prelude.{◌≡◌, ℕ, ◌-◌, List, Bool, Option, None, Some, cond, map, nat_le, slice_get}
+use Rattle.std.specs.Prelude.{◌≡◌, ◌≤◌, ◌++◌, ℕ, ◌-◌, List, Bool, Option, None, Some, cond, length, map, nat_le, slice_get}
+use Rattle.cluster_slots.specs.Address.{Address}
 use Rattle.resp_core.specs.ErrorParts.{ErrorParts}
 use Rattle.redis_routing.specs.Registry.{Registrations}
 use Rattle.redis_cluster.specs.Trace.{Entry, Ending, refused, entry}
+use Rattle.redis_cluster.specs.State.{State, state}
 use Rattle.redis_cluster.specs.Unsplit.{Keyspace}
-use Rattle.redis_batches.specs.Taken.{ending_by}
+use Rattle.redis_batches.specs.Taken.{batch_entries, ending_by}
 use Rattle.memory_nodes.specs.Cells.{Cell}
 use Rattle.memory_nodes.specs.Nodes as store
 use Rattle.memory_batches.specs.declared.nodes.MemoryBatchNodes.{MemoryBatchNodes}
@@ -28,6 +30,9 @@ trace_in nodes = map entry_of nodes.trace.items
 abbrev pub mark_in : MemoryBatchNodes → Bool
 mark_in nodes = nodes.mark
 
+abbrev pub state_in : MemoryBatchNodes → State Cell
+state_in nodes = state (keyspace_in nodes) (trace_in nodes) (mark_in nodes)
+
 -- the error that is planned for the command that finds so many entries in the trace, if one is,
 -- where the plan was made when there were `base`
 abbrev pub listed : Option (Option ErrorParts) → Option ErrorParts
@@ -48,3 +53,16 @@ MayRefuse nodes = may_end nodes.plan.items nodes.base
 -- what the plan has for the command that finds so many entries
 abbrev pub refusal_in : MemoryBatchNodes → ℕ → Option ErrorParts
 refusal_in nodes count = refusal_for nodes.plan.items nodes.base count
+
+-- Each entry that the trace grew by ended as was planned for its place.
+abbrev pub AreAsPlanned : (old new : MemoryBatchNodes) → Type 0
+AreAsPlanned old new =
+    (place : ℕ) (e : Entry) → length (trace_in old) ≤ place → slice_get (trace_in new) place ≡ Some e
+    → e.ending ≡ ending_by (refusal_in old place)
+
+-- A trace grew by the entries of the first commands of a batch.
+pub record IsBegun (node : Address) (batch : List (List (List ℕ))) (old new : List Entry)
+    : Type 0 where
+  pub ends : List (Option ErrorParts)
+  pub within : length ends ≤ length batch
+  pub grew : new ≡ old ++ batch_entries node batch ends

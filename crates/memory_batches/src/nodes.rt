@@ -1,10 +1,9 @@
-ghost use Rattle.std.specs.Prelude.{◌≡◌, ◌+◌, ◌∷◌, ◌↔◌, ℕ, [], None, Some, false, IfOk, OnOk, length, map, option_copied};
-ghost use Rattle.redis_cluster.specs.Trace.{Ending};
-ghost use Rattle.redis_cluster.specs.Driven.{state};
-ghost use Rattle.redis_batches.specs.Taken.{answer_of, IsTaken};
+ghost use Rattle.std.specs.Prelude.{◌≡◌, ◌++◌, ◌+◌, ◌∷◌, ◌↔◌, ℕ, [], None, Some, false, true, IfErr, IfOk, OnErr, OnOk, length, map, option_copied};
+ghost use Rattle.redis_cluster.specs.Trace.{Ending, entry};
+ghost use Rattle.redis_batches.specs.Taken.{answer_of, ending_by, IsTaken, IsUntaken};
 ghost use Rattle.memory_nodes.specs.Cells.{Cell, value_at};
 ghost use Rattle.memory_nodes.specs.Steps.{step};
-ghost use Rattle.memory_batches.specs.Nodes.{registered_in, keyspace_in, trace_in, mark_in, refusal_in, may_end, MayRefuse, entry_of};
+ghost use Rattle.memory_batches.specs.Nodes.{registered_in, keyspace_in, trace_in, mark_in, state_in, refusal_in, may_end, MayRefuse, entry_of, AreAsPlanned, IsBegun};
 ghost use Rattle.memory_batches.specs.Strings.{serve};
 
 use crate::answering::answer_or_refuse;
@@ -116,9 +115,11 @@ impl MemoryBatchNodes {
     ) -> Result<Result<Value, RedisError>, AllocError>
         ensures taken { IfOk result (λ answer. IsTaken step serve (registered_in self.old) (Unit {0})
             (MayRefuse self.old) node.now (cmd.now ∷ [])
-            (state (keyspace_in self.old) (trace_in self.old) (mark_in self.old))
-            (state (keyspace_in self.new) (trace_in self.new) (mark_in self.new))
+            (state_in self.old) (state_in self.new)
             (answer_of answer ∷ [])) }
+        ensures noted { OnOk result (trace_in self.new ≡ trace_in self.old ++ entry node.now cmd.now
+            (ending_by (refusal_in self.old (length (trace_in self.old)))) ∷ []) }
+        ensures untaken { OnErr result (trace_in self.new ≡ trace_in self.old) }
         ensures plan { self.new.plan ≡ self.old.plan }
         ensures base { self.new.base ≡ self.old.base }
         ensures registered { registered_in self.new ≡ registered_in self.old }
@@ -143,9 +144,11 @@ impl MemoryBatchNodes {
         ensures answers { OnOk result (length answers.new.items ≡ length batch.now) }
         ensures taken { OnOk result (IsTaken step serve (registered_in self.old) (Unit {0})
             (MayRefuse self.old) node.now (map (λ cmd. cmd.now) batch.now)
-            (state (keyspace_in self.old) (trace_in self.old) (mark_in self.old))
-            (state (keyspace_in self.new) (trace_in self.new) (mark_in self.new))
+            (state_in self.old) (state_in self.new)
             (map answer_of answers.new.items)) }
+        ensures as_planned { OnOk result (AreAsPlanned self.old self.new) }
+        ensures begun { OnErr result (IsBegun node.now (map (λ cmd. cmd.now) batch.now)
+            (trace_in self.old) (trace_in self.new)) }
         ensures plan { self.new.plan ≡ self.old.plan }
         ensures base { self.new.base ≡ self.old.base }
         ensures registered { registered_in self.new ≡ registered_in self.old }
@@ -167,11 +170,7 @@ impl BatchNodes for MemoryBatchNodes {
 
     ghost registered = { registered_in };
 
-    ghost keyspace = { keyspace_in };
-
-    ghost trace = { trace_in };
-
-    ghost mark = { mark_in };
+    ghost state = { state_in };
 
     ghost may_refuse = { MayRefuse };
 
@@ -186,7 +185,25 @@ impl BatchNodes for MemoryBatchNodes {
         &mut self,
         node: &NodeAddress,
         batch: &[&Cmd],
-    ) -> Result<Vec<Result<Value, RedisError>>, SendError> {
+    ) -> Result<Vec<Result<Value, RedisError>>, SendError>
+        ensures answers { IfOk result (λ answers. length answers.items ≡ length batch.now) }
+        ensures taken { IfOk result (λ answers. IsTaken step serve (registered_in self.old) (Unit {0})
+            (MayRefuse self.old) node.now (map (λ cmd. cmd.now) batch.now)
+            (state_in self.old) (state_in self.new)
+            (map answer_of answers.items)) }
+        // Each command was refused that was to be, and no other.
+        ensures as_planned { OnOk result (AreAsPlanned self.old self.new) }
+        ensures mark { OnOk result (mark_in self.new ≡ false) }
+        // A batch that was not taken ran out of memory.
+        ensures only { OnErr result (mark_in self.new ≡ true) }
+        ensures untaken { IfErr result (λ error. IsUntaken step serve (registered_in self.old)
+            (Unit {0}) (MayRefuse self.old) node.now (map (λ cmd. cmd.now) batch.now)
+            (state_in self.old) (state_in self.new) error) }
+        ensures planned { (count : ℕ) → refusal_in self.new count ≡ refusal_in self.old count }
+        ensures may_refuse { (count : ℕ) (ending : Ending) → MayRefuse self.new count ending
+            ↔ MayRefuse self.old count ending }
+        ensures registered { registered_in self.new ≡ registered_in self.old }
+    {
         let Ok(mut answers) = Vec::with_capacity(self.alloc, batch.len()) else {
             self.mark = true;
             return Err(SendError::Memory);

@@ -1,9 +1,11 @@
 //! Pipelines that are driven over nodes in memory.
 use crate::given::{answers_text, commands_of};
-use cluster_map::SlotMap;
+use cluster_map::{ReadRoutingStrategy, SlotMap};
+use example_strategies::FirstReplica;
 use fixtures::{Line, TWO_NODES, map_of};
 use memory_batches::MemoryBatchNodes;
 use redis_batches::drive_pipeline;
+use redis_cluster::routing::ReadOnlyNames;
 use resp_core::{ErrorKind, RedisError};
 use std::alloc::{AllocError, Global};
 use std::test::Fail;
@@ -13,6 +15,28 @@ use std::test::Fail;
 const PIPELINE: &str = "SET a 1;SET b 2;MGET b a;DEL a b c;GET a";
 
 // The replies to the commands of a text, whose batches go out in this order, or why there are none.
+// `GET`, `MGET` and `EXISTS` only read.
+fn driven_with(
+    alloc: Global,
+    nodes: &mut MemoryBatchNodes,
+    map: &SlotMap,
+    strategy: Option<&dyn ReadRoutingStrategy>,
+    text: &str,
+    order: &[usize],
+) -> Result<String, Fail> {
+    let mut read_only = ReadOnlyNames::new(alloc);
+    for name in ["get", "mget", "exists"] {
+        read_only.insert(alloc, name.as_bytes())?;
+    }
+    let commands = commands_of(alloc, text)?;
+    let commands = commands.as_slice();
+    match drive_pipeline(alloc, commands, &read_only, map, strategy, order, nodes) {
+        Ok(replies) => answers_text(alloc, replies.as_slice()),
+        Err(error) => Ok(format!(in alloc; "{error}")?),
+    }
+}
+
+// The same, where reads go to primaries.
 fn driven(
     alloc: Global,
     nodes: &mut MemoryBatchNodes,
@@ -20,11 +44,7 @@ fn driven(
     text: &str,
     order: &[usize],
 ) -> Result<String, Fail> {
-    let commands = commands_of(alloc, text)?;
-    match drive_pipeline(alloc, commands.as_slice(), map, order, nodes) {
-        Ok(replies) => answers_text(alloc, replies.as_slice()),
-        Err(error) => Ok(format!(in alloc; "{error}")?),
-    }
+    driven_with(alloc, nodes, map, None, text, order)
 }
 
 fn driven_anew(
@@ -100,16 +120,57 @@ fn a_slot_without_a_node_is_told(rt: HostRuntime) -> Result<(), Fail> {
     Ok(())
 }
 
-#[test]
-fn reads_go_to_the_primary(rt: HostRuntime) -> Result<(), Fail> {
-    let alloc = rt.alloc();
-    let whole: [Line<'static>; 1] = [(0, 16383, "p:1", &["r:1"])];
-    let map = map_of(alloc, &whole)?;
+const WITH_REPLICA: [Line<'static>; 1] = [(0, 16383, "p:1", &["r:1"])];
+
+// The hosts that the commands of a text go to, one after the other, where reads may go to replicas.
+fn hosts(
+    alloc: Global,
+    strategy: Option<&dyn ReadRoutingStrategy>,
+    text: &str,
+    batches: usize,
+) -> Result<String, Fail> {
+    let map = map_of(alloc, &WITH_REPLICA)?;
+    let mut order = Vec::new(alloc);
+    for number in 0..batches {
+        order.push(number)?;
+    }
     let mut nodes = MemoryBatchNodes::new(alloc);
-    let given = driven(alloc, &mut nodes, &map, "SET a 1;GET a", &[0])?;
+    driven_with(alloc, &mut nodes, &map, strategy, text, order.as_slice())?;
+    let mut hosts = String::new(alloc);
+    for entry in nodes.trace() {
+        hosts.push_str(entry.node.host())?;
+    }
+    Ok(hosts)
+}
+
+#[test]
+fn a_slot_that_is_only_read_is_read_at_a_replica(rt: HostRuntime) -> Result<(), Fail> {
+    let alloc = rt.alloc();
+    let table: [(&str, usize, &str); 6] = [
+        ("GET a;GET {a}x", 1, "rr"),
+        ("SET a 1;GET a", 1, "pp"),
+        ("GET a;EXISTS {a}x;SET {a}y 1", 1, "ppp"),
+        ("SET a 1;GET b;GET a;EXISTS b", 2, "pprr"),
+        ("MGET a b;DEL b", 2, "rpp"),
+        ("GETEX a;GET b", 2, "pr"),
+    ];
+    for (text, batches, want) in table {
+        let given = hosts(alloc, Some(&FirstReplica), text, batches)?;
+        assert_eq!(&rt; given.as_str(), want, "{text}");
+    }
+    let given = hosts(alloc, None, "GET a;GET b", 1)?;
+    assert_eq!(&rt; given.as_str(), "pp");
+    Ok(())
+}
+
+#[test]
+fn reads_and_writes_of_a_slot_go_to_the_primary(rt: HostRuntime) -> Result<(), Fail> {
+    let alloc = rt.alloc();
+    let map = map_of(alloc, &WITH_REPLICA)?;
+    let mut nodes = MemoryBatchNodes::new(alloc);
+    let strategy: Option<&dyn ReadRoutingStrategy> = Some(&FirstReplica);
+    let given = driven_with(alloc, &mut nodes, &map, strategy, "SET a 1;GET a", &[0])?;
     assert_eq!(&rt; given.as_str(), "OK;1;");
-    assert!(&rt; nodes.trace().iter().all(|entry| entry.node.port() == 1));
-    assert!(&rt; nodes.trace().iter().all(|entry| entry.node.host() == "p"));
     Ok(())
 }
 

@@ -1,9 +1,9 @@
 //! Pipelines that are planned, and told by hand.
 use crate::given::{answers_text, commands_of};
-use cluster_map::SlotMap;
-use fixtures::{Line, TWO_NODES, map_of};
-use redis_batches::PipelinePlan;
-use redis_cluster::routing::Registry;
+use cluster_map::{ReadRoutingStrategy, SlotMap};
+use fixtures::{Line, TWO_NODES, Turns, map_of};
+use redis_batches::{PipelineFault, PipelinePlan};
+use redis_cluster::routing::{Names, ReadOnlyNames, Registry};
 use resp_core::{Cmd, RedisError, Value};
 use std::alloc::{AllocError, Global};
 use std::str;
@@ -33,11 +33,35 @@ fn plan_text(alloc: Global, plan: &PipelinePlan<'_>) -> Result<String, Fail> {
     Ok(text)
 }
 
+// A plan of commands, whose reads go where the strategy says.
+fn plan_with<'a>(
+    alloc: Global,
+    commands: &'a [Cmd],
+    read_only: &ReadOnlyNames,
+    map: &'a SlotMap,
+    strategy: Option<&dyn ReadRoutingStrategy>,
+) -> Result<PipelinePlan<'a>, PipelineFault> {
+    let registry = Registry::new(alloc);
+    let names = Names {
+        read_only,
+        registry: &registry,
+    };
+    PipelinePlan::new(alloc, commands, names, map, strategy)
+}
+
+// A plan of commands of which none only reads.
+fn plan_of<'a>(
+    alloc: Global,
+    commands: &'a [Cmd],
+    map: &'a SlotMap,
+) -> Result<PipelinePlan<'a>, PipelineFault> {
+    plan_with(alloc, commands, &ReadOnlyNames::new(alloc), map, None)
+}
+
 // The batches of the commands of a text, or why there are none.
 fn planned(alloc: Global, map: &SlotMap, text: &str) -> Result<String, Fail> {
-    let registry = Registry::new(alloc);
     let commands = commands_of(alloc, text)?;
-    match PipelinePlan::new(alloc, commands.as_slice(), &registry, map) {
+    match plan_of(alloc, commands.as_slice(), map) {
         Ok(plan) => plan_text(alloc, &plan),
         Err(fault) => Ok(format!(in alloc; "{fault}")?),
     }
@@ -54,9 +78,8 @@ fn ints(alloc: Global, numbers: &[i64]) -> Result<Vec<Result<Value, RedisError>>
 // The replies of a plan of `GET a`, `EXISTS b a` and `DEL a b c`, told these numbers.
 fn replies_of(alloc: Global, told: &[(usize, &[i64])]) -> Result<String, Fail> {
     let map = map_of(alloc, &TWO_NODES)?;
-    let registry = Registry::new(alloc);
     let commands = commands_of(alloc, "GET a;EXISTS b a;DEL a b c")?;
-    let Ok(mut plan) = PipelinePlan::new(alloc, commands.as_slice(), &registry, &map) else {
+    let Ok(mut plan) = plan_of(alloc, commands.as_slice(), &map) else {
         return Err(Fail::from("no plan"));
     };
     let mut text = String::new(alloc);
@@ -107,6 +130,39 @@ fn ranges_of_one_node_are_one_batch(rt: HostRuntime) -> Result<(), Fail> {
     let map = map_of(alloc, &one)?;
     let given = planned(alloc, &map, "GET a;GET ")?;
     assert_eq!(&rt; given.as_str(), "n:1: GET a: GET ;");
+    Ok(())
+}
+
+// How often a strategy is asked for a plan of the commands of a text, of which those of these names
+// only read.
+fn asked(alloc: Global, names: &[&str], text: &str) -> Result<usize, Fail> {
+    let lines: [Line<'static>; 1] = [(0, 16383, "p:1", &["r:1"])];
+    let map = map_of(alloc, &lines)?;
+    let mut read_only = ReadOnlyNames::new(alloc);
+    for name in names {
+        read_only.insert(alloc, name.as_bytes())?;
+    }
+    let commands = commands_of(alloc, text)?;
+    let turns = Turns::new();
+    if plan_with(alloc, commands.as_slice(), &read_only, &map, Some(&turns)).is_err() {
+        return Err(Fail::from("no plan"));
+    }
+    Ok(turns.asked())
+}
+
+#[test]
+fn a_strategy_is_asked_once_for_a_slot_that_is_only_read(rt: HostRuntime) -> Result<(), Fail> {
+    let table: [(&[&str], &str, usize); 6] = [
+        (&["GET"], "GET a;GET {a}x;GET a", 1),
+        (&["GET", "MGET"], "GET a;MGET b a b;GET b", 2),
+        (&["GET", "MGET"], "GET a;MGET b a b;GET b;SET a 1", 1),
+        (&["GET"], "SET a 1;GET a", 0),
+        (&[], "GET a;GET b", 0),
+        (&["GET"], "", 0),
+    ];
+    for (names, text, want) in table {
+        assert_eq!(&rt; asked(rt.alloc(), names, text)?, want, "{text}");
+    }
     Ok(())
 }
 

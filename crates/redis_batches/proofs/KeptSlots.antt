@@ -11,7 +11,7 @@ use Rattle.redis_cluster.specs.Unsplit.{Step, Keyspace}
 use Rattle.redis_cluster.proofs.Counts.{same_number, times_here, times_there}
 use Rattle.redis_batches.specs.Served.{IsLocal}
 use Rattle.redis_batches.specs.Turns.{all_after, answers, of_slot, batch_by_batch}
-use Rattle.redis_batches.specs.Pipeline.{piece, piece_of, Answer, Serve, run, AreSlotsOf, Planned, Part, pieces, piece_answers, Numbered, numbered, slot_of, KeepsSlots}
+use Rattle.redis_batches.specs.Pipeline.{piece, piece_of, Answer, Serve, run, AreSlotsOf, Planned, Part, pieces, piece_answers, Numbered, numbered, slot_of, IsInterleaved, KeepsSlots}
 use Rattle.redis_batches.proofs.Lists.{filter_inside, filter_apart, all_by_slot}
 use Rattle.redis_batches.proofs.Schedule.{one_keyspace, answers_hold}
 use Rattle.redis_batches.proofs.Whole.{pieces_leave, pieces_answer, pieces_local}
@@ -84,6 +84,14 @@ batches_keep_slots batch count order names ps below = λ s.
       | inr large ↦ none_of_slot slot_of batch count s large (numbered ps) each ∙ sym (none_in_batches slot_of batch count s large order (numbered ps) each)
     ]
 
+-- So does any interleaving of the batches, each in its order.
+pub interleaved_keeps_slots : (batch : ℕ → ℕ) (ps : List Planned) (sent : List Numbered) → IsInterleaved batch ps sent → KeepsSlots ps sent
+interleaved_keeps_slots batch ps sent each s =
+    let own : (x : Numbered) → nat_eq (slot_of x) s ≡ true → nat_eq (batch (slot_of x)) (batch s) ≡ true = λ x is. under slot_of batch s x is in
+    sym (filter_inside (λ x. nat_eq (slot_of x) s) (λ x. nat_eq (batch (slot_of x)) (batch s)) own (numbered ps))
+    ∙ ap (of_slot slot_of s) (each (batch s))
+    ∙ filter_inside (λ x. nat_eq (slot_of x) s) (λ x. nat_eq (batch (slot_of x)) (batch s)) own sent
+
 module _ {C : Type 0} (step : Step C) (serve : Serve C) where
   -- numbers change nothing
   pub numbered_after : (n : ℕ) (xs : List Part) (ks : Keyspace C) → all_after (piece_of step serve) (enumerate_from n xs) ks ≡ all_after (piece step serve) xs ks
@@ -129,3 +137,11 @@ module _ {C : Type 0} (step : Step C) (serve : Serve C) where
     sent_answers = answers_hold slot_of (piece_of step serve) (numbered ps) sent local_all local_sent keeps ks (λ a. slice_get (piece_answers step serve ps ks) a.0.0 ≡ Some a.1)
         (numbered_answers 0 (piece_answers step serve ps ks) (pieces ps) ks
         (λ k. ap (slice_get (piece_answers step serve ps ks)) (omega arith) ∙ ap (λ l. slice_get l k) (sym (pieces_answer step serve ps are ks))))
+
+-- The parts of a pipeline, in any interleaving of the batches, leave and answer what its commands do where one server runs them one after the other.
+pub interleaved_as_one : {C : Type 0} (step : Step C) (serve : Serve C) (batch : ℕ → ℕ) (ps : List Planned) → All (λ p. AreSlotsOf p.task p.slots) ps → (sent : List Numbered) → IsInterleaved batch ps sent → (ks : Keyspace C)
+    → (all_after (piece_of step serve) sent ks ≡ all_after (λ p. run step serve p.task) ps ks)
+    × All (λ (a : Numbered × Answer). slice_get (piece_answers step serve ps ks) a.0.0 ≡ Some a.1) (answers (piece_of step serve) sent ks)
+interleaved_as_one step serve batch ps are sent each ks =
+    let keeps = interleaved_keeps_slots batch ps sent each in
+    (sent_leaves step serve ps are sent keeps ks, sent_answers step serve ps are sent keeps ks)

@@ -12,10 +12,17 @@ pub mod Entries
 pub mod Round
 pub mod OneServer
 pub mod Commands
+pub mod Written
+pub mod Choosing
 pub mod Placing
 pub mod Answered
 pub mod PutBack
 pub mod ServerReplies
 pub mod Untouched
+pub mod Fewest
 pub mod Planning
+pub mod Asked
+pub mod Untaken
+pub mod Counting
+pub mod Primaries
 pub mod Driving

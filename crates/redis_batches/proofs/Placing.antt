@@ -1,7 +1,7 @@
 -- Parts are placed one by one, up to the first whose slot has no node.
-use Rattle.std.proofs.Common.{◌≡◌, ◌<◌, ◌+◌, ℕ, List, [], ◌∷◌, ◌++◌, Some, Result, Ok, Err, IfErr, IsErrAnd, All, Bor, refl, sym, ap, subst, ◌∙◌, length, map, option_map, take, drop, get_or}
+use Rattle.std.proofs.Common.{◌≡◌, ◌<◌, ◌+◌, ℕ, List, [], ◌∷◌, ◌++◌, Option, Some, Result, Ok, Err, IfErr, IsErrAnd, OnOk, All, Bor, refl, sym, ap, subst, ◌∙◌, length, map, option_map, take, drop, get_or}
 use Rattle.std.specs.Prelude.{slice_get}
-use Rattle.std.specs.List.{flat_map}
+use Rattle.std.specs.List.{AllZip, flat_map}
 use Rattle.std.specs.declared.alloc.Global.{Global}
 use Rattle.std.specs.declared.vec.Vec.{Vec}
 use Rattle.std.proofs.lemmas.Grind.{flat_map-append}
@@ -17,37 +17,60 @@ use Rattle.redis_routing.specs.RoutingInfo.{route_lists}
 use Rattle.redis_routing.specs.Split.{Split, route_part, slots_of, split_part}
 use Rattle.redis_batches.specs.CommandTask.{SlotPart, slot_parts, slots_kept, split_parts}
 use Rattle.redis_batches.specs.PartArguments.{sent_args}
-use Rattle.redis_batches.specs.Placed.{AreIn, ArePlaced, IsFirstUncovered, IsFirstWithout, IsOwnFault, IsPartFault, IsPrimaryOf, Ranges}
+use Rattle.redis_batches.specs.Placed.{ArePlaced, IsFirstUncovered, IsFirstWithout, IsOwnFault, IsPartFault, IsSlotFault, Ranges}
+use Rattle.redis_batches.specs.Chosen.{AreIn, AreStill, IsChosen}
 use Rattle.redis_batches.specs.declared.part.PartCommand.{PartCommand}
 use Rattle.redis_batches.specs.declared.parts.Placed.{Placed}
 use Rattle.redis_batches.specs.declared.fault.PipelineFault.{PipelineFault}
 use Rattle.redis_batches.specs.declared.fault.PipelineFault.TheVariants.{NotRoutable, NotCovered, Memory}
 use Rattle.redis_batches.specs.declared.task.CommandTask.{CommandTask}
 use Rattle.redis_batches.proofs.ByNode.{at_drop, at_take}
+use Rattle.redis_batches.proofs.Choosing.{chosen_still}
 
 -- what holds of the error of a result that is one
 pub err_from : {T E : Type 0} (P Q : E → Type 0) (r : Result T E) → IsErrAnd r P → ((e : E) → P e → Q e) → IfErr r Q
 err_from P Q (Ok x) is gives = tt
 err_from P Q (Err e) is gives = gives e is
 
+-- what follows of a result that is no error, and of an error
+pub ok_weaker : {T E : Type 0} (r : Result T E) (P Q : Type 0) → (P → Q) → OnOk r P → OnOk r Q
+ok_weaker (Ok x) P Q gives is = gives is
+ok_weaker (Err e) P Q gives is = tt
+
+pub err_weaker : {T E : Type 0} (r : Result T E) (P Q : E → Type 0) → ((e : E) → P e → Q e) → IfErr r P → IfErr r Q
+err_weaker (Ok x) P Q gives is = tt
+err_weaker (Err e) P Q gives is = gives e is
+
+zip_weaker : {A B : Type 0} (R Q : A → B → Type 0) (xs : List A) (ys : List B) → ((x : A) (y : B) → R x y → Q x y) → AllZip R xs ys → AllZip Q xs ys
+zip_weaker R Q [] [] weaker each = tt
+zip_weaker R Q [] (y ∷ ys) weaker each = absurd each
+zip_weaker R Q (x ∷ xs) [] weaker each = absurd each
+zip_weaker R Q (x ∷ xs) (y ∷ ys) weaker each = (weaker x y each.0, zip_weaker R Q xs ys weaker each.1)
+
 -- one part more
-placed_more : (ranges : Ranges) (of : List SlotPart) (parts : List (List (List ℕ))) (nodes : List Address) (part : SlotPart) (args : List (List ℕ)) (node : Address) → map Some args ≡ part.1 → IsPrimaryOf ranges part.0 node
-    → ArePlaced ranges of parts nodes → ArePlaced ranges (of ++ part ∷ []) (parts ++ args ∷ []) (nodes ++ node ∷ [])
-placed_more ranges of parts nodes part args node same primary placed = record {
+placed_more : (is_node : ℕ → Address → Type 0) (of : List SlotPart) (parts : List (List (List ℕ))) (nodes : List Address) (part : SlotPart) (args : List (List ℕ)) (node : Address) → map Some args ≡ part.1 → is_node part.0 node
+    → ArePlaced is_node of parts nodes → ArePlaced is_node (of ++ part ∷ []) (parts ++ args ∷ []) (nodes ++ node ∷ [])
+placed_more is_node of parts nodes part args node same own placed = record {
   parts_are =
       map_push (map Some) parts args ∙ ap (λ l. l ++ map Some args ∷ []) placed.parts_are
       ∙ ap (λ a. map (λ (p : SlotPart). p.1) of ++ a ∷ []) same ∙ sym (map_push (λ (p : SlotPart). p.1) of part);
-  nodes_are = all_zipped_more (λ (p : SlotPart) (n : Address). IsPrimaryOf ranges p.0 n) of nodes part node placed.nodes_are primary;
+  nodes_are = all_zipped_more (λ (p : SlotPart) (n : Address). is_node p.0 n) of nodes part node placed.nodes_are own;
 }
 
 -- as vectors have them
-pub in_more : (ranges : Ranges) (of : List SlotPart) (old new : Placed) (part : SlotPart) (command : PartCommand) (node : Bor Address) → new.parts.items ≡ old.parts.items ++ command ∷ [] → new.nodes.items ≡ old.nodes.items ++ node ∷ []
-    → map Some (sent_args command) ≡ part.1 → IsPrimaryOf ranges part.0 node.now → AreIn ranges of old → AreIn ranges (of ++ part ∷ []) new
-in_more ranges of old new part command node parts nodes same primary placed =
+pub in_more : {S : Type 0} (strategy : Option S) (ranges : Ranges) (of : List SlotPart) (old new : Placed) (part : SlotPart) (command : PartCommand) (node : Bor Address) → new.parts.items ≡ old.parts.items ++ command ∷ [] → new.nodes.items ≡ old.nodes.items ++ node ∷ []
+    → AreStill old.chosen.entries new.chosen.entries → map Some (sent_args command) ≡ part.1 → IsChosen strategy ranges new.chosen.entries part.0 node.now → AreIn strategy ranges of old → AreIn strategy ranges (of ++ part ∷ []) new
+in_more strategy ranges of old new part command node parts nodes still same own placed =
     let now : Bor Address → Address = λ n. n.now in
-    subst (λ ps. ArePlaced ranges (of ++ part ∷ []) ps (map now new.nodes.items)) (sym (ap (map sent_args) parts ∙ map_push sent_args old.parts.items command))
-    (subst (ArePlaced ranges (of ++ part ∷ []) (map sent_args old.parts.items ++ sent_args command ∷ [])) (sym (ap (map now) nodes ∙ map_push now old.nodes.items node))
-    (placed_more ranges of (map sent_args old.parts.items) (map now old.nodes.items) part (sent_args command) node.now same primary placed))
+    let is_node : ℕ → Address → Type 0 = IsChosen strategy ranges new.chosen.entries in
+    let kept : ArePlaced is_node of (map sent_args old.parts.items) (map now old.nodes.items) = record {
+      parts_are = placed.parts_are;
+      nodes_are = zip_weaker (λ (p : SlotPart) (n : Address). IsChosen strategy ranges old.chosen.entries p.0 n) (λ (p : SlotPart) (n : Address). is_node p.0 n) of (map now old.nodes.items)
+          (λ p n is. chosen_still strategy ranges old.chosen.entries new.chosen.entries still p.0 n is) placed.nodes_are;
+    } in
+    subst (λ ps. ArePlaced is_node (of ++ part ∷ []) ps (map now new.nodes.items)) (sym (ap (map sent_args) parts ∙ map_push sent_args old.parts.items command))
+    (subst (ArePlaced is_node (of ++ part ∷ []) (map sent_args old.parts.items ++ sent_args command ∷ [])) (sym (ap (map now) nodes ∙ map_push now old.nodes.items node))
+    (placed_more is_node of (map sent_args old.parts.items) (map now old.nodes.items) part (sent_args command) node.now same own kept))
 
 -- a route as its split has it
 pub route_at : (routes : List (SlotRoute × Vec ℕ Global)) (split : Split) (i : ℕ) (route : SlotRoute × Vec ℕ Global) → i < length routes → route ≡ get_or routes i route → route_lists routes ≡ split.routes
@@ -82,14 +105,19 @@ first_without ranges slot xs i x at covered uncovered = record {
   uncovered = uncovered;
 }
 
--- the part of the next route is placed
-pub placed_next : (ranges : Ranges) (split : Split) (i : ℕ) (route : SlotRoute × List ℕ) (of : List SlotPart) (old new : Placed) (command : PartCommand) (node : Bor Address) → slice_get split.routes i ≡ Some route
-    → new.parts.items ≡ old.parts.items ++ command ∷ [] → new.nodes.items ≡ old.nodes.items ++ node ∷ [] → map Some (sent_args command) ≡ split_part split route.0.slot → IsPrimaryOf ranges route.0.slot node.now
-    → AreIn ranges (of ++ take i (split_parts split)) old → AreIn ranges (of ++ take (i + 1) (split_parts split)) new
-placed_next ranges split i route of old new command node at parts nodes same primary before =
-    let part : SlotPart = (route.0.slot, split_part split route.0.slot) in
-    subst (λ ps. AreIn ranges ps new) (append_assoc of (take i (split_parts split)) (part ∷ []) ∙ ap (λ l. of ++ l) (sym (parts_next split i route at)))
-    (in_more ranges (of ++ take i (split_parts split)) old new part command node parts nodes same primary before)
+-- the part of the next route comes behind those before
+pub parts_behind : (split : Split) (i : ℕ) (route : SlotRoute × List ℕ) (of : List SlotPart) (part : SlotPart) → slice_get split.routes i ≡ Some route → part ≡ (route.0.slot, split_part split route.0.slot)
+    → (of ++ take i (split_parts split)) ++ part ∷ [] ≡ of ++ take (i + 1) (split_parts split)
+parts_behind split i route of part at same =
+    append_assoc of (take i (split_parts split)) (part ∷ []) ∙ ap (λ p. of ++ (take i (split_parts split) ++ p ∷ [])) same ∙ ap (λ l. of ++ l) (sym (parts_next split i route at))
+
+-- why a part of a command can't be placed, after those that could be
+pub own_fault : (ranges : Ranges) (number : ℕ) {X : Type 0} (slot : X → ℕ) (xs : List X) (i : ℕ) (x : X) (fault : PipelineFault) → slice_get xs i ≡ Some x → All (IsCovered ranges) (take i (map slot xs))
+    → IsSlotFault ranges (slot x) number fault → IsOwnFault ranges (map slot xs) number fault
+own_fault ranges number slot xs i x (NotRoutable other) at covered is = absurd is
+own_fault ranges number slot xs i x Memory at covered is = tt
+own_fault ranges number slot xs i x (NotCovered other own) at covered is =
+    (is.0, subst (IsFirstWithout ranges (map slot xs)) (sym is.1) (first_without ranges slot xs i x at covered is.2))
 
 -- why the parts of one command can't be placed, after those that could be
 pub fault_of_command : (ranges : Ranges) (tasks : List CommandTask) (i : ℕ) (task : CommandTask) (fault : PipelineFault) → i < length tasks → task ≡ get_or tasks i task
@@ -105,12 +133,10 @@ fault_of_command ranges tasks i task (NotCovered number slot) within is covered 
     })
 
 -- one command more
-pub command_next : (ranges : Ranges) (tasks : List CommandTask) (i : ℕ) (task : CommandTask) (new : Placed) → i < length tasks → task ≡ get_or tasks i task
-    → AreIn ranges (flat_map slot_parts (take i tasks) ++ slot_parts task) new → AreIn ranges (flat_map slot_parts (take (i + 1) tasks)) new
-command_next ranges tasks i task new within is placed =
-    subst (λ l. AreIn ranges l new)
-    (sym (ap (flat_map slot_parts) (take_more tasks i task within ∙ ap (λ t. take i tasks ++ t ∷ []) (sym is)) ∙ flat_map-append slot_parts (take i tasks) (task ∷ []) ∙ ap (λ l. flat_map slot_parts (take i tasks) ++ l) (append-nil (slot_parts task))))
-    placed
+pub command_next : (tasks : List CommandTask) (i : ℕ) (task : CommandTask) → i < length tasks → task ≡ get_or tasks i task → flat_map slot_parts (take i tasks) ++ slot_parts task ≡ flat_map slot_parts (take (i + 1) tasks)
+command_next tasks i task within is =
+    sym (ap (flat_map slot_parts) (take_more tasks i task within ∙ ap (λ t. take i tasks ++ t ∷ []) (sym is)) ∙ flat_map-append slot_parts (take i tasks) (task ∷ [])
+    ∙ ap (λ l. flat_map slot_parts (take i tasks) ++ l) (append-nil (slot_parts task)))
 
 pub commands_covered : (ranges : Ranges) (tasks : List CommandTask) (i : ℕ) (task : CommandTask) → i < length tasks → task ≡ get_or tasks i task → All (λ t. All (IsCovered ranges) (slots_kept t)) (take i tasks)
     → All (IsCovered ranges) (slots_kept task) → All (λ t. All (IsCovered ranges) (slots_kept t)) (take (i + 1) tasks)

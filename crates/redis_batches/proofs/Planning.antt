@@ -2,6 +2,7 @@
 use Rattle.std.proofs.Common.{◌≡◌, ◌<◌, ◌≤◌, ◌+◌, ℕ, zero, suc, List, [], ◌∷◌, ◌++◌, Bool, true, false, cond, Some, All, refl, sym, ap, subst, ◌∙◌, arith, map, length, get_or}
 use Rattle.std.specs.Prelude.{nat_eq}
 use Rattle.std.specs.List.{AllZip, flat_map, list_any, sum_by}
+use Rattle.std.specs.Option.{option_map_or}
 use Rattle.std.proofs.lemmas.Bool.{eqb-true}
 use Rattle.std.proofs.lemmas.List.{length-append, length-map}
 use Rattle.std.proofs.lemmas.List.Sums.{sum_by-cons}
@@ -9,9 +10,7 @@ use Rattle.std.proofs.lemmas.List.Elements.{All-nil, All-cons, All-head, All-tai
 use Rattle.resp_core.proofs.Cases.{by_test, or_second}
 use Rattle.cluster_slots.specs.Address.{Address}
 use Rattle.cluster_slots.specs.KeySlot.{key_slot}
-use Rattle.cluster_map.specs.RangeMap.{Ascends}
-use Rattle.cluster_map.proofs.Ranges.{IsAnswerAt-unique}
-use Rattle.redis_routing.specs.Names.{names_of}
+use Rattle.redis_routing.specs.Names.{Names, names_of}
 use Rattle.redis_routing.specs.Registry.{Registrations}
 use Rattle.redis_routing.specs.Routing.{routing}
 use Rattle.redis_routing.specs.Split.{Split, slots_of, split_part}
@@ -27,7 +26,9 @@ use Rattle.redis_batches.specs.Taken.{slot_routed, task_of, task_with}
 use Rattle.redis_batches.specs.Tasks.{IsSplitOfTask, slots_of_task, with_slots}
 use Rattle.redis_batches.specs.CommandTask.{IsKeptOf, IsTaskFor, SlotPart, slot_parts, slots_kept, split_in, split_parts}
 use Rattle.redis_batches.specs.Pipelined.{IsTaskFault}
-use Rattle.redis_batches.specs.Placed.{ArePlaced, IsPartFault, IsPrimaryOf, Ranges}
+use Rattle.redis_batches.specs.Placed.{ArePlaced, IsPartFault, Ranges}
+use Rattle.redis_batches.specs.Reads.{only_reads, slots_of_command, slots_written}
+use Rattle.redis_batches.specs.Chosen.{all_written}
 use Rattle.redis_batches.specs.PipelinePlan.{IsPlanFault, IsPlanOfCommands, PipelineBatches, pieces_of}
 use Rattle.redis_batches.specs.Plan.{Batches, IsByNode, IsPlan}
 use Rattle.redis_batches.specs.Replies.{part_count}
@@ -104,15 +105,15 @@ meant registered (a ∷ parts) (p ∷ of) (q ∷ qs) same each =
     ap (λ t. t ∷ map (task_of registered) parts) (each.0.1 a (same_head same)) ∙ ap (λ l. Some q.task ∷ l) (meant registered parts of qs (same_tail same) each.1)
 
 -- the nodes of the parts
-nodes_of : (ranges : Ranges) (registered : Registrations) (of : List SlotPart) (qs : List Part) (nodes : List Address) → AllZip (λ p node. IsPrimaryOf ranges p.0 node) of nodes → AllZip (IsPartOf registered) of qs
-    → AllZip (λ q node. IsPrimaryOf ranges q.slot node) qs nodes
-nodes_of ranges registered [] [] [] placed each = tt
-nodes_of ranges registered [] (q ∷ qs) nodes placed each = absurd each
-nodes_of ranges registered [] [] (n ∷ nodes) placed each = absurd placed
-nodes_of ranges registered (p ∷ of) [] nodes placed each = absurd each
-nodes_of ranges registered (p ∷ of) (q ∷ qs) [] placed each = absurd placed
-nodes_of ranges registered (p ∷ of) (q ∷ qs) (n ∷ nodes) placed each =
-    (subst (λ slot. IsPrimaryOf ranges slot n) each.0.0 placed.0, nodes_of ranges registered of qs nodes placed.1 each.1)
+nodes_of : (is_node : ℕ → Address → Type 0) (registered : Registrations) (of : List SlotPart) (qs : List Part) (nodes : List Address) → AllZip (λ p node. is_node p.0 node) of nodes → AllZip (IsPartOf registered) of qs
+    → AllZip (λ q node. is_node q.slot node) qs nodes
+nodes_of is_node registered [] [] [] placed each = tt
+nodes_of is_node registered [] (q ∷ qs) nodes placed each = absurd each
+nodes_of is_node registered [] [] (n ∷ nodes) placed each = absurd placed
+nodes_of is_node registered (p ∷ of) [] nodes placed each = absurd each
+nodes_of is_node registered (p ∷ of) (q ∷ qs) [] placed each = absurd placed
+nodes_of is_node registered (p ∷ of) (q ∷ qs) (n ∷ nodes) placed each =
+    (subst (λ slot. is_node slot n) each.0.0 placed.0, nodes_of is_node registered of qs nodes placed.1 each.1)
 
 -- the node of the first part of a slot
 node_in : List Part → List Address → ℕ → Address
@@ -120,28 +121,28 @@ node_in [] nodes slot = record { host = []; port = 0 }
 node_in (q ∷ qs) [] slot = record { host = []; port = 0 }
 node_in (q ∷ qs) (n ∷ nodes) slot = cond (nat_eq q.slot slot) n (node_in qs nodes slot)
 
-primary_in : (ranges : Ranges) (qs : List Part) (nodes : List Address) → AllZip (λ q node. IsPrimaryOf ranges q.slot node) qs nodes → (slot : ℕ) → list_any (λ q. nat_eq q.slot slot) qs ≡ true
-    → IsPrimaryOf ranges slot (node_in qs nodes slot)
+own_in : (is_node : ℕ → Address → Type 0) (qs : List Part) (nodes : List Address) → AllZip (λ q node. is_node q.slot node) qs nodes → (slot : ℕ) → list_any (λ q. nat_eq q.slot slot) qs ≡ true
+    → is_node slot (node_in qs nodes slot)
 unfolding node_in
-primary_in ranges [] nodes each slot there = absurd (cc there)
-primary_in ranges (q ∷ qs) [] each slot there = absurd each
-primary_in ranges (q ∷ qs) (n ∷ nodes) each slot there =
+own_in is_node [] nodes each slot there = absurd (cc there)
+own_in is_node (q ∷ qs) [] each slot there = absurd each
+own_in is_node (q ∷ qs) (n ∷ nodes) each slot there =
     by_test (nat_eq q.slot slot)
-    (λ here. rw here (subst (λ s. IsPrimaryOf ranges s n) (eqb-true q.slot slot here) each.0))
-    (λ away. rw away (primary_in ranges qs nodes each.1 slot (rw away at there)))
+    (λ here. rw here (subst (λ s. is_node s n) (eqb-true q.slot slot here) each.0))
+    (λ away. rw away (own_in is_node qs nodes each.1 slot (rw away at there)))
 
--- a slot has one primary
-one_primary : (ranges : Ranges) → Ascends ranges → (slot : ℕ) (a b : Address) → IsPrimaryOf ranges slot a → IsPrimaryOf ranges slot b → a ≡ b
-one_primary ranges ascends slot a b is_a is_b = is_a.2 ∙ ap (λ n. n.primary) (IsAnswerAt-unique ranges slot is_a.0 is_b.0 ascends is_a.1 is_b.1) ∙ sym is_b.2
+-- each slot has one
+abbrev IsOne : (ℕ → Address → Type 0) → Type 0
+IsOne is_node = (slot : ℕ) (a b : Address) → is_node slot a → is_node slot b → a ≡ b
 
-same_nodes : (ranges : Ranges) → Ascends ranges → (node : ℕ → Address) (qs : List Part) (nodes : List Address) → AllZip (λ q n. IsPrimaryOf ranges q.slot n) qs nodes → All (λ q. IsPrimaryOf ranges q.slot (node q.slot)) qs
+same_nodes : (is_node : ℕ → Address → Type 0) → IsOne is_node → (node : ℕ → Address) (qs : List Part) (nodes : List Address) → AllZip (λ q n. is_node q.slot n) qs nodes → All (λ q. is_node q.slot (node q.slot)) qs
     → nodes ≡ map (λ q. node q.slot) qs
-same_nodes ranges ascends node [] [] each all = refl
-same_nodes ranges ascends node [] (n ∷ nodes) each all = absurd each
-same_nodes ranges ascends node (q ∷ qs) [] each all = absurd each
-same_nodes ranges ascends node (q ∷ qs) (n ∷ nodes) each all =
-    ap (λ m. m ∷ nodes) (one_primary ranges ascends q.slot n (node q.slot) each.0 (All-head (λ r. IsPrimaryOf ranges r.slot (node r.slot)) q qs all))
-    ∙ ap (λ l. node q.slot ∷ l) (same_nodes ranges ascends node qs nodes each.1 (All-tail (λ r. IsPrimaryOf ranges r.slot (node r.slot)) q qs all))
+same_nodes is_node one node [] [] each all = refl
+same_nodes is_node one node [] (n ∷ nodes) each all = absurd each
+same_nodes is_node one node (q ∷ qs) [] each all = absurd each
+same_nodes is_node one node (q ∷ qs) (n ∷ nodes) each all =
+    ap (λ m. m ∷ nodes) (one q.slot n (node q.slot) each.0 (All-head (λ r. is_node r.slot (node r.slot)) q qs all))
+    ∙ ap (λ l. node q.slot ∷ l) (same_nodes is_node one node qs nodes each.1 (All-tail (λ r. is_node r.slot (node r.slot)) q qs all))
 
 -- their slots
 slots_of_kept : (registered : Registrations) (task : Task) (kept : CommandTask) → IsKeptOf registered task kept → slots_kept kept ≡ slots_of_task task
@@ -166,34 +167,56 @@ counts_of_kept (k ∷ kept) =
     length-append (slot_parts k) (flat_map slot_parts kept) ∙ ap (λ n. n + length (flat_map slot_parts kept)) (count_of_kept k) ∙ ap (λ n. part_count (split_in k) + n) (counts_of_kept kept)
     ∙ sym (sum_by-cons part_count (split_in k) (map split_in kept))
 
-pub has_parts : (ranges : Ranges) (kept : List CommandTask) (parts : List (List (List ℕ))) (nodes : List Address) → ArePlaced ranges (flat_map slot_parts kept) parts nodes → sum_by part_count (map split_in kept) ≡ length parts
-has_parts ranges kept parts nodes placed =
+pub has_parts : (is_node : ℕ → Address → Type 0) (kept : List CommandTask) (parts : List (List (List ℕ))) (nodes : List Address) → ArePlaced is_node (flat_map slot_parts kept) parts nodes → sum_by part_count (map split_in kept) ≡ length parts
+has_parts is_node kept parts nodes placed =
     sym (counts_of_kept kept) ∙ sym (length-map (flat_map slot_parts kept) (λ p. p.1)) ∙ sym (ap length placed.parts_are) ∙ length-map parts (map Some)
 
 -- there are as many nodes as parts
-pub as_many : (ranges : Ranges) (of : List SlotPart) (nodes : List Address) → AllZip (λ p node. IsPrimaryOf ranges p.0 node) of nodes → length nodes ≡ length of
-as_many ranges [] [] each = refl
-as_many ranges [] (n ∷ nodes) each = absurd each
-as_many ranges (p ∷ of) [] each = absurd each
-as_many ranges (p ∷ of) (n ∷ nodes) each = ap suc (as_many ranges of nodes each.1)
+as_many : (is_node : ℕ → Address → Type 0) (of : List SlotPart) (nodes : List Address) → AllZip (λ p node. is_node p.0 node) of nodes → length nodes ≡ length of
+as_many is_node [] [] each = refl
+as_many is_node [] (n ∷ nodes) each = absurd each
+as_many is_node (p ∷ of) [] each = absurd each
+as_many is_node (p ∷ of) (n ∷ nodes) each = ap suc (as_many is_node of nodes each.1)
 
-pub nodes_for_parts : (ranges : Ranges) (of : List SlotPart) (parts : List (List (List ℕ))) (nodes : List Address) → ArePlaced ranges of parts nodes → length nodes ≡ length parts
-nodes_for_parts ranges of parts nodes placed =
-    as_many ranges of nodes placed.nodes_are ∙ sym (length-map of (λ p. p.1)) ∙ sym (ap length placed.parts_are) ∙ length-map parts (map Some)
+pub nodes_for_parts : (is_node : ℕ → Address → Type 0) (of : List SlotPart) (parts : List (List (List ℕ))) (nodes : List Address) → ArePlaced is_node of parts nodes → length nodes ≡ length parts
+nodes_for_parts is_node of parts nodes placed =
+    as_many is_node of nodes placed.nodes_are ∙ sym (length-map of (λ p. p.1)) ∙ sym (ap length placed.parts_are) ∙ length-map parts (map Some)
 
--- The plan of commands.
-pub is_plan_of : (registered : Registrations) (ranges : Ranges) (commands : List (List (List ℕ))) (kept : List CommandTask) (batches : Batches) (nodes : List Address) → Ascends ranges
-    → AllZip (IsTaskFor registered) commands kept → ArePlaced ranges (flat_map slot_parts kept) batches.parts nodes → IsByNode batches nodes
-    → IsPlanOfCommands registered ranges commands (record { splits = map split_in kept; batches = batches })
-is_plan_of registered ranges commands kept batches nodes ascends each placed by_node =
+-- the parts as a plan has them
+pub placed_parts : (is_node : ℕ → Address → Type 0) (tasks kept : List CommandTask) (made parts : List (List (List ℕ))) (nodes : List Address) → tasks ≡ kept → parts ≡ made → ArePlaced is_node (flat_map slot_parts tasks) made nodes
+    → ArePlaced is_node (flat_map slot_parts kept) parts nodes
+placed_parts is_node tasks kept made parts nodes is same placed =
+    subst (λ ps. ArePlaced is_node (flat_map slot_parts kept) ps nodes) (sym same) (subst (λ ks. ArePlaced is_node (flat_map slot_parts ks) made nodes) is placed)
+
+-- there are as many tasks as commands
+pub tasks_long : (registered : Registrations) (commands : List (List (List ℕ))) (kept : List CommandTask) → AllZip (IsTaskFor registered) commands kept → length kept ≡ length commands
+tasks_long registered [] [] each = refl
+tasks_long registered [] (k ∷ kept) each = absurd each
+tasks_long registered (a ∷ commands) [] each = absurd each
+tasks_long registered (a ∷ commands) (k ∷ kept) each = ap suc (tasks_long registered commands kept each.1)
+
+-- The slots that may be written to, by what is kept of the commands.
+pub written_is : (names : Names) (commands : List (List (List ℕ))) (kept : List CommandTask) → AllZip (IsTaskFor names.registered) commands kept → all_written names.only_reads commands kept ≡ flat_map (slots_written names) commands
+written_is names [] [] each = refl
+written_is names [] (k ∷ kept) each = absurd each
+written_is names (a ∷ commands) [] each = absurd each
+written_is names (a ∷ commands) (k ∷ kept) each =
+    let slots : slots_kept k ≡ slots_of_command names.registered a = slots_of_kept names.registered each.0.0 k each.0.2 ∙ sym (ap (λ t. option_map_or slots_of_task t []) each.0.1) in
+    ap (λ own. cond (only_reads names.only_reads a) [] own ++ all_written names.only_reads commands kept) slots ∙ ap (λ l. slots_written names a ++ l) (written_is names commands kept each.1)
+
+-- The plan of commands. Each slot has one node among those that were chosen, which is one that it may have.
+pub is_plan_of : (registered : Registrations) (chosen is_node : ℕ → Address → Type 0) (commands : List (List (List ℕ))) (kept : List CommandTask) (batches : Batches) (nodes : List Address) → IsOne chosen
+    → ((slot : ℕ) (node : Address) → chosen slot node → is_node slot node) → AllZip (IsTaskFor registered) commands kept → ArePlaced chosen (flat_map slot_parts kept) batches.parts nodes → IsByNode batches nodes
+    → IsPlanOfCommands registered is_node commands (record { splits = map split_in kept; batches = batches })
+is_plan_of registered chosen is_node commands kept batches nodes one may each placed by_node =
     let found = tasks_from registered commands kept each in
     let tasks : List Task = found.0 in
     let qs : List Part = pieces_of tasks in
     let parts = parts_of_kept registered tasks kept found.2 in
-    let at : AllZip (λ q node. IsPrimaryOf ranges q.slot node) qs nodes = nodes_of ranges registered (flat_map slot_parts kept) qs nodes placed.nodes_are parts in
+    let at : AllZip (λ q node. chosen q.slot node) qs nodes = nodes_of chosen registered (flat_map slot_parts kept) qs nodes placed.nodes_are parts in
     let node : ℕ → Address = λ slot. node_in qs nodes slot in
-    let all : All (λ q. IsPrimaryOf ranges q.slot (node q.slot)) qs =
-    All-weaker (λ (q : Part). list_any (λ r. nat_eq r.slot q.slot) qs ≡ true) (λ q. IsPrimaryOf ranges q.slot (node q.slot)) (λ q there. primary_in ranges qs nodes at q.slot there) qs (all_there (λ (q : Part). q.slot) qs) in
+    let all : All (λ q. chosen q.slot (node q.slot)) qs =
+    All-weaker (λ (q : Part). list_any (λ r. nat_eq r.slot q.slot) qs ≡ true) (λ q. chosen q.slot (node q.slot)) (λ q there. own_in chosen qs nodes at q.slot there) qs (all_there (λ (q : Part). q.slot) qs) in
     record {
       tasks = tasks;
       tasks_are = found.1;
@@ -201,8 +224,8 @@ is_plan_of registered ranges commands kept batches nodes ascends each placed by_
       parts_are = meant registered batches.parts (flat_map slot_parts kept) qs placed.parts_are parts;
       arguments = placed.parts_are ∙ found.3;
       node_of = node;
-      primaries = all;
-      by_node = subst (IsByNode batches) (same_nodes ranges ascends node qs nodes at all) by_node;
+      nodes_are = All-weaker (λ (q : Part). chosen q.slot (node q.slot)) (λ q. is_node q.slot (node q.slot)) (λ q is. may q.slot (node q.slot) is) qs all;
+      by_node = subst (IsByNode batches) (same_nodes chosen one node qs nodes at all) by_node;
     }
 
 -- why there is none
@@ -248,18 +271,18 @@ slots_of_all [] = All-nil (λ (p : Planned). AreSlotsOf p.task p.slots)
 slots_of_all (task ∷ tasks) = All-cons (λ (p : Planned). AreSlotsOf p.task p.slots) (with_slots task) (map with_slots tasks) (slots_of_one task) (slots_of_all tasks)
 
 -- A plan of commands has the batches of the pipeline, so it can be sent.
-pub plan_has_batches : (registered : Registrations) (ranges : Ranges) (commands : List (List (List ℕ))) (plan : PipelineBatches) → IsPlan plan.batches → (is : IsPlanOfCommands registered ranges commands plan)
+pub plan_has_batches : (registered : Registrations) (is_node : ℕ → Address → Type 0) (commands : List (List (List ℕ))) (plan : PipelineBatches) → IsPlan plan.batches → (is : IsPlanOfCommands registered is_node commands plan)
     → AreBatches registered (map with_slots is.tasks) plan.batches.parts plan.batches.places
-plan_has_batches registered ranges commands plan whole is =
+plan_has_batches registered is_node commands plan whole is =
     by_node_batches registered (map with_slots is.tasks) plan.batches (map (λ q. is.node_of q.slot) (pieces_of is.tasks)) is.node_of refl is.parts_are (sym whole.nodes) is.by_node
 
 -- The batch of a part's slot goes to the node of the slot.
-pub own_nodes : (registered : Registrations) (ranges : Ranges) (commands : List (List (List ℕ))) (plan : PipelineBatches) (whole : IsPlan plan.batches) (is : IsPlanOfCommands registered ranges commands plan)
-    → All (λ q. node_at plan.batches.nodes ((plan_has_batches registered ranges commands plan whole is).batch q.slot) ≡ is.node_of q.slot) (pieces_of is.tasks)
+pub own_nodes : (registered : Registrations) (is_node : ℕ → Address → Type 0) (commands : List (List (List ℕ))) (plan : PipelineBatches) (whole : IsPlan plan.batches) (is : IsPlanOfCommands registered is_node commands plan)
+    → All (λ q. node_at plan.batches.nodes ((plan_has_batches registered is_node commands plan whole is).batch q.slot) ≡ is.node_of q.slot) (pieces_of is.tasks)
 unfolding plan_has_batches
-own_nodes registered ranges commands plan whole is =
+own_nodes registered is_node commands plan whole is =
     let nodes = plan.batches.nodes in
-    let batches = plan_has_batches registered ranges commands plan whole is in
+    let batches = plan_has_batches registered is_node commands plan whole is in
     let number : (slot : ℕ) → batches.batch slot ≡ index_of (is.node_of slot) nodes =
     λ slot. batch_by_node registered (map with_slots is.tasks) plan.batches (map (λ q. is.node_of q.slot) (pieces_of is.tasks)) is.node_of refl is.parts_are (sym whole.nodes) is.by_node slot in
     All-weaker (λ (q : Part). batches.batch q.slot < length plan.batches.places) (λ q. node_at nodes (batches.batch q.slot) ≡ is.node_of q.slot)

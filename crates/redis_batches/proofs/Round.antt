@@ -20,7 +20,7 @@ use Rattle.redis_batches.specs.Pipeline.{Answer, Serve, Task, AreSlotsOf, Planne
 use Rattle.redis_batches.specs.Taken.{answer_of, task_of, AreAllowed, AreServed, IsTaken, batch_entries}
 use Rattle.redis_batches.specs.Driven.{node_at, IsServed, AreTaken}
 use Rattle.redis_cluster.specs.Trace.{Entry, Ending}
-use Rattle.redis_cluster.specs.Driven.{State}
+use Rattle.redis_cluster.specs.State.{State}
 use Rattle.cluster_slots.specs.Address.{Address}
 use Rattle.redis_batches.proofs.Entries.{own_entries, entries_agree, allowed_append, map_agree_on}
 use Rattle.redis_batches.specs.Batched.{numbers_in, part_entry, AreBatches, IsRight, AreFor}

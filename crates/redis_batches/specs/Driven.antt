@@ -1,15 +1,19 @@
 -- How the batches of a pipeline were sent, and what they leave and answer.
-use Rattle.std.specs.Prelude.{◌≡◌, ◌≤◌, ◌++◌, ℕ, List, [], map, length, get_or}
+use Rattle.std.specs.Prelude.{◌≡◌, ◌≤◌, ◌⊎◌, ◌++◌, ◌∷◌, ℕ, List, [], Some, map, length, get_or, slice_get, take}
 use Rattle.resp_core.specs.ErrorParts.{ErrorParts}
 use Rattle.cluster_slots.specs.Address.{Address}
-use Rattle.redis_cluster.specs.Trace.{Ending, refused}
+use Rattle.redis_routing.specs.Registry.{Registrations}
+use Rattle.redis_cluster.specs.Orders.{in_order}
+use Rattle.redis_cluster.specs.Trace.{Ending, answered, refused}
 use Rattle.redis_cluster.specs.Unsplit.{Step}
-use Rattle.redis_cluster.specs.Driven.{State}
+use Rattle.redis_cluster.specs.State.{State}
 use Rattle.redis_batches.specs.Turns.{all_after, answers, batch_by_batch}
 use Rattle.redis_batches.specs.Pipeline.{Answer, Serve, Planned, Numbered, numbered, slot_of, Refusals, ended}
-use Rattle.redis_batches.specs.Batched.{part_entry}
+use Rattle.redis_batches.specs.Batched.{numbers_in, part_entry}
 use Rattle.redis_cluster.specs.declared.nodes.SendError.{SendError}
-use Rattle.redis_batches.specs.Taken.{AreAllowed, IsIdle}
+use Rattle.redis_cluster.specs.declared.nodes.SendError.TheVariants.{Memory}
+use Rattle.redis_batches.specs.Plan.{Batches}
+use Rattle.redis_batches.specs.Taken.{AreAllowed, Batch, IsNotTaken, batch_for}
 
 -- the node at a number of a list
 abbrev pub node_at : List Address → ℕ → Address
@@ -50,12 +54,33 @@ abbrev pub NeverRefuses : (ℕ → Ending → Type 0) → ℕ → Type 0
 NeverRefuses may_refuse from =
     (place : ℕ) (error : ErrorParts) → from ≤ place → may_refuse place (refused error) → ⊥
 
--- Batches of these numbers were taken, and then one was not: it did nothing, or its answers were
--- lost.
-pub record WasStopped {C : Type 0} (step : Step C) (serve : Serve C) (kept : Type 0)
-    (may_refuse : ℕ → Ending → Type 0) (ps : List Planned) (parts : List (List (List ℕ)))
-    (nodes : List Address) (batch : ℕ → ℕ) (order : List ℕ) (old new : State C) (error : SendError)
-    : Type 0 where
+-- from this place in the trace on, nodes may do nothing but answer
+abbrev pub AlwaysAnswers : (ℕ → Ending → Type 0) → ℕ → Type 0
+AlwaysAnswers may_refuse from =
+    (place : ℕ) (ending : Ending) → from ≤ place → may_refuse place ending → ending ≡ answered
+
+-- The first batches of the order were taken, so many, and then the next one was not: as its node
+-- may, or for want of memory.
+pub record WasStopped {C : Type 0} (step : Step C) (serve : Serve C) (registered : Registrations)
+    (kept : Type 0) (may_refuse : ℕ → Ending → Type 0) (ps : List Planned)
+    (parts : List (List (List ℕ))) (nodes : List Address) (batch : ℕ → ℕ) (order : List ℕ)
+    (old new : State C) (many : ℕ) (error : SendError) : Type 0 where
   pub between : State C
-  pub taken : AreTaken step serve kept may_refuse ps parts nodes batch order old between
-  pub idle : IsIdle kept between new error
+  pub taken : AreTaken step serve kept may_refuse ps parts nodes batch (take many order) old between
+  pub number : ℕ
+  pub next : slice_get order many ≡ Some number
+  pub untaken : IsNotTaken step serve registered kept may_refuse (node_at nodes number)
+      (in_order parts (numbers_in batch ps number)) between new error
+
+-- the batch of this number
+abbrev pub batch_at : Batches → ℕ → Batch
+batch_at plan k = batch_for (node_at plan.nodes k) (in_order plan.parts (get_or plan.places k []))
+
+-- These batches were sent, one after the other, each once, and no others.
+abbrev pub WereAsked : (old new : List Batch → Type 0) → List Batch → Type 0
+WereAsked old new sent = (before : List Batch) → old before → new (before ++ sent)
+
+-- These were sent, and then this one, unless memory ran out before.
+abbrev pub WereAskedUntil : (old new : List Batch → Type 0) → List Batch → Batch → SendError → Type 0
+WereAskedUntil old new sent last error =
+    WereAsked old new (sent ++ last ∷ []) ⊎ ((error ≡ Memory) × WereAsked old new sent)

@@ -1,27 +1,30 @@
 -- How a pipeline was sent batch by batch, and its replies.
-use Rattle.std.specs.Prelude.{◌≡◌, ◌<◌, ℕ, List, map, length, take}
+use Rattle.std.specs.Prelude.{◌≡◌, ◌<◌, ◌⊎◌, ℕ, List, Bool, true, map, length, take, get_or}
 use Rattle.std.specs.List.{All}
+use Rattle.cluster_slots.specs.Address.{Address}
 use Rattle.redis_routing.specs.Registry.{Registrations}
 use Rattle.redis_cluster.specs.Orders.{NamesOnce}
 use Rattle.redis_cluster.specs.Trace.{Ending}
 use Rattle.redis_cluster.specs.Unsplit.{Step}
-use Rattle.redis_cluster.specs.Driven.{State}
+use Rattle.redis_cluster.specs.State.{State}
 use Rattle.redis_batches.specs.Turns.{all_after}
 use Rattle.redis_batches.specs.Pipeline.{Answer, Serve, Task, one_server_answers, run}
 use Rattle.redis_batches.specs.Tasks.{AreTasksOf, with_slots}
 use Rattle.redis_batches.specs.Batched.{AreBatches}
-use Rattle.redis_batches.specs.Driven.{IsServed, WasStopped, node_at}
+use Rattle.redis_batches.specs.Driven.{IsServed, WasStopped, WereAsked, WereAskedUntil, batch_at, node_at}
 use Rattle.redis_batches.specs.Placed.{Ranges}
 use Rattle.redis_batches.specs.PipelinePlan.{IsPlanFault, IsPlanOfCommands, PipelineBatches, pieces_of}
 use Rattle.redis_batches.specs.Replies.{AreRepliesTo, AreUntouched}
+use Rattle.redis_batches.specs.Taken.{Batch}
+use Rattle.redis_cluster.specs.declared.nodes.SendError.TheVariants as sent
 use Rattle.redis_batches.specs.declared.fault.PipelineError.{PipelineError}
 use Rattle.redis_batches.specs.declared.fault.PipelineError.TheVariants.{Plan, BadOrder, Node, Memory}
 
 -- A plan of commands can be sent in an order that names each of its batches once. The batch of a
 -- slot goes to the node of the slot.
-pub record IsSendable (registered : Registrations) (ranges : Ranges)
+pub record IsSendable (registered : Registrations) (is_node : ℕ → Address → Type 0)
     (commands : List (List (List ℕ))) (order : List ℕ) (plan : PipelineBatches) : Type 0 where
-  pub of_commands : IsPlanOfCommands registered ranges commands plan
+  pub of_commands : IsPlanOfCommands registered is_node commands plan
   pub order_is : NamesOnce (length plan.batches.places) order
   pub batches : AreBatches registered (map with_slots of_commands.tasks) plan.batches.parts
       plan.batches.places
@@ -38,23 +41,24 @@ IsOneServer step serve registered commands old new replies =
     × (replies ≡ one_server_answers step serve (map with_slots tasks) old.keyspace)
 
 -- why nothing is sent: there is no plan, or the order does not name each of its batches once
-abbrev pub IsEarlyFault : Registrations → Ranges → List (List (List ℕ)) → List ℕ → PipelineError
-    → Type 0
-IsEarlyFault registered ranges commands order (Plan fault) =
+abbrev pub IsEarlyFault : Registrations → Ranges → (ℕ → Address → Type 0)
+    → List (List (List ℕ)) → List ℕ → PipelineError → Type 0
+IsEarlyFault registered ranges is_node commands order (Plan fault) =
     IsPlanFault registered ranges commands fault
-IsEarlyFault registered ranges commands order BadOrder =
-    (plan : PipelineBatches) × IsPlanOfCommands registered ranges commands plan
+IsEarlyFault registered ranges is_node commands order BadOrder =
+    (plan : PipelineBatches) × IsPlanOfCommands registered is_node commands plan
     × (NamesOnce (length plan.batches.places) order → ⊥)
-IsEarlyFault registered ranges commands order (Node stop) = ⊥
-IsEarlyFault registered ranges commands order Memory = ⊥
+IsEarlyFault registered ranges is_node commands order (Node stop) = ⊥
+IsEarlyFault registered ranges is_node commands order Memory = ⊥
 
 module _ {C : Type 0} (step : Step C) (serve : Serve C) (kept : Type 0)
-    (may_refuse : ℕ → Ending → Type 0) (registered : Registrations) (ranges : Ranges)
-    (commands : List (List (List ℕ))) (order : List ℕ) (old new : State C) where
+    (may_refuse : ℕ → Ending → Type 0) (registered : Registrations)
+    (is_node : ℕ → Address → Type 0) (commands : List (List (List ℕ))) (order : List ℕ)
+    (old new : State C) where
   -- The batches of a plan of the commands were all taken, and these are the answers to the parts.
   pub record AreAllTaken (given : List Answer) : Type 0 where
     pub plan : PipelineBatches
-    pub sendable : IsSendable registered ranges commands order plan
+    pub sendable : IsSendable registered is_node commands order plan
     pub served : IsServed step serve kept may_refuse (map with_slots sendable.of_commands.tasks)
         plan.batches.parts plan.batches.nodes sendable.batches.batch order old new given
 
@@ -72,19 +76,43 @@ module _ {C : Type 0} (step : Step C) (serve : Serve C) (kept : Type 0)
   IsLateFault (Plan fault) = ⊥
   IsLateFault BadOrder = ⊥
   IsLateFault (Node stop) =
-      (plan : PipelineBatches) × (sendable : IsSendable registered ranges commands order plan)
+      (plan : PipelineBatches) × (sendable : IsSendable registered is_node commands order plan)
       × (stop.answered < length order)
-      × WasStopped step serve kept may_refuse (map with_slots sendable.of_commands.tasks)
-      plan.batches.parts plan.batches.nodes sendable.batches.batch (take stop.answered order) old new
+      × WasStopped step serve registered kept may_refuse (map with_slots sendable.of_commands.tasks)
+      plan.batches.parts plan.batches.nodes sendable.batches.batch order old new stop.answered
       stop.error
   IsLateFault Memory = (given : List Answer) × AreAllTaken given
 
   -- why there are no replies
-  abbrev pub IsPipelineFault : PipelineError → Type 0
-  IsPipelineFault (Plan fault) = IsEarlyFault registered ranges commands order (Plan fault)
-  IsPipelineFault BadOrder = IsEarlyFault registered ranges commands order BadOrder
-  IsPipelineFault (Node stop) = IsLateFault (Node stop)
-  IsPipelineFault Memory = IsLateFault Memory
+  abbrev pub IsPipelineFault : Ranges → PipelineError → Type 0
+  IsPipelineFault ranges (Plan fault) = IsEarlyFault registered ranges is_node commands order (Plan fault)
+  IsPipelineFault ranges BadOrder = IsEarlyFault registered ranges is_node commands order BadOrder
+  IsPipelineFault ranges (Node stop) = IsLateFault (Node stop)
+  IsPipelineFault ranges Memory = IsLateFault Memory
+
+module _ (registered : Registrations) (is_node : ℕ → Address → Type 0)
+    (commands : List (List (List ℕ))) (order : List ℕ) (old new : List Batch → Type 0) where
+  -- Each batch of a plan of the commands was sent once, in the order given, and no other was.
+  abbrev pub AreAllAsked : Type 0
+  AreAllAsked = (plan : PipelineBatches) × IsSendable registered is_node commands order plan
+      × WereAsked old new (map (batch_at plan.batches) order)
+
+  -- So were those up to the one that was not taken.
+  abbrev pub AreAskedUntil : PipelineError → Type 0
+  AreAskedUntil (Plan fault) = Unit {0}
+  AreAskedUntil BadOrder = Unit {0}
+  AreAskedUntil (Node stop) =
+      (plan : PipelineBatches) × IsSendable registered is_node commands order plan
+      × WereAskedUntil old new (map (batch_at plan.batches) (take stop.answered order))
+      (batch_at plan.batches (get_or order stop.answered 0)) stop.error
+  AreAskedUntil Memory = AreAllAsked
+
+-- memory ran out: at the nodes, as the mark tells, or here
+abbrev pub IsWantOfMemory : Bool → PipelineError → Type 0
+IsWantOfMemory mark (Plan fault) = ⊥
+IsWantOfMemory mark BadOrder = ⊥
+IsWantOfMemory mark (Node stop) = (stop.error ≡ sent.Memory) ⊎ (mark ≡ true)
+IsWantOfMemory mark Memory = Unit {0}
 
 -- nothing was sent
 abbrev pub IsBeforeSending : PipelineError → Type 0

@@ -10,6 +10,8 @@ pub mod PartArguments
 pub mod Tasks
 pub mod CommandTask
 pub mod Placed
+pub mod Reads
+pub mod Chosen
 pub mod Pipelined
 pub mod Replies
 pub mod PipelinePlan

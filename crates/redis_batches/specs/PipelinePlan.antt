@@ -8,7 +8,7 @@ use Rattle.redis_batches.specs.Pipeline.{Part, Task, pieces}
 use Rattle.redis_batches.specs.Taken.{task_of}
 use Rattle.redis_batches.specs.Tasks.{AreSplitsOf, AreTasksOf, all_arguments, slots_of_task, with_slots}
 use Rattle.redis_batches.specs.Pipelined.{IsFirstMeaningless}
-use Rattle.redis_batches.specs.Placed.{IsFirstUncovered, IsPrimaryOf, Ranges}
+use Rattle.redis_batches.specs.Placed.{IsFirstUncovered, Ranges}
 use Rattle.redis_batches.specs.Plan.{Batches, IsByNode}
 use Rattle.redis_batches.specs.Replies.{part_count}
 use Rattle.redis_batches.specs.declared.fault.PipelineFault.{PipelineFault}
@@ -28,8 +28,9 @@ abbrev pub pieces_of : List Task → List Part
 pieces_of tasks = pieces (map with_slots tasks)
 
 -- The plan is of these commands: each means something, and the parts are those of the pipeline, by
--- what they mean and by their arguments. The node of a slot is its primary by the map, and there is one batch for each node.
-pub record IsPlanOfCommands (registered : Registrations) (ranges : Ranges)
+-- what they mean and by their arguments. Each slot has one node, which it may have, and there is one
+-- batch for each node.
+pub record IsPlanOfCommands (registered : Registrations) (is_node : ℕ → Address → Type 0)
     (commands : List (List (List ℕ))) (plan : PipelineBatches) : Type 0 where
   pub tasks : List Task
   pub tasks_are : AreTasksOf registered commands tasks
@@ -38,7 +39,7 @@ pub record IsPlanOfCommands (registered : Registrations) (ranges : Ranges)
       ≡ map (λ q. Some q.task) (pieces_of tasks)
   pub arguments : map (map Some) plan.batches.parts ≡ all_arguments registered commands tasks
   pub node_of : ℕ → Address
-  pub primaries : All (λ q. IsPrimaryOf ranges q.slot (node_of q.slot)) (pieces_of tasks)
+  pub nodes_are : All (λ q. is_node q.slot (node_of q.slot)) (pieces_of tasks)
   pub by_node : IsByNode plan.batches (map (λ q. node_of q.slot) (pieces_of tasks))
 
 -- Why commands have no plan. Where a slot has no node, each command means something.

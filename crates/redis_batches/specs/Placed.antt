@@ -1,4 +1,4 @@
--- The parts of commands, and the node of each: the primary of its slot.
+-- The parts of commands, and the node of each.
 use Rattle.std.specs.Prelude.{◌≡◌, ◌++◌, ◌∷◌, ℕ, List, Some, map, take, slice_get}
 use Rattle.std.specs.List.{All, AllZip}
 use Rattle.cluster_slots.specs.Address.{Address}
@@ -6,10 +6,8 @@ use Rattle.cluster_map.specs.SlotNodes.{SlotNodes}
 use Rattle.cluster_map.specs.RangeMap.{RangeEntry, IsAnswerAt, IsUncovered}
 use Rattle.cluster_map.specs.ReplyNode.{IsCovered}
 use Rattle.redis_batches.specs.CommandTask.{SlotPart}
-use Rattle.redis_batches.specs.PartArguments.{sent_args}
 use Rattle.redis_batches.specs.declared.fault.PipelineFault.{PipelineFault}
 use Rattle.redis_batches.specs.declared.fault.PipelineFault.TheVariants.{NotRoutable, NotCovered, Memory}
-use Rattle.redis_batches.specs.declared.parts.Placed.{Placed}
 
 -- what a map sees: its ranges, with their nodes
 abbrev pub Ranges : Type 0
@@ -20,16 +18,11 @@ abbrev pub IsPrimaryOf : Ranges → ℕ → Address → Type 0
 IsPrimaryOf ranges slot address =
     (nodes : SlotNodes) × IsAnswerAt ranges slot nodes × (address ≡ nodes.primary)
 
--- These are the parts, and the node of each is the primary of its slot.
-pub record ArePlaced (ranges : Ranges) (of : List SlotPart) (parts : List (List (List ℕ)))
-    (nodes : List Address) : Type 0 where
+-- These are the parts, and the node of each is one that its slot may have.
+pub record ArePlaced (is_node : ℕ → Address → Type 0) (of : List SlotPart)
+    (parts : List (List (List ℕ))) (nodes : List Address) : Type 0 where
   pub parts_are : map (map Some) parts ≡ map (λ part. part.1) of
-  pub nodes_are : AllZip (λ part node. IsPrimaryOf ranges part.0 node) of nodes
-
--- so they are in these vectors
-abbrev pub AreIn : Ranges → List SlotPart → Placed → Type 0
-AreIn ranges of placed =
-    ArePlaced ranges of (map sent_args placed.parts.items) (map (λ node. node.now) placed.nodes.items)
+  pub nodes_are : AllZip (λ part node. is_node part.0 node) of nodes
 
 -- Of these slots this is the first that no range holds for.
 pub record IsFirstWithout (ranges : Ranges) (slots : List ℕ) (slot : ℕ) : Type 0 where
@@ -47,6 +40,13 @@ pub record IsFirstUncovered (ranges : Ranges) (slots : List (List ℕ)) (number 
   pub own : List ℕ
   pub own_are : slice_get slots number ≡ Some own
   pub first : IsFirstWithout ranges own slot
+
+-- why a part of the command of this number, which keeps to this slot, can't be placed
+abbrev pub IsSlotFault : Ranges → ℕ → ℕ → PipelineFault → Type 0
+IsSlotFault ranges slot number (NotRoutable other) = ⊥
+IsSlotFault ranges slot number (NotCovered other own) =
+    (other ≡ number) × (own ≡ slot) × IsUncovered ranges slot
+IsSlotFault ranges slot number Memory = Unit {0}
 
 -- why the parts of the command of this number, which has these slots, can't be placed
 abbrev pub IsOwnFault : Ranges → List ℕ → ℕ → PipelineFault → Type 0

@@ -4,6 +4,7 @@ use Rattle.std.specs.List.{All}
 use Rattle.resp_core.specs.ErrorParts.{ErrorParts}
 use Rattle.resp_core.specs.declared.value.Value.{Value}
 use Rattle.cluster_slots.specs.Address.{Address}
+use Rattle.cluster_map.specs.EachOnce.{each_once}
 use Rattle.redis_batches.specs.Grouped.{AreNumbered, places_in}
 
 -- the node of each batch, the numbers of its parts and whether it was told; the parts, and the
@@ -27,5 +28,16 @@ pub record IsPlan (batches : Batches) : Type 0 where
 pub record IsByNode (batches : Batches) (nodes : List Address) : Type 0 where
   pub numbers : List ℕ
   pub numbered : AreNumbered nodes batches.nodes numbers
+  pub each : length batches.places ≡ length batches.nodes
   pub places : (k : ℕ) → k < length batches.nodes
       → slice_get batches.places k ≡ Some (places_in numbers k)
+
+-- There are as many batches as the parts have different nodes: each part has the node of its batch,
+-- and the batches have these nodes each once.
+pub record AreFewest (batches : Batches) : Type 0 where
+  pub nodes : List Address
+  pub long : length nodes ≡ length batches.parts
+  pub own : (k : ℕ) (places : List ℕ) → slice_get batches.places k ≡ Some places
+      → All (λ n. slice_get nodes n ≡ slice_get batches.nodes k) places
+  pub once : batches.nodes ≡ each_once nodes
+  pub count : length batches.places ≡ length (each_once nodes)

@@ -1,5 +1,5 @@
 -- What a node leaves that took a batch of commands.
-use Rattle.std.specs.Prelude.{◌≡◌, ◌+◌, ℕ, List, [], ◌++◌, Option, None, Some, Result, Ok, Err, map, length, slice_get}
+use Rattle.std.specs.Prelude.{◌≡◌, ◌≤◌, ◌⊎◌, ◌+◌, ℕ, List, [], ◌++◌, Option, None, Some, Result, Ok, Err, true, false, map, length, slice_get}
 use Rattle.std.specs.List.{zip}
 use Rattle.cluster_slots.specs.Address.{Address}
 use Rattle.resp_core.specs.ErrorParts.{ErrorParts}
@@ -10,11 +10,11 @@ use Rattle.redis_routing.specs.Registry.{Registrations}
 use Rattle.redis_routing.specs.Routing.{routing}
 use Rattle.redis_routing.specs.RoutingInfo.{Routing, specific_node, single_node}
 use Rattle.redis_cluster.specs.MultiKey.{MultiKey, multi_key}
-use Rattle.redis_cluster.specs.Trace.{Entry, Ending, answered, refused, entry}
+use Rattle.redis_cluster.specs.Trace.{Entry, Ending, answered, refused, redirected, lost, entry}
 use Rattle.redis_cluster.specs.Unsplit.{Step, Keyspace}
 use Rattle.redis_cluster.specs.declared.nodes.SendError.{SendError}
 use Rattle.redis_cluster.specs.declared.nodes.SendError.TheVariants as sent
-use Rattle.redis_cluster.specs.Driven.{State}
+use Rattle.redis_cluster.specs.State.{State}
 use Rattle.redis_batches.specs.Turns.{all_after, answers}
 use Rattle.redis_batches.specs.Pipeline.{Answer, Serve, Task, over_keys, in_slot, run_ended}
 
@@ -44,6 +44,14 @@ task_of registered args =
 abbrev pub ending_by : Option ErrorParts → Ending
 ending_by None = answered
 ending_by (Some error) = refused error
+
+-- a batch that was sent: its node, and the arguments of its commands
+pub record Batch : Type 0 where
+  pub node : Address
+  pub commands : List (List (List ℕ))
+
+abbrev pub batch_for : Address → List (List (List ℕ)) → Batch
+batch_for node commands = record { node = node; commands = commands }
 
 -- the entries of a batch, in its order
 abbrev pub batch_entries : Address → List (List (List ℕ)) → List (Option ErrorParts) → List Entry
@@ -79,15 +87,57 @@ abbrev pub AreTasks : Registrations → List (List (List ℕ)) → (List Task �
 AreTasks registered batch P =
     (tasks : List Task) × (map (task_of registered) batch ≡ map Some tasks) × P tasks
 
--- one server took all of these commands, one after the other
-abbrev pub IsServedBy : {C : Type 0} → Step C → Serve C → List Task → (old new : Keyspace C)
-    → List Answer → Type 0
-IsServedBy step serve tasks old new given =
-    AreServed step serve tasks (map (λ task. None) tasks) old new given
+-- one server took some of these commands, one after the other, and the others did nothing
+abbrev pub IsInPart : {C : Type 0} → Step C → Serve C → List Task → (old new : Keyspace C) → Type 0
+IsInPart step serve tasks old new =
+    (ends : List (Option ErrorParts)) × (length ends ≡ length tasks)
+    × (new ≡ all_after (run_ended step serve) (zip tasks ends) old)
 
--- A node that refused a batch, or to which none was sent for want of memory, did nothing. Of one
--- whose answers were lost this says nothing.
-abbrev pub IsIdle : {C : Type 0} → (kept : Type 0) → (old new : State C) → SendError → Type 0
-IsIdle kept old new (sent.Lost error) = Unit {0}
-IsIdle kept old new error =
-    (new.trace ≡ old.trace) × (kept → new.keyspace ≡ old.keyspace)
+-- the entries of a batch whose answers were lost
+abbrev pub lost_entries : Address → List (List (List ℕ)) → ErrorParts → List Entry
+lost_entries node batch error = map (λ args. entry node args (lost error)) batch
+
+-- Nothing was sent, since memory ran out: the mark tells so, and all else is as it was.
+pub record IsUnsent {C : Type 0} (old new : State C) : Type 0 where
+  pub mark : new.mark ≡ true
+  pub trace : new.trace ≡ old.trace
+  pub keyspace : new.keyspace ≡ old.keyspace
+
+module _ {C : Type 0} (kept : Type 0) (may_refuse : ℕ → Ending → Type 0) (old new : State C) where
+  -- A node refused a batch, or sent it on, as it may: it did nothing, and no entry tells of it.
+  pub record IsRefused (ending : Ending) : Type 0 where
+    pub mark : new.mark ≡ false
+    pub allowed : may_refuse (length old.trace) ending
+    pub trace : new.trace ≡ old.trace
+    pub keyspace : kept → new.keyspace ≡ old.keyspace
+
+module _ {C : Type 0} (step : Step C) (serve : Serve C) (registered : Registrations) (kept : Type 0)
+    (may_refuse : ℕ → Ending → Type 0) (node : Address) (batch : List (List (List ℕ)))
+    (old new : State C) where
+  -- The answers to a batch were lost, as they may be: the trace has an entry for each command that
+  -- tells so. Where nodes keep to the meaning, some of the commands were taken, in their order.
+  pub record IsLost (error : ErrorParts) : Type 0 where
+    pub mark : new.mark ≡ false
+    pub allowed : may_refuse (length old.trace) (lost error)
+    pub trace : new.trace ≡ old.trace ++ lost_entries node batch error
+    pub keyspace : kept → (tasks : List Task) → map (task_of registered) batch ≡ map Some tasks
+        → IsInPart step serve tasks old.keyspace new.keyspace
+
+  -- Memory ran out in the midst of a batch: the mark tells so, and the trace has the entries of its
+  -- first commands alone.
+  pub record IsCutShort : Type 0 where
+    pub mark : new.mark ≡ true
+    pub ends : List (Option ErrorParts)
+    pub within : length ends ≤ length batch
+    pub trace : new.trace ≡ old.trace ++ batch_entries node batch ends
+
+  -- why a batch was not taken, and what stands then
+  abbrev pub IsUntaken : SendError → Type 0
+  IsUntaken (sent.Refused error) = IsRefused kept may_refuse old new (refused error)
+  IsUntaken (sent.Redirected redirect) = IsRefused kept may_refuse old new (redirected redirect)
+  IsUntaken (sent.Lost error) = IsLost error ⊎ IsCutShort
+  IsUntaken sent.Memory = IsUnsent old new
+
+  -- so it was, or memory ran out before the node was asked
+  abbrev pub IsNotTaken : SendError → Type 0
+  IsNotTaken error = IsUntaken error ⊎ ((error ≡ sent.Memory) × (new ≡ old))

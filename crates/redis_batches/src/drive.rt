@@ -1,12 +1,12 @@
-ghost use Rattle.std.specs.Prelude.{◌≡◌, ◌↔◌, ℕ, List, false, length, map, IfOk, IfErr};
+ghost use Rattle.std.specs.Prelude.{◌≡◌, ◌↔◌, ◌⊎◌, ℕ, false, length, map, IfOk, IfErr, OnOk};
 ghost use Rattle.std.specs.List.{All};
-ghost use Rattle.redis_cluster.specs.Orders.{NamesOnce};
+ghost use Rattle.redis_routing.specs.Names.{names_of};
+ghost use Rattle.redis_cluster.specs.Driven.{AreAllAnswered};
 ghost use Rattle.redis_cluster.specs.Trace.{Ending};
-ghost use Rattle.redis_cluster.specs.Driven.{state};
-ghost use Rattle.redis_batches.specs.Driven.{NeverRefuses};
-ghost use Rattle.redis_batches.specs.DrivenPipeline.{IsBeforeSending, IsEarlyFault, IsLateFault, IsOneServer, IsPipelineFault, IsPipelineServed, IsSendable};
-ghost use Rattle.redis_batches.specs.Placed.{Ranges};
+ghost use Rattle.redis_batches.specs.Driven.{AlwaysAnswers, NeverRefuses};
+ghost use Rattle.redis_batches.specs.DrivenPipeline.{AreAllAsked, AreAskedUntil, IsBeforeSending, IsEarlyFault, IsOneServer, IsPipelineFault, IsPipelineServed, IsSendable, IsWantOfMemory};
 ghost use Rattle.redis_batches.specs.Plan.{IsPlan};
+ghost use Rattle.redis_batches.specs.Reads.{IsSlotNode};
 ghost use Rattle.redis_batches.specs.Taken.{answer_of};
 
 use crate::fault::{PipelineError, PipelineFault};
@@ -15,13 +15,14 @@ use crate::order::names_once;
 use crate::pipeline::PipelinePlan;
 use crate::replies::replies_of;
 use crate::send::send_batches;
-use cluster_map::SlotMap;
+use cluster_map::{ReadRoutingStrategy, SlotMap};
+use redis_routing::{Names, ReadOnlyNames};
 use resp_core::{Cmd, RedisError, Value};
 use std::alloc::Global;
 
 /// Sends a pipeline of commands as one batch for each node, and gives the reply to each command, in
 /// the order of the commands. Commands are planned as `PipelinePlan::new` has it, by the names that
-/// the nodes know. `order` names each batch once.
+/// the nodes know and those that only read. `order` names each batch once.
 ///
 /// Where no node refuses anything, keyspace and replies are those of one server that takes the
 /// commands one after the other, whatever the order and whatever a command does to the keys of its
@@ -35,32 +36,56 @@ use std::alloc::Global;
 pub fn drive_pipeline<N: BatchNodes>(
     alloc: Global,
     commands: &[Cmd],
+    read_only: &ReadOnlyNames,
     slot_map: &SlotMap,
+    strategy: Option<&dyn ReadRoutingStrategy>,
     order: &[usize],
     nodes: &mut N,
 ) -> Result<Vec<Result<Value, RedisError>>, PipelineError>
-    // Each command has a task and each slot of a part has a node. The trace grew by, batch after
-    // batch, an entry for each part, at the node of its slot. Where the nodes keep to the meaning,
-    // keyspace and answers are those of the parts in the order of the pipeline.
+    // Each command has a task and each slot of a part has one node, which the map and the strategy
+    // give it. The trace grew by, batch after batch, an entry for each part, at the node of its slot.
+    // Where the nodes keep to the meaning, keyspace and answers are those of the parts in the order
+    // of the pipeline.
     ensures served { IfOk result (λ replies.
         IsPipelineServed N.step N.serve (N.kept nodes.new) (N.may_refuse nodes.old)
-        (N.registered nodes.old) slot_map.now commands.now order.now
-        (state (N.keyspace nodes.old) (N.trace nodes.old) (N.mark nodes.old))
-        (state (N.keyspace nodes.new) (N.trace nodes.new) (N.mark nodes.new))
+        (N.registered nodes.old)
+        (IsSlotNode strategy.entry (λ s. picks s.now) slot_map.now
+        (names_of read_only.now (N.registered nodes.old)) commands.now)
+        commands.now order.now
+        (N.state nodes.old) (N.state nodes.new)
         (map answer_of replies.items)) }
-    // Where nothing may be refused, they are those of one server that takes the commands.
+    // Where no part was refused, they are those of one server that takes the commands.
     ensures one_server { IfOk result (λ replies.
-        NeverRefuses (N.may_refuse nodes.old) (length (N.trace nodes.old)) → N.kept nodes.new
+        AreAllAnswered (N.state nodes.old).trace (N.state nodes.new).trace → N.kept nodes.new
         → IsOneServer N.step N.serve (N.registered nodes.old) commands.now
-        (state (N.keyspace nodes.old) (N.trace nodes.old) (N.mark nodes.old))
-        (state (N.keyspace nodes.new) (N.trace nodes.new) (N.mark nodes.new))
+        (N.state nodes.old) (N.state nodes.new)
         (map answer_of replies.items)) }
+    // Where nothing may be refused, no part was.
+    ensures willing { OnOk result
+        (NeverRefuses (N.may_refuse nodes.old) (length (N.state nodes.old).trace)
+        → AreAllAnswered (N.state nodes.old).trace (N.state nodes.new).trace) }
+    // Each batch was sent once, in the order given,
+    ensures each_once { OnOk result (AreAllAsked (N.registered nodes.old)
+        (IsSlotNode strategy.entry (λ s. picks s.now) slot_map.now
+        (names_of read_only.now (N.registered nodes.old)) commands.now)
+        commands.now order.now (N.asked nodes.old) (N.asked nodes.new)) }
+    // up to the one that was not taken.
+    ensures none_later { IfErr result (λ error. AreAskedUntil (N.registered nodes.old)
+        (IsSlotNode strategy.entry (λ s. picks s.now) slot_map.now
+        (names_of read_only.now (N.registered nodes.old)) commands.now)
+        commands.now order.now (N.asked nodes.old) (N.asked nodes.new) error) }
     // Each fault has its cause.
     ensures fault { IfErr result (λ error.
         IsPipelineFault N.step N.serve (N.kept nodes.new) (N.may_refuse nodes.old)
-        (N.registered nodes.old) slot_map.now commands.now order.now
-        (state (N.keyspace nodes.old) (N.trace nodes.old) (N.mark nodes.old))
-        (state (N.keyspace nodes.new) (N.trace nodes.new) (N.mark nodes.new)) error) }
+        (N.registered nodes.old)
+        (IsSlotNode strategy.entry (λ s. picks s.now) slot_map.now
+        (names_of read_only.now (N.registered nodes.old)) commands.now)
+        commands.now order.now
+        (N.state nodes.old) (N.state nodes.new) slot_map.now error) }
+    // Where nodes may do nothing but answer, it is what a plan or the order lacks, or memory.
+    ensures unhindered { IfErr result (λ error.
+        AlwaysAnswers (N.may_refuse nodes.old) (length (N.state nodes.old).trace)
+        → IsBeforeSending error ⊎ IsWantOfMemory (N.state nodes.new).mark error) }
     // Where the commands, the map or the order is at fault, nothing was sent.
     ensures untouched { IfErr result (λ error. IsBeforeSending error → nodes.new ≡ nodes.old) }
     ensures kept { N.kept nodes.new → N.kept nodes.old }
@@ -68,74 +93,10 @@ pub fn drive_pipeline<N: BatchNodes>(
         ↔ N.may_refuse nodes.old count ending }
     ensures registered { N.registered nodes.new ≡ N.registered nodes.old }
 {
-    match plan_in_order(alloc, commands, slot_map, order, nodes) {
-        Ok(plan) => drive_plan(alloc, plan, order, nodes),
-        Err(error) => Err(error),
-    }
-}
-
-/// The plan of commands, where the order names its batches.
-fn plan_in_order<'a, N: BatchNodes>(
-    alloc: Global,
-    commands: &'a [Cmd],
-    slot_map: &'a SlotMap,
-    order: &[usize],
-    nodes: &N,
-) -> Result<PipelinePlan<'a>, PipelineError>
-    ensures sendable { IfOk result (λ plan.
-        IsSendable (N.registered nodes.now) slot_map.now commands.now order.now plan) }
-    ensures plan { IfOk result (λ plan. IsPlan plan.batches) }
-    ensures untold { IfOk result (λ plan. All (λ told. told ≡ false) plan.batches.told) }
-    ensures early { IfErr result (λ error. IsEarlyFault
-        (N.registered nodes.now) slot_map.now commands.now order.now error) }
-{
-    let plan = match PipelinePlan::new(alloc, commands, nodes.registry(), slot_map) {
+    let plan = match plan_in_order(alloc, commands, read_only, slot_map, strategy, order, nodes) {
         Ok(plan) => plan,
-        Err(fault) => return Err(PipelineError::Plan(fault)),
+        Err(error) => return Err(error),
     };
-    match names_once(alloc, plan.len(), order) {
-        Ok(true) => Ok(plan),
-        Ok(false) => Err(PipelineError::BadOrder),
-        Err(_) => Err(PipelineError::Plan(PipelineFault::Memory)),
-    }
-}
-
-/// Sends the batches of a plan, and gives the reply to each command.
-fn drive_plan<N: BatchNodes>(
-    alloc: Global,
-    plan: PipelinePlan<'_>,
-    order: &[usize],
-    nodes: &mut N,
-) -> Result<Vec<Result<Value, RedisError>>, PipelineError>
-    requires plan { IsPlan plan.batches }
-    requires untold { All (λ told. told ≡ false) plan.batches.told }
-    requires sendable { (ranges : Ranges) × (commands : List (List (List ℕ)))
-        × IsSendable (N.registered nodes.old) ranges commands order.now plan }
-    ensures served { IfOk result (λ replies. (ranges : Ranges) (commands : List (List (List ℕ)))
-        → IsSendable (N.registered nodes.old) ranges commands order.now plan.entry
-        → IsPipelineServed N.step N.serve (N.kept nodes.new) (N.may_refuse nodes.old)
-        (N.registered nodes.old) ranges commands order.now
-        (state (N.keyspace nodes.old) (N.trace nodes.old) (N.mark nodes.old))
-        (state (N.keyspace nodes.new) (N.trace nodes.new) (N.mark nodes.new))
-        (map answer_of replies.items)) }
-    ensures one_server { IfOk result (λ replies. (ranges : Ranges) (commands : List (List (List ℕ)))
-        → IsSendable (N.registered nodes.old) ranges commands order.now plan.entry
-        → NeverRefuses (N.may_refuse nodes.old) (length (N.trace nodes.old)) → N.kept nodes.new
-        → IsOneServer N.step N.serve (N.registered nodes.old) commands
-        (state (N.keyspace nodes.old) (N.trace nodes.old) (N.mark nodes.old))
-        (state (N.keyspace nodes.new) (N.trace nodes.new) (N.mark nodes.new))
-        (map answer_of replies.items)) }
-    ensures fault { IfErr result (λ error. (ranges : Ranges) (commands : List (List (List ℕ)))
-        → IsSendable (N.registered nodes.old) ranges commands order.now plan.entry
-        → IsLateFault N.step N.serve (N.kept nodes.new) (N.may_refuse nodes.old)
-        (N.registered nodes.old) ranges commands order.now
-        (state (N.keyspace nodes.old) (N.trace nodes.old) (N.mark nodes.old))
-        (state (N.keyspace nodes.new) (N.trace nodes.new) (N.mark nodes.new)) error) }
-    ensures kept { N.kept nodes.new → N.kept nodes.old }
-    ensures may_refuse { (count : ℕ) (ending : Ending) → N.may_refuse nodes.new count ending
-        ↔ N.may_refuse nodes.old count ending }
-    ensures registered { N.registered nodes.new ≡ N.registered nodes.old }
-{
     let (tasks, mut batches) = plan.into_parts();
     if let Err(stop) = send_batches(alloc, &mut batches, order, nodes) {
         return Err(PipelineError::Node(stop));
@@ -143,5 +104,41 @@ fn drive_plan<N: BatchNodes>(
     match replies_of(alloc, tasks.as_slice(), batches.into_answers()) {
         Ok(replies) => Ok(replies),
         Err(_) => Err(PipelineError::Memory),
+    }
+}
+
+/// The plan of commands, where the order names its batches.
+fn plan_in_order<'a, N: BatchNodes>(
+    alloc: Global,
+    commands: &'a [Cmd],
+    read_only: &ReadOnlyNames,
+    slot_map: &'a SlotMap,
+    strategy: Option<&dyn ReadRoutingStrategy>,
+    order: &[usize],
+    nodes: &N,
+) -> Result<PipelinePlan<'a>, PipelineError>
+    ensures sendable { IfOk result (λ plan. IsSendable (N.registered nodes.now)
+        (IsSlotNode strategy.entry (λ s. picks s.now) slot_map.now
+        (names_of read_only.now (N.registered nodes.now)) commands.now)
+        commands.now order.now plan) }
+    ensures plan { IfOk result (λ plan. IsPlan plan.batches) }
+    ensures untold { IfOk result (λ plan. All (λ told. told ≡ false) plan.batches.told) }
+    ensures early { IfErr result (λ error. IsEarlyFault (N.registered nodes.now) slot_map.now
+        (IsSlotNode strategy.entry (λ s. picks s.now) slot_map.now
+        (names_of read_only.now (N.registered nodes.now)) commands.now)
+        commands.now order.now error) }
+{
+    let names = Names {
+        read_only,
+        registry: nodes.registry(),
+    };
+    let plan = match PipelinePlan::new(alloc, commands, names, slot_map, strategy) {
+        Ok(plan) => plan,
+        Err(fault) => return Err(PipelineError::Plan(fault)),
+    };
+    match names_once(alloc, plan.len(), order) {
+        Ok(true) => Ok(plan),
+        Ok(false) => Err(PipelineError::BadOrder),
+        Err(_) => Err(PipelineError::Plan(PipelineFault::Memory)),
     }
 }

@@ -2,6 +2,7 @@
 //! that takes the commands one after the other.
 #![tactic(auto)]
 
+mod chosen;
 mod drive;
 mod fault;
 mod grouping;
@@ -11,6 +12,7 @@ mod part;
 mod parts;
 mod pipeline;
 mod plan;
+mod reads;
 mod replies;
 mod send;
 mod task;

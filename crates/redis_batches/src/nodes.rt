@@ -1,10 +1,12 @@
-ghost use Rattle.std.specs.Prelude.{◌≡◌, ◌↔◌, ℕ, List, [], Bool, Some, map, length, IfOk, IfErr, OnOk};
+ghost use Rattle.std.specs.Prelude.{◌≡◌, ◌↔◌, ◌++◌, ◌∷◌, ℕ, List, Option, [], false, map, length, IfOk, IfErr, OnOk};
 ghost use Rattle.redis_routing.specs.Registry.{Registrations};
-ghost use Rattle.redis_cluster.specs.Trace.{Entry, Ending};
-ghost use Rattle.redis_cluster.specs.Unsplit.{Step, Keyspace};
-ghost use Rattle.redis_cluster.specs.Driven.{state};
+ghost use Rattle.resp_core.specs.ErrorParts.{ErrorParts};
+ghost use Rattle.redis_cluster.specs.Sent.{IsIdleIfRefused};
+ghost use Rattle.redis_cluster.specs.Trace.{Ending};
+ghost use Rattle.redis_cluster.specs.Unsplit.{Step};
+ghost use Rattle.redis_cluster.specs.State.{State};
 ghost use Rattle.redis_batches.specs.Pipeline.{Serve};
-ghost use Rattle.redis_batches.specs.Taken.{answer_of, AreTasks, IsServedBy, IsTaken, IsIdle};
+ghost use Rattle.redis_batches.specs.Taken.{answer_of, AreServed, AreTasks, Batch, IsTaken, IsUntaken, batch_entries, batch_for};
 
 use cluster_slots::NodeAddress;
 use redis_cluster::driver::SendError;
@@ -29,14 +31,8 @@ pub trait BatchNodes {
     /// Which names are registered, beside those of the tables. No send changes them.
     ghost registered: { Self → Registrations };
 
-    /// What the nodes hold.
-    ghost keyspace: { Self → Keyspace Cell };
-
-    /// What was sent so far.
-    ghost trace: { Self → List Entry };
-
-    /// Whether the last send ran out of memory.
-    ghost mark: { Self → Bool };
+    /// What the nodes hold, what was sent so far, and whether the last send ran out of memory.
+    ghost state: { Self → State Cell };
 
     /// Whether a command whose entry finds so many others in the trace may end so, without an
     /// answer.
@@ -46,6 +42,10 @@ pub trait BatchNodes {
     /// nothing. For a real client this is a premise; where an `impl` does not write it, its
     /// `send_batch` ensures it always.
     ghost kept: { Self → Type 0 } = { λ _. Unit {0} };
+
+    /// Whether these may be the batches that were sent so far, in their order, those among them that
+    /// were not taken, too.
+    ghost asked: { Self → List Batch → Type 0 } = { λ _ _. Unit {0} };
 
     /// The registered names: a command of one of them may be part of a pipeline, too.
     fn registry(&self) -> &Registry
@@ -59,8 +59,10 @@ pub trait BatchNodes {
     ///
     /// # Errors
     ///
-    /// `Refused`, `Redirected` and `Memory` where the node took none of them: the keyspace stays.
-    /// `Lost` where answers are missing: which commands took effect is not known.
+    /// `Refused` and `Redirected` where the node took none of them, and `Memory` where nothing was
+    /// sent: keyspace and trace stay. `Lost` where answers are missing: which commands took effect is
+    /// not known, and the trace has an entry for each that tells so. Where memory ran out before all
+    /// were taken, the mark tells so, and the trace has those that were.
     fn send_batch(
         &mut self,
         node: &NodeAddress,
@@ -72,19 +74,32 @@ pub trait BatchNodes {
         ensures taken { IfOk result (λ answers.
             IsTaken step serve (registered self.old) (kept self.new) (may_refuse self.old)
             node.now (map (λ cmd. cmd.now) batch.now)
-            (state (keyspace self.old) (trace self.old) (mark self.old))
-            (state (keyspace self.new) (trace self.new) (mark self.new))
+            (state self.old) (state self.new)
             (map answer_of answers.items)) }
-        ensures idle { IfErr result (λ error. IsIdle (kept self.new)
-            (state (keyspace self.old) (trace self.old) (mark self.old))
-            (state (keyspace self.new) (trace self.new) (mark self.new)) error) }
+        // A batch was not taken only as it may be, or for want of memory.
+        ensures untaken { IfErr result (λ error.
+            IsUntaken step serve (registered self.old) (kept self.new) (may_refuse self.old)
+            node.now (map (λ cmd. cmd.now) batch.now)
+            (state self.old) (state self.new) error) }
+        ensures mark { OnOk result ((state self.new).mark ≡ false) }
+        // The batch was sent once, whether it was taken or not.
+        ensures asked { (before : List Batch) → asked self.old before
+            → asked self.new (before ++ batch_for node.now (map (λ cmd. cmd.now) batch.now) ∷ []) }
         ensures kept { kept self.new → kept self.old }
         // Nodes to which nothing was sent kept to the meaning,
-        ensures kept_at_first { trace self.old ≡ [] → kept self.old }
-        // and they still do after answers that are those by it, all commands taken.
+        ensures kept_at_first { (state self.old).trace ≡ [] → kept self.old }
+        // and they still do after answers that are those by it, also where some were refused,
         ensures stays_kept { IfOk result (λ answers. kept self.old
+            → (ends : List (Option ErrorParts)) → length ends ≡ length batch.now
+            → (state self.new).trace ≡ (state self.old).trace
+            ++ batch_entries node.now (map (λ cmd. cmd.now) batch.now) ends
             → AreTasks (registered self.old) (map (λ cmd. cmd.now) batch.now) (λ tasks.
-            IsServedBy step serve tasks (keyspace self.old) (keyspace self.new) (map answer_of answers.items))
+            AreServed step serve tasks ends (state self.old).keyspace (state self.new).keyspace
+            (map answer_of answers.items))
+            → kept self.new) }
+        // and where no answers came, unless a batch did something that was refused or sent on.
+        ensures kept_untaken { IfErr result (λ error. kept self.old
+            → IsIdleIfRefused (state self.old).keyspace (state self.new).keyspace error
             → kept self.new) }
         ensures may_refuse { (count : ℕ) (ending : Ending) → may_refuse self.new count ending
             ↔ may_refuse self.old count ending }

@@ -1,43 +1,63 @@
-ghost use Rattle.std.specs.Prelude.{◌≡◌, ◌++◌, ◌∷◌, [], List, map, MatchOption, IfOk, IfErr, OnOk};
+ghost use Rattle.std.specs.Prelude.{◌≡◌, ◌++◌, ◌∷◌, [], List, Some, map, IfOk, IfErr, OnOk};
 ghost use Rattle.std.specs.List.{All, flat_map};
-ghost use Rattle.cluster_map.specs.RangeMap.{IsUncovered};
 ghost use Rattle.cluster_map.specs.ReplyNode.{IsCovered};
 ghost use Rattle.redis_routing.specs.Split.{slots_of};
+ghost use Rattle.redis_batches.specs.Chosen.{AreIn, AreRight, IsRoutedBy};
 ghost use Rattle.redis_batches.specs.CommandTask.{SlotPart, slot_parts, slots_kept, split_parts};
-ghost use Rattle.redis_batches.specs.Placed.{AreIn, IsOwnFault, IsPartFault, IsPrimaryOf};
+ghost use Rattle.redis_batches.specs.PartArguments.{sent_args};
+ghost use Rattle.redis_batches.specs.Placed.{IsOwnFault, IsPartFault, IsSlotFault};
 
+use crate::chosen::node_of;
 use crate::fault::PipelineFault;
 use crate::part::PartCommand;
 use crate::task::CommandTask;
-use cluster_map::SlotMap;
-use cluster_slots::{NodeAddress, Route, SlotAddr};
+use cluster_map::{ReadRoutingStrategy, SlotMap};
+use cluster_slots::NodeAddress;
 use redis_routing::SplitCommand;
 use resp_core::Cmd;
-use std::alloc::{AllocError, Global};
+use std::alloc::Global;
+use std::collections::{BTreeMap, BTreeSet};
 
-/// Parts of a pipeline, and the node of each.
+/// Parts of a pipeline, the node of each, and the nodes that were chosen for slots.
 #[derive(Drop)]
 pub(super) struct Placed<'a> {
     pub(super) parts: Vec<PartCommand<'a>>,
     pub(super) nodes: Vec<&'a NodeAddress>,
+    pub(super) chosen: BTreeMap<u16, &'a NodeAddress>,
 }
 
-/// The parts of some commands, in the order of the commands and of the routes of each, and the
-/// primary of the slot of each part.
+/// The parts of some commands, in the order of the commands and of the routes of each, and the node
+/// of the slot of each part. The strategy is asked for slots to which no command writes, once for
+/// each, in the order of their first parts.
 pub(super) fn parts_of<'a>(
     alloc: Global,
     tasks: &[CommandTask<'a>],
+    written: &BTreeSet<u16>,
     slot_map: &'a SlotMap,
+    strategy: Option<&dyn ReadRoutingStrategy>,
 ) -> Result<Placed<'a>, PipelineFault>
-    ensures placed { IfOk result (λ placed. AreIn slot_map.now (flat_map slot_parts tasks.now) placed) }
+    ensures placed { IfOk result (λ placed.
+        AreIn strategy.entry slot_map.now (flat_map slot_parts tasks.now) placed) }
+    ensures right { IfOk result (λ placed. AreRight
+        (IsRoutedBy strategy.entry (λ s. picks s.now) slot_map.now written.now.keys)
+        placed.chosen.entries) }
     ensures fault { IfErr result (λ fault. IsPartFault slot_map.now (map slots_kept tasks.now) fault) }
 {
     let mut placed = Placed {
         parts: Vec::with_capacity(alloc, tasks.len())?,
         nodes: Vec::with_capacity(alloc, tasks.len())?,
+        chosen: BTreeMap::new(alloc),
     };
     for (number, task) in tasks.iter().enumerate() {
-        add_task(alloc, &mut placed, number, task, slot_map)?;
+        add_task(
+            alloc,
+            &mut placed,
+            number,
+            task,
+            written,
+            slot_map,
+            strategy,
+        )?;
     }
     Ok(placed)
 }
@@ -48,37 +68,31 @@ fn add_task<'a>(
     placed: &mut Placed<'a>,
     number: usize,
     task: &CommandTask<'a>,
+    written: &BTreeSet<u16>,
     slot_map: &'a SlotMap,
+    strategy: Option<&dyn ReadRoutingStrategy>,
 ) -> Result<(), PipelineFault>
-    ensures added { OnOk result ((of : List SlotPart) → AreIn slot_map.now of placed.old
-        → AreIn slot_map.now (of ++ slot_parts task.now) placed.new) }
+    requires right { AreRight
+        (IsRoutedBy strategy (λ s. picks s.now) slot_map.now written.now.keys)
+        placed.old.chosen.entries }
+    ensures added { OnOk result ((of : List SlotPart)
+        → AreIn strategy.entry slot_map.now of placed.old
+        → AreIn strategy.entry slot_map.now (of ++ slot_parts task.now) placed.new) }
     ensures covered { OnOk result (All (IsCovered slot_map.now) (slots_kept task.now)) }
+    ensures right { OnOk result (AreRight
+        (IsRoutedBy strategy.entry (λ s. picks s.now) slot_map.now written.now.keys)
+        placed.new.chosen.entries) }
     ensures fault { IfErr result (λ fault. IsOwnFault slot_map.now (slots_kept task.now) number fault) }
 {
     match task {
-        CommandTask::InSlot(slot, command) => add_whole(placed, number, *slot, *command, slot_map),
-        CommandTask::OverKeys(split) => add_split(alloc, placed, number, split, slot_map),
+        CommandTask::InSlot(slot, command) => {
+            let part = PartCommand::Whole(*command);
+            add_part(placed, number, *slot, part, written, slot_map, strategy)
+        }
+        CommandTask::OverKeys(split) => {
+            add_split(alloc, placed, number, split, written, slot_map, strategy)
+        }
     }
-}
-
-/// Adds a command that keeps to a slot.
-fn add_whole<'a>(
-    placed: &mut Placed<'a>,
-    number: usize,
-    slot: u16,
-    command: &'a Cmd,
-    slot_map: &'a SlotMap,
-) -> Result<(), PipelineFault>
-    ensures added { OnOk result ((of : List SlotPart) → AreIn slot_map.now of placed.old
-        → AreIn slot_map.now (of ++ (slot, map Some command.now) ∷ []) placed.new) }
-    ensures covered { OnOk result (All (IsCovered slot_map.now) (slot ∷ [])) }
-    ensures fault { IfErr result (λ fault. IsOwnFault slot_map.now (slot ∷ []) number fault) }
-{
-    let Some(node) = primary_of(slot_map, slot) else {
-        return Err(PipelineFault::NotCovered(number, slot));
-    };
-    push(placed, PartCommand::Whole(command), node)?;
-    Ok(())
 }
 
 /// Adds the parts of a split command, in the order of its routes.
@@ -87,44 +101,59 @@ fn add_split<'a>(
     placed: &mut Placed<'a>,
     number: usize,
     split: &SplitCommand<'a, Cmd>,
+    written: &BTreeSet<u16>,
     slot_map: &'a SlotMap,
+    strategy: Option<&dyn ReadRoutingStrategy>,
 ) -> Result<(), PipelineFault>
-    ensures added { OnOk result ((of : List SlotPart) → AreIn slot_map.now of placed.old
-        → AreIn slot_map.now (of ++ split_parts split.now) placed.new) }
+    requires right { AreRight
+        (IsRoutedBy strategy (λ s. picks s.now) slot_map.now written.now.keys)
+        placed.old.chosen.entries }
+    ensures added { OnOk result ((of : List SlotPart)
+        → AreIn strategy.entry slot_map.now of placed.old
+        → AreIn strategy.entry slot_map.now (of ++ split_parts split.now) placed.new) }
     ensures covered { OnOk result (All (IsCovered slot_map.now) (slots_of split.now.routes)) }
+    ensures right { OnOk result (AreRight
+        (IsRoutedBy strategy.entry (λ s. picks s.now) slot_map.now written.now.keys)
+        placed.new.chosen.entries) }
     ensures fault { IfErr result (λ fault.
         IsOwnFault slot_map.now (slots_of split.now.routes) number fault) }
 {
     let routes = split.routes();
     for (index, found) in routes.iter().enumerate() {
+        let part = PartCommand::Split(split.part(alloc, index)?);
         let slot = found.0.slot();
-        let Some(node) = primary_of(slot_map, slot) else {
-            return Err(PipelineFault::NotCovered(number, slot));
-        };
-        let part = split.part(alloc, index)?;
-        push(placed, PartCommand::Split(part), node)?;
+        add_part(placed, number, slot, part, written, slot_map, strategy)?;
     }
     Ok(())
 }
 
-/// One part more, and its node.
-fn push<'a>(
+/// Adds a part, which keeps to this slot.
+fn add_part<'a>(
     placed: &mut Placed<'a>,
+    number: usize,
+    slot: u16,
     part: PartCommand<'a>,
-    node: &'a NodeAddress,
-) -> Result<(), AllocError>
-    ensures parts { OnOk result (placed.new.parts.items ≡ placed.old.parts.items ++ part.entry ∷ []) }
-    ensures nodes { OnOk result (placed.new.nodes.items ≡ placed.old.nodes.items ++ node.entry ∷ []) }
+    written: &BTreeSet<u16>,
+    slot_map: &'a SlotMap,
+    strategy: Option<&dyn ReadRoutingStrategy>,
+) -> Result<(), PipelineFault>
+    requires right { AreRight
+        (IsRoutedBy strategy (λ s. picks s.now) slot_map.now written.now.keys)
+        placed.old.chosen.entries }
+    ensures added { OnOk result ((of : List SlotPart)
+        → AreIn strategy.entry slot_map.now of placed.old
+        → AreIn strategy.entry slot_map.now (of ++ (slot, map Some (sent_args part.entry)) ∷ [])
+        placed.new) }
+    ensures covered { OnOk result (IsCovered slot_map.now slot) }
+    ensures right { OnOk result (AreRight
+        (IsRoutedBy strategy.entry (λ s. picks s.now) slot_map.now written.now.keys)
+        placed.new.chosen.entries) }
+    ensures fault { IfErr result (λ fault. IsSlotFault slot_map.now slot number fault) }
 {
+    let Some(node) = node_of(&mut placed.chosen, written, slot, slot_map, strategy)? else {
+        return Err(PipelineFault::NotCovered(number, slot));
+    };
     placed.parts.push(part)?;
     placed.nodes.push(node)?;
     Ok(())
-}
-
-/// The primary of a slot, if a range holds for the slot.
-fn primary_of<'a>(slot_map: &'a SlotMap, slot: u16) -> Option<&'a NodeAddress>
-    ensures { MatchOption result (IsUncovered slot_map.now slot)
-        (λ node. IsPrimaryOf slot_map.now slot node.now) }
-{
-    slot_map.slot_addr_for_route(Route::new(slot, SlotAddr::Master), None, 0)
 }

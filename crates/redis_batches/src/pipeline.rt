@@ -2,23 +2,26 @@ ghost use Rattle.std.specs.Prelude.{◌≡◌, ◌⊎◌, ℕ, List, Some, true,
 ghost use Rattle.std.specs.List.{All, list_all};
 ghost use Rattle.std.specs.Result.{IsErrAnd};
 ghost use Rattle.resp_core.specs.declared.error.ErrorKind.TheVariants.{Client, OutOfMemory};
+ghost use Rattle.redis_routing.specs.Names.{names_in};
 ghost use Rattle.redis_cluster.specs.Orders.{in_order};
 ghost use Rattle.redis_batches.specs.Pipeline.{Answer};
 ghost use Rattle.redis_batches.specs.Batched.{AreFor, IsRight};
 ghost use Rattle.redis_batches.specs.CommandTask.{split_in};
 ghost use Rattle.redis_batches.specs.PipelinePlan.{HasParts, IsPlanFault, IsPlanOfCommands};
-ghost use Rattle.redis_batches.specs.Plan.{IsPlan};
+ghost use Rattle.redis_batches.specs.Plan.{AreFewest, IsPlan};
+ghost use Rattle.redis_batches.specs.Reads.{IsSlotNode};
 ghost use Rattle.redis_batches.specs.Replies.{AreRepliesTo};
 ghost use Rattle.redis_batches.specs.Taken.{answer_of};
 
 use crate::fault::PipelineFault;
 use crate::parts::{Placed, parts_of};
 use crate::plan::BatchPlan;
+use crate::reads::written_slots;
 use crate::replies::replies_of;
 use crate::task::{CommandTask, tasks_of};
-use cluster_map::SlotMap;
+use cluster_map::{ReadRoutingStrategy, SlotMap};
 use cluster_slots::NodeAddress;
-use redis_routing::Registry;
+use redis_routing::Names;
 use resp_core::{Cmd, RedisError, RedisResult, Value};
 use std::alloc::{AllocError, Global};
 use std::marker::Model;
@@ -55,9 +58,11 @@ impl<'a> Model for PipelinePlan<'a> {
 }
 
 impl<'a> PipelinePlan<'a> {
-    /// Plans commands, by the names that are registered beside those of the tables. Each part goes to
-    /// the primary of its slot. Of `SET a 1`, `SET b 2`, `MGET b a`, where n2 serves the slot of `a`
-    /// and n1 that of `b`, the batches are `SET a 1`, `MGET a` for n2, and `SET b 2`, `MGET b` for n1.
+    /// Plans commands, by the names that are registered beside those of the tables. The node of a
+    /// slot is its primary. Where a strategy is lent and each command of the pipeline with a key in
+    /// the slot only reads, by its name, it is the node that the strategy picks, asked once for the
+    /// slot. Of `SET a 1`, `SET b 2`, `MGET b a`, where n2 serves the slot of `a` and n1 that of `b`,
+    /// the batches are `SET a 1`, `MGET a` for n2, and `SET b 2`, `MGET b` for n1.
     ///
     /// # Errors
     ///
@@ -67,19 +72,30 @@ impl<'a> PipelinePlan<'a> {
     pub fn new(
         alloc: Global,
         commands: &'a [Cmd],
-        registry: &Registry,
+        names: Names<'_>,
         slot_map: &'a SlotMap,
+        strategy: Option<&dyn ReadRoutingStrategy>,
     ) -> Result<Self, PipelineFault>
-        ensures plan { IfOk result (λ plan.
-            IsPlanOfCommands registry.now slot_map.now commands.now plan) }
+        ensures plan { IfOk result (λ plan. IsPlanOfCommands names.entry.registry.now
+            (IsSlotNode strategy.entry (λ s. picks s.now) slot_map.now (names_in names.entry)
+            commands.now)
+            commands.now plan) }
+        // There are as many batches as different nodes of the parts.
+        ensures fewest { IfOk result (λ plan. AreFewest plan.batches) }
         ensures untold { IfOk result (λ plan. All (λ told. told ≡ false) plan.batches.told) }
         ensures fault { IfErr result (λ fault.
-            IsPlanFault registry.now slot_map.now commands.now fault) }
+            IsPlanFault names.entry.registry.now slot_map.now commands.now fault) }
     {
         // Its ranges ascend, so that a slot has one node.
         let _ranges = slot_map.values();
-        let tasks = tasks_of(alloc, commands, registry)?;
-        let Placed { parts, nodes } = parts_of(alloc, tasks.as_slice(), slot_map)?;
+        let tasks = tasks_of(alloc, commands, names.registry)?;
+        let written = written_slots(alloc, commands, tasks.as_slice(), names.read_only, strategy)?;
+        let placed = parts_of(alloc, tasks.as_slice(), &written, slot_map, strategy)?;
+        let Placed {
+            parts,
+            nodes,
+            chosen: _,
+        } = placed;
         let batches = BatchPlan::new(alloc, parts, nodes.as_slice())?;
         Ok(PipelinePlan { tasks, batches })
     }
@@ -128,6 +144,9 @@ impl<'a> PipelinePlan<'a> {
         answers: Vec<Result<Value, RedisError>>,
     ) -> Result<(), Vec<Result<Value, RedisError>>>
         ensures first { OnOk result (slice_get self.old.batches.told number ≡ Some false) }
+        ensures long { OnOk result ((places : List ℕ)
+            → slice_get self.old.batches.places number ≡ Some places
+            → length answers.items ≡ length places) }
         ensures told { OnOk result
             (self.new.batches.told ≡ slice_set self.old.batches.told number true) }
         ensures same { (self.new.splits ≡ self.old.splits)

@@ -134,6 +134,8 @@ impl<'a> BatchPlan<'a> {
         answers: Vec<Result<Value, RedisError>>,
     ) -> Result<(), Vec<Result<Value, RedisError>>>
         ensures first { OnOk result (slice_get self.old.told number ≡ Some false) }
+        ensures long { OnOk result ((places : List ℕ) → slice_get self.old.places number ≡ Some places
+            → length answers.items ≡ length places) }
         ensures told { OnOk result (self.new.told ≡ slice_set self.old.told number true) }
         ensures same { (self.new.nodes ≡ self.old.nodes) × (self.new.places ≡ self.old.places)
             × (self.new.parts ≡ self.old.parts) × (length self.new.answers ≡ length self.old.answers) }

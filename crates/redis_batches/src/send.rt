@@ -1,13 +1,11 @@
-ghost use Rattle.std.specs.Prelude.{◌≡◌, ◌<◌, ◌↔◌, ℕ, List, Some, true, false, length, map, slice_get, slice_set, take, IfOk, IfErr, OnOk};
+ghost use Rattle.std.specs.Prelude.{◌≡◌, ◌<◌, ◌↔◌, ◌∷◌, [], ℕ, List, Some, true, false, length, map, get_or, slice_get, slice_set, take, IfOk, IfErr, OnOk};
 ghost use Rattle.std.specs.List.{All};
 ghost use Rattle.redis_cluster.specs.Orders.{NamesOnce, in_order};
 ghost use Rattle.redis_cluster.specs.Trace.{Ending};
-ghost use Rattle.redis_cluster.specs.Driven.{state};
-ghost use Rattle.redis_batches.specs.Turns.{all_after};
-ghost use Rattle.redis_batches.specs.Pipeline.{Answer, AreSlotsOf, Planned, piece_answers, run};
+ghost use Rattle.redis_batches.specs.Pipeline.{Answer, AreSlotsOf, Planned};
 ghost use Rattle.redis_batches.specs.Batched.{AreBatches, AreFor, IsRight};
-ghost use Rattle.redis_batches.specs.Taken.{answer_of, IsTaken, IsIdle};
-ghost use Rattle.redis_batches.specs.Driven.{node_at, IsServed, NeverRefuses, WasStopped};
+ghost use Rattle.redis_batches.specs.Taken.{answer_of, IsTaken, IsNotTaken};
+ghost use Rattle.redis_batches.specs.Driven.{batch_at, node_at, IsServed, WasStopped, WereAsked, WereAskedUntil};
 ghost use Rattle.redis_batches.specs.Plan.{IsPlan};
 
 use crate::nodes::BatchNodes;
@@ -60,24 +58,22 @@ pub fn send_batches<N: BatchNodes>(
         → (is : AreBatches (N.registered nodes.old) ps plan.old.parts plan.old.places)
         → IsServed N.step N.serve (N.kept nodes.new) (N.may_refuse nodes.old) ps plan.old.parts
         plan.old.nodes is.batch order.now
-        (state (N.keyspace nodes.old) (N.trace nodes.old) (N.mark nodes.old))
-        (state (N.keyspace nodes.new) (N.trace nodes.new) (N.mark nodes.new))
+        (N.state nodes.old) (N.state nodes.new)
         (map answer_of plan.new.answers)) }
-    // Where nothing may be refused, they are those of one server that takes the commands.
-    ensures one_server { OnOk result ((ps : List Planned) → All (λ p. AreSlotsOf p.task p.slots) ps
-        → AreBatches (N.registered nodes.old) ps plan.old.parts plan.old.places
-        → NeverRefuses (N.may_refuse nodes.old) (length (N.trace nodes.old)) → N.kept nodes.new
-        → (N.keyspace nodes.new ≡ all_after (λ p. run N.step N.serve p.task) ps (N.keyspace nodes.old))
-        × (map answer_of plan.new.answers ≡ piece_answers N.step N.serve ps (N.keyspace nodes.old))) }
-    // The batches before the one that was not taken were, and nothing else was, unless its answers
-    // were lost.
+    // The batches before the one that was not taken were, and that one was not as its node may, or
+    // for want of memory.
     ensures stopped { IfErr result (λ stop. (ps : List Planned)
         → All (λ p. AreSlotsOf p.task p.slots) ps
         → (is : AreBatches (N.registered nodes.old) ps plan.old.parts plan.old.places)
-        → WasStopped N.step N.serve (N.kept nodes.new) (N.may_refuse nodes.old) ps plan.old.parts
-        plan.old.nodes is.batch (take stop.answered order.now)
-        (state (N.keyspace nodes.old) (N.trace nodes.old) (N.mark nodes.old))
-        (state (N.keyspace nodes.new) (N.trace nodes.new) (N.mark nodes.new)) stop.error) }
+        → WasStopped N.step N.serve (N.registered nodes.old) (N.kept nodes.new) (N.may_refuse nodes.old)
+        ps plan.old.parts plan.old.nodes is.batch order.now
+        (N.state nodes.old) (N.state nodes.new) stop.answered stop.error) }
+    // Each batch was sent once, in the order given, up to the one that was not taken.
+    ensures asked { OnOk result (WereAsked (N.asked nodes.old) (N.asked nodes.new)
+        (map (batch_at plan.old) order.now)) }
+    ensures asked_until { IfErr result (λ stop. WereAskedUntil (N.asked nodes.old) (N.asked nodes.new)
+        (map (batch_at plan.old) (take stop.answered order.now))
+        (batch_at plan.old (get_or order.now stop.answered 0)) stop.error) }
     ensures within { IfErr result (λ stop. stop.answered < length order.now) }
     ensures room { length plan.new.answers ≡ length plan.old.parts }
     ensures kept { N.kept nodes.new → N.kept nodes.old }
@@ -111,12 +107,17 @@ fn send_one<N: BatchNodes>(
         → slice_get plan.now.places number ≡ Some places
         → IsTaken N.step N.serve (N.registered nodes.old) (N.kept nodes.new) (N.may_refuse nodes.old)
         (node_at plan.now.nodes number) (in_order plan.now.parts places)
-        (state (N.keyspace nodes.old) (N.trace nodes.old) (N.mark nodes.old))
-        (state (N.keyspace nodes.new) (N.trace nodes.new) (N.mark nodes.new))
+        (N.state nodes.old) (N.state nodes.new)
         (map answer_of answers.items)) }
-    ensures idle { IfErr result (λ error. IsIdle (N.kept nodes.new)
-        (state (N.keyspace nodes.old) (N.trace nodes.old) (N.mark nodes.old))
-        (state (N.keyspace nodes.new) (N.trace nodes.new) (N.mark nodes.new)) error) }
+    ensures untaken { IfErr result (λ error. (places : List ℕ)
+        → slice_get plan.now.places number ≡ Some places
+        → IsNotTaken N.step N.serve (N.registered nodes.old) (N.kept nodes.new) (N.may_refuse nodes.old)
+        (node_at plan.now.nodes number) (in_order plan.now.parts places)
+        (N.state nodes.old) (N.state nodes.new) error) }
+    ensures asked { OnOk result (WereAsked (N.asked nodes.old) (N.asked nodes.new)
+        (batch_at plan.now number ∷ [])) }
+    ensures asked_until { IfErr result (λ error. WereAskedUntil (N.asked nodes.old) (N.asked nodes.new)
+        [] (batch_at plan.now number) error) }
     ensures kept { N.kept nodes.new → N.kept nodes.old }
     ensures may_refuse { (count : ℕ) (ending : Ending) → N.may_refuse nodes.new count ending
         ↔ N.may_refuse nodes.old count ending }

@@ -2,9 +2,9 @@
 ghost use Rattle.std.specs.Prelude.{◌≡◌, IfErr};
 ghost use Rattle.redis_batches.specs.DrivenPipeline.{IsBeforeSending};
 
-use cluster_map::{NodeAddress, SlotMap};
+use cluster_map::{NodeAddress, ReadRoutingStrategy, SlotMap};
 use redis_batches::{BatchNodes, PipelineError, PipelineFault, PipelinePlan, drive_pipeline};
-use redis_cluster::routing::Registry;
+use redis_cluster::routing::{Names, ReadOnlyNames};
 use resp_core::{Cmd, RedisError, Value};
 use std::alloc::{AllocError, Global};
 
@@ -31,15 +31,17 @@ pub enum NoReplies {
     Memory,
 }
 
-/// Sends a pipeline, batch after batch, and gives the reply to each command.
+/// Sends a pipeline, batch after batch, and gives the reply to each command. Slots that it only reads
+/// are read where the strategy says, and with `None` at their primaries.
 pub fn send_by_plan<C: BatchConnections>(
     alloc: Global,
     commands: &[Cmd],
-    registry: &Registry,
+    names: Names<'_>,
     slot_map: &SlotMap,
+    strategy: Option<&dyn ReadRoutingStrategy>,
     connections: &mut C,
 ) -> Result<Vec<Answer>, NoReplies> {
-    let mut plan = match PipelinePlan::new(alloc, commands, registry, slot_map) {
+    let mut plan = match PipelinePlan::new(alloc, commands, names, slot_map, strategy) {
         Ok(plan) => plan,
         Err(fault) => return Err(NoReplies::NotPlanned(fault)),
     };
@@ -74,11 +76,13 @@ fn exchange_batch<C: BatchConnections>(
 pub fn send_over<N: BatchNodes>(
     alloc: Global,
     commands: &[Cmd],
+    read_only: &ReadOnlyNames,
     slot_map: &SlotMap,
+    strategy: Option<&dyn ReadRoutingStrategy>,
     order: &[usize],
     nodes: &mut N,
 ) -> Result<Vec<Answer>, PipelineError>
     ensures untouched { IfErr result (λ error. IsBeforeSending error → nodes.new ≡ nodes.old) }
 {
-    drive_pipeline(alloc, commands, slot_map, order, nodes)
+    drive_pipeline(alloc, commands, read_only, slot_map, strategy, order, nodes)
 }

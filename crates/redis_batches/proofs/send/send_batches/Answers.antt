@@ -1,4 +1,4 @@
-use Rattle.std.proofs.Common.{◌≡◌, ◌<◌, ◌∙◌, ℕ, ◌+◌, List, false, true, Some, refl, sym, ap, subst, arith, cond, map, length, get_or, take}
+use Rattle.std.proofs.Common.{◌≡◌, ◌<◌, ◌∙◌, ℕ, ◌+◌, List, false, true, Some, refl, sym, ap, subst, arith, cond, map, length, get_or, take, take_all}
 use Rattle.std.specs.Prelude.{nat_eq, slice_get, slice_set}
 use Rattle.resp_core.proofs.Cases.{by_test}
 use Rattle.cluster_slots.specs.Address.{Address}
@@ -7,14 +7,15 @@ use Rattle.redis_cluster.specs.Trace.{Ending, refused}
 use Rattle.redis_cluster.specs.Unsplit.{Step}
 use Rattle.redis_cluster.proofs.Counts.{same_number}
 use Rattle.redis_cluster.proofs.Once.{times_more, times-take, names_once-apart}
-use Rattle.redis_cluster.specs.Driven.{State, state}
+use Rattle.redis_cluster.specs.State.{State}
 use Rattle.redis_routing.specs.Registry.{Registrations}
 use Rattle.redis_batches.specs.Pipeline.{Answer, Serve}
 use Rattle.redis_batches.specs.Batched.{AreFor, numbers_in}
-use Rattle.redis_batches.specs.Taken.{answer_of, IsTaken}
-use Rattle.redis_batches.specs.Driven.{node_at}
+use Rattle.redis_batches.specs.Taken.{answer_of, IsNotTaken, IsTaken}
+use Rattle.redis_batches.specs.Driven.{WereAsked, WereAskedUntil, batch_at, node_at}
+use Rattle.redis_batches.proofs.Asked.{asked_last, asked_next, asked_none, same_batch}
+use Rattle.redis_batches.proofs.Untaken.{not_taken_wider}
 use Rattle.redis_batches.proofs.Entries.{get_there}
-use Rattle.redis_batches.proofs.OneServer.{as_one_server}
 use Rattle.redis_batches.proofs.Putting.{set_there}
 use Rattle.redis_batches.proofs.Round as round
 use Rattle.redis_batches.proofs.send.send_batches.Goals as goal
@@ -77,7 +78,7 @@ tell_first-requires-clause-long g c =
       c.in-Ok.ensures.answers (numbers_in is.batch ps k) at
           ∙ ap (λ parts. length (in_order parts (numbers_in is.batch ps k))) inv.same_parts
           ∙ round.batch_long nodes.step nodes.serve (nodes.registered c.args.nodes.now) ps c.requires.batches.1 plan.parts plan.places is order c.requires.order plan.nodes
-          (state (nodes.keyspace c.args.nodes.now) (nodes.trace c.args.nodes.now) (nodes.mark c.args.nodes.now)) k,
+          (nodes.state c.args.nodes.now) k,
     )
 
 pub loop-number-init : goal.loop-number-init
@@ -93,10 +94,11 @@ loop-number-init g c =
           let within : k < length plan.told = subst (λ n. k < n) (sym c.requires.plan.told) below in
           get_there plan.told k true within ∙ ap Some (c.requires.untold k true within);
       so_far = λ ps are is names. round.at_first nodes.step nodes.serve (nodes.registered c.args.nodes.now) ps are plan.parts plan.places is c.args.order.now names plan.nodes
-          (state (nodes.keyspace c.args.nodes.now) (nodes.trace c.args.nodes.now) (nodes.mark c.args.nodes.now)) (nodes.kept c.args.nodes.now) (nodes.may_refuse c.args.nodes.now) plan.answers;
+          (nodes.state c.args.nodes.now) (nodes.kept c.args.nodes.now) (nodes.may_refuse c.args.nodes.now) plan.answers;
       kept = λ now. now;
       may_refuse = λ count ending. (λ may. may, λ may. may);
       registered = refl;
+      asked = asked_none (nodes.asked c.args.nodes.now);
       answered = refl;
     }
 
@@ -110,9 +112,9 @@ loop-number-preserved g c =
     let inv = c.loop-number.invariant in
     let inside : i < length order = c.loop-number-test.true in
     let below : k < length plan.places = c.requires.order.below i 0 inside in
-    let old = state (nodes.keyspace c.args.nodes.now) (nodes.trace c.args.nodes.now) (nodes.mark c.args.nodes.now) in
-    let now = state (nodes.keyspace c.loop-number.nodes) (nodes.trace c.loop-number.nodes) (nodes.mark c.loop-number.nodes) in
-    let new = state (nodes.keyspace c.send_one.new.nodes) (nodes.trace c.send_one.new.nodes) (nodes.mark c.send_one.new.nodes) in
+    let old = nodes.state c.args.nodes.now in
+    let now = nodes.state c.loop-number.nodes in
+    let new = nodes.state c.send_one.new.nodes in
     let same = c.tell_first.ensures.same in
     record {
       same_nodes = same.0 ∙ inv.same_nodes;
@@ -142,6 +144,7 @@ loop-number-preserved g c =
           let before = inv.may_refuse count ending in
           (λ may. before.0 (one.0 may), λ may. one.1 (before.1 may));
       registered = c.send_one.ensures.registered ∙ inv.registered;
+      asked = asked_next (nodes.asked c.args.nodes.now) (nodes.asked c.loop-number.nodes) (nodes.asked c.send_one.new.nodes) plan order i (batch_at c.loop-number.plan k) (same_batch c.loop-number.plan plan k inv.same_nodes inv.same_places inv.same_parts) inv.asked inside c.in-Ok.ensures.asked;
       answered = omega (arith, inv.answered);
     }
 
@@ -149,20 +152,10 @@ pub returns-clause-served : goal.returns-clause-served
 returns-clause-served g c = λ ps are is.
     let nodes = g.N.BatchNodes in
     let plan = c.args.plan.now in
-    let old = state (nodes.keyspace c.args.nodes.now) (nodes.trace c.args.nodes.now) (nodes.mark c.args.nodes.now) in
-    let now = state (nodes.keyspace c.loop-number.nodes) (nodes.trace c.loop-number.nodes) (nodes.mark c.loop-number.nodes) in
+    let old = nodes.state c.args.nodes.now in
+    let now = nodes.state c.loop-number.nodes in
     round.at_end nodes.step nodes.serve (nodes.registered c.args.nodes.now) ps are plan.parts plan.places is c.args.order.now c.requires.order plan.nodes old (nodes.kept c.loop-number.nodes) (nodes.may_refuse c.args.nodes.now)
     c.loop-number.number-index (omega (arith, c.loop-number-test.false)) now c.loop-number.plan.answers c.loop-number.invariant.room (c.loop-number.invariant.so_far ps are is c.requires.order)
-
-pub returns-clause-one_server : goal.returns-clause-one_server
-returns-clause-one_server g c = λ ps are is never keep.
-    let nodes = g.N.BatchNodes in
-    let plan = c.args.plan.now in
-    let old = state (nodes.keyspace c.args.nodes.now) (nodes.trace c.args.nodes.now) (nodes.mark c.args.nodes.now) in
-    let now = state (nodes.keyspace c.loop-number.nodes) (nodes.trace c.loop-number.nodes) (nodes.mark c.loop-number.nodes) in
-    as_one_server nodes.step nodes.serve (nodes.registered c.args.nodes.now) (nodes.kept c.loop-number.nodes) (nodes.may_refuse c.args.nodes.now) ps are plan.parts plan.places is plan.nodes c.args.order.now c.requires.order old now (map answer_of c.loop-number.plan.answers)
-    (round.at_end nodes.step nodes.serve (nodes.registered c.args.nodes.now) ps are plan.parts plan.places is c.args.order.now c.requires.order plan.nodes old (nodes.kept c.loop-number.nodes) (nodes.may_refuse c.args.nodes.now)
-    c.loop-number.number-index (omega (arith, c.loop-number-test.false)) now c.loop-number.plan.answers c.loop-number.invariant.room (c.loop-number.invariant.so_far ps are is c.requires.order)) never keep
 
 pub returns-in-Err-clause-stopped : goal.returns-in-Err-clause-stopped
 returns-in-Err-clause-stopped g c = λ ps are is.
@@ -170,17 +163,49 @@ returns-in-Err-clause-stopped g c = λ ps are is.
     let plan = c.args.plan.now in
     let order = c.args.order.now in
     let inv = c.loop-number.invariant in
-    let old = state (nodes.keyspace c.args.nodes.now) (nodes.trace c.args.nodes.now) (nodes.mark c.args.nodes.now) in
-    let now = state (nodes.keyspace c.loop-number.nodes) (nodes.trace c.loop-number.nodes) (nodes.mark c.loop-number.nodes) in
+    let old = nodes.state c.args.nodes.now in
+    let now = nodes.state c.loop-number.nodes in
     let so_far = inv.so_far ps are is c.requires.order in
     let earlier = round.only_kept nodes.step nodes.serve (nodes.registered c.args.nodes.now) ps are plan.parts plan.places is order c.requires.order plan.nodes old (nodes.kept c.loop-number.nodes) (nodes.kept c.send_one.new.nodes) c.send_one.ensures.kept (nodes.may_refuse c.args.nodes.now)
     c.loop-number.number-index now c.loop-number.plan.answers so_far in
+    let i = c.loop-number.number-index in
+    let k = get_or order i 0 in
+    let list = numbers_in is.batch ps k in
+    let inside : i < length order = c.loop-number-test.true in
+    let at : slice_get c.loop-number.plan.places k ≡ Some list = ap (λ ls. slice_get ls k) inv.same_places ∙ is.places_are k (c.requires.order.below i 0 inside) in
+    let error = c.in-Err.error in
+    let new = nodes.state c.send_one.new.nodes in
+    let named : IsNotTaken nodes.step nodes.serve (nodes.registered c.args.nodes.now) (nodes.kept c.send_one.new.nodes) (nodes.may_refuse c.loop-number.nodes) (node_at c.loop-number.plan.nodes k) (in_order c.loop-number.plan.parts list) now new error =
+    subst (λ r. IsNotTaken nodes.step nodes.serve r (nodes.kept c.send_one.new.nodes) (nodes.may_refuse c.loop-number.nodes) (node_at c.loop-number.plan.nodes k) (in_order c.loop-number.plan.parts list) now new error) inv.registered (c.in-Err.ensures.untaken list at) in
+    let wide = not_taken_wider nodes.step nodes.serve (nodes.registered c.args.nodes.now) (nodes.kept c.send_one.new.nodes) (node_at c.loop-number.plan.nodes k) (in_order c.loop-number.plan.parts list) now new (nodes.may_refuse c.loop-number.nodes) (nodes.may_refuse c.args.nodes.now) (λ count ending. (inv.may_refuse count ending).0) error named in
+    let last : IsNotTaken nodes.step nodes.serve (nodes.registered c.args.nodes.now) (nodes.kept c.send_one.new.nodes) (nodes.may_refuse c.args.nodes.now) (node_at plan.nodes k) (in_order plan.parts list) now new error =
+    subst (λ ns. IsNotTaken nodes.step nodes.serve (nodes.registered c.args.nodes.now) (nodes.kept c.send_one.new.nodes) (nodes.may_refuse c.args.nodes.now) (node_at ns k) (in_order plan.parts list) now new error) inv.same_nodes
+    (subst (λ parts. IsNotTaken nodes.step nodes.serve (nodes.registered c.args.nodes.now) (nodes.kept c.send_one.new.nodes) (nodes.may_refuse c.args.nodes.now) (node_at c.loop-number.plan.nodes k) (in_order parts list) now new error) inv.same_parts wide) in
     record {
       between = now;
       taken = rw inv.answered (round.taken_so_far nodes.step nodes.serve (nodes.registered c.args.nodes.now) ps are plan.parts plan.places is order c.requires.order plan.nodes old (nodes.kept c.send_one.new.nodes) (nodes.may_refuse c.args.nodes.now)
           c.loop-number.number-index now c.loop-number.plan.answers earlier);
-      idle = c.in-Err.ensures.idle;
+      number = k;
+      next = ap (slice_get order) inv.answered ∙ get_there order i 0 inside;
+      untaken = last;
     }
+
+pub returns-clause-asked : goal.returns-clause-asked
+returns-clause-asked g c =
+    let nodes = g.N.BatchNodes in
+    let order = c.args.order.now in
+    subst (λ o. WereAsked (nodes.asked c.args.nodes.now) (nodes.asked c.loop-number.nodes) (map (batch_at c.args.plan.now) o)) (take_all c.loop-number.number-index order (omega (arith, c.loop-number-test.false))) c.loop-number.invariant.asked
+
+pub returns-in-Err-clause-asked_until : goal.returns-in-Err-clause-asked_until
+returns-in-Err-clause-asked_until g c =
+    let nodes = g.N.BatchNodes in
+    let plan = c.args.plan.now in
+    let order = c.args.order.now in
+    let i = c.loop-number.number-index in
+    let k = get_or order i 0 in
+    let inv = c.loop-number.invariant in
+    let last = asked_last (nodes.asked c.args.nodes.now) (nodes.asked c.loop-number.nodes) (nodes.asked c.send_one.new.nodes) plan order i (batch_at c.loop-number.plan k) (same_batch c.loop-number.plan plan k inv.same_nodes inv.same_places inv.same_parts) inv.asked c.in-Err.error c.in-Err.ensures.asked_until in
+    subst (λ n. WereAskedUntil (nodes.asked c.args.nodes.now) (nodes.asked c.send_one.new.nodes) (map (batch_at plan) (take n order)) (batch_at plan (get_or order n 0)) c.in-Err.error) (sym inv.answered) last
 
 pub returns-in-Err-clause-within : goal.returns-in-Err-clause-within
 returns-in-Err-clause-within g c = omega (arith, c.loop-number.invariant.answered, c.loop-number-test.true)

@@ -1,10 +1,10 @@
-use Rattle.std.proofs.Common.{◌≡◌, ◌<◌, ◌↔◌, ℕ, List, All, Some, false, length, take}
+use Rattle.std.proofs.Common.{◌≡◌, ◌<◌, ◌↔◌, ℕ, List, All, Some, false, length, map, take}
 use Rattle.std.specs.Prelude.{slice_get}
 use Rattle.redis_cluster.specs.Orders.{NamesOnce, times}
 use Rattle.redis_cluster.specs.Trace.{Ending}
-use Rattle.redis_cluster.specs.Driven.{state}
 use Rattle.redis_batches.specs.Pipeline.{AreSlotsOf, Planned}
 use Rattle.redis_batches.specs.Batched.{AreBatches}
+use Rattle.redis_batches.specs.Driven.{WereAsked, batch_at}
 use Rattle.redis_batches.proofs.Round.{IsSoFar}
 use Rattle.redis_batches.proofs.send.send_batches.Given as goal
 
@@ -19,10 +19,11 @@ invariant-loop-number g l =
       room : length l.plan.answers ≡ length l.fn.plan.parts;
       untold : (k : ℕ) → times k (take l.number-index l.order) ≡ 0 → k < length l.fn.plan.places → slice_get l.plan.told k ≡ Some false;
       so_far : (ps : List Planned) (are : All (λ p. AreSlotsOf p.task p.slots) ps) (is : AreBatches (nodes.registered l.fn.nodes) ps l.fn.plan.parts l.fn.plan.places) (names : NamesOnce (length l.fn.plan.places) l.order)
-          → IsSoFar nodes.step nodes.serve (nodes.registered l.fn.nodes) ps are l.fn.plan.parts l.fn.plan.places is l.order names l.fn.plan.nodes (state (nodes.keyspace l.fn.nodes) (nodes.trace l.fn.nodes) (nodes.mark l.fn.nodes))
-          (nodes.kept l.nodes) (nodes.may_refuse l.fn.nodes) l.number-index (state (nodes.keyspace l.nodes) (nodes.trace l.nodes) (nodes.mark l.nodes)) l.plan.answers;
+          → IsSoFar nodes.step nodes.serve (nodes.registered l.fn.nodes) ps are l.fn.plan.parts l.fn.plan.places is l.order names l.fn.plan.nodes (nodes.state l.fn.nodes)
+          (nodes.kept l.nodes) (nodes.may_refuse l.fn.nodes) l.number-index (nodes.state l.nodes) l.plan.answers;
       kept : nodes.kept l.nodes → nodes.kept l.fn.nodes;
       may_refuse : (count : ℕ) (ending : Ending) → nodes.may_refuse l.nodes count ending ↔ nodes.may_refuse l.fn.nodes count ending;
       registered : nodes.registered l.nodes ≡ nodes.registered l.fn.nodes;
+      asked : WereAsked (nodes.asked l.fn.nodes) (nodes.asked l.nodes) (map (batch_at l.fn.plan) (take l.number-index l.order));
       answered : l.answered ≡ l.number-index;
     }

@@ -4,22 +4,22 @@ use Rattle.std.proofs.lemmas.List.{map-append}
 use Rattle.std.proofs.lemmas.Option.{slice_get_read}
 use Rattle.resp_core.specs.declared.cmd.Cmd.{Cmd}
 use Rattle.redis_batches.proofs.ByNode.{at_take}
-use Rattle.redis_cluster.specs.Driven.{state}
 use Rattle.redis_batches.specs.Taken.{answer_of, IsTaken}
 use Rattle.memory_nodes.specs.Steps.{step}
-use Rattle.memory_batches.specs.Nodes.{registered_in, keyspace_in, trace_in, mark_in, MayRefuse}
+use Rattle.memory_batches.specs.Nodes.{registered_in, keyspace_in, trace_in, mark_in, state_in, MayRefuse}
 use Rattle.memory_batches.specs.Strings.{serve}
 use Rattle.memory_batches.proofs.Batches.{taken_none, taken_next}
-use Rattle.memory_batches.proofs.Traces.{same_plan}
+use Rattle.memory_batches.proofs.Traces.{begun_by, on_err_always, planned_next, planned_none, same_plan}
 use Rattle.memory_batches.proofs.nodes.MemoryBatchNodes.take_all.Goals as goal
 
 pub loop-cmd-init : goal.loop-cmd-init
 loop-cmd-init c =
     let first = c.args.self.now in
-    let start = state (keyspace_in first) (trace_in first) (mark_in first) in
+    let start = state_in first in
     record {
       answers = ap length c.requires.none;
       taken = subst (λ l. IsTaken step serve (registered_in first) (Unit {0}) (MayRefuse first) c.args.node.now [] start start (map answer_of l)) (sym c.requires.none) (taken_none step serve (registered_in first) (Unit {0}) (MayRefuse first) c.args.node.now start);
+      as_planned = planned_none first;
       plan = refl;
       base = refl;
       registered = refl;
@@ -40,10 +40,36 @@ loop-cmd-preserved c =
     record {
       answers = ap length c.in_ok-push.ensures.items ∙ length-append c.loop-cmd.answers.items (c.in_ok-answer.answer ∷ []) ∙ ap (λ n. n + 1) so_far.answers;
       taken = taken_next step serve (Unit {0}) (registered_in first) (registered_in between) (MayRefuse first) (MayRefuse between) c.args.node.now (take i (map (λ (b : Bor Cmd). b.now) batch)) (take (i + 1) (map (λ (b : Bor Cmd). b.now) batch)) cmd.now
-          (state (keyspace_in first) (trace_in first) (mark_in first)) (state (keyspace_in between) (trace_in between) (mark_in between)) (state (keyspace_in new) (trace_in new) (mark_in new))
+          (state_in first) (state_in between) (state_in new)
           (map answer_of c.loop-cmd.answers.items) (map answer_of c.push.new.self.items) (answer_of c.in_ok-answer.answer)
           so_far.registered (same_plan between first so_far.plan so_far.base) (at_take (λ (b : Bor Cmd). b.now) batch i cmd there) given so_far.taken c.in_ok-answer.ensures.taken;
+      as_planned = planned_next first between new c.args.node.now cmd.now so_far.plan so_far.base so_far.as_planned c.in_ok-answer.ensures.noted;
       plan = c.in_ok-answer.ensures.plan ∙ so_far.plan;
       base = c.in_ok-answer.ensures.base ∙ so_far.base;
       registered = c.in_ok-answer.ensures.registered ∙ so_far.registered;
     }
+
+pub returns-in_err-answer-clause-begun : goal.returns-in_err-answer-clause-begun
+returns-in_err-answer-clause-begun c =
+    let first = c.args.self.now in
+    let so_far = c.loop-cmd.invariant in
+    on_err_always c.from_residual.result
+    (begun_by c.args.node.now (map (λ (b : Bor Cmd). b.now) c.args.batch.now) c.loop-cmd.cmd-index (trace_in first) (trace_in c.take.new.self) so_far.taken.ends so_far.taken.long (c.in_err-answer.ensures.untaken ∙ so_far.taken.trace))
+
+pub returns-in_err-push-clause-begun : goal.returns-in_err-push-clause-begun
+returns-in_err-push-clause-begun c =
+    let first = c.args.self.now in
+    let between = c.loop-cmd.self in
+    let new = c.take.new.self in
+    let batch = c.args.batch.now in
+    let i = c.loop-cmd.cmd-index in
+    let cmd = c.cmd-item.result in
+    let so_far = c.loop-cmd.invariant in
+    let there : slice_get batch i ≡ Some cmd = slice_get_read batch (length batch) i cmd refl c.loop-cmd-test.true c.cmd-item.is in
+    let given = map answer_of c.loop-cmd.answers.items in
+    let next = taken_next step serve (Unit {0}) (registered_in first) (registered_in between) (MayRefuse first) (MayRefuse between) c.args.node.now (take i (map (λ (b : Bor Cmd). b.now) batch)) (take (i + 1) (map (λ (b : Bor Cmd). b.now) batch)) cmd.now
+    (state_in first) (state_in between) (state_in new)
+    given (given ++ answer_of c.in_ok-answer.answer ∷ []) (answer_of c.in_ok-answer.answer)
+    so_far.registered (same_plan between first so_far.plan so_far.base) (at_take (λ (b : Bor Cmd). b.now) batch i cmd there) refl so_far.taken c.in_ok-answer.ensures.taken in
+    on_err_always c.from_residual-in_err-push.result
+    (begun_by c.args.node.now (map (λ (b : Bor Cmd). b.now) batch) (i + 1) (trace_in first) (trace_in new) next.ends next.long next.trace)

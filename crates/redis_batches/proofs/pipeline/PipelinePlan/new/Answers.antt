@@ -1,51 +1,85 @@
-use Rattle.std.proofs.Common.{◌≡◌, ◌∙◌, ap, sym, subst, length, map}
+use Rattle.std.proofs.Common.{◌≡◌, ◌∙◌, ℕ, Bor, IsSome, ap, sym, subst, length, map}
 use Rattle.std.specs.List.{flat_map}
 use Rattle.std.proofs.lemmas.List.{length-map}
+use Rattle.cluster_slots.specs.Address.{Address}
+use Rattle.redis_routing.specs.Names.{names_in}
+use Rattle.redis_routing.specs.ReadOnly.{is_among}
+use Rattle.redis_batches.specs.Chosen.{AreSlots, IsChosen, all_written}
 use Rattle.redis_batches.specs.CommandTask.{slot_parts, slots_kept}
 use Rattle.redis_batches.specs.PartArguments.{sent_args}
-use Rattle.redis_batches.specs.Placed.{ArePlaced, IsPartFault}
+use Rattle.redis_batches.specs.Placed.{IsPartFault}
 use Rattle.redis_batches.specs.PipelinePlan.{IsPlanFault}
 use Rattle.redis_batches.specs.Plan.{IsByNode}
+use Rattle.redis_batches.specs.Reads.{IsSlotNode, slots_written}
+use Rattle.redis_batches.proofs.Choosing.{is_slot_node, one_chosen}
+use Rattle.redis_batches.proofs.Fewest.{fewest}
 use Rattle.redis_batches.proofs.Placing.{err_from}
-use Rattle.redis_batches.proofs.Planning.{has_parts, is_plan_of, nodes_for_parts, part_fault}
+use Rattle.redis_batches.proofs.Planning.{has_parts, is_plan_of, nodes_for_parts, part_fault, placed_parts, tasks_long, written_is}
 use Rattle.redis_batches.proofs.pipeline.PipelinePlan.new.Goals as goal
-use Rattle.redis_batches.proofs.pipeline.PipelinePlan.new.Goals.{In_ok-batches}
 
-pub returns-in_err-parts-clause-fault : goal.returns-in_err-parts-clause-fault
-returns-in_err-parts-clause-fault c =
-    let registered = c.args.registry.now in
+pub written_slots-requires : goal.written_slots-requires
+written_slots-requires g c =
+    record { same = ap length c.as_slice.ensures.value ∙ tasks_long c.args.names.registry.now c.args.commands.now c.in_ok-tasks.tasks.items c.in_ok-tasks.ensures.tasks }
+
+pub returns-in_err-placed-clause-fault : goal.returns-in_err-placed-clause-fault
+returns-in_err-placed-clause-fault g c =
+    let registered = c.args.names.registry.now in
     let ranges = c.args.slot_map.now in
     let commands = c.args.commands.now in
     let kept = c.in_ok-tasks.tasks.items in
-    err_from _ _ c.from_residual-in_err-parts.result c.from_residual-in_err-parts.ensures.1
+    err_from _ _ c.from_residual-in_err-placed.result c.from_residual-in_err-placed.ensures.1
     (λ fault is. subst (IsPlanFault registered ranges commands) (sym is)
-    (part_fault registered ranges commands kept c.in_err-parts.field-0.0 c.in_ok-tasks.ensures.tasks (subst (λ ks. IsPartFault ranges (map slots_kept ks) c.in_err-parts.field-0.0) c.as_slice.ensures.value c.in_err-parts.ensures.fault)))
+    (part_fault registered ranges commands kept c.in_err-placed.field-0.0 c.in_ok-tasks.ensures.tasks (subst (λ ks. IsPartFault ranges (map slots_kept ks) c.in_err-placed.field-0.0) c.as_slice-2.ensures.value c.in_err-placed.ensures.fault)))
 
 pub new-requires : goal.new-requires
-new-requires c =
-    let ranges = c.args.slot_map.now in
-    let made = c.in_ok-parts.field-0 in
+new-requires g c =
+    let made = c.in_ok-placed.placed in
+    let now : Bor Address → Address = λ node. node.now in
     let same : length made.nodes.items ≡ length made.parts.items =
-    sym (length-map made.nodes.items (λ node. node.now)) ∙ nodes_for_parts ranges (flat_map slot_parts c.as_slice.result.now) (map sent_args made.parts.items) (map (λ node. node.now) made.nodes.items) c.in_ok-parts.ensures.placed ∙ length-map made.parts.items sent_args in
-    record { same = ap length c.as_slice-2.ensures.value ∙ same }
-
--- the parts are placed as the plan has them
-placed_in : (c : In_ok-batches) → ArePlaced c.args.slot_map.now (flat_map slot_parts c.in_ok-tasks.tasks.items) c.in_ok-batches.batches.parts (map (λ node. node.now) c.in_ok-parts.field-0.nodes.items)
-placed_in c =
-    let ranges = c.args.slot_map.now in
-    let made = c.in_ok-parts.field-0 in
-    let nodes = map (λ node. node.now) made.nodes.items in
-    subst (λ ps. ArePlaced ranges (flat_map slot_parts c.in_ok-tasks.tasks.items) ps nodes) (sym c.in_ok-batches.ensures.parts)
-    (subst (λ ks. ArePlaced ranges (flat_map slot_parts ks) (map sent_args made.parts.items) nodes) c.as_slice.ensures.value c.in_ok-parts.ensures.placed)
+    sym (length-map made.nodes.items now)
+    ∙ nodes_for_parts (IsChosen c.args.strategy c.args.slot_map.now made.chosen.entries) (flat_map slot_parts c.as_slice-2.result.now) (map sent_args made.parts.items) (map now made.nodes.items) c.in_ok-placed.ensures.placed
+    ∙ length-map made.parts.items sent_args in
+    record { same = ap length c.as_slice-3.ensures.value ∙ same }
 
 pub invariant_of-result : goal.invariant_of-result
-invariant_of-result c =
-    let w = (goal.at.invariant_of-result c).In_ok-batches in
-    has_parts w.args.slot_map.now w.in_ok-tasks.tasks.items w.in_ok-batches.batches.parts (map (λ node. node.now) w.in_ok-parts.field-0.nodes.items) (placed_in w)
+invariant_of-result g c =
+    let made = c.in_ok-placed.placed in
+    let chosen : ℕ → Address → Type 0 = IsChosen c.args.strategy c.args.slot_map.now made.chosen.entries in
+    let nodes = map (λ node. node.now) made.nodes.items in
+    let kept = c.in_ok-tasks.tasks.items in
+    let parts = c.in_ok-batches.batches.parts in
+    has_parts chosen kept parts nodes (placed_parts chosen c.as_slice-2.result.now kept (map sent_args made.parts.items) parts nodes c.as_slice-2.ensures.value c.in_ok-batches.ensures.parts c.in_ok-placed.ensures.placed)
 
 pub returns-clause-plan : goal.returns-clause-plan
-returns-clause-plan c =
-    let w = (goal.at.returns-clause-plan c).In_ok-batches in
-    let nodes = map (λ node. node.now) w.in_ok-parts.field-0.nodes.items in
-    let by_node : IsByNode w.in_ok-batches.batches nodes = subst (λ ns. IsByNode w.in_ok-batches.batches (map (λ node. node.now) ns)) w.as_slice-2.ensures.value w.in_ok-batches.ensures.by_node in
-    is_plan_of w.args.registry.now w.args.slot_map.now w.args.commands.now w.in_ok-tasks.tasks.items w.in_ok-batches.batches nodes w.values-ranges.ensures.order w.in_ok-tasks.ensures.tasks (placed_in w) by_node
+returns-clause-plan g c =
+    let made = c.in_ok-placed.placed in
+    let ranges = c.args.slot_map.now in
+    let commands = c.args.commands.now in
+    let names = names_in c.args.names in
+    let chosen : ℕ → Address → Type 0 = IsChosen c.args.strategy ranges made.chosen.entries in
+    let is_node : ℕ → Address → Type 0 = IsSlotNode c.args.strategy (λ s. (goal.ReadRoutingStrategy-dyn g s.now).picks s.now.1) ranges names commands in
+    let nodes = map (λ node. node.now) made.nodes.items in
+    let kept = c.in_ok-tasks.tasks.items in
+    let batches = c.in_ok-batches.batches in
+    let written = c.in_ok-written.written.keys in
+    let are : IsSome c.args.strategy → AreSlots (flat_map (slots_written names) commands) written =
+    λ lent. subst (λ slots. AreSlots slots written)
+    (ap (all_written (is_among c.args.names.read_only.now) commands) c.as_slice.ensures.value ∙ written_is names commands kept c.in_ok-tasks.ensures.tasks) (c.in_ok-written.ensures lent) in
+    is_plan_of c.args.names.registry.now chosen is_node commands kept batches nodes
+    (one_chosen c.args.strategy ranges made.chosen.entries c.values-ranges.ensures.order)
+    (is_slot_node c.args.strategy (λ s. (goal.ReadRoutingStrategy-dyn g s.now).picks s.now.1) ranges names commands written made.chosen.entries are c.in_ok-placed.ensures.right)
+    c.in_ok-tasks.ensures.tasks
+    (placed_parts chosen c.as_slice-2.result.now kept (map sent_args made.parts.items) batches.parts nodes c.as_slice-2.ensures.value c.in_ok-batches.ensures.parts c.in_ok-placed.ensures.placed)
+    (subst (λ ns. IsByNode batches (map (λ node. node.now) ns)) c.as_slice-3.ensures.value c.in_ok-batches.ensures.by_node)
+
+pub returns-clause-fewest : goal.returns-clause-fewest
+returns-clause-fewest g c =
+    let made = c.in_ok-placed.placed in
+    let chosen : ℕ → Address → Type 0 = IsChosen c.args.strategy c.args.slot_map.now made.chosen.entries in
+    let nodes = map (λ node. node.now) made.nodes.items in
+    let kept = c.in_ok-tasks.tasks.items in
+    let batches = c.in_ok-batches.batches in
+    fewest batches nodes c.in_ok-batches.ensures.plan
+    (nodes_for_parts chosen (flat_map slot_parts kept) batches.parts nodes
+    (placed_parts chosen c.as_slice-2.result.now kept (map sent_args made.parts.items) batches.parts nodes c.as_slice-2.ensures.value c.in_ok-batches.ensures.parts c.in_ok-placed.ensures.placed))
+    (subst (λ ns. IsByNode batches (map (λ node. node.now) ns)) c.as_slice-3.ensures.value c.in_ok-batches.ensures.by_node)

@@ -1,0 +1,49 @@
+-- Batches that were sent, one after the other.
+use Rattle.std.proofs.Common.{◌≡◌, ◌<◌, ◌∙◌, ◌⊎◌, inl, inr, ℕ, ◌+◌, List, [], ◌∷◌, ◌++◌, Result, Ok, Err, refl, sym, ap, subst, map, length, get_or, take, take_all, arith, append_assoc, ◌≤◌}
+use Rattle.std.specs.Prelude.{OnOk, IfErr}
+use Rattle.std.proofs.lemmas.List.{append-nil, map_more}
+use Rattle.redis_cluster.specs.Orders.{in_order}
+use Rattle.redis_cluster.specs.declared.nodes.SendError.{SendError}
+use Rattle.redis_batches.specs.Driven.{WereAsked, WereAskedUntil, batch_at, node_at}
+use Rattle.redis_batches.specs.Plan.{Batches}
+use Rattle.redis_batches.specs.Taken.{Batch, batch_for}
+
+-- what holds whatever comes
+pub on_ok_always : {T E P : Type 0} (r : Result T E) → P → OnOk r P
+on_ok_always (Ok value) is = is
+on_ok_always (Err error) is = tt
+
+pub if_err_always : {T E : Type 0} (r : Result T E) (P : E → Type 0) → ((error : E) → P error) → IfErr r P
+if_err_always (Ok value) P is = tt
+if_err_always (Err error) P is = is error
+
+-- none
+pub asked_none : (old : List Batch → Type 0) → WereAsked old old []
+asked_none old before was = subst old (sym (append-nil before)) was
+
+-- some, and then others
+pub asked_more : (old between new : List Batch → Type 0) (sent others : List Batch) → WereAsked old between sent → WereAsked between new others → WereAsked old new (sent ++ others)
+asked_more old between new sent others one other before was = subst new (append_assoc before sent others) (other (before ++ sent) (one before was))
+
+-- a plan with the same parts has the same batches
+pub same_batch : (now plan : Batches) (k : ℕ) → now.nodes ≡ plan.nodes → now.places ≡ plan.places → now.parts ≡ plan.parts → batch_at now k ≡ batch_at plan k
+same_batch now plan k nodes places parts =
+    ap (λ ns. batch_for (node_at ns k) (in_order now.parts (get_or now.places k []))) nodes
+    ∙ ap (λ ls. batch_for (node_at plan.nodes k) (in_order now.parts (get_or ls k []))) places
+    ∙ ap (λ ps. batch_for (node_at plan.nodes k) (in_order ps (get_or plan.places k []))) parts
+
+module _ (old between new : List Batch → Type 0) (plan : Batches) (order : List ℕ) (i : ℕ) (last : Batch) (same : last ≡ batch_at plan (get_or order i 0))
+    (so_far : WereAsked old between (map (batch_at plan) (take i order))) where
+  -- one more
+  pub asked_next : i < length order → WereAsked between new (last ∷ []) → WereAsked old new (map (batch_at plan) (take (i + 1) order))
+  asked_next inside one =
+      let own : WereAsked between new (batch_at plan (get_or order i 0) ∷ []) = subst (λ b. WereAsked between new (b ∷ [])) same one in
+      subst (WereAsked old new) (sym (map_more (batch_at plan) order i 0 inside)) (asked_more old between new (map (batch_at plan) (take i order)) (batch_at plan (get_or order i 0) ∷ []) so_far own)
+
+  -- or one that was not taken
+  pub asked_last : (error : SendError) → WereAskedUntil between new [] last error → WereAskedUntil old new (map (batch_at plan) (take i order)) (batch_at plan (get_or order i 0)) error
+  asked_last error (inl one) =
+      let own : WereAsked between new (batch_at plan (get_or order i 0) ∷ []) = subst (λ b. WereAsked between new (b ∷ [])) same one in
+      inl (asked_more old between new (map (batch_at plan) (take i order)) (batch_at plan (get_or order i 0) ∷ []) so_far own)
+  asked_last error (inr none) =
+      inr (none.0, subst (WereAsked old new) (append-nil (map (batch_at plan) (take i order))) (asked_more old between new (map (batch_at plan) (take i order)) [] so_far none.1))

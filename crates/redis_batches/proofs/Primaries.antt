@@ -1,0 +1,78 @@
+-- Where no strategy is lent, the node of a slot is its primary.
+use Rattle.std.proofs.Common.{◌≡◌, ℕ, Bool, true, false, not, List}
+use Rattle.std.proofs.lemmas.List.Elements.{All-weaker}
+use Rattle.cluster_slots.specs.Address.{Address}
+use Rattle.cluster_map.specs.RouteNode.{IsNodeFor, IsNodeOfRoute}
+use Rattle.cluster_map.specs.SlotNodes.{SlotNodes}
+use Rattle.redis_routing.specs.Names.{Names}
+use Rattle.redis_routing.specs.Registry.{Registrations}
+use Rattle.redis_routing.specs.Routing.{nodes_for}
+use Rattle.redis_cluster.specs.State.{State}
+use Rattle.redis_cluster.specs.Trace.{Ending}
+use Rattle.redis_cluster.specs.Unsplit.{Step}
+use Rattle.redis_batches.specs.DrivenPipeline.{IsPipelineServed, IsSendable}
+use Rattle.redis_batches.specs.Pipeline.{Answer, Part, Serve}
+use Rattle.redis_batches.specs.Placed.{IsPrimaryOf, Ranges}
+use Rattle.redis_batches.specs.PipelinePlan.{IsPlanOfCommands, PipelineBatches, pieces_of}
+use Rattle.redis_batches.specs.Reads.{is_written, pipeline_route}
+
+primary_for : (reads : Bool) (nodes : SlotNodes) (address : Address) → IsNodeFor nodes (nodes_for reads) 0 address → address ≡ nodes.primary
+primary_for true nodes address is = is
+primary_for false nodes address is = is
+
+primary_of_slot : (ranges : Ranges) (names : Names) (commands : List (List (List ℕ))) (slot : ℕ) (address : Address)
+    → IsNodeOfRoute ranges (pipeline_route names commands slot) 0 address → IsPrimaryOf ranges slot address
+primary_of_slot ranges names commands slot address is = (is.0, is.1, primary_for (not (is_written names commands slot)) is.0 address is.2)
+
+-- a plan holds for whatever its nodes are
+plan_with : (registered : Registrations) (one other : ℕ → Address → Type 0) → ((slot : ℕ) (address : Address) → one slot address → other slot address) → (commands : List (List (List ℕ))) (plan : PipelineBatches)
+    → IsPlanOfCommands registered one commands plan → IsPlanOfCommands registered other commands plan
+plan_with registered one other weaker commands plan is = record {
+  tasks = is.tasks;
+  tasks_are = is.tasks_are;
+  splits_are = is.splits_are;
+  parts_are = is.parts_are;
+  arguments = is.arguments;
+  node_of = is.node_of;
+  nodes_are = All-weaker (λ (q : Part). one q.slot (is.node_of q.slot)) (λ q. other q.slot (is.node_of q.slot))
+      (λ q has. weaker q.slot (is.node_of q.slot) has) (pieces_of is.tasks) is.nodes_are;
+  by_node = is.by_node;
+}
+
+-- so does an order of its batches
+sendable_with : (registered : Registrations) (one other : ℕ → Address → Type 0) → ((slot : ℕ) (address : Address) → one slot address → other slot address) → (commands : List (List (List ℕ))) (order : List ℕ) (plan : PipelineBatches)
+    → IsSendable registered one commands order plan → IsSendable registered other commands order plan
+unfolding plan_with
+sendable_with registered one other weaker commands order plan is = record {
+  of_commands = plan_with registered one other weaker commands plan is.of_commands;
+  order_is = is.order_is;
+  batches = is.batches;
+  nodes = is.nodes;
+}
+
+-- and what was sent and answered
+served_with : {C : Type 0} (step : Step C) (serve : Serve C) (kept : Type 0) (may_refuse : ℕ → Ending → Type 0) (registered : Registrations) (one other : ℕ → Address → Type 0)
+    → ((slot : ℕ) (address : Address) → one slot address → other slot address) → (commands : List (List (List ℕ))) (order : List ℕ) (old new : State C) (replies : List Answer)
+    → IsPipelineServed step serve kept may_refuse registered one commands order old new replies → IsPipelineServed step serve kept may_refuse registered other commands order old new replies
+unfolding sendable_with plan_with
+served_with step serve kept may_refuse registered one other weaker commands order old new replies is = record {
+  given = is.given;
+  taken = record {
+    plan = is.taken.plan;
+    sendable = sendable_with registered one other weaker commands order is.taken.plan is.taken.sendable;
+    served = is.taken.served;
+  };
+  replies_are = is.replies_are;
+  untouched = is.untouched;
+}
+
+module _ (registered : Registrations) (ranges : Ranges) (names : Names) (commands : List (List (List ℕ))) where
+  pub to_primaries : (plan : PipelineBatches) → IsPlanOfCommands registered (λ slot address. IsNodeOfRoute ranges (pipeline_route names commands slot) 0 address) commands plan
+      → IsPlanOfCommands registered (IsPrimaryOf ranges) commands plan
+  to_primaries plan is = plan_with registered (λ slot address. IsNodeOfRoute ranges (pipeline_route names commands slot) 0 address) (IsPrimaryOf ranges) (primary_of_slot ranges names commands) commands plan is
+
+  pub served_by_primaries : {C : Type 0} (step : Step C) (serve : Serve C) (kept : Type 0) (may_refuse : ℕ → Ending → Type 0) (order : List ℕ) (old new : State C) (replies : List Answer)
+      → IsPipelineServed step serve kept may_refuse registered (λ slot address. IsNodeOfRoute ranges (pipeline_route names commands slot) 0 address) commands order old new replies
+      → IsPipelineServed step serve kept may_refuse registered (IsPrimaryOf ranges) commands order old new replies
+  served_by_primaries step serve kept may_refuse order old new replies is =
+      served_with step serve kept may_refuse registered (λ slot address. IsNodeOfRoute ranges (pipeline_route names commands slot) 0 address) (IsPrimaryOf ranges) (primary_of_slot ranges names commands) commands order old new replies is

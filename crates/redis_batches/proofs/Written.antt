@@ -1,0 +1,67 @@
+-- The slots that a pipeline may write to are gathered command by command.
+use Rattle.std.proofs.Common.{◌≡◌, ◌<◌, ◌+◌, ◌||◌, ℕ, zero, suc, Bool, true, false, cond, List, [], ◌∷◌, ◌++◌, refl, sym, ap, ◌∙◌, arith, length, take, get_or}
+use Rattle.std.specs.Prelude.{nat_eq, nat_lt}
+use Rattle.std.specs.List.{flat_map, list_any, zip}
+use Rattle.std.specs.Ordering.{is_eq, nat_cmp}
+use Rattle.std.specs.declared.alloc.Global.{Global}
+use Rattle.std.specs.declared.vec.Vec.{Vec}
+use Rattle.std.proofs.lemmas.Bool.Decides.{nat_tests}
+use Rattle.std.proofs.lemmas.Grind.{flat_map-append}
+use Rattle.std.proofs.lemmas.List.{append_assoc, append-nil, map_push}
+use Rattle.resp_core.proofs.Cases.{by_test, or_second}
+use Rattle.cluster_slots.specs.SlotRoute.{SlotRoute}
+use Rattle.redis_routing.specs.RoutingInfo.{route_lists}
+use Rattle.redis_routing.specs.Split.{slots_of}
+use Rattle.redis_cluster.proofs.Covered.{route_lists_more}
+use Rattle.redis_batches.specs.Chosen.{AreSlots, has_slot, kept_written}
+use Rattle.redis_batches.specs.declared.task.CommandTask.{CommandTask}
+
+-- slots are compared as numbers
+pub same_slot : (a b : ℕ) → is_eq (nat_cmp a b) ≡ nat_eq a b
+same_slot a b =
+    by_test (nat_lt a b)
+    (λ below. let other : nat_eq a b ≡ false = grind (arith, nat_tests) in rw below (sym other))
+    (λ above. rw above (by_test (nat_eq a b) (λ here. rw here refl) (λ there. rw there refl)))
+
+-- one more behind others
+any_push : (before : List ℕ) (slot q : ℕ) → list_any (λ other. nat_eq other q) (before ++ slot ∷ []) ≡ cond (nat_eq slot q) true (list_any (λ other. nat_eq other q) before)
+any_push [] slot q = by_test (nat_eq slot q) (λ here. rw here refl) (λ there. rw there refl)
+any_push (x ∷ before) slot q =
+    let rest : Bool = list_any (λ other. nat_eq other q) before in
+    ap (λ b. nat_eq x q || b) (any_push before slot q)
+    ∙ by_test (nat_eq slot q)
+    (λ here. ap (λ b. nat_eq x q || cond b true rest) here ∙ or_second (nat_eq x q) true refl ∙ sym (ap (λ b. cond b true (nat_eq x q || rest)) here))
+    (λ there. ap (λ b. nat_eq x q || cond b true rest) there ∙ sym (ap (λ b. cond b true (nat_eq x q || rest)) there))
+
+-- a slot was put into a set
+pub slot_added : (old new before : List ℕ) (slot : ℕ) → ((q : ℕ) → has_slot new q ≡ cond (is_eq (nat_cmp slot q)) true (has_slot old q)) → AreSlots before old → AreSlots (before ++ slot ∷ []) new
+slot_added old new before slot added are = λ q.
+    added q ∙ ap (λ b. cond b true (has_slot old q)) (same_slot slot q) ∙ ap (cond (nat_eq slot q) true) (are q) ∙ sym (any_push before slot q)
+
+-- the slot of one route more
+pub route_added : (routes : List (SlotRoute × Vec ℕ Global)) (i slot : ℕ) (route : SlotRoute × Vec ℕ Global) (before : List ℕ) → i < length routes → route ≡ get_or routes i route → slot ≡ route.0.slot
+    → (before ++ slots_of (route_lists (take i routes))) ++ slot ∷ [] ≡ before ++ slots_of (route_lists (take (i + 1) routes))
+route_added routes i slot route before within is same =
+    append_assoc before (slots_of (route_lists (take i routes))) (slot ∷ []) ∙ ap (λ s. before ++ (slots_of (route_lists (take i routes)) ++ s ∷ [])) same
+    ∙ ap (λ l. before ++ l) (sym (ap slots_of (route_lists_more routes i route within is) ∙ map_push (λ (r : SlotRoute × List ℕ). r.0.slot) (route_lists (take i routes)) (route.0, route.1.items)))
+
+-- two lists side by side
+pub zip_long : {A B : Type 0} (xs : List A) (ys : List B) → length ys ≡ length xs → length (zip xs ys) ≡ length xs
+zip_long [] ys same = refl
+zip_long (x ∷ xs) [] same = absurd (omega (arith, same))
+zip_long (x ∷ xs) (y ∷ ys) same = ap suc (zip_long xs ys (omega (arith, same)))
+
+zip_more : {A B : Type 0} (xs : List A) (ys : List B) (i : ℕ) (x : A) (y : B) → i < length xs → length ys ≡ length xs → x ≡ get_or xs i x → y ≡ get_or ys i y → take (i + 1) (zip xs ys) ≡ take i (zip xs ys) ++ (x, y) ∷ []
+zip_more [] ys i x y within same is also = absurd (omega (arith, within))
+zip_more (a ∷ xs) [] i x y within same is also = absurd (omega (arith, same))
+zip_more {A} {B} (a ∷ xs) (b ∷ ys) zero x y within same is also = ap {B = List (A × B)} (λ z. (z, b) ∷ []) (sym is) ∙ ap {B = List (A × B)} (λ z. (x, z) ∷ []) (sym also)
+zip_more {A} {B} (a ∷ xs) (b ∷ ys) (suc i) x y within same is also =
+    let e : suc i + 1 ≡ suc (i + 1) = omega arith in
+    ap {B = List (A × B)} (λ k. take k ((a, b) ∷ zip xs ys)) e ∙ ap {B = List (A × B)} (λ l. (a, b) ∷ l) (zip_more xs ys i x y (omega (arith, within)) (omega (arith, same)) is also)
+
+-- those of one command more
+pub written_more : (reads : List ℕ → Bool) (commands : List (List (List ℕ))) (kept : List CommandTask) (i : ℕ) (args : List (List ℕ)) (task : CommandTask) → i < length commands → length kept ≡ length commands → args ≡ get_or commands i args → task ≡ get_or kept i task
+    → flat_map (kept_written reads) (take i (zip commands kept)) ++ kept_written reads (args, task) ≡ flat_map (kept_written reads) (take (i + 1) (zip commands kept))
+written_more reads commands kept i args task within same is also =
+    sym (ap (flat_map (kept_written reads)) (zip_more commands kept i args task within same is also) ∙ flat_map-append (kept_written reads) (take i (zip commands kept)) ((args, task) ∷ [])
+    ∙ ap (λ l. flat_map (kept_written reads) (take i (zip commands kept)) ++ l) (append-nil (kept_written reads (args, task))))
