@@ -1,0 +1,52 @@
+-- Items that stand at the front of some bytes, one after the other.
+use Rattle.std.proofs.Common.{◌≡◌, ◌<◌, ◌+◌, ℕ, List, [], ◌∷◌, ◌++◌, length, append_assoc, append-nil, refl, sym, ap, subst, ◌∙◌, arith}
+use Rattle.std.proofs.lemmas.List.{length-append}
+use Rattle.resp.specs.Forms.{InOrder, IsRequest}
+
+module _ {X : Type 0} (Each : X → List ℕ → Type 0) where
+  -- some, and then others
+  pub in_order-append : (xs ys : List X) (front form : List ℕ) → InOrder Each xs front → InOrder Each ys form → InOrder Each (xs ++ ys) (front ++ form)
+  in_order-append [] ys front form none others = subst (InOrder Each ys) (sym (ap (λ (t : List ℕ). t ++ form) none)) others
+  in_order-append (x ∷ xs) ys front form are others = (
+    are.0,
+    are.1 ++ form,
+    ap (λ (t : List ℕ). t ++ form) are.2 ∙ append_assoc are.0 are.1 form,
+    are.3,
+    in_order-append xs ys are.1 form are.4 others,
+  )
+
+  -- one alone
+  pub in_order-one : (x : X) (form : List ℕ) → Each x form → InOrder Each (x ∷ []) form
+  in_order-one x form is = (form, [], sym (append-nil form), is, refl)
+
+  pub record Stand (bytes rest : List ℕ) (xs : List X) : Type 0 where
+    pub front : List ℕ
+    pub bytes_are : bytes ≡ front ++ rest
+    pub are : InOrder Each xs front
+
+  pub none_stand : (bytes : List ℕ) → Stand bytes bytes []
+  none_stand bytes = record { front = []; bytes_are = refl; are = refl }
+
+  -- some more behind them
+  pub more_stand : (bytes rest after form : List ℕ) (xs ys : List X) → Stand bytes rest xs → rest ≡ form ++ after → InOrder Each ys form → Stand bytes after (xs ++ ys)
+  more_stand bytes rest after form xs ys so_far next are = record {
+    front = so_far.front ++ form;
+    bytes_are = so_far.bytes_are ∙ ap (λ (t : List ℕ). so_far.front ++ t) next ∙ sym (append_assoc so_far.front form after);
+    are = in_order-append xs ys so_far.front form so_far.are are;
+  }
+
+  pub one_more_stands : (bytes rest after form : List ℕ) (xs : List X) (x : X) → Stand bytes rest xs → rest ≡ form ++ after → Each x form → Stand bytes after (xs ++ x ∷ [])
+  one_more_stands bytes rest after form xs x so_far next is = more_stand bytes rest after form xs (x ∷ []) so_far next (in_order-one x form is)
+
+  -- where nothing is left, they are all of the bytes
+  pub all_stand : (bytes rest : List ℕ) (xs : List X) → Stand bytes rest xs → length rest ≡ 0 → InOrder Each xs bytes
+  all_stand bytes [] xs so_far none = subst (InOrder Each xs) (sym (so_far.bytes_are ∙ append-nil so_far.front)) so_far.are
+  all_stand bytes (b ∷ rest) xs so_far none = absurd (omega (arith, none))
+
+  -- how long what stands there is
+  pub left_at : (bytes rest : List ℕ) (xs : List X) (so_far : Stand bytes rest xs) → length bytes ≡ length so_far.front + length rest
+  left_at bytes rest xs so_far = ap (length {A = ℕ}) so_far.bytes_are ∙ length-append so_far.front rest
+
+-- a request is no empty text
+pub request_some : (words : List (List ℕ)) (form : List ℕ) → IsRequest words form → 0 < length form
+request_some words form is = omega (arith, ap (length {A = ℕ}) is.3)

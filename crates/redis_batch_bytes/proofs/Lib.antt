@@ -1,0 +1,5 @@
+pub mod Fronts
+pub mod Lists
+pub mod Sent
+pub mod Batchwise
+pub mod Runs

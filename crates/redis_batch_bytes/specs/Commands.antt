@@ -1,0 +1,45 @@
+-- Requests as bytes, one after the other.
+use Rattle.std.specs.Prelude.{◌≡◌, ◌+◌, ℕ, List, ◌++◌, length}
+use Rattle.resp.specs.Forms.{InOrder, IsRequest}
+use Rattle.resp.specs.Requests.{RequestCause}
+use Rattle.resp.specs.declared.fault.RequestFault.{RequestFault}
+use Rattle.resp.specs.declared.fault.RequestFault.TheVariants.{Incomplete, Malformed}
+use Rattle.redis_bytes.specs.Requests.{HasNoRequest, Words}
+use Rattle.redis_batch_bytes.specs.declared.fault.BatchFault.{BatchFault}
+use Rattle.redis_batch_bytes.specs.declared.fault.BatchFault.TheVariants.{Memory, Request}
+
+-- the bytes are requests with these words, in their order
+abbrev pub AreRequests : List Words → List ℕ → Type 0
+AreRequests commands bytes = InOrder IsRequest commands bytes
+
+-- a fault of bytes that stand behind so many others, by its index among all
+abbrev pub behind : ℕ → RequestFault → RequestFault
+behind before Incomplete = Incomplete
+behind before (Malformed index) = Malformed (before + index)
+
+-- No whole request stands at the front of these bytes, behind so many others, for this reason.
+pub record IsNoRequest (before : ℕ) (bytes : List ℕ) (fault : RequestFault) : Type 0 where
+  pub own : RequestFault
+  pub cause : RequestCause bytes own
+  pub none : HasNoRequest bytes
+  pub fault_is : fault ≡ behind before own
+
+-- why the request of this number is not read
+abbrev pub IsUnreadAt : ℕ → ℕ → List ℕ → BatchFault → Type 0
+IsUnreadAt number before bytes Memory = Unit {0}
+IsUnreadAt number before bytes (Request n fault) = (n ≡ number) × IsNoRequest before bytes fault
+IsUnreadAt number before bytes _ = ⊥
+
+-- Requests stand at the front, and where the next one would begin, there is no whole one.
+pub record IsFirstUnread (bytes : List ℕ) (fault : BatchFault) : Type 0 where
+  pub commands : List Words
+  pub front : List ℕ
+  pub rest : List ℕ
+  pub bytes_are : bytes ≡ front ++ rest
+  pub are : AreRequests commands front
+  pub next : IsUnreadAt (length commands) (length front) rest fault
+
+-- why the bytes are not requests
+abbrev pub AreUnread : List ℕ → BatchFault → Type 0
+AreUnread bytes Memory = Unit {0}
+AreUnread bytes fault = IsFirstUnread bytes fault

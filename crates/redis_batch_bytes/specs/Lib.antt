@@ -1,0 +1,7 @@
+pub mod Commands
+pub mod Plans
+pub mod Batches
+pub mod Told
+pub mod Unread
+pub mod Replies
+pub mod Numbered

@@ -1,0 +1,99 @@
+-- The answers to the batches of a plan, as bytes, and the replies to its commands.
+use Rattle.std.specs.Prelude.{◌≡◌, ◌⊎◌, ℕ, List, [], ◌++◌, Some, Ok, length, map, slice_get}
+use Rattle.std.specs.List.{All, concat, flat_map}
+use Rattle.resp.specs.Forms.{InOrder}
+use Rattle.resp_core.specs.Reply.{Reply}
+use Rattle.redis_routing.specs.Registry.{Registrations}
+use Rattle.redis_cluster.specs.Orders.{in_order}
+use Rattle.redis_bytes.specs.Replies.{HasNoForm, IsAnswer}
+use Rattle.redis_batches.specs.Batched.{IsRight}
+use Rattle.redis_batches.specs.Pipeline.{Answer}
+use Rattle.redis_batches.specs.Placed.{Ranges}
+use Rattle.redis_batches.specs.Plan.{Batches}
+use Rattle.redis_batches.specs.PipelinePlan.{PipelineBatches}
+use Rattle.redis_batches.specs.Replies.{AreRepliesTo}
+use Rattle.redis_batch_bytes.specs.declared.fault.BatchFault.{BatchFault}
+use Rattle.redis_batch_bytes.specs.declared.fault.BatchFault.TheVariants.{Memory, NoForm}
+use Rattle.redis_batch_bytes.specs.Plans.{IsPlanOfRequests, IsUnplanned}
+use Rattle.redis_batch_bytes.specs.Told.{WireAnswer, answer_form, told}
+use Rattle.redis_batch_bytes.specs.Unread.{AreUnreadAnswers}
+
+-- Answers stand at the front, with this behind them, and these are told of them.
+pub record StandAsTold (bytes rest : List ℕ) (given : List Answer) : Type 0 where
+  pub said : List WireAnswer
+  pub front : List ℕ
+  pub bytes_are : bytes ≡ front ++ rest
+  pub are : InOrder IsAnswer said front
+  pub given_are : given ≡ map told said
+
+-- of these answers to parts, the ones to the batches are these, batch after batch
+abbrev pub AreByBatch : Batches → List Answer → List Answer → Type 0
+AreByBatch batches all given =
+    (length all ≡ length batches.parts) × (given ≡ in_order all (concat batches.places))
+
+-- The bytes are an answer to each command of each batch, batch after batch. Where the nodes answered
+-- the parts like this, the replies to the commands, by these answers, are so.
+pub record AreAnswered (plan : PipelineBatches) (bytes : List ℕ) (AreSo : List Answer → Type 0)
+    : Type 0 where
+  pub given : List Answer
+  pub stand : StandAsTold bytes [] given
+  pub long : length given ≡ length (concat plan.batches.places)
+  pub replies : (all : List Answer) → AreByBatch plan.batches all given
+      → (replies : List Answer) × AreRepliesTo plan.splits all replies × AreSo replies
+
+-- They are written one after the other.
+abbrev pub AreCombined : PipelineBatches → List ℕ → List ℕ → Type 0
+AreCombined plan bytes combined =
+    AreAnswered plan bytes (λ replies. combined ≡ flat_map answer_form replies)
+
+-- why replies are not written: one has no form
+abbrev pub AreUnwritten : List Answer → BatchFault → Type 0
+AreUnwritten replies Memory = Unit {0}
+AreUnwritten replies (NoForm number) = (reply : Reply)
+    × (slice_get replies number ≡ Some (Ok reply)) × HasNoForm reply
+AreUnwritten replies _ = ⊥
+
+-- why the answers to the batches of a plan make no replies in bytes
+abbrev pub IsUncombinedBy : PipelineBatches → List ℕ → BatchFault → Type 0
+IsUncombinedBy plan bytes (NoForm number) =
+    AreAnswered plan bytes (λ replies. AreUnwritten replies (NoForm number))
+IsUncombinedBy plan bytes fault = AreUnreadAnswers plan.batches.places bytes fault
+
+-- why replies to a pipeline are not combined: it has no plan, or they are not those to its batches
+abbrev pub IsUncombined : Registrations → Ranges → List ℕ → List ℕ → BatchFault → Type 0
+IsUncombined registered ranges requests bytes fault = IsUnplanned registered ranges requests fault
+    ⊎ ((plan : PipelineBatches) × IsPlanOfRequests registered ranges requests plan
+    × IsUncombinedBy plan bytes fault)
+
+-- ---- telling a plan
+
+-- the plan is the same but for the answers
+abbrev pub IsSameBut : PipelineBatches → PipelineBatches → Type 0
+IsSameBut old new = (new.splits ≡ old.splits) × (new.batches.nodes ≡ old.batches.nodes)
+    × (new.batches.places ≡ old.batches.places) × (new.batches.parts ≡ old.batches.parts)
+    × (length new.batches.answers ≡ length old.batches.answers)
+
+-- The bytes begin with the answers to a batch, which the plan was told. So where they are those of
+-- a list, it has the list's answer at each place of the batch, and keeps those that it had.
+pub record IsToldBatch (old new : PipelineBatches) (number : ℕ) (bytes rest : List ℕ) : Type 0 where
+  pub given : List Answer
+  pub stand : StandAsTold bytes rest given
+  pub long : (places : List ℕ) → slice_get old.batches.places number ≡ Some places
+      → length given ≡ length places
+  pub right : (all : List Answer) (places : List ℕ)
+      → slice_get old.batches.places number ≡ Some places → length all ≡ length old.batches.parts
+      → given ≡ in_order all places → All (IsRight new.batches.answers all) places
+  pub others : (all : List Answer) (places : List ℕ)
+      → slice_get old.batches.places number ≡ Some places → length all ≡ length old.batches.parts
+      → given ≡ in_order all places → (place : ℕ) → IsRight old.batches.answers all place
+      → IsRight new.batches.answers all place
+
+-- The bytes are the answers to all batches. So where they are those of a list, batch after batch,
+-- the plan has the list's answer at each place of each batch.
+pub record AreTold (old new : PipelineBatches) (bytes : List ℕ) : Type 0 where
+  pub given : List Answer
+  pub stand : StandAsTold bytes [] given
+  pub long : length given ≡ length (concat old.batches.places)
+  pub right : (all : List Answer) → AreByBatch old.batches all given → (batch : ℕ)
+      (places : List ℕ) → slice_get old.batches.places batch ≡ Some places
+      → All (IsRight new.batches.answers all) places

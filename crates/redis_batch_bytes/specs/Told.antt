@@ -1,0 +1,35 @@
+-- What a plan is told of the answers in bytes, and how the replies to commands are written.
+use Rattle.std.specs.Prelude.{ℕ, List, [], Option, Some, Ok, Err, codes}
+use Rattle.std.specs.Str.Lossy.{utf8_lossy}
+use Rattle.resp.specs.Forms as resp
+use Rattle.resp.specs.Forms.{form, line}
+use Rattle.resp_core.specs.ErrorParts.{ErrorParts}
+use Rattle.resp_core.specs.declared.error.ErrorKind.TheVariants.{Client}
+use Rattle.redis_batches.specs.Pipeline.{Answer}
+
+-- an answer as it stands in bytes: a value, or the text of an error
+abbrev pub WireAnswer : Type 0
+WireAnswer = resp.Answer
+
+-- the error of a text, with U+FFFD for what is not UTF-8
+abbrev pub error_of : List ℕ → ErrorParts
+error_of text = record { kind = Client; desc = []; detail = Some (utf8_lossy text) }
+
+-- what a plan is told of it
+abbrev pub told : WireAnswer → Answer
+told (Ok reply) = Ok reply
+told (Err text) = Err (error_of text)
+
+-- the text of an error: what a node said, or where the replies to the parts make no one reply, a
+-- text that says so
+abbrev pub said_by : List ℕ → Option (List ℕ) → List ℕ
+said_by [] (Some text) = text
+said_by desc detail = codes "ERR the replies to the parts make no one reply"
+
+abbrev pub said_of : ErrorParts → List ℕ
+said_of error = said_by error.desc error.detail
+
+-- the bytes of the reply to a command: the form of a value, or the line of an error
+abbrev pub answer_form : Answer → List ℕ
+answer_form (Ok reply) = form reply
+answer_form (Err error) = line 45 (said_of error)

@@ -1,0 +1,53 @@
+ghost use Rattle.std.specs.Prelude.{◌≡◌, ◌++◌, ℕ, List, map, length, IfOk, IfErr};
+ghost use Rattle.redis_bytes.specs.Replies.{IsAnswer};
+ghost use Rattle.redis_batches.specs.Taken.{answer_of};
+ghost use Rattle.redis_batch_bytes.specs.Replies.{StandAsTold};
+ghost use Rattle.redis_batch_bytes.specs.Told.{WireAnswer, told};
+ghost use Rattle.redis_batch_bytes.specs.Unread.{IsNoAnswer, IsUnreadAnswer};
+
+use crate::errors::told;
+use crate::fault::BatchFault;
+use resp::{ReadError, read};
+use resp_core::{RedisError, Value};
+use std::alloc::Global;
+
+/// The answers to a batch of so many commands, which the bytes begin with, and what follows them.
+pub(super) fn answers_at(
+    alloc: Global,
+    batch: usize,
+    count: usize,
+    bytes: &[u8],
+) -> Result<(Vec<Result<Value, RedisError>>, &[u8]), BatchFault>
+    ensures count { IfOk result (λ x. length x.0.items ≡ count) }
+    ensures found { IfOk result (λ x. StandAsTold bytes.now x.1.now (map answer_of x.0.items)) }
+    ensures fault { IfErr result (λ fault. IsUnreadAnswer batch count bytes.now fault) }
+{
+    let mut answers = Vec::with_capacity(alloc, count)?;
+    let mut rest = bytes;
+    for number in 0..count {
+        let (answer, after) = answer_at(alloc, batch, number, rest)?;
+        answers.push(answer)?;
+        rest = after;
+    }
+    Ok((answers, rest))
+}
+
+/// The answer of this number to a batch, which the bytes begin with, and what follows it.
+fn answer_at(
+    alloc: Global,
+    batch: usize,
+    number: usize,
+    bytes: &[u8],
+) -> Result<(Result<Value, RedisError>, &[u8]), BatchFault>
+    ensures found { IfOk result (λ x. (said : WireAnswer) × (form : List ℕ)
+        × (bytes.now ≡ form ++ x.1.now) × IsAnswer said form × (answer_of x.0 ≡ told said)) }
+    ensures fault { IfErr result (λ fault. IsNoAnswer batch number bytes.now fault) }
+{
+    let (response, rest) = match read(alloc, bytes) {
+        Ok(found) => found,
+        Err(ReadError::Memory) => return Err(BatchFault::Memory),
+        Err(ReadError::Fault(fault)) => return Err(BatchFault::Reply(batch, number, fault)),
+    };
+    let answer = told(alloc, response)?;
+    Ok((answer, rest))
+}

@@ -1,0 +1,64 @@
+ghost use Rattle.std.specs.Prelude.{◌≡◌, false, ℕ, List, IfOk, IfErr};
+ghost use Rattle.std.specs.List.{All};
+ghost use Rattle.redis_batches.specs.Plan.{IsPlan};
+ghost use Rattle.redis_batches.specs.PipelinePlan.{PipelineBatches};
+ghost use Rattle.redis_batch_bytes.specs.Plans.{EachIsSent, IsPlanOfRequests};
+ghost use Rattle.redis_batch_bytes.specs.Replies.{AreCombined, IsUncombined, IsUncombinedBy};
+
+use crate::commands::commands_in;
+use crate::fault::BatchFault;
+use crate::planning::plan_of;
+use crate::telling::tell_all;
+use crate::writing::written;
+use cluster_map::SlotMap;
+use redis_batches::PipelinePlan;
+use redis_routing::Registry;
+use std::alloc::Global;
+
+/// The replies to the requests of a pipeline, one after the other, by the replies to its batches,
+/// which stand batch after batch in the order of `split_pipeline`, whatever the order is in which
+/// they came. Registry and map have to be those that the pipeline was split by.
+///
+/// An error is the reply to its command, and stops nothing. To a command that was split it is the
+/// first error of its parts. What is not UTF-8 in its text comes back as U+FFFD.
+///
+/// # Errors
+///
+/// In this order. For the requests as `split_pipeline`. `Reply` for the first reply that cannot be
+/// read, and where there are too few. `AfterReplies` where bytes follow the last one. `NoForm` for
+/// the first reply that has no form. `Memory` if memory runs out.
+pub fn combine_pipeline(
+    alloc: Global,
+    requests: &[u8],
+    registry: &Registry,
+    slot_map: &SlotMap,
+    replies: &[u8],
+) -> Result<Vec<u8>, BatchFault>
+    // The bytes are a reply to each command of each batch, and by these the replies to the commands
+    // are written.
+    ensures combined { IfOk result (λ combined. (plan : PipelineBatches)
+        × IsPlanOfRequests registry.now slot_map.now requests.now plan
+        × AreCombined plan replies.now combined.items) }
+    // Each fault has its cause.
+    ensures fault { IfErr result (λ fault.
+        IsUncombined registry.now slot_map.now requests.now replies.now fault) }
+{
+    let commands = commands_in(alloc, requests)?;
+    let plan = plan_of(alloc, commands.as_slice(), registry, slot_map)?;
+    combined(alloc, plan, replies)
+}
+
+/// The replies to the commands of a plan, as bytes, by those to its batches.
+fn combined(alloc: Global, plan: PipelinePlan<'_>, replies: &[u8]) -> Result<Vec<u8>, BatchFault>
+    requires untold { All (λ told. told ≡ false) plan.batches.told }
+    requires sent { EachIsSent plan.batches }
+    ensures combined { IfOk result (λ combined. AreCombined plan.entry replies.now combined.items) }
+    ensures fault { IfErr result (λ fault. IsUncombinedBy plan.entry replies.now fault) }
+{
+    let mut plan = plan;
+    tell_all(alloc, &mut plan, replies)?;
+    match plan.combine(alloc) {
+        Ok(found) => written(alloc, found.as_slice()),
+        Err(_) => Err(BatchFault::Memory),
+    }
+}

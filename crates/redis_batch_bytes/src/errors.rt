@@ -1,0 +1,37 @@
+ghost use Rattle.std.specs.Prelude.{◌≡◌, IfOk};
+ghost use Rattle.resp.specs.Forms.{answer};
+ghost use Rattle.redis_batches.specs.Taken.{answer_of};
+ghost use Rattle.redis_batch_bytes.specs.Told.{said_of, told};
+
+use resp::Response;
+use resp_core::{ErrorKind, RedisError, Value};
+use std::alloc::{AllocError, Global};
+
+/// What a plan is told of an answer. The text of an error is its detail, and there is no other text.
+pub(super) fn told(
+    alloc: Global,
+    response: Response,
+) -> Result<Result<Value, RedisError>, AllocError>
+    ensures { IfOk result (λ found. answer_of found ≡ told (answer response)) }
+{
+    match response {
+        Response::Value(value) => Ok(Ok(value)),
+        Response::Error(text) => {
+            let text = String::from_utf8_lossy(alloc, &text)?;
+            Ok(Err(RedisError::from((ErrorKind::Client, "", text))))
+        }
+    }
+}
+
+/// The text of an error: what the node said, or where the replies to a command's parts make no one
+/// reply, a text that says so.
+pub(super) fn said_of(error: &RedisError) -> &str
+    ensures { result.now ≡ said_of error.now }
+{
+    if error.desc().is_empty() {
+        if let Some(text) = error.detail() {
+            return text;
+        }
+    }
+    "ERR the replies to the parts make no one reply"
+}

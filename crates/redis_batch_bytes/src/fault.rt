@@ -1,0 +1,71 @@
+ghost use Rattle.std.specs.Prelude.{◌≡◌};
+ghost use Rattle.redis_batch_bytes.specs.declared.fault.BatchFault.TheVariants.{Memory};
+
+use resp::{Fault, RequestFault};
+use std::alloc::{AllocError, AllocFailed};
+use std::error::Error;
+use std::fmt;
+
+/// Why a pipeline gives no bytes. Requests, commands, batches and the replies to a batch are each
+/// numbered from 0.
+#[derive(Debug, Drop)]
+pub enum BatchFault {
+    /// Memory ran out.
+    Memory,
+    /// Where the request of this number begins, no whole request stands. The index of a malformed one
+    /// counts from the first byte of all.
+    Request(usize, RequestFault),
+    /// The command of this number goes to no single slot, and is not one that is split by slot. It is
+    /// the first such command.
+    NotRoutable(usize),
+    /// No node serves this slot of the command of this number: the first slot, in the order of the
+    /// commands and of the routes of each, that has none.
+    NotCovered(usize, u16),
+    /// To the batch of this number, the reply of this number cannot be read.
+    Reply(usize, usize, Fault),
+    /// Bytes follow the last reply, which ends at this index.
+    AfterReplies(usize),
+    /// The reply to the command of this number has no form: `resp::write` says when.
+    NoForm(usize),
+}
+
+impl fmt::Display for BatchFault {
+    fn fmt<W: fmt::Write>(&self, f: &mut fmt::Formatter<W>) -> fmt::Result {
+        match self {
+            BatchFault::Memory => write!(f, "out of memory"),
+            BatchFault::Request(number, fault) => write!(f, "request {number}: {fault}"),
+            BatchFault::NotRoutable(number) => {
+                write!(
+                    f,
+                    "command {number} goes to no single slot and is not split"
+                )
+            }
+            BatchFault::NotCovered(number, slot) => {
+                write!(f, "slot {slot} of command {number} not covered")
+            }
+            BatchFault::Reply(batch, number, fault) => {
+                write!(f, "batch {batch}, reply {number}: {fault}")
+            }
+            BatchFault::AfterReplies(end) => write!(f, "bytes follow the replies, from {end} on"),
+            BatchFault::NoForm(number) => write!(f, "the reply to command {number} has no form"),
+        }
+    }
+}
+
+impl Error for BatchFault {}
+
+impl From<AllocError> for BatchFault {
+    ghost from_gives = { λ _ fault. fault ≡ Memory };
+
+    fn from(_e: AllocError) -> BatchFault {
+        BatchFault::Memory
+    }
+}
+
+impl<T: Drop> From<AllocFailed<T>> for BatchFault {
+    ghost from_gives = { λ _ fault. fault ≡ Memory };
+
+    fn from(_e: AllocFailed<T>) -> BatchFault {
+        BatchFault::Memory
+    }
+}

@@ -1,0 +1,19 @@
+//! Pipelines of commands from bytes to bytes: the requests of each node's batch, and the replies to
+//! the commands by those to the batches.
+#![tactic(auto)]
+
+mod answers;
+mod combining;
+mod commands;
+mod errors;
+mod fault;
+mod numbers;
+mod planning;
+mod splitting;
+mod telling;
+mod writing;
+
+pub use combining::combine_pipeline;
+pub use fault::BatchFault;
+pub use numbers::numbered_map;
+pub use splitting::{BatchBytes, split_pipeline};

@@ -1,0 +1,148 @@
+ghost use Rattle.std.specs.Prelude.{◌≡◌, ◌<◌, ◌++◌, ℕ, List, Some, map, length, slice_get, IfOk, OnOk, IfErr};
+ghost use Rattle.std.specs.List.{flat_map};
+ghost use Rattle.resp.specs.Forms.{request};
+ghost use Rattle.resp_core.specs.ItemEnds.{item_ends};
+ghost use Rattle.redis_batches.specs.Plan.{IsPlan};
+ghost use Rattle.redis_batches.specs.PipelinePlan.{PipelineBatches};
+ghost use Rattle.redis_batch_bytes.specs.Plans.{IsPlanOfRequests, IsUnplanned};
+ghost use Rattle.redis_batch_bytes.specs.Batches.{AreBatchesOf, batch_bytes};
+
+use crate::commands::commands_in;
+use crate::fault::BatchFault;
+use crate::planning::plan_of;
+use cluster_map::{NodeAddress, SlotMap};
+use redis_batches::PipelinePlan;
+use redis_routing::Registry;
+use resp::write_command;
+use resp_core::Cmd;
+use std::alloc::{AllocError, Global};
+
+/// The batches of a pipeline, in the order in which their nodes first appear: for each its node, how
+/// many commands it has, and where its bytes end among those of all batches.
+#[derive(Drop)]
+pub struct BatchBytes {
+    /// The node of each batch.
+    pub nodes: Vec<NodeAddress>,
+    /// How many commands each has, and so how many replies its node gives.
+    pub counts: Vec<usize>,
+    /// The index after the last byte of each.
+    pub ends: Vec<usize>,
+    /// The batches, one after the other; each is its commands' requests, one after the other.
+    pub bytes: Vec<u8>,
+}
+
+/// Splits a pipeline, whose requests stand one after the other, into one batch for each node: of
+/// `SET a 1`, `SET b 2`, `MGET b a` these are `SET a 1`, `MGET a` for the node of `a`, and `SET b 2`,
+/// `MGET b` for that of `b`. Each part goes to the primary of its slot. Names of a module's commands
+/// are known by `registry`.
+///
+/// Within a batch a node has to take the commands in their order, as it does with what comes over one
+/// connection. The batches may be sent in any order, or side by side.
+///
+/// # Errors
+///
+/// In this order: `Request` for the first request that cannot be read. `NotRoutable` for the first
+/// command that goes to no single slot and is not split by slot, as `PING`. `NotCovered` for the
+/// first slot that has no node. `Memory` if memory runs out.
+pub fn split_pipeline(
+    alloc: Global,
+    requests: &[u8],
+    registry: &Registry,
+    slot_map: &SlotMap,
+) -> Result<BatchBytes, BatchFault>
+    // The bytes are requests, and the batches are those of a plan of their commands.
+    ensures batches { IfOk result (λ found. (plan : PipelineBatches)
+        × IsPlanOfRequests registry.now slot_map.now requests.now plan
+        × AreBatchesOf plan.batches found) }
+    // Each fault has its cause.
+    ensures fault { IfErr result (λ fault.
+        IsUnplanned registry.now slot_map.now requests.now fault) }
+{
+    let commands = commands_in(alloc, requests)?;
+    let plan = plan_of(alloc, commands.as_slice(), registry, slot_map)?;
+    Ok(batches_of(alloc, &plan)?)
+}
+
+/// The batches of a plan.
+fn batches_of(alloc: Global, plan: &PipelinePlan<'_>) -> Result<BatchBytes, AllocError>
+    ensures { IfOk result (λ found. AreBatchesOf plan.now.batches found) }
+{
+    let nodes = nodes_of(alloc, plan)?;
+    let (counts, ends, bytes) = written(alloc, plan)?;
+    Ok(BatchBytes {
+        nodes,
+        counts,
+        ends,
+        bytes,
+    })
+}
+
+/// The node of each batch.
+fn nodes_of(alloc: Global, plan: &PipelinePlan<'_>) -> Result<Vec<NodeAddress>, AllocError>
+    ensures { IfOk result (λ nodes. nodes.items ≡ plan.now.batches.nodes) }
+{
+    let mut nodes = Vec::with_capacity(alloc, plan.len())?;
+    for number in 0..plan.len() {
+        let Some(node) = plan.node(number) else {
+            unreachable!()
+        };
+        nodes.push(node.clone()?)?;
+    }
+    Ok(nodes)
+}
+
+/// How many commands each batch has, where its bytes end, and the bytes of all.
+fn written(
+    alloc: Global,
+    plan: &PipelinePlan<'_>,
+) -> Result<(Vec<usize>, Vec<usize>, Vec<u8>), AllocError>
+    ensures counts { IfOk result (λ x. x.0.items ≡ map length plan.now.batches.places) }
+    ensures ends { IfOk result (λ x. x.1.items
+        ≡ item_ends 0 (map (batch_bytes plan.now.batches.parts) plan.now.batches.places)) }
+    ensures bytes { IfOk result (λ x. x.2.items
+        ≡ flat_map (batch_bytes plan.now.batches.parts) plan.now.batches.places) }
+{
+    let mut counts = Vec::with_capacity(alloc, plan.len())?;
+    let mut ends = Vec::with_capacity(alloc, plan.len())?;
+    let mut bytes = Vec::new(alloc);
+    for number in 0..plan.len() {
+        let count = push_batch(alloc, plan, number, &mut bytes)?;
+        counts.push(count)?;
+        ends.push(bytes.len())?;
+    }
+    Ok((counts, ends, bytes))
+}
+
+/// Adds the requests of a batch, and tells how many they are.
+fn push_batch(
+    alloc: Global,
+    plan: &PipelinePlan<'_>,
+    number: usize,
+    bytes: &mut Vec<u8>,
+) -> Result<usize, AllocError>
+    requires plan { IsPlan plan.now.batches }
+    requires within { number < length plan.now.batches.places }
+    ensures count { IfOk result (λ count. (places : List ℕ)
+        → slice_get plan.now.batches.places number ≡ Some places → count ≡ length places) }
+    ensures bytes { OnOk result ((places : List ℕ)
+        → slice_get plan.now.batches.places number ≡ Some places
+        → bytes.new.items ≡ bytes.old.items ++ batch_bytes plan.now.batches.parts places) }
+{
+    let Some(batch) = plan.batch(alloc, number)? else {
+        unreachable!()
+    };
+    push_commands(alloc, batch.as_slice(), bytes)?;
+    Ok(batch.len())
+}
+
+/// Adds the requests of some commands, one after the other.
+fn push_commands(alloc: Global, commands: &[&Cmd], bytes: &mut Vec<u8>) -> Result<(), AllocError>
+    ensures { OnOk result (bytes.new.items
+        ≡ bytes.old.items ++ flat_map request (map (λ command. command.now) commands.now)) }
+{
+    for command in commands {
+        let one = write_command(alloc, *command)?;
+        bytes.extend_from_slice(&one)?;
+    }
+    Ok(())
+}
