@@ -18,7 +18,7 @@ BYTES_OUT = [c_char_p, c_size_t]
 
 
 class Told(ctypes.Structure):
-    _fields_ = [("parts", c_size_t), ("bytes", c_size_t), ("reply", c_size_t), ("at", c_size_t)]
+    _fields_ = [(name, c_size_t) for name in ("parts", "bytes", "reply", "at", "request", "batch")]
 
 
 class Routed(ctypes.Structure):
@@ -35,6 +35,7 @@ class Refused(Exception):
     def __init__(self, answer, text, told):
         super().__init__(text)
         self.answer, self.reply, self.at = answer, told.reply, told.at
+        self.request, self.batch = told.request, told.batch
 
 
 class Library:
@@ -51,6 +52,8 @@ class Library:
             ("split", BYTES_IN + slots + ends + BYTES_OUT + told, c_uint32),
             ("combine", BYTES_IN * 2 + BYTES_OUT + told, c_uint32),
             ("table", BYTES_IN * 2 + [c_uint32, c_size_t] + slots + BYTES_OUT + told, c_uint32),
+            ("split_pipeline", BYTES_IN + slots * 2 + ends * 2 + BYTES_OUT + told, c_uint32),
+            ("combine_pipeline", BYTES_IN + slots + BYTES_IN + BYTES_OUT + told, c_uint32),
             ("redirect", BYTES_IN * 2 + BYTES_OUT + [POINTER(Redirected)], c_uint32),
         ):
             call = getattr(lib, "slotroute_" + name)
@@ -137,6 +140,41 @@ class Library:
         lines = nodes.raw[: told.bytes].decode().split("\n")[:-1]
         return list(numbers), [(host, int(port)) for host, _, port in (it.rpartition(":") for it in lines)]
 
+    def split_pipeline(self, requests, numbers):
+        """The batches of requests that stand one after the other: for each the number of its node,
+        how many commands it has, and its bytes. `numbers` are those of `slot_numbers`."""
+        batches, room, told = 16, 2 * len(requests) + 64, Told()
+        while True:
+            nodes, counts, ends = (c_uint16 * batches)(), (c_size_t * batches)(), (c_size_t * batches)()
+            out = ctypes.create_string_buffer(room)
+            answer = self.lib.slotroute_split_pipeline(
+                requests, len(requests), numbers, len(numbers), nodes, batches, counts, batches,
+                ends, batches, out, room, byref(told),
+            )  # fmt: skip
+            if answer != TOO_SMALL:
+                break
+            batches, room = told.parts, told.bytes
+        self._expect_done(answer, told)
+        data = out.raw
+        starts = [0, *ends[: told.parts]]
+        return [(node, count, data[a:b]) for node, count, (a, b) in zip(nodes, counts, pairwise(starts))]
+
+    def combine_pipeline(self, requests, numbers, replies):
+        """The replies to the requests, by the replies to the batches, batch after batch."""
+        replies, told = b"".join(replies), Told()
+        room = len(replies) + 64
+        while True:
+            out = ctypes.create_string_buffer(room)
+            answer = self.lib.slotroute_combine_pipeline(
+                requests, len(requests), numbers, len(numbers), replies, len(replies), out, room,
+                byref(told),
+            )  # fmt: skip
+            if answer != TOO_SMALL:
+                break
+            room = told.bytes
+        self._expect_done(answer, told)
+        return out.raw[: told.bytes]
+
     def redirect(self, text, answering):
         """What the text of an error tells of a redirect, with its host; None of another text."""
         told, host = Redirected(), ctypes.create_string_buffer(len(text) + len(answering) + 1)
@@ -153,6 +191,11 @@ class Library:
             raise Refused(answer, self.message(answer), told)
 
 
+def slot_numbers(numbers):
+    """A table's numbers as the calls of pipelines take them."""
+    return (c_uint16 * SLOTS)(*numbers)
+
+
 def request(*words):
     """The bytes of a request."""
     words = [it if isinstance(it, bytes) else str(it).encode() for it in words]
@@ -167,6 +210,12 @@ def main():
         print(slot, part)
     replies = [b"*2\r\n$1\r\nx\r\n$1\r\nx\r\n", b"*1\r\n$-1\r\n"]
     print(library.combine(asked, replies))
+    asked = request("SET", "foo", 1) + request("SET", "bar", 2) + request("MGET", "bar", "foo")
+    numbers = slot_numbers([0] * 8192 + [1] * 8192)
+    for node, count, batch in library.split_pipeline(asked, numbers):
+        print("node", node, count, "commands", len(batch), "bytes")
+    replies = [b"+OK\r\n*1\r\n$1\r\n1\r\n", b"+OK\r\n*1\r\n$1\r\n2\r\n"]
+    print(library.combine_pipeline(asked, numbers, replies))
     told, host = library.redirect(b"MOVED 3999 127.0.0.1:6381", b"n1")
     print("moved to", host, told.port, "slot", told.slot)
     try:

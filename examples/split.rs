@@ -13,6 +13,8 @@ struct Told {
     bytes: usize,
     reply: usize,
     at: usize,
+    request: usize,
+    batch: usize,
 }
 
 #[rustfmt::skip]

@@ -31,6 +31,8 @@ static const char *const messages[] = {
     "*4\r\n:8192\r\n:16383\r\n*2\r\n$0\r\n\r\n:7001\r\n*2\r\n$2\r\nn3\r\n:7002\r\n",
     "MOVED 3999 127.0.0.1:6381",
     "ASK 3999 :6381",
+    "*2\r\n$3\r\nGET\r\n$1\r\na\r\n*3\r\n$4\r\nMGET\r\n$1\r\nb\r\n$1\r\na\r\n*2\r\n$3\r\nGET\r\n$1\r\nb\r\n",
+    "$1\r\n1\r\n*1\r\n:1\r\n-ERR no\r\n$-1\r\n",
 };
 #define MESSAGES (sizeof messages / sizeof *messages)
 
@@ -74,6 +76,13 @@ static uint64_t mixed(uint64_t sum, const void *bytes, size_t len) {
     return sum;
 }
 
+/* A table of two nodes, each with half of the slots. */
+static uint16_t halves[SLOTROUTE_SLOTS];
+
+static void make_table(void) {
+    for (size_t slot = SLOTROUTE_SLOTS / 2; slot < SLOTROUTE_SLOTS; slot++) halves[slot] = 1;
+}
+
 /* Makes random calls, and gives a sum of all that they answer and write. */
 static uint64_t some_calls(pool *of, uint64_t seed, int times) {
     uint64_t sum = 14695981039346656037u;
@@ -87,7 +96,7 @@ static uint64_t some_calls(pool *of, uint64_t seed, int times) {
         slotroute_redirected redirected = {0};
         uint32_t answer = 0;
         memset(out, 0xA5, out_len);
-        switch (next(&seed) % 9) {
+        switch (next(&seed) % 11) {
         case 0: answer = slotroute_slot(bytes, len); break;
         case 1: answer = slotroute_request_len(bytes, len, &told); break;
         case 2: answer = slotroute_reply_len(bytes, len, &told); break;
@@ -114,6 +123,23 @@ static uint64_t some_calls(pool *of, uint64_t seed, int times) {
         }
         case 7: answer = slotroute_redirect(bytes, len, others, other_len, out, out_len, &redirected); break;
         case 8: answer = (uint32_t)slotroute_message(next(&seed) % 20, out, out_len); break;
+        case 9: {
+            size_t nodes_len = most(&seed, 4), numbers_len = SLOTROUTE_SLOTS - next(&seed) % 2 * 8192;
+            slots_len = most(&seed, 4);
+            ends_len = most(&seed, 4);
+            uint16_t *nodes = (uint16_t *)(void *)of->end[3] - nodes_len;
+            size_t *counts = (size_t *)(void *)of->end[4] - slots_len, *ends = counts - ends_len;
+            memset(nodes, 0xA5, 2 * nodes_len);
+            memset(ends, 0xA5, sizeof *ends * (ends_len + slots_len));
+            answer = slotroute_split_pipeline(bytes, len, halves, numbers_len, nodes, nodes_len, counts,
+                                              slots_len, ends, ends_len, out, out_len, &told);
+            sum = mixed(mixed(sum, nodes, 2 * nodes_len), ends, sizeof *ends * (ends_len + slots_len));
+            break;
+        }
+        case 10:
+            answer = slotroute_combine_pipeline(bytes, len, halves, SLOTROUTE_SLOTS, others, other_len, out,
+                                                out_len, &told);
+            break;
         }
         sum = mixed(mixed(sum, &answer, sizeof answer), out, out_len);
         sum = mixed(mixed(sum, &told, sizeof told), &routed, sizeof routed);
@@ -166,6 +192,25 @@ static int is_untouched(const void *bytes, size_t len) {
     return 1;
 }
 
+#define PIPELINE "*3\r\n$3\r\nSET\r\n$1\r\na\r\n$1\r\n1\r\n*3\r\n$4\r\nMGET\r\n$1\r\nb\r\n$1\r\na\r\n"
+
+/* The same of a pipeline into batches, which have 69 bytes. */
+static int is_no_batch(size_t nodes_len, size_t counts_len, size_t ends_len, size_t bytes) {
+    uint16_t nodes[2];
+    size_t counts[2], ends[2];
+    uint8_t out[80];
+    slotroute_told told = {0};
+    memset(nodes, 0xA5, sizeof nodes);
+    memset(counts, 0xA5, sizeof counts);
+    memset(ends, 0xA5, sizeof ends);
+    memset(out, 0xA5, sizeof out);
+    uint32_t answer = slotroute_split_pipeline(BYTES(PIPELINE), halves, SLOTROUTE_SLOTS, nodes, nodes_len,
+                                               counts, counts_len, ends, ends_len, out, bytes, &told);
+    return answer == SLOTROUTE_TOO_SMALL && told.parts == 2 && told.bytes == 69
+        && is_untouched(nodes, sizeof nodes) && is_untouched(counts, sizeof counts)
+        && is_untouched(ends, sizeof ends) && is_untouched(out, sizeof out);
+}
+
 /* Whether a split into these rooms is refused as too small, tells what it needs, and writes nothing. */
 static int is_refused(size_t parts, size_t ends_len, size_t bytes) {
     uint16_t slots[2];
@@ -200,6 +245,14 @@ static int small(void) {
     if (slotroute_redirect(BYTES(messages[10]), BYTES("n1"), out, 8, &redirected) != SLOTROUTE_TOO_SMALL
         || redirected.host_len != 9 || !is_untouched(out, sizeof out))
         return 4;
+    if (!is_no_batch(1, 2, 2, 69) || !is_no_batch(2, 1, 2, 69) || !is_no_batch(2, 2, 1, 69)
+        || !is_no_batch(2, 2, 2, 68))
+        return 6;
+    if (slotroute_combine_pipeline(BYTES(PIPELINE), halves, SLOTROUTE_SLOTS,
+                                   BYTES("+OK\r\n*1\r\n$1\r\n1\r\n*1\r\n$-1\r\n"), out, 20, &told)
+            != SLOTROUTE_TOO_SMALL
+        || told.bytes != 21 || !is_untouched(out, sizeof out))
+        return 7;
     if (slotroute_message(SLOTROUTE_NO_MEMORY, out, 12) != 13 || !is_untouched(out, sizeof out)) return 5;
     return 0;
 }
@@ -226,6 +279,17 @@ static int once(int call) {
         answer = slotroute_redirect(BYTES("MOVED 1 a-host-of-more-than-sixteen-bytes:1"), BYTES("n1"), out,
                                     sizeof out, &redirected);
         break;
+    case 7: {
+        size_t counts[8] = {0};
+        answer = slotroute_split_pipeline(BYTES(PIPELINE), halves, SLOTROUTE_SLOTS, slots, 8, counts, 8, ends,
+                                          8, out, sizeof out, &told);
+        break;
+    }
+    case 8:
+        answer = slotroute_combine_pipeline(BYTES(PIPELINE), halves, SLOTROUTE_SLOTS,
+                                            BYTES("-ERR no\r\n*1\r\n$1\r\n1\r\n*1\r\n$-1\r\n"), out,
+                                            sizeof out, &told);
+        break;
     default: return 0;
     }
     setvbuf(stdout, line, _IOFBF, sizeof line);
@@ -234,6 +298,7 @@ static int once(int call) {
 }
 
 int main(int count, char **words) {
+    make_table();
     if (count == 2 && strcmp(words[1], "pages") == 0) return pages();
     if (count == 2 && strcmp(words[1], "small") == 0) return small();
     if (count == 2 && strcmp(words[1], "threads") == 0) return threads();

@@ -48,7 +48,10 @@ enum {
     SLOTROUTE_NO_FORM = 13,           /* the one reply would stand too deep */
     SLOTROUTE_NOT_TEXT = 14,          /* a text or a host is not UTF-8 */
     SLOTROUTE_NO_REDIRECT = 15,       /* the text is no redirect */
-    SLOTROUTE_LINE_FEED_IN_HOST = 16  /* the host of a slot's node has a line feed */
+    SLOTROUTE_LINE_FEED_IN_HOST = 16, /* the host of a slot's node has a line feed */
+    SLOTROUTE_NOT_ROUTABLE = 17,      /* the request of the number told.request goes to no single
+                                         slot and is not split by slot, as PING */
+    SLOTROUTE_NOT_COVERED = 18        /* a slot of that request has no node */
 };
 
 /* Sizes that an answer needs, or where a fault is. A call writes the fields that its answer names. */
@@ -57,6 +60,8 @@ typedef struct slotroute_told {
     size_t bytes; /* how many bytes there are */
     size_t reply; /* the number of a reply, counted from 0 */
     size_t at;    /* the index of a byte, counted from 0 */
+    size_t request; /* the number of a request of a pipeline, counted from 0 */
+    size_t batch;   /* the number of a batch of a pipeline, counted from 0 */
 } slotroute_told;
 
 /* How many bytes the text of an answer has. It is written where it fits, with no 0 at its end. */
@@ -140,6 +145,30 @@ uint32_t slotroute_table(const uint8_t *reply, size_t reply_len,
                          uint32_t addr, size_t pick,
                          uint16_t *numbers, size_t numbers_len,
                          uint8_t *nodes, size_t nodes_len, slotroute_told *told);
+
+/* Splits a pipeline, requests one after the other, into one batch for each node. numbers is a table
+ * as slotroute_table gives it: the number of each slot's node, or SLOTROUTE_NO_NODE. Batch i goes to
+ * the node of the number nodes[i], which takes its commands in their order and gives counts[i]
+ * replies. Its bytes, requests one after the other, are those of out from ends[i - 1], or from 0, up
+ * to ends[i]. told->parts says how many batches there are, and told->bytes how many bytes. Each
+ * command has to keep to one slot, or to be one that slotroute_split splits. Where a request is at
+ * fault, told->request is its number. */
+uint32_t slotroute_split_pipeline(const uint8_t *requests, size_t requests_len,
+                                  const uint16_t *numbers, size_t numbers_len,
+                                  uint16_t *nodes, size_t nodes_len,
+                                  size_t *counts, size_t counts_len,
+                                  size_t *ends, size_t ends_len,
+                                  uint8_t *out, size_t out_len, slotroute_told *told);
+
+/* Makes the replies to the requests of a pipeline of those to its batches, which stand batch after
+ * batch, in whatever order the batches were sent. numbers has to be as it was for the split. An
+ * error is the reply to its command, or to the one whose part it answers. told->bytes is how long
+ * they are. Where a reply is at fault, told->batch is the number of its batch and told->reply its
+ * number there. Where one has no form, told->request is the number of its request. */
+uint32_t slotroute_combine_pipeline(const uint8_t *requests, size_t requests_len,
+                                    const uint16_t *numbers, size_t numbers_len,
+                                    const uint8_t *replies, size_t replies_len,
+                                    uint8_t *out, size_t out_len, slotroute_told *told);
 
 /* A redirect, but for its host. */
 enum { SLOTROUTE_MOVED = 1, SLOTROUTE_ASK = 2 };

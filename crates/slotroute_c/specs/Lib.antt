@@ -5,3 +5,4 @@ pub mod Routed
 pub mod Faults
 pub mod Parts
 pub mod Tables
+pub mod Pipelines

@@ -4,7 +4,7 @@ use Rattle.std.specs.Prelude.{◌==◌, ◌||◌, ℕ, Bool, false, List, [], �
 use Rattle.resp.specs.declared.fault.Fault.{Fault}
 use Rattle.resp.specs.declared.fault.Fault.TheVariants.{Incomplete, Malformed, TooDeep}
 use Rattle.slotroute_c.specs.declared.outcomes.Outcome.{Outcome}
-use Rattle.slotroute_c.specs.declared.outcomes.Outcome.TheVariants.{Done, NoMemory, TooSmall, RequestIncomplete, RequestMalformed, AfterRequest, NotMultiKey, ReplyIncomplete, ReplyMalformed, ReplyTooDeep, ReplyIsError, AfterReplies, Unfit, NoForm, NotText, NoRedirect, LineFeedInHost}
+use Rattle.slotroute_c.specs.declared.outcomes.Outcome.TheVariants.{Done, NoMemory, TooSmall, RequestIncomplete, RequestMalformed, AfterRequest, NotMultiKey, ReplyIncomplete, ReplyMalformed, ReplyTooDeep, ReplyIsError, AfterReplies, Unfit, NoForm, NotText, NoRedirect, LineFeedInHost, NotRoutable, NotCovered}
 
 abbrev pub code : Outcome → ℕ
 code Done = 0
@@ -24,6 +24,8 @@ code NoForm = 13
 code NotText = 14
 code NoRedirect = 15
 code LineFeedInHost = 16
+code NotRoutable = 17
+code NotCovered = 18
 
 abbrev pub text : Outcome → List ℕ
 text Done = codes "done"
@@ -43,6 +45,8 @@ text NoForm = codes "the one reply has no form"
 text NotText = codes "a text is not UTF-8"
 text NoRedirect = codes "the text is no redirect"
 text LineFeedInHost = codes "a host has a line feed"
+text NotRoutable = codes "a command goes to no single slot and is not split by slot"
+text NotCovered = codes "a slot of a command has no node"
 
 -- the text of the answer of a number
 abbrev pub message : ℕ → List ℕ
@@ -64,7 +68,9 @@ message number =
     else (if number == 14 then text NotText
     else (if number == 15 then text NoRedirect
     else (if number == 16 then text LineFeedInHost
-    else codes "no answer of this library"))))))))))))))))
+    else (if number == 17 then text NotRoutable
+    else (if number == 18 then text NotCovered
+    else codes "no answer of this library"))))))))))))))))))
 
 -- whether a number is that of one of these answers
 abbrev pub is_one_of : ℕ → List Outcome → Bool

@@ -8,6 +8,7 @@ mod keys;
 mod lengths;
 mod outcomes;
 mod parts;
+mod pipelines;
 mod redirects;
 mod routes;
 mod tables;

@@ -40,6 +40,10 @@ pub enum Outcome {
     /// The text is no redirect.
     NoRedirect,
     LineFeedInHost,
+    /// A command goes to no single slot, and is not one that is split.
+    NotRoutable,
+    /// A slot has no node.
+    NotCovered,
 }
 
 impl Outcome {
@@ -65,6 +69,8 @@ impl Outcome {
             Outcome::NotText => 14,
             Outcome::NoRedirect => 15,
             Outcome::LineFeedInHost => 16,
+            Outcome::NotRoutable => 17,
+            Outcome::NotCovered => 18,
         }
     }
 }
@@ -91,6 +97,8 @@ fn message(number: u32) -> &'static str
         14 => "a text is not UTF-8",
         15 => "the text is no redirect",
         16 => "a host has a line feed",
+        17 => "a command goes to no single slot and is not split by slot",
+        18 => "a slot of a command has no node",
         _ => "no answer of this library",
     }
 }

@@ -1,0 +1,199 @@
+ghost use Rattle.std.specs.Prelude.{◌≡◌, ◌≢◌, ◌<◌, ℕ, List, IfOk, IfErr, length};
+ghost use Rattle.redis_batch_bytes.specs.declared.fault.BatchFault as faults;
+ghost use Rattle.redis_batch_bytes.specs.declared.splitting.BatchBytes as declared;
+ghost use Rattle.slotroute_c.specs.Outcomes.{code};
+ghost use Rattle.slotroute_c.specs.Buffers.{Begins};
+ghost use Rattle.slotroute_c.specs.Faults.{IsOther};
+ghost use Rattle.slotroute_c.specs.Pipelines.{AreBatchesBy, AreBatchesTold, AreBatchesWritten, AreCombinedBy, IsBatchFaultTold, IsOneTooSmall, IsUncombinedBy, IsUnplannedBy, numbers_of, outcome_of_batch};
+
+use crate::buffers::put_all;
+use crate::faults::{code_of_reply, code_of_request};
+use crate::outcomes::Outcome;
+use crate::told::Told;
+use cluster_slots::NodeAddress;
+use redis_batch_bytes::{BatchBytes, BatchFault, combine_pipeline, numbered_map, split_pipeline};
+use redis_routing::Registry;
+use std::alloc::{AllocError, Global};
+
+/// Splits a pipeline, whose requests stand one after the other, into one batch for each node, by a
+/// table as `slotroute_table` gives it. Writes the number of each batch's node to `nodes`, how many
+/// commands each has to `counts`, where the bytes of each end to `ends`, and these bytes to `out`.
+/// `told` says how many batches and bytes there are.
+///
+/// # Errors
+///
+/// In this order: `RequestIncomplete` and `RequestMalformed` for the first request that cannot be
+/// read, `NotRoutable` for the first command that goes to no single slot and is not split,
+/// `NotCovered` for the first slot that has no node. The number of the request is told. `TooSmall`
+/// where a buffer is too small for what `told` says. `NoMemory` if memory runs out.
+#[unsafe(no_mangle)]
+pub extern "C" fn slotroute_split_pipeline(
+    alloc: Global,
+    requests: &[u8],
+    numbers: &[u16],
+    nodes: &mut [u16],
+    counts: &mut [usize],
+    ends: &mut [usize],
+    out: &mut [u8],
+    told: &mut Told,
+) -> u32
+    ensures done { result ≡ code Outcome.Done → (batches : declared.BatchBytes)
+        × AreBatchesBy numbers.now requests.now batches × AreBatchesTold batches told.new
+        × AreBatchesWritten batches nodes.new counts.new ends.new out.new }
+    ensures too_small { result ≡ code Outcome.TooSmall → (batches : declared.BatchBytes)
+        × AreBatchesBy numbers.now requests.now batches × AreBatchesTold batches told.new
+        × IsOneTooSmall batches (length nodes.old) (length counts.old) (length ends.old)
+        (length out.old) }
+    ensures fault { result ≢ code Outcome.Done → result ≢ code Outcome.TooSmall
+        → (fault : faults.BatchFault) × (result ≡ code (outcome_of_batch fault))
+        × IsUnplannedBy numbers.now requests.now fault × IsBatchFaultTold fault told.new }
+    ensures unwritten { result ≢ code Outcome.Done → (nodes.new ≡ nodes.old)
+        × (counts.new ≡ counts.old) × (ends.new ≡ ends.old) × (out.new ≡ out.old) }
+{
+    let batches = match batches_by(alloc, requests, numbers) {
+        Ok(batches) => batches,
+        Err(fault) => return code_of_batch(&fault, told),
+    };
+    let Ok(found) = numbers_of(alloc, &batches.nodes) else {
+        return code_of_batch(&BatchFault::Memory, told);
+    };
+    told.parts = batches.nodes.len();
+    told.bytes = batches.bytes.len();
+    if nodes.len() < batches.nodes.len() {
+        return Outcome::TooSmall.code();
+    }
+    if counts.len() < batches.counts.len() {
+        return Outcome::TooSmall.code();
+    }
+    if ends.len() < batches.ends.len() {
+        return Outcome::TooSmall.code();
+    }
+    if out.len() < batches.bytes.len() {
+        return Outcome::TooSmall.code();
+    }
+    put_all(nodes, &found);
+    put_all(counts, &batches.counts);
+    put_all(ends, &batches.ends);
+    put_all(out, &batches.bytes);
+    Outcome::Done.code()
+}
+
+/// Makes the replies to the requests of a pipeline of those to its batches, which stand batch after
+/// batch, and writes them one after the other. `told` says how many bytes they have. The table has
+/// to be the one that the pipeline was split by.
+///
+/// # Errors
+///
+/// In this order. For the requests as `slotroute_split_pipeline`. `ReplyIncomplete`,
+/// `ReplyMalformed` or `ReplyTooDeep` for the first reply that cannot be read, whose batch and
+/// number are told. `AfterReplies` where bytes follow the last one. `NoForm` where the reply to a
+/// request has no form, whose number is told. `TooSmall` where they do not fit. `NoMemory` if memory
+/// runs out.
+#[unsafe(no_mangle)]
+pub extern "C" fn slotroute_combine_pipeline(
+    alloc: Global,
+    requests: &[u8],
+    numbers: &[u16],
+    replies: &[u8],
+    out: &mut [u8],
+    told: &mut Told,
+) -> u32
+    ensures done { result ≡ code Outcome.Done → (combined : List ℕ)
+        × AreCombinedBy numbers.now requests.now replies.now combined × Begins combined out.new
+        × (told.new.bytes ≡ length combined) }
+    ensures too_small { result ≡ code Outcome.TooSmall → (combined : List ℕ)
+        × AreCombinedBy numbers.now requests.now replies.now combined
+        × (length out.old < length combined) × (told.new.bytes ≡ length combined) }
+    ensures fault { result ≢ code Outcome.Done → result ≢ code Outcome.TooSmall
+        → (fault : faults.BatchFault) × (result ≡ code (outcome_of_batch fault))
+        × IsUncombinedBy numbers.now requests.now replies.now fault
+        × IsBatchFaultTold fault told.new }
+    ensures unwritten { result ≢ code Outcome.Done → out.new ≡ out.old }
+{
+    let combined = match combined_by(alloc, requests, numbers, replies) {
+        Ok(combined) => combined,
+        Err(fault) => return code_of_batch(&fault, told),
+    };
+    told.bytes = combined.len();
+    if out.len() < combined.len() {
+        return Outcome::TooSmall.code();
+    }
+    put_all(out, &combined);
+    Outcome::Done.code()
+}
+
+/// The batches of a pipeline by a table.
+fn batches_by(alloc: Global, requests: &[u8], numbers: &[u16]) -> Result<BatchBytes, BatchFault>
+    ensures batches { IfOk result (λ batches. AreBatchesBy numbers.now requests.now batches) }
+    ensures fault { IfErr result (λ fault. IsUnplannedBy numbers.now requests.now fault) }
+{
+    let registry = Registry::new(alloc);
+    let slot_map = numbered_map(alloc, numbers)?;
+    split_pipeline(alloc, requests, &registry, &slot_map)
+}
+
+/// The replies to the requests of a pipeline, by those to its batches by a table.
+fn combined_by(
+    alloc: Global,
+    requests: &[u8],
+    numbers: &[u16],
+    replies: &[u8],
+) -> Result<Vec<u8>, BatchFault>
+    ensures combined { IfOk result (λ combined.
+        AreCombinedBy numbers.now requests.now replies.now combined.items) }
+    ensures fault { IfErr result (λ fault.
+        IsUncombinedBy numbers.now requests.now replies.now fault) }
+{
+    let registry = Registry::new(alloc);
+    let slot_map = numbered_map(alloc, numbers)?;
+    combine_pipeline(alloc, requests, &registry, &slot_map, replies)
+}
+
+/// The number of each node.
+fn numbers_of(alloc: Global, nodes: &[NodeAddress]) -> Result<Vec<u16>, AllocError>
+    ensures numbers { IfOk result (λ numbers. numbers.items ≡ numbers_of nodes.now) }
+    ensures count { IfOk result (λ numbers. length numbers.items ≡ length nodes.now) }
+{
+    let mut numbers = Vec::with_capacity(alloc, nodes.len())?;
+    for node in nodes {
+        numbers.push(node.port())?;
+    }
+    Ok(numbers)
+}
+
+/// The code of a pipeline's fault, whose place is told.
+fn code_of_batch(fault: &BatchFault, told: &mut Told) -> u32
+    ensures code { result ≡ code (outcome_of_batch fault.now) }
+    ensures told { IsBatchFaultTold fault.now told.new }
+    ensures other { IsOther result }
+{
+    match fault {
+        BatchFault::Memory => Outcome::NoMemory.code(),
+        BatchFault::Request(number, fault) => {
+            let code = code_of_request(*fault, told);
+            told.request = *number;
+            code
+        }
+        BatchFault::NotRoutable(number) => {
+            told.request = *number;
+            Outcome::NotRoutable.code()
+        }
+        BatchFault::NotCovered(number, _) => {
+            told.request = *number;
+            Outcome::NotCovered.code()
+        }
+        BatchFault::Reply(batch, number, fault) => {
+            told.batch = *batch;
+            told.reply = *number;
+            code_of_reply(*fault)
+        }
+        BatchFault::AfterReplies(end) => {
+            told.at = *end;
+            Outcome::AfterReplies.code()
+        }
+        BatchFault::NoForm(number) => {
+            told.request = *number;
+            Outcome::NoForm.code()
+        }
+    }
+}
