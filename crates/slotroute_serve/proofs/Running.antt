@@ -29,7 +29,7 @@ field_lines-first : (x : ℕ) (xs : List ℕ) → field_lines (x ∷ xs) ≡ fie
 field_lines-first x xs = ap (map fields_of) (lines_of-first x xs)
 
 -- one more line
-split_more : (input : List ℕ) (x : ℕ) (xs : List ℕ) (front : List (List (List ℕ))) (line : List ℕ) → field_lines input ≡ front ++ field_lines (x ∷ xs) → line ≡ line_of (x ∷ xs) → field_lines input ≡ front ++ fields_of line ∷ field_lines (drop_through 10 (x ∷ xs))
+pub split_more : (input : List ℕ) (x : ℕ) (xs : List ℕ) (front : List (List (List ℕ))) (line : List ℕ) → field_lines input ≡ front ++ field_lines (x ∷ xs) → line ≡ line_of (x ∷ xs) → field_lines input ≡ front ++ fields_of line ∷ field_lines (drop_through 10 (x ∷ xs))
 split_more input x xs front line split text =
     split ∙ ap (λ ls. front ++ ls) (field_lines-first x xs ∙ ap (λ l. fields_of l ∷ field_lines (drop_through 10 (x ∷ xs))) (sym text))
 

@@ -14,7 +14,8 @@ use Rattle.cluster_slots.specs.declared.slot.SlotAddr.{SlotAddr}
 use Rattle.cluster_slots.specs.declared.slot.SlotAddr.TheVariants.{Master, ReplicaOptional, ReplicaRequired}
 use Rattle.memory_nodes.specs.Cells.{Cell}
 use Rattle.memory_nodes.specs.Steps.{step}
-use Rattle.redis_cluster.specs.Driven.{State, request, command_routes_by, IsDriven}
+use Rattle.redis_cluster.specs.Driven.{request, command_routes_by, IsDriven}
+use Rattle.redis_cluster.specs.State.{State}
 use Rattle.redis_cluster.specs.Faults.{IsFault}
 use Rattle.redis_cluster.specs.Orders.{NamesOnce}
 use Rattle.redis_cluster.specs.Names.{Names, names_of}

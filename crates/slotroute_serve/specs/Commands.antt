@@ -12,7 +12,8 @@ use Rattle.memory_nodes.specs.Steps.{step}
 use Rattle.memory_nodes.specs.declared.nodes.MemoryNodes.{MemoryNodes}
 use Rattle.redis_cluster.specs.Names.{Names}
 use Rattle.redis_cluster.specs.Registry.{Registrations}
-use Rattle.redis_cluster.specs.Driven.{request, state, command_routes_by, IsDriven, IsFirstUncovered}
+use Rattle.redis_cluster.specs.Driven.{request, command_routes_by, IsDriven, IsFirstUncovered}
+use Rattle.redis_cluster.specs.State.{state}
 use Rattle.redis_cluster.specs.ReadOnly.{is_among}
 use Rattle.redis_cluster.specs.Trace.{Ending}
 use Rattle.redis_cluster.specs.Trace as trace
@@ -26,7 +27,7 @@ use Rattle.slotroute_serve.specs.declared.direction.Direction.{Direction}
 use Rattle.slotroute_serve.specs.declared.refusal.CommandFault.{CommandFault}
 use Rattle.slotroute_serve.specs.declared.refusal.CommandFault.TheVariants.{Refused, Memory}
 use Rattle.slotroute_serve.specs.declared.refusal.Refusal.{Refusal}
-use Rattle.slotroute_serve.specs.declared.refusal.Refusal.TheVariants.{NotMultiKey, NotCovered, NodeRefused, ReplyLost, BadReply}
+use Rattle.slotroute_serve.specs.declared.refusal.Refusal.TheVariants.{NotMultiKey, NotRoutable, NotCovered, NodeRefused, ReplyLost, BadReply}
 
 -- the names of the commands that only read
 abbrev pub only_reads : List ℕ → Bool
@@ -65,6 +66,7 @@ IsRefused registered entries words (NotCovered slot) =
     (routes : List SlotRoute)
     × (command_routes_by (names_with registered) (map Some words) ≡ Some routes)
     × IsFirstUncovered entries routes slot
+IsRefused registered entries words NotRoutable = ⊥
 IsRefused registered entries words NodeRefused = ⊥
 IsRefused registered entries words ReplyLost = ⊥
 IsRefused registered entries words BadReply = ⊥

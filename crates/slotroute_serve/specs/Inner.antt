@@ -1,2 +1,3 @@
 pub mod Direction
 pub mod Refusals
+pub mod Pipelines

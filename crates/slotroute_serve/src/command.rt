@@ -1,5 +1,6 @@
 ghost use Rattle.std.specs.Prelude.{◌≡◌, ℕ, List, Some, map, is_some, IfOk, IfErr};
-ghost use Rattle.redis_cluster.specs.Driven.{request, state, IsDriven};
+ghost use Rattle.redis_cluster.specs.Driven.{request, IsDriven};
+ghost use Rattle.redis_cluster.specs.State.{state};
 ghost use Rattle.resp_core.specs.View.{view};
 ghost use Rattle.memory_nodes.specs.Nodes.{registered_in, keyspace_in, trace_in, mark_in};
 ghost use Rattle.memory_nodes.specs.Steps.{step};

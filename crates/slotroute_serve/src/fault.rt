@@ -14,7 +14,7 @@ pub enum Fault {
     BadMapLine(u64),
     /// The command of `split` is no multi-key command, or not a complete one.
     NotMultiKey,
-    /// The command of this line of `run`, counted from 1, is refused.
+    /// The command of this line of `run` or `pipeline`, counted from 1, is refused.
     Command(u64, Refusal),
     /// Memory ran out.
     Memory,
@@ -57,7 +57,7 @@ pub enum AnswerFault {
     Memory,
 }
 
-/// Why a run of commands ends before the input does.
+/// Why a run of commands, or of a pipeline, is not done to the end.
 #[derive(Debug, Drop)]
 pub enum RunFault {
     /// The command of this line, counted from 1, is refused.
@@ -94,6 +94,16 @@ impl From<io::Error> for ReadFault {
         } else {
             ReadFault::Input
         }
+    }
+}
+
+impl From<AllocError> for ReadFault {
+    ghost use Rattle.slotroute_serve.specs.declared.fault.ReadFault.TheVariants.{Memory};
+
+    ghost from_gives = { λ _ fault. fault ≡ Memory };
+
+    fn from(_error: AllocError) -> Self {
+        ReadFault::Memory
     }
 }
 

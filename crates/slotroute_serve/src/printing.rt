@@ -54,7 +54,7 @@ fn push_words(text: &mut Vec<u8>, args: &[Vec<u8>]) -> Result<(), AllocError>
 /// Adds a reply: `OK`, the number, `nil`, the bytes, or the items in brackets. A reply of another
 /// kind, which no multi-key command has, adds nothing.
 #[cycle(printing)]
-fn push_reply(alloc: Global, text: &mut Vec<u8>, reply: &Value) -> Result<(), AllocError>
+pub(super) fn push_reply(alloc: Global, text: &mut Vec<u8>, reply: &Value) -> Result<(), AllocError>
     ensures { OnOk result (text.new.items ≡ text.old.items ++ printed (view reply.now)) }
 {
     match reply {

@@ -11,6 +11,7 @@ use crate::direction::Direction;
 use crate::fault::{AnswerFault, Fault, RunFault};
 use crate::input::{LeadingLines, read_map};
 use crate::output::emit;
+use crate::pipeline_run::pipe_commands;
 use crate::request::{Question, Request, request_of};
 use crate::run::run_commands;
 use crate::split::split_answer;
@@ -23,7 +24,7 @@ use std::io::{BufRead, Write};
 
 /// The line for other words.
 pub const USAGE: &str =
-    "usage: slotroute node KEY | split WORD .. | run forward|reverse [first|pick=N|shard]\n";
+    "usage: slotroute node KEY | split WORD .. | run forward|reverse [first|pick=N|shard] | pipeline forward|reverse\n";
 
 /// Runs the program on the words after its name, and gives its status.
 ///
@@ -114,6 +115,10 @@ fn run<R: Source, O: Sink>(
             run_told(
                 alloc, &direction, first, &map, registry, strategy, reader, out,
             )?;
+            return Ok(0);
+        }
+        Request::Pipeline(direction) => {
+            pipe_commands(alloc, &direction, first, &map, registry, reader, out)?;
             return Ok(0);
         }
     };

@@ -1,6 +1,6 @@
 ghost use Rattle.std.specs.Prelude.{◌≡◌, ◌≢◌, ℕ, List, ◌∷◌, [], ◌↔◌, codes, map, string_bytes, IsTrue, MatchOption};
 ghost use Rattle.slotroute_serve.specs.declared.direction.Direction.{Direction as Way};
-ghost use Rattle.slotroute_serve.specs.Output.{IsRequest, IsDirected, MayNameStrategy};
+ghost use Rattle.slotroute_serve.specs.Output.{IsRequest, IsDirected, MayNameStrategy, direction_word};
 ghost use Rattle.slotroute_serve.specs.Requests.{AsksFor};
 
 use crate::direction::Direction;
@@ -13,6 +13,8 @@ pub enum Request<'a> {
     Answer(Question<'a>),
     /// To run the commands that follow the map.
     Run(Direction),
+    /// To run the commands that follow the map as one pipeline.
+    Pipeline(Direction),
 }
 
 /// What is asked of the map.
@@ -24,7 +26,8 @@ pub enum Question<'a> {
     Split(&'a [String]),
 }
 
-/// The request of the words `node KEY`, `split WORD ..`, or `run forward|reverse ..`.
+/// The request of the words `node KEY`, `split WORD ..`, `run forward|reverse ..`, or
+/// `pipeline forward|reverse`.
 pub fn request_of(words: &[String]) -> Option<Request<'_>>
     ensures { MatchOption result
         (¬ (IsRequest (map string_bytes words.now)))
@@ -37,6 +40,7 @@ pub fn request_of(words: &[String]) -> Option<Request<'_>>
         "node" => node_request(rest),
         "split" => split_request(rest),
         "run" => run_request(rest),
+        "pipeline" => pipeline_request(rest),
         _ => None,
     }
 }
@@ -74,6 +78,29 @@ fn run_request(words: &[String]) -> Option<Request<'_>>
     }
 }
 
+fn pipeline_request(words: &[String]) -> Option<Request<'_>>
+    ensures { MatchOption result
+        ((direction : Way) → map string_bytes words.now ≢ direction_word direction ∷ [])
+        (AsksFor (codes "pipeline" ∷ map string_bytes words.now)) }
+{
+    match sole_direction(words) {
+        Some(direction) => Some(Request::Pipeline(direction)),
+        None => None,
+    }
+}
+
+/// The direction of the one word after `pipeline`.
+fn sole_direction(words: &[String]) -> Option<Direction>
+    ensures { MatchOption result
+        ((direction : Way) → map string_bytes words.now ≢ direction_word direction ∷ [])
+        (λ direction. map string_bytes words.now ≡ direction_word direction ∷ []) }
+{
+    let [direction] = words else {
+        return None;
+    };
+    direction_by(direction.as_str())
+}
+
 /// The direction of the words after `run`.
 fn direction_of(words: &[String]) -> Option<Direction>
     ensures { MatchOption result
@@ -86,7 +113,16 @@ fn direction_of(words: &[String]) -> Option<Direction>
     if !may_name_strategy(rest) {
         return None;
     }
-    match direction.as_str() {
+    direction_by(direction.as_str())
+}
+
+/// The direction that a word names.
+fn direction_by(word: &str) -> Option<Direction>
+    ensures { MatchOption result
+        ((direction : Way) → word.now ≢ direction_word direction)
+        (λ direction. word.now ≡ direction_word direction) }
+{
+    match word {
         "forward" => Some(Direction::Forward),
         "reverse" => Some(Direction::Reverse),
         _ => None,

@@ -81,7 +81,7 @@ fn line_of(
 }
 
 /// Adds the words at the end, each after a space.
-fn push_words(line: &mut Vec<u8>, words: &Cmd) -> Result<(), AllocError>
+pub(super) fn push_words(line: &mut Vec<u8>, words: &Cmd) -> Result<(), AllocError>
     ensures { OnOk result
         (line.new.items ≡ line.old.items ++ flat_map (λ word. space ∷ word) words.now) }
 {

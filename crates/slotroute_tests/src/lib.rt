@@ -12,6 +12,8 @@ mod map_lines;
 #[cfg(test)]
 mod node;
 #[cfg(test)]
+mod pipeline;
+#[cfg(test)]
 mod reading;
 #[cfg(test)]
 mod registered;

@@ -12,7 +12,7 @@ pub type Run<'a> = (&'a [&'a str], &'a [u8], &'a [u8], &'a [u8], u8);
 pub const TWO_NODES: &[u8] = b"0 8191 n1:1\n8192 16383 n2:2\n";
 
 pub const USAGE: &[u8] =
-    b"usage: slotroute node KEY | split WORD .. | run forward|reverse [first|pick=N|shard]\n";
+    b"usage: slotroute node KEY | split WORD .. | run forward|reverse [first|pick=N|shard] | pipeline forward|reverse\n";
 
 pub fn words_of(alloc: Global, texts: &[&str]) -> Result<Vec<String>, AllocError> {
     let mut words = Vec::new(alloc);

@@ -1,6 +1,7 @@
 use Rattle.std.proofs.Common.{◌∙◌, ap, Some, map, subst}
 use Rattle.memory_nodes.specs.Nodes.{registered_in, keyspace_in, trace_in, mark_in, MayRefuse}
-use Rattle.redis_cluster.specs.Driven.{Request, request, state}
+use Rattle.redis_cluster.specs.Driven.{Request, request}
+use Rattle.redis_cluster.specs.State.{state}
 use Rattle.redis_cluster.specs.MultiKey.{MultiKey}
 use Rattle.redis_cluster.specs.Names.{names_of}
 use Rattle.redis_cluster.specs.Ready.{IsPlanFor, IsPlanNode}

@@ -1,7 +1,7 @@
 use Rattle.resp_core.specs.View.{view}
 use Rattle.std.proofs.Common.{map}
 use Rattle.memory_nodes.specs.Nodes.{entry_of, registered_in, keyspace_in, trace_in, mark_in}
-use Rattle.redis_cluster.specs.Driven.{state}
+use Rattle.redis_cluster.specs.State.{state}
 use Rattle.slotroute_serve.proofs.RunningCommands.{grown, since, words_run}
 use Rattle.slotroute_serve.proofs.command.run_command.Goals as goal
 
