@@ -1,18 +1,24 @@
 //! In Rust, after the algorithms that the Rust crate publishes, what some calls of the layer do:
 //! a `BTreeMap` of ranges by their ends, a `HashMap` for grouping and for totals, a command as one
-//! buffer with ends. It is not the crate's own code. `in_rust time OPERATION SIZE` prints the
-//! nanoseconds of a call, measured as `crates/bench` measures them, over the same inputs; nothing
-//! is printed for an operation that is not here.
+//! buffer with ends, replies whose `Clone` and `PartialEq` are derived. It is not the crate's own
+//! code. `in_rust time OPERATION SIZE` prints the nanoseconds of a call, measured as `crates/bench`
+//! measures them, over the same inputs; nothing is printed for an operation that is not here.
 use std::collections::{BTreeMap, HashMap, HashSet};
 use std::env;
 use std::hint::black_box;
+use std::str;
 use std::sync::Arc;
 
 // The clock of the processor time of this thread.
 const THREAD_CPU_TIME: i32 = 3;
 
+// The limit of this process's stack.
+const STACK_LIMIT: i32 = 3;
+
 unsafe extern "C" {
     fn clock_gettime(clock: i32, time: *mut [i64; 2]) -> i32;
+    fn getrlimit(limit: i32, bytes: *mut [u64; 2]) -> i32;
+    fn setrlimit(limit: i32, bytes: *const [u64; 2]) -> i32;
 }
 
 fn nanos() -> u64 {
@@ -20,6 +26,17 @@ fn nanos() -> u64 {
     // SAFETY: two words are what the call writes on a 64-bit Linux.
     unsafe { clock_gettime(THREAD_CPU_TIME, &mut time) };
     time[0] as u64 * 1_000_000_000 + time[1] as u64
+}
+
+/// Lets the stack grow to 96 MB: what is derived for values in one another recurses.
+fn deepen_stack() {
+    let mut bytes = [0; 2];
+    // SAFETY: two words are what both calls take on a 64-bit Linux.
+    unsafe {
+        getrlimit(STACK_LIMIT, &mut bytes);
+        bytes[0] = bytes[1].min(96 << 20);
+        setrlimit(STACK_LIMIT, &bytes);
+    }
 }
 
 const WHOLE_NANOS: u64 = 500_000_000;
@@ -44,12 +61,38 @@ fn least<I, O>(
     least
 }
 
-fn time<I, O>(mut input: impl FnMut() -> I, mut call: impl FnMut(I) -> O) {
-    let one = least(3, 1, &mut input, &mut call).max(1);
+/// `least` for calls whose answers are dropped after the round.
+fn least_kept<O>(rounds: u64, calls: u64, call: &mut impl FnMut() -> O) -> u64 {
+    let mut least = u64::MAX;
+    for _ in 0..rounds {
+        let mut answers = Vec::with_capacity(calls as usize);
+        let began = nanos();
+        for _ in 0..calls {
+            answers.push(call());
+        }
+        least = least.min(nanos() - began);
+        black_box(answers);
+    }
+    least
+}
+
+/// Prints the nanoseconds of a call, by those of so many calls in the least of so many rounds.
+fn print(mut least: impl FnMut(u64, u64) -> u64) {
+    let one = least(3, 1).max(1);
     let calls = (ROUND_NANOS / one).clamp(1, 20_000);
     let rounds = (WHOLE_NANOS / (one * calls)).clamp(9, 1000);
-    let whole = least(rounds, calls, &mut input, &mut call);
-    println!("{:.1}", whole as f64 / calls as f64);
+    let each = least(rounds, calls) as f64 / calls as f64;
+    let digits = if each < 100.0 { 1 } else { 0 };
+    println!("{each:.digits$}");
+}
+
+fn time<I, O>(mut input: impl FnMut() -> I, mut call: impl FnMut(I) -> O) {
+    print(|rounds, calls| least(rounds, calls, &mut input, &mut call));
+}
+
+/// `time` for a call whose answer is dropped after the round.
+fn time_kept<O>(mut call: impl FnMut() -> O) {
+    print(|rounds, calls| least_kept(rounds, calls, &mut call));
 }
 
 #[derive(Clone, Copy, PartialEq, Eq, Hash)]
@@ -103,7 +146,7 @@ fn slot_of(key: &[u8]) -> u16 {
 
 // Maps of ranges.
 
-#[derive(Clone)]
+#[derive(Clone, PartialEq, Eq, Hash)]
 struct NodeAddress {
     host: Arc<str>,
     port: u16,
@@ -140,17 +183,92 @@ fn node_of(map: &SlotMap, route: Route) -> Option<&NodeAddress> {
     }
 }
 
-fn ranges(count: usize) -> Vec<SlotRange> {
+#[inline(never)]
+fn nodes_of(map: &SlotMap) -> HashSet<&NodeAddress> {
+    let mut nodes = HashSet::new();
+    for range in map.values() {
+        nodes.insert(&range.primary);
+        nodes.extend(&range.replicas);
+    }
+    nodes
+}
+
+struct Shard {
+    ranges: Vec<(u16, u16)>,
+    primary: NodeAddress,
+    replicas: Vec<NodeAddress>,
+}
+
+/// The shard of each range, by the range's end.
+type Topology = BTreeMap<u16, (u16, Arc<Shard>)>;
+
+#[inline(never)]
+fn topology_of(map: &SlotMap) -> Topology {
+    let mut shards: Vec<Shard> = Vec::new();
+    let mut numbers = HashMap::new();
+    for range in map.values() {
+        let number = *numbers.entry(&range.primary).or_insert_with(|| {
+            shards.push(Shard {
+                ranges: Vec::new(),
+                primary: range.primary.clone(),
+                replicas: range.replicas.clone(),
+            });
+            shards.len() - 1
+        });
+        shards[number].ranges.push((range.start, range.end));
+    }
+    let mut topology = Topology::new();
+    for shard in shards {
+        let shard = Arc::new(shard);
+        for (start, end) in &shard.ranges {
+            topology.insert(*end, (*start, Arc::clone(&shard)));
+        }
+    }
+    topology
+}
+
+#[inline(never)]
+fn shard_of(topology: &Topology, slot: u16) -> Option<&Shard> {
+    let (_, (start, shard)) = topology.range(slot..).next()?;
+    (*start <= slot).then_some(shard)
+}
+
+/// Which hosts the nodes of a map have.
+#[derive(Clone, Copy)]
+enum Hosts {
+    /// Those of at most 1000 nodes.
+    Shared,
+    /// One for each range.
+    Own,
+    /// One for each range, and all with one hash in the layer.
+    OneHash,
+}
+
+fn host_of(hosts: Hosts, number: usize) -> String {
+    match hosts {
+        Hosts::Shared => format!("10.0.{}.{}", number % 1000 / 250, number % 250),
+        Hosts::Own => format!("10.1.{}.{}", number / 250, number % 250),
+        Hosts::OneHash => format!("collidehostcxkzgMOsKSBRA{number:08}"),
+    }
+}
+
+/// The first slot of a range, of so many that share all slots, and the last.
+fn ends(number: usize, count: usize) -> (u16, u16) {
+    let first = |number| (number * 16384 / count) as u16;
+    (first(number), first(number + 1) - 1)
+}
+
+fn ranges(hosts: Hosts, count: usize) -> Vec<SlotRange> {
     let range = |number: usize| {
-        let node = number % 1000;
-        let host = format!("10.0.{}.{}", node / 250, node % 250);
+        let host = host_of(hosts, number);
         let at = |port| NodeAddress {
             host: host.as_str().into(),
             port,
         };
+        let (start, end) = ends(number, count);
         SlotRange {
-            start: (number * 16384 / count) as u16,
-            end: ((number + 1) * 16384 / count - 1) as u16,
+            start,
+            end,
             primary: at(6379),
             replicas: vec![at(6380)],
         }
@@ -447,18 +565,25 @@ fn parts(command: &Cmd, routes: &Routes) -> Vec<Cmd> {
 
 // Replies.
 
-#[derive(Clone)]
+#[derive(Clone, PartialEq)]
 #[allow(dead_code)]
 enum Value {
     Nil,
     Int(i64),
     BulkString(Vec<u8>),
     Array(Vec<Value>),
+    SimpleString(String),
+    Okay,
     Map(Vec<(Value, Value)>),
 }
 
 #[derive(Debug)]
 struct Refused;
+
+#[inline(never)]
+fn are_equal(left: &Value, right: &Value) -> bool {
+    left == right
+}
 
 #[inline(never)]
 fn sum(replies: Vec<Value>) -> Result<Value, Refused> {
@@ -544,6 +669,85 @@ fn sorted(replies: Vec<Value>, routes: &Routes) -> Result<Value, Refused> {
     Ok(Value::Array(all))
 }
 
+/// The ranges of a reply to `CLUSTER SLOTS` that a node of this host gave.
+#[inline(never)]
+fn ranges_in(reply: &Value, answering: &str) -> Vec<SlotRange> {
+    let Value::Array(items) = reply else {
+        return Vec::new();
+    };
+    let mut ranges = Vec::with_capacity(2);
+    for item in items {
+        let Value::Array(item) = item else {
+            break;
+        };
+        let [Value::Int(start), Value::Int(end), nodes @ ..] = item.as_slice() else {
+            continue;
+        };
+        let nodes = nodes.iter().filter_map(|node| node_in(node, answering));
+        let mut nodes: Vec<NodeAddress> = nodes.collect();
+        if nodes.is_empty() {
+            continue;
+        }
+        let replicas = nodes.split_off(1);
+        if let Some(primary) = nodes.pop() {
+            ranges.push(SlotRange {
+                start: *start as u16,
+                end: *end as u16,
+                primary,
+                replicas,
+            });
+        }
+    }
+    ranges
+}
+
+fn node_in(node: &Value, answering: &str) -> Option<NodeAddress> {
+    let Value::Array(node) = node else {
+        return None;
+    };
+    let [host, Value::Int(port), ..] = node.as_slice() else {
+        return None;
+    };
+    let text = match host {
+        Value::BulkString(bytes) => String::from_utf8_lossy(bytes),
+        Value::Nil => "".into(),
+        _ => return None,
+    };
+    let host = match &*text {
+        "" | "0.0.0.0" | "::" => answering,
+        "?" => return None,
+        host => host,
+    };
+    (!host.is_empty()).then(|| NodeAddress {
+        host: host.into(),
+        port: *port as u16,
+    })
+}
+
+/// A reply to `CLUSTER SLOTS` of so many ranges.
+fn slots_reply(count: usize) -> Value {
+    let identity = b"0123456789012345678901234567890123456789";
+    let range = |number| {
+        let host = host_of(Hosts::Shared, number);
+        let node = |port| {
+            Value::Array(vec![
+                Value::BulkString(host.clone().into_bytes()),
+                Value::Int(port),
+                Value::BulkString(identity.to_vec()),
+            ])
+        };
+        let (start, end) = ends(number, count);
+        let (start, end) = (Value::Int(start.into()), Value::Int(end.into()));
+        Value::Array(vec![start, end, node(6379), node(6380)])
+    };
+    Value::Array((0..count).map(range).collect())
+}
+
+/// An array in an array, so many times.
+fn nested(depth: usize) -> Value {
+    (0..depth).fold(Value::Nil, |inside, _| Value::Array(vec![inside]))
+}
+
 fn bulks(count: usize) -> Value {
     let bulk = |number| Value::BulkString(format!("key:{number}").into_bytes());
     Value::Array((0..count).map(bulk).collect())
@@ -561,6 +765,306 @@ fn counts(count: usize) -> Value {
         [Value::BulkString(key), Value::Int(number as i64)]
     };
     Value::Array((0..count).flat_map(pair).collect())
+}
+
+// Pipelines.
+
+/// Whether a pipeline refuses commands of this name.
+#[rustfmt::skip]
+fn is_refused(name: &str) -> bool {
+    matches!(
+        name,
+        "BGREWRITEAOF" | "BGSAVE" | "BITOP" | "BRPOPLPUSH" | "CLIENT" | "CLIENT GETNAME"
+        | "CLIENT KILL" | "CLIENT LIST" | "CLIENT SETNAME" | "CONFIG" | "CONFIG GET"
+        | "CONFIG RESETSTAT" | "CONFIG REWRITE" | "CONFIG SET" | "DBSIZE" | "ECHO" | "FLUSHALL"
+        | "FLUSHDB" | "INFO" | "KEYS" | "LASTSAVE" | "MGET" | "MOVE" | "MSET" | "MSETEX" | "MSETNX"
+        | "PING" | "PUBLISH" | "RANDOMKEY" | "RENAME" | "RENAMENX" | "RPOPLPUSH" | "SAVE" | "SCAN"
+        | "SCRIPT" | "SCRIPT EXISTS" | "SCRIPT FLUSH" | "SCRIPT KILL" | "SCRIPT LOAD" | "SDIFF"
+        | "SDIFFSTORE" | "SENTINEL" | "SENTINEL GET MASTER ADDR BY NAME" | "SENTINEL MASTER"
+        | "SENTINEL MASTERS" | "SENTINEL MONITOR" | "SENTINEL REMOVE" | "SENTINEL SENTINELS"
+        | "SENTINEL SET" | "SENTINEL SLAVES" | "SHUTDOWN" | "SINTER" | "SINTERSTORE" | "SLAVEOF"
+        | "SLOWLOG" | "SLOWLOG GET" | "SLOWLOG LEN" | "SLOWLOG RESET" | "SMOVE" | "SORT" | "SUNION"
+        | "SUNIONSTORE" | "TIME"
+    )
+}
+
+/// Whether a pipeline may be sent.
+#[inline(never)]
+fn check(commands: &[Cmd]) -> Result<(), Refused> {
+    for command in commands {
+        let name = str::from_utf8(command.arg_idx(0).unwrap_or(b"")).unwrap_or("");
+        if is_refused(&name.trim().to_ascii_uppercase()) {
+            return Err(Refused);
+        }
+    }
+    if commands.is_empty() {
+        return Err(Refused);
+    }
+    Ok(())
+}
+
+#[derive(Clone, Copy)]
+#[allow(dead_code)]
+enum ErrorKind {
+    UnexpectedReturnType,
+    Client,
+}
+
+#[allow(dead_code)]
+struct RedisError {
+    kind: ErrorKind,
+    text: &'static str,
+    detail: Option<String>,
+}
+
+impl From<Refused> for RedisError {
+    fn from(_: Refused) -> Self {
+        RedisError {
+            kind: ErrorKind::UnexpectedReturnType,
+            text: "the replies of the parts make no reply",
+            detail: None,
+        }
+    }
+}
+
+/// What is answered to a command: a reply, or an error of the server.
+type Answer = Result<Value, RedisError>;
+
+/// What a plan keeps of a command.
+enum Task {
+    /// It goes out as it is.
+    Whole,
+    /// It goes out part by part, and the replies to the parts make one by the policy.
+    Parts(Routes, ResponsePolicy),
+}
+
+/// What goes out.
+enum Part<'a> {
+    Whole(&'a Cmd),
+    Split(Cmd),
+}
+
+impl Part<'_> {
+    fn command(&self) -> &Cmd {
+        match self {
+            Part::Whole(command) => command,
+            Part::Split(command) => command,
+        }
+    }
+}
+
+/// The parts that one node gets, by their numbers.
+struct Batch<'a> {
+    #[allow(dead_code)]
+    node: &'a NodeAddress,
+    parts: Vec<usize>,
+    is_told: bool,
+}
+
+/// A pipeline of commands in batches, one for each node, and the answers to the parts.
+struct PipelinePlan<'a> {
+    tasks: Vec<Task>,
+    parts: Vec<Part<'a>>,
+    batches: Vec<Batch<'a>>,
+    answers: Vec<Option<Answer>>,
+}
+
+impl<'a> PipelinePlan<'a> {
+    /// There is none where a command goes to no single slot and is not split, or where a slot has no
+    /// node.
+    #[inline(never)]
+    fn new(commands: &'a [Cmd], map: &'a SlotMap) -> Option<Self> {
+        let mut plan = PipelinePlan {
+            tasks: Vec::with_capacity(commands.len()),
+            parts: Vec::with_capacity(commands.len()),
+            batches: Vec::new(),
+            answers: Vec::new(),
+        };
+        let mut numbers = HashMap::new();
+        for command in commands {
+            let name = command.name()?;
+            let task = match base_routing(&name) {
+                RouteBy::KeyAt(place) => {
+                    let slot = slot_of(command.arg_idx(place)?);
+                    let node = node_of(map, Route(slot, SlotAddr::Master))?;
+                    plan.add(&mut numbers, node, Part::Whole(command));
+                    Task::Whole
+                }
+                RouteBy::MultiSlot => {
+                    let routes = split(command, width_of(&name), SlotAddr::Master);
+                    for (route, places) in &routes {
+                        let node = node_of(map, *route)?;
+                        plan.add(&mut numbers, node, Part::Split(part(command, places)));
+                    }
+                    Task::Parts(routes, policy(&name)?)
+                }
+                _ => return None,
+            };
+            plan.tasks.push(task);
+        }
+        plan.answers.resize_with(plan.parts.len(), || None);
+        Some(plan)
+    }
+
+    fn add(
+        &mut self,
+        numbers: &mut HashMap<&'a NodeAddress, usize>,
+        node: &'a NodeAddress,
+        part: Part<'a>,
+    ) {
+        let number = *numbers.entry(node).or_insert_with(|| {
+            self.batches.push(Batch {
+                node,
+                parts: Vec::new(),
+                is_told: false,
+            });
+            self.batches.len() - 1
+        });
+        self.batches[number].parts.push(self.parts.len());
+        self.parts.push(part);
+    }
+
+    #[inline(never)]
+    fn batch(&self, number: usize) -> Option<Vec<&Cmd>> {
+        let parts = &self.batches.get(number)?.parts;
+        Some(
+            parts
+                .iter()
+                .map(|part| self.parts[*part].command())
+                .collect(),
+        )
+    }
+
+    /// Gives the answers back where there are not as many as commands, or some were told before.
+    #[inline(never)]
+    fn tell(&mut self, number: usize, answers: Vec<Answer>) -> Result<(), Vec<Answer>> {
+        let Some(batch) = self.batches.get_mut(number) else {
+            return Err(answers);
+        };
+        if batch.is_told || batch.parts.len() != answers.len() {
+            return Err(answers);
+        }
+        batch.is_told = true;
+        for (part, answer) in batch.parts.iter().zip(answers) {
+            self.answers[*part] = Some(answer);
+        }
+        Ok(())
+    }
+
+    /// The answer to each command. There is none where a batch was not told.
+    #[inline(never)]
+    fn combine(self) -> Option<Vec<Answer>> {
+        if !self.batches.iter().all(|batch| batch.is_told) {
+            return None;
+        }
+        let mut answers = self.answers.into_iter().flatten();
+        let mut replies = Vec::with_capacity(self.tasks.len());
+        for task in &self.tasks {
+            replies.push(match task {
+                Task::Whole => answers.next()?,
+                Task::Parts(routes, policy) => {
+                    let own = answers.by_ref().take(routes.len()).collect();
+                    combined(own, routes, *policy)
+                }
+            });
+        }
+        Some(replies)
+    }
+}
+
+/// How many arguments a command has for each key.
+fn width_of(name: &[u8]) -> usize {
+    match name {
+        b"MSET" => 2,
+        b"JSON.MSET" => 3,
+        _ => 1,
+    }
+}
+
+/// The first error of the parts, or else what their replies make.
+fn combined(answers: Vec<Answer>, routes: &Routes, policy: ResponsePolicy) -> Answer {
+    let replies = answers.into_iter().collect::<Result<Vec<_>, _>>()?;
+    Ok(match policy {
+        ResponsePolicy::CombineArrays => sorted(replies, routes)?,
+        ResponsePolicy::Sum => sum(replies)?,
+        _ => replies.into_iter().next().ok_or(Refused)?,
+    })
+}
+
+/// Plans a pipeline, looks at each batch, tells its answers and combines them.
+#[inline(never)]
+fn planned(commands: &[Cmd], map: &SlotMap, answers: Vec<Vec<Answer>>) -> Option<Vec<Answer>> {
+    let mut plan = PipelinePlan::new(commands, map)?;
+    for (number, answers) in answers.into_iter().enumerate() {
+        black_box(plan.batch(number)?);
+        plan.tell(number, answers).ok()?;
+    }
+    plan.combine()
+}
+
+/// So many commands over keys that differ: every tenth is an `MGET` of three, and the others are
+/// `SET` and `GET` in turn.
+fn mixed_pipeline(count: usize) -> Vec<Cmd> {
+    let mut keys = (0..).map(|number| format!("key:{number}").into_bytes());
+    let mut key = || keys.next().unwrap_or_default();
+    let command = |number| match (number % 10, number % 2) {
+        (9, _) => command(&[b"MGET", &key(), &key(), &key()]),
+        (_, 0) => command(&[b"SET", &key(), b"value"]),
+        _ => command(&[b"GET", &key()]),
+    };
+    (0..count).map(command).collect()
+}
+
+/// What a node replies to a command of a mixed pipeline.
+fn reply_to(command: &Cmd) -> Value {
+    let value = || Value::BulkString(b"value".to_vec());
+    match command.arg_idx(0) {
+        Some(b"SET") => Value::Okay,
+        Some(b"GET") => value(),
+        _ => Value::Array((1..command.ends.len()).map(|_| value()).collect()),
+    }
+}
+
+/// The replies to the commands of each batch.
+fn replies_to(plan: &PipelinePlan) -> Vec<Vec<Value>> {
+    let replies = |batch: &Batch| {
+        let parts = batch.parts.iter().map(|part| &plan.parts[*part]);
+        parts.map(|part| reply_to(part.command())).collect()
+    };
+    plan.batches.iter().map(replies).collect()
+}
+
+/// Over a map of so many nodes.
+fn time_pipeline(nodes: usize, size: usize) {
+    let commands = mixed_pipeline(size);
+    let map = map_of(ranges(Hosts::Shared, nodes));
+    let plan = PipelinePlan::new(&commands, &map).expect("a plan");
+    let replies = replies_to(&plan);
+    let answers = || -> Vec<Vec<Answer>> {
+        let answers = |batch: &Vec<Value>| batch.iter().cloned().map(Ok).collect();
+        replies.iter().map(answers).collect()
+    };
+    time(answers, |answers| planned(&commands, &map, answers));
+}
+
+fn time_check(size: usize) {
+    let commands: Vec<Cmd> = (0..size)
+        .map(|_| command(&[b"SET", b"key", b"value"]))
+        .collect();
+    time(|| (), |()| check(&commands).is_ok());
+}
+
+fn time_drop(value: Value) {
+    time(|| value.clone(), drop);
+}
+
+fn time_clone(value: Value) {
+    time_kept(|| black_box(&value).clone());
+}
+
+fn time_equal(value: Value) {
+    let copy = value.clone();
+    time(|| (), |()| are_equal(&value, &copy));
 }
 
 fn time_sorted(size: usize) {
@@ -612,20 +1116,49 @@ fn inserted(slots: impl Iterator<Item = usize>) -> BTreeMap<u16, (u16, u16)> {
     map
 }
 
+/// A slot for each turn, spread over all.
+fn slot_at(turn: usize) -> u16 {
+    (turn.wrapping_mul(40_503) & 16_383) as u16
+}
+
 fn time_nodes(size: usize) {
-    let map = map_of(ranges(size));
+    let map = map_of(ranges(Hosts::Shared, size));
     let mut turn = 0_usize;
     time(
         || (),
         |()| {
             turn += 1;
-            let slot = (turn.wrapping_mul(40_503) & 16_383) as u16;
-            node_of(&map, Route(slot, SlotAddr::Master)).map(|node| (node.port, node.host.len()))
+            let route = Route(slot_at(turn), SlotAddr::Master);
+            node_of(&map, route).map(|node| (node.port, node.host.len()))
         },
     );
 }
 
+fn time_shards(size: usize) {
+    let topology = topology_of(&map_of(ranges(Hosts::Shared, size)));
+    let mut turn = 0_usize;
+    time(
+        || (),
+        |()| {
+            turn += 1;
+            let shard = shard_of(&topology, slot_at(turn))?;
+            Some((shard.primary.port, shard.replicas.len()))
+        },
+    );
+}
+
+fn time_topology(hosts: Hosts, size: usize) {
+    let map = map_of(ranges(hosts, size));
+    time(|| (), |()| topology_of(&map));
+}
+
+fn time_all_nodes(hosts: Hosts, size: usize) {
+    let map = map_of(ranges(hosts, size));
+    time(|| (), |()| nodes_of(&map).len());
+}
+
 fn main() {
+    deepen_stack();
     let words: Vec<String> = env::args().collect();
     let size = words.get(3).and_then(|word| word.parse().ok()).unwrap_or(1);
     let del = || command_of_keys(b"DEL", size, None);
@@ -636,9 +1169,19 @@ fn main() {
         "key-slot" => time_slots(size),
         "look-up" => time_nodes(size),
         "map-from-slots" => {
-            let ranges = ranges(size);
+            let ranges = ranges(Hosts::Shared, size);
             time(|| ranges.clone(), map_of);
         }
+        "map-from-reply" => {
+            let reply = slots_reply(size);
+            time(|| (), |()| map_of(ranges_in(&reply, "10.0.0.1")));
+        }
+        "topology" => time_topology(Hosts::Shared, size),
+        "topology-own-nodes" => time_topology(Hosts::Own, size),
+        "topology-one-hash" => time_topology(Hosts::OneHash, size),
+        "nodes" => time_all_nodes(Hosts::Shared, size),
+        "nodes-one-hash" => time_all_nodes(Hosts::OneHash, size),
+        "shard-of-slot" => time_shards(size),
         "insert-ascending" => time(|| (), |()| inserted(0..size)),
         "insert-descending" => time(|| (), |()| inserted((0..size).rev())),
         "name-get" => time_command(&[b"get", &vec![b'k'; size]]),
@@ -688,6 +1231,17 @@ fn main() {
             let words = vec![b"argument".as_slice(); size];
             time(|| (), |()| command(&words));
         }
+        "drop-int" => time_drop(Value::Int(1)),
+        "drop-int-array" => time_drop(Value::Array(ints(size, size))),
+        "drop-bulk-array" => time_drop(bulks(size)),
+        "drop-nested" => time_drop(nested(size)),
+        "clone-bulk-array" => time_clone(bulks(size)),
+        "clone-nested" => time_clone(nested(size)),
+        "equal-bulk-array" => time_equal(bulks(size)),
+        "equal-nested" => time_equal(nested(size)),
+        "pipeline-check" => time_check(size),
+        "pipeline-plan-3" => time_pipeline(3, size),
+        "pipeline-plan-1000" => time_pipeline(1000, size),
         _ => {}
     }
 }

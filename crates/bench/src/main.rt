@@ -11,6 +11,7 @@ mod driving;
 mod fault;
 mod lookups;
 mod operation;
+mod pipelines;
 mod routing;
 mod splitting;
 mod values;

@@ -2,11 +2,12 @@ use crate::combining::{self, Combining};
 use crate::driving::{self, Driving};
 use crate::fault::Fault;
 use crate::lookups::{self, Lookups};
+use crate::pipelines::{self, Pipelines};
 use crate::routing::{self, Routing};
 use crate::splitting::{self, Splitting};
 use crate::values::{self, Values};
 use crate::watch::Watch;
-use Operation::{Combine, Drive, LookUp, Route, Split, Value};
+use Operation::{Combine, Drive, LookUp, Pipe, Route, Split, Value};
 use bench_inputs::Hosts;
 use std::alloc::Global;
 
@@ -21,10 +22,12 @@ pub enum Operation {
     Split(Splitting),
     /// On combining replies.
     Combine(Combining),
-    /// On commands, replies and pipelines.
+    /// On commands and replies, and what a pipeline refuses.
     Value(Values),
     /// On driving commands.
     Drive(Driving),
+    /// On pipelines in batches.
+    Pipe(Pipelines),
 }
 
 /// What sizes count, and the sizes.
@@ -58,7 +61,7 @@ const ONE: Sizes = ("call", &[1]);
 pub type Row = (Operation, &'static str, Sizes);
 
 /// All operations, in the order in which they are printed.
-pub static ROWS: [Row; 47] = [
+pub static ROWS: [Row; 49] = [
     (LookUp(Lookups::KeySlot), "key-slot", BYTES),
     (LookUp(Lookups::Node), "look-up", RANGES),
     (LookUp(Lookups::FromSlots), "map-from-slots", RANGES),
@@ -126,6 +129,8 @@ pub static ROWS: [Row; 47] = [
     (Drive(Driving::DelPlan), "plan-del", KEYS),
     (Drive(Driving::Del), "drive-del", KEYS),
     (Drive(Driving::Mget), "drive-mget", KEYS),
+    (Pipe(Pipelines::OverFew), "pipeline-plan-3", COMMANDS),
+    (Pipe(Pipelines::OverMany), "pipeline-plan-1000", COMMANDS),
 ];
 
 /// Makes the calls of an operation at a size, as the watch asks for them.
@@ -142,5 +147,6 @@ pub fn call(
         Combine(what) => combining::call(what, watch, alloc, size),
         Value(what) => values::call(what, watch, alloc, size),
         Drive(what) => driving::call(what, watch, alloc, size),
+        Pipe(what) => pipelines::call(what, watch, alloc, size),
     }
 }

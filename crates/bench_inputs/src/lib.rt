@@ -34,6 +34,25 @@ pub fn keys(alloc: Global, count: usize, length: usize) -> Result<Vec<Vec<u8>>, 
     Ok(keys)
 }
 
+/// A command of so many keys, the first one of this number, each with what goes with it.
+fn cmd_from(
+    alloc: Global,
+    name: &[u8],
+    first: usize,
+    count: usize,
+    value: Option<&[u8]>,
+) -> Result<Cmd, AllocError> {
+    let mut cmd = Cmd::new(alloc);
+    cmd.write_arg(name)?;
+    for number in first..first.saturating_add(count) {
+        cmd.write_arg(&key(alloc, number)?)?;
+        if let Some(value) = value {
+            cmd.write_arg(value)?;
+        }
+    }
+    Ok(cmd)
+}
+
 /// A command of so many keys, each with what goes with it.
 pub fn cmd(
     alloc: Global,
@@ -41,15 +60,47 @@ pub fn cmd(
     count: usize,
     value: Option<&[u8]>,
 ) -> Result<Cmd, AllocError> {
-    let mut cmd = Cmd::new(alloc);
-    cmd.write_arg(name)?;
+    cmd_from(alloc, name, 0, count, value)
+}
+
+/// So many commands over keys that differ: every tenth is an `MGET` of three, and the others are
+/// `SET` and `GET` in turn.
+pub fn mixed_pipeline(alloc: Global, count: usize) -> Result<Vec<Cmd>, AllocError> {
+    let mut commands = Vec::with_capacity(alloc, count)?;
     for number in 0..count {
-        cmd.write_arg(&key(alloc, number)?)?;
-        if let Some(value) = value {
-            cmd.write_arg(value)?;
-        }
+        commands.push(mixed_command(alloc, number)?)?;
     }
-    Ok(cmd)
+    Ok(commands)
+}
+
+/// The command of this number in a mixed pipeline, of whose commands ten have twelve keys.
+fn mixed_command(alloc: Global, number: usize) -> Result<Cmd, AllocError> {
+    let first = (number / 10).saturating_mul(12).saturating_add(number % 10);
+    if number % 10 == 9 {
+        cmd_from(alloc, b"MGET", first, 3, None)
+    } else if number % 2 == 0 {
+        cmd_from(alloc, b"SET", first, 1, Some(b"value"))
+    } else {
+        cmd_from(alloc, b"GET", first, 1, None)
+    }
+}
+
+/// What a node replies to a command of a mixed pipeline, or to a part of one.
+pub fn reply_to(alloc: Global, command: &Cmd) -> Result<Value, AllocError> {
+    match command.arg_idx(0) {
+        Some(name) if name == b"SET".as_slice() => Ok(Value::Okay),
+        Some(name) if name == b"GET".as_slice() => bulk(alloc, b"value"),
+        _ => values(alloc, command.len().saturating_sub(1)),
+    }
+}
+
+/// An array of so many short values.
+fn values(alloc: Global, count: usize) -> Result<Value, AllocError> {
+    let mut items = Vec::with_capacity(alloc, count)?;
+    for _ in 0..count {
+        items.push(bulk(alloc, b"value")?)?;
+    }
+    Ok(Value::Array(items))
 }
 
 /// A command of one argument, which is a key of a length.
