@@ -4,12 +4,13 @@ use crate::inputs::{address, cmd, map};
 use crate::page::{Page, TellsMemory};
 use crate::values::error;
 use cluster_map::SlotMap;
+use example_strategies::FirstReplica;
 use memory_batches::MemoryBatchNodes;
 use redis_batches::{
     BatchNodes, PipelineError, PipelineFault, PipelinePlan, Stopped, drive_pipeline,
 };
 use redis_cluster::driver::SendError;
-use redis_cluster::routing::Registry;
+use redis_cluster::routing::{Names, ReadOnlyNames, Registry};
 use resp_core::{Cmd, RedisError, Value};
 use std::alloc::{AllocError, Global};
 
@@ -67,10 +68,26 @@ fn commands(alloc: Global) -> Result<Vec<Cmd>, AllocError> {
     Ok(vec![in alloc; cmd(alloc, "SET a 1")?, cmd(alloc, "EXISTS a b")?]?)
 }
 
+/// `EXISTS` alone.
+fn read_only(alloc: Global) -> Result<ReadOnlyNames, AllocError> {
+    let mut names = ReadOnlyNames::new(alloc);
+    names.insert(alloc, b"EXISTS")?;
+    Ok(names)
+}
+
 fn driven(page: &Page<'_>, alloc: Global) -> Result<(), Fault> {
     let (commands, map) = (commands(alloc)?, map(alloc)?);
     let mut nodes = MemoryBatchNodes::new(alloc);
-    page.given(&drive_pipeline(alloc, commands.as_slice(), &map, &[1, 0], &mut nodes))
+    let only_reads = read_only(alloc)?;
+    page.given(&drive_pipeline(
+        alloc,
+        commands.as_slice(),
+        &only_reads,
+        &map,
+        Some(&FirstReplica),
+        &[1, 0],
+        &mut nodes,
+    ))
 }
 
 fn sent(page: &Page<'_>, alloc: Global) -> Result<(), Fault> {
@@ -89,7 +106,11 @@ fn plan_of<'a>(
     commands: &'a [Cmd],
     map: &'a SlotMap,
 ) -> Result<PipelinePlan<'a>, PipelineFault> {
-    PipelinePlan::new(alloc, commands, &Registry::new(alloc), map)
+    let names = Names {
+        read_only: &read_only(alloc)?,
+        registry: &Registry::new(alloc),
+    };
+    PipelinePlan::new(alloc, commands, names, map, Some(&FirstReplica))
 }
 
 fn plan(page: &Page<'_>, alloc: Global) -> Result<(), Fault> {

@@ -7,6 +7,7 @@
 #![tactic(auto)]
 
 mod addresses;
+mod batch_bytes;
 mod batching;
 mod bytes;
 mod combining;
@@ -80,6 +81,7 @@ fn call(page: &Page<'_>, alloc: Global, library: &str, name: &str) -> Result<(),
         "redis_cluster" => call_of_redis_cluster(page, alloc, name),
         "redis_bytes" => splitting_bytes::call(page, alloc, name),
         "redis_batches" | "memory_batches" => batching::call(page, alloc, name),
+        "redis_batch_bytes" => batch_bytes::call(page, alloc, name),
         "memory_nodes" | "wire_nodes" => driving::call_of_nodes(page, alloc, name),
         "slotroute_serve" => call_of_slotroute_serve(page, alloc, name),
         _ => Err(Fault::Words),

@@ -1,5 +1,5 @@
 /// Each public call that may take memory. `tools/memory-calls` prints those that have to be here.
-pub static NAMES: [&str; 137] = [
+pub static NAMES: [&str; 141] = [
     "memory_batches::MemoryBatchNodes::new",
     "memory_batches::MemoryBatchNodes::with_registry",
     "memory_batches::MemoryBatchNodes::send_batch",
@@ -43,6 +43,10 @@ pub static NAMES: [&str; 137] = [
     "redis_bytes::combine",
     "redis_bytes::slot_map",
     "redis_bytes::slot_table",
+    "redis_batch_bytes::BatchFault::Display",
+    "redis_batch_bytes::split_pipeline",
+    "redis_batch_bytes::combine_pipeline",
+    "redis_batch_bytes::numbered_map",
     "redis_combiners::combine_array_results",
     "redis_combiners::logical_aggregate",
     "redis_combiners::combine_map_results",
