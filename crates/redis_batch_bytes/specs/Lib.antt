@@ -5,3 +5,4 @@ pub mod Told
 pub mod Unread
 pub mod Replies
 pub mod Numbered
+pub mod FaultText

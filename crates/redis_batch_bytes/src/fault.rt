@@ -1,4 +1,5 @@
-ghost use Rattle.std.specs.Prelude.{◌≡◌};
+ghost use Rattle.std.specs.Prelude.{◌≡◌, Some};
+ghost use Rattle.redis_batch_bytes.specs.FaultText.{batch_fault_text};
 ghost use Rattle.redis_batch_bytes.specs.declared.fault.BatchFault.TheVariants.{Memory};
 
 use resp::{Fault, RequestFault};
@@ -30,6 +31,8 @@ pub enum BatchFault {
 }
 
 impl fmt::Display for BatchFault {
+    ghost output = { λ fault. Some (batch_fault_text fault) };
+
     fn fmt<W: fmt::Write>(&self, f: &mut fmt::Formatter<W>) -> fmt::Result {
         match self {
             BatchFault::Memory => write!(f, "out of memory"),

@@ -16,3 +16,4 @@ pub mod Pipelined
 pub mod Replies
 pub mod PipelinePlan
 pub mod DrivenPipeline
+pub mod FaultText

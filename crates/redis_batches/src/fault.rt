@@ -1,4 +1,5 @@
-ghost use Rattle.std.specs.Prelude.{◌≡◌};
+ghost use Rattle.std.specs.Prelude.{◌≡◌, Some};
+ghost use Rattle.redis_batches.specs.FaultText.{pipeline_error_text, pipeline_fault_text};
 
 use crate::send::Stopped;
 use std::alloc::{AllocError, AllocFailed};
@@ -39,6 +40,8 @@ impl<T: Drop> From<AllocFailed<T>> for PipelineFault {
 }
 
 impl fmt::Display for PipelineFault {
+    ghost output = { λ fault. Some (pipeline_fault_text fault) };
+
     fn fmt<W: fmt::Write>(&self, f: &mut fmt::Formatter<W>) -> fmt::Result {
         match self {
             PipelineFault::NotRoutable(number) => {
@@ -71,6 +74,8 @@ pub enum PipelineError {
 }
 
 impl fmt::Display for PipelineError {
+    ghost output = { λ error. Some (pipeline_error_text error) };
+
     fn fmt<W: fmt::Write>(&self, f: &mut fmt::Formatter<W>) -> fmt::Result {
         match self {
             PipelineError::Plan(fault) => write!(f, "{fault}"),

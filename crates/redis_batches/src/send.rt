@@ -27,6 +27,10 @@ pub struct Stopped {
 }
 
 impl fmt::Display for Stopped {
+    ghost use Rattle.redis_batches.specs.FaultText.{stopped_text};
+
+    ghost output = { λ stop. Some (stopped_text stop) };
+
     fn fmt<W: fmt::Write>(&self, f: &mut fmt::Formatter<W>) -> fmt::Result {
         let error = &self.error;
         let answered = self.answered;
