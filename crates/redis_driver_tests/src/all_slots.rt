@@ -1,5 +1,6 @@
 //! The largest plan: there are no more routes than slots.
-use crate::given::{Cluster, TWO_NODES};
+use crate::given::Cluster;
+use fixtures::TWO_NODES;
 use resp_core::Cmd;
 use std::alloc::{AllocError, Global};
 use std::test::Fail;

@@ -1,65 +1,54 @@
-use crate::given::{Cluster, TWO_NODES, value_of};
-use std::alloc::Global;
-use std::process::Abort;
+use crate::given::{Cluster, ONE_REPLICA};
+use example_strategies::FirstReplica;
+use fixtures::TWO_NODES;
 use std::test::Fail;
 
+// The values stand in the order of the keys, and a key is removed once.
 #[test]
 fn each_part_goes_to_the_node_of_its_slot_and_the_reply_is_of_the_whole(
     rt: HostRuntime,
 ) -> Result<(), Fail> {
     let mut cluster = Cluster::new(rt.alloc(), &TWO_NODES)?;
-    cluster.check(&rt, "MSET a 1 b 2 a 3", &[1, 0], "OK")?;
-    cluster.check_sent(&rt, "n1:1 MSET b 2;n2:2 MSET a 1 a 3;")?;
-    // The values stand in the order of the keys, and a key is removed once.
-    cluster.check(&rt, "MGET a b a", &[1, 0], "[3, 2, 3]")?;
-    cluster.check(&rt, "DEL a a b", &[1, 0], "2")?;
-    cluster.check_sends(&rt, 6);
-    cluster.check_value(&rt, "a", "nil")
+    cluster.check_all(
+        &rt,
+        &[
+            ("MSET a 1 b 2 a 3", &[1, 0], "OK"),
+            ("MGET a b a", &[1, 0], "[3, 2, 3]"),
+            ("DEL a a b", &[1, 0], "2"),
+        ],
+    )?;
+    cluster.check_sent(
+        &rt,
+        "n1:1 MSET b 2;n2:2 MSET a 1 a 3;n1:1 MGET b;n2:2 MGET a a;n1:1 DEL b;n2:2 DEL a a;",
+    )
 }
 
 #[test]
-fn keys_of_one_slot_are_one_part(rt: HostRuntime) -> Result<(), Fail> {
+fn each_path_of_a_key_has_its_value(rt: HostRuntime) -> Result<(), Fail> {
     let mut cluster = Cluster::new(rt.alloc(), &TWO_NODES)?;
-    cluster.check(&rt, "DEL foo {foo}bar", &[0], "0")?;
-    cluster.check_sent(&rt, "n2:2 DEL foo {foo}bar;")?;
-    cluster.check(&rt, "DEL foo {foo}bar", &[], "BadOrder after 0")?;
-    cluster.check_sends(&rt, 1);
-    Ok(())
+    cluster.check_all(
+        &rt,
+        &[
+            ("JSON.MSET a $.x 1 b $.x 2 a $.y 3", &[0, 1], "OK"),
+            ("JSON.MGET a b $.x", &[1, 0], "[1, 2]"),
+            ("JSON.MGET b a $.y", &[0, 1], "[nil, 3]"),
+            ("MGET a", &[0], "[nil]"),
+            ("EXISTS a", &[0], "1"),
+            ("JSON.MGET a", &[0], "NotMultiKey after 0"),
+        ],
+    )
 }
 
+// A key given twice counts twice.
 #[test]
-fn arguments_from_a_gap_on_are_not_sent(rt: HostRuntime) -> Result<(), Fail> {
-    let alloc = rt.alloc();
-    let mut cluster = Cluster::new(alloc, &TWO_NODES)?;
-    let set = cluster.drive(&value_of(alloc, "MSET a 1 b 2 # c")?, None, &[0, 1])?;
-    assert_eq!(rt; set.as_str(), "OK", "writes");
-    cluster.check_sent(&rt, "n2:2 MSET a 1;n1:1 MSET b 2;")?;
-    cluster.check_value(&rt, "a", "1")?;
-    cluster.check_value(&rt, "c", "nil")
-}
-
-// Sees what each command gives, with its parts sent in one order.
-fn check_in_order(rt: &impl Abort, alloc: Global, order: &[usize]) -> Result<(), Fail> {
-    let mut cluster = Cluster::new(alloc, &TWO_NODES)?;
-    for (text, want) in [
-        ("MSET a 1 b 2 c 3 a 4", "OK"),
-        ("MGET c a b a", "[3, 4, 2, 4]"),
-        ("EXISTS a b c a", "4"),
-        ("TOUCH c b a", "3"),
-        ("WATCH a b c", "OK"),
-        ("UNLINK b a c b", "3"),
-        ("EXISTS a b c", "0"),
-    ] {
-        cluster.check(rt, text, order, want)?;
-    }
-    Ok(())
-}
-
-#[test]
-fn the_order_of_sends_changes_no_reply(rt: HostRuntime) -> Result<(), Fail> {
-    let orders: [&[usize]; 4] = [&[0, 1, 2], &[1, 0, 2], &[2, 1, 0], &[1, 2, 0]];
-    for order in orders {
-        check_in_order(&rt, rt.alloc(), order)?;
-    }
-    Ok(())
+fn reads_go_where_the_strategy_picks_and_writes_to_the_primary(
+    rt: HostRuntime,
+) -> Result<(), Fail> {
+    let mut cluster = Cluster::new(rt.alloc(), &ONE_REPLICA)?;
+    cluster.check_with(&rt, Some(&FirstReplica), "MSET a 1 b 2", &[0, 1], "OK")?;
+    cluster.check_with(&rt, Some(&FirstReplica), "EXISTS b a b", &[0, 1], "3")?;
+    cluster.check_sent(
+        &rt,
+        "n2:2 MSET a 1;n1:1 MSET b 2;r1:1 EXISTS b b;n2:2 EXISTS a;",
+    )
 }

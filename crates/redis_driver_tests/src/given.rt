@@ -1,26 +1,23 @@
 //! Maps, commands and clusters, as the tests write them.
 use crate::texts::{driven_text, trace_text};
-use cluster_map::{NodeAddress, ReadRoutingStrategy, SlotMap, SlotRange};
+use cluster_map::{ReadRoutingStrategy, SlotMap};
+use fixtures::{Line, cmd_of_text, map_of};
 use memory_nodes::MemoryNodes;
 use redis_cluster::driver::{DriveError, Nodes, drive, drive_retrying};
 use redis_cluster::routing::{Names, ReadOnlyNames, Registry, Routable};
 use resp_core::{Cmd, RedisResult, Value};
 use std::alloc::{AllocError, Global};
 use std::process::Abort;
-use std::str;
 use std::test::Fail;
 
-/// The lines of a map: the first slot, the last, the primary and the replicas.
-pub type Line<'a> = (u16, u16, &'a str, &'a [&'a str]);
-
-/// Two nodes, each with half of the slots: `a` and `foo` are the second's, `b` and `c` the first's.
-pub const TWO_NODES: [Line<'static>; 2] = [(0, 8191, "n1:1", &[]), (8192, 16383, "n2:2", &[])];
-
-/// The same, and the first has a replica.
+/// `TWO_NODES`, of which the first has a replica.
 pub const ONE_REPLICA: [Line<'static>; 2] = [
     (0, 8191, "n1:1", &["r1:1"]),
     (8192, 16383, "n2:2", &[]),
 ];
+
+/// A command, the order of its sends, and what it gives.
+pub type Row<'a> = (&'a str, &'a [usize], &'a str);
 
 /// A map, the names that only read, and a registry of no name.
 pub struct Given {
@@ -131,7 +128,7 @@ impl Cluster {
     pub fn retry(&mut self, text: &str, retries: usize, order: &[usize]) -> Result<String, Fail> {
         let given = drive_retrying(
             self.alloc,
-            &cmd_of(self.alloc, text)?,
+            &cmd_of_text(self.alloc, text)?,
             &self.given.read_only,
             &self.given.map,
             None,
@@ -154,11 +151,6 @@ impl Cluster {
             .drive(self.alloc, command, strategy, order, &mut self.nodes)
     }
 
-    /// Drives the command of the words of a text, with no strategy.
-    pub fn run(&mut self, text: &str, order: &[usize]) -> Result<String, Fail> {
-        self.drive(&cmd_of(self.alloc, text)?, None, order)
-    }
-
     /// Drives the command of the words of a text with no strategy, and sees what it gives.
     pub fn check(
         &mut self,
@@ -170,6 +162,14 @@ impl Cluster {
         self.check_with(rt, None, text, order, want)
     }
 
+    /// Does so with each command in turn, of which each has its order.
+    pub fn check_all(&mut self, rt: &impl Abort, rows: &[Row<'_>]) -> Result<(), Fail> {
+        for (text, order, want) in rows {
+            self.check(rt, text, order, want)?;
+        }
+        Ok(())
+    }
+
     /// Drives the command of the words of a text, and sees what it gives.
     pub fn check_with(
         &mut self,
@@ -179,7 +179,7 @@ impl Cluster {
         order: &[usize],
         want: &str,
     ) -> Result<(), Fail> {
-        let given = self.drive(&cmd_of(self.alloc, text)?, strategy, order)?;
+        let given = self.drive(&cmd_of_text(self.alloc, text)?, strategy, order)?;
         assert_eq!(rt; given.as_str(), want, "{text} in the order {order:?}");
         Ok(())
     }
@@ -195,29 +195,9 @@ impl Cluster {
         assert_eq!(rt; self.nodes.trace().len(), want, "sends");
     }
 
-    /// Sees the value of a key at the empty path, or `nil`.
-    pub fn check_value(&self, rt: &impl Abort, key: &str, want: &str) -> Result<(), Fail> {
-        self.check_value_at(rt, key, "", want)
-    }
-
-    /// Sees the value of a key at a path, or `nil`.
-    pub fn check_value_at(
-        &self,
-        rt: &impl Abort,
-        key: &str,
-        path: &str,
-        want: &str,
-    ) -> Result<(), Fail> {
-        assert_eq!(rt; self.value_at(key, path)?, want, "'{key}' at '{path}'");
-        Ok(())
-    }
-
-    /// The value of a key at a path, or `nil`.
-    pub fn value_at(&self, key: &str, path: &str) -> Result<&str, Fail> {
-        match self.nodes.get(key.as_bytes(), path.as_bytes()) {
-            Some(value) => Ok(str::from_utf8(value)?),
-            None => Ok("nil"),
-        }
+    /// Sees the value of a key, or that there is none.
+    pub fn check_value(&self, rt: &impl Abort, key: &str, want: Option<&[u8]>) {
+        assert_eq!(rt; self.nodes.get(key.as_bytes(), b""), want, "'{key}'");
     }
 
     /// What was sent so far, one entry after the other, each closed by `;`.
@@ -226,49 +206,10 @@ impl Cluster {
     }
 }
 
-pub fn map_of(alloc: Global, lines: &[Line<'_>]) -> RedisResult<SlotMap> {
-    let mut ranges = Vec::new(alloc);
-    for (start, end, primary, replicas) in lines {
-        let primary = NodeAddress::try_from(alloc, *primary)?;
-        let mut nodes = Vec::new(alloc);
-        for replica in *replicas {
-            nodes.push(NodeAddress::try_from(alloc, *replica)?)?;
-        }
-        ranges.push(SlotRange::new(*start, *end, primary, nodes))?;
-    }
-    Ok(SlotMap::from_slots(alloc, ranges)?)
-}
-
 pub fn read_only_names(alloc: Global) -> Result<ReadOnlyNames, AllocError> {
     let mut names = ReadOnlyNames::new(alloc);
     for name in ["MGET", "JSON.MGET", "EXISTS"] {
         names.insert(alloc, name.as_bytes())?;
     }
     Ok(names)
-}
-
-/// The command of the words of a text.
-pub fn cmd_of(alloc: Global, text: &str) -> Result<Cmd, AllocError> {
-    let mut cmd = Cmd::new(alloc);
-    for word in text.split(' ') {
-        cmd.write_arg(word.as_bytes())?;
-    }
-    Ok(cmd)
-}
-
-/// An array of the words of a text as bulk strings, but `#` as the number 3.
-pub fn value_of(alloc: Global, text: &str) -> Result<Value, AllocError> {
-    let mut items = Vec::new(alloc);
-    for word in text.split(' ') {
-        items.push(if word == "#" {
-            Value::Int(3)
-        } else {
-            bulk(alloc, word)?
-        })?;
-    }
-    Ok(Value::Array(items))
-}
-
-fn bulk(alloc: Global, text: &str) -> Result<Value, AllocError> {
-    Ok(Value::BulkString(text.as_bytes().to_vec(alloc)?))
 }

@@ -1,79 +1,31 @@
-//! Maps and commands as only a hostile or broken client or server writes them.
-use crate::given::{Cluster, Given, Line, TWO_NODES, cmd_of, value_of};
+//! Commands and replies as only a hostile or broken client or server writes them.
+use crate::given::{Cluster, Given};
+use fixtures::{TWO_NODES, cmd_of_text, nested, value_of_text};
 use redis_cluster::driver::SplitPlan;
-use resp_core::{Cmd, RedisResult, Value};
+use resp_core::{Cmd, ErrorKind, Value};
 use std::alloc::{AllocError, Global};
 use std::test::Fail;
 
-/// Ranges of which the last is reversed and hides slot 0.
-const HIDING: [Line<'static>; 3] = [
-    (0, 16383, "n1:1", &[]),
-    (0, 100, "n2:2", &[]),
-    (100, 0, "n3:3", &[]),
-];
-
-// The slot of the empty key is 0.
-#[test]
-fn a_slot_that_a_reversed_range_hides_has_no_node(rt: HostRuntime) -> Result<(), Fail> {
-    let mut cluster = Cluster::new(rt.alloc(), &HIDING)?;
-    cluster.check(&rt, "DEL a ", &[0, 1], "NotCovered 0 after 0")?;
-    cluster.check_sent(&rt, "")
-}
-
-/// What comes of an array of the words, of which each `#` is a gap, and what was sent.
+/// What comes of an array of the words of a text, and what was sent.
 fn driven(alloc: Global, text: &str) -> Result<String, Fail> {
     let mut cluster = Cluster::new(alloc, &TWO_NODES)?;
-    let given = cluster.drive(&value_of(alloc, text)?, None, &[0])?;
-    let sent = cluster.sent()?;
-    Ok(format!(in alloc; "{given}; {sent}")?)
+    let mut driven = cluster.drive(&value_of_text(alloc, text)?, None, &[0])?;
+    driven.push_str("; ")?;
+    driven.push_str(&cluster.sent()?)?;
+    Ok(driven)
 }
 
 #[test]
-fn a_gap_ends_the_command(rt: HostRuntime) -> Result<(), Fail> {
+fn a_gap_or_a_deep_argument_ends_the_command(rt: HostRuntime) -> Result<(), Fail> {
     for (text, want) in [
         ("JSON.MGET a b #", "[nil]; n2:2 JSON.MGET a b;"),
         ("DEL # a", "NotMultiKey after 0; "),
         ("MSET a #", "NotMultiKey after 0; "),
         ("# DEL a", "NotMultiKey after 0; "),
+        ("DEL a deep", "0; n2:2 DEL a;"),
+        ("MSET a deep", "NotMultiKey after 0; "),
     ] {
         assert_eq!(rt; driven(rt.alloc(), text)?.as_str(), want, "{text}");
-    }
-    Ok(())
-}
-
-/// Arrays in arrays, so many levels deep.
-fn deep(alloc: Global, levels: usize) -> Result<Value, AllocError> {
-    let mut value = Value::Nil;
-    for _ in 0..levels {
-        value = Value::Array(vec![in alloc; value]?);
-    }
-    Ok(value)
-}
-
-/// An array of these two words, and of something deep.
-fn deep_behind(alloc: Global, name: &str, key: &str) -> Result<Value, AllocError> {
-    Ok(Value::Array(vec![in alloc;
-        Value::BulkString(name.as_bytes().to_vec(alloc)?),
-        Value::BulkString(key.as_bytes().to_vec(alloc)?),
-        deep(alloc, 1_000_000)?,
-    ]?))
-}
-
-fn driven_with_deep(alloc: Global, name: &str, key: &str) -> Result<String, Fail> {
-    let mut cluster = Cluster::new(alloc, &TWO_NODES)?;
-    let given = cluster.drive(&deep_behind(alloc, name, key)?, None, &[0])?;
-    let sent = cluster.sent()?;
-    Ok(format!(in alloc; "{given}; {sent}")?)
-}
-
-#[test]
-fn a_deep_argument_ends_the_command(rt: HostRuntime) -> Result<(), Fail> {
-    for (name, key, want) in [
-        ("DEL", "a", "0; n2:2 DEL a;"),
-        ("MSET", "a", "NotMultiKey after 0; "),
-    ] {
-        let given = driven_with_deep(rt.alloc(), name, key)?;
-        assert_eq!(rt; given.as_str(), want, "{name}");
     }
     Ok(())
 }
@@ -92,8 +44,8 @@ fn plan_of<'a>(
 /// A deep reply, or one of a kind, to the part of each of two routes.
 fn reply_of(alloc: Global, kind: &str) -> Result<Value, AllocError> {
     Ok(match kind {
-        "deep" => deep(alloc, 100_000)?,
-        "deeper" => deep(alloc, 500_000)?,
+        "deep" => nested(alloc, 100_000)?,
+        "deeper" => nested(alloc, 500_000)?,
         "greatest" => Value::Int(i64::MAX),
         "least" => Value::Int(i64::MIN),
         "bytes" => Value::BulkString(b"\xff".to_vec(alloc)?),
@@ -102,52 +54,34 @@ fn reply_of(alloc: Global, kind: &str) -> Result<Value, AllocError> {
     })
 }
 
-/// What a plan makes of such a reply to each of its two parts.
-fn combined(alloc: Global, text: &str, kind: &str) -> Result<RedisResult<Value>, Fail> {
+/// The kind of the error that a plan makes of such a reply to each of its two parts, if any.
+fn refusal(alloc: Global, text: &str, kind: &str) -> Result<Option<ErrorKind>, Fail> {
     let given = Given::new(alloc, &TWO_NODES)?;
-    let cmd = cmd_of(alloc, text)?;
+    let cmd = cmd_of_text(alloc, text)?;
     let mut plan = plan_of(alloc, &given, &cmd)?;
     for number in 0..2 {
         if plan.tell(number, reply_of(alloc, kind)?).is_err() {
-            return Ok(Ok(Value::Okay));
+            return Err(Fail::from("a reply is given back"));
         }
     }
-    Ok(plan.combine(alloc))
-}
-
-/// How many items it has, or the kind of the error.
-fn combined_text(alloc: Global, text: &str, kind: &str) -> Result<String, Fail> {
-    match &combined(alloc, text, kind)? {
-        Ok(Value::Array(items)) => Ok(format!(in alloc; "[{}]", items.len())?),
-        Ok(Value::Int(number)) => Ok(format!(in alloc; "{number}")?),
-        Ok(Value::Nil) => Ok(format!(in alloc; "nil")?),
-        Ok(_) => Ok(format!(in alloc; "another value")?),
-        Err(error) => Ok(format!(in alloc; "{:?}", error.kind())?),
-    }
-}
-
-#[test]
-fn deep_replies_to_parts_make_one(rt: HostRuntime) -> Result<(), Fail> {
-    let found = combined_text(rt.alloc(), "MGET a b", "deeper")?;
-    assert_eq!(rt; found.as_str(), "[2]");
-    Ok(())
+    Ok(plan.combine(alloc).err().map(|error| error.kind()))
 }
 
 #[test]
 fn hostile_replies_to_parts_make_one_or_are_refused(rt: HostRuntime) -> Result<(), Fail> {
     for (text, kind, want) in [
-        ("DEL a b", "deep", "UnexpectedReturnType"),
-        ("MSET a 1 b 2", "deep", "[1]"),
-        ("MGET a b", "nil", "UnexpectedReturnType"),
-        ("MGET a b", "nothing", "Client"),
-        ("MGET a b", "bytes", "UnexpectedReturnType"),
-        ("DEL a b", "greatest", "UnexpectedReturnType"),
-        ("DEL a b", "least", "UnexpectedReturnType"),
-        ("MSET a 1 b 2", "nil", "nil"),
-        ("MSET a 1 b 2", "greatest", "9223372036854775807"),
+        ("MGET a b", "deeper", None),
+        ("DEL a b", "deep", Some(ErrorKind::UnexpectedReturnType)),
+        ("MSET a 1 b 2", "deep", None),
+        ("MGET a b", "nil", Some(ErrorKind::UnexpectedReturnType)),
+        ("MGET a b", "nothing", Some(ErrorKind::Client)),
+        ("MGET a b", "bytes", Some(ErrorKind::UnexpectedReturnType)),
+        ("DEL a b", "greatest", Some(ErrorKind::UnexpectedReturnType)),
+        ("DEL a b", "least", Some(ErrorKind::UnexpectedReturnType)),
+        ("MSET a 1 b 2", "nil", None),
     ] {
-        let found = combined_text(rt.alloc(), text, kind)?;
-        assert_eq!(rt; found.as_str(), want, "{text}, {kind}");
+        let found = refusal(rt.alloc(), text, kind)?;
+        assert!(rt; found == want, "{text}, {kind}");
     }
     Ok(())
 }

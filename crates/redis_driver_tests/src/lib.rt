@@ -14,23 +14,13 @@ mod given;
 #[cfg(test)]
 mod hostile;
 #[cfg(test)]
-mod json_paths;
-#[cfg(test)]
-mod lost_replies;
-#[cfg(test)]
-mod nodes_in_memory;
-#[cfg(test)]
 mod redirects;
 #[cfg(test)]
 mod refusals;
 #[cfg(test)]
-mod replicas;
-#[cfg(test)]
 mod retry;
 #[cfg(test)]
 mod short_of_memory;
-#[cfg(test)]
-mod split_plan;
 #[cfg(test)]
 mod texts;
 #[cfg(test)]

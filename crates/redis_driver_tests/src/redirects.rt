@@ -1,6 +1,7 @@
 //! Parts that nodes refuse and redirect, and where they go next.
-use crate::given::{Cluster, Line};
+use crate::given::Cluster;
 use cluster_map::NodeAddress;
+use fixtures::Line;
 use memory_nodes::Planned;
 use redis_cluster::routing::Redirect;
 use std::alloc::Global;
@@ -36,43 +37,4 @@ fn a_refused_part_goes_through_the_shard_and_a_redirected_one_where_it_is_sent(
         &rt,
         "p:1 MGET a refused;r:1 MGET a refused;r:2 MGET a;p:1 MGET b moved x:9;x:9 MGET b;",
     )
-}
-
-#[test]
-fn a_route_ends_with_its_retries(rt: HostRuntime) -> Result<(), Fail> {
-    let mut cluster = planned(rt.alloc(), "--+m")?;
-    let given = cluster.retry("MGET a b", 1, &[0, 1])?;
-    assert_eq!(rt; given.as_str(), "Node Client 'node refused' after 0");
-    cluster.check_sent(&rt, "p:1 MGET a refused;r:1 MGET a refused;")
-}
-
-#[test]
-fn a_route_ends_with_the_addresses_to_fall_back_on(rt: HostRuntime) -> Result<(), Fail> {
-    let mut cluster = planned(rt.alloc(), "-----")?;
-    let given = cluster.retry("MGET a", 9, &[0])?;
-    assert_eq!(rt; given.as_str(), "Node Client 'node refused' after 0");
-    cluster.check_sent(
-        &rt,
-        "p:1 MGET a refused;r:1 MGET a refused;r:2 MGET a refused;p:1 MGET a refused;",
-    )
-}
-
-#[test]
-fn a_write_has_no_address_to_fall_back_on(rt: HostRuntime) -> Result<(), Fail> {
-    let mut cluster = planned(rt.alloc(), "a+-")?;
-    let given = cluster.retry("MSET a 1 b 2", 5, &[0, 1])?;
-    assert_eq!(rt; given.as_str(), "Node Client 'node refused' after 1");
-    cluster.check_sent(
-        &rt,
-        "p:1 MSET a 1 ask x:9;x:9 MSET a 1;p:1 MSET b 2 refused;",
-    )?;
-    cluster.check_value(&rt, "a", "1")?;
-    cluster.check_value(&rt, "b", "nil")
-}
-
-#[test]
-fn drive_follows_no_redirect(rt: HostRuntime) -> Result<(), Fail> {
-    let mut cluster = planned(rt.alloc(), "m")?;
-    cluster.check(&rt, "MGET a", &[0], "Redirected moved x:9 after 0")?;
-    cluster.check_sent(&rt, "p:1 MGET a moved x:9;")
 }

@@ -1,6 +1,7 @@
 //! What stands where memory is refused once, at any request. Run as they are, these see memory
 //! enough; `tests/refusals` runs each with the first request refused, with the second, and so on.
-use crate::given::{Cluster, Given, TWO_NODES, cmd_of};
+use crate::given::{Cluster, Given};
+use fixtures::{TWO_NODES, cmd_of_text};
 use memory_nodes::{MemoryNodes, TraceEntry};
 use redis_cluster::driver::{DriveFault, PlanFault, SplitPlan};
 use resp_core::{Cmd, ErrorKind, Value};
@@ -81,7 +82,7 @@ fn is_whole_reply(text: &str, reply: &Value) -> bool {
 // How many parts of a command were answered, and whether the reply or the fault is right; none
 // where the command itself has no memory.
 fn outcome(alloc: Global, cluster: &mut Cluster, text: &str) -> Option<(usize, bool)> {
-    let cmd = cmd_of(alloc, text).ok()?;
+    let cmd = cmd_of_text(alloc, text).ok()?;
     match cluster.give(&cmd, &[2, 0, 1]) {
         Ok(reply) => Some((3, is_whole_reply(text, &reply))),
         Err(error) => Some((error.answered, matches!(error.fault, DriveFault::Memory))),
@@ -125,7 +126,7 @@ fn a_plan_is_made_or_tells_that_memory_ran_out(rt: HostRuntime) -> Result<(), Fa
     let Ok(given) = Given::new(alloc, &TWO_NODES) else {
         return Ok(());
     };
-    let Ok(cmd) = cmd_of(alloc, "MGET a b") else {
+    let Ok(cmd) = cmd_of_text(alloc, "MGET a b") else {
         return Ok(());
     };
     let made = SplitPlan::new(alloc, &cmd, given.names(), &given.map, None, 0);

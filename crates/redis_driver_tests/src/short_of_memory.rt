@@ -4,9 +4,10 @@ ghost use Rattle.memory_nodes.specs.Cells.{Cell};
 ghost use Rattle.memory_nodes.specs.Nodes.{keyspace_in, registered_in, trace_in, MayRefuse};
 ghost use Rattle.memory_nodes.specs.Steps.{step};
 
-use crate::given::{Given, TWO_NODES, cmd_of};
+use crate::given::Given;
 use crate::texts::trace_text;
 use cluster_map::NodeAddress;
+use fixtures::{TWO_NODES, cmd_of_text};
 use memory_nodes::MemoryNodes;
 use redis_cluster::driver::{Nodes, SendError};
 use redis_cluster::routing::Registry;
@@ -58,7 +59,7 @@ fn driven(alloc: Global, sends: usize) -> Result<String, Fail> {
         mark: false,
     };
     let given = Given::new(alloc, &TWO_NODES)?;
-    let cmd = cmd_of(alloc, "MGET a b c")?;
+    let cmd = cmd_of_text(alloc, "MGET a b c")?;
     let mut text = given.drive(alloc, &cmd, None, &[2, 0, 1], &mut nodes)?;
     text.push_str("; ")?;
     text.push_str(&trace_text(alloc, nodes.nodes.trace())?)?;

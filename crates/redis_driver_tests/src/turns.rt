@@ -1,6 +1,6 @@
 //! How often, and in which order, the driver asks the strategy that it is lent.
-use crate::given::{Cluster, Line};
-use fixtures::Turns;
+use crate::given::Cluster;
+use fixtures::{Line, Turns};
 use std::test::Fail;
 
 /// Two nodes with two replicas each: `a` is the second's, `b` and `c` are the first's.
@@ -15,7 +15,7 @@ const SIX_NODES: [Line<'static>; 2] = [
 fn each_route_of_a_read_asks_once_and_a_write_never(rt: HostRuntime) -> Result<(), Fail> {
     let mut cluster = Cluster::new(rt.alloc(), &SIX_NODES)?;
     let strategy = Turns::new();
-    let table: [(&str, &[usize], &str, usize); 10] = [
+    let table: [(&str, &[usize], &str, usize); 12] = [
         ("MSET a 1 b 2 c 3", &[2, 0, 1], "OK", 0),
         ("MGET a b c", &[2, 1, 0], "[1, 2, 3]", 3),
         ("MGET c a c a", &[0, 1], "[3, 1, 3, 1]", 5),
@@ -26,6 +26,8 @@ fn each_route_of_a_read_asks_once_and_a_write_never(rt: HostRuntime) -> Result<(
         ("DEL b", &[0], "1", 8),
         ("EXISTS b c", &[1, 0], "1", 10),
         ("JSON.MGET c b $", &[0, 1], "[nil, nil]", 12),
+        ("WATCH a c", &[0, 1], "OK", 12),
+        ("UNLINK c a", &[0, 1], "2", 12),
     ];
     for (text, order, want, asked) in table {
         cluster.check_with(&rt, Some(&strategy), text, order, want)?;
@@ -35,6 +37,7 @@ fn each_route_of_a_read_asks_once_and_a_write_never(rt: HostRuntime) -> Result<(
         &rt,
         "p:1 MSET c 3;q:1 MSET a 1;p:1 MSET b 2;r:2 MGET c;r:1 MGET b;q:1 MGET a;p:1 MGET c c;\
          s:1 MGET a a;s:2 MGET a a;q:1 MGET a;s:1 MGET a;q:1 TOUCH a;p:1 TOUCH b;p:1 DEL b;\
-         p:1 EXISTS c;r:2 EXISTS b;r:1 JSON.MGET c $;r:2 JSON.MGET b $;",
+         p:1 EXISTS c;r:2 EXISTS b;r:1 JSON.MGET c $;r:2 JSON.MGET b $;\
+         q:1 WATCH a;p:1 WATCH c;p:1 UNLINK c;q:1 UNLINK a;",
     )
 }
