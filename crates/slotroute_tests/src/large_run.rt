@@ -1,6 +1,8 @@
 //! Runs of many commands, of long ones and of long values, which fail nowhere for their size.
 use crate::large_input::repeated;
 use crate::serve::{Run, check, served};
+use std::alloc::{AllocError, Global};
+use std::process::Abort;
 use std::test::Fail;
 
 #[test]
@@ -30,76 +32,43 @@ fn many_commands(rt: HostRuntime) -> Result<(), Fail> {
     check(&rt, alloc, &runs)
 }
 
-#[test]
-fn a_command_of_many_keys_of_two_slots(rt: HostRuntime) -> Result<(), Fail> {
-    let alloc = rt.alloc();
-    let mut input = repeated(
-        alloc,
-        b"0 16383 p:1\n\nMSET a 1 b 2\nMGET",
-        b" a b",
-        10_000,
-        b"\nDEL",
-    )?;
-    input.extend_from_slice(&repeated(alloc, b"", b" a b", 10_000, b"\n")?)?;
-    let mut answer = repeated(
-        alloc,
-        b"p:1 MSET b 2\np:1 MSET a 1\nOK\np:1 MGET",
-        b" b",
-        10_000,
-        b"\np:1 MGET",
-    )?;
-    answer.extend_from_slice(&repeated(alloc, b"", b" a", 10_000, b"\n")?)?;
-    answer.extend_from_slice(&repeated(alloc, b"[1, 2", b", 1, 2", 9_999, b"]\n")?)?;
-    answer.extend_from_slice(&repeated(alloc, b"p:1 DEL", b" b", 10_000, b"\n")?)?;
-    answer.extend_from_slice(&repeated(alloc, b"p:1 DEL", b" a", 10_000, b"\n2\n")?)?;
-    let runs: [Run; 1] = [(&["run", "reverse"], &input, &answer, b"", 0)];
-    check(&rt, alloc, &runs)
-}
-
-#[test]
-fn commands_of_many_slots(rt: HostRuntime) -> Result<(), Fail> {
-    let alloc = rt.alloc();
-    let mut input = Vec::new(alloc);
-    input.extend_from_slice(b"0 16383 p:1\n\nMSET")?;
+// Puts the words of many keys, each before what follows it.
+fn push_keys(alloc: Global, input: &mut Vec<u8>, after: &str) -> Result<(), AllocError> {
     for key in 0..10_000 {
-        let words = format!(in alloc; " {key} v")?;
+        let words = format!(in alloc; " {key}{after}")?;
         input.extend_from_slice(words.as_bytes())?;
     }
+    Ok(())
+}
+
+fn many_slots(alloc: Global) -> Result<Vec<u8>, AllocError> {
+    let mut input = Vec::from_slice(alloc, b"0 16383 p:1\n\nMSET")?;
+    push_keys(alloc, &mut input, " v")?;
     input.extend_from_slice(b"\nMGET")?;
-    for key in 0..10_000 {
-        let word = format!(in alloc; " {key}")?;
-        input.extend_from_slice(word.as_bytes())?;
-    }
+    push_keys(alloc, &mut input, "")?;
+    Ok(input)
+}
+
+// The last bytes that are printed of these.
+fn last_printed(alloc: Global, count: usize) -> Result<Vec<u8>, Fail> {
+    let input = many_slots(alloc)?;
     let mut reader = input.as_slice();
     let mut out = Vec::new(alloc);
     let mut err = Vec::new(alloc);
     let status = served(alloc, &["run", "forward"], &mut reader, &mut out, &mut err)?;
-    let reply = repeated(alloc, b"\n[v", b", v", 9_999, b"]\n")?;
-    assert_eq!(rt; err.len(), 0);
-    assert!(rt;
-        out.as_slice().starts_with(b"p:1 MSET 0 v"),
-        "the first part"
-    );
-    assert!(rt; out.as_slice().ends_with(&reply), "the last reply");
-    assert_eq!(rt; status, 0);
-    Ok(())
+    if status != 0 || !err.is_empty() {
+        return Err(Fail::from("a fault"));
+    }
+    let start = out.len().saturating_sub(count);
+    Ok(Vec::from_slice(alloc, out.get(start..).unwrap_or(b""))?)
 }
 
 #[test]
-fn a_value_of_a_million_bytes(rt: HostRuntime) -> Result<(), Fail> {
-    let alloc = rt.alloc();
-    let start: &[u8] = b"0 16383 p:1\n\nMSET a ";
-    let input = repeated(alloc, start, b"text", 250_000, b"\nMGET a\n")?;
-    let mut answer = repeated(
-        alloc,
-        b"p:1 MSET a ",
-        b"text",
-        250_000,
-        b"\nOK\np:1 MGET a\n",
-    )?;
-    answer.extend_from_slice(&repeated(alloc, b"[", b"text", 250_000, b"]\n")?)?;
-    let runs: [Run; 1] = [(&["run", "forward"], &input, &answer, b"", 0)];
-    check(&rt, alloc, &runs)
+fn commands_of_many_slots(rt: HostRuntime) -> Result<(), Fail> {
+    let reply = repeated(rt.alloc(), b"\n[v", b", v", 9_999, b"]\n")?;
+    let found = last_printed(rt.alloc(), reply.len())?;
+    assert!(rt; found == reply, "the last reply");
+    Ok(())
 }
 
 /// What stands behind the map: bytes, a piece so many times, and more bytes; what is printed, in the
@@ -172,8 +141,8 @@ const HOSTILE: [Hostile<'static>; 17] = [
         b"",
     ),
     (
-        (b"MSET a ", b"9", 65_536, b"\nMGET a"),
-        (b"p:1 MSET a ", b"9", 65_536, b"\nOK\np:1 MGET a\n"),
+        (b"MSET a ", b"9", 1_000_000, b"\nMGET a"),
+        (b"p:1 MSET a ", b"9", 1_000_000, b"\nOK\np:1 MGET a\n"),
         b"",
     ),
     (
@@ -203,19 +172,35 @@ const HOSTILE: [Hostile<'static>; 17] = [
     ),
 ];
 
+fn hostile_input(alloc: Global, row: &Hostile<'_>) -> Result<Vec<u8>, AllocError> {
+    let (start, piece, times, end) = row.0;
+    let mut input = Vec::from_slice(alloc, b"0 16383 p:1\n\n")?;
+    input.extend_from_slice(&repeated(alloc, start, piece, times, end)?)?;
+    Ok(input)
+}
+
+// The value that is set is read again.
+fn hostile_answer(alloc: Global, row: &Hostile<'_>) -> Result<Vec<u8>, AllocError> {
+    let ((start, piece, times, _), (out, printed, count, rest), _) = *row;
+    let mut answer = repeated(alloc, out, printed, count, rest)?;
+    if start == b"MSET a ".as_slice() {
+        answer.extend_from_slice(&repeated(alloc, b"[", piece, times, b"]\n")?)?;
+    }
+    Ok(answer)
+}
+
+fn check_hostile(rt: &impl Abort, alloc: Global, row: &Hostile<'_>) -> Result<(), Fail> {
+    let input = hostile_input(alloc, row)?;
+    let answer = hostile_answer(alloc, row)?;
+    let status = if row.2.is_empty() { 0 } else { 2 };
+    let run: Run = (&["run", "forward"], &input, &answer, row.2, status);
+    check(rt, alloc, &[run])
+}
+
 #[test]
 fn hostile_command_lines(rt: HostRuntime) -> Result<(), Fail> {
-    let alloc = rt.alloc();
-    for ((start, piece, times, end), (out, printed, count, rest), fault) in HOSTILE {
-        let mut input = Vec::from_slice(alloc, b"0 16383 p:1\n\n")?;
-        input.extend_from_slice(&repeated(alloc, start, piece, times, end)?)?;
-        let mut answer = repeated(alloc, out, printed, count, rest)?;
-        if start == b"MSET a ".as_slice() {
-            answer.extend_from_slice(&repeated(alloc, b"[", piece, times, b"]\n")?)?;
-        }
-        let status = if fault.is_empty() { 0 } else { 2 };
-        let run: Run = (&["run", "forward"], &input, &answer, fault, status);
-        check(&rt, alloc, &[run])?;
+    for row in &HOSTILE {
+        check_hostile(&rt, rt.alloc(), row)?;
     }
     Ok(())
 }

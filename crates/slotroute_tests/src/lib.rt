@@ -10,21 +10,15 @@ mod large_run;
 #[cfg(test)]
 mod map_lines;
 #[cfg(test)]
-mod node;
-#[cfg(test)]
 mod pipeline;
 #[cfg(test)]
 mod reading;
-#[cfg(test)]
-mod registered;
 #[cfg(test)]
 mod run;
 #[cfg(test)]
 mod run_streams;
 #[cfg(test)]
 mod serve;
-#[cfg(test)]
-mod split;
 #[cfg(test)]
 mod steady_streams;
 #[cfg(test)]

@@ -17,38 +17,7 @@ const SENT: &[u8] =
 
 #[test]
 fn batches_and_replies(rt: HostRuntime) -> Result<(), Fail> {
-    let runs: [Run; 3] = [
-        (REVERSE, INPUT, SENT, b"", 0),
-        // The names of commands of one slot count in any case, and an error is a reply.
-        (
-            &["pipeline", "forward"],
-            b"0 16383 p:1\n\nset a x\nIncr a\nrename a {a}\nGET {a}",
-            b"p:1 set a x\np:1 Incr a\np:1 rename a {a}\np:1 GET {a}\nOK\n(error) ERR value is not an integer or out of range\nOK\nx\n",
-            b"",
-            0,
-        ),
-        // The line of the refusal is told, and nothing was sent of the others.
-        (
-            REVERSE,
-            b"0 16383 p:1\n\nSET a 1\n \nPING\n",
-            b"",
-            b"slotroute: line 5: neither a multi-key command nor one of a single slot\n",
-            2,
-        ),
-    ];
-    check(&rt, rt.alloc(), &runs)
-}
-
-#[test]
-fn nothing_is_left_of_the_input(rt: HostRuntime) -> Result<(), Fail> {
-    let alloc = rt.alloc();
-    let mut reader: &[u8] = b"0 16383 p:1\n\nPING\nGET a\n";
-    let mut out = Vec::new(alloc);
-    let mut err = Vec::new(alloc);
-    let status = served(alloc, REVERSE, &mut reader, &mut out, &mut err)?;
-    assert_eq!(rt; status, 2);
-    assert_eq!(rt; reader, b"".as_slice());
-    Ok(())
+    check(&rt, rt.alloc(), &[(REVERSE, INPUT, SENT, b"", 0)])
 }
 
 fn check_read_that_fails(rt: &impl Abort, alloc: Global, calls: usize) -> Result<(), Fail> {

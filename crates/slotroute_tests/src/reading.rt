@@ -71,22 +71,3 @@ fn nothing_more_is_asked_for(rt: HostRuntime) -> Result<(), Fail> {
     }
     Ok(())
 }
-
-#[test]
-fn the_rest_is_left(rt: HostRuntime) -> Result<(), Fail> {
-    let alloc = rt.alloc();
-    let rest: &[u8] = b"DEL foo bar\n\nDEL baz\n";
-    for (i, (texts, begin, want_status)) in READINGS.iter().enumerate() {
-        let words = words_of(alloc, texts)?;
-        let mut input = Vec::new(alloc);
-        input.extend_from_slice(begin)?;
-        input.extend_from_slice(rest)?;
-        let mut reader = input.as_slice();
-        let mut out = Vec::new(alloc);
-        let mut err = Vec::new(alloc);
-        let status = serve(alloc, &words, &mut reader, &mut out, &mut err, None);
-        assert_eq!(rt; reader, rest, "at {i}");
-        assert_eq!(rt; status, *want_status, "at {i}");
-    }
-    Ok(())
-}

@@ -13,18 +13,6 @@ const OUTPUT: &[u8] = b"p:1 MSET a 1\np:1 MSET b 2\nOK\np:1 MGET b\np:1 MGET a\n
 
 const REFUSAL: &[u8] = b"slotroute: line 6: not a multi-key command\n";
 
-#[test]
-fn what_follows_a_refused_command_is_left(rt: HostRuntime) -> Result<(), Fail> {
-    let alloc = rt.alloc();
-    let mut reader = INPUT;
-    let mut out = Vec::new(alloc);
-    let mut err = Vec::new(alloc);
-    let status = served(alloc, FORWARD, &mut reader, &mut out, &mut err)?;
-    check_written(&rt, 0, (&out, &err, status), (OUTPUT, REFUSAL, 2));
-    assert_eq!(rt; reader, b"DEL a\n".as_slice());
-    Ok(())
-}
-
 fn check_read_that_fails(
     rt: &impl Abort,
     alloc: Global,
