@@ -1,8 +1,6 @@
 use cluster_map::{NodeAddress, split_node_address};
 use resp_core::{ErrorKind, RedisError, RedisResult};
 use std::alloc::{AllocError, Global};
-use std::cmp::Ordering;
-use std::sync::ArcStr;
 use std::test::Fail;
 
 #[test]
@@ -161,22 +159,6 @@ fn a_port_may_have_many_zeros(rt: HostRuntime) -> Result<(), Fail> {
     Ok(())
 }
 
-#[test]
-fn an_address_matches_the_texts_that_name_it(rt: HostRuntime) -> Result<(), Fail> {
-    let address = NodeAddress::new(rt.alloc(), "h", 80)?;
-    let table = [
-        ("h:80", true),
-        ("[[h]]]:+0080", true),
-        ("h:81", false),
-        ("g:80", false),
-        ("H:80", false),
-    ];
-    for (text, matches) in table {
-        assert_eq!(rt; address.matches_text(text), matches, "{text}");
-    }
-    Ok(())
-}
-
 /// What `Display` and `Debug` print of an address, with a space between them.
 fn printed(alloc: Global, host: &str, port: u16) -> Result<String, AllocError> {
     let address = NodeAddress::new(alloc, host, port)?;
@@ -264,75 +246,9 @@ fn hosts_of_each_length_are_kept_whole(rt: HostRuntime) -> Result<(), Fail> {
     Ok(())
 }
 
-/// The address of a shared text as host, and a port.
-fn of_parts(alloc: Global, host: &str, port: u16) -> Result<NodeAddress, AllocError> {
-    let host = ArcStr::from_str(alloc, host)?;
-    Ok(NodeAddress::from_parts(host, port))
-}
-
-/// Whether an address is equal to that of a host and a port.
-fn equals(alloc: Global, address: &NodeAddress, host: &str, port: u16) -> Result<bool, AllocError> {
-    let other = NodeAddress::new(alloc, host, port)?;
-    Ok(other == *address)
-}
-
-#[test]
-fn addresses_of_the_same_parts_are_equal(rt: HostRuntime) -> Result<(), Fail> {
-    let address = of_parts(rt.alloc(), "h", 1)?;
-    for (host, port, same) in [("h", 1, true), ("h", 2, false), ("g", 1, false)] {
-        let is_equal = equals(rt.alloc(), &address, host, port)?;
-        assert_eq!(rt; is_equal, same, "host {host}, port {port}");
-    }
-    Ok(())
-}
-
-#[test]
-fn a_clone_is_equal(rt: HostRuntime) -> Result<(), Fail> {
-    let address = NodeAddress::new(rt.alloc(), "h", 1)?;
-    assert!(rt; address.clone()? == address);
-    Ok(())
-}
-
 #[test]
 fn the_default_address_has_no_host_and_port_0(rt: HostRuntime) -> Result<(), Fail> {
     let address = NodeAddress::default(rt.alloc())?;
     assert_eq!(rt; (address.host(), address.port()), ("", 0));
-    Ok(())
-}
-
-/// How two addresses are ordered, and whether the first is below the second.
-fn compared(first: &NodeAddress, second: &NodeAddress) -> (Ordering, bool) {
-    (first.cmp(second), first < second)
-}
-
-/// The addresses of these hosts and ports.
-fn addresses(alloc: Global, parts: &[(&str, u16)]) -> Result<Vec<NodeAddress>, AllocError> {
-    let mut addresses = Vec::new(alloc);
-    for (host, port) in parts {
-        addresses.push(NodeAddress::new(alloc, *host, *port)?)?;
-    }
-    Ok(addresses)
-}
-
-const ASCENDING: [(&str, u16); 8] = [
-    ("", 9),
-    ("10", 1),
-    ("9", 1),
-    ("B", 7),
-    ("a", 2),
-    ("a", 10),
-    ("aa", 1),
-    ("é", 1),
-];
-
-#[test]
-fn addresses_are_ordered_by_host_bytes_then_port(rt: HostRuntime) -> Result<(), Fail> {
-    let ascending = addresses(rt.alloc(), &ASCENDING)?;
-    for (i, one) in ascending.iter().enumerate() {
-        for (j, other) in ascending.iter().enumerate() {
-            let wanted = (i.cmp(&j), i < j);
-            assert_eq!(rt; compared(one, other), wanted, "{one} against {other}");
-        }
-    }
     Ok(())
 }

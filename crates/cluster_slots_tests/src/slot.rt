@@ -33,64 +33,6 @@ fn keys_have_the_slots_of_their_hash_tags(rt: HostRuntime) {
     }
 }
 
-/// The number of the slot that holds a number, if there is one.
-fn number_of(number: u16) -> Option<u16> {
-    let slot = Slot::new(number)?;
-    Some(slot.number())
-}
-
-#[test]
-fn slots_have_numbers_below_the_slot_count(rt: HostRuntime) {
-    let table = [
-        (0, Some(0)),
-        (16383, Some(16383)),
-        (16384, None),
-        (65535, None),
-    ];
-    for (number, slot) in table {
-        assert_eq!(rt; number_of(number), slot, "slot {number}");
-    }
-    assert_eq!(rt; SLOT_SIZE, 16384);
-}
-
-const KINDS: [SlotAddr; 3] = [
-    SlotAddr::Master,
-    SlotAddr::ReplicaOptional,
-    SlotAddr::ReplicaRequired,
-];
-
-/// The slot of a route, and which of its nodes it asks for.
-fn parts(route: Route) -> (u16, SlotAddr) {
-    (route.slot(), route.slot_addr())
-}
-
-#[test]
-fn routes_hold_a_slot_and_which_of_its_nodes(rt: HostRuntime) {
-    for addr in KINDS {
-        assert_eq!(rt; parts(Route::new(65535, addr)), (65535, addr));
-    }
-}
-
-/// The route to the slot of a number, if there is one.
-fn with_slot(number: u16, addr: SlotAddr) -> Option<Route> {
-    let slot = Slot::new(number)?;
-    Some(Route::with_slot(slot, addr))
-}
-
-#[test]
-fn a_route_to_a_slot_is_that_to_its_number(rt: HostRuntime) {
-    for addr in KINDS {
-        assert_eq!(rt; Some(Route::new(964, addr)), with_slot(964, addr));
-    }
-}
-
-#[test]
-fn routes_to_other_slots_or_other_nodes_differ(rt: HostRuntime) {
-    for (slot, addr) in [(2, SlotAddr::Master), (1, SlotAddr::ReplicaRequired)] {
-        assert_ne!(rt; Route::new(1, SlotAddr::Master), Route::new(slot, addr));
-    }
-}
-
 /// The polynomial of the Redis cluster specification without x^16.
 const POLYNOMIAL: u16 = 0x1021;
 
