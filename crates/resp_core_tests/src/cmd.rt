@@ -11,62 +11,6 @@ fn cmd_of(alloc: Global, args: &[&[u8]]) -> Result<Cmd, AllocError> {
 }
 
 #[test]
-fn chained_items_come_in_order(rt: HostRuntime) -> Result<(), Fail> {
-    let mut cmd = Cmd::new(rt.alloc());
-    assert!(rt; cmd.is_empty());
-    cmd.arg(b"SET")?.arg(b"key")?.arg(b"value")?;
-    assert!(rt; !cmd.is_empty());
-    assert_eq!(rt; cmd.len(), 3);
-    let want: [&[u8]; 3] = [b"SET", b"key", b"value"];
-    for (i, arg) in (&cmd).into_iter().enumerate() {
-        assert_eq!(rt; Some(arg), want.get(i).copied(), "item {i}");
-    }
-    assert_eq!(rt; cmd.args().count(), 3);
-    Ok(())
-}
-
-#[test]
-fn room_for_items_is_no_item(rt: HostRuntime) -> Result<(), Fail> {
-    let mut cmd = Cmd::with_capacity(rt.alloc(), 3)?;
-    assert!(rt; cmd.is_empty());
-    assert_eq!(rt; cmd.arg_idx(0), None);
-    cmd.arg(b"SET")?.arg(b"key")?.arg(b"value")?.arg(b"NX")?;
-    assert!(rt; cmd == cmd_of(rt.alloc(), &[b"SET", b"key", b"value", b"NX"])?);
-    Ok(())
-}
-
-#[test]
-fn items_by_place(rt: HostRuntime) -> Result<(), Fail> {
-    let cmd = cmd_of(rt.alloc(), &[b"", b"a", b"", b"bc"])?;
-    let want: [(usize, Option<&[u8]>); 6] = [
-        (0, Some(b"")),
-        (1, Some(b"a")),
-        (2, Some(b"")),
-        (3, Some(b"bc")),
-        (4, None),
-        (usize::MAX, None),
-    ];
-    for (place, item) in want {
-        assert_eq!(rt; cmd.arg_idx(place), item, "place {place}");
-    }
-    Ok(())
-}
-
-#[test]
-fn clones_and_equality(rt: HostRuntime) -> Result<(), Fail> {
-    let alloc = rt.alloc();
-    let tables: [&[&[u8]]; 5] = [&[], &[b""], &[b"GET", b"k"], &[b"GETk"], &[b"k", b"GET"]];
-    for (i, left) in tables.iter().enumerate() {
-        let cmd = cmd_of(alloc, left)?;
-        assert!(rt; cmd.clone()? == cmd, "clone of {cmd:?}");
-        for (k, right) in tables.iter().enumerate() {
-            assert_eq!(rt; cmd == cmd_of(alloc, right)?, i == k, "{i} and {k}");
-        }
-    }
-    Ok(())
-}
-
-#[test]
 fn room_for_bytes_is_no_item(rt: HostRuntime) -> Result<(), Fail> {
     let mut cmd = Cmd::with_room(rt.alloc(), 1, 4)?;
     assert!(rt; cmd.is_empty());

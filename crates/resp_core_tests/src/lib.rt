@@ -7,5 +7,3 @@ mod cmd;
 mod deep;
 #[cfg(test)]
 mod error;
-#[cfg(test)]
-mod value;
