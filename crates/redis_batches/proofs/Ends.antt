@@ -9,6 +9,7 @@ use Rattle.resp_core.specs.ErrorParts.{ErrorParts}
 use Rattle.redis_cluster.specs.Orders.{times}
 use Rattle.redis_cluster.specs.Unsplit.{Step, Keyspace}
 use Rattle.redis_cluster.proofs.Counts.{same_number, times_here, times_there}
+use Rattle.redis_batches.specs.Sent.{AreApart}
 use Rattle.redis_batches.specs.Turns.{all_after, answers, of_slot, batch_by_batch}
 use Rattle.redis_batches.specs.Pipeline.{Serve, Part, Numbered, Refusals, refused_by, piece_of, ended}
 
@@ -17,11 +18,6 @@ abbrev pub end_of : List ℕ → List (Option ErrorParts) → ℕ → Option Err
 end_of [] ends n = None
 end_of (m ∷ ms) [] n = None
 end_of (m ∷ ms) (e ∷ ends) n = cond (nat_eq n m) e (end_of ms ends n)
-
--- no number stands twice
-abbrev pub AreApart : {Y : Type 0} → List (ℕ × Y) → Type 0
-AreApart [] = Unit {0}
-AreApart (x ∷ xs) = All (λ y. nat_eq y.0 x.0 ≡ false) xs × AreApart xs
 
 -- numbers that are counted on lie above the first
 numbers_above : {Y : Type 0} (p : ℕ × Y → Bool) (m n : ℕ) (xs : List Y) → m < n → All (λ (y : ℕ × Y). nat_eq y.0 m ≡ false) (filter p (enumerate_from n xs))
@@ -49,7 +45,7 @@ ends_after m e ms ends (x ∷ xs) other =
     ∙ ap (λ l. end_of ms ends x.0 ∷ l) (ends_after m e ms ends xs (All-tail (λ y. nat_eq y.0 m ≡ false) x xs other))
 
 -- each end is found by its number
-ends_found : {Y : Type 0} (xs : List (ℕ × Y)) (ends : List (Option ErrorParts)) → length ends ≡ length xs → AreApart xs
+pub ends_found : {Y : Type 0} (xs : List (ℕ × Y)) (ends : List (Option ErrorParts)) → length ends ≡ length xs → AreApart xs
     → map (λ x. end_of (map (λ y. y.0) xs) ends x.0) xs ≡ ends
 ends_found [] [] long apart = refl
 ends_found [] (e ∷ ends) long apart = absurd (omega arith)

@@ -27,7 +27,7 @@ get_there (x ∷ xs) zero d inside = refl
 get_there (x ∷ xs) (suc n) d inside = get_there xs n d (omega arith)
 
 -- parts at numbers are those that are read
-parts_read : (parts : List (List (List ℕ))) (own : List Numbered) → All (λ n. n < length parts) (map (λ (x : Numbered). x.0) own)
+pub parts_read : (parts : List (List (List ℕ))) (own : List Numbered) → All (λ n. n < length parts) (map (λ (x : Numbered). x.0) own)
     → in_order parts (map (λ (x : Numbered). x.0) own) ≡ map (λ (x : Numbered). get_or parts x.0 []) own
 parts_read parts [] below = refl
 parts_read parts (x ∷ own) below =

@@ -26,3 +26,12 @@ pub mod Untaken
 pub mod Counting
 pub mod Primaries
 pub mod Driving
+pub mod Again
+pub mod GoOn
+pub mod Alone
+pub mod Following
+pub mod Chain
+pub mod Walking
+pub mod Retried
+pub mod Ascending
+pub mod RoundSteps

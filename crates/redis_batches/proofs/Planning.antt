@@ -4,7 +4,7 @@ use Rattle.std.specs.Prelude.{nat_eq}
 use Rattle.std.specs.List.{AllZip, flat_map, list_any, sum_by}
 use Rattle.std.specs.Option.{option_map_or}
 use Rattle.std.proofs.lemmas.Bool.{eqb-true}
-use Rattle.std.proofs.lemmas.List.{length-append, length-map}
+use Rattle.std.proofs.lemmas.List.{length-append, length-map, map-append}
 use Rattle.std.proofs.lemmas.List.Sums.{sum_by-cons}
 use Rattle.std.proofs.lemmas.List.Elements.{All-nil, All-cons, All-head, All-tail, All-weaker}
 use Rattle.resp_core.proofs.Cases.{by_test, or_second}
@@ -20,7 +20,7 @@ use Rattle.redis_cluster.specs.MultiKey.{KeyTuple, MultiKey, multi_key, part_of,
 use Rattle.redis_cluster.specs.Orders.{times}
 use Rattle.redis_cluster.proofs.Constructors.{same_head, same_some, same_tail}
 use Rattle.redis_cluster.proofs.Counts.{same_number}
-use Rattle.redis_batches.specs.Pipeline.{AreSlotsOf, HasSlots, Part, Planned, Task, over_keys, in_slot, parts_of}
+use Rattle.redis_batches.specs.Pipeline.{AreSlotsOf, HasSlots, Part, Planned, Task, over_keys, in_slot, part, parts_of}
 use Rattle.redis_batches.specs.Batched.{AreBatches}
 use Rattle.redis_batches.specs.Taken.{slot_routed, task_of, task_with}
 use Rattle.redis_batches.specs.Tasks.{IsSplitOfTask, slots_of_task, with_slots}
@@ -204,10 +204,25 @@ written_is names (a ∷ commands) (k ∷ kept) each =
     let slots : slots_kept k ≡ slots_of_command names.registered a = slots_of_kept names.registered each.0.0 k each.0.2 ∙ sym (ap (λ t. option_map_or slots_of_task t []) each.0.1) in
     ap (λ own. cond (only_reads names.only_reads a) [] own ++ all_written names.only_reads commands kept) slots ∙ ap (λ l. slots_written names a ++ l) (written_is names commands kept each.1)
 
+-- the slots of the parts of a command are its own
+part_slots : (task : Task) (slots : List ℕ) → map (λ (q : Part). q.slot) (map (λ slot. record { slot = slot; task = part task slot }) slots) ≡ slots
+part_slots task [] = refl
+part_slots task (slot ∷ slots) = ap (λ l. slot ∷ l) (part_slots task slots)
+
+-- those of all parts, one command after the other
+slots_of_parts : (registered : Registrations) (tasks : List Task) (kept : List CommandTask) → AllZip (IsKeptOf registered) tasks kept → flat_map slots_kept kept ≡ map (λ (q : Part). q.slot) (pieces_of tasks)
+slots_of_parts registered [] [] each = refl
+slots_of_parts registered [] (k ∷ kept) each = absurd each
+slots_of_parts registered (t ∷ tasks) [] each = absurd each
+slots_of_parts registered (t ∷ tasks) (k ∷ kept) each =
+    ap (λ s. s ++ flat_map slots_kept kept) (slots_of_kept registered t k each.0) ∙ ap (λ l. slots_of_task t ++ l) (slots_of_parts registered tasks kept each.1)
+    ∙ ap (λ s. s ++ map (λ (q : Part). q.slot) (pieces_of tasks)) (sym (part_slots t (slots_of_task t)))
+    ∙ sym (map-append (λ (q : Part). q.slot) (parts_of (with_slots t)) (pieces_of tasks))
+
 -- The plan of commands. Each slot has one node among those that were chosen, which is one that it may have.
 pub is_plan_of : (registered : Registrations) (chosen is_node : ℕ → Address → Type 0) (commands : List (List (List ℕ))) (kept : List CommandTask) (batches : Batches) (nodes : List Address) → IsOne chosen
     → ((slot : ℕ) (node : Address) → chosen slot node → is_node slot node) → AllZip (IsTaskFor registered) commands kept → ArePlaced chosen (flat_map slot_parts kept) batches.parts nodes → IsByNode batches nodes
-    → IsPlanOfCommands registered is_node commands (record { splits = map split_in kept; batches = batches })
+    → IsPlanOfCommands registered is_node commands (record { splits = map split_in kept; batches = batches; slots = flat_map slots_kept kept; targets = nodes })
 is_plan_of registered chosen is_node commands kept batches nodes one may each placed by_node =
     let found = tasks_from registered commands kept each in
     let tasks : List Task = found.0 in
@@ -226,6 +241,8 @@ is_plan_of registered chosen is_node commands kept batches nodes one may each pl
       node_of = node;
       nodes_are = All-weaker (λ (q : Part). chosen q.slot (node q.slot)) (λ q. is_node q.slot (node q.slot)) (λ q is. may q.slot (node q.slot) is) qs all;
       by_node = subst (IsByNode batches) (same_nodes chosen one node qs nodes at all) by_node;
+      slots_are = slots_of_parts registered tasks kept found.2;
+      targets_are = same_nodes chosen one node qs nodes at all;
     }
 
 -- why there is none

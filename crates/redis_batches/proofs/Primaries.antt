@@ -37,6 +37,8 @@ plan_with registered one other weaker commands plan is = record {
   nodes_are = All-weaker (λ (q : Part). one q.slot (is.node_of q.slot)) (λ q. other q.slot (is.node_of q.slot))
       (λ q has. weaker q.slot (is.node_of q.slot) has) (pieces_of is.tasks) is.nodes_are;
   by_node = is.by_node;
+  slots_are = is.slots_are;
+  targets_are = is.targets_are;
 }
 
 -- so does an order of its batches

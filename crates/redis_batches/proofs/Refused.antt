@@ -22,7 +22,7 @@ refused_local s effect (Some error) local = record {
 }
 
 module _ {C : Type 0} (step : Step C) (serve : Serve C) (refusals : Refusals) where
-  ended_local : (xs : List Numbered) → All (λ x. IsLocal (slot_of x) (piece_of step serve x)) xs → All (λ x. IsLocal (slot_of x) ((ended step serve refusals) x)) xs
+  pub ended_local : (xs : List Numbered) → All (λ x. IsLocal (slot_of x) (piece_of step serve x)) xs → All (λ x. IsLocal (slot_of x) ((ended step serve refusals) x)) xs
   ended_local [] local = All-nil (λ x. IsLocal (slot_of x) ((ended step serve refusals) x))
   ended_local (x ∷ xs) local =
       All-cons (λ y. IsLocal (slot_of y) ((ended step serve refusals) y)) x xs

@@ -22,7 +22,7 @@ module _ {C R X : Type 0} (slot : X → ℕ) (effect : X → Effect C R) where
   AreLocal xs = All (λ x. IsLocal (slot x) (effect x)) xs
 
   -- those of a slot alone leave at its keys what all leave there
-  slot_alone : (s : ℕ) (xs : List X) → AreLocal xs → (ks other : Keyspace C) → Agree s ks other
+  pub slot_alone : (s : ℕ) (xs : List X) → AreLocal xs → (ks other : Keyspace C) → Agree s ks other
       → (key : List ℕ) → nat_eq (key_slot key) s ≡ true → all_after effect (of_slot slot s xs) ks key ≡ all_after effect xs other key
   slot_alone s [] local ks other agree key own = agree key own
   slot_alone s (x ∷ xs) local ks other agree key own =
@@ -35,7 +35,7 @@ module _ {C R X : Type 0} (slot : X → ℕ) (effect : X → Effect C R) where
       (λ k o. agree k o ∙ sym (first.elsewhere other k (other_slot (key_slot k) (slot x) s o there))) key own))
 
   -- those of a slot alone answer what they answer among all
-  answers_alone : (s : ℕ) (xs : List X) → AreLocal xs → (ks other : Keyspace C) → Agree s ks other
+  pub answers_alone : (s : ℕ) (xs : List X) → AreLocal xs → (ks other : Keyspace C) → Agree s ks other
       → answers effect (of_slot slot s xs) ks ≡ of_slot (λ (a : X × R). slot a.0) s (answers effect xs other)
   answers_alone s [] local ks other agree = refl
   answers_alone s (x ∷ xs) local ks other agree =

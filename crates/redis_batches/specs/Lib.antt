@@ -17,3 +17,8 @@ pub mod Replies
 pub mod PipelinePlan
 pub mod DrivenPipeline
 pub mod FaultText
+pub mod Rounds
+pub mod Sent
+pub mod Outgoing
+pub mod DrivenInRounds
+pub mod InRounds

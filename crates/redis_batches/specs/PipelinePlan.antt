@@ -14,10 +14,13 @@ use Rattle.redis_batches.specs.Replies.{part_count}
 use Rattle.redis_batches.specs.declared.fault.PipelineFault.{PipelineFault}
 use Rattle.redis_batches.specs.declared.fault.PipelineFault.TheVariants.{NotRoutable, NotCovered, Memory}
 
--- the split of each command, if it is over many keys, and the batches of their parts
+-- the split of each command, if it is over many keys, the batches of their parts, and the slot and
+-- the node of each part
 pub record PipelineBatches : Type 0 where
   pub splits : List (Option Split)
   pub batches : Batches
+  pub slots : List ℕ
+  pub targets : List Address
 
 -- each command has its parts
 abbrev pub HasParts : PipelineBatches → Type 0
@@ -41,6 +44,8 @@ pub record IsPlanOfCommands (registered : Registrations) (is_node : ℕ → Addr
   pub node_of : ℕ → Address
   pub nodes_are : All (λ q. is_node q.slot (node_of q.slot)) (pieces_of tasks)
   pub by_node : IsByNode plan.batches (map (λ q. node_of q.slot) (pieces_of tasks))
+  pub slots_are : plan.slots ≡ map (λ q. q.slot) (pieces_of tasks)
+  pub targets_are : plan.targets ≡ map (λ q. node_of q.slot) (pieces_of tasks)
 
 -- Why commands have no plan. Where a slot has no node, each command means something.
 abbrev pub IsPlanFault : Registrations → Ranges → List (List (List ℕ)) → PipelineFault → Type 0

@@ -108,7 +108,7 @@ pub fn drive_pipeline<N: BatchNodes>(
 }
 
 /// The plan of commands, where the order names its batches.
-fn plan_in_order<'a, N: BatchNodes>(
+pub(super) fn plan_in_order<'a, N: BatchNodes>(
     alloc: Global,
     commands: &'a [Cmd],
     read_only: &ReadOnlyNames,

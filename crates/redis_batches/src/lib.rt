@@ -5,6 +5,7 @@
 mod chosen;
 mod drive;
 mod fault;
+mod going;
 mod grouping;
 mod nodes;
 mod order;
@@ -14,6 +15,8 @@ mod pipeline;
 mod plan;
 mod reads;
 mod replies;
+mod retrying;
+mod rounds;
 mod send;
 mod task;
 
@@ -21,4 +24,5 @@ pub use drive::drive_pipeline;
 pub use fault::{PipelineError, PipelineFault};
 pub use nodes::BatchNodes;
 pub use pipeline::PipelinePlan;
+pub use retrying::drive_pipeline_retrying;
 pub use send::Stopped;

@@ -1,12 +1,12 @@
 ghost use Rattle.std.specs.Prelude.{◌≡◌, ◌⊎◌, ℕ, List, Some, true, false, length, map, option_map, slice_get, slice_set, IfOk, OnOk, IfErr};
-ghost use Rattle.std.specs.List.{All, list_all};
+ghost use Rattle.std.specs.List.{All, flat_map, list_all};
 ghost use Rattle.std.specs.Result.{IsErrAnd};
 ghost use Rattle.resp_core.specs.declared.error.ErrorKind.TheVariants.{Client, OutOfMemory};
 ghost use Rattle.redis_routing.specs.Names.{names_in};
 ghost use Rattle.redis_cluster.specs.Orders.{in_order};
 ghost use Rattle.redis_batches.specs.Pipeline.{Answer};
 ghost use Rattle.redis_batches.specs.Batched.{AreFor, IsRight};
-ghost use Rattle.redis_batches.specs.CommandTask.{split_in};
+ghost use Rattle.redis_batches.specs.CommandTask.{slots_kept, split_in};
 ghost use Rattle.redis_batches.specs.PipelinePlan.{HasParts, IsPlanFault, IsPlanOfCommands};
 ghost use Rattle.redis_batches.specs.Plan.{AreFewest, IsPlan};
 ghost use Rattle.redis_batches.specs.Reads.{IsSlotNode};
@@ -36,24 +36,34 @@ use std::marker::Model;
 pub struct PipelinePlan<'a> {
     tasks: Vec<CommandTask<'a>>,
     batches: BatchPlan<'a>,
+    /// The node of each part.
+    targets: Vec<&'a NodeAddress>,
 }
 
 impl<'a> Model for PipelinePlan<'a> {
     ghost use Rattle.std.specs.Prelude.{map};
+    ghost use Rattle.std.specs.List.{flat_map};
     ghost use Rattle.std.specs.Coded.{codes};
     ghost use Rattle.resp_core.specs.contracts.value.Value as value;
-    ghost use Rattle.redis_batches.specs.CommandTask.{split_in};
+    ghost use Rattle.redis_batches.specs.CommandTask.{slots_kept, split_in};
     ghost use Rattle.redis_batches.specs.PipelinePlan.{HasParts, PipelineBatches};
 
     ghost Value = { PipelineBatches };
 
     ghost coded = { Prim.hlevel (codes, value.the_row.coded) };
 
-    ghost view = { λ p. record { splits = map split_in p.tasks.items; batches = p.batches } };
+    ghost view = { λ p. record {
+      splits = map split_in p.tasks.items;
+      batches = p.batches;
+      slots = flat_map slots_kept p.tasks.items;
+      targets = map (λ node. node.now) p.targets.items;
+    } };
 
     ghost invariant = { λ p. HasParts (record {
       splits = map split_in p.tasks.items;
       batches = p.batches;
+      slots = flat_map slots_kept p.tasks.items;
+      targets = map (λ node. node.now) p.targets.items;
     }) };
 }
 
@@ -97,7 +107,11 @@ impl<'a> PipelinePlan<'a> {
             chosen: _,
         } = placed;
         let batches = BatchPlan::new(alloc, parts, nodes.as_slice())?;
-        Ok(PipelinePlan { tasks, batches })
+        Ok(PipelinePlan {
+            tasks,
+            batches,
+            targets: nodes,
+        })
     }
 
     /// How many batches there are.
@@ -154,6 +168,7 @@ impl<'a> PipelinePlan<'a> {
             × (self.new.batches.places ≡ self.old.batches.places)
             × (self.new.batches.parts ≡ self.old.batches.parts)
             × (length self.new.batches.answers ≡ length self.old.batches.answers) }
+        ensures placed { (self.new.slots ≡ self.old.slots) × (self.new.targets ≡ self.old.targets) }
         ensures right { OnOk result ((all : List Answer) (places : List ℕ)
             → slice_get self.old.batches.places number ≡ Some places
             → AreFor all places answers.items
@@ -188,7 +203,11 @@ impl<'a> PipelinePlan<'a> {
             ⊎ ((error.kind ≡ Client)
             × (list_all (λ told. told) self.entry.batches.told ≡ false))) }
     {
-        let PipelinePlan { tasks, batches } = self;
+        let PipelinePlan {
+            tasks,
+            batches,
+            targets: _,
+        } = self;
         let answers = batches.finish()?;
         replies_of(alloc, tasks.as_slice(), answers)
     }
@@ -200,5 +219,16 @@ impl<'a> PipelinePlan<'a> {
         ensures parts { HasParts self.entry }
     {
         (self.tasks, self.batches)
+    }
+
+    /// The same, and the node of each part.
+    pub(super) fn into_placed(self) -> (Vec<CommandTask<'a>>, BatchPlan<'a>, Vec<&'a NodeAddress>)
+        ensures splits { map split_in result.0.items ≡ self.entry.splits }
+        ensures batches { result.1 ≡ self.entry.batches }
+        ensures slots { flat_map slots_kept result.0.items ≡ self.entry.slots }
+        ensures targets { map (λ node. node.now) result.2.items ≡ self.entry.targets }
+        ensures parts { HasParts self.entry }
+    {
+        (self.tasks, self.batches, self.targets)
     }
 }

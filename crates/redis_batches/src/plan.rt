@@ -188,6 +188,15 @@ impl<'a> BatchPlan<'a> {
         Ok(answers)
     }
 
+    /// The parts, and the answer to each, nil where none was told.
+    pub(super) fn into_rest(self) -> (Vec<PartCommand<'a>>, Vec<Result<Value, RedisError>>)
+        ensures parts { map sent_args result.0.items ≡ self.entry.parts }
+        ensures answers { result.1.items ≡ self.entry.answers }
+        ensures plan { IsPlan self.entry }
+    {
+        (self.parts, self.answers)
+    }
+
     /// The answer to each part, and nil where none was told.
     pub(super) fn into_answers(self) -> Vec<Result<Value, RedisError>>
         ensures answers { result.items ≡ self.entry.answers }
@@ -233,7 +242,7 @@ fn no_answers(alloc: Global, count: usize) -> Result<Vec<Result<Value, RedisErro
 
 /// Moves each answer to its place. Where each is the one that a list has at that place, these
 /// places are right afterwards, and those that were right stay so.
-fn put_answers(
+pub(super) fn put_answers(
     out: &mut Vec<Result<Value, RedisError>>,
     mut answers: Vec<Result<Value, RedisError>>,
     places: &[usize],

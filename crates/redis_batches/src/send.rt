@@ -80,6 +80,7 @@ pub fn send_batches<N: BatchNodes>(
         (batch_at plan.old (get_or order.now stop.answered 0)) stop.error) }
     ensures within { IfErr result (λ stop. stop.answered < length order.now) }
     ensures room { length plan.new.answers ≡ length plan.old.parts }
+    ensures parts { plan.new.parts ≡ plan.old.parts }
     ensures kept { N.kept nodes.new → N.kept nodes.old }
     ensures may_refuse { (count : ℕ) (ending : Ending) → N.may_refuse nodes.new count ending
         ↔ N.may_refuse nodes.old count ending }

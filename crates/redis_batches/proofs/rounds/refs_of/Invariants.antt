@@ -1,0 +1,7 @@
+use Rattle.std.proofs.Common.{◌≡◌, [], get_or, map, take}
+use Rattle.redis_batches.specs.PartArguments.{sent_args}
+use Rattle.redis_batches.proofs.rounds.refs_of.Given as goal
+
+-- the first of them
+abbrev pub invariant-loop-number : goal.invariant-loop-number
+invariant-loop-number l = map sent_args l.refs.items ≡ map (λ number. get_or (map sent_args l.parts) number []) (take l.number-index l.numbers)

@@ -1,0 +1,173 @@
+-- Parts that nodes sent on are sent again, in rounds, as long as the order of each slot stays.
+use Rattle.std.specs.Prelude.{◌≡◌, ◌⊎◌, ◌++◌, ◌∷◌, ◌&&◌, ℕ, Bool, not, cond, List, [], Option, None, Some, MatchOption, Ok, Err, codes, is_none, is_some, length, map, get_or, nat_eq}
+use Rattle.std.specs.List.{All, AllZip, list_any, range_with_len, zip}
+use Rattle.std.specs.Option.{option_map_or, option_or}
+use Rattle.resp_core.specs.ErrorParts.{ErrorParts}
+use Rattle.cluster_slots.specs.Address.{Address}
+use Rattle.redis_routing.specs.RedirectText.{IsRedirectText, redirect_address}
+use Rattle.redis_routing.specs.Registry.{Registrations}
+use Rattle.redis_routing.specs.declared.info.Redirect.{Redirect}
+use Rattle.redis_cluster.specs.Trace.{Ending}
+use Rattle.redis_cluster.specs.Unsplit.{Keyspace, Step}
+use Rattle.redis_cluster.specs.State.{State}
+use Rattle.redis_batches.specs.Turns.{all_after, of_slot}
+use Rattle.redis_batches.specs.Pipeline.{Answer, Numbered, Planned, Refusals, Serve, ended, ended_answers, numbered, pieces, slot_of}
+use Rattle.redis_batches.specs.Batched.{AreBatches}
+use Rattle.redis_batches.specs.Plan.{Batches, IsByNode}
+use Rattle.redis_batches.specs.Driven.{IsServed, WasStopped, batch_at, node_at}
+use Rattle.redis_batches.specs.Taken.{Batch}
+use Rattle.redis_batches.specs.declared.send.Stopped.{Stopped}
+
+-- what a server wrote of an error: the detail where there is one, and else the text
+abbrev pub server_text : ErrorParts → List ℕ
+server_text error = option_map_or (λ detail. detail) error.detail error.desc
+
+-- some keys of the command have moved to another node, and others have not yet
+abbrev pub IsTryAgain : List ℕ → Type 0
+IsTryAgain text = (rest : List ℕ) × (text ≡ codes "TRYAGAIN " ++ rest)
+
+-- The text of a node's error sends a command on to this address: the one that `MOVED` or `ASK`
+-- names, and by `TRYAGAIN` that of the node itself.
+abbrev pub SendsOn : Address → List ℕ → Address → Type 0
+SendsOn node text target =
+    ((slot : ℕ) × (redirect : Redirect)
+    × IsRedirectText node.host text slot redirect × (target ≡ redirect_address redirect))
+    ⊎ (IsTryAgain text × (target ≡ node))
+
+-- where it sends it on to, if it does
+abbrev pub IsNamedBy : Address → List ℕ → Option Address → Type 0
+IsNamedBy node text on =
+    MatchOption on ((target : Address) → SendsOn node text target → ⊥) (SendsOn node text)
+
+-- where the answer of a node sends a command on, if it does
+abbrev pub IsSentOn : Address → Answer → Option Address → Type 0
+IsSentOn node (Ok reply) on = on ≡ None
+IsSentOn node (Err error) on = IsNamedBy node (server_text error) on
+
+-- An error of a command's own, which some commands answer, sends it nowhere.
+abbrev pub OwnErrorsStay : {C : Type 0} → Serve C → Type 0
+OwnErrorsStay {C} serve =
+    (args : List (List ℕ)) (keyspace : Keyspace C) (error : ErrorParts) (node target : Address)
+    → (serve args keyspace).reply ≡ Err error → SendsOn node (server_text error) target → ⊥
+
+module _ {X : Type 0} (slot : X → ℕ) where
+  -- whether a part of this slot was not sent on
+  abbrev pub is_settled : ℕ → List (X × Option Address) → Bool
+  is_settled s parts = list_any (λ x. nat_eq (slot x.0) s && is_none x.1) parts
+
+  -- The parts that go out again: those that were sent on, as was each later part of their slot.
+  abbrev pub go_on : List (X × Option Address) → List X
+  go_on [] = []
+  go_on (x ∷ later) =
+      cond (is_some x.1 && not (is_settled (slot x.0) later)) (x.0 ∷ go_on later) (go_on later)
+
+  -- where the parts of a slot go then: where the last one of them was sent on to
+  abbrev pub goes_to : ℕ → List (X × Option Address) → Option Address
+  goes_to s [] = None
+  goes_to s (x ∷ later) = option_or (goes_to s later) (cond (nat_eq (slot x.0) s) x.1 None)
+
+-- A round: the parts that go out, in the order of the pipeline, the node of each slot, one batch for
+-- each node, what each part is answered, and which were refused.
+pub record Round : Type 0 where
+  pub sent : List Numbered
+  pub node_of : ℕ → Address
+  pub batches : Batches
+  pub given : List Answer
+  pub refusals : Refusals
+
+-- where the answers of a round send its parts on
+abbrev pub AreSentOn : Round → List (Option Address) → Type 0
+AreSentOn round on =
+    AllZip (λ row target. IsSentOn row.0 row.1 target)
+    (zip (map (λ x. round.node_of (slot_of x)) round.sent) round.given) on
+
+-- The next round has the parts of this one that go out again, those of a slot to the node that the
+-- last one of them was sent on to.
+pub record Follows (round next : Round) : Type 0 where
+  pub on : List (Option Address)
+  pub on_are : AreSentOn round on
+  pub sent : next.sent ≡ go_on slot_of (zip round.sent on)
+  pub nodes : All
+      (λ x. goes_to slot_of (slot_of x) (zip round.sent on) ≡ Some (next.node_of (slot_of x)))
+      next.sent
+
+-- no part goes out again after this round
+abbrev pub IsLast : Round → Type 0
+IsLast round =
+    (on : List (Option Address)) × AreSentOn round on × (go_on slot_of (zip round.sent on) ≡ [])
+
+-- parts as a pipeline of their own, each a command of its slot
+abbrev pub alone : List Numbered → List Planned
+alone parts = map (λ x. record { task = x.1.task; slots = slot_of x ∷ [] }) parts
+
+-- the numbers of so many batches, in ascending order
+abbrev pub ascending : ℕ → List ℕ
+ascending count = range_with_len 0 count
+
+-- A round is prepared: a batch for each node, with the arguments of the parts, and the parts are
+-- those of a pipeline of their own.
+pub record IsPrepared (registered : Registrations) (arguments : List (List (List ℕ)))
+    (round : Round) : Type 0 where
+  pub by_node : IsByNode round.batches (map (λ x. round.node_of (slot_of x)) round.sent)
+  pub arguments_are : round.batches.parts ≡ map (λ x. get_or arguments x.0 []) round.sent
+  pub has : AreBatches registered (alone round.sent) round.batches.parts round.batches.places
+  pub nodes : All
+      (λ q. node_at round.batches.nodes (has.batch q.slot) ≡ round.node_of q.slot)
+      (pieces (alone round.sent))
+
+module _ {C : Type 0} (step : Step C) (serve : Serve C) (kept : Type 0)
+    (may_refuse : ℕ → Ending → Type 0) (registered : Registrations)
+    (arguments : List (List (List ℕ))) where
+  -- A round was served, as a pipeline of its own: each of its parts once, batch after batch.
+  pub record IsRoundServed (round : Round) (old new : State C) : Type 0 where
+    pub prepared : IsPrepared registered arguments round
+    pub served : IsServed step serve kept may_refuse (alone round.sent) round.batches.parts
+        round.batches.nodes prepared.has.batch (ascending (length round.batches.places)) old new
+        round.given
+    pub refusals_are : map round.refusals round.sent
+        ≡ map served.refusals (numbered (alone round.sent))
+
+  -- these rounds were served behind a first one, one after the other
+  abbrev pub AreRounds : Round → List Round → (old new : State C) → Type 0
+  AreRounds round [] old new = new ≡ old
+  AreRounds round (next ∷ rounds) old new =
+      Follows round next × (between : State C) × IsRoundServed next old between
+      × AreRounds next rounds between new
+
+  -- a round stopped before a batch that was not taken
+  pub record IsRoundStopped (round : Round) (old new : State C) (stop : Stopped) : Type 0 where
+    pub prepared : IsPrepared registered arguments round
+    pub stopped : WasStopped step serve registered kept may_refuse (alone round.sent)
+        round.batches.parts round.batches.nodes prepared.has.batch
+        (ascending (length round.batches.places)) old new stop.answered stop.error
+
+-- the batches of a round, each once
+abbrev pub round_batches : Round → List Batch
+round_batches round =
+    map (batch_at round.batches) (ascending (length round.batches.places))
+
+-- the last of some rounds behind a first one
+abbrev pub last_round : Round → List Round → Round
+last_round round [] = round
+last_round round (next ∷ rounds) = last_round next rounds
+
+-- whether this part is among those
+abbrev pub is_among : List Numbered → Numbered → Bool
+is_among parts x = list_any (λ y. nat_eq y.0 x.0) (of_slot slot_of (slot_of x) parts)
+
+-- which parts are refused after one more round: of its own parts those that it refused, and others
+-- as before
+abbrev pub after_round : Refusals → Round → Refusals
+after_round refusals round x =
+    cond (is_among round.sent x) (round.refusals x) (refusals x)
+
+abbrev pub after_rounds : Refusals → List Round → Refusals
+after_rounds refusals [] = refusals
+after_rounds refusals (round ∷ rounds) = after_rounds (after_round refusals round) rounds
+
+-- Keyspace and answers are those of one server that takes the parts in the order of the pipeline,
+-- but for those that were refused.
+pub record IsAsOne {C : Type 0} (step : Step C) (serve : Serve C) (ps : List Planned)
+    (refusals : Refusals) (old new : Keyspace C) (given : List Answer) : Type 0 where
+  pub keyspace : new ≡ all_after (ended step serve refusals) (numbered ps) old
+  pub answers_are : given ≡ ended_answers step serve refusals ps old

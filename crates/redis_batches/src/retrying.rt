@@ -1,0 +1,219 @@
+ghost use Rattle.std.specs.Prelude.{◌≡◌, ◌++◌, ◌↔◌, ℕ, List, length, map, IfOk, IfErr, OnOk};
+ghost use Rattle.std.specs.List.{flat_map, range_with_len};
+ghost use Rattle.redis_routing.specs.Names.{names_of};
+ghost use Rattle.redis_routing.specs.RoutingInfo.{route_lists};
+ghost use Rattle.redis_routing.specs.Split.{slots_of};
+ghost use Rattle.redis_cluster.specs.Trace.{Ending};
+ghost use Rattle.redis_batches.specs.CommandTask.{slots_kept};
+ghost use Rattle.redis_batches.specs.DrivenInRounds.{AreServedInRounds, IsRoundsFault};
+ghost use Rattle.redis_batches.specs.DrivenPipeline.{IsBeforeSending};
+ghost use Rattle.redis_batches.specs.InRounds.{AreSentAgain, IsAgainFault};
+ghost use Rattle.redis_batches.specs.Outgoing.{ArePartsOf, GoesBehind, IsNext};
+ghost use Rattle.redis_batches.specs.PartArguments.{sent_args};
+ghost use Rattle.redis_batches.specs.Pipeline.{Planned};
+ghost use Rattle.redis_batches.specs.Reads.{IsSlotNode};
+ghost use Rattle.redis_batches.specs.Rounds.{Round};
+ghost use Rattle.redis_batches.specs.Taken.{answer_of};
+
+use crate::drive::plan_in_order;
+use crate::fault::PipelineError;
+use crate::going::{Outgoing, next_parts};
+use crate::nodes::BatchNodes;
+use crate::part::PartCommand;
+use crate::replies::replies_of;
+use crate::rounds::{first_numbers, send_round};
+use crate::send::send_batches;
+use crate::task::CommandTask;
+use cluster_map::{ReadRoutingStrategy, SlotMap};
+use cluster_slots::{NodeAddress, Route};
+use redis_routing::ReadOnlyNames;
+use resp_core::{Cmd, RedisError, Value};
+use std::alloc::{AllocError, Global};
+
+/// Sends a pipeline of commands as `drive_pipeline` does, and then in rounds the parts that nodes
+/// sent on: after `MOVED` and `ASK` to the address that is named, after `TRYAGAIN` to the same node.
+/// Each round has one batch for each node, in order of first appearance.
+///
+/// ```
+/// drive_pipeline_retrying(alloc, commands, &names, slot_map, None, order, 5, nodes)
+/// ```
+///
+/// A part goes out again only where each later part of its slot was sent on, too. Else its error is
+/// its answer: after `SET a 1`, sent on, and `GET a`, answered, `SET a 1` would come too late. The
+/// parts of a slot go where the last of them was sent on to, so that they stay in their order. No
+/// part goes out more than `retries + 1` times; with 0 retries this is `drive_pipeline`.
+///
+/// Where nodes keep to one meaning, keyspace and replies are those of one server that takes the parts
+/// that were not refused at last, in the order of the pipeline. This has one more premise: no command
+/// answers an error of its own that reads as one of those three, as a script can.
+///
+/// An `ASK` is followed as a `MOVED` is. That `ASKING` goes before each such command is the
+/// connection's matter, as is what a `MOVED` changes in the map.
+///
+/// # Errors
+///
+/// As `drive_pipeline` has them. `Node` where a batch of some round was not taken: how many of that
+/// round were before it. `Memory` where memory ran out between two rounds or at the end: what was
+/// sent was taken, and the replies are lost.
+pub fn drive_pipeline_retrying<N: BatchNodes>(
+    alloc: Global,
+    commands: &[Cmd],
+    read_only: &ReadOnlyNames,
+    slot_map: &SlotMap,
+    strategy: Option<&dyn ReadRoutingStrategy>,
+    order: &[usize],
+    retries: usize,
+    nodes: &mut N,
+) -> Result<Vec<Result<Value, RedisError>>, PipelineError>
+    // The pipeline was sent, and after it no more rounds than retries, each of just the parts that go
+    // out again, to where they were sent on. There is no further round only where no part goes out
+    // again, or no retry is left. Where the nodes keep to the meaning, keyspace and answers are those
+    // of the parts in the order of the pipeline.
+    ensures served { IfOk result (λ replies.
+        AreServedInRounds N.step N.serve (N.kept nodes.new) (N.may_refuse nodes.old)
+        (N.registered nodes.old)
+        (IsSlotNode strategy.entry (λ s. picks s.now) slot_map.now
+        (names_of read_only.now (N.registered nodes.old)) commands.now)
+        commands.now order.now retries (N.asked nodes.old) (N.asked nodes.new)
+        (N.state nodes.old) (N.state nodes.new)
+        (map answer_of replies.items)) }
+    // Each fault has its cause.
+    ensures fault { IfErr result (λ error.
+        IsRoundsFault N.step N.serve (N.kept nodes.new) (N.may_refuse nodes.old)
+        (N.registered nodes.old)
+        (IsSlotNode strategy.entry (λ s. picks s.now) slot_map.now
+        (names_of read_only.now (N.registered nodes.old)) commands.now)
+        commands.now order.now retries
+        (N.state nodes.old) (N.state nodes.new) slot_map.now error) }
+    // Where the commands, the map or the order is at fault, nothing was sent.
+    ensures untouched { IfErr result (λ error. IsBeforeSending error → nodes.new ≡ nodes.old) }
+    ensures kept { N.kept nodes.new → N.kept nodes.old }
+    ensures may_refuse { (count : ℕ) (ending : Ending) → N.may_refuse nodes.new count ending
+        ↔ N.may_refuse nodes.old count ending }
+    ensures registered { N.registered nodes.new ≡ N.registered nodes.old }
+{
+    let plan = match plan_in_order(alloc, commands, read_only, slot_map, strategy, order, nodes) {
+        Ok(plan) => plan,
+        Err(error) => return Err(error),
+    };
+    let (tasks, mut batches, targets) = plan.into_placed();
+    if let Err(stop) = send_batches(alloc, &mut batches, order, nodes) {
+        return Err(PipelineError::Node(stop));
+    }
+    let Ok(slots) = all_slots(alloc, tasks.as_slice()) else {
+        return Err(PipelineError::Memory);
+    };
+    let (parts, mut answers) = batches.into_rest();
+    let Ok(out) = first_parts(
+        alloc,
+        slots.as_slice(),
+        targets.as_slice(),
+        answers.as_slice(),
+    ) else {
+        return Err(PipelineError::Memory);
+    };
+    let (parts, slots) = (parts.as_slice(), slots.as_slice());
+    if let Err(error) = send_again(alloc, parts, slots, out, &mut answers, retries, nodes) {
+        return Err(error);
+    }
+    match replies_of(alloc, tasks.as_slice(), answers) {
+        Ok(replies) => Ok(replies),
+        Err(_) => Err(PipelineError::Memory),
+    }
+}
+
+/// Sends rounds of the parts that go out, no more than so many.
+fn send_again<N: BatchNodes>(
+    alloc: Global,
+    parts: &[PartCommand<'_>],
+    slots: &[u16],
+    out: Outgoing,
+    answers: &mut Vec<Result<Value, RedisError>>,
+    retries: usize,
+    nodes: &mut N,
+) -> Result<(), PipelineError>
+    requires parts { (ps : List Planned)
+        × ArePartsOf (N.registered nodes.old) ps (map sent_args parts.now) slots.now
+        × (round : Round) × GoesBehind ps round out }
+    requires room { length answers.old.items ≡ length parts.now }
+    ensures again { OnOk result ((ps : List Planned) (round : Round)
+        → ArePartsOf (N.registered nodes.old) ps (map sent_args parts.now) slots.now
+        → GoesBehind ps round out
+        → AreSentAgain N.step N.serve (N.kept nodes.new) (N.may_refuse nodes.old)
+        (N.registered nodes.old) (map sent_args parts.now) ps round retries
+        (N.state nodes.old) (N.state nodes.new) (N.asked nodes.old) (N.asked nodes.new)
+        answers.old.items answers.new.items) }
+    ensures fault { IfErr result (λ error. (ps : List Planned) (round : Round)
+        → ArePartsOf (N.registered nodes.old) ps (map sent_args parts.now) slots.now
+        → GoesBehind ps round out
+        → IsAgainFault N.step N.serve (N.kept nodes.new) (N.may_refuse nodes.old)
+        (N.registered nodes.old) (map sent_args parts.now) ps round retries
+        (N.state nodes.old) (N.state nodes.new) error) }
+    ensures room { OnOk result (length answers.new.items ≡ length answers.old.items) }
+    ensures kept { N.kept nodes.new → N.kept nodes.old }
+    ensures may_refuse { (count : ℕ) (ending : Ending) → N.may_refuse nodes.new count ending
+        ↔ N.may_refuse nodes.old count ending }
+    ensures registered { N.registered nodes.new ≡ N.registered nodes.old }
+{
+    let mut out = out;
+    for _ in 0..retries {
+        if out.numbers.is_empty() {
+            return Ok(());
+        }
+        match send_round(alloc, parts, slots, &out, answers, nodes) {
+            Ok(next) => out = next,
+            Err(error) => return Err(error),
+        }
+    }
+    Ok(())
+}
+
+/// The parts that go out again after all parts were answered.
+fn first_parts(
+    alloc: Global,
+    slots: &[u16],
+    targets: &[&NodeAddress],
+    given: &[Result<Value, RedisError>],
+) -> Result<Outgoing, AllocError>
+    requires targets { length targets.now ≡ length slots.now }
+    requires given { length given.now ≡ length slots.now }
+    ensures { IfOk result (λ out. IsNext slots.now (range_with_len 0 (length slots.now))
+        (map (λ node. node.now) targets.now) (map answer_of given.now) out) }
+{
+    let numbers = first_numbers(alloc, slots.len())?;
+    next_parts(alloc, slots, numbers.as_slice(), targets, given)
+}
+
+/// The slot of each part of some commands.
+fn all_slots(alloc: Global, tasks: &[CommandTask<'_>]) -> Result<Vec<u16>, AllocError>
+    ensures { IfOk result (λ slots. slots.items ≡ flat_map slots_kept tasks.now) }
+{
+    let mut slots = Vec::with_capacity(alloc, tasks.len())?;
+    for task in tasks {
+        push_slots(&mut slots, task)?;
+    }
+    Ok(slots)
+}
+
+/// Adds the slots of a command.
+fn push_slots(slots: &mut Vec<u16>, task: &CommandTask<'_>) -> Result<(), AllocError>
+    ensures { OnOk result (slots.new.items ≡ slots.old.items ++ slots_kept task.now) }
+{
+    match task {
+        CommandTask::InSlot(slot, _) => {
+            slots.push(*slot)?;
+            Ok(())
+        }
+        CommandTask::OverKeys(split) => push_routes(slots, split.routes()),
+    }
+}
+
+/// Adds the slots of routes.
+fn push_routes(slots: &mut Vec<u16>, routes: &[(Route, Vec<usize>)]) -> Result<(), AllocError>
+    ensures { OnOk result (slots.new.items ≡ slots.old.items ++ slots_of (route_lists routes.now)) }
+{
+    for (route, _) in routes {
+        slots.push(route.slot())?;
+    }
+    Ok(())
+}
