@@ -67,9 +67,10 @@ pub enum PipelineError {
     Plan(PipelineFault),
     /// The order does not name each batch once. Nothing was sent.
     BadOrder,
-    /// A batch was not taken. Those before it in the order were, and no later one was sent.
+    /// A batch was not taken. Those before it were, in the order or in its round, and no later one
+    /// was sent.
     Node(Stopped),
-    /// Memory ran out once all batches were taken: the replies are lost.
+    /// Memory ran out once all batches of the order, or of a round, were taken: the replies are lost.
     Memory,
 }
 

@@ -39,13 +39,15 @@ use std::alloc::{AllocError, Global};
 /// ```
 ///
 /// A part goes out again only where each later part of its slot was sent on, too. Else its error is
-/// its answer: after `SET a 1`, sent on, and `GET a`, answered, `SET a 1` would come too late. The
-/// parts of a slot go where the last of them was sent on to, so that they stay in their order. No
-/// part goes out more than `retries + 1` times; with 0 retries this is `drive_pipeline`.
+/// its answer: after `SET a 1`, sent on, and `GET a`, answered, `SET a 1` would come too late. An
+/// error that sends nothing on may be a command's own, which took effect, so it counts as an answer.
+/// The parts of a slot go where the last of them was sent on to, so that they stay in their order.
+/// There are at most `retries` rounds behind the first; with 0 retries no part goes out again.
 ///
 /// Where nodes keep to one meaning, keyspace and replies are those of one server that takes the parts
 /// that were not refused at last, in the order of the pipeline. This has one more premise: no command
-/// answers an error of its own that reads as one of those three, as a script can.
+/// that the nodes serve, of this pipeline or not, answers an error of its own that reads as one of
+/// those three. A server with scripts has such commands.
 ///
 /// An `ASK` is followed as a `MOVED` is. That `ASKING` goes before each such command is the
 /// connection's matter, as is what a `MOVED` changes in the map.
@@ -53,8 +55,8 @@ use std::alloc::{AllocError, Global};
 /// # Errors
 ///
 /// As `drive_pipeline` has them. `Node` where a batch of some round was not taken: how many of that
-/// round were before it. `Memory` where memory ran out between two rounds or at the end: what was
-/// sent was taken, and the replies are lost.
+/// round were before it. `Memory` where memory ran out between two rounds or at the end: the replies
+/// are lost.
 pub fn drive_pipeline_retrying<N: BatchNodes>(
     alloc: Global,
     commands: &[Cmd],
