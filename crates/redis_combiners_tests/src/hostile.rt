@@ -1,6 +1,7 @@
 //! Replies as only hostile or broken servers write them.
-use crate::given::bulk;
+use crate::given::{bulk, numbers};
 use cluster_map::{Route, SlotAddr};
+use fixtures::nested;
 use redis_cluster::routing::{
     AggregateOp, LogicalAggregateOp, MultiSlotArgPattern, aggregate,
     combine_and_sort_array_results, combine_array_results, combine_map_results, logical_aggregate,
@@ -18,15 +19,6 @@ fn one(alloc: Global, item: Value) -> Result<Value, AllocError> {
     Ok(Value::Array(vec![in alloc; item]?))
 }
 
-/// Arrays in arrays, a million levels deep.
-fn deep(alloc: Global) -> Result<Value, AllocError> {
-    let mut value = Value::Nil;
-    for _ in 0..DEPTH {
-        value = one(alloc, value)?;
-    }
-    Ok(value)
-}
-
 /// Maps in maps, a million levels deep.
 fn deep_map(alloc: Global) -> Result<Value, AllocError> {
     let mut value = Value::Nil;
@@ -41,13 +33,10 @@ fn two(alloc: Global, first: Value, second: Value) -> Result<Value, AllocError> 
     Ok(Value::Array(vec![in alloc; first, second]?))
 }
 
-/// An array of one number, so many times.
-fn numbers(alloc: Global, number: i64, times: usize) -> Result<Value, AllocError> {
-    let mut items = Vec::new(alloc);
-    for _ in 0..times {
-        items.push(Value::Int(number))?;
-    }
-    Ok(Value::Array(items))
+/// An array of many ones.
+fn long(alloc: Global) -> Result<Value, AllocError> {
+    let ones = vec![in alloc; 1; MANY]?;
+    Ok(Value::Array(numbers(alloc, &ones)?))
 }
 
 /// An array of so many keys, each with a 1.
@@ -84,7 +73,7 @@ fn reply(alloc: Global, kind: &str) -> Result<(Value, usize), AllocError> {
         "least" => (Value::Int(i64::MIN), 1),
         "bit" => (one(alloc, Value::Int(1))?, MANY),
         "number" => (one(alloc, Value::Int(i64::MIN))?, 1),
-        "long" => (numbers(alloc, 1, MANY)?, 2),
+        "long" => (long(alloc)?, 2),
         "keys" => (keys(alloc, MANY)?, 2),
         "bytes" => (one(alloc, Value::BulkString(b"\xff".to_vec(alloc)?))?, 1),
         "pair" => (pairs(alloc, 1, 1)?, MANY),
@@ -98,10 +87,10 @@ fn reply(alloc: Global, kind: &str) -> Result<(Value, usize), AllocError> {
 fn deep_reply(alloc: Global, kind: &str) -> Result<Value, AllocError> {
     Ok(match kind {
         "deep map" => deep_map(alloc)?,
-        "deep key" => two(alloc, deep(alloc)?, Value::Int(1))?,
+        "deep key" => two(alloc, nested(alloc, DEPTH)?, Value::Int(1))?,
         "deep number" => two(alloc, bulk(alloc, "k")?, deep_map(alloc)?)?,
-        "deep bit" => two(alloc, Value::Int(1), deep(alloc)?)?,
-        _ => deep(alloc)?,
+        "deep bit" => two(alloc, Value::Int(1), nested(alloc, DEPTH)?)?,
+        _ => nested(alloc, DEPTH)?,
     })
 }
 
