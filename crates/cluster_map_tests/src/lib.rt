@@ -4,8 +4,6 @@
 #[cfg(test)]
 mod one_hash;
 #[cfg(test)]
-mod read_routing;
-#[cfg(test)]
 mod strategies;
 #[cfg(test)]
 mod topology;
