@@ -5,8 +5,6 @@ pub mod batched_pipelines;
 pub mod batcher;
 pub mod bytes;
 pub mod client;
-#[cfg(test)]
-mod client_tests;
 pub mod commands;
 pub mod deleting;
 pub mod node_of_key;
@@ -19,6 +17,4 @@ pub mod routing;
 pub mod sending;
 pub mod shared_strategy;
 pub mod splitting_bytes;
-#[cfg(test)]
-mod tests;
 pub mod threads;

@@ -1,11 +1,11 @@
-use crate::client::{ClientFault, Connections, client_over, write_and_read};
-use crate::node_of_key::two_nodes;
 use redis_cluster::driver::DriveFault;
 use redis_cluster::routing::Registry;
 use resp_core::Value;
 use std::alloc::{AllocError, Global};
 use std::marker::Brand;
 use std::test::Fail;
+use uses::client::{ClientFault, Connections, client_over, write_and_read};
+use uses::node_of_key::two_nodes;
 use wire_nodes::Meaning;
 
 impl Meaning for Any {

@@ -1,16 +1,16 @@
-use crate::batcher::{Answer, Connections, NoReply, batch};
-use crate::commands::{count_in, set};
-use crate::node_of_key::{primary_of, two_nodes};
-use crate::pipelines::set_and_get;
-use crate::replies::deleted;
-use crate::routing::where_to_read;
-use crate::shared_strategy::{FirstReplica, node_by};
 use cluster_map::{NodeAddress, ReadRoutingStrategy, Route, SlotAddr, SlotMap, SlotRange};
 use redis_cluster::routing::{MultipleNodeRoutingInfo, ResponsePolicy, RoutingInfo};
 use resp_core::{Cmd, ErrorKind, RedisError, Value};
 use std::alloc::{AllocError, Global};
 use std::mem;
 use std::test::Fail;
+use uses::batcher::{Answer, Connections, NoReply, batch};
+use uses::commands::{count_in, set};
+use uses::node_of_key::{primary_of, two_nodes};
+use uses::pipelines::set_and_get;
+use uses::replies::deleted;
+use uses::routing::where_to_read;
+use uses::shared_strategy::{FirstReplica, node_by};
 
 #[test]
 fn keys_go_to_their_nodes(rt: HostRuntime) -> Result<(), Fail> {

@@ -1,0 +1,7 @@
+//! Tests of the examples that users of the layer read.
+#![tactic(auto)]
+
+#[cfg(test)]
+mod client;
+#[cfg(test)]
+mod examples;
