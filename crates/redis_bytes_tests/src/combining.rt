@@ -1,7 +1,6 @@
 use crate::inputs::{combine, request};
 use redis_bytes::BytesFault;
 use resp::Fault;
-use resp_core::ErrorKind;
 use std::alloc::{AllocError, Global};
 use std::test::Fail;
 
@@ -29,62 +28,6 @@ fn the_reply_of_the_unsplit_command(rt: HostRuntime) -> Result<(), Fail> {
             "MGET foo bar {foo}2",
             b"*2\r\n$1\r\na\r\n$-1\r\n*1\r\n$1\r\nb\r\n",
             b"*3\r\n$1\r\na\r\n$1\r\nb\r\n$-1\r\n"
-        )
-    );
-    Ok(())
-}
-
-#[test]
-fn an_error_is_never_combined(rt: HostRuntime) -> Result<(), Fail> {
-    let alloc = rt.alloc();
-    let fault = combined(alloc, "MSET foo 1 bar 2", b"+OK\r\n-ERR no\r\n");
-    match fault {
-        Err(BytesFault::Error(number, text)) => {
-            assert_eq!(rt; number, 1);
-            assert_eq!(rt; text.as_slice(), b"ERR no".as_slice());
-        }
-        _ => panic!(rt; "the error is not told"),
-    }
-    assert!(rt;
-        matches!(
-            combined(alloc, "MGET foo bar", b"*1\r\n-ERR no\r\n*1\r\n$-1\r\n"),
-            Err(BytesFault::Error(0, _))
-        )
-    );
-    Ok(())
-}
-
-#[test]
-fn what_is_not_combined(rt: HostRuntime) -> Result<(), Fail> {
-    let alloc = rt.alloc();
-    assert!(rt;
-        matches!(
-            combined(alloc, "DEL foo bar", b":1\r\n"),
-            Err(BytesFault::Reply(1, Fault::Incomplete))
-        )
-    );
-    assert!(rt;
-        matches!(
-            combined(alloc, "DEL foo bar", b":1\r\n:x"),
-            Err(BytesFault::Reply(1, Fault::Malformed))
-        )
-    );
-    assert!(rt;
-        matches!(
-            combined(alloc, "DEL foo bar", b":1\r\n:1\r\n:1\r\n"),
-            Err(BytesFault::AfterReplies(8))
-        )
-    );
-    assert!(rt;
-        matches!(
-            combined(alloc, "DEL foo bar", b":1\r\n+OK\r\n"),
-            Err(BytesFault::Unfit(ErrorKind::UnexpectedReturnType))
-        )
-    );
-    assert!(rt;
-        matches!(
-            combined(alloc, "GET foo", b":1\r\n"),
-            Err(BytesFault::NotMultiKey)
         )
     );
     Ok(())

@@ -1,5 +1,5 @@
 use crate::inputs::{request, split};
-use redis_bytes::{BytesFault, Parts};
+use redis_bytes::Parts;
 use std::alloc::{AllocError, Global};
 use std::test::Fail;
 
@@ -31,18 +31,5 @@ fn each_slot_has_its_part(rt: HostRuntime) -> Result<(), Fail> {
     assert!(rt; is_part(alloc, &parts, 0, "del foo")?);
     assert!(rt; is_part(alloc, &parts, 1, "del bar {bar}vaz")?);
     assert!(rt; is_part(alloc, &parts, 2, "del baz")?);
-    Ok(())
-}
-
-#[test]
-fn what_is_not_split(rt: HostRuntime) -> Result<(), Fail> {
-    let alloc = rt.alloc();
-    for text in ["GET foo", "DEL", "MSET a 1 b"] {
-        let bytes = request(alloc, text)?;
-        assert!(rt; matches!(split(alloc, &bytes), Err(BytesFault::NotMultiKey)));
-    }
-    let mut two = request(alloc, "DEL foo")?;
-    two.extend_from_slice(b"\r\n")?;
-    assert!(rt; matches!(split(alloc, &two), Err(BytesFault::AfterRequest(22))));
     Ok(())
 }
