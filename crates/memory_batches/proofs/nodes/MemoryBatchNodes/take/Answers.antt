@@ -3,7 +3,7 @@ use Rattle.redis_cluster.specs.State.{state}
 use Rattle.redis_batches.specs.Taken.{answer_of}
 use Rattle.memory_nodes.specs.Nodes as held
 use Rattle.memory_nodes.specs.Steps.{step}
-use Rattle.memory_batches.specs.Nodes.{registered_in, keyspace_in, trace_in, mark_in, state_in, entry_of, refusal_in, MayRefuse}
+use Rattle.memory_batches.specs.Nodes.{registered_in, trace_in, mark_in, state_in, entry_of, refusal_in, MayRefuse}
 use Rattle.memory_batches.specs.Strings.{serve}
 use Rattle.memory_batches.proofs.Batches.{taken_one}
 use Rattle.memory_batches.proofs.Traces.{as_planned, noted}

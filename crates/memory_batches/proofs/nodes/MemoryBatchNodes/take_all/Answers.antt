@@ -6,7 +6,7 @@ use Rattle.resp_core.specs.declared.cmd.Cmd.{Cmd}
 use Rattle.redis_batches.proofs.ByNode.{at_take}
 use Rattle.redis_batches.specs.Taken.{answer_of, IsTaken}
 use Rattle.memory_nodes.specs.Steps.{step}
-use Rattle.memory_batches.specs.Nodes.{registered_in, keyspace_in, trace_in, mark_in, state_in, MayRefuse}
+use Rattle.memory_batches.specs.Nodes.{registered_in, trace_in, state_in, MayRefuse}
 use Rattle.memory_batches.specs.Strings.{serve}
 use Rattle.memory_batches.proofs.Batches.{taken_none, taken_next}
 use Rattle.memory_batches.proofs.Traces.{begun_by, on_err_always, planned_next, planned_none, same_plan}

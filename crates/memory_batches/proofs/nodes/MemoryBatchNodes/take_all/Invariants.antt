@@ -1,7 +1,7 @@
 use Rattle.std.proofs.Common.{◌≡◌, length, map, take}
 use Rattle.redis_batches.specs.Taken.{answer_of, IsTaken}
 use Rattle.memory_nodes.specs.Steps.{step}
-use Rattle.memory_batches.specs.Nodes.{registered_in, keyspace_in, trace_in, mark_in, state_in, AreAsPlanned, MayRefuse}
+use Rattle.memory_batches.specs.Nodes.{registered_in, state_in, AreAsPlanned, MayRefuse}
 use Rattle.memory_batches.specs.Strings.{serve}
 use Rattle.memory_batches.proofs.nodes.MemoryBatchNodes.take_all.Given as goal
 
