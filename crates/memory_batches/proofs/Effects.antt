@@ -13,9 +13,9 @@ use Rattle.redis_routing.specs.Command.{command_name}
 use Rattle.redis_cluster.specs.Unsplit.{Keyspace, put}
 use Rattle.redis_batches.specs.Served.{in_shelf, shelf, with_shelf}
 use Rattle.memory_nodes.specs.Cells.{Cell, value_at}
-use Rattle.memory_nodes.specs.Steps.{alone}
+use Rattle.memory_nodes.specs.Steps.{alone, written}
 use Rattle.memory_batches.specs.Meaning.{IsDone}
-use Rattle.memory_batches.specs.Strings.{arguments_of, by_verb, counted, cross_slot, fails, incr, length_of, number_at, one_more, own_error, rename, rename_in_slot, renamed, serve, string_at, verb_in, with_string}
+use Rattle.memory_batches.specs.Strings.{arguments_of, by_verb, counted, cross_slot, fails, length_at, length_of, list_length, lpush, number_at, one_more, own_error, pushed, raised, rename, rename_in_slot, renamed, serve, string_at, verb_in, with_length, with_string}
 use Rattle.memory_batches.specs.declared.verb.Verb.{Verb}
 use Rattle.memory_batches.proofs.Shelves.{put_elsewhere, put_here, put_more, shelf_back}
 use Rattle.memory_batches.proofs.Verbs.{wrong_number}
@@ -32,6 +32,28 @@ module _ (slot : ℕ) (ks : Keyspace Cell) where
       let other : nat_eq (key_slot key) slot ≡ false = grind (arith, nat_tests) in
       sym (put_elsewhere slot ks key (Some (alone string)) other)
 
+  -- a length at a key of the slot, and at one of another slot
+  pub length_here : (number : ℕ) (key text : List ℕ) → number ≡ key_slot key → number ≡ slot → with_length key text ks ≡ with_shelf slot (with_length key text (shelf slot ks)) ks
+  length_here number key text is same =
+      let own : nat_eq (key_slot key) slot ≡ true = grind (arith, nat_tests) in
+      sym (put_here slot ks key (Some (written (codes "length") text (shelf slot ks key))) own
+      ∙ ap (λ b. put key (Some (written (codes "length") text (cond b (ks key) None))) ks) own)
+
+  pub length_elsewhere : (number : ℕ) (key text : List ℕ) → number ≡ key_slot key → (number ≡ slot → ⊥) → ks ≡ with_shelf slot (with_length key text (shelf slot ks)) ks
+  length_elsewhere number key text is differs =
+      let other : nat_eq (key_slot key) slot ≡ false = grind (arith, nat_tests) in
+      sym (put_elsewhere slot ks key (Some (written (codes "length") text (shelf slot ks key))) other)
+
+  -- a list that is one longer
+  pub pushed_done : (key text : List ℕ) (n m : ℤ) (new : Keyspace Cell) → one_more (list_length (string_at (shelf slot ks) key) (length_at (shelf slot ks) key)) ≡ Some n → text ≡ signed_decimal n → m ≡ n
+      → new ≡ with_shelf slot (with_length key text (shelf slot ks)) ks → IsDone (in_shelf slot (lpush key)) ks new (Ok (value.Int m))
+  pushed_done key text n m new is text_is same grew =
+      let effect = ap (λ o. pushed key o (shelf slot ks)) is in
+      record {
+        keyspace = grew ∙ ap (λ t. with_shelf slot (with_length key t (shelf slot ks)) ks) text_is ∙ sym (ap (λ s. with_shelf slot s.keys ks) effect);
+        reply = ap Ok (view-Int m ∙ ap int same) ∙ sym (ap (λ s. s.reply) effect);
+      }
+
   -- a command that answers an error alone
   pub fails_done : (text : List ℕ) (error : ErrorParts) → error ≡ own_error text → IsDone (in_shelf slot (fails text)) ks ks (Err error)
   fails_done text error is = record { keyspace = sym (shelf_back slot ks); reply = ap Err is }
@@ -46,7 +68,7 @@ module _ (slot : ℕ) (ks : Keyspace Cell) where
 
   -- a number that is one more
   pub incr_done : (key text : List ℕ) (n m : ℤ) (new : Keyspace Cell) → one_more (number_at (string_at (shelf slot ks) key)) ≡ Some n → text ≡ signed_decimal n → m ≡ n
-      → new ≡ with_shelf slot (with_string key text (shelf slot ks)) ks → IsDone (in_shelf slot (incr key)) ks new (Ok (value.Int m))
+      → new ≡ with_shelf slot (with_string key text (shelf slot ks)) ks → IsDone (in_shelf slot (raised key)) ks new (Ok (value.Int m))
   incr_done key text n m new is text_is same written =
       let effect = ap (λ o. counted key o (shelf slot ks)) is in
       record {
@@ -56,7 +78,7 @@ module _ (slot : ℕ) (ks : Keyspace Cell) where
 
   -- no number, or one at the end of 64 bits
   pub incr_fails : (key : List ℕ) (error : ErrorParts) → one_more (number_at (string_at (shelf slot ks) key)) ≡ None → error ≡ own_error (codes "ERR value is not an integer or out of range")
-      → IsDone (in_shelf slot (incr key)) ks ks (Err error)
+      → IsDone (in_shelf slot (raised key)) ks ks (Err error)
   incr_fails key error is error_is =
       let effect = ap (λ o. counted key o (shelf slot ks)) is in
       record { keyspace = sym (ap (λ s. with_shelf slot s.keys ks) effect ∙ shelf_back slot ks); reply = ap Err error_is ∙ sym (ap (λ s. s.reply) effect) }

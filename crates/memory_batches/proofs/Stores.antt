@@ -21,6 +21,17 @@ pub mset_is : (registered : Registrations) (key string : List ℕ) → multi_key
 unfolding base_routing takes_second policy_of
 mset_is registered key string = refl
 
+-- JSON.MSET of the length of one key
+abbrev pub length_args : List ℕ → List ℕ → List (List ℕ)
+length_args key length = codes "JSON.MSET" ∷ key ∷ codes "length" ∷ length ∷ []
+
+abbrev pub json_mset : List ℕ → List ℕ → MultiKey
+json_mset key length = record { name = codes "JSON.MSET"; registered = None; shared = None; tuples = (record { key = key; extras = codes "length" ∷ length ∷ [] }) ∷ []; form = okay }
+
+pub json_mset_is : (registered : Registrations) (key length : List ℕ) → multi_key registered (map Some (length_args key length)) ≡ Some (json_mset key length)
+unfolding base_routing takes_second policy_of
+json_mset_is registered key length = refl
+
 -- DEL of one key
 abbrev pub del_args : List ℕ → List (List ℕ)
 del_args key = codes "DEL" ∷ key ∷ []

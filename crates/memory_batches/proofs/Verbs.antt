@@ -3,7 +3,7 @@ use Rattle.std.proofs.Common.{◌≡◌, List, [], ◌∷◌, ℕ, zero, suc, le
 use Rattle.std.specs.Prelude.{slice_get, slice_index_or}
 use Rattle.memory_batches.specs.Strings.{arguments_of, by_verb, length_of, unknown_command}
 use Rattle.memory_batches.specs.declared.verb.Verb.{Verb}
-use Rattle.memory_batches.specs.declared.verb.Verb.TheVariants.{Get, Set, Incr, Rename}
+use Rattle.memory_batches.specs.declared.verb.Verb.TheVariants.{Get, Set, Incr, Rename, Lpush}
 
 -- a name that is not known
 pub none_known : (arguments : List (List ℕ)) → by_verb None arguments ≡ unknown_command
@@ -32,6 +32,11 @@ wrong_number Set (n ∷ []) differs = refl
 wrong_number Set (n ∷ a ∷ []) differs = refl
 wrong_number Set (n ∷ a ∷ b ∷ []) differs = absurd (differs refl)
 wrong_number Set (n ∷ a ∷ b ∷ c ∷ rest) differs = refl
+wrong_number Lpush [] differs = refl
+wrong_number Lpush (n ∷ []) differs = refl
+wrong_number Lpush (n ∷ a ∷ []) differs = refl
+wrong_number Lpush (n ∷ a ∷ b ∷ []) differs = absurd (differs refl)
+wrong_number Lpush (n ∷ a ∷ b ∷ c ∷ rest) differs = refl
 
 pub one_argument : (args : List (List ℕ)) → length args ≡ 2 → arguments_of args ≡ slice_index_or args 1 [] ∷ []
 one_argument [] long = absurd (omega arith)

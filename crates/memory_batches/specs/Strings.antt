@@ -1,5 +1,5 @@
--- What commands over the keys of one slot do to strings, each as Redis documents it.
-use Rattle.std.specs.Prelude.{ℕ, ◌^◌, ℤ, pos, negsuc, ◌+ℤ◌, List, [], ◌∷◌, Bool, cond, Option, None, Some, Ok, Err, map, codes, nat_eq, nat_lt, option_and_then}
+-- What commands over the keys of one slot do to strings and lists, each as Redis documents it.
+use Rattle.std.specs.Prelude.{ℕ, ◌^◌, ℤ, pos, negsuc, ◌+ℤ◌, List, [], ◌∷◌, Bool, cond, Option, None, Some, Ok, Err, map, codes, nat_eq, nat_lt, is_some, false, option_and_then}
 use Rattle.std.specs.Fmt.{signed_decimal}
 use Rattle.std.specs.Str.{bytes_eq}
 use Rattle.std.specs.Str.Parse.{signed_digits_value}
@@ -13,9 +13,9 @@ use Rattle.redis_cluster.specs.Unsplit.{Keyspace, put}
 use Rattle.redis_batches.specs.Served.{Effect}
 use Rattle.redis_batches.specs.Pipeline.{Answer, Serve}
 use Rattle.memory_nodes.specs.Cells.{Cell, value_at}
-use Rattle.memory_nodes.specs.Steps.{alone, shown}
+use Rattle.memory_nodes.specs.Steps.{alone, shown, written}
 use Rattle.memory_batches.specs.declared.verb.Verb.{Verb}
-use Rattle.memory_batches.specs.declared.verb.Verb.TheVariants.{Get, Set, Incr, Rename}
+use Rattle.memory_batches.specs.declared.verb.Verb.TheVariants.{Get, Set, Incr, Rename, Lpush}
 
 -- the string at a key: its value at the empty path
 abbrev pub string_at : Keyspace Cell → List ℕ → Option (List ℕ)
@@ -33,9 +33,36 @@ own_error text = record { kind = Client; desc = text; detail = None }
 abbrev pub fails : List ℕ → Effect Cell Answer
 fails text = λ keyspace. record { keys = keyspace; reply = Err (own_error text) }
 
+-- the value at the path `length` of a key: the length of its list, in decimal digits
+abbrev pub length_at : Keyspace Cell → List ℕ → Option (List ℕ)
+length_at keyspace key = value_at (keyspace key) (codes "length")
+
+-- the keyspace where a key has this length, and at other paths what it had
+abbrev pub with_length : List ℕ → List ℕ → Keyspace Cell → Keyspace Cell
+with_length key length keyspace =
+    put key (Some (written (codes "length") length (keyspace key))) keyspace
+
+-- A key holds a list where it has a length and no string. Of a list its length alone is kept.
+abbrev pub is_list : (string length : Option (List ℕ)) → Bool
+is_list (Some string) length = false
+is_list None length = is_some length
+
+abbrev pub holds_list : Keyspace Cell → List ℕ → Bool
+holds_list keyspace key = is_list (string_at keyspace key) (length_at keyspace key)
+
+abbrev pub wrong_type : Effect Cell Answer
+wrong_type = fails (codes "WRONGTYPE Operation against a key holding the wrong kind of value")
+
+-- what a command over the string of a key does, which at a list is an error
+abbrev pub unless_list : List ℕ → Effect Cell Answer → Effect Cell Answer
+unless_list key effect = λ keyspace. cond (holds_list keyspace key) wrong_type effect keyspace
+
 -- GET key: the string, or nil where the key is absent
+abbrev pub got : List ℕ → Effect Cell Answer
+got key = λ keyspace. record { keys = keyspace; reply = Ok (shown (string_at keyspace key)) }
+
 abbrev pub get : List ℕ → Effect Cell Answer
-get key = λ keyspace. record { keys = keyspace; reply = Ok (shown (string_at keyspace key)) }
+get key = unless_list key (got key)
 
 -- SET key value: the key holds the value, whatever it held
 abbrev pub set : List ℕ → List ℕ → Effect Cell Answer
@@ -72,10 +99,31 @@ counted key (Some n) = λ keyspace. record {
   reply = Ok (int n);
 }
 
-abbrev pub incr : List ℕ → Effect Cell Answer
-incr key = λ keyspace. counted key (one_more (number_at (string_at keyspace key))) keyspace
+abbrev pub raised : List ℕ → Effect Cell Answer
+raised key = λ keyspace. counted key (one_more (number_at (string_at keyspace key))) keyspace
 
--- RENAME key new: the new key holds the string of the key, which is gone, whatever the new key held
+abbrev pub incr : List ℕ → Effect Cell Answer
+incr key = unless_list key (raised key)
+
+-- how long the list at a key is, which is 0 where the key is absent; no number at a string
+abbrev pub list_length : (string length : Option (List ℕ)) → Option ℤ
+list_length (Some string) length = None
+list_length None length = number_at length
+
+-- LPUSH key element: the list at the key is one longer, and the answer is its length now
+abbrev pub pushed : List ℕ → Option ℤ → Effect Cell Answer
+pushed key None = wrong_type
+pushed key (Some n) = λ keyspace. record {
+  keys = with_length key (signed_decimal n) keyspace;
+  reply = Ok (int n);
+}
+
+abbrev pub lpush : List ℕ → Effect Cell Answer
+lpush key = λ keyspace.
+    pushed key (one_more (list_length (string_at keyspace key) (length_at keyspace key))) keyspace
+
+-- RENAME key new: the new key holds the string of the key, which is gone, whatever the new key held.
+-- Here it knows strings alone: unlike Redis, it answers at a list that there is no such key.
 abbrev pub renamed : List ℕ → List ℕ → Option (List ℕ) → Effect Cell Answer
 renamed key new None = fails (codes "ERR no such key")
 renamed key new (Some string) = λ keyspace. record {
@@ -99,7 +147,8 @@ unknown_command = fails (codes "ERR unknown command")
 -- the commands that are known, by their names
 abbrev pub verbs : List (List ℕ × Verb)
 verbs =
-    (codes "GET", Get) ∷ (codes "SET", Set) ∷ (codes "INCR", Incr) ∷ (codes "RENAME", Rename) ∷ []
+    (codes "GET", Get) ∷ (codes "SET", Set) ∷ (codes "INCR", Incr) ∷ (codes "RENAME", Rename) ∷
+    (codes "LPUSH", Lpush) ∷ []
 
 abbrev pub verb_of : List ℕ → Option Verb
 verb_of name = lookup verbs name
@@ -114,6 +163,7 @@ length_of Get = 2
 length_of Set = 3
 length_of Incr = 2
 length_of Rename = 3
+length_of Lpush = 3
 
 -- what a command does by its arguments after the name, which must be as many as it takes
 abbrev pub by_verb : Option Verb → List (List ℕ) → Effect Cell Answer
@@ -121,6 +171,7 @@ by_verb (Some Get) (key ∷ []) = get key
 by_verb (Some Set) (key ∷ value ∷ []) = set key value
 by_verb (Some Incr) (key ∷ []) = incr key
 by_verb (Some Rename) (key ∷ new ∷ []) = rename_in_slot key new
+by_verb (Some Lpush) (key ∷ element ∷ []) = lpush key
 by_verb verb arguments = unknown_command
 
 abbrev pub arguments_of : List (List ℕ) → List (List ℕ)

@@ -21,10 +21,11 @@ use std::alloc::{AllocError, Global};
 /// refuse those commands that were planned to be refused.
 ///
 /// They know the commands over many keys, as `MemoryNodes` does, and `GET key`, `SET key value`,
-/// `INCR key` and `RENAME key new`, which answer what Redis answers. To these four a key is its
-/// string, the value at the empty path, which `MSET` writes too; a key with no such value is absent.
-/// What they write takes the place of all values of the key. Any other command is answered with the
-/// error `ERR unknown command`.
+/// `INCR key`, `LPUSH key element` and `RENAME key new`, which answer what Redis answers, but for
+/// `RENAME` of a list, which answers that there is no such key. To these a key is its string, the
+/// value at the empty path, which `MSET` writes too, or its list, of which the length alone is kept,
+/// at the path `length`; a key with neither is absent. A string that they write takes the place of all
+/// values of the key. Any other command is answered with the error `ERR unknown command`.
 #[derive(Drop)]
 pub struct MemoryBatchNodes {
     alloc: Global,

@@ -2,7 +2,7 @@ ghost use Rattle.std.specs.Prelude.{◌≡◌, None, OnOk, option_copied};
 ghost use Rattle.redis_cluster.specs.Unsplit.{put};
 ghost use Rattle.memory_nodes.specs.Nodes.{keyspace_in, registered_in};
 ghost use Rattle.redis_batches.specs.Served.{shelf, with_shelf};
-ghost use Rattle.memory_batches.specs.Strings.{string_at, with_string};
+ghost use Rattle.memory_batches.specs.Strings.{string_at, with_string, length_at, with_length, holds_list};
 
 use cluster_slots::{NodeAddress, Slot};
 use memory_nodes::MemoryNodes;
@@ -18,6 +18,26 @@ pub(super) fn string_in<'a>(store: &'a MemoryNodes, slot: u16, key: &[u8]) -> Op
         return None;
     }
     store.get(key, b"")
+}
+
+/// The length of the list at a key, in decimal digits, where the keys of a slot alone are seen.
+pub(super) fn length_in<'a>(store: &'a MemoryNodes, slot: u16, key: &[u8]) -> Option<&'a [u8]>
+    ensures { option_copied result ≡ length_at (shelf slot (keyspace_in store.now)) key.now }
+{
+    if Slot::for_key(key).number() != slot {
+        return None;
+    }
+    store.get(key, b"length")
+}
+
+/// Whether a key holds a list, where the keys of a slot alone are seen.
+pub(super) fn holds_list(store: &MemoryNodes, slot: u16, key: &[u8]) -> bool
+    ensures { result ≡ holds_list (shelf slot (keyspace_in store.now)) key.now }
+{
+    match string_in(store, slot, key) {
+        Some(_) => false,
+        None => length_in(store, slot, key).is_some(),
+    }
 }
 
 /// Puts a string at a key, in the place of all that is there.
@@ -36,6 +56,29 @@ pub(super) fn write(
     command.write_arg(b"MSET")?;
     command.write_arg(key)?;
     command.write_arg(string)?;
+    match store.send(node, &command) {
+        Ok(_) => Ok(()),
+        Err(_) => Err(AllocError),
+    }
+}
+
+/// Puts the length of its list at a key, and leaves what is at other paths.
+fn write_length(
+    alloc: Global,
+    store: &mut MemoryNodes,
+    node: &NodeAddress,
+    key: &[u8],
+    length: &[u8],
+) -> Result<(), AllocError>
+    ensures keyspace { OnOk result
+        (keyspace_in store.new ≡ with_length key.now length.now (keyspace_in store.old)) }
+    ensures registered { registered_in store.new ≡ registered_in store.old }
+{
+    let mut command = Cmd::new(alloc);
+    command.write_arg(b"JSON.MSET")?;
+    command.write_arg(key)?;
+    command.write_arg(b"length")?;
+    command.write_arg(length)?;
     match store.send(node, &command) {
         Ok(_) => Ok(()),
         Err(_) => Err(AllocError),
@@ -79,4 +122,24 @@ pub(super) fn put_in(
         return Ok(());
     }
     write(alloc, store, node, key, string)
+}
+
+/// Puts the length of its list at a key, where the keys of a slot alone are seen and kept.
+pub(super) fn put_length_in(
+    alloc: Global,
+    store: &mut MemoryNodes,
+    node: &NodeAddress,
+    slot: u16,
+    key: &[u8],
+    length: &[u8],
+) -> Result<(), AllocError>
+    ensures keyspace { OnOk result (keyspace_in store.new
+        ≡ with_shelf slot (with_length key.now length.now (shelf slot (keyspace_in store.old)))
+        (keyspace_in store.old)) }
+    ensures registered { registered_in store.new ≡ registered_in store.old }
+{
+    if Slot::for_key(key).number() != slot {
+        return Ok(());
+    }
+    write_length(alloc, store, node, key, length)
 }

@@ -3,12 +3,12 @@ ghost use Rattle.resp_core.specs.View.{view};
 ghost use Rattle.memory_nodes.specs.Nodes.{keyspace_in, registered_in};
 ghost use Rattle.redis_batches.specs.Served.{in_shelf, shelf};
 ghost use Rattle.redis_batches.specs.Taken.{answer_of};
-ghost use Rattle.memory_batches.specs.Strings.{get, set, incr, rename_in_slot, serve, own_error, string_at, number_at, one_more};
+ghost use Rattle.memory_batches.specs.Strings.{get, got, set, incr, raised, lpush, rename_in_slot, serve, own_error, string_at, length_at, list_length, number_at, one_more};
 ghost use Rattle.memory_batches.specs.Meaning.{IsDone};
 ghost use Rattle.std.specs.Prelude.{codes};
 
 use crate::numbers::{decimal_of, next, number_in};
-use crate::store::{put_in, remove, string_in, write};
+use crate::store::{holds_list, length_in, put_in, put_length_in, remove, string_in, write};
 use crate::verb::Verb;
 use cluster_slots::{NodeAddress, Slot};
 use memory_nodes::MemoryNodes;
@@ -38,6 +38,7 @@ pub(super) fn serve(
         Verb::Set => set(alloc, store, node, slot, word(cmd, 1), word(cmd, 2)),
         Verb::Incr => incr(alloc, store, node, slot, word(cmd, 1)),
         Verb::Rename => rename(alloc, store, node, slot, word(cmd, 1), word(cmd, 2)),
+        Verb::Lpush => lpush(alloc, store, node, slot, word(cmd, 1)),
     }
 }
 
@@ -48,7 +49,16 @@ pub(super) fn unknown_command() -> RedisError
     RedisError::from((ErrorKind::Client, "ERR unknown command"))
 }
 
-/// Answers the string at a key.
+/// The answer to a command over strings at a list, or over lists at a string.
+fn wrong_type() -> RedisError
+    ensures { result
+        ≡ own_error (codes "WRONGTYPE Operation against a key holding the wrong kind of value") }
+{
+    let text = "WRONGTYPE Operation against a key holding the wrong kind of value";
+    RedisError::from((ErrorKind::Client, text))
+}
+
+/// Answers the string at a key, or an error at a list.
 fn get(
     alloc: Global,
     store: &MemoryNodes,
@@ -56,6 +66,23 @@ fn get(
     key: &[u8],
 ) -> Result<Result<Value, RedisError>, AllocError>
     ensures { IfOk result (λ answer. IsDone (in_shelf slot (get key.now))
+        (keyspace_in store.now) (keyspace_in store.now) answer) }
+{
+    if holds_list(store, slot, key) {
+        return Ok(Err(wrong_type()));
+    }
+    let answer = got(alloc, store, slot, key)?;
+    Ok(answer)
+}
+
+/// Answers the string at a key.
+fn got(
+    alloc: Global,
+    store: &MemoryNodes,
+    slot: u16,
+    key: &[u8],
+) -> Result<Result<Value, RedisError>, AllocError>
+    ensures { IfOk result (λ answer. IsDone (in_shelf slot (got key.now))
         (keyspace_in store.now) (keyspace_in store.now) answer) }
 {
     match string_in(store, slot, key) {
@@ -81,7 +108,7 @@ fn set(
     Ok(Ok(Value::Okay))
 }
 
-/// Adds one to the number at a key.
+/// Adds one to the number at a key, or answers an error at a list.
 fn incr(
     alloc: Global,
     store: &mut MemoryNodes,
@@ -90,6 +117,25 @@ fn incr(
     key: &[u8],
 ) -> Result<Result<Value, RedisError>, AllocError>
     ensures done { IfOk result (λ answer. IsDone (in_shelf slot (incr key.now))
+        (keyspace_in store.old) (keyspace_in store.new) answer) }
+    ensures registered { registered_in store.new ≡ registered_in store.old }
+{
+    if holds_list(store, slot, key) {
+        return Ok(Err(wrong_type()));
+    }
+    let answer = raised(alloc, store, node, slot, key)?;
+    Ok(answer)
+}
+
+/// Adds one to the number at a key.
+fn raised(
+    alloc: Global,
+    store: &mut MemoryNodes,
+    node: &NodeAddress,
+    slot: u16,
+    key: &[u8],
+) -> Result<Result<Value, RedisError>, AllocError>
+    ensures done { IfOk result (λ answer. IsDone (in_shelf slot (raised key.now))
         (keyspace_in store.old) (keyspace_in store.new) answer) }
     ensures registered { registered_in store.new ≡ registered_in store.old }
 {
@@ -117,6 +163,50 @@ fn next_number(
 {
     let number = match string_in(store, slot, key) {
         Some(string) => number_in(alloc, string)?,
+        None => Some(0),
+    };
+    let Some(number) = number else {
+        return Ok(None);
+    };
+    Ok(next(number))
+}
+
+/// Adds an element to the list at a key, of which the length alone is kept.
+fn lpush(
+    alloc: Global,
+    store: &mut MemoryNodes,
+    node: &NodeAddress,
+    slot: u16,
+    key: &[u8],
+) -> Result<Result<Value, RedisError>, AllocError>
+    ensures done { IfOk result (λ answer. IsDone (in_shelf slot (lpush key.now))
+        (keyspace_in store.old) (keyspace_in store.new) answer) }
+    ensures registered { registered_in store.new ≡ registered_in store.old }
+{
+    let Some(number) = next_length(alloc, store, slot, key)? else {
+        return Ok(Err(wrong_type()));
+    };
+    let length = decimal_of(alloc, number)?;
+    put_length_in(alloc, store, node, slot, key, length.as_bytes())?;
+    Ok(Ok(Value::Int(number)))
+}
+
+/// One more than the length of the list at a key, or than 0 where the key is absent.
+fn next_length(
+    alloc: Global,
+    store: &MemoryNodes,
+    slot: u16,
+    key: &[u8],
+) -> Result<Option<i64>, AllocError>
+    ensures { IfOk result (λ number. number ≡ one_more (list_length
+        (string_at (shelf slot (keyspace_in store.now)) key.now)
+        (length_at (shelf slot (keyspace_in store.now)) key.now))) }
+{
+    if string_in(store, slot, key).is_some() {
+        return Ok(None);
+    }
+    let number = match length_in(store, slot, key) {
+        Some(length) => number_in(alloc, length)?,
         None => Some(0),
     };
     let Some(number) = number else {

@@ -17,6 +17,8 @@ pub(super) enum Verb {
     Incr,
     /// Moves the string of a key to another key.
     Rename,
+    /// Adds an element to the list at a key.
+    Lpush,
 }
 
 impl Verb {
@@ -39,6 +41,7 @@ impl Verb {
             b"SET" => Some(Verb::Set),
             b"INCR" => Some(Verb::Incr),
             b"RENAME" => Some(Verb::Rename),
+            b"LPUSH" => Some(Verb::Lpush),
             _ => None,
         }
     }
@@ -52,6 +55,7 @@ impl Verb {
             Verb::Set => 3,
             Verb::Incr => 2,
             Verb::Rename => 3,
+            Verb::Lpush => 3,
         }
     }
 }

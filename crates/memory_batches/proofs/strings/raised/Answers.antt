@@ -3,7 +3,7 @@ use Rattle.std.proofs.lemmas.Int.{to_z-of_z}
 use Rattle.std.specs.Fmt.{signed_decimal}
 use Rattle.memory_nodes.specs.Nodes.{keyspace_in}
 use Rattle.memory_batches.proofs.Effects.{incr_done}
-use Rattle.memory_batches.proofs.strings.incr.Goals as goal
+use Rattle.memory_batches.proofs.strings.raised.Goals as goal
 
 pub returns-clause-done : goal.returns-clause-done
 returns-clause-done c =
