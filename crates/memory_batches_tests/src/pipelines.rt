@@ -80,7 +80,7 @@ fn pipelines_have_their_replies(rt: HostRuntime) -> Result<(), Fail> {
         (
             "LPUSH a x;INCR a;GET b",
             &[1, 0],
-            "ERR unknown command;1;nil;",
+            "1;WRONGTYPE Operation against a key holding the wrong kind of value;nil;",
         ),
         ("GET b;GET a;GET foo;GET bar", &[0, 1], "nil;nil;nil;nil;"),
         (

@@ -73,7 +73,8 @@ fn what_is_not_known_does_nothing(rt: HostRuntime) -> Result<(), Fail> {
         "GET a b",
         "SET a",
         "SET a 1 EX",
-        "LPUSH a x",
+        "LPUSH a",
+        "LPUSH a x y",
         "DBSIZE",
     ] {
         check(
@@ -83,4 +84,29 @@ fn what_is_not_known_does_nothing(rt: HostRuntime) -> Result<(), Fail> {
         )?;
     }
     Ok(())
+}
+
+#[test]
+fn a_list_is_counted_and_is_no_string(rt: HostRuntime) -> Result<(), Fail> {
+    let wrong = "WRONGTYPE Operation against a key holding the wrong kind of value;";
+    let batches = [
+        ("n2:2", "LPUSH a x;lpush a x;LPUSH {a}b x", "1;2;1;"),
+        ("n2:2", "GET a", wrong),
+        ("n2:2", "INCR a", wrong),
+        ("n2:2", "EXISTS a;MGET a;LPUSH a y", "1;[nil];3;"),
+        ("n2:2", "RENAME a {a}x", "ERR no such key;"),
+        ("n2:2", "SET {a}x 1;RENAME {a}x a;GET a", "OK;OK;1;"),
+        ("n2:2", "LPUSH a x", wrong),
+        ("n2:2", "GET a;DEL a;LPUSH a x;SET a 2;GET a", "1;1;1;OK;2;"),
+        (
+            "n2:2",
+            "JSON.MSET b path 1;LPUSH b x;GET b",
+            "OK;1;WRONGTYPE Operation against a key holding the wrong kind of value;",
+        ),
+        ("n2:2", "JSON.MSET c length 9223372036854775807", "OK;"),
+        ("n2:2", "LPUSH c x", wrong),
+        ("n2:2", "JSON.MSET c length x", "OK;"),
+        ("n2:2", "LPUSH c x", wrong),
+    ];
+    check(&rt, rt.alloc(), &batches)
 }
