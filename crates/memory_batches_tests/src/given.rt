@@ -3,7 +3,7 @@ use cluster_slots::NodeAddress;
 use fixtures::cmd_of_text;
 use memory_batches::MemoryBatchNodes;
 use redis_batches::BatchNodes;
-use resp_core::{Cmd, RedisError, Value};
+use resp_core::{Cmd, ErrorKind, RedisError, Value};
 use std::alloc::{AllocError, Global};
 use std::process::Abort;
 use std::str;
@@ -85,4 +85,24 @@ pub fn check(rt: &impl Abort, alloc: Global, batches: &[(&str, &str, &str)]) -> 
         assert_eq!(rt; given.as_str(), *want, "{text}");
     }
     Ok(())
+}
+
+/// Nodes that refuse the commands of these places in the trace, each with the error of its text.
+pub fn refusing(
+    alloc: Global,
+    refused: &[(usize, &'static str)],
+) -> Result<MemoryBatchNodes, AllocError> {
+    let mut plan = Vec::new(alloc);
+    for place in 0..8 {
+        let mut refusal = None;
+        for (at, text) in refused {
+            if *at == place {
+                refusal = Some(RedisError::from((ErrorKind::Client, *text)));
+            }
+        }
+        plan.push(refusal)?;
+    }
+    let mut nodes = MemoryBatchNodes::new(alloc);
+    nodes.plan(plan);
+    Ok(nodes)
 }

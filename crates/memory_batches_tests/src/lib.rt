@@ -8,4 +8,6 @@ mod pipelines;
 #[cfg(test)]
 mod planned;
 #[cfg(test)]
+mod rounds;
+#[cfg(test)]
 mod strings;

@@ -1,13 +1,12 @@
 //! Pipelines that are driven over nodes in memory.
-use crate::given::{answers_text, commands_of};
+use crate::given::{answers_text, commands_of, refusing};
 use cluster_map::{ReadRoutingStrategy, SlotMap};
 use example_strategies::FirstReplica;
 use fixtures::{Line, TWO_NODES, map_of};
 use memory_batches::MemoryBatchNodes;
 use redis_batches::drive_pipeline;
 use redis_cluster::routing::ReadOnlyNames;
-use resp_core::{ErrorKind, RedisError};
-use std::alloc::{AllocError, Global};
+use std::alloc::Global;
 use std::test::Fail;
 
 // Of the two batches that of n2 has `SET a 1`, `MGET a`, `DEL a` and `GET a`, that of n1 `SET b 2`,
@@ -172,26 +171,6 @@ fn reads_and_writes_of_a_slot_go_to_the_primary(rt: HostRuntime) -> Result<(), F
     let given = driven_with(alloc, &mut nodes, &map, strategy, "SET a 1;GET a", &[0])?;
     assert_eq!(&rt; given.as_str(), "OK;1;");
     Ok(())
-}
-
-// A plan that refuses commands of these places in the trace, each with the error of its text.
-fn refusing(
-    alloc: Global,
-    refused: &[(usize, &'static str)],
-) -> Result<MemoryBatchNodes, AllocError> {
-    let mut plan = Vec::new(alloc);
-    for place in 0..8 {
-        let mut refusal = None;
-        for (at, text) in refused {
-            if *at == place {
-                refusal = Some(RedisError::from((ErrorKind::Client, *text)));
-            }
-        }
-        plan.push(refusal)?;
-    }
-    let mut nodes = MemoryBatchNodes::new(alloc);
-    nodes.plan(plan);
-    Ok(nodes)
 }
 
 #[test]

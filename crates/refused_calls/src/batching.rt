@@ -8,16 +8,18 @@ use example_strategies::FirstReplica;
 use memory_batches::MemoryBatchNodes;
 use redis_batches::{
     BatchNodes, PipelineError, PipelineFault, PipelinePlan, Stopped, drive_pipeline,
+    drive_pipeline_retrying,
 };
 use redis_cluster::driver::SendError;
 use redis_cluster::routing::{Names, ReadOnlyNames, Registry};
-use resp_core::{Cmd, RedisError, Value};
+use resp_core::{Cmd, ErrorKind, RedisError, Value};
 use std::alloc::{AllocError, Global};
 
 /// Makes a call on pipelines in batches, by its name.
 pub fn call(page: &Page<'_>, alloc: Global, name: &str) -> Result<(), Fault> {
     match name {
         "drive_pipeline" => driven(page, alloc),
+        "drive_pipeline_retrying" => retried(page, alloc),
         "PipelinePlan::new" => plan(page, alloc),
         "PipelinePlan::batch" => batch(page, alloc),
         "PipelinePlan::tell" => tell(page, alloc),
@@ -86,6 +88,28 @@ fn driven(page: &Page<'_>, alloc: Global) -> Result<(), Fault> {
         &map,
         Some(&FirstReplica),
         &[1, 0],
+        &mut nodes,
+    ))
+}
+
+/// A pipeline of which two parts of one slot are sent on, and go out again.
+fn retried(page: &Page<'_>, alloc: Global) -> Result<(), Fault> {
+    let (commands, map) = (commands(alloc)?, map(alloc)?);
+    let mut refusals = Vec::new(alloc);
+    for text in ["MOVED 15495 n3:3", "TRYAGAIN later", "ASK 3300 n4:4"] {
+        refusals.push(Some(RedisError::from((ErrorKind::Client, text))))?;
+    }
+    let mut nodes = MemoryBatchNodes::new(alloc);
+    nodes.plan(refusals);
+    let none = ReadOnlyNames::new(alloc);
+    page.given(&drive_pipeline_retrying(
+        alloc,
+        commands.as_slice(),
+        &none,
+        &map,
+        None,
+        &[1, 0],
+        2,
         &mut nodes,
     ))
 }

@@ -1,9 +1,10 @@
 /// Each public call that may take memory. `tools/memory-calls` prints those that have to be here.
-pub static NAMES: [&str; 141] = [
+pub static NAMES: [&str; 142] = [
     "memory_batches::MemoryBatchNodes::new",
     "memory_batches::MemoryBatchNodes::with_registry",
     "memory_batches::MemoryBatchNodes::send_batch",
     "redis_batches::drive_pipeline",
+    "redis_batches::drive_pipeline_retrying",
     "redis_batches::PipelinePlan::new",
     "redis_batches::PipelinePlan::batch",
     "redis_batches::PipelinePlan::tell",
