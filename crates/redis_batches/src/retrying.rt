@@ -35,7 +35,7 @@ use std::alloc::{AllocError, Global};
 /// Each round has one batch for each node, in order of first appearance.
 ///
 /// ```
-/// drive_pipeline_retrying(alloc, commands, &names, slot_map, None, order, 5, nodes)
+/// drive_pipeline_retrying(alloc, commands, read_only, slot_map, None, order, 5, nodes)
 /// ```
 ///
 /// A part goes out again only where each later part of its slot was sent on, too. Else its error is

@@ -3,7 +3,9 @@ ghost use Rattle.std.specs.Prelude.{◌≡◌, IfErr};
 ghost use Rattle.redis_batches.specs.DrivenPipeline.{IsBeforeSending};
 
 use cluster_map::{NodeAddress, ReadRoutingStrategy, SlotMap};
-use redis_batches::{BatchNodes, PipelineError, PipelineFault, PipelinePlan, drive_pipeline};
+use redis_batches::{
+    BatchNodes, PipelineError, PipelineFault, PipelinePlan, drive_pipeline, drive_pipeline_retrying,
+};
 use redis_cluster::routing::{Names, ReadOnlyNames};
 use resp_core::{Cmd, RedisError, Value};
 use std::alloc::{AllocError, Global};
@@ -85,4 +87,18 @@ pub fn send_over<N: BatchNodes>(
     ensures untouched { IfErr result (λ error. IsBeforeSending error → nodes.new ≡ nodes.old) }
 {
     drive_pipeline(alloc, commands, read_only, slot_map, strategy, order, nodes)
+}
+
+/// The same, and what nodes send on goes out again, in five rounds at most.
+pub fn send_in_rounds<N: BatchNodes>(
+    alloc: Global,
+    commands: &[Cmd],
+    read_only: &ReadOnlyNames,
+    slot_map: &SlotMap,
+    order: &[usize],
+    nodes: &mut N,
+) -> Result<Vec<Answer>, PipelineError>
+    ensures untouched { IfErr result (λ error. IsBeforeSending error → nodes.new ≡ nodes.old) }
+{
+    drive_pipeline_retrying(alloc, commands, read_only, slot_map, None, order, 5, nodes)
 }
