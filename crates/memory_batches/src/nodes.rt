@@ -21,11 +21,14 @@ use std::alloc::{AllocError, Global};
 /// refuse those commands that were planned to be refused.
 ///
 /// They know the commands over many keys, as `MemoryNodes` does, and `GET key`, `SET key value`,
-/// `INCR key`, `LPUSH key element` and `RENAME key new`, which answer what Redis answers, but for
-/// `RENAME` of a list, which answers that there is no such key. To these a key is its string, the
-/// value at the empty path, which `MSET` writes too, or its list, of which the length alone is kept,
-/// at the path `length`; a key with neither is absent. A string that they write takes the place of all
-/// values of the key. Any other command is answered with the error `ERR unknown command`.
+/// `INCR key`, `LPUSH key element` and `RENAME key new`. These answer what Redis answers for strings
+/// and lists, but that `RENAME` of a list answers that there is no such key.
+///
+/// To these a key is its string, the value at the empty path, which `MSET` writes too. Or it is its
+/// list, of which the length alone is kept, at the path `length`. A key with neither is absent, also
+/// where it has values at other paths, at which Redis would tell of the wrong type. A string that
+/// they write takes the place of all values of the key. Any other command is answered with the error
+/// `ERR unknown command`.
 #[derive(Drop)]
 pub struct MemoryBatchNodes {
     alloc: Global,
