@@ -6,13 +6,18 @@ use redis_cluster::routing::{
 };
 use std::alloc::{AllocError, Global};
 
-/// The names that only read.
-pub fn read_only(alloc: Global) -> Result<ReadOnlyNames, AllocError> {
+/// These names, as they are put in.
+pub fn names_of(alloc: Global, texts: &[&str]) -> Result<ReadOnlyNames, AllocError> {
     let mut names = ReadOnlyNames::new(alloc);
-    for name in ["MGET", "JSON.MGET", "EXISTS"] {
+    for name in texts {
         names.insert(alloc, name.as_bytes())?;
     }
     Ok(names)
+}
+
+/// The names that only read.
+pub fn read_only(alloc: Global) -> Result<ReadOnlyNames, AllocError> {
+    names_of(alloc, &["MGET", "JSON.MGET", "EXISTS"])
 }
 
 /// Where a command goes: `none`, `any`, a slot and what is asked of its nodes, or several nodes and

@@ -1,6 +1,7 @@
 //! The names of commands.
 use fixtures::{cmd_of_text, value_of_text};
 use redis_cluster::routing::Routable;
+use resp_core::Value;
 use std::alloc::Global;
 use std::test::Fail;
 
@@ -41,5 +42,34 @@ fn names_are_in_upper_case_and_end_at_a_gap(rt: HostRuntime) -> Result<(), Fail>
     assert!(rt; has_name(rt.alloc(), &cmd, "OBJECT FREQ")?);
     let value = value_of_text(rt.alloc(), "SCRIPT #")?;
     assert!(rt; has_name(rt.alloc(), &value, "SCRIPT")?);
+    Ok(())
+}
+
+#[test]
+fn without_a_first_argument_there_is_no_name(rt: HostRuntime) -> Result<(), Fail> {
+    assert!(rt; Value::Nil.command(rt.alloc())?.is_none());
+    let value = value_of_text(rt.alloc(), "# GET")?;
+    assert!(rt; value.command(rt.alloc())?.is_none());
+    Ok(())
+}
+
+#[test]
+fn an_empty_argument_is_none_that_is_missing(rt: HostRuntime) -> Result<(), Fail> {
+    let empty: &[u8] = b"";
+    let cmd = cmd_of_text(rt.alloc(), "GET ")?;
+    assert_eq!(rt; Routable::arg_idx(&cmd, 1), Some(empty));
+    let k: &[u8] = b"k";
+    let value = value_of_text(rt.alloc(), "GET # k")?;
+    assert_eq!(rt; value.arg_idx(1), None);
+    assert_eq!(rt; value.arg_idx(2), Some(k));
+    Ok(())
+}
+
+#[test]
+fn a_word_is_found_in_any_case(rt: HostRuntime) -> Result<(), Fail> {
+    let cmd = cmd_of_text(rt.alloc(), "XREADGROUP GROUP streams c STREAMS k")?;
+    assert_eq!(rt; cmd.position(b"STREAMS"), Some(2));
+    let value = value_of_text(rt.alloc(), "GET # k")?;
+    assert_eq!(rt; value.position(b"K"), Some(2));
     Ok(())
 }

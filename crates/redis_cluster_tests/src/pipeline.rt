@@ -75,6 +75,14 @@ fn each_name_of_the_table_is_refused(rt: HostRuntime) -> Result<(), Fail> {
 }
 
 #[test]
+fn arguments_do_not_count(rt: HostRuntime) -> Result<(), Fail> {
+    let mut pipeline = pipeline_of(rt.alloc(), "CLIENT")?;
+    pipeline.write_arg(b"ID")?;
+    assert!(rt; tells(rt.alloc(), &pipeline, "CLIENT")?);
+    Ok(())
+}
+
+#[test]
 fn an_empty_pipeline_is_refused(rt: HostRuntime) -> Result<(), Fail> {
     assert_eq!(rt; UNROUTABLE_ERROR.0, ErrorKind::Client);
     let Err(error) = cluster_pipe(rt.alloc()).check(rt.alloc()) else {
@@ -105,7 +113,9 @@ fn chained(alloc: Global) -> RedisResult<ClusterPipeline> {
 fn chained_calls_change_the_last_command(rt: HostRuntime) -> Result<(), Fail> {
     let pipeline = chained(rt.alloc())?.clone()?;
     assert_eq!(rt; pipeline.commands().len(), 2);
+    assert!(rt; !pipeline.ignored(0));
     assert!(rt; pipeline.ignored(1));
+    assert!(rt; !pipeline.ignored(2));
     Ok(())
 }
 
@@ -133,9 +143,10 @@ fn repeated(
 #[test]
 fn hostile_names_pass_or_are_told(rt: HostRuntime) -> Result<(), Fail> {
     type Row = (usize, &'static [u8], usize, &'static [u8], &'static str);
-    let table: [Row; 18] = [
+    let table: [Row; 19] = [
         (1, b"", 0, b"", ""),
         (1, b"", 0, b"x", ""),
+        (1, b"", 0, b"\xff", ""),
         (1, b" ", 1, b"", ""),
         (1, b" ", 1_000_000, b"", ""),
         (1, b" ", 1_000_000, b"mget", "MGET"),
