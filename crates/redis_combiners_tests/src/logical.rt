@@ -1,6 +1,6 @@
 use crate::given::numbers;
 use redis_cluster::routing::{LogicalAggregateOp, logical_aggregate};
-use resp_core::Value;
+use resp_core::{ErrorKind, Value};
 use std::alloc::{AllocError, Global};
 use std::test::Fail;
 
@@ -21,18 +21,24 @@ fn makes(
 ) -> Result<bool, AllocError> {
     match (logical_aggregate(alloc, arrays(alloc, replies)?, op), want) {
         (Ok(answer), Some(want)) => Ok(answer == Value::Array(numbers(alloc, want)?)),
-        (answer, want) => Ok(answer.is_err() && want.is_none()),
+        (Err(error), None) => Ok(error.kind() == ErrorKind::UnexpectedReturnType),
+        _ => Ok(false),
     }
 }
 
 #[test]
 fn a_place_is_set_where_all_are_or_some_is(rt: HostRuntime) -> Result<(), Fail> {
-    let table: [(LogicalAggregateOp, &[&[i64]], Option<&[i64]>); 5] = [
+    let table: [(LogicalAggregateOp, &[&[i64]], Option<&[i64]>); 10] = [
         (LogicalAggregateOp::And, &[&[1, 0], &[1, 1]], Some(&[1, 0])),
         (LogicalAggregateOp::And, &[&[2]], None),
         (LogicalAggregateOp::And, &[&[], &[1]], None),
+        (LogicalAggregateOp::And, &[&[1], &[1, 0]], None),
+        (LogicalAggregateOp::And, &[&[1, 0], &[]], None),
         (LogicalAggregateOp::And, &[], Some(&[])),
         (LogicalAggregateOp::Or, &[&[1, 0], &[0, 0]], Some(&[1, 0])),
+        (LogicalAggregateOp::Or, &[&[0]], Some(&[0])),
+        (LogicalAggregateOp::Or, &[&[1], &[2]], None),
+        (LogicalAggregateOp::Or, &[&[1], &[1, 0]], None),
     ];
     for (op, replies, want) in table {
         assert!(rt;

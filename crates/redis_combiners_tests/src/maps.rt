@@ -1,6 +1,6 @@
-use crate::given::bulk;
+use crate::given::{bulk, numbers};
 use redis_cluster::routing::combine_map_results;
-use resp_core::Value;
+use resp_core::{ErrorKind, Value};
 use std::alloc::{AllocError, Global};
 use std::test::Fail;
 
@@ -41,12 +41,13 @@ type Row<'a> = (&'a [&'a [(&'a str, i64)]], &'a [(&'a str, i64)]);
 
 #[test]
 fn each_key_has_the_sum_of_its_numbers(rt: HostRuntime) -> Result<(), Fail> {
-    let table: [Row<'_>; 4] = [
+    let table: [Row<'_>; 5] = [
         (
             &[&[("key1", 5), ("key2", 10)], &[("key1", 3), ("key3", 15)]],
             &[("key1", 8), ("key2", 10), ("key3", 15)],
         ),
         (&[], &[]),
+        (&[&[("b", 1), ("a", 1)]], &[("a", 1), ("b", 1)]),
         // The keys in another order.
         (
             &[
@@ -64,5 +65,22 @@ fn each_key_has_the_sum_of_its_numbers(rt: HostRuntime) -> Result<(), Fail> {
     for (replies, totals) in table {
         assert!(rt; makes(rt.alloc(), replies, totals)?, "{totals:?}");
     }
+    Ok(())
+}
+
+// The kind of the error that an array of these items is refused with.
+fn refusal(alloc: Global, items: Vec<Value>) -> Result<Option<ErrorKind>, AllocError> {
+    let replies = vec![in alloc; Value::Array(items)]?;
+    let refused = combine_map_results(alloc, replies).err();
+    Ok(refused.map(|error| error.kind()))
+}
+
+#[test]
+fn other_than_pairs_are_refused(rt: HostRuntime) -> Result<(), Fail> {
+    let alone = vec![in rt.alloc(); bulk(rt.alloc(), "k")?]?;
+    let shape = Some(ErrorKind::UnexpectedReturnType);
+    assert_eq!(rt; refusal(rt.alloc(), alone)?, shape);
+    let ones = numbers(rt.alloc(), &[1, 1])?;
+    assert_eq!(rt; refusal(rt.alloc(), ones)?, shape);
     Ok(())
 }

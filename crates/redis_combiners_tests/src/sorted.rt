@@ -17,8 +17,11 @@ fn item(alloc: Global, text: &str) -> Result<Value, AllocError> {
     }
 }
 
-// An array of the words of the text.
+// An array of the words of the text, or `Nil`.
 fn reply(alloc: Global, text: &str) -> Result<Value, AllocError> {
+    if text == "(nil)" {
+        return Ok(Value::Nil);
+    }
     let mut items = Vec::new(alloc);
     for word in text.split(' ') {
         if !word.is_empty() {
@@ -67,7 +70,7 @@ fn makes(
 
 #[test]
 fn items_stand_at_the_places_of_their_keys(rt: HostRuntime) -> Result<(), Fail> {
-    let table: [(MultiSlotArgPattern, &[&str], &[&[usize]], &str); 4] = [
+    let table: [(MultiSlotArgPattern, &[&str], &[&[usize]], &str); 7] = [
         (
             KeyWithTwoArgTriples,
             &["OK", "1 nil"],
@@ -92,6 +95,9 @@ fn items_stand_at_the_places_of_their_keys(rt: HostRuntime) -> Result<(), Fail> 
             &[&[2, 3], &[0, 1, 3]],
             "1 nil OK",
         ),
+        (KeysAndLastArg, &["", "x"], &[&[7], &[0, 9]], "x"),
+        (KeyValuePairs, &["x"], &[&[1, 0]], "x"),
+        (KeysOnly, &["x", "y"], &[&[1], &[0]], "y x"),
     ];
     for (pattern, replies, lists, want) in table {
         assert!(rt; makes(rt.alloc(), pattern, replies, lists, want)?, "{want}");
@@ -100,15 +106,21 @@ fn items_stand_at_the_places_of_their_keys(rt: HostRuntime) -> Result<(), Fail> 
 }
 
 #[test]
-fn lists_that_do_not_fit_are_refused(rt: HostRuntime) -> Result<(), Fail> {
-    let table: [(MultiSlotArgPattern, &[&str], &[&[usize]]); 2] = [
-        (KeysOnly, &["x y"], &[&[0, 0]]),
-        (KeysAndLastArg, &[""], &[&[]]),
+fn replies_and_lists_that_do_not_fit_are_refused(rt: HostRuntime) -> Result<(), Fail> {
+    let (shape, call) = (ErrorKind::UnexpectedReturnType, ErrorKind::Client);
+    let table: [(MultiSlotArgPattern, &[&str], &[&[usize]], ErrorKind); 7] = [
+        (KeysOnly, &["x y"], &[&[0, 0]], call),
+        (KeysAndLastArg, &[""], &[&[]], call),
+        (KeysOnly, &["(nil)", "x y"], &[&[0], &[1]], shape),
+        (KeysOnly, &["x y", "(nil)"], &[&[0], &[1]], call),
+        (KeyValuePairs, &[], &[&[0, 1, 2]], call),
+        (KeyWithTwoArgTriples, &["x"], &[&[0, 1]], call),
+        (KeysOnly, &["x", "y"], &[&[0], &[usize::MAX]], call),
     ];
-    for (pattern, replies, lists) in table {
+    for (pattern, replies, lists, want) in table {
         let refused = combined(rt.alloc(), pattern, replies, lists).err();
         let kind = refused.map(|error| error.kind());
-        assert_eq!(rt; kind, Some(ErrorKind::Client));
+        assert_eq!(rt; kind, Some(want), "{lists:?}");
     }
     Ok(())
 }
