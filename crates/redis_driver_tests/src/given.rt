@@ -16,6 +16,9 @@ pub const ONE_REPLICA: [Line<'static>; 2] = [
     (8192, 16383, "n2:2", &[]),
 ];
 
+/// One shard with two replicas.
+pub const ONE_SHARD: [Line<'static>; 1] = [(0, 16383, "p:1", &["r:1", "r:2"])];
+
 /// A command, the order of its sends, and what it gives.
 pub type Row<'a> = (&'a str, &'a [usize], &'a str);
 

@@ -1,5 +1,5 @@
 //! Commands and replies as only a hostile or broken client or server writes them.
-use crate::given::{Cluster, Given};
+use crate::given::{Cluster, Given, Row};
 use fixtures::{TWO_NODES, cmd_of_text, nested, value_of_text};
 use redis_cluster::driver::SplitPlan;
 use resp_core::{Cmd, ErrorKind, Value};
@@ -7,9 +7,9 @@ use std::alloc::{AllocError, Global};
 use std::test::Fail;
 
 /// What comes of an array of the words of a text, and what was sent.
-fn driven(alloc: Global, text: &str) -> Result<String, Fail> {
+fn driven(alloc: Global, text: &str, order: &[usize]) -> Result<String, Fail> {
     let mut cluster = Cluster::new(alloc, &TWO_NODES)?;
-    let mut driven = cluster.drive(&value_of_text(alloc, text)?, None, &[0])?;
+    let mut driven = cluster.drive(&value_of_text(alloc, text)?, None, order)?;
     driven.push_str("; ")?;
     driven.push_str(&cluster.sent()?)?;
     Ok(driven)
@@ -17,15 +17,21 @@ fn driven(alloc: Global, text: &str) -> Result<String, Fail> {
 
 #[test]
 fn a_gap_or_a_deep_argument_ends_the_command(rt: HostRuntime) -> Result<(), Fail> {
-    for (text, want) in [
-        ("JSON.MGET a b #", "[nil]; n2:2 JSON.MGET a b;"),
-        ("DEL # a", "NotMultiKey after 0; "),
-        ("MSET a #", "NotMultiKey after 0; "),
-        ("# DEL a", "NotMultiKey after 0; "),
-        ("DEL a deep", "0; n2:2 DEL a;"),
-        ("MSET a deep", "NotMultiKey after 0; "),
-    ] {
-        assert_eq!(rt; driven(rt.alloc(), text)?.as_str(), want, "{text}");
+    let table: [Row<'_>; 7] = [
+        ("JSON.MGET a b #", &[0], "[nil]; n2:2 JSON.MGET a b;"),
+        (
+            "MSET a 1 b 2 # c",
+            &[0, 1],
+            "OK; n2:2 MSET a 1;n1:1 MSET b 2;",
+        ),
+        ("DEL # a", &[0], "NotMultiKey after 0; "),
+        ("MSET a #", &[0], "NotMultiKey after 0; "),
+        ("# DEL a", &[0], "NotMultiKey after 0; "),
+        ("DEL a deep", &[0], "0; n2:2 DEL a;"),
+        ("MSET a deep", &[0], "NotMultiKey after 0; "),
+    ];
+    for (text, order, want) in table {
+        assert_eq!(rt; driven(rt.alloc(), text, order)?.as_str(), want, "{text}");
     }
     Ok(())
 }
