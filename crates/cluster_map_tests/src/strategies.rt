@@ -4,11 +4,13 @@ use cluster_map::{
     Route, SlotAddr,
 };
 use example_strategies::{FirstReplica, ShardAware};
-use fixtures::{THREE_SHARDS, map_of};
+use fixtures::{Line, THREE_SHARDS, map_of};
 use resp_core::RedisResult;
 use std::alloc::{AllocError, Global};
 use std::process::Abort;
 use std::test::Fail;
+
+const ONE_SHARD: [Line<'static>; 1] = [(1, 1000, "p:1", &["r:1", "r:2", "r:3"])];
 
 /// The text of a node, or `none`.
 fn text_of(alloc: Global, node: Option<&NodeAddress>) -> Result<String, AllocError> {
@@ -22,14 +24,19 @@ fn text_of(alloc: Global, node: Option<&NodeAddress>) -> Result<String, AllocErr
 fn what_a_factory_makes_is_lent_to_a_map(rt: HostRuntime) -> Result<(), Fail> {
     let factory: DefaultFactory<FirstReplica> = DefaultFactory::new();
     let strategy = factory.create_strategy();
-    let node = read_at(rt.alloc(), 500, &strategy)?;
-    assert_eq!(rt; node.as_str(), "replica1:6379");
+    let node = read_at(rt.alloc(), &ONE_SHARD, 500, &strategy)?;
+    assert_eq!(rt; node.as_str(), "r:1");
     Ok(())
 }
 
-/// The node for a read of one of three shards.
-fn read_at(alloc: Global, slot: u16, strategy: &dyn ReadRoutingStrategy) -> RedisResult<String> {
-    let map = map_of(alloc, &THREE_SHARDS)?;
+/// The node for a read of a slot of these shards.
+fn read_at(
+    alloc: Global,
+    lines: &[Line<'_>],
+    slot: u16,
+    strategy: &dyn ReadRoutingStrategy,
+) -> RedisResult<String> {
+    let map = map_of(alloc, lines)?;
     let route = Route::new(slot, SlotAddr::ReplicaOptional);
     Ok(text_of(alloc, map.slot_addr_for_route(route, Some(strategy), 0))?)
 }
@@ -42,7 +49,7 @@ fn check_reads(
     reads: &[(u16, &str)],
 ) -> Result<(), Fail> {
     for (slot, wanted) in reads {
-        let node = read_at(alloc, *slot, strategy)?;
+        let node = read_at(alloc, &THREE_SHARDS, *slot, strategy)?;
         assert_eq!(rt; node.as_str(), *wanted, "slot {slot}");
     }
     Ok(())

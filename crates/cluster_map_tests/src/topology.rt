@@ -1,8 +1,9 @@
 //! Shards, and the topologies that they and maps make.
-use cluster_map::{ClusterTopology, NodeAddress, Shard};
+use cluster_map::{ClusterTopology, NodeAddress, Route, Shard, SlotAddr, SlotMap};
 use fixtures::{Line, THREE_SHARDS, map_of};
 use resp_core::RedisResult;
 use std::alloc::{AllocError, Global};
+use std::process::Abort;
 use std::test::Fail;
 
 /// The hosts of the shards' primaries, each before a space.
@@ -13,6 +14,11 @@ fn primaries_of(alloc: Global, topology: &ClusterTopology) -> Result<String, All
         text.push(' ')?;
     }
     Ok(text)
+}
+
+fn primary_at<'a>(topology: &'a ClusterTopology, slot: u16) -> Option<&'a str> {
+    let shard = topology.shard_for_slot(slot)?;
+    Some(shard.primary().host())
 }
 
 /// The primary, the ranges and the replicas.
@@ -26,20 +32,56 @@ fn shard_of(alloc: Global, ranges: &[(u16, u16)], primary: &str) -> RedisResult<
     Ok(Shard::new(Vec::from_slice(alloc, ranges)?, primary, Vec::new(alloc)))
 }
 
-/// Two shards, of which the second takes the first one's range.
-fn taken(alloc: Global) -> RedisResult<ClusterTopology> {
-    let shards = vec![in alloc;
-        shard_of(alloc, &[(0, 10)], "A:1")?,
-        shard_of(alloc, &[(5, 10)], "B:1")?,
-    ]?;
+/// The ranges and the primary of a shard that has no replica.
+type Owner<'a> = (&'a [(u16, u16)], &'a str);
+
+fn topology_of_shards(alloc: Global, owners: &[Owner<'_>]) -> RedisResult<ClusterTopology> {
+    let mut shards = Vec::new(alloc);
+    for (ranges, primary) in owners {
+        shards.push(shard_of(alloc, *ranges, *primary)?)?;
+    }
     Ok(ClusterTopology::from_shards(alloc, shards)?)
 }
 
+/// Sees what a topology tells in which the second shard takes the first one's range.
+fn check_taken(rt: &impl Abort, alloc: Global, topology: &ClusterTopology) -> Result<(), Fail> {
+    let listed = primaries_of(alloc, topology)?;
+    assert_eq!(rt;
+        (
+            listed.as_str(),
+            primary_at(topology, 3),
+            primary_at(topology, 7)
+        ),
+        ("B ", None, Some("B"))
+    );
+    Ok(())
+}
+
 #[test]
-fn shards_make_a_topology_that_is_cloned(rt: HostRuntime) -> Result<(), Fail> {
-    let copy = taken(rt.alloc())?.clone()?;
-    let primaries = primaries_of(rt.alloc(), &copy)?;
-    assert_eq!(rt; primaries.as_str(), "B ");
+fn a_shard_whose_ranges_are_taken_is_not_listed(rt: HostRuntime) -> Result<(), Fail> {
+    let alloc = rt.alloc();
+    let topology = topology_of_shards(alloc, &[(&[(0, 10)], "A:1"), (&[(5, 10)], "B:1")])?;
+    check_taken(&rt, alloc, &topology)?;
+    let copy = topology.clone()?;
+    check_taken(&rt, alloc, &copy)
+}
+
+fn listed(alloc: Global, owners: &[Owner<'_>]) -> RedisResult<String> {
+    let topology = topology_of_shards(alloc, owners)?;
+    Ok(primaries_of(alloc, &topology)?)
+}
+
+#[test]
+fn shards_are_listed_by_their_first_ranges(rt: HostRuntime) -> Result<(), Fail> {
+    let owners: [Owner<'static>; 3] = [
+        (&[(200, 300), (0, 10)], "A:1"),
+        (&[(100, 150)], "B:1"),
+        (&[(5, 10)], "C:1"),
+    ];
+    for (number, wanted) in [(2, "A B "), (3, "C B A ")] {
+        let primaries = listed(rt.alloc(), &owners[..number])?;
+        assert_eq!(rt; primaries.as_str(), wanted, "{number} shards");
+    }
     Ok(())
 }
 
@@ -67,26 +109,73 @@ fn shard_at(alloc: Global, lines: &[Line<'_>], slot: u16) -> RedisResult<String>
     Ok(shard_or_none(alloc, topology.shard_for_slot(slot))?)
 }
 
+const TWO_SHARDS: [Line<'static>; 2] = [
+    (0, 5000, "node1:6379", &["replica1:6379"]),
+    (5001, 10000, "node2:6379", &[]),
+];
+
+/// Ranges that hide others.
+const HIDING: [Line<'static>; 3] = [
+    (0, 16383, "n1:1", &[]),
+    (0, 100, "n2:2", &[]),
+    (100, 0, "n3:3", &[]),
+];
+
 #[test]
 fn a_topology_lists_a_shard_for_each_primary(rt: HostRuntime) -> Result<(), Fail> {
-    let primaries = listed_of_a_map(rt.alloc(), &THREE_SHARDS)?;
-    assert_eq!(rt; primaries.as_str(), "node1 node2 node3 ");
+    for (lines, wanted) in [
+        (THREE_SHARDS.as_slice(), "node1 node2 node3 "),
+        (&TWO_SHARDS, "node1 node2 "),
+        (&HIDING, "n3 n2 n1 "),
+    ] {
+        let primaries = listed_of_a_map(rt.alloc(), lines)?;
+        assert_eq!(rt; primaries.as_str(), wanted);
+    }
     Ok(())
 }
 
 #[test]
 fn a_topology_has_the_shard_of_a_slot(rt: HostRuntime) -> Result<(), Fail> {
+    let three = THREE_SHARDS.as_slice();
     let table = [
-        (1001, "none"),
-        (5000, "none"),
+        (three, 1001, "none"),
+        (three, 5000, "none"),
         (
+            three,
             3500,
             "node2:6379 [(1002, 2000), (3001, 4000)] [replica2:6379, replica3:6379]",
         ),
+        (&TWO_SHARDS, 5000, "node1:6379 [(0, 5000)] [replica1:6379]"),
+        (&TWO_SHARDS, 5001, "node2:6379 [(5001, 10000)] []"),
     ];
-    for (slot, wanted) in table {
-        let shard = shard_at(rt.alloc(), &THREE_SHARDS, slot)?;
+    for (lines, slot, wanted) in table {
+        let shard = shard_at(rt.alloc(), lines, slot)?;
         assert_eq!(rt; shard.as_str(), wanted, "slot {slot}");
+    }
+    Ok(())
+}
+
+/// The primary's host for a slot by a map.
+fn host_at<'a>(map: &'a SlotMap, slot: u16) -> Option<&'a str> {
+    let node = map.slot_addr_for_route(Route::new(slot, SlotAddr::Master), None, 0)?;
+    Some(node.host())
+}
+
+#[test]
+fn a_topology_and_its_map_agree_on_hidden_ranges(rt: HostRuntime) -> Result<(), Fail> {
+    let map = map_of(rt.alloc(), &HIDING)?;
+    let topology = map.topology(rt.alloc())?;
+    for (slot, wanted) in [
+        (0, None),
+        (1, Some("n2")),
+        (100, Some("n2")),
+        (101, Some("n1")),
+    ] {
+        assert_eq!(rt;
+            (host_at(&map, slot), primary_at(&topology, slot)),
+            (wanted, wanted),
+            "slot {slot}"
+        );
     }
     Ok(())
 }
