@@ -21,10 +21,20 @@ fn value_at(alloc: Global, ranges: &[Range], slot: u16) -> Result<Option<char>, 
 
 #[test]
 fn a_slot_is_answered_by_the_range_that_ends_first_from_it_on(rt: HostRuntime) -> Result<(), Fail> {
+    let apart = [(100, 200, 'a'), (300, 400, 'b')];
     let nested = [(0, 100, 'a'), (50, 60, 'b')];
     let reversed = [(0, 100, 'a'), (50, 60, 'b'), (80, 20, 'x')];
     let same_end = [(0, 100, 'a'), (90, 100, 'b')];
     let table = [
+        (apart.as_slice(), 99, None),
+        (apart.as_slice(), 100, Some('a')),
+        (apart.as_slice(), 150, Some('a')),
+        (apart.as_slice(), 200, Some('a')),
+        (apart.as_slice(), 250, None),
+        (apart.as_slice(), 300, Some('b')),
+        (apart.as_slice(), 350, Some('b')),
+        (apart.as_slice(), 400, Some('b')),
+        (apart.as_slice(), 401, None),
         (nested.as_slice(), 40, None),
         (nested.as_slice(), 55, Some('b')),
         (nested.as_slice(), 70, Some('a')),
@@ -44,6 +54,16 @@ fn of_equal_ends_the_last_range_stands_alone(rt: HostRuntime) -> Result<(), Fail
     let map = map_of(rt.alloc(), &[(0, 100, 'a'), (90, 100, 'b')])?;
     assert_eq!(rt; map.iter().count(), 1);
     assert_eq!(rt; map.iter().next(), Some((90, 100, &'b')));
+    Ok(())
+}
+
+#[test]
+fn ranges_come_by_ascending_end(rt: HostRuntime) -> Result<(), Fail> {
+    let map = map_of(rt.alloc(), &[(300, 400, 'b'), (100, 200, 'a')])?;
+    assert_eq!(rt; map.iter().count(), 2);
+    for ((start, end, value), wanted) in map.iter().zip([(100, 200, 'a'), (300, 400, 'b')]) {
+        assert_eq!(rt; (start, end, *value), wanted);
+    }
     Ok(())
 }
 
@@ -96,6 +116,42 @@ fn ranges_may_be_put_in_by_descending_end(rt: HostRuntime) -> Result<(), Fail> {
     for count in [16, 17, 300] {
         let found = count_descending(rt.alloc(), count)?;
         assert_eq!(rt; found, usize::from(count));
+    }
+    Ok(())
+}
+
+// The ranges of one slot each from 1 to 300, put in by descending end, with the slot as the value.
+fn three_hundred(alloc: Global) -> Result<SlotRangeMap<u16>, AllocError> {
+    let mut map = SlotRangeMap::new(alloc);
+    for end in (1..=300u16).rev() {
+        map.insert(end, end, end)?;
+    }
+    Ok(map)
+}
+
+#[test]
+fn three_hundred_ranges_are_listed_and_found(rt: HostRuntime) -> Result<(), Fail> {
+    let map = three_hundred(rt.alloc())?;
+    assert_eq!(rt; map.iter().count(), 300);
+    for ((start, end, value), wanted) in map.iter().zip(1..=300u16) {
+        assert_eq!(rt; (start, end, *value), (wanted, wanted, wanted));
+        assert_eq!(rt; map.get(wanted), Some(&wanted));
+    }
+    assert_eq!(rt; map.get(0), None, "before the first");
+    assert_eq!(rt; map.get(301), None, "past the last");
+    Ok(())
+}
+
+#[test]
+fn later_ranges_stand_beside_three_hundred(rt: HostRuntime) -> Result<(), Fail> {
+    let mut map = three_hundred(rt.alloc())?;
+    map.insert(0, 300, 1000)?;
+    for (slot, value) in [(300, Some(1000)), (299, Some(299)), (0, None)] {
+        assert_eq!(rt; map.get(slot).copied(), value, "slot {slot}");
+    }
+    map.insert(65535, 65535, 2000)?;
+    for (slot, value) in [(65535, Some(2000)), (65534, None)] {
+        assert_eq!(rt; map.get(slot).copied(), value, "slot {slot}");
     }
     Ok(())
 }

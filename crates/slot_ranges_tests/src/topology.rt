@@ -1,4 +1,4 @@
-use cluster_map::{SlotMap, SlotRange, parse_slots, slot_cmd};
+use cluster_map::{Route, SlotAddr, SlotMap, SlotRange, parse_slots, slot_cmd};
 use fixtures::nested;
 use resp_core::{RedisResult, Value};
 use std::alloc::{AllocError, Global};
@@ -181,7 +181,7 @@ const REPLIES: [Row; 48] = [
         "(65535 65535 h:65535)",
     ),
     ("node", "[ [ [ [ ] ] ] ] [ 0 1 [ `h` 1 ] ]", "(0 1 h:1)"),
-    ("node", "[ 0 1 [ bytes 1 ] ]", "(0 1 \u{fffd}x:1)"),
+    ("node", "[ 0 10 [ bytes 1 ] ]", "(0 10 \u{fffd}x:1)"),
     ("node", "[ bytes 1 [ `h` 1 ] ]", ""),
 ];
 
@@ -218,6 +218,28 @@ fn deep_replies_are_read_as_far_as_they_say_something(rt: HostRuntime) -> Result
 #[test]
 fn a_reply_that_is_not_an_array_has_no_ranges(rt: HostRuntime) -> Result<(), Fail> {
     assert_eq!(rt; count_ranges(rt.alloc(), &Value::Nil)?, 0);
+    assert_eq!(rt; count_ranges(rt.alloc(), &Value::Okay)?, 0);
+    let map = map_of_an_item(rt.alloc())?;
+    assert_eq!(rt; count_ranges(rt.alloc(), &map)?, 0);
+    Ok(())
+}
+
+// A map whose one value would tell of a range in an array.
+fn map_of_an_item(alloc: Global) -> Result<Value, Fail> {
+    let item = array(alloc, "0 1 [ `h` 1 ]")?;
+    Ok(Value::Map(vec![in alloc; (Value::Int(0), item)]?))
+}
+
+#[test]
+fn a_reply_makes_a_map(rt: HostRuntime) -> Result<(), Fail> {
+    let reply = array(
+        rt.alloc(),
+        "[ 0 8191 [ `n1` 1 ] ] [ 8192 16383 [ `n2` 2 ] ]",
+    )?;
+    let map = SlotMap::from_reply(rt.alloc(), &reply, "node")?;
+    let route = Route::with_key(b"foo", SlotAddr::Master);
+    let node = map.slot_addr_for_route(route, None, 0).ok_or("no node")?;
+    assert_eq!(rt; (node.host(), node.port()), ("n2", 2));
     Ok(())
 }
 
