@@ -8,7 +8,7 @@ use Rattle.resp_core.specs.ErrorParts.{ErrorParts}
 use Rattle.resp_core.specs.declared.error.ErrorKind.TheVariants.{Client}
 use Rattle.resp_core.specs.Reply.{int, okay}
 use Rattle.redis_routing.specs.Command.{command_name}
-use Rattle.redis_routing.specs.Lookup.{lookup}
+use Rattle.redis_routing.specs.Lookup.{lookup_name}
 use Rattle.redis_cluster.specs.Unsplit.{Keyspace, put}
 use Rattle.redis_batches.specs.Served.{Effect}
 use Rattle.redis_batches.specs.Pipeline.{Answer, Serve}
@@ -151,7 +151,7 @@ verbs =
     (codes "LPUSH", Lpush) ∷ []
 
 abbrev pub verb_of : List ℕ → Option Verb
-verb_of name = lookup verbs name
+verb_of name = lookup_name verbs name
 
 abbrev pub verb_in : Option (List ℕ) → Option Verb
 verb_in None = None

@@ -1,7 +1,7 @@
 -- What each multi-key command does to the cell of a key and adds to the reply.
 use Rattle.std.specs.Prelude.{ℕ, List, [], ◌∷◌, Bool, false, Option, None, Some, is_some, codes, slice_index_or}
 use Rattle.std.specs.Option.{unwrap_or}
-use Rattle.redis_routing.specs.Lookup.{lookup}
+use Rattle.redis_routing.specs.Lookup.{lookup_name}
 use Rattle.redis_routing.specs.Registry.{Registered}
 use Rattle.redis_routing.specs.declared.policy.AggregateOp.TheVariants.{Sum}
 use Rattle.redis_routing.specs.declared.policy.ResponsePolicy.{ResponsePolicy}
@@ -29,7 +29,7 @@ actions =
 
 -- any other name does nothing
 abbrev pub action_of : List ℕ → Action
-action_of name = unwrap_or (lookup actions name) Leave
+action_of name = unwrap_or (lookup_name actions name) Leave
 
 -- A registered name does by its policy what a name of the tables does that has the same: a list
 -- reads, at the path that all keys share where they share one, a count counts the keys that are

@@ -3,29 +3,29 @@ use Rattle.std.proofs.Common.{◌≡◌, ℕ, List, [], ◌∷◌, Bool, true, f
 use Rattle.std.specs.Prelude.{option_and_then}
 use Rattle.std.specs.Str.{bytes_eq}
 use Rattle.std.proofs.lemmas.Slice.Eq.{bytes_eq-Decides}
-use Rattle.redis_routing.specs.Lookup.{lookup, has_name}
+use Rattle.redis_routing.specs.Lookup.{lookup_name, has_name}
 use Rattle.resp_core.proofs.Cases.{by_test}
 
 module _ {A B : Type 0} (part : A → Option B) where
   -- what each row of the one has stands in the other
-  carried : (xs : List (List ℕ × A)) (ys : List (List ℕ × B)) → map (λ x. lookup ys x.0) xs ≡ map (λ x. part x.1) xs → (n : List ℕ) (b : B) → option_and_then part (lookup xs n) ≡ Some b → lookup ys n ≡ Some b
+  carried : (xs : List (List ℕ × A)) (ys : List (List ℕ × B)) → map (λ x. lookup_name ys x.0) xs ≡ map (λ x. part x.1) xs → (n : List ℕ) (b : B) → option_and_then part (lookup_name xs n) ≡ Some b → lookup_name ys n ≡ Some b
   carried [] ys same n b h = cc
   carried (x ∷ xs) ys same n b h =
       by_test (bytes_eq x.0 n)
-      (λ equal. let first : lookup ys x.0 ≡ part x.1 = cc same in
+      (λ equal. let first : lookup_name ys x.0 ≡ part x.1 = cc same in
       let held : part x.1 ≡ Some b = rw equal at h in
-      ap (lookup ys) (sym ((bytes_eq-Decides x.0 n).0 equal)) ∙ first ∙ held)
-      (λ unlike. let rest : map (λ x. lookup ys x.0) xs ≡ map (λ x. part x.1) xs = cc same in
+      ap (lookup_name ys) (sym ((bytes_eq-Decides x.0 n).0 equal)) ∙ first ∙ held)
+      (λ unlike. let rest : map (λ x. lookup_name ys x.0) xs ≡ map (λ x. part x.1) xs = cc same in
       carried xs ys rest n b (rw unlike at h))
 
-  carried_back : (xs : List (List ℕ × A)) (ys : List (List ℕ × B)) → map (λ y. option_and_then part (lookup xs y.0)) ys ≡ map (λ y. Some y.1) ys → (n : List ℕ) (b : B) → lookup ys n ≡ Some b → option_and_then part (lookup xs n) ≡ Some b
+  carried_back : (xs : List (List ℕ × A)) (ys : List (List ℕ × B)) → map (λ y. option_and_then part (lookup_name xs y.0)) ys ≡ map (λ y. Some y.1) ys → (n : List ℕ) (b : B) → lookup_name ys n ≡ Some b → option_and_then part (lookup_name xs n) ≡ Some b
   carried_back xs [] same n b h = cc
   carried_back xs (y ∷ ys) same n b h =
       by_test (bytes_eq y.0 n)
-      (λ equal. let first : option_and_then part (lookup xs y.0) ≡ Some y.1 = cc same in
+      (λ equal. let first : option_and_then part (lookup_name xs y.0) ≡ Some y.1 = cc same in
       let held : Some y.1 ≡ Some b = rw equal at h in
-      ap (λ m. option_and_then part (lookup xs m)) (sym ((bytes_eq-Decides y.0 n).0 equal)) ∙ first ∙ held)
-      (λ unlike. let rest : map (λ y. option_and_then part (lookup xs y.0)) ys ≡ map (λ y. Some y.1) ys = cc same in
+      ap (λ m. option_and_then part (lookup_name xs m)) (sym ((bytes_eq-Decides y.0 n).0 equal)) ∙ first ∙ held)
+      (λ unlike. let rest : map (λ y. option_and_then part (lookup_name xs y.0)) ys ≡ map (λ y. Some y.1) ys = cc same in
       carried_back xs ys rest n b (rw unlike at h))
 
   by_option : (p q : Option B) → ((b : B) → p ≡ Some b → q ≡ Some b) → ((b : B) → q ≡ Some b → p ≡ Some b) → p ≡ q
@@ -34,8 +34,8 @@ module _ {A B : Type 0} (part : A → Option B) where
   by_option None None f g = refl
 
   -- a part of the rows of the one is the rows of the other
-  pub agree : (xs : List (List ℕ × A)) (ys : List (List ℕ × B)) → map (λ x. lookup ys x.0) xs ≡ map (λ x. part x.1) xs → map (λ y. option_and_then part (lookup xs y.0)) ys ≡ map (λ y. Some y.1) ys → (n : List ℕ) → option_and_then part (lookup xs n) ≡ lookup ys n
-  agree xs ys there back n = by_option (option_and_then part (lookup xs n)) (lookup ys n) (carried xs ys there n) (carried_back xs ys back n)
+  pub agree : (xs : List (List ℕ × A)) (ys : List (List ℕ × B)) → map (λ x. lookup_name ys x.0) xs ≡ map (λ x. part x.1) xs → map (λ y. option_and_then part (lookup_name xs y.0)) ys ≡ map (λ y. Some y.1) ys → (n : List ℕ) → option_and_then part (lookup_name xs n) ≡ lookup_name ys n
+  agree xs ys there back n = by_option (option_and_then part (lookup_name xs n)) (lookup_name ys n) (carried xs ys there n) (carried_back xs ys back n)
 
 carried_name : (xs ys : List (List ℕ)) → map (has_name ys) xs ≡ map (λ x. true) xs → (n : List ℕ) → has_name xs n ≡ true → has_name ys n ≡ true
 carried_name [] ys same n h = cc

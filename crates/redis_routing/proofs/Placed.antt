@@ -4,7 +4,7 @@ use Rattle.std.specs.List.{range_with_len}
 use Rattle.std.specs.Str.{bytes_eq}
 use Rattle.std.proofs.lemmas.List.{get_or_default}
 use Rattle.std.proofs.lemmas.Slice.Eq.{bytes_eq-Decides}
-use Rattle.redis_routing.specs.Lookup.{lookup, has_name}
+use Rattle.redis_routing.specs.Lookup.{lookup_name, has_name}
 use Rattle.redis_routing.specs.Places.{row_of, stand_at_their_rows}
 use Rattle.redis_routing.proofs.Search.{missing, missing_name}
 use Rattle.resp_core.proofs.Cases.{by_test, or_second}
@@ -31,7 +31,7 @@ module _ {X : Type 0} (key : X → List ℕ) (place : List ℕ → ℕ) where
       ap (λ j. bytes_eq (key (get_or xs j d)) n) same ∙ unlike d (omega arith))
       (λ other. other)
 
-  found_from : {A : Type 0} (value : X → A) (xs : List X) (n : List ℕ) (o i : ℕ) (d : X) → Stand o xs → i < length xs → key (get_or xs i d) ≡ n → lookup (map (λ x. (key x, value x)) xs) n ≡ Some (value (get_or xs i d))
+  found_from : {A : Type 0} (value : X → A) (xs : List X) (n : List ℕ) (o i : ℕ) (d : X) → Stand o xs → i < length xs → key (get_or xs i d) ≡ n → lookup_name (map (λ x. (key x, value x)) xs) n ≡ Some (value (get_or xs i d))
   found_from value [] n o i d h inside same = absurd (omega arith)
   found_from value (x ∷ xs) n o zero d h inside same = rw ((bytes_eq-Decides (key x) n).1 same) refl
   found_from value (x ∷ xs) n o (suc i) d h inside same =
@@ -47,11 +47,11 @@ module _ {X : Type 0} (key : X → List ℕ) (places : List ℕ) where
   standing xs h = (bytes_eq-Decides _ _).0 h
 
   -- the name stands there
-  pub found_at_place : {A : Type 0} (value : X → A) (xs : List X) (n : List ℕ) (i : ℕ) (d : X) → stand_at_their_rows places (map key xs) ≡ true → i < length xs → bytes_eq (key (get_or xs i d)) n ≡ true → lookup (map (λ x. (key x, value x)) xs) n ≡ Some (value (get_or xs i d))
+  pub found_at_place : {A : Type 0} (value : X → A) (xs : List X) (n : List ℕ) (i : ℕ) (d : X) → stand_at_their_rows places (map key xs) ≡ true → i < length xs → bytes_eq (key (get_or xs i d)) n ≡ true → lookup_name (map (λ x. (key x, value x)) xs) n ≡ Some (value (get_or xs i d))
   found_at_place value xs n i d h inside same = found_from key (row_of places) value xs n 0 i d (standing xs h) inside ((bytes_eq-Decides (key (get_or xs i d)) n).0 same)
 
   -- the name does not stand at its place
-  pub not_at_place : {A : Type 0} (value : X → A) (xs : List X) (n : List ℕ) (i : ℕ) → stand_at_their_rows places (map key xs) ≡ true → i ≡ row_of places n → ((d : X) → i < length xs → bytes_eq (key (get_or xs i d)) n ≡ false) → lookup (map (λ x. (key x, value x)) xs) n ≡ None
+  pub not_at_place : {A : Type 0} (value : X → A) (xs : List X) (n : List ℕ) (i : ℕ) → stand_at_their_rows places (map key xs) ≡ true → i ≡ row_of places n → ((d : X) → i < length xs → bytes_eq (key (get_or xs i d)) n ≡ false) → lookup_name (map (λ x. (key x, value x)) xs) n ≡ None
   not_at_place value xs n i h is unlike = missing key value xs n (apart key (row_of places) xs n i (standing xs h) is unlike)
 
   pub no_name_at_place : (xs : List X) (n : List ℕ) (i : ℕ) → stand_at_their_rows places (map key xs) ≡ true → i ≡ row_of places n → ((d : X) → i < length xs → bytes_eq (key (get_or xs i d)) n ≡ false) → has_name (map key xs) n ≡ false

@@ -10,7 +10,7 @@ use Rattle.std.specs.Map as tree
 use Rattle.std.proofs.lemmas.Map.Text.{is_eq-slice_cmp}
 use Rattle.std.proofs.lemmas.Slice.Eq.{bytes_eq-Decides}
 use Rattle.std.proofs.lemmas.List.{length-map}
-use Rattle.redis_routing.specs.Lookup.{lookup}
+use Rattle.redis_routing.specs.Lookup.{lookup_name}
 use Rattle.redis_routing.specs.Registry.{Registered, is_registrable, is_bad_name, is_bad_policy}
 use Rattle.redis_routing.specs.RouteBy.{base_routing}
 use Rattle.redis_routing.specs.declared.policy.ResponsePolicy.{ResponsePolicy}
@@ -35,14 +35,14 @@ bytes_eq-swap xs ys =
     (λ other. other ∙ sym unlike))
 
 -- a look-up by the order of bytes is one by `==`
-pub found_row : (q : List ℕ) (rows : List Row) → tree.lookup (at q) rows ≡ lookup (map row_of rows) q
+pub found_row : (q : List ℕ) (rows : List Row) → tree.lookup (at q) rows ≡ lookup_name (map row_of rows) q
 found_row q [] = refl
 found_row q (row ∷ rows) =
     ap (λ b. cond b (Some row.1) (tree.lookup (at q) rows)) (is_eq-slice_cmp q row.0.items ∙ bytes_eq-swap q row.0.items)
     ∙ ap (cond (bytes_eq row.0.items q) (Some row.1)) (found_row q rows)
 
 -- what is found could be registered
-pub found_registrable : (q : List ℕ) (rows : List Row) → list_all may_stand rows ≡ true → IfSome (lookup (map row_of rows) q) (λ r. is_registrable q r.1 ≡ true)
+pub found_registrable : (q : List ℕ) (rows : List Row) → list_all may_stand rows ≡ true → IfSome (lookup_name (map row_of rows) q) (λ r. is_registrable q r.1 ≡ true)
 found_registrable q [] h = tt
 found_registrable q (row ∷ rows) h =
     by_test (bytes_eq row.0.items q)
@@ -70,13 +70,13 @@ apart_keys k x q unlike equal = ap (bytes_eq k) (sym ((bytes_eq-Decides x q).0 e
 
 -- the look-ups after a row is put in
 pub lookup-insert_entry : (q : List ℕ) (k : Vec ℕ Global) (r : Registered) (rows : List Row)
-    → lookup (map row_of (insert_entry by_items rows k r)) q ≡ cond (bytes_eq k.items q) (Some r) (lookup (map row_of rows) q)
+    → lookup_name (map row_of (insert_entry by_items rows k r)) q ≡ cond (bytes_eq k.items q) (Some r) (lookup_name (map row_of rows) q)
 lookup-insert_entry q k r [] = refl
 lookup-insert_entry q k r (row ∷ rows) = by_order (by_items k row.0)
     (λ less. rw less refl)
-    (λ equal. rw equal (rw (same_key k row.0 equal) (cond_twice (bytes_eq row.0.items q) (Some r) (Some row.1) (lookup (map row_of rows) q))))
+    (λ equal. rw equal (rw (same_key k row.0 equal) (cond_twice (bytes_eq row.0.items q) (Some r) (Some row.1) (lookup_name (map row_of rows) q))))
     (λ greater. rw greater (ap (cond (bytes_eq row.0.items q) (Some row.1)) (lookup-insert_entry q k r rows)
-    ∙ cond_apart (bytes_eq row.0.items q) (bytes_eq k.items q) (Some row.1) (Some r) (lookup (map row_of rows) q) (apart_keys k.items row.0.items q (other_key k row.0 greater))))
+    ∙ cond_apart (bytes_eq row.0.items q) (bytes_eq k.items q) (Some row.1) (Some r) (lookup_name (map row_of rows) q) (apart_keys k.items row.0.items q (other_key k row.0 greater))))
 
 both_true : (a b : Bool) → a ≡ true → b ≡ true → (a && b) ≡ true
 both_true true b h l = l

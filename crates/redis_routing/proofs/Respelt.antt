@@ -6,7 +6,7 @@ use Rattle.std.specs.Str.{bytes_eq}
 use Rattle.std.proofs.lemmas.Str.Ascii.{lowercase-uppercase}
 use Rattle.redis_routing.specs.Upper.{upper}
 use Rattle.redis_routing.specs.Command.{Arguments, IsRespelt, argument, command_name, is_word, name_by, in_upper_case}
-use Rattle.redis_routing.specs.Lookup.{lookup}
+use Rattle.redis_routing.specs.Lookup.{lookup_name}
 use Rattle.redis_routing.specs.Names.{Names}
 use Rattle.redis_routing.specs.PresentArguments.{present_arguments}
 use Rattle.redis_routing.specs.Registry.{Registered, Registrations, routing_or, tables_with}
@@ -37,7 +37,7 @@ or_behind_first None (Some r) later = refl
 or_behind_first (Some w) registered later = later
 
 each_behind_first : (registered : Registrations) (name : List ℕ) → behind_first ((tables_with registered).route_by name) ≡ true
-each_behind_first registered name = or_behind_first (base_routing name) (lookup registered name) (table_behind_first name)
+each_behind_first registered name = or_behind_first (base_routing name) (lookup_name registered name) (table_behind_first name)
 
 abbrev lower : List ℕ → List ℕ
 lower text = map to_ascii_lowercase text

@@ -2,12 +2,12 @@
 use Rattle.std.proofs.Common.{◌≡◌, ℕ, List, [], ◌∷◌, Bool, true, Option, None, Some, map, sym, ap, ◌∙◌}
 use Rattle.std.specs.Str.{bytes_eq}
 use Rattle.std.proofs.lemmas.Slice.Eq.{bytes_eq-Decides}
-use Rattle.redis_routing.specs.Lookup.{lookup}
+use Rattle.redis_routing.specs.Lookup.{lookup_name}
 use Rattle.redis_routing.specs.declared.route_by.RouteBy.{RouteBy}
 use Rattle.resp_core.proofs.Cases.{by_test}
 
 pub each_row : (holds : List ℕ → Option RouteBy → Bool) → ((name : List ℕ) → holds name None ≡ true) → (rows : List (List ℕ × RouteBy))
-    → map (λ row. holds row.0 (Some row.1)) rows ≡ map (λ row. true) rows → (name : List ℕ) → holds name (lookup rows name) ≡ true
+    → map (λ row. holds row.0 (Some row.1)) rows ≡ map (λ row. true) rows → (name : List ℕ) → holds name (lookup_name rows name) ≡ true
 each_row holds none [] each name = none name
 each_row holds none (row ∷ rows) each name =
     by_test (bytes_eq row.0 name)

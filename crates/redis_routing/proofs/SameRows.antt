@@ -15,7 +15,7 @@ use Rattle.redis_routing.specs.declared.route_by.MultiSlotArgPattern.{MultiSlotA
 use Rattle.redis_routing.specs.declared.route_by.MultiSlotArgPattern.TheVariants.{KeysOnly, KeyValuePairs, KeysAndLastArg, KeyWithTwoArgTriples}
 use Rattle.redis_routing.specs.contracts.policy.ResponsePolicyPartialEq.TheImpl as policy_eq
 use Rattle.redis_routing.specs.contracts.route_by.MultiSlotArgPatternPartialEq.TheImpl as pattern_eq
-use Rattle.redis_routing.specs.Lookup.{lookup}
+use Rattle.redis_routing.specs.Lookup.{lookup_name}
 use Rattle.redis_routing.proofs.NameSets.{by_items}
 use Rattle.redis_routing.proofs.Registrations.{Row, row_of, found_row, same_key}
 
@@ -94,7 +94,7 @@ rows_compare each (x ∷ xs) (y ∷ ys) = λ i. each x y i && rows_compare each 
 
 -- rows that look up each name alike are one, since both ascend by their names
 pub same_lookups : (m n : BTreeMap (Vec ℕ Global) Registered) → IsOrdered by_items m → IsOrdered by_items n
-    → ((name : List ℕ) → lookup (map row_of m.entries) name ≡ lookup (map row_of n.entries) name) → map row_of m.entries ≡ map row_of n.entries
+    → ((name : List ℕ) → lookup_name (map row_of m.entries) name ≡ lookup_name (map row_of n.entries) name) → map row_of m.entries ≡ map row_of n.entries
 same_lookups m n s t alike =
     btree_map_read_from_get (on_texts (λ k. k.items)) m n s t
     (λ q. found_row q.items m.entries ∙ alike q.items ∙ sym (found_row q.items n.entries))

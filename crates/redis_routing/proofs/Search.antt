@@ -8,7 +8,7 @@ use Rattle.std.proofs.lemmas.Bool.{cases_lt}
 use Rattle.std.proofs.lemmas.Cmp.{nat_list_cmp_total}
 use Rattle.std.proofs.lemmas.List.Sorted.{searchable_from_sorted}
 use Rattle.std.proofs.lemmas.Map.Text.{is_eq-slice_cmp}
-use Rattle.redis_routing.specs.Lookup.{lookup, has_name, ascends, ascends_from}
+use Rattle.redis_routing.specs.Lookup.{lookup_name, has_name, ascends, ascends_from}
 use Rattle.resp_core.proofs.Cases.{and_first, and_second, or_second}
 
 abbrev order : List ℕ → List ℕ → Ordering
@@ -58,7 +58,7 @@ module _ {X : Type 0} (key : X → List ℕ) where
   ]
 
   module _ {A : Type 0} (value : X → A) where
-    pub missing : (xs : List X) (n : List ℕ) → ((k : ℕ) (d : X) → k < length xs → bytes_eq (key (get_or xs k d)) n ≡ false) → lookup (map (λ x. (key x, value x)) xs) n ≡ None
+    pub missing : (xs : List X) (n : List ℕ) → ((k : ℕ) (d : X) → k < length xs → bytes_eq (key (get_or xs k d)) n ≡ false) → lookup_name (map (λ x. (key x, value x)) xs) n ≡ None
     missing [] n apart = refl
     missing (x ∷ xs) n apart = rw (apart 0 x (omega arith)) (missing xs n (λ k d h. apart (suc k) d (omega arith)))
 

@@ -2,7 +2,7 @@
 use Rattle.std.proofs.Common.{◌≡◌, ℕ, List, [], Option, None, Some, refl, sym, ◌∙◌, map}
 use Rattle.std.proofs.Math.Path.{fun_ext}
 use Rattle.std.specs.Prelude.{option_and_then}
-use Rattle.redis_routing.specs.Lookup.{lookup, has_name}
+use Rattle.redis_routing.specs.Lookup.{lookup_name, has_name}
 use Rattle.redis_routing.specs.RouteBy.{base_routings, base_routing}
 use Rattle.redis_routing.specs.Policies.{policies, policy_of}
 use Rattle.redis_routing.specs.TwoWords.{two_word_names, takes_second}
@@ -13,11 +13,11 @@ use Rattle.redis_routing.specs.declared.route_by.RouteBy.{RouteBy}
 use Rattle.redis_routing.specs.declared.tables.TheConstants.{NAMES, TWO_WORD_NAMES}
 use Rattle.redis_routing.proofs.Agree.{agree, agree_names}
 
-pub routing-NAMES : (name : List ℕ) → option_and_then (λ v. Some v.0) (lookup (map (λ row. (row.0.now, row.1)) NAMES) name) ≡ base_routing name
+pub routing-NAMES : (name : List ℕ) → option_and_then (λ v. Some v.0) (lookup_name (map (λ row. (row.0.now, row.1)) NAMES) name) ≡ base_routing name
 unfolding base_routing
 routing-NAMES name = agree (λ v. Some v.0) (map (λ row. (row.0.now, row.1)) NAMES) base_routings refl refl name
 
-pub policy-NAMES : (name : List ℕ) → option_and_then (λ v. v.1) (lookup (map (λ row. (row.0.now, row.1)) NAMES) name) ≡ policy_of name
+pub policy-NAMES : (name : List ℕ) → option_and_then (λ v. v.1) (lookup_name (map (λ row. (row.0.now, row.1)) NAMES) name) ≡ policy_of name
 unfolding policy_of
 policy-NAMES name = agree (λ v. v.1) (map (λ row. (row.0.now, row.1)) NAMES) policies refl refl name
 
@@ -31,7 +31,7 @@ none_of (Some v) h = cc
 
 -- a name that is not routed by the tables has no policy there
 pub policy-none : (name : List ℕ) → base_routing name ≡ None → policy_of name ≡ None
-policy-none name none = sym (policy-NAMES name) ∙ none_of (lookup (map (λ row. (row.0.now, row.1)) NAMES) name) (routing-NAMES name ∙ none)
+policy-none name none = sym (policy-NAMES name) ∙ none_of (lookup_name (map (λ row. (row.0.now, row.1)) NAMES) name) (routing-NAMES name ∙ none)
 
 routing_alone : (o : Option RouteBy) → routing_or o None ≡ o
 routing_alone None = refl

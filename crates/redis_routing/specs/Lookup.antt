@@ -1,18 +1,18 @@
 -- Tables of names.
-use Rattle.std.specs.Prelude.{ℕ, List, [], ◌∷◌, Bool, true, false, ◌&&◌, ◌||◌, Option, None, Some, cond, map}
+use Rattle.std.specs.Prelude.{ℕ, List, [], ◌∷◌, Bool, true, ◌&&◌, Option, map}
+use Rattle.std.specs.List.{list_any}
+use Rattle.std.specs.Map.{lookup}
 use Rattle.std.specs.Str.{bytes_eq}
 use Rattle.std.specs.Ordering.{nat_cmp, is_lt}
 use Rattle.std.specs.Cmp.Lexicographic.{slice_cmp}
 
 -- what stands beside the name in a table, if the name is there
-abbrev pub lookup : {A : Type 0} → List (List ℕ × A) → List ℕ → Option A
-lookup [] name = None
-lookup (row ∷ rows) name = cond (bytes_eq row.0 name) (Some row.1) (lookup rows name)
+abbrev pub lookup_name : {A : Type 0} → List (List ℕ × A) → List ℕ → Option A
+lookup_name rows name = lookup (λ known. bytes_eq known name) rows
 
 -- whether the name is one of these
 abbrev pub has_name : List (List ℕ) → List ℕ → Bool
-has_name [] name = false
-has_name (n ∷ names) name = bytes_eq n name || has_name names name
+has_name names name = list_any (λ known. bytes_eq known name) names
 
 -- a row for each name, all with one value
 abbrev pub rows_with : {A : Type 0} → A → List (List ℕ) → List (List ℕ × A)

@@ -1,7 +1,7 @@
 -- The policies of names: how the replies of several nodes make one (the project's table of
 -- policies).
 use Rattle.std.specs.Prelude.{ℕ, List, [], ◌∷◌, ◌++◌, Bool, true, false, Option, codes}
-use Rattle.redis_routing.specs.Lookup.{lookup, rows_with}
+use Rattle.redis_routing.specs.Lookup.{lookup_name, rows_with}
 use Rattle.redis_routing.specs.declared.policy.LogicalAggregateOp.TheVariants.{And}
 use Rattle.redis_routing.specs.declared.policy.AggregateOp.TheVariants.{Min, Sum}
 use Rattle.redis_routing.specs.declared.policy.ResponsePolicy.{ResponsePolicy}
@@ -75,7 +75,7 @@ policies =
 
 -- the policy of a name, if the table has it
 unfoldable pub policy_of : List ℕ → Option ResponsePolicy
-policy_of name = lookup policies name
+policy_of name = lookup_name policies name
 
 -- whether the replies to the parts of a split command can make one by this policy. By
 -- `AllSucceeded` they make an `OK`, by `Aggregate(Sum)` a count, and by `CombineArrays` a list.

@@ -2,7 +2,7 @@
 -- name stands with how its arguments make tuples, and how the replies to its parts make one.
 use Rattle.std.specs.Prelude.{ℕ, List, length, Bool, true, false, ◌&&◌, ◌||◌, not, if◌then◌else◌, cond, nat_eq, Option, None, Some, is_some, is_none, option_map}
 use Rattle.std.specs.List.{list_any, before_first, after_first}
-use Rattle.redis_routing.specs.Lookup.{lookup}
+use Rattle.redis_routing.specs.Lookup.{lookup_name}
 use Rattle.redis_routing.specs.NameTables.{NameTables}
 use Rattle.redis_routing.specs.Policies.{joins_parts, policy_of}
 use Rattle.redis_routing.specs.RouteBy.{base_routing}
@@ -45,11 +45,11 @@ is_bad_name name =
 
 -- whether the tables have the name, as `MGET`, or it is registered
 abbrev pub is_taken : Registrations → List ℕ → Bool
-is_taken registry name = is_some (base_routing name) || is_some (lookup registry name)
+is_taken registry name = is_some (base_routing name) || is_some (lookup_name registry name)
 
 -- what a name is registered with, where the tables don't have it
 abbrev pub registered_as : Registrations → List ℕ → Option Registered
-registered_as registry name = cond (is_some (base_routing name)) None (lookup registry name)
+registered_as registry name = cond (is_some (base_routing name)) None (lookup_name registry name)
 
 -- whether the replies to the parts of a command can't make one by this policy
 abbrev pub is_bad_policy : ResponsePolicy → Bool
@@ -80,6 +80,6 @@ policy_or None policy registered = registered_policy registered
 -- the project's own tables with the rows of a registry after them
 abbrev pub tables_with : Registrations → NameTables
 tables_with registry = record {
-  route_by = λ name. routing_or (base_routing name) (lookup registry name);
-  policy = λ name. policy_or (base_routing name) (policy_of name) (lookup registry name);
+  route_by = λ name. routing_or (base_routing name) (lookup_name registry name);
+  policy = λ name. policy_or (base_routing name) (policy_of name) (lookup_name registry name);
 }

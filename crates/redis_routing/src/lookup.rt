@@ -1,12 +1,12 @@
 ghost use Rattle.std.specs.Prelude.{◌≡◌, ◌<◌, map, true, length};
-ghost use Rattle.redis_routing.specs.Lookup.{lookup, has_name, ascends};
+ghost use Rattle.redis_routing.specs.Lookup.{lookup_name, has_name, ascends};
 ghost use Rattle.redis_routing.specs.Places.{name_hash, row_of, stand_at_their_rows};
 
 /// What stands beside the name in a table whose rows stand at the places of their names.
 pub(super) fn find<V: Copy>(rows: &[(&[u8], V)], places: &[u8], name: &[u8]) -> Option<V>
     requires some { 0 < length places.now }
     requires placed { stand_at_their_rows places.now (map (λ row. row.0.now) rows.now) ≡ true }
-    ensures { result ≡ lookup (map (λ row. (row.0.now, row.1)) rows.now) name.now }
+    ensures { result ≡ lookup_name (map (λ row. (row.0.now, row.1)) rows.now) name.now }
 {
     let place = row_of(places, name);
     if place < rows.len() && rows[place].0 == name {

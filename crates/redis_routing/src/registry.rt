@@ -2,7 +2,7 @@ ghost use Rattle.std.specs.Prelude.{◌≡◌, ◌↔◌, IsTrue, ◌⊎◌, ◌
 ghost use Rattle.std.specs.Str.{bytes_eq};
 ghost use Rattle.std.specs.Cmp.Rules.{comparing};
 ghost use Rattle.std.proofs.Common.{rules};
-ghost use Rattle.redis_routing.specs.Lookup.{lookup};
+ghost use Rattle.redis_routing.specs.Lookup.{lookup_name};
 ghost use Rattle.redis_routing.specs.NameTables.{default_tables};
 ghost use Rattle.redis_routing.specs.Refusal.{register_error};
 ghost use Rattle.redis_routing.specs.Registry.{is_bad_name, is_empty, is_one_word, is_bad_policy, is_registrable, tables_with};
@@ -138,8 +138,8 @@ impl Registry {
         ensures refused { IfErr result (λ error.
             (register_error self.old (upper name.now) policy ≡ Some error) ⊎ (error ≡ refused.Memory)) }
         ensures accepted { OnOk result (register_error self.old (upper name.now) policy ≡ None) }
-        ensures registered { OnOk result ((q : List ℕ) → lookup self.new q
-            ≡ cond (bytes_eq (upper name.now) q) (Some (pattern, policy)) (lookup self.old q)) }
+        ensures registered { OnOk result ((q : List ℕ) → lookup_name self.new q
+            ≡ cond (bytes_eq (upper name.now) q) (Some (pattern, policy)) (lookup_name self.old q)) }
         ensures one_more { OnOk result (length self.new ≡ length self.old + 1) }
         ensures unchanged { OnErr result (self.new ≡ self.old) }
     {
@@ -160,7 +160,7 @@ impl Registry {
     /// What the name is registered with, given in upper case as `Routable::command` gives it.
     /// O(log n).
     pub fn get(&self, name: &[u8]) -> Option<(MultiSlotArgPattern, ResponsePolicy)>
-        ensures found { result ≡ lookup self.now name.now }
+        ensures found { result ≡ lookup_name self.now name.now }
         // Whoever finds a name knows that it could be registered.
         ensures registrable { IfSome result (λ row. is_registrable name.now row.1 ≡ true) }
     {
@@ -204,7 +204,7 @@ impl PartialEq for Registry {
         ensures same { IsTrue result ↔ (self.now ≡ other.now) }
         // They are equal exactly where each name is registered in both alike, or in neither.
         ensures lookup { IsTrue result
-            ↔ ((name : List ℕ) → lookup self.now name ≡ lookup other.now name) }
+            ↔ ((name : List ℕ) → lookup_name self.now name ≡ lookup_name other.now name) }
     {
         self.rows.len() == other.rows.len() && self.rows == other.rows
     }

@@ -1,7 +1,7 @@
 -- The map lines that register a name: `multi PATTERN POLICY NAME`, or `NAME WORD` for one of two.
 use Rattle.std.specs.Prelude.{◌≡◌, ℕ, List, [], ◌∷◌, ◌++◌, if◌then◌else◌, Option, None, Some, codes}
 use Rattle.std.specs.Str.{bytes_eq}
-use Rattle.redis_routing.specs.Lookup.{lookup}
+use Rattle.redis_routing.specs.Lookup.{lookup_name}
 use Rattle.redis_routing.specs.Refusal.{register_error}
 use Rattle.redis_routing.specs.Registry.{Registrations, Registered}
 use Rattle.redis_routing.specs.Upper.{upper}
@@ -39,8 +39,8 @@ name_in words = None
 -- the fields of a line that asks to register the name
 abbrev pub IsMultiLine : List (List ℕ) → List ℕ → Registered → Type 0
 IsMultiLine (first ∷ pattern ∷ policy ∷ words) name registered =
-    (first ≡ multi_word) × (lookup pattern_words pattern ≡ Some registered.0)
-    × (lookup policy_words policy ≡ Some registered.1) × (name_in words ≡ Some name)
+    (first ≡ multi_word) × (lookup_name pattern_words pattern ≡ Some registered.0)
+    × (lookup_name policy_words policy ≡ Some registered.1) × (name_in words ≡ Some name)
 IsMultiLine fields name registered = ⊥
 
 -- The name could be registered, and in upper case was. What any other name is registered with
@@ -48,8 +48,8 @@ IsMultiLine fields name registered = ⊥
 pub record IsRegistered (old new : Registrations) (name : List ℕ) (registered : Registered)
     : Type 0 where
   pub accepted : register_error old (upper name) registered.1 ≡ None
-  pub rows : (other : List ℕ) → lookup new other
-      ≡ (if bytes_eq (upper name) other then Some registered else lookup old other)
+  pub rows : (other : List ℕ) → lookup_name new other
+      ≡ (if bytes_eq (upper name) other then Some registered else lookup_name old other)
 
 -- a line with these fields registered its name
 pub record Registers (fields : List (List ℕ)) (old new : Registrations) : Type 0 where

@@ -1,5 +1,5 @@
 ghost use Rattle.std.specs.Prelude.{◌≡◌, true, false, map, option_map, IfOk};
-ghost use Rattle.redis_routing.specs.Lookup.{lookup};
+ghost use Rattle.redis_routing.specs.Lookup.{lookup_name};
 ghost use Rattle.redis_routing.specs.Registry.{Registrations};
 ghost use Rattle.slotroute_serve.specs.MultiLines.{Registers, pattern_words, policy_words, name_in};
 
@@ -40,7 +40,7 @@ pub(super) fn register_line(
 
 /// How arguments make tuples, by the word for it.
 fn pattern_by(word: &[u8]) -> Option<MultiSlotArgPattern>
-    ensures { result ≡ lookup pattern_words word.now }
+    ensures { result ≡ lookup_name pattern_words word.now }
 {
     match word {
         b"keys" => Some(MultiSlotArgPattern::KeysOnly),
@@ -53,7 +53,7 @@ fn pattern_by(word: &[u8]) -> Option<MultiSlotArgPattern>
 
 /// How replies make one, by the word for it.
 fn policy_by(word: &[u8]) -> Option<ResponsePolicy>
-    ensures { result ≡ lookup policy_words word.now }
+    ensures { result ≡ lookup_name policy_words word.now }
 {
     match word {
         b"ok" => Some(ResponsePolicy::AllSucceeded),

@@ -1,6 +1,6 @@
 use Rattle.std.proofs.Common.{◌≡◌, ◌∙◌, ap, false, None, rules}
 use Rattle.std.specs.Prelude.{is_some}
-use Rattle.redis_routing.specs.Lookup.{lookup}
+use Rattle.redis_routing.specs.Lookup.{lookup_name}
 use Rattle.redis_routing.specs.Registry.{is_bad_name, is_bad_policy}
 use Rattle.redis_routing.specs.RouteBy.{base_routing}
 use Rattle.redis_routing.proofs.Registrations.{found_row, lookup-insert_entry, registrable-insert_entry, may_register, none_from, one_more}
@@ -23,7 +23,7 @@ returns-clause-registered c = λ q.
 pub returns-clause-one_more : goal.returns-clause-one_more
 returns-clause-one_more c =
     let name = c.in_ok-name.name.items in
-    let unknown : is_some (lookup c.args.self.now name) ≡ false = search rules in
+    let unknown : is_some (lookup_name c.args.self.now name) ≡ false = search rules in
     let none : c.in_ok-insert.field-0 ≡ None =
-    c.in_ok-insert.ensures.old ∙ found_row name c.self.inside.rows.entries ∙ ap (λ rows. lookup rows name) c.self.view_is ∙ none_from _ unknown in
+    c.in_ok-insert.ensures.old ∙ found_row name c.self.inside.rows.entries ∙ ap (λ rows. lookup_name rows name) c.self.view_is ∙ none_from _ unknown in
     rw (← c.self.view_is) (one_more c.in_ok-insert.field-0 c.self.inside.rows.entries _ none c.in_ok-insert.ensures.len)

@@ -1,7 +1,7 @@
 use Rattle.std.proofs.Common.{◌≡◌, ℕ, List, length, map, eq-eqb, rules, sym, ap, ◌∙◌}
 use Rattle.std.proofs.lemmas.Bool.Decides.{Decides-at}
 use Rattle.std.proofs.lemmas.List.{length-map}
-use Rattle.redis_routing.specs.Lookup.{lookup}
+use Rattle.redis_routing.specs.Lookup.{lookup_name}
 use Rattle.redis_routing.specs.Registry.{Registered, Registrations}
 use Rattle.redis_routing.specs.SameRegistrations.{same_registrations}
 use Rattle.redis_routing.proofs.Registrations.{row_of}
@@ -22,10 +22,10 @@ pub returns-then-len-clause-lookup : goal.returns-then-len-clause-lookup
 returns-then-len-clause-lookup c =
     let own = c.self.view_is in
     let others = c.other.view_is in (
-      (λ t name. ap (λ (rows : Registrations). lookup rows name) ((returns-then-len-clause-same c).0 t)),
+      (λ t name. ap (λ (rows : Registrations). lookup_name rows name) ((returns-then-len-clause-same c).0 t)),
       (λ alike.
           let same = same_lookups c.self.inside.rows c.other.inside.rows c.len.ensures.ordered c.len-2.ensures.ordered
-          (λ name. ap (λ (rows : Registrations). lookup rows name) own ∙ alike name ∙ sym (ap (λ (rows : Registrations). lookup rows name) others)) in
+          (λ name. ap (λ (rows : Registrations). lookup_name rows name) own ∙ alike name ∙ sym (ap (λ (rows : Registrations). lookup_name rows name) others)) in
           (returns-then-len-clause-same c).1 (sym own ∙ same ∙ others)),
     )
 
@@ -40,7 +40,7 @@ returns-else-len-clause-lookup c =
           absurd (c.if-len.false equal)),
       (λ alike.
           let same = same_lookups c.self.inside.rows c.other.inside.rows c.len.ensures.ordered c.len-2.ensures.ordered
-          (λ name. ap (λ (rows : Registrations). lookup rows name) own ∙ alike name ∙ sym (ap (λ (rows : Registrations). lookup rows name) others)) in
+          (λ name. ap (λ (rows : Registrations). lookup_name rows name) own ∙ alike name ∙ sym (ap (λ (rows : Registrations). lookup_name rows name) others)) in
           let len : length entries ≡ length other_entries = sym (length-map entries row_of) ∙ ap (length {A = List ℕ × Registered}) same ∙ length-map other_entries row_of in
           eq-eqb c.len.result c.len-2.result (c.len.ensures.len ∙ len ∙ sym c.len-2.ensures.len)),
     )
