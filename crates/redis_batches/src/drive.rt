@@ -11,11 +11,11 @@ ghost use Rattle.redis_batches.specs.Taken.{answer_of};
 
 use crate::fault::{PipelineError, PipelineFault};
 use crate::nodes::BatchNodes;
-use crate::order::names_once;
 use crate::pipeline::PipelinePlan;
 use crate::replies::replies_of;
 use crate::send::send_batches;
 use cluster_map::{ReadRoutingStrategy, SlotMap};
+use redis_cluster::driver::names_once;
 use redis_routing::{Names, ReadOnlyNames};
 use resp_core::{Cmd, RedisError, Value};
 use std::alloc::Global;

@@ -8,7 +8,6 @@ mod fault;
 mod going;
 mod grouping;
 mod nodes;
-mod order;
 mod part;
 mod parts;
 mod pipeline;

@@ -24,7 +24,7 @@ ghost use Rattle.redis_cluster.specs.Tries.{tries_with, AllTried};
 
 pub use crate::fault::{DriveError, DriveFault, PlanFault};
 pub use crate::nodes::{Nodes, SendError};
-use crate::order::names_once;
+pub use crate::order::names_once;
 pub use crate::plan::{SplitPlan, join_replies};
 pub use crate::retry::Retry;
 pub use crate::retrying::drive_retrying;

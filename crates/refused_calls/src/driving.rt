@@ -7,7 +7,7 @@ use cluster_map::{NodeAddress, Route, SlotAddr, SlotMap};
 use memory_nodes::{MemoryNodes, Planned};
 use redis_cluster::driver::{
     DriveError, DriveFault, Nodes, PlanFault, Retry, SendError, SplitPlan, drive, drive_plan,
-    drive_retrying, join_replies,
+    drive_retrying, join_replies, names_once,
 };
 use redis_cluster::routing::{Names, Redirect, Registry, SplitCommand};
 use resp_core::{Cmd, Value};
@@ -24,6 +24,7 @@ pub fn call(page: &Page<'_>, alloc: Global, name: &str) -> Result<(), Fault> {
         "SplitPlan::tell" => tell(page, alloc),
         "SplitPlan::combine" => combine(page, alloc),
         "join_replies" => join(page, alloc),
+        "names_once" => page.given(&names_once(alloc, 3, &[2, 0, 1])),
         "Retry::new" => retry(page, alloc),
         "Retry::on_redirect" => redirected(page, alloc),
         "PlanFault::Display" => page.given(&format!(in alloc; "{}", PlanFault::NotCovered(5061))),

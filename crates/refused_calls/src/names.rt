@@ -1,5 +1,5 @@
 /// Each public call that may take memory. `tools/memory-calls` prints those that have to be here.
-pub static NAMES: [&str; 142] = [
+pub static NAMES: [&str; 143] = [
     "memory_batches::MemoryBatchNodes::new",
     "memory_batches::MemoryBatchNodes::with_registry",
     "memory_batches::MemoryBatchNodes::send_batch",
@@ -68,6 +68,7 @@ pub static NAMES: [&str; 142] = [
     "redis_cluster::SplitPlan::tell",
     "redis_cluster::SplitPlan::combine",
     "redis_cluster::join_replies",
+    "redis_cluster::names_once",
     "redis_cluster::Retry::new",
     "redis_cluster::Retry::on_redirect",
     "redis_cluster::PlanFault::Display",
