@@ -25,6 +25,13 @@ asked_none old before was = subst old (sym (append-nil before)) was
 pub asked_more : (old between new : List Batch → Type 0) (sent others : List Batch) → WereAsked old between sent → WereAsked between new others → WereAsked old new (sent ++ others)
 asked_more old between new sent others one other before was = subst new (append_assoc before sent others) (other (before ++ sent) (one before was))
 
+-- some, and then others up to one that was not taken
+pub asked_until_more : (old between new : List Batch → Type 0) (sent others : List Batch) (last : Batch) (error : SendError) → WereAsked old between sent → WereAskedUntil between new others last error
+    → WereAskedUntil old new (sent ++ others) last error
+asked_until_more old between new sent others last error one (inl all) =
+    inl (subst (WereAsked old new) (sym (append_assoc sent others (last ∷ []))) (asked_more old between new sent (others ++ last ∷ []) one all))
+asked_until_more old between new sent others last error one (inr none) = inr (none.0, asked_more old between new sent others one none.1)
+
 -- a plan with the same parts has the same batches
 pub same_batch : (now plan : Batches) (k : ℕ) → now.nodes ≡ plan.nodes → now.places ≡ plan.places → now.parts ≡ plan.parts → batch_at now k ≡ batch_at plan k
 same_batch now plan k nodes places parts =

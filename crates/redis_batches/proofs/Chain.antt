@@ -10,12 +10,13 @@ use Rattle.redis_routing.specs.Registry.{Registrations}
 use Rattle.redis_cluster.specs.State.{State}
 use Rattle.redis_cluster.specs.Trace.{Ending, refused}
 use Rattle.redis_cluster.specs.Unsplit.{Step, Keyspace}
+use Rattle.redis_batches.specs.Batched.{put_at}
 use Rattle.redis_batches.specs.Driven.{WereAsked}
 use Rattle.redis_batches.specs.DrivenPipeline.{IsBeforeSending}
 use Rattle.redis_batches.specs.InRounds.{AreSentAgain, IsAgainFault, Stands}
 use Rattle.redis_batches.specs.Outgoing.{ArePutAt, GoesBehind, IsNextFault, IsNextServed}
 use Rattle.redis_batches.specs.Pipeline.{Answer, AreSlotsOf, Numbered, Planned, Refusals, Serve, ended, numbered, slot_of}
-use Rattle.redis_batches.specs.Rounds.{AreRounds, AreSentOn, Follows, IsLast, IsRoundServed, IsRoundStopped, IsSentOn, OwnErrorsStay, Round, after_round, after_rounds, go_on, last_round, round_batches}
+use Rattle.redis_batches.specs.Rounds.{AreRounds, AreSentOn, Follows, IsLast, IsRoundServed, IsRoundStopped, IsSentOn, OwnErrorsStay, Round, StaysHere, after_round, after_rounds, batch_after, batches_before, go_on, last_round, latest_answers, round_batches}
 use Rattle.redis_batches.specs.Sent.{AreLast}
 use Rattle.redis_batches.specs.Taken.{Batch, answer_of}
 use Rattle.redis_batches.specs.Turns.{all_after, answers}
@@ -23,9 +24,10 @@ use Rattle.redis_batches.specs.declared.going.Outgoing.{Outgoing}
 use Rattle.redis_batches.specs.declared.send.Stopped.{Stopped}
 use Rattle.redis_batches.proofs.Again.{IsRefusedBy, from_all, put_back, replies_for, round_leaves, same_sent}
 use Rattle.redis_batches.proofs.Alone.{IsOwnPart, alone_answers, alone_leaves, numbered_own}
-use Rattle.redis_batches.proofs.Asked.{asked_more, asked_none}
+use Rattle.redis_batches.proofs.Asked.{asked_more, asked_none, asked_until_more}
 use Rattle.redis_batches.specs.declared.fault.PipelineError.{PipelineError}
 use Rattle.redis_batches.specs.declared.fault.PipelineError.TheVariants as driven
+use Rattle.redis_batches.proofs.StayHere.{numbered_stay}
 use Rattle.redis_batches.proofs.GoOn.{any_all, go_all, go_refused, zip_fronts}
 use Rattle.redis_batches.proofs.Untaken.{not_taken_wider}
 use Rattle.redis_batches.proofs.Written.{zip_long}
@@ -38,6 +40,10 @@ last_more round (r ∷ rounds) next = last_more r rounds next
 refusals_more : (refusals : Refusals) (rounds : List Round) (next : Round) → after_rounds refusals (rounds ++ next ∷ []) ≡ after_round (after_rounds refusals rounds) next
 refusals_more refusals [] next = refl
 refusals_more refusals (r ∷ rounds) next = refusals_more (after_round refusals r) rounds next
+
+latest_more : (all : List Answer) (rounds : List Round) (next : Round) → latest_answers all (rounds ++ next ∷ []) ≡ put_at (latest_answers all rounds) (map (λ x. x.0) next.sent) next.given
+latest_more all [] next = refl
+latest_more all (r ∷ rounds) next = latest_more (put_at all (map (λ (x : Numbered). x.0) r.sent) r.given) rounds next
 
 batches_more : (rounds : List Round) (next : Round) → flat_map round_batches (rounds ++ next ∷ []) ≡ flat_map round_batches rounds ++ round_batches next
 batches_more rounds next = flat_map-append round_batches rounds (next ∷ []) ∙ ap (λ l. flat_map round_batches rounds ++ l) (append-nil (round_batches next))
@@ -117,13 +123,13 @@ module _ {C : Type 0} (step : Step C) (serve : Serve C) (registered : Registrati
     behind = is.behind;
   }
 
-  pub fault_wider : (kept : Type 0) → (may wide : ℕ → Ending → Type 0) → ((count : ℕ) (ending : Ending) → may count ending → wide count ending) → (ps : List Planned) (round : Round) (old new : State C) (error : PipelineError)
-      → IsNextFault step serve kept may registered arguments ps round old new error → IsNextFault step serve kept wide registered arguments ps round old new error
-  fault_wider kept may wide more ps round old new (driven.Plan fault) is = is
-  fault_wider kept may wide more ps round old new driven.BadOrder is = is
-  fault_wider kept may wide more ps round old new (driven.Node stop) is = (is.0, is.1, stopped_wider kept may wide more is.0 old new stop is.2)
-  fault_wider kept may wide more ps round old new driven.Memory (inl same) = inl same
-  fault_wider kept may wide more ps round old new driven.Memory (inr is) = inr (is.0, is.1, round_wider kept kept (λ keep. keep) may wide more is.0 old new is.2)
+  pub fault_wider : (kept : Type 0) → (may wide : ℕ → Ending → Type 0) → ((count : ℕ) (ending : Ending) → may count ending → wide count ending) → (ps : List Planned) (round : Round) (old new : State C) (asked_old asked_new : List Batch → Type 0) (error : PipelineError)
+      → IsNextFault step serve kept may registered arguments ps round old new asked_old asked_new error → IsNextFault step serve kept wide registered arguments ps round old new asked_old asked_new error
+  fault_wider kept may wide more ps round old new asked_old asked_new (driven.Plan fault) is = is
+  fault_wider kept may wide more ps round old new asked_old asked_new driven.BadOrder is = is
+  fault_wider kept may wide more ps round old new asked_old asked_new (driven.Node stop) is = (is.0, is.1, stopped_wider kept may wide more is.0 old new stop is.2, is.3)
+  fault_wider kept may wide more ps round old new asked_old asked_new driven.Memory (inl same) = inl same
+  fault_wider kept may wide more ps round old new asked_old asked_new driven.Memory (inr is) = inr (is.0, is.1, round_wider kept kept (λ keep. keep) may wide more is.0 old new is.2, is.3)
 
   pub again_wider : (kept : Type 0) → (may wide : ℕ → Ending → Type 0) → ((count : ℕ) (ending : Ending) → may count ending → wide count ending) → (ps : List Planned) (round : Round) (retries : ℕ) (old new : State C) (asked_old asked_new : List Batch → Type 0)
       (before after : List (Result Value ErrorParts)) → AreSentAgain step serve kept may registered arguments ps round retries old new asked_old asked_new before after
@@ -134,24 +140,25 @@ module _ {C : Type 0} (step : Step C) (serve : Serve C) (registered : Registrati
     again = rounds_wider kept kept (λ keep. keep) may wide more round is.rounds old new is.again;
     asked = is.asked;
     done = is.done;
+    latest = is.latest;
     as_one = is.as_one;
   }
 
-  pub again_fault_wider : (kept : Type 0) → (may wide : ℕ → Ending → Type 0) → ((count : ℕ) (ending : Ending) → may count ending → wide count ending) → (ps : List Planned) (round : Round) (retries : ℕ) (old new : State C) (error : PipelineError)
-      → IsAgainFault step serve kept may registered arguments ps round retries old new error → IsAgainFault step serve kept wide registered arguments ps round retries old new error
-  again_fault_wider kept may wide more ps round retries old new (driven.Plan fault) is = is
-  again_fault_wider kept may wide more ps round retries old new driven.BadOrder is = is
-  again_fault_wider kept may wide more ps round retries old new (driven.Node stop) is =
-      (is.0, is.1, is.2, rounds_wider kept kept (λ keep. keep) may wide more round is.0 old is.2 is.3, is.4, is.5, stopped_wider kept may wide more is.4 is.2 new stop is.6)
-  again_fault_wider kept may wide more ps round retries old new driven.Memory is = (is.0, is.1, rounds_wider kept kept (λ keep. keep) may wide more round is.0 old new is.2)
+  pub again_fault_wider : (kept : Type 0) → (may wide : ℕ → Ending → Type 0) → ((count : ℕ) (ending : Ending) → may count ending → wide count ending) → (ps : List Planned) (round : Round) (retries : ℕ) (old new : State C) (asked_old asked_new : List Batch → Type 0) (error : PipelineError)
+      → IsAgainFault step serve kept may registered arguments ps round retries old new asked_old asked_new error → IsAgainFault step serve kept wide registered arguments ps round retries old new asked_old asked_new error
+  again_fault_wider kept may wide more ps round retries old new asked_old asked_new (driven.Plan fault) is = is
+  again_fault_wider kept may wide more ps round retries old new asked_old asked_new driven.BadOrder is = is
+  again_fault_wider kept may wide more ps round retries old new asked_old asked_new (driven.Node stop) is =
+      (is.0, is.1, is.2, rounds_wider kept kept (λ keep. keep) may wide more round is.0 old is.2 is.3, is.4, is.5, stopped_wider kept may wide more is.4 is.2 new stop is.6, is.7)
+  again_fault_wider kept may wide more ps round retries old new asked_old asked_new driven.Memory is = (is.0, is.1, rounds_wider kept kept (λ keep. keep) may wide more round is.0 old new is.2, is.3)
 
   -- something was sent before
-  pub not_before : (kept : Type 0) (may : ℕ → Ending → Type 0) (ps : List Planned) (round : Round) (retries : ℕ) (old new : State C) (error : PipelineError)
-      → IsAgainFault step serve kept may registered arguments ps round retries old new error → IsBeforeSending error → ⊥
-  not_before kept may ps round retries old new (driven.Plan fault) is before = is
-  not_before kept may ps round retries old new driven.BadOrder is before = is
-  not_before kept may ps round retries old new (driven.Node stop) is before = before
-  not_before kept may ps round retries old new driven.Memory is before = before
+  pub not_before : (kept : Type 0) (may : ℕ → Ending → Type 0) (ps : List Planned) (round : Round) (retries : ℕ) (old new : State C) (asked_old asked_new : List Batch → Type 0) (error : PipelineError)
+      → IsAgainFault step serve kept may registered arguments ps round retries old new asked_old asked_new error → IsBeforeSending error → ⊥
+  not_before kept may ps round retries old new asked_old asked_new (driven.Plan fault) is before = is
+  not_before kept may ps round retries old new asked_old asked_new driven.BadOrder is before = is
+  not_before kept may ps round retries old new asked_old asked_new (driven.Node stop) is before = before
+  not_before kept may ps round retries old new asked_old asked_new driven.Memory is before = before
 
 -- the parts of a round are in front of where they were sent on to
 pub fronts_of : (round : Round) (on : List (Option Address)) → AreSentOn round on → length round.given ≡ length round.sent → map (λ (z : Numbered × Option Address). z.0) (zip round.sent on) ≡ round.sent
@@ -160,7 +167,7 @@ fronts_of round on are long =
     let many : length nodes ≡ length round.sent = length-map round.sent (λ (x : Numbered). round.node_of (slot_of x)) in
     zip_fronts (λ row target. IsSentOn row.0 row.1 target) round.sent (zip nodes round.given) on (zip_long nodes round.given (long ∙ sym many) ∙ many) are
 
-module _ {C : Type 0} (step : Step C) (serve : Serve C) (own : OwnErrorsStay serve) (ps : List Planned) (are : All (λ p. AreSlotsOf p.task p.slots) ps) (round next : Round) (follows : Follows round next)
+module _ {C : Type 0} (step : Step C) (serve : Serve C) (ps : List Planned) (are : All (λ p. AreSlotsOf p.task p.slots) ps) (round next : Round) (stay : All (λ x. StaysHere serve x.1.task) round.sent) (follows : Follows round next)
     (fronts : map (λ z. z.0) (zip round.sent follows.on) ≡ round.sent) (last : AreLast slot_of next.sent (numbered ps)) (start now new : Keyspace C) (refusals : Refusals) (out more replies : List (Result Value ErrorParts))
     (stands : Stands step serve ps refusals round start now out) where
   abbrev marked : List (Numbered × Option Address)
@@ -174,7 +181,7 @@ module _ {C : Type 0} (step : Step C) (serve : Serve C) (own : OwnErrorsStay ser
   all_refused : All (IsRefusedBy refusals) next.sent
   all_refused =
       let were : All (IsRefusedBy round.refusals) next.sent = subst (All (IsRefusedBy round.refusals)) (sym follows.sent)
-      (go_refused step serve own round.refusals (λ x. round.node_of (slot_of x)) round.sent round.given follows.on stands.before stands.given_are follows.on_are) in
+      (go_refused step serve round.refusals (λ x. round.node_of (slot_of x)) round.sent stay round.given follows.on stands.before stands.given_are follows.on_are) in
       λ k d inside. ((were k d inside).0, same_refusals k d inside ∙ (were k d inside).1)
 
   -- So after the next round all stands as on one server, each part with its last end.
@@ -204,7 +211,8 @@ module _ {C : Type 0} (step : Step C) (serve : Serve C) (may : ℕ → Ending �
     pub again : AreRounds step serve kept may registered arguments round rounds start now
     pub asked : WereAsked asked_start asked_now (flat_map round_batches rounds)
     pub behind : GoesBehind ps (last_round round rounds) out
-    pub stands : kept → OwnErrorsStay serve → (ks : Keyspace C) (refusals : Refusals) → Stands step serve ps refusals round ks start.keyspace before
+    pub latest : map answer_of all ≡ latest_answers (map answer_of before) rounds
+    pub stands : kept → OwnErrorsStay serve (map (λ p. p.task) ps) → (ks : Keyspace C) (refusals : Refusals) → Stands step serve ps refusals round ks start.keyspace before
         → Stands step serve ps (after_rounds refusals rounds) (last_round round rounds) ks now.keyspace all
 
   pub none_so_far : (kept : Type 0) (out : Outgoing) → GoesBehind ps round out → IsSoFar kept 0 start asked_start before out
@@ -214,6 +222,7 @@ module _ {C : Type 0} (step : Step C) (serve : Serve C) (may : ℕ → Ending �
     again = refl;
     asked = asked_none asked_start;
     behind = gone;
+    latest = refl;
     stands = λ keep own ks refusals is. is;
   }
 
@@ -235,12 +244,14 @@ module _ {C : Type 0} (step : Step C) (serve : Serve C) (may : ℕ → Ending �
               (rounds_wider step serve registered arguments kept_then kept earlier may may (λ count ending is. is) round so_far.rounds start now so_far.again) is.follows is.served;
           asked = subst (WereAsked asked_start asked_new) (sym (batches_more so_far.rounds is.next)) (asked_more asked_start asked_now asked_new (flat_map round_batches so_far.rounds) (round_batches is.next) so_far.asked is.asked);
           behind = subst (λ r. GoesBehind ps r later) (sym last) is.behind;
+          latest = is.put.all_are ∙ ap (λ l. put_at l (map (λ (x : Numbered). x.0) is.next.sent) is.next.given) so_far.latest ∙ sym (latest_more (map answer_of before) so_far.rounds is.next);
           stands = λ keep own ks refusals was.
               let stands : Stands step serve ps (after_rounds refusals so_far.rounds) latest ks now.keyspace all = so_far.stands (earlier keep) own ks refusals was in
               let served = is.served.served in
+              let stay : All (λ x. StaysHere serve x.1.task) latest.sent = from_all (λ x. StaysHere serve x.1.task) latest.sent (numbered ps) so_far.behind.last (numbered_stay serve ps own) in
               let mine : All (λ x. IsOwnPart x.1) is.next.sent = from_all (λ x. IsOwnPart x.1) is.next.sent (numbered ps) is.behind.last (numbered_own ps are) in
               let next : Stands step serve ps (after_round (after_rounds refusals so_far.rounds) is.next) is.next ks new.keyspace more =
-              stands_next step serve own ps are latest is.next is.follows fronts is.behind.last ks now.keyspace new.keyspace (after_rounds refusals so_far.rounds) all more is.replies stands
+              stands_next step serve ps are latest is.next stay is.follows fronts is.behind.last ks now.keyspace new.keyspace (after_rounds refusals so_far.rounds) all more is.replies stands
               (served.keyspace keep ∙ alone_leaves step serve is.next.refusals served.refusals is.next.sent mine is.served.refusals_are now.keyspace)
               (served.answers_are keep ∙ alone_answers step serve is.next.refusals served.refusals is.next.sent mine is.served.refusals_are now.keyspace)
               is.put in
@@ -249,21 +260,38 @@ module _ {C : Type 0} (step : Step C) (serve : Serve C) (may : ℕ → Ending �
         }
 
     -- why the next one was not served
-    pub fault_after : (retries : ℕ) → k < retries → (error : PipelineError) → IsNextFault step serve kept may registered arguments ps latest now new error
-        → IsAgainFault step serve kept may registered arguments ps round retries start new error
+    pub fault_after : (retries : ℕ) → k < retries → (error : PipelineError) → IsNextFault step serve kept may registered arguments ps latest now new asked_now asked_new error
+        → IsAgainFault step serve kept may registered arguments ps round retries start new asked_start asked_new error
     fault_after retries few error is = by_error error is
       where
         were : AreRounds step serve kept may registered arguments round so_far.rounds start now
         were = rounds_wider step serve registered arguments kept_then kept earlier may may (λ count ending is. is) round so_far.rounds start now so_far.again
 
-        by_error : (e : PipelineError) → IsNextFault step serve kept may registered arguments ps latest now new e → IsAgainFault step serve kept may registered arguments ps round retries start new e
+        by_error : (e : PipelineError) → IsNextFault step serve kept may registered arguments ps latest now new asked_now asked_new e → IsAgainFault step serve kept may registered arguments ps round retries start new asked_start asked_new e
         by_error (driven.Plan fault) is = absurd is
         by_error driven.BadOrder is = absurd is
-        by_error (driven.Node stop) is = (so_far.rounds, omega (arith, few, so_far.many), now, were, is.0, is.1, is.2)
-        by_error driven.Memory (inl same) =
-            (so_far.rounds, omega (arith, few, so_far.many), subst (λ s. AreRounds step serve kept may registered arguments round so_far.rounds start s) (sym same) were)
-        by_error driven.Memory (inr is) =
-            (so_far.rounds ++ is.0 ∷ [], omega (arith, few, so_far.many, length_push so_far.rounds is.0), rounds_more step serve registered arguments kept may round so_far.rounds is.0 start now new were is.1 is.2)
+        by_error (driven.Node stop) is = (
+          so_far.rounds,
+          omega (arith, few, so_far.many),
+          now,
+          were,
+          is.0,
+          is.1,
+          is.2,
+          asked_until_more asked_start asked_now asked_new (flat_map round_batches so_far.rounds) (batches_before is.0 stop.answered) (batch_after is.0 stop.answered) stop.error so_far.asked is.3,
+        )
+        by_error driven.Memory (inl same) = (
+          so_far.rounds,
+          omega (arith, few, so_far.many),
+          subst (λ s. AreRounds step serve kept may registered arguments round so_far.rounds start s) (sym same.0) were,
+          subst (WereAsked asked_start asked_new) (append-nil (flat_map round_batches so_far.rounds)) (asked_more asked_start asked_now asked_new (flat_map round_batches so_far.rounds) [] so_far.asked same.1),
+        )
+        by_error driven.Memory (inr is) = (
+          so_far.rounds ++ is.0 ∷ [],
+          omega (arith, few, so_far.many, length_push so_far.rounds is.0),
+          rounds_more step serve registered arguments kept may round so_far.rounds is.0 start now new were is.1 is.2,
+          subst (WereAsked asked_start asked_new) (sym (batches_more so_far.rounds is.0)) (asked_more asked_start asked_now asked_new (flat_map round_batches so_far.rounds) (round_batches is.0) so_far.asked is.3),
+        )
 
   -- In the end they were sent again as often as there are retries, or no part goes out again.
   pub all_so_far : (kept : Type 0) (k retries : ℕ) (now : State C) (asked_now : List Batch → Type 0) (all : List (Result Value ErrorParts)) (out : Outgoing) → (so_far : IsSoFar kept k now asked_now all out) → k ≤ retries → (k ≡ retries) ⊎ (out.numbers.items ≡ [])
@@ -274,6 +302,7 @@ module _ {C : Type 0} (step : Step C) (serve : Serve C) (may : ℕ → Ending �
     again = so_far.again;
     asked = so_far.asked;
     done = ending end;
+    latest = so_far.latest;
     as_one = λ keep own ks refusals is. (so_far.stands keep own ks refusals is).as_one;
   }
     where

@@ -12,7 +12,7 @@ use Rattle.redis_cluster.specs.Unsplit.{Step, Keyspace}
 use Rattle.redis_cluster.proofs.Counts.{same_number}
 use Rattle.redis_batches.specs.Turns.{answers, of_slot}
 use Rattle.redis_batches.specs.Pipeline.{Answer, Numbered, Refusals, Serve, Task, ended, in_slot, over_keys, piece_of, refused_by, run, slot_of}
-use Rattle.redis_batches.specs.Rounds.{IsSentOn, OwnErrorsStay, SendsOn, go_on, goes_to, is_settled, server_text}
+use Rattle.redis_batches.specs.Rounds.{IsSentOn, SendsOn, StaysHere, go_on, goes_to, is_settled, server_text}
 use Rattle.redis_batches.specs.Sent.{AreApart, AreLast}
 use Rattle.redis_batches.proofs.Again.{IsRefusedBy}
 
@@ -142,38 +142,38 @@ module _ {X : Type 0} (name : X → ℕ) (slot : X → ℕ) (named : ℕ → ℕ
       let first : named (name x) ≡ slot x = All-head (λ y. named (name y) ≡ slot y) x xs same in
       rw (first, goes_by s xs on (All-tail (λ y. named (name y) ≡ slot y) x xs same)) refl
 
-module _ {C : Type 0} (step : Step C) (serve : Serve C) (own : OwnErrorsStay serve) where
+module _ {C : Type 0} (step : Step C) (serve : Serve C) where
   -- an error of a command's own sends it nowhere
   stays_by : (answer : Answer) (node target : Address) → ((error : ErrorParts) → answer ≡ Err error → SendsOn node (server_text error) target → ⊥) → IsSentOn node answer (Some target) → ⊥
   stays_by (Ok reply) node target stays is = cc is
   stays_by (Err error) node target stays is = stays error refl is
 
-  stays : (task : Task) (ks : Keyspace C) (node target : Address) → IsSentOn node (run step serve task ks).reply (Some target) → ⊥
-  stays (over_keys command) ks node target is = cc is
-  stays (in_slot slot args) ks node target is = stays_by _ node target (λ error same. own args _ error node target same) is
+  stays : (task : Task) → StaysHere serve task → (ks : Keyspace C) (node target : Address) → IsSentOn node (run step serve task ks).reply (Some target) → ⊥
+  stays (over_keys command) own ks node target is = cc is
+  stays (in_slot slot args) own ks node target is = stays_by _ node target (λ error same. own _ error node target same) is
 
   -- what was sent on was refused
-  was_refused : (o : Option ErrorParts) (x : Numbered) (ks : Keyspace C) (node target : Address) → IsSentOn node (refused_by o (piece_of step serve x) ks).reply (Some target) → (error : ErrorParts) × (o ≡ Some error)
-  was_refused None x ks node target is = absurd (stays x.1.task ks node target is)
-  was_refused (Some error) x ks node target is = (error, refl)
+  was_refused : (o : Option ErrorParts) (x : Numbered) → StaysHere serve x.1.task → (ks : Keyspace C) (node target : Address) → IsSentOn node (refused_by o (piece_of step serve x) ks).reply (Some target) → (error : ErrorParts) × (o ≡ Some error)
+  was_refused None x own ks node target is = absurd (stays x.1.task own ks node target is)
+  was_refused (Some error) x own ks node target is = (error, refl)
 
-  some_refused : (refusals : Refusals) (x : Numbered) (ks : Keyspace C) (node : Address) (on : Option Address) → IsSentOn node (ended step serve refusals x ks).reply on → IsSome on → IsRefusedBy refusals x
-  some_refused refusals x ks node None is some = absurd (cc some)
-  some_refused refusals x ks node (Some target) is some = was_refused (refusals x) x ks node target is
+  some_refused : (refusals : Refusals) (x : Numbered) → StaysHere serve x.1.task → (ks : Keyspace C) (node : Address) (on : Option Address) → IsSentOn node (ended step serve refusals x ks).reply on → IsSome on → IsRefusedBy refusals x
+  some_refused refusals x own ks node None is some = absurd (cc some)
+  some_refused refusals x own ks node (Some target) is some = was_refused (refusals x) x own ks node target is
 
-  all_refused : (refusals : Refusals) (node_of : Numbered → Address) (xs : List Numbered) (given : List Answer) (on : List (Option Address)) (ks : Keyspace C) → given ≡ map (λ a. a.1) (answers (ended step serve refusals) xs ks)
+  all_refused : (refusals : Refusals) (node_of : Numbered → Address) (xs : List Numbered) → All (λ x. StaysHere serve x.1.task) xs → (given : List Answer) (on : List (Option Address)) (ks : Keyspace C) → given ≡ map (λ a. a.1) (answers (ended step serve refusals) xs ks)
       → AllZip (λ row target. IsSentOn row.0 row.1 target) (zip (map node_of xs) given) on → All (λ z. IsSome z.1 → IsRefusedBy refusals z.0) (zip xs on)
-  all_refused refusals node_of [] given on ks same each = All-nil (λ z. IsSome z.1 → IsRefusedBy refusals z.0)
-  all_refused refusals node_of (x ∷ xs) given [] ks same each = All-nil (λ z. IsSome z.1 → IsRefusedBy refusals z.0)
-  all_refused refusals node_of (x ∷ xs) [] (o ∷ on) ks same each = absurd each
-  all_refused refusals node_of (x ∷ xs) (g ∷ given) (o ∷ on) ks same each =
+  all_refused refusals node_of [] own given on ks same each = All-nil (λ z. IsSome z.1 → IsRefusedBy refusals z.0)
+  all_refused refusals node_of (x ∷ xs) own given [] ks same each = All-nil (λ z. IsSome z.1 → IsRefusedBy refusals z.0)
+  all_refused refusals node_of (x ∷ xs) own [] (o ∷ on) ks same each = absurd each
+  all_refused refusals node_of (x ∷ xs) own (g ∷ given) (o ∷ on) ks same each =
       let first : g ≡ (ended step serve refusals x ks).reply = cc in
       let later : given ≡ map (λ (a : Numbered × Answer). a.1) (answers (ended step serve refusals) xs (ended step serve refusals x ks).keys) = cc in
       All-cons (λ z. IsSome z.1 → IsRefusedBy refusals z.0) (x, o) (zip xs on)
-      (some_refused refusals x ks (node_of x) o (subst (λ a. IsSentOn (node_of x) a o) first each.0))
-      (all_refused refusals node_of xs given on (ended step serve refusals x ks).keys later each.1)
+      (some_refused refusals x (All-head (λ (y : Numbered). StaysHere serve y.1.task) x xs own) ks (node_of x) o (subst (λ a. IsSentOn (node_of x) a o) first each.0))
+      (all_refused refusals node_of xs (All-tail (λ (y : Numbered). StaysHere serve y.1.task) x xs own) given on (ended step serve refusals x ks).keys later each.1)
 
   -- Each part that goes on was refused.
-  pub go_refused : (refusals : Refusals) (node_of : Numbered → Address) (xs : List Numbered) (given : List Answer) (on : List (Option Address)) (ks : Keyspace C) → given ≡ map (λ a. a.1) (answers (ended step serve refusals) xs ks)
+  pub go_refused : (refusals : Refusals) (node_of : Numbered → Address) (xs : List Numbered) → All (λ x. StaysHere serve x.1.task) xs → (given : List Answer) (on : List (Option Address)) (ks : Keyspace C) → given ≡ map (λ a. a.1) (answers (ended step serve refusals) xs ks)
       → AllZip (λ row target. IsSentOn row.0 row.1 target) (zip (map node_of xs) given) on → All (IsRefusedBy refusals) (go_on slot_of (zip xs on))
-  go_refused refusals node_of xs given on ks same each = go_all slot_of (IsRefusedBy refusals) (zip xs on) (all_refused refusals node_of xs given on ks same each)
+  go_refused refusals node_of xs own given on ks same each = go_all slot_of (IsRefusedBy refusals) (zip xs on) (all_refused refusals node_of xs own given on ks same each)

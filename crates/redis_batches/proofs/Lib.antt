@@ -29,6 +29,7 @@ pub mod Driving
 pub mod Again
 pub mod GoOn
 pub mod Alone
+pub mod StayHere
 pub mod Following
 pub mod Chain
 pub mod Walking

@@ -3,14 +3,14 @@ use Rattle.std.proofs.Common.{◌≡◌, ◌<◌, ◌≤◌, ℕ, ◌+◌, zero,
 use Rattle.std.specs.Prelude.{nat_eq, slice_get, slice_set}
 use Rattle.std.proofs.lemmas.Bool.{eqb-true}
 use Rattle.std.proofs.lemmas.Bool.Decides.{nat_tests}
-use Rattle.std.proofs.lemmas.List.{drop_more, length-set, length_push}
-use Rattle.std.proofs.lemmas.List.Elements.{All-cons}
-use Rattle.std.proofs.lemmas.Option.{slice_get-map, slice_get_read}
+use Rattle.std.proofs.lemmas.List.{drop_all, drop_more, length-set, length_push, map-set}
+use Rattle.std.proofs.lemmas.List.Elements.{All-cons, All-nil}
+use Rattle.std.proofs.lemmas.Option.{same_Some, slice_get-map, slice_get_read}
 use Rattle.resp_core.proofs.Cases.{by_test}
 use Rattle.resp_core.specs.ErrorParts.{ErrorParts}
 use Rattle.resp_core.specs.declared.value.Value.{Value}
 use Rattle.redis_batches.specs.Pipeline.{Answer}
-use Rattle.redis_batches.specs.Batched.{AreFor, IsRight}
+use Rattle.redis_batches.specs.Batched.{AreFor, IsRight, put_at}
 use Rattle.redis_batches.specs.Taken.{answer_of}
 
 -- what is put at a place stands there, and elsewhere nothing changes
@@ -36,13 +36,42 @@ pub get_last : {X : Type 0} (xs : List X) (x : X) → slice_get (xs ++ x ∷ [])
 get_last [] x = refl
 get_last (y ∷ xs) x = get_last xs x
 
+-- what is left of a list from an element on
+drop_there : {X : Type 0} (xs : List X) (n : ℕ) (x : X) → slice_get xs n ≡ Some x → drop n xs ≡ x ∷ drop (suc n) xs
+drop_there [] n x at = absurd (cc at)
+drop_there (y ∷ xs) zero x at = ap (λ z. z ∷ xs) (same_Some y x at)
+drop_there (y ∷ xs) (suc n) x at = drop_there xs n x at
+
+-- nothing is put anywhere
+put_none : {X : Type 0} (all : List X) (places : List ℕ) → put_at all places [] ≡ all
+put_none all [] = refl
+put_none all (place ∷ places) = refl
+
+-- what is made of each stands at the same places
+pub map-put_at : {X Y : Type 0} (f : X → Y) (all : List X) (places : List ℕ) (xs : List X) → map f (put_at all places xs) ≡ put_at (map f all) places (map f xs)
+map-put_at f all [] xs = refl
+map-put_at f all (place ∷ places) [] = refl
+map-put_at f all (place ∷ places) (x ∷ xs) = map-set f (put_at all places xs) place x ∙ ap (λ l. slice_set l place (f x)) (map-put_at f all places xs)
+
 -- what the loop over answers keeps
 pub record ArePut (out now : List (Result Value ErrorParts)) (given left : List (Result Value ErrorParts)) (places : List ℕ) : Type 0 where
+  pub put : now ≡ put_at out (drop (length left) places) (drop (length left) given)
   pub len : length now ≡ length out
   pub few : length left ≤ length places
   pub front : (i : ℕ) → i < length left → slice_get left i ≡ slice_get given i
   pub right : (all : List Answer) → AreFor all places given → All (IsRight now all) (drop (length left) places)
   pub kept : (all : List Answer) → AreFor all places given → (place : ℕ) → IsRight out all place → IsRight now all place
+
+-- none is put at its place at first
+pub none_put : (out given : List (Result Value ErrorParts)) (places : List ℕ) → length given ≡ length places → ArePut out out given given places
+none_put out given places same = record {
+  put = sym (ap (put_at out (drop (length given) places)) (drop_all (length given) given (omega arith)) ∙ put_none out (drop (length given) places));
+  len = refl;
+  few = omega (arith, same);
+  front = λ i under. refl;
+  right = λ all for. subst (All (IsRight out all)) (sym (drop_all (length given) places (omega (arith, same)))) (All-nil (IsRight out all));
+  kept = λ all for place was. was;
+}
 
 -- one answer more is put at its place
 pub put_one : (out now given left rest : List (Result Value ErrorParts)) (answer : Result Value ErrorParts) (places : List ℕ)
@@ -51,6 +80,7 @@ pub put_one : (out now given left rest : List (Result Value ErrorParts)) (answer
     → ArePut out (slice_set now (get_or places (length rest) 0) answer) given rest places
 put_one out now given left rest answer places are is more within =
     let place = get_or places (length rest) 0 in
+    let next : suc (length rest) ≡ length rest + 1 = omega arith in
     let inside : length rest < length places = omega (arith, more, are.few) in
     let room : place < length now = omega (arith, within (length rest) 0 inside, are.len) in
     let there : slice_get given (length rest) ≡ Some answer =
@@ -62,6 +92,8 @@ put_one out now given left rest answer places are is more within =
     (λ same. let e : p ≡ place = eqb-true p place same in ap (λ q. option_map answer_of (slice_get (slice_set now place answer) q)) e ∙ here all for ∙ ap (slice_get all) (sym e))
     (λ apart. ap (option_map answer_of) (set_there now place p answer apart) ∙ was) in
     record {
+      put = ap (λ l. slice_set l place answer) (are.put ∙ ap (λ n. put_at out (drop n places) (drop n given)) more)
+          ∙ sym (ap (λ l. put_at out l (drop (length rest) given)) (drop_more places (length rest) 0 inside) ∙ ap (put_at out (place ∷ drop (length rest + 1) places)) (drop_there given (length rest) answer there ∙ ap (λ m. answer ∷ drop m given) next));
       len = length-set now place answer ∙ are.len;
       few = omega (arith, more, are.few);
       front = λ i under. sym (get_front rest (answer ∷ []) i under) ∙ ap (λ l. slice_get l i) (sym is) ∙ are.front i (omega (arith, more, under));

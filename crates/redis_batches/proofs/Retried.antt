@@ -1,5 +1,5 @@
 -- A pipeline that was sent in rounds: what its replies are, and what stands after a fault.
-use Rattle.std.proofs.Common.{◌≡◌, ◌≤◌, ℕ, ◌+◌, List, [], ◌∷◌, true, Some, None, Result, All, inr, refl, sym, ap, subst, ◌∙◌, filter, map, length}
+use Rattle.std.proofs.Common.{◌≡◌, ◌≤◌, ℕ, ◌+◌, List, [], ◌∷◌, ◌++◌, true, Some, None, Result, All, inr, refl, sym, ap, subst, ◌∙◌, append_assoc, filter, map, length}
 use Rattle.std.specs.List.{AllZip, enumerate_from, flat_map, range_with_len, zip}
 use Rattle.std.proofs.lemmas.List.{length-map}
 use Rattle.std.proofs.lemmas.List.FromFn.{length-enumerate_from}
@@ -10,8 +10,8 @@ use Rattle.redis_routing.specs.Registry.{Registrations}
 use Rattle.redis_cluster.specs.State.{State}
 use Rattle.redis_cluster.specs.Trace.{Ending}
 use Rattle.redis_cluster.specs.Unsplit.{Step}
-use Rattle.redis_batches.specs.Driven.{IsServed, WereAsked, batch_at}
-use Rattle.redis_batches.specs.DrivenInRounds.{AreLostAnswers, AreServedInRounds, IsRoundsFault, all_at_once}
+use Rattle.redis_batches.specs.Driven.{IsServed, WereAsked, WereAskedUntil, batch_at}
+use Rattle.redis_batches.specs.DrivenInRounds.{AreServedInRounds, IsRoundsFault, SentSoFar, WereSent, all_at_once}
 use Rattle.redis_batches.specs.DrivenPipeline.{AreAllTaken, IsOneServer, IsSendable}
 use Rattle.redis_batches.specs.InRounds.{AreSentAgain, IsAgainFault, Stands}
 use Rattle.redis_batches.specs.Outgoing.{ArePartsOf, GoesBehind, IsNext, slot_at}
@@ -19,7 +19,7 @@ use Rattle.redis_batches.specs.Pipeline.{Answer, Numbered, Part, Planned, Refusa
 use Rattle.redis_batches.specs.PipelinePlan.{PipelineBatches}
 use Rattle.redis_batches.specs.Plan.{Batches}
 use Rattle.redis_batches.specs.Replies.{AreRepliesTo}
-use Rattle.redis_batches.specs.Rounds.{AreRounds, IsAsOne, IsSentOn, OwnErrorsStay, Round, after_rounds, go_on, goes_to, round_batches}
+use Rattle.redis_batches.specs.Rounds.{AreRounds, IsAsOne, IsSentOn, OwnErrorsStay, Round, after_rounds, batch_after, batches_before, go_on, goes_to, latest_answers, round_batches}
 use Rattle.redis_batches.specs.Sent.{AreApart}
 use Rattle.redis_batches.specs.Taken.{Batch, answer_of, task_of}
 use Rattle.redis_batches.specs.Tasks.{with_slots}
@@ -28,13 +28,14 @@ use Rattle.redis_batches.specs.declared.fault.PipelineError.TheVariants as drive
 use Rattle.redis_batches.specs.declared.going.Outgoing.{Outgoing}
 use Rattle.redis_batches.proofs.Again.{all_last}
 use Rattle.redis_batches.proofs.Alone.{slots_at}
-use Rattle.redis_batches.proofs.Asked.{asked_more}
+use Rattle.redis_batches.proofs.Asked.{asked_more, asked_until_more}
 use Rattle.redis_batches.proofs.Driving.{ServesAll}
 use Rattle.redis_batches.proofs.Ends.{after_agree, answers_agree, numbers_apart}
 use Rattle.redis_batches.proofs.GoOn.{go_by, goes_by}
 use Rattle.redis_batches.proofs.KeptSlots.{numbered_after, numbered_list}
 use Rattle.redis_batches.proofs.Planning.{slots_of_all}
 use Rattle.redis_batches.proofs.ServerReplies.{server_replies}
+use Rattle.redis_batches.proofs.StayHere.{tasks_stay}
 use Rattle.redis_batches.proofs.Untouched.{replies_untouched}
 use Rattle.redis_batches.proofs.Whole.{pieces_answer, pieces_leave}
 
@@ -130,38 +131,50 @@ module _ {C : Type 0} (step : Step C) (serve : Serve C) (may : ℕ → Ending �
         };
       }
 
-      -- the answers of all rounds are lost
-      pub answers_lost : (rounds : List Round) → length rounds ≤ retries → AreRounds step serve kept may registered plan.batches.parts first rounds between new
-          → AreLostAnswers step serve kept may registered is_node commands order retries old new
+      -- these rounds were sent
+      so_far : (rounds : List Round) (now : State C) → AreRounds step serve kept may registered plan.batches.parts first rounds between now → SentSoFar step serve kept may registered is_node commands order old now
       unfolding taken
-      answers_lost rounds few again = record {
+      so_far rounds now again = record {
         given = given;
         between = between;
         taken = taken;
         rounds = rounds;
-        few = few;
         again = again;
       }
 
-      -- what follows the first round stopped
-      pub later_fault : (ranges : _) (error : PipelineError) → IsAgainFault step serve kept may registered plan.batches.parts ps first retries between new error
-          → IsRoundsFault step serve kept may registered is_node commands order retries old new ranges error
-      unfolding taken
-      later_fault ranges (driven.Plan fault) is = absurd is
-      later_fault ranges driven.BadOrder is = absurd is
-      later_fault ranges (driven.Node stop) is = inr (record {
-        given = given;
-        between = between;
-        before = is.2;
-        taken = taken;
-        rounds = is.0;
-        few = is.1;
-        again = is.3;
-        next = is.4;
-        follows = is.5;
-        stopped = is.6;
-      })
-      later_fault ranges driven.Memory is = answers_lost is.0 is.1 is.2
+      module _ (asked_old asked_between asked_new : List Batch → Type 0) (asked : WereAsked asked_old asked_between (map (batch_at plan.batches) order)) where
+        -- no more than retries, and nothing else
+        pub were_sent : (rounds : List Round) → length rounds ≤ retries → AreRounds step serve kept may registered plan.batches.parts first rounds between new → WereAsked asked_between asked_new (flat_map round_batches rounds)
+            → WereSent step serve kept may registered is_node commands order retries asked_old asked_new old new
+        unfolding taken so_far
+        were_sent rounds few again more = record {
+          so_far = so_far rounds new again;
+          few = few;
+          asked = asked_more asked_old asked_between asked_new (map (batch_at plan.batches) order) (flat_map round_batches rounds) asked more;
+        }
+
+        -- what follows the first round stopped
+        pub later_fault : (ranges : _) (error : PipelineError) → IsAgainFault step serve kept may registered plan.batches.parts ps first retries between new asked_between asked_new error
+            → IsRoundsFault step serve kept may registered is_node commands order retries asked_old asked_new old new ranges error
+        unfolding taken so_far
+        later_fault ranges (driven.Plan fault) is = absurd is
+        later_fault ranges driven.BadOrder is = absurd is
+        later_fault ranges (driven.Node stop) is =
+            let front = map (batch_at plan.batches) order in
+            let rounds = flat_map round_batches is.0 in
+            let last = batches_before is.4 stop.answered in
+            let all : WereAskedUntil asked_old asked_new (front ++ (rounds ++ last)) (batch_after is.4 stop.answered) stop.error =
+            asked_until_more asked_old asked_between asked_new front (rounds ++ last) (batch_after is.4 stop.answered) stop.error asked is.7 in
+            inr (record {
+              before = is.2;
+              so_far = so_far is.0 is.2 is.3;
+              few = is.1;
+              next = is.4;
+              follows = is.5;
+              stopped = is.6;
+              asked = subst (λ l. WereAskedUntil asked_old asked_new l (batch_after is.4 stop.answered) stop.error) (sym (append_assoc front rounds last)) all;
+            })
+        later_fault ranges driven.Memory is = were_sent is.0 is.1 is.2 is.3
 
       module _ (asked_old asked_between asked_new : List Batch → Type 0) (before after : List (Result Value ErrorParts)) (given_are : given ≡ map answer_of before) where
         stands : kept → Stands step serve ps served.refusals first old.keyspace between.keyspace before
@@ -178,10 +191,10 @@ module _ {C : Type 0} (step : Step C) (serve : Serve C) (may : ℕ → Ending �
           abbrev last : Refusals
           last = after_rounds served.refusals again.rounds
 
-          as_one : kept → OwnErrorsStay serve → IsAsOne step serve ps last old.keyspace new.keyspace (map answer_of after)
-          as_one keep own = again.as_one keep own old.keyspace served.refusals (stands keep)
+          as_one : kept → OwnErrorsStay serve sendable.of_commands.tasks → IsAsOne step serve ps last old.keyspace new.keyspace (map answer_of after)
+          as_one keep own = again.as_one keep (tasks_stay serve sendable.of_commands.tasks own) old.keyspace served.refusals (stands keep)
 
-          as_one_server : kept → OwnErrorsStay serve → All (λ x. last x ≡ None) (numbered ps) → IsOneServer step serve registered commands old new replies
+          as_one_server : kept → OwnErrorsStay serve sendable.of_commands.tasks → All (λ x. last x ≡ None) (numbered ps) → IsOneServer step serve registered commands old new replies
           unfolding none
           as_one_server keep own all =
               let tasks = sendable.of_commands.tasks in
@@ -199,19 +212,12 @@ module _ {C : Type 0} (step : Step C) (serve : Serve C) (may : ℕ → Ending �
 
           -- The pipeline was served in rounds.
           pub served_in_rounds : AreServedInRounds step serve kept may registered is_node commands order retries asked_old asked_new old new replies
-          unfolding taken
+          unfolding taken so_far were_sent
           served_in_rounds = record {
-            sent = record {
-              given = given;
-              between = between;
-              taken = taken;
-              rounds = again.rounds;
-              few = again.few;
-              again = again.again;
-              asked = asked_more asked_old asked_between asked_new (map (batch_at plan.batches) order) (flat_map round_batches again.rounds) asked again.asked;
-            };
+            sent = were_sent asked_old asked_between asked_new asked again.rounds again.few again.again again.asked;
             done = again.done;
             answers = map answer_of after;
+            latest = again.latest ∙ ap (λ l. latest_answers l again.rounds) (sym given_are);
             replies_are = made;
             as_one = as_one;
             untouched = λ keep own. replies_untouched step serve registered last plan.splits sendable.of_commands.tasks sendable.of_commands.splits_are (slots_of_all sendable.of_commands.tasks) old.keyspace replies

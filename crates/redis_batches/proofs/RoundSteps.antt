@@ -1,5 +1,5 @@
 -- What is known while a round is sent, in the words of its calls.
-use Rattle.std.proofs.Common.{◌≡◌, ◌<◌, ℕ, List, [], None, Result, All, sym, ap, subst, ◌∙◌, map, length, get_or}
+use Rattle.std.proofs.Common.{◌≡◌, ◌<◌, ℕ, List, [], None, Result, All, sym, ap, subst, ◌∙◌, map, length, get_or, take}
 use Rattle.std.specs.List.{range_with_len}
 use Rattle.std.proofs.lemmas.List.{length-map}
 use Rattle.cluster_slots.specs.Address.{Address}
@@ -10,16 +10,17 @@ use Rattle.redis_cluster.specs.Orders.{NamesOnce}
 use Rattle.redis_cluster.specs.State.{State}
 use Rattle.redis_cluster.specs.Trace.{Ending}
 use Rattle.redis_cluster.specs.Unsplit.{Step}
-use Rattle.redis_batches.specs.Batched.{AreBatches, AreFor, IsRight}
-use Rattle.redis_batches.specs.Driven.{IsServed, WasStopped, WereAsked, batch_at}
+use Rattle.redis_batches.specs.Batched.{AreBatches, AreFor, IsRight, put_at}
+use Rattle.redis_batches.specs.Driven.{IsServed, WasStopped, WereAsked, WereAskedUntil, batch_at}
 use Rattle.redis_batches.specs.Outgoing.{ArePartsOf, GoesBehind, IsNext, IsNextServed, slot_at}
 use Rattle.redis_batches.specs.Pipeline.{Answer, AreSlotsOf, Numbered, Planned, Serve, slot_of}
 use Rattle.redis_batches.specs.Plan.{Batches, IsByNode, IsPlan}
-use Rattle.redis_batches.specs.Rounds.{Follows, IsRoundServed, IsRoundStopped, Round, alone, ascending}
+use Rattle.redis_batches.specs.Rounds.{Follows, IsRoundServed, IsRoundStopped, Round, alone, ascending, batch_after, batches_before, round_batches}
 use Rattle.redis_batches.specs.Taken.{Batch, answer_of}
 use Rattle.redis_batches.specs.declared.going.Outgoing.{Outgoing}
 use Rattle.redis_batches.specs.declared.send.Stopped.{Stopped}
 use Rattle.redis_batches.proofs.Ascending.{each_once}
+use Rattle.redis_batches.proofs.Putting.{map-put_at}
 use Rattle.redis_batches.proofs.Following.{arguments_are, behind_next, follows, has_batches, next, next_served, next_stopped, node_of, numbers_within, own_slots, parts_within, targets_are, xs}
 
 -- the batches of a round in ascending order
@@ -64,30 +65,34 @@ module _ (registered : Registrations) (ps : List Planned) (arguments : List (Lis
       in_order : order ≡ ascending (length plan.places)
       in_order = order_is ∙ ap (range_with_len 0) counted
 
-      pub stopped : (stop : Stopped) → WasStopped step serve registered kept may_refuse (alone sent) plan.parts plan.nodes batches.batch order old new stop.answered stop.error
-          → (x : Round) × Follows round x × IsRoundStopped step serve kept may_refuse registered arguments x old new stop
+      pub stopped : (asked_old asked_new : List Batch → Type 0) (stop : Stopped) → WasStopped step serve registered kept may_refuse (alone sent) plan.parts plan.nodes batches.batch order old new stop.answered stop.error
+          → WereAskedUntil asked_old asked_new (map (batch_at plan) (take stop.answered order)) (batch_at plan (get_or order stop.answered 0)) stop.error
+          → (x : Round) × Follows round x × IsRoundStopped step serve kept may_refuse registered arguments x old new stop × WereAskedUntil asked_old asked_new (batches_before x stop.answered) (batch_after x stop.answered) stop.error
       unfolding batches
-      stopped stop is = (
+      stopped asked_old asked_new stop is asked = (
         record { sent = sent; node_of = to; batches = plan; given = []; refusals = λ x. None },
         follows registered ps arguments slots of round out gone plan [] (λ x. None),
         next_stopped registered ps arguments slots of round out gone plan whole nodes own_nodes by_node own_parts step serve kept may_refuse order in_order old new stop is,
+        subst (λ o. WereAskedUntil asked_old asked_new (map (batch_at plan) (take stop.answered o)) (batch_at plan (get_or o stop.answered 0)) stop.error) in_order asked,
       )
 
       module _ (given : List Answer) (all_served : IsServed step serve kept may_refuse (alone sent) plan.parts plan.nodes batches.batch order old new given) where
-        pub served : (x : Round) × Follows round x × IsRoundServed step serve kept may_refuse registered arguments x old new
+        pub served : (asked_old asked_new : List Batch → Type 0) → WereAsked asked_old asked_new (map (batch_at plan) order)
+            → (x : Round) × Follows round x × IsRoundServed step serve kept may_refuse registered arguments x old new × WereAsked asked_old asked_new (round_batches x)
         unfolding batches
-        served = (
+        served asked_old asked_new asked = (
           next registered ps arguments slots of round out gone plan whole nodes own_nodes by_node own_parts step serve kept may_refuse order in_order old new given all_served,
           follows registered ps arguments slots of round out gone plan given (next registered ps arguments slots of round out gone plan whole nodes own_nodes by_node own_parts step serve kept may_refuse order in_order old new given all_served).refusals,
           next_served registered ps arguments slots of round out gone plan whole nodes own_nodes by_node own_parts step serve kept may_refuse order in_order old new given all_served,
+          subst (λ o. WereAsked asked_old asked_new (map (batch_at plan) o)) in_order asked,
         )
 
         -- and its answers were put at their places
-        pub next_is : (asked_old asked_new : List Batch → Type 0) → WereAsked asked_old asked_new (map (batch_at plan) order) → (replies before after : List (Result Value ErrorParts)) → given ≡ map answer_of replies → length after ≡ length before → length given ≡ length plan.parts
+        pub next_is : (asked_old asked_new : List Batch → Type 0) → WereAsked asked_old asked_new (map (batch_at plan) order) → (replies before after : List (Result Value ErrorParts)) → given ≡ map answer_of replies → after ≡ put_at before ns replies → length after ≡ length before → length given ≡ length plan.parts
             → ((all : List Answer) → AreFor all ns replies → All (IsRight after all) ns) → ((all : List Answer) → AreFor all ns replies → (place : ℕ) → IsRight before all place → IsRight after all place)
             → (later : Outgoing) → IsNext slots ns nodes given later → IsNextServed step serve kept may_refuse registered arguments ps round old new asked_old asked_new before after later
         unfolding batches
-        next_is asked_old asked_new asked replies before after given_are room many right others later is = record {
+        next_is asked_old asked_new asked replies before after given_are put room many right others later is = record {
           next = next registered ps arguments slots of round out gone plan whole nodes own_nodes by_node own_parts step serve kept may_refuse order in_order old new given all_served;
           follows = follows registered ps arguments slots of round out gone plan given (next registered ps arguments slots of round out gone plan whole nodes own_nodes by_node own_parts step serve kept may_refuse order in_order old new given all_served).refusals;
           served = next_served registered ps arguments slots of round out gone plan whole nodes own_nodes by_node own_parts step serve kept may_refuse order in_order old new given all_served;
@@ -95,6 +100,8 @@ module _ (registered : Registrations) (ps : List Planned) (arguments : List (Lis
           replies = replies;
           put = record {
             given_are = given_are;
+            all_are = ap (map answer_of) put ∙ map-put_at answer_of before ns replies ∙ ap (λ l. put_at (map answer_of before) l (map answer_of replies)) sent_are
+                ∙ ap (put_at (map answer_of before) (map (λ (x : Numbered). x.0) sent)) (sym given_are);
             room = room;
             right = λ all for. subst (All (IsRight after all)) sent_are (right all (subst (λ l. AreFor all l replies) (sym sent_are) for));
             others = λ all for place was. others all (subst (λ l. AreFor all l replies) (sym sent_are) for) place was;

@@ -1,5 +1,5 @@
 -- A pipeline in batches, one for each node, and what its replies are.
-use Rattle.std.specs.Prelude.{◌≡◌, ◌<◌, ℕ, List, [], Some, Result, map, length, slice_get, slice_index, option_map, get_or}
+use Rattle.std.specs.Prelude.{◌≡◌, ◌<◌, ℕ, List, [], ◌∷◌, Some, Result, map, length, slice_get, slice_index, slice_set, option_map, get_or}
 use Rattle.std.specs.List.{All}
 use Rattle.resp_core.specs.ErrorParts.{ErrorParts}
 use Rattle.resp_core.specs.declared.value.Value.{Value}
@@ -37,3 +37,9 @@ IsRight out expected number = option_map answer_of (slice_get out number) ≡ sl
 abbrev pub AreFor : List Answer → List ℕ → List (Result Value ErrorParts) → Type 0
 AreFor all places answers = (i : ℕ) → i < length places
     → option_map answer_of (slice_get answers i) ≡ slice_get all (slice_index places i)
+
+-- what stands in a list after these were put at these places of it
+abbrev pub put_at : {X : Type 0} → List X → List ℕ → List X → List X
+put_at all [] xs = all
+put_at all (place ∷ places) [] = all
+put_at all (place ∷ places) (x ∷ xs) = slice_set (put_at all places xs) place x

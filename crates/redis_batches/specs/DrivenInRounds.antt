@@ -7,12 +7,12 @@ use Rattle.redis_cluster.specs.Trace.{Ending}
 use Rattle.redis_cluster.specs.Unsplit.{Step}
 use Rattle.redis_cluster.specs.State.{State}
 use Rattle.redis_batches.specs.Pipeline.{Answer, Refusals, Serve, Task, numbered}
-use Rattle.redis_batches.specs.Driven.{WereAsked, batch_at}
-use Rattle.redis_batches.specs.DrivenPipeline.{AreAllTaken, IsEarlyFault, IsLateFault, IsOneServer}
+use Rattle.redis_batches.specs.Driven.{WereAsked, WereAskedUntil, batch_at}
+use Rattle.redis_batches.specs.DrivenPipeline.{AreAllTaken, AreAskedUntil, IsEarlyFault, IsLateFault, IsOneServer}
 use Rattle.redis_batches.specs.Placed.{Ranges}
 use Rattle.redis_batches.specs.Plan.{Batches}
 use Rattle.redis_batches.specs.Replies.{AreRepliesTo, AreUntouched}
-use Rattle.redis_batches.specs.Rounds.{AreRounds, Follows, IsAsOne, IsLast, IsRoundStopped, OwnErrorsStay, Round, after_rounds, last_round, round_batches}
+use Rattle.redis_batches.specs.Rounds.{AreRounds, Follows, IsAsOne, IsLast, IsRoundStopped, OwnErrorsStay, Round, after_rounds, batch_after, batches_before, last_round, latest_answers, round_batches}
 use Rattle.redis_batches.specs.Taken.{Batch}
 use Rattle.redis_batches.specs.Tasks.{with_slots}
 use Rattle.redis_batches.specs.declared.fault.PipelineError.{PipelineError}
@@ -32,92 +32,89 @@ all_at_once tasks node_of batches given refusals = record {
 module _ {C : Type 0} (step : Step C) (serve : Serve C) (kept : Type 0)
     (may_refuse : ℕ → Ending → Type 0) (registered : Registrations)
     (is_node : ℕ → Address → Type 0) (commands : List (List (List ℕ))) (order : List ℕ)
-    (retries : ℕ) (asked_old asked_new : List Batch → Type 0) (old new : State C) where
-  -- the first round, as a plan was sent and answered
-  abbrev pub first_round : (between : State C) (given : List Answer)
-      → AreAllTaken step serve kept may_refuse registered is_node commands order old between given
-      → Round
-  first_round between given taken =
-      all_at_once taken.sendable.of_commands.tasks taken.sendable.of_commands.node_of
-      taken.plan.batches given taken.served.refusals
-
-  -- The batches of a plan of the commands were taken, and after them no more rounds than retries,
-  -- each of the parts that go out again. Nothing else was sent.
-  pub record WereSent : Type 0 where
+    (old now : State C) where
+  -- The batches of a plan of the commands were taken, and after them some rounds, each of the parts
+  -- that go out again.
+  pub record SentSoFar : Type 0 where
     pub given : List Answer
     pub between : State C
     pub taken : AreAllTaken step serve kept may_refuse registered is_node commands order old between
         given
     pub rounds : List Round
-    pub few : length rounds ≤ retries
     pub again : AreRounds step serve kept may_refuse registered taken.plan.batches.parts
-        (first_round between given taken) rounds between new
-    pub asked : WereAsked asked_old asked_new
-        (map (batch_at taken.plan.batches) order ++ flat_map round_batches rounds)
+        (all_at_once taken.sendable.of_commands.tasks taken.sendable.of_commands.node_of
+        taken.plan.batches given taken.served.refusals) rounds between now
 
-  -- the last round that was sent
-  abbrev pub last_sent : WereSent → Round
-  last_sent sent = last_round (first_round sent.between sent.given sent.taken) sent.rounds
-
+module _ {C : Type 0} {step : Step C} {serve : Serve C} {kept : Type 0}
+    {may_refuse : ℕ → Ending → Type 0} {registered : Registrations}
+    {is_node : ℕ → Address → Type 0} {commands : List (List (List ℕ))} {order : List ℕ}
+    {old now : State C} where
   -- what the commands mean
-  abbrev pub tasks_sent : WereSent → List Task
+  abbrev pub tasks_sent : SentSoFar step serve kept may_refuse registered is_node commands order old now
+      → List Task
   tasks_sent sent = sent.taken.sendable.of_commands.tasks
 
-  -- which parts were refused at last
-  abbrev pub refused_at_last : WereSent → Refusals
-  refused_at_last sent = after_rounds sent.taken.served.refusals sent.rounds
+  -- the batches, in the order in which they were sent
+  abbrev pub batches_sent : SentSoFar step serve kept may_refuse registered is_node commands order old now
+      → List Batch
+  batches_sent sent =
+      map (batch_at sent.taken.plan.batches) order ++ flat_map round_batches sent.rounds
 
-  -- Rounds were sent until no part went out again, or as many as retries, and these are the replies.
-  -- Where nodes keep to the meaning, and errors of a command's own send it nowhere, all is as on one
-  -- server that takes the parts in the order of the pipeline, but for those refused at last.
-  pub record AreServedInRounds (replies : List Answer) : Type 0 where
-    pub sent : WereSent
-    pub done : (length sent.rounds ≡ retries) ⊎ IsLast (last_sent sent)
-    pub answers : List Answer
-    pub replies_are : AreRepliesTo sent.taken.plan.splits answers replies
-    pub as_one : kept → OwnErrorsStay serve
-        → IsAsOne step serve (map with_slots (tasks_sent sent)) (refused_at_last sent) old.keyspace
-        new.keyspace answers
-    pub untouched : kept → OwnErrorsStay serve
-        → AreUntouched step serve (refused_at_last sent) (tasks_sent sent) old.keyspace replies
-    pub one_server : kept → OwnErrorsStay serve
-        → All (λ x. refused_at_last sent x ≡ None) (numbered (map with_slots (tasks_sent sent)))
-        → IsOneServer step serve registered commands old new replies
+  -- the last round
+  abbrev pub last_sent : SentSoFar step serve kept may_refuse registered is_node commands order old now
+      → Round
+  last_sent sent =
+      last_round (all_at_once (tasks_sent sent) sent.taken.sendable.of_commands.node_of
+      sent.taken.plan.batches sent.given sent.taken.served.refusals) sent.rounds
+
+  -- which parts were refused at last
+  abbrev pub refused_at_last : SentSoFar step serve kept may_refuse registered is_node commands order old now
+      → Refusals
+  refused_at_last sent = after_rounds sent.taken.served.refusals sent.rounds
 
 module _ {C : Type 0} (step : Step C) (serve : Serve C) (kept : Type 0)
     (may_refuse : ℕ → Ending → Type 0) (registered : Registrations)
     (is_node : ℕ → Address → Type 0) (commands : List (List (List ℕ))) (order : List ℕ)
-    (retries : ℕ) (old new : State C) where
-  -- Some rounds were sent, and the next one stopped before a batch that was not taken.
-  pub record StoppedInRounds (stop : Stopped) : Type 0 where
-    pub given : List Answer
-    pub between : State C
-    pub before : State C
-    pub taken : AreAllTaken step serve kept may_refuse registered is_node commands order old between
-        given
-    pub rounds : List Round
-    pub few : length rounds < retries
-    pub again : AreRounds step serve kept may_refuse registered taken.plan.batches.parts
-        (all_at_once taken.sendable.of_commands.tasks taken.sendable.of_commands.node_of
-        taken.plan.batches given taken.served.refusals) rounds between before
-    pub next : Round
-    pub follows : Follows (last_round (all_at_once taken.sendable.of_commands.tasks
-        taken.sendable.of_commands.node_of taken.plan.batches given taken.served.refusals) rounds)
-        next
-    pub stopped : IsRoundStopped step serve kept may_refuse registered taken.plan.batches.parts next
-        before new stop
+    (retries : ℕ) (asked_old asked_new : List Batch → Type 0) (old new : State C) where
+  -- No more rounds than retries were sent, and nothing else.
+  pub record WereSent : Type 0 where
+    pub so_far : SentSoFar step serve kept may_refuse registered is_node commands order old new
+    pub few : length so_far.rounds ≤ retries
+    pub asked : WereAsked asked_old asked_new (batches_sent so_far)
 
-  -- All rounds that were sent were served, and their answers are lost.
-  pub record AreLostAnswers : Type 0 where
-    pub given : List Answer
-    pub between : State C
-    pub taken : AreAllTaken step serve kept may_refuse registered is_node commands order old between
-        given
-    pub rounds : List Round
-    pub few : length rounds ≤ retries
-    pub again : AreRounds step serve kept may_refuse registered taken.plan.batches.parts
-        (all_at_once taken.sendable.of_commands.tasks taken.sendable.of_commands.node_of
-        taken.plan.batches given taken.served.refusals) rounds between new
+  -- Rounds were sent until no part went out again, or as many as retries. The replies are made of the
+  -- last answer to each part. Where nodes keep to the meaning, and errors of a command's own send it
+  -- nowhere, all is as on one server that takes the parts in the order of the pipeline, but for those
+  -- refused at last.
+  pub record AreServedInRounds (replies : List Answer) : Type 0 where
+    pub sent : WereSent
+    pub done : (length sent.so_far.rounds ≡ retries) ⊎ IsLast (last_sent sent.so_far)
+    pub answers : List Answer
+    pub latest : answers ≡ latest_answers sent.so_far.given sent.so_far.rounds
+    pub replies_are : AreRepliesTo sent.so_far.taken.plan.splits answers replies
+    pub as_one : kept → OwnErrorsStay serve (tasks_sent sent.so_far)
+        → IsAsOne step serve (map with_slots (tasks_sent sent.so_far)) (refused_at_last sent.so_far)
+        old.keyspace new.keyspace answers
+    pub untouched : kept → OwnErrorsStay serve (tasks_sent sent.so_far)
+        → AreUntouched step serve (refused_at_last sent.so_far) (tasks_sent sent.so_far) old.keyspace
+        replies
+    pub one_server : kept → OwnErrorsStay serve (tasks_sent sent.so_far)
+        → All (λ x. refused_at_last sent.so_far x ≡ None)
+        (numbered (map with_slots (tasks_sent sent.so_far)))
+        → IsOneServer step serve registered commands old new replies
+
+  -- Some rounds were sent, and of the next one the batches up to one that was not taken.
+  pub record StoppedInRounds (stop : Stopped) : Type 0 where
+    pub before : State C
+    pub so_far : SentSoFar step serve kept may_refuse registered is_node commands order old before
+    pub few : length so_far.rounds < retries
+    pub next : Round
+    pub follows : Follows (last_sent so_far) next
+    pub stopped : IsRoundStopped step serve kept may_refuse registered
+        so_far.taken.plan.batches.parts next before new stop
+    pub asked : WereAskedUntil asked_old asked_new
+        (batches_sent so_far ++ batches_before next stop.answered) (batch_after next stop.answered)
+        stop.error
 
   -- why there are no replies
   abbrev pub IsRoundsFault : Ranges → PipelineError → Type 0
@@ -125,6 +122,7 @@ module _ {C : Type 0} (step : Step C) (serve : Serve C) (kept : Type 0)
       IsEarlyFault registered ranges is_node commands order (Plan fault)
   IsRoundsFault ranges BadOrder = IsEarlyFault registered ranges is_node commands order BadOrder
   IsRoundsFault ranges (Node stop) =
-      IsLateFault step serve kept may_refuse registered is_node commands order old new (Node stop)
+      (IsLateFault step serve kept may_refuse registered is_node commands order old new (Node stop)
+      × AreAskedUntil registered is_node commands order asked_old asked_new (Node stop))
       ⊎ StoppedInRounds stop
-  IsRoundsFault ranges Memory = AreLostAnswers
+  IsRoundsFault ranges Memory = WereSent

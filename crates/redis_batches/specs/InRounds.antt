@@ -1,5 +1,5 @@
 -- What is sent behind a first round, and what it makes of the answers.
-use Rattle.std.specs.Prelude.{◌≡◌, ◌≤◌, ◌<◌, ◌⊎◌, ℕ, List, Result, length, map}
+use Rattle.std.specs.Prelude.{◌≡◌, ◌≤◌, ◌<◌, ◌⊎◌, ◌++◌, ℕ, List, Result, length, map}
 use Rattle.std.specs.List.{All, flat_map}
 use Rattle.resp_core.specs.ErrorParts.{ErrorParts}
 use Rattle.resp_core.specs.declared.value.Value.{Value}
@@ -7,9 +7,9 @@ use Rattle.redis_routing.specs.Registry.{Registrations}
 use Rattle.redis_cluster.specs.State.{State}
 use Rattle.redis_cluster.specs.Trace.{Ending}
 use Rattle.redis_cluster.specs.Unsplit.{Keyspace, Step}
-use Rattle.redis_batches.specs.Driven.{WereAsked}
+use Rattle.redis_batches.specs.Driven.{WereAsked, WereAskedUntil}
 use Rattle.redis_batches.specs.Pipeline.{Planned, Refusals, Serve, ended}
-use Rattle.redis_batches.specs.Rounds.{AreRounds, Follows, IsAsOne, IsLast, IsRoundStopped, OwnErrorsStay, Round, after_rounds, last_round, round_batches}
+use Rattle.redis_batches.specs.Rounds.{AreRounds, Follows, IsAsOne, IsLast, IsRoundStopped, OwnErrorsStay, Round, after_rounds, batch_after, batches_before, last_round, latest_answers, round_batches}
 use Rattle.redis_batches.specs.Taken.{Batch, answer_of}
 use Rattle.redis_batches.specs.Turns.{answers}
 use Rattle.redis_batches.specs.declared.fault.PipelineError.{PipelineError}
@@ -38,17 +38,23 @@ module _ {C : Type 0} (step : Step C) (serve : Serve C) (kept : Type 0)
     pub again : AreRounds step serve kept may_refuse registered arguments round rounds old new
     pub asked : WereAsked asked_old asked_new (flat_map round_batches rounds)
     pub done : (length rounds ≡ retries) ⊎ IsLast (last_round round rounds)
-    pub as_one : kept → OwnErrorsStay serve → (start : Keyspace C) (refusals : Refusals)
+    pub latest : map answer_of after ≡ latest_answers (map answer_of before) rounds
+    pub as_one : kept → OwnErrorsStay serve (map (λ p. p.task) ps) → (start : Keyspace C) (refusals : Refusals)
         → Stands step serve ps refusals round start old.keyspace before
         → IsAsOne step serve ps (after_rounds refusals rounds) start new.keyspace (map answer_of after)
 
   -- why they were not, or their answers are lost
-  abbrev pub IsAgainFault : PipelineError → Type 0
-  IsAgainFault (Plan fault) = ⊥
-  IsAgainFault BadOrder = ⊥
-  IsAgainFault (Node stop) = (rounds : List Round) × (length rounds < retries) × (between : State C)
+  abbrev pub IsAgainFault : (asked_old asked_new : List Batch → Type 0) → PipelineError → Type 0
+  IsAgainFault asked_old asked_new (Plan fault) = ⊥
+  IsAgainFault asked_old asked_new BadOrder = ⊥
+  IsAgainFault asked_old asked_new (Node stop) =
+      (rounds : List Round) × (length rounds < retries) × (between : State C)
       × AreRounds step serve kept may_refuse registered arguments round rounds old between
       × (next : Round) × Follows (last_round round rounds) next
       × IsRoundStopped step serve kept may_refuse registered arguments next between new stop
-  IsAgainFault Memory = (rounds : List Round) × (length rounds ≤ retries)
+      × WereAskedUntil asked_old asked_new
+      (flat_map round_batches rounds ++ batches_before next stop.answered)
+      (batch_after next stop.answered) stop.error
+  IsAgainFault asked_old asked_new Memory = (rounds : List Round) × (length rounds ≤ retries)
       × AreRounds step serve kept may_refuse registered arguments round rounds old new
+      × WereAsked asked_old asked_new (flat_map round_batches rounds)

@@ -11,11 +11,11 @@ use Rattle.redis_routing.specs.Registry.{Registrations}
 use Rattle.redis_cluster.specs.State.{State}
 use Rattle.redis_cluster.specs.Trace.{Ending}
 use Rattle.redis_cluster.specs.Unsplit.{Step}
-use Rattle.redis_batches.specs.Batched.{AreFor, IsRight}
+use Rattle.redis_batches.specs.Batched.{AreFor, IsRight, put_at}
 use Rattle.redis_batches.specs.Chosen.{has_slot}
-use Rattle.redis_batches.specs.Driven.{WereAsked}
+use Rattle.redis_batches.specs.Driven.{WereAsked, WereAskedUntil}
 use Rattle.redis_batches.specs.Pipeline.{Answer, AreSlotsOf, Planned, Serve, numbered, pieces, slot_of}
-use Rattle.redis_batches.specs.Rounds.{AreSentOn, Follows, IsRoundServed, IsRoundStopped, IsSentOn, Round, go_on, goes_to, is_settled, round_batches}
+use Rattle.redis_batches.specs.Rounds.{AreSentOn, Follows, IsRoundServed, IsRoundStopped, IsSentOn, Round, batch_after, batches_before, go_on, goes_to, is_settled, round_batches}
 use Rattle.redis_batches.specs.Sent.{AreApart, AreLast}
 use Rattle.redis_batches.specs.Taken.{Batch, answer_of, task_of}
 use Rattle.redis_batches.specs.declared.fault.PipelineError.{PipelineError}
@@ -69,6 +69,7 @@ pub record GoesBehind (ps : List Planned) (round : Round) (out : Outgoing) : Typ
 -- These answers were put at the places of the parts of a round.
 pub record ArePutAt (round : Round) (replies old new : List (Result Value ErrorParts)) : Type 0 where
   pub given_are : round.given ≡ map answer_of replies
+  pub all_are : map answer_of new ≡ put_at (map answer_of old) (map (λ x. x.0) round.sent) round.given
   pub room : length new ≡ length old
   pub right : (all : List Answer) → AreFor all (map (λ x. x.0) round.sent) replies
       → All (IsRight new all) (map (λ x. x.0) round.sent)
@@ -90,10 +91,15 @@ module _ {C : Type 0} (step : Step C) (serve : Serve C) (kept : Type 0)
     pub behind : GoesBehind ps next out
 
   -- why the next round was not served, or its answers are lost
-  abbrev pub IsNextFault : PipelineError → Type 0
-  IsNextFault (Plan fault) = ⊥
-  IsNextFault BadOrder = ⊥
-  IsNextFault (Node stop) = (next : Round) × Follows round next
+  abbrev pub IsNextFault : (asked_old asked_new : List Batch → Type 0) → PipelineError → Type 0
+  IsNextFault asked_old asked_new (Plan fault) = ⊥
+  IsNextFault asked_old asked_new BadOrder = ⊥
+  IsNextFault asked_old asked_new (Node stop) = (next : Round) × Follows round next
       × IsRoundStopped step serve kept may_refuse registered arguments next old new stop
-  IsNextFault Memory = (new ≡ old) ⊎ ((next : Round) × Follows round next
-      × IsRoundServed step serve kept may_refuse registered arguments next old new)
+      × WereAskedUntil asked_old asked_new (batches_before next stop.answered)
+      (batch_after next stop.answered) stop.error
+  IsNextFault asked_old asked_new Memory =
+      ((new ≡ old) × WereAsked asked_old asked_new [])
+      ⊎ ((next : Round) × Follows round next
+      × IsRoundServed step serve kept may_refuse registered arguments next old new
+      × WereAsked asked_old asked_new (round_batches next))

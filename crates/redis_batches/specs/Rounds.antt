@@ -1,5 +1,5 @@
 -- Parts that nodes sent on are sent again, in rounds, as long as the order of each slot stays.
-use Rattle.std.specs.Prelude.{◌≡◌, ◌⊎◌, ◌++◌, ◌∷◌, ◌&&◌, ℕ, Bool, not, cond, List, [], Option, None, Some, MatchOption, Ok, Err, codes, is_none, is_some, length, map, get_or, nat_eq}
+use Rattle.std.specs.Prelude.{◌≡◌, ◌⊎◌, ◌++◌, ◌∷◌, ◌&&◌, ℕ, Bool, not, cond, List, [], Option, None, Some, MatchOption, Ok, Err, codes, is_none, is_some, length, map, get_or, nat_eq, take}
 use Rattle.std.specs.List.{All, AllZip, list_any, range_with_len, zip}
 use Rattle.std.specs.Option.{option_map_or, option_or}
 use Rattle.resp_core.specs.ErrorParts.{ErrorParts}
@@ -11,8 +11,8 @@ use Rattle.redis_cluster.specs.Trace.{Ending}
 use Rattle.redis_cluster.specs.Unsplit.{Keyspace, Step}
 use Rattle.redis_cluster.specs.State.{State}
 use Rattle.redis_batches.specs.Turns.{all_after, of_slot}
-use Rattle.redis_batches.specs.Pipeline.{Answer, Numbered, Planned, Refusals, Serve, ended, ended_answers, numbered, pieces, slot_of}
-use Rattle.redis_batches.specs.Batched.{AreBatches}
+use Rattle.redis_batches.specs.Pipeline.{Answer, Numbered, Planned, Refusals, Serve, Task, over_keys, in_slot, ended, ended_answers, numbered, pieces, slot_of}
+use Rattle.redis_batches.specs.Batched.{AreBatches, put_at}
 use Rattle.redis_batches.specs.Plan.{Batches, IsByNode}
 use Rattle.redis_batches.specs.Driven.{IsServed, WasStopped, batch_at, node_at}
 use Rattle.redis_batches.specs.Taken.{Batch}
@@ -44,11 +44,16 @@ abbrev pub IsSentOn : Address → Answer → Option Address → Type 0
 IsSentOn node (Ok reply) on = on ≡ None
 IsSentOn node (Err error) on = IsNamedBy node (server_text error) on
 
--- An error of a command's own, which some commands answer, sends it nowhere.
-abbrev pub OwnErrorsStay : {C : Type 0} → Serve C → Type 0
-OwnErrorsStay {C} serve =
-    (args : List (List ℕ)) (keyspace : Keyspace C) (error : ErrorParts) (node target : Address)
+-- An error of its own, which some commands answer, sends a command nowhere.
+abbrev pub StaysHere : {C : Type 0} → Serve C → Task → Type 0
+StaysHere serve (over_keys command) = Unit {0}
+StaysHere {C} serve (in_slot slot args) =
+    (keyspace : Keyspace C) (error : ErrorParts) (node target : Address)
     → (serve args keyspace).reply ≡ Err error → SendsOn node (server_text error) target → ⊥
+
+-- So it is with each of these commands.
+abbrev pub OwnErrorsStay : {C : Type 0} → Serve C → List Task → Type 0
+OwnErrorsStay serve tasks = All (StaysHere serve) tasks
 
 module _ {X : Type 0} (slot : X → ℕ) where
   -- whether a part of this slot was not sent on
@@ -145,6 +150,21 @@ module _ {C : Type 0} (step : Step C) (serve : Serve C) (kept : Type 0)
 abbrev pub round_batches : Round → List Batch
 round_batches round =
     map (batch_at round.batches) (ascending (length round.batches.places))
+
+-- the batches of a round before the one of this number, and that one
+abbrev pub batches_before : Round → ℕ → List Batch
+batches_before round many =
+    map (batch_at round.batches) (take many (ascending (length round.batches.places)))
+
+abbrev pub batch_after : Round → ℕ → Batch
+batch_after round many =
+    batch_at round.batches (get_or (ascending (length round.batches.places)) many 0)
+
+-- the answer to each part after more rounds: that of the last round that sent the part
+abbrev pub latest_answers : List Answer → List Round → List Answer
+latest_answers all [] = all
+latest_answers all (round ∷ rounds) =
+    latest_answers (put_at all (map (λ x. x.0) round.sent) round.given) rounds
 
 -- the last of some rounds behind a first one
 abbrev pub last_round : Round → List Round → Round

@@ -4,7 +4,7 @@ ghost use Rattle.std.specs.Result.{IsErrAnd};
 ghost use Rattle.resp_core.specs.declared.error.ErrorKind.TheVariants.{Client};
 ghost use Rattle.redis_cluster.specs.Orders.{in_order};
 ghost use Rattle.redis_batches.specs.Pipeline.{Answer};
-ghost use Rattle.redis_batches.specs.Batched.{AreFor, IsRight};
+ghost use Rattle.redis_batches.specs.Batched.{AreFor, IsRight, put_at};
 ghost use Rattle.redis_batches.specs.PartArguments.{sent_args};
 ghost use Rattle.redis_batches.specs.Plan.{IsPlan, IsByNode};
 
@@ -249,6 +249,7 @@ pub(super) fn put_answers(
 )
     requires within { All (λ place. place < length out.old.items) places.now }
     requires same { length answers.items ≡ length places.now }
+    ensures put { out.new.items ≡ put_at out.old.items places.now answers.items }
     ensures len { length out.new.items ≡ length out.old.items }
     ensures right { (all : List Answer) → AreFor all places.now answers.items
         → All (IsRight out.new.items all) places.now }

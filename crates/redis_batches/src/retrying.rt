@@ -46,8 +46,7 @@ use std::alloc::{AllocError, Global};
 ///
 /// Where nodes keep to one meaning, keyspace and replies are those of one server that takes the parts
 /// that were not refused at last, in the order of the pipeline. This has one more premise: no command
-/// that the nodes serve, of this pipeline or not, answers an error of its own that reads as one of
-/// those three. A server with scripts has such commands.
+/// of the pipeline answers an error of its own that reads as one of those three, as a script may.
 ///
 /// An `ASK` is followed as a `MOVED` is. That `ASKING` goes before each such command is the
 /// connection's matter, as is what a `MOVED` changes in the map.
@@ -79,13 +78,14 @@ pub fn drive_pipeline_retrying<N: BatchNodes>(
         commands.now order.now retries (N.asked nodes.old) (N.asked nodes.new)
         (N.state nodes.old) (N.state nodes.new)
         (map answer_of replies.items)) }
-    // Each fault has its cause.
+    // Each fault has its cause: up to the batch that was not taken, or up to the last round, each batch
+    // was sent once, and no other was.
     ensures fault { IfErr result (λ error.
         IsRoundsFault N.step N.serve (N.kept nodes.new) (N.may_refuse nodes.old)
         (N.registered nodes.old)
         (IsSlotNode strategy.entry (λ s. picks s.now) slot_map.now
         (names_of read_only.now (N.registered nodes.old)) commands.now)
-        commands.now order.now retries
+        commands.now order.now retries (N.asked nodes.old) (N.asked nodes.new)
         (N.state nodes.old) (N.state nodes.new) slot_map.now error) }
     // Where the commands, the map or the order is at fault, nothing was sent.
     ensures untouched { IfErr result (λ error. IsBeforeSending error → nodes.new ≡ nodes.old) }
@@ -150,7 +150,7 @@ fn send_again<N: BatchNodes>(
         → GoesBehind ps round out
         → IsAgainFault N.step N.serve (N.kept nodes.new) (N.may_refuse nodes.old)
         (N.registered nodes.old) (map sent_args parts.now) ps round retries
-        (N.state nodes.old) (N.state nodes.new) error) }
+        (N.state nodes.old) (N.state nodes.new) (N.asked nodes.old) (N.asked nodes.new) error) }
     ensures room { OnOk result (length answers.new.items ≡ length answers.old.items) }
     ensures kept { N.kept nodes.new → N.kept nodes.old }
     ensures may_refuse { (count : ℕ) (ending : Ending) → N.may_refuse nodes.new count ending

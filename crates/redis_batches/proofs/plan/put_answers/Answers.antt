@@ -1,6 +1,9 @@
 use Rattle.std.proofs.Common.{arith}
-use Rattle.redis_batches.proofs.Putting.{put_next}
+use Rattle.redis_batches.proofs.Putting.{none_put, put_next}
 use Rattle.redis_batches.proofs.plan.put_answers.Goals as goal
+
+pub loop-answer-init : goal.loop-answer-init
+loop-answer-init c = none_put c.args.out.now.items c.args.answers.items c.args.places.now c.requires.same
 
 -- what stood at the place before is dropped, by its kind
 pub loop-answer-preserved : goal.loop-answer-preserved

@@ -1,4 +1,4 @@
-use Rattle.std.proofs.Common.{◌≡◌, ◌∙◌, ℕ, [], ap, arith, inl, length, map, refl, subst, sym}
+use Rattle.std.proofs.Common.{◌≡◌, ◌∙◌, ℕ, [], ap, arith, get_or, inl, length, map, refl, subst, sym, take}
 use Rattle.std.specs.List.{flat_map, range_with_len}
 use Rattle.std.proofs.lemmas.List.{length-map}
 use Rattle.cluster_slots.specs.Address.{Address}
@@ -6,7 +6,7 @@ use Rattle.redis_routing.specs.Names.{names_of}
 use Rattle.redis_cluster.specs.Trace.{Ending}
 use Rattle.redis_batches.specs.Batched.{AreBatches}
 use Rattle.redis_batches.specs.CommandTask.{slots_kept, split_in}
-use Rattle.redis_batches.specs.Driven.{WereAsked, batch_at}
+use Rattle.redis_batches.specs.Driven.{WereAsked, WereAskedUntil, batch_at}
 use Rattle.redis_batches.specs.InRounds.{AreSentAgain, IsAgainFault}
 use Rattle.redis_batches.specs.Outgoing.{ArePartsOf, IsNext}
 use Rattle.redis_batches.specs.PartArguments.{sent_args}
@@ -15,6 +15,7 @@ use Rattle.redis_batches.specs.Reads.{IsSlotNode}
 use Rattle.redis_batches.specs.Replies.{AreRepliesTo}
 use Rattle.redis_batches.specs.Taken.{answer_of}
 use Rattle.redis_batches.specs.Tasks.{with_slots}
+use Rattle.redis_batches.proofs.Asked.{asked_none}
 use Rattle.redis_batches.proofs.Chain as chain
 use Rattle.redis_batches.proofs.Driving.{pipeline_stopped}
 use Rattle.redis_batches.proofs.Planning.{slots_of_all}
@@ -31,9 +32,17 @@ pub returns-in-Err-send_batches-clause-fault : goal.returns-in-Err-send_batches-
 returns-in-Err-send_batches-clause-fault g c =
     let nodes = g.N.BatchNodes in
     let is_node : ℕ → Address → Type 0 = (IsSlotNode c.args.strategy (λ s. (goal.ReadRoutingStrategy-dyn g s.now).picks s.now.1) c.args.slot_map.now (names_of c.args.read_only.now (nodes.registered c.args.nodes.now)) c.args.commands.now) in
-    inl (pipeline_stopped nodes.step nodes.serve (nodes.kept c.send_batches.new.nodes) (nodes.may_refuse c.args.nodes.now) (nodes.registered c.args.nodes.now) is_node c.args.commands.now c.args.order.now
-    (nodes.state c.args.nodes.now) (nodes.state c.send_batches.new.nodes) c.in-Ok.plan c.into_placed-tasks.result.1 c.into_placed-tasks.ensures.batches c.in-Ok.ensures.sendable c.in-Err-send_batches.stop
-    c.in-Err-send_batches.ensures.within c.in-Err-send_batches.ensures.stopped)
+    let stop = c.in-Err-send_batches.stop in
+    let asked : WereAskedUntil (nodes.asked c.args.nodes.now) (nodes.asked c.send_batches.new.nodes) (map (batch_at c.in-Ok.plan.batches) (take stop.answered c.args.order.now))
+    (batch_at c.in-Ok.plan.batches (get_or c.args.order.now stop.answered 0)) stop.error =
+    subst (λ b. WereAskedUntil (nodes.asked c.args.nodes.now) (nodes.asked c.send_batches.new.nodes) (map (batch_at b) (take stop.answered c.args.order.now)) (batch_at b (get_or c.args.order.now stop.answered 0)) stop.error)
+    c.into_placed-tasks.ensures.batches c.in-Err-send_batches.ensures.asked_until in
+    inl (
+      pipeline_stopped nodes.step nodes.serve (nodes.kept c.send_batches.new.nodes) (nodes.may_refuse c.args.nodes.now) (nodes.registered c.args.nodes.now) is_node c.args.commands.now c.args.order.now
+          (nodes.state c.args.nodes.now) (nodes.state c.send_batches.new.nodes) c.in-Ok.plan c.into_placed-tasks.result.1 c.into_placed-tasks.ensures.batches c.in-Ok.ensures.sendable stop
+          c.in-Err-send_batches.ensures.within c.in-Err-send_batches.ensures.stopped,
+      (c.in-Ok.plan, c.in-Ok.ensures.sendable, asked),
+    )
 
 pub returns-in_default-all_slots-clause-fault : goal.returns-in_default-all_slots-clause-fault
 returns-in_default-all_slots-clause-fault g c =
@@ -51,7 +60,10 @@ returns-in_default-all_slots-clause-fault g c =
     let kept_then = nodes.kept c.send_batches.new.nodes in
     let given = map answer_of c.send_batches.new.plan.answers in
     let served = retried.first_served nodes.step nodes.serve may registered is_node commands order retries old between plan sendable c.into_placed-tasks.result.1 c.into_placed-tasks.ensures.batches kept_then given c.in_default.ensures.served in
-    retried.answers_lost nodes.step nodes.serve may registered is_node commands order retries old between plan sendable kept_then given served kept_then (λ keep. keep) between [] (omega arith) refl
+    retried.were_sent nodes.step nodes.serve may registered is_node commands order retries old between plan sendable kept_then given served kept_then (λ keep. keep) between
+    (nodes.asked c.args.nodes.now) (nodes.asked c.send_batches.new.nodes) (nodes.asked c.send_batches.new.nodes)
+    (subst (λ b. WereAsked (nodes.asked c.args.nodes.now) (nodes.asked c.send_batches.new.nodes) (map (batch_at b) order)) c.into_placed-tasks.ensures.batches c.in_default.ensures.asked)
+    [] (omega arith) refl (asked_none (nodes.asked c.send_batches.new.nodes))
 
 pub first_parts-requires-clause-targets : goal.first_parts-requires-clause-targets
 first_parts-requires-clause-targets g c =
@@ -113,7 +125,10 @@ returns-in_default-first_parts-clause-fault g c =
     let kept_then = nodes.kept c.send_batches.new.nodes in
     let given = map answer_of c.send_batches.new.plan.answers in
     let served = retried.first_served nodes.step nodes.serve may registered is_node commands order retries old between plan sendable c.into_placed-tasks.result.1 c.into_placed-tasks.ensures.batches kept_then given c.in_default.ensures.served in
-    retried.answers_lost nodes.step nodes.serve may registered is_node commands order retries old between plan sendable kept_then given served kept_then (λ keep. keep) between [] (omega arith) refl
+    retried.were_sent nodes.step nodes.serve may registered is_node commands order retries old between plan sendable kept_then given served kept_then (λ keep. keep) between
+    (nodes.asked c.args.nodes.now) (nodes.asked c.send_batches.new.nodes) (nodes.asked c.send_batches.new.nodes)
+    (subst (λ b. WereAsked (nodes.asked c.args.nodes.now) (nodes.asked c.send_batches.new.nodes) (map (batch_at b) order)) c.into_placed-tasks.ensures.batches c.in_default.ensures.asked)
+    [] (omega arith) refl (asked_none (nodes.asked c.send_batches.new.nodes))
 
 pub send_again-requires-clause-parts : goal.send_again-requires-clause-parts
 send_again-requires-clause-parts g c =
@@ -191,11 +206,16 @@ returns-in-Err-send_again-clause-fault g c =
     let new = nodes.state c.send_again.new.nodes in
     let more : (count : ℕ) (ending : Ending) → nodes.may_refuse c.send_batches.new.nodes count ending → may count ending = λ count ending. (c.send_batches.ensures.may_refuse count ending).0 in
     let error = c.in-Err-send_again.error in
-    let named : IsAgainFault nodes.step nodes.serve kept (nodes.may_refuse c.send_batches.new.nodes) registered plan.batches.parts ps first retries between new error =
-    subst (λ a. IsAgainFault nodes.step nodes.serve kept (nodes.may_refuse c.send_batches.new.nodes) registered a ps first retries between new error) arguments_are
-    (subst (λ r. IsAgainFault nodes.step nodes.serve kept (nodes.may_refuse c.send_batches.new.nodes) r arguments ps first retries between new error) c.send_batches.ensures.registered (c.in-Err-send_again.ensures.fault ps first later gone)) in
-    retried.later_fault nodes.step nodes.serve may registered is_node commands order retries old between plan sendable kept_then given served kept c.send_again.ensures.kept new c.args.slot_map.now error
-    (chain.again_fault_wider nodes.step nodes.serve registered plan.batches.parts kept (nodes.may_refuse c.send_batches.new.nodes) may more ps first retries between new error named)
+    let asked_old = nodes.asked c.args.nodes.now in
+    let asked_between = nodes.asked c.send_batches.new.nodes in
+    let asked_new = nodes.asked c.send_again.new.nodes in
+    let named : IsAgainFault nodes.step nodes.serve kept (nodes.may_refuse c.send_batches.new.nodes) registered plan.batches.parts ps first retries between new asked_between asked_new error =
+    subst (λ a. IsAgainFault nodes.step nodes.serve kept (nodes.may_refuse c.send_batches.new.nodes) registered a ps first retries between new asked_between asked_new error) arguments_are
+    (subst (λ r. IsAgainFault nodes.step nodes.serve kept (nodes.may_refuse c.send_batches.new.nodes) r arguments ps first retries between new asked_between asked_new error) c.send_batches.ensures.registered
+    (c.in-Err-send_again.ensures.fault ps first later gone)) in
+    retried.later_fault nodes.step nodes.serve may registered is_node commands order retries old between plan sendable kept_then given served kept c.send_again.ensures.kept new asked_old asked_between asked_new
+    (subst (λ b. WereAsked asked_old asked_between (map (batch_at b) order)) c.into_placed-tasks.ensures.batches c.in_default.ensures.asked) c.args.slot_map.now error
+    (chain.again_fault_wider nodes.step nodes.serve registered plan.batches.parts kept (nodes.may_refuse c.send_batches.new.nodes) may more ps first retries between new asked_between asked_new error named)
 
 pub returns-in-Err-send_again-clause-untouched : goal.returns-in-Err-send_again-clause-untouched
 returns-in-Err-send_again-clause-untouched g c = λ early.
@@ -233,7 +253,7 @@ returns-in-Err-send_again-clause-untouched g c = λ early.
     let gone = retried.first_behind nodes.step nodes.serve may registered is_node commands order retries old between plan sendable kept_then given served c.as_slice-2.result.now targets out slots_are targets_are
     (retried.answers_many nodes.step nodes.serve may registered is_node commands order retries old between plan sendable c.send_batches.new.plan.answers room) found in
     absurd (chain.not_before nodes.step nodes.serve (nodes.registered c.send_batches.new.nodes) arguments (nodes.kept c.send_again.new.nodes) (nodes.may_refuse c.send_batches.new.nodes) ps first retries between (nodes.state c.send_again.new.nodes)
-    c.in-Err-send_again.error (c.in-Err-send_again.ensures.fault ps first later gone) early)
+    (nodes.asked c.send_batches.new.nodes) (nodes.asked c.send_again.new.nodes) c.in-Err-send_again.error (c.in-Err-send_again.ensures.fault ps first later gone) early)
 
 pub returns-in-Ok-replies_of-clause-served : goal.returns-in-Ok-replies_of-clause-served
 returns-in-Ok-replies_of-clause-served g c =
@@ -333,4 +353,7 @@ returns-clause-fault g c =
     subst (λ a. AreSentAgain nodes.step nodes.serve kept (nodes.may_refuse c.send_batches.new.nodes) registered a ps first retries between new (nodes.asked c.send_batches.new.nodes) (nodes.asked c.send_again.new.nodes) c.into_rest-parts.result.1.items c.send_again.new.answers.items) arguments_are
     (subst (λ r. AreSentAgain nodes.step nodes.serve kept (nodes.may_refuse c.send_batches.new.nodes) r arguments ps first retries between new (nodes.asked c.send_batches.new.nodes) (nodes.asked c.send_again.new.nodes) c.into_rest-parts.result.1.items c.send_again.new.answers.items) c.send_batches.ensures.registered again) in
     let wide = chain.again_wider nodes.step nodes.serve registered plan.batches.parts kept (nodes.may_refuse c.send_batches.new.nodes) may more ps first retries between new (nodes.asked c.send_batches.new.nodes) (nodes.asked c.send_again.new.nodes) c.into_rest-parts.result.1.items c.send_again.new.answers.items named in
-    retried.answers_lost nodes.step nodes.serve may registered is_node commands order retries old between plan sendable kept_then given served kept c.send_again.ensures.kept new wide.rounds wide.few wide.again
+    retried.were_sent nodes.step nodes.serve may registered is_node commands order retries old between plan sendable kept_then given served kept c.send_again.ensures.kept new
+    (nodes.asked c.args.nodes.now) (nodes.asked c.send_batches.new.nodes) (nodes.asked c.send_again.new.nodes)
+    (subst (λ b. WereAsked (nodes.asked c.args.nodes.now) (nodes.asked c.send_batches.new.nodes) (map (batch_at b) order)) c.into_placed-tasks.ensures.batches c.in_default.ensures.asked)
+    wide.rounds wide.few wide.again wide.asked

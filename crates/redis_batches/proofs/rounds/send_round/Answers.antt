@@ -54,8 +54,8 @@ returns-in-Err-clause-fault g c = λ ps round of gone.
     let batches = steps.batches registered ps arguments slots of round out gone ns same plan whole targets targets_are by_node parts in
     let own = steps.planned_slots registered ps arguments slots of round out gone ns same plan whole targets targets_are by_node parts in
     steps.stopped registered ps arguments slots of round out gone ns same plan whole targets targets_are by_node parts nodes.step nodes.serve (nodes.kept c.send_batches.new.nodes) (nodes.may_refuse c.args.nodes.now)
-    c.len.result c.as_slice-2.result.now (c.as_slice-2.ensures.value ∙ c.in-Ok-first_numbers.ensures) c.len.ensures.len (nodes.state c.args.nodes.now) (nodes.state c.send_batches.new.nodes) c.in-Err.stop
-    (c.in-Err.ensures.stopped _ own batches)
+    c.len.result c.as_slice-2.result.now (c.as_slice-2.ensures.value ∙ c.in-Ok-first_numbers.ensures) c.len.ensures.len (nodes.state c.args.nodes.now) (nodes.state c.send_batches.new.nodes)
+    (nodes.asked c.args.nodes.now) (nodes.asked c.send_batches.new.nodes) c.in-Err.stop (c.in-Err.ensures.stopped _ own batches) c.in-Err.ensures.asked_until
 
 pub next_parts-requires-clause-within : goal.next_parts-requires-clause-within
 next_parts-requires-clause-within g c =
@@ -81,7 +81,8 @@ returns-in_default-next_parts-clause-fault g c = λ ps round of gone.
     let own = steps.planned_slots registered ps arguments slots of round out gone ns same plan whole targets targets_are by_node parts in
     inr (steps.served registered ps arguments slots of round out gone ns same plan whole targets targets_are by_node parts nodes.step nodes.serve (nodes.kept c.send_batches.new.nodes) (nodes.may_refuse c.args.nodes.now)
     c.len.result c.as_slice-2.result.now (c.as_slice-2.ensures.value ∙ c.in-Ok-first_numbers.ensures) c.len.ensures.len (nodes.state c.args.nodes.now) (nodes.state c.send_batches.new.nodes)
-    (map answer_of c.send_batches.new.plan.answers) (c.in_default-send_batches.ensures.served _ own batches))
+    (map answer_of c.send_batches.new.plan.answers) (c.in_default-send_batches.ensures.served _ own batches)
+    (nodes.asked c.args.nodes.now) (nodes.asked c.send_batches.new.nodes) c.in_default-send_batches.ensures.asked)
 
 pub put_answers-requires-clause-within : goal.put_answers-requires-clause-within
 put_answers-requires-clause-within g c =
@@ -115,5 +116,5 @@ returns-clause-served g c = λ ps round of gone.
     steps.next_is registered ps arguments slots of round out gone ns same plan whole targets targets_are by_node parts nodes.step nodes.serve (nodes.kept c.send_batches.new.nodes) (nodes.may_refuse c.args.nodes.now)
     c.len.result c.as_slice-2.result.now (c.as_slice-2.ensures.value ∙ c.in-Ok-first_numbers.ensures) c.len.ensures.len (nodes.state c.args.nodes.now) (nodes.state c.send_batches.new.nodes)
     given (c.in_default-send_batches.ensures.served _ own batches) (nodes.asked c.args.nodes.now) (nodes.asked c.send_batches.new.nodes) c.in_default-send_batches.ensures.asked
-    replies c.args.answers.now.items c.put_answers.new.out.items (ap (map answer_of) (sym given_are)) c.put_answers.ensures.len (length-map c.send_batches.new.plan.answers answer_of ∙ c.send_batches.ensures.room)
+    replies c.args.answers.now.items c.put_answers.new.out.items (ap (map answer_of) (sym given_are)) c.put_answers.ensures.put c.put_answers.ensures.len (length-map c.send_batches.new.plan.answers answer_of ∙ c.send_batches.ensures.room)
     c.put_answers.ensures.right c.put_answers.ensures.kept c.in-Ok-next_parts.next found
