@@ -4,7 +4,7 @@ use Rattle.std.specs.Prelude.{OnOk, IfErr}
 use Rattle.std.proofs.lemmas.List.{append-nil, map_more}
 use Rattle.redis_cluster.specs.Orders.{in_order}
 use Rattle.redis_cluster.specs.declared.nodes.SendError.{SendError}
-use Rattle.redis_batches.specs.Driven.{WereAsked, WereAskedUntil, batch_at, node_at}
+use Rattle.redis_batches.specs.Driven.{Grew, WereAsked, WereAskedUntil, batch_at, node_at}
 use Rattle.redis_batches.specs.Plan.{Batches}
 use Rattle.redis_batches.specs.Taken.{Batch, batch_for}
 
@@ -18,11 +18,11 @@ if_err_always (Ok value) P is = tt
 if_err_always (Err error) P is = is error
 
 -- none
-pub asked_none : (old : List Batch → Type 0) → WereAsked old old []
+pub asked_none : {X : Type 0} (old : List X → Type 0) → Grew old old []
 asked_none old before was = subst old (sym (append-nil before)) was
 
 -- some, and then others
-pub asked_more : (old between new : List Batch → Type 0) (sent others : List Batch) → WereAsked old between sent → WereAsked between new others → WereAsked old new (sent ++ others)
+pub asked_more : {X : Type 0} (old between new : List X → Type 0) (sent others : List X) → Grew old between sent → Grew between new others → Grew old new (sent ++ others)
 asked_more old between new sent others one other before was = subst new (append_assoc before sent others) (other (before ++ sent) (one before was))
 
 -- some, and then others up to one that was not taken

@@ -22,6 +22,7 @@ pub mod Untouched
 pub mod Fewest
 pub mod Planning
 pub mod Asked
+pub mod Given
 pub mod Untaken
 pub mod Counting
 pub mod Primaries

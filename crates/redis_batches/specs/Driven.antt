@@ -76,9 +76,17 @@ pub record WasStopped {C : Type 0} (step : Step C) (serve : Serve C) (registered
 abbrev pub batch_at : Batches → ℕ → Batch
 batch_at plan k = batch_for (node_at plan.nodes k) (in_order plan.parts (get_or plan.places k []))
 
+-- What may be a list so far has grown by these.
+abbrev pub Grew : {X : Type 0} → (old new : List X → Type 0) → List X → Type 0
+Grew {X} old new more = (before : List X) → old before → new (before ++ more)
+
 -- These batches were sent, one after the other, each once, and no others.
 abbrev pub WereAsked : (old new : List Batch → Type 0) → List Batch → Type 0
-WereAsked old new sent = (before : List Batch) → old before → new (before ++ sent)
+WereAsked old new sent = Grew old new sent
+
+-- the answers to these batches, batch after batch, by the answers to all parts
+abbrev pub answers_in : Batches → List Answer → List ℕ → List (List Answer)
+answers_in plan given order = map (λ k. in_order given (get_or plan.places k [])) order
 
 -- These were sent, and then this one, unless memory ran out before.
 abbrev pub WereAskedUntil : (old new : List Batch → Type 0) → List Batch → Batch → SendError → Type 0

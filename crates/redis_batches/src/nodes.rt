@@ -1,11 +1,11 @@
-ghost use Rattle.std.specs.Prelude.{◌≡◌, ◌↔◌, ◌++◌, ◌∷◌, ℕ, List, Option, [], false, map, length, IfOk, IfErr, OnOk};
+ghost use Rattle.std.specs.Prelude.{◌≡◌, ◌↔◌, ◌++◌, ◌∷◌, ℕ, List, Option, [], false, map, length, IfOk, IfErr, OnOk, OnErr};
 ghost use Rattle.redis_routing.specs.Registry.{Registrations};
 ghost use Rattle.resp_core.specs.ErrorParts.{ErrorParts};
 ghost use Rattle.redis_cluster.specs.Sent.{IsIdleIfRefused};
 ghost use Rattle.redis_cluster.specs.Trace.{Ending};
 ghost use Rattle.redis_cluster.specs.Unsplit.{Step};
 ghost use Rattle.redis_cluster.specs.State.{State};
-ghost use Rattle.redis_batches.specs.Pipeline.{Serve};
+ghost use Rattle.redis_batches.specs.Pipeline.{Answer, Serve};
 ghost use Rattle.redis_batches.specs.Taken.{answer_of, AreServed, AreTasks, Batch, IsTaken, IsUntaken, batch_entries, batch_for};
 
 use cluster_slots::NodeAddress;
@@ -47,6 +47,9 @@ pub trait BatchNodes {
     /// were not taken, too.
     ghost asked: { Self → List Batch → Type 0 } = { λ _ _. Unit {0} };
 
+    /// Whether these may be the answers so far, batch after batch, in the order in which they came.
+    ghost gave: { Self → List (List Answer) → Type 0 } = { λ _ _. Unit {0} };
+
     /// The registered names: a command of one of them may be part of a pipeline, too.
     fn registry(&self) -> &Registry
         ensures { result.now ≡ registered self.now };
@@ -85,6 +88,12 @@ pub trait BatchNodes {
         // The batch was sent once, whether it was taken or not.
         ensures asked { (before : List Batch) → asked self.old before
             → asked self.new (before ++ batch_for node.now (map (λ cmd. cmd.now) batch.now) ∷ []) }
+        // Where nothing was sent, it may be that no answer came.
+        ensures gave_at_first { (state self.old).trace ≡ [] → gave self.old [] }
+        ensures gave { IfOk result (λ answers. (before : List (List Answer)) → gave self.old before
+            → gave self.new (before ++ map answer_of answers.items ∷ [])) }
+        ensures gave_none { OnErr result ((before : List (List Answer)) → gave self.old before
+            → gave self.new before) }
         ensures kept { kept self.new → kept self.old }
         // Nodes to which nothing was sent kept to the meaning,
         ensures kept_at_first { (state self.old).trace ≡ [] → kept self.old }

@@ -139,6 +139,8 @@ impl<'a> BatchPlan<'a> {
         ensures told { OnOk result (self.new.told ≡ slice_set self.old.told number true) }
         ensures same { (self.new.nodes ≡ self.old.nodes) × (self.new.places ≡ self.old.places)
             × (self.new.parts ≡ self.old.parts) × (length self.new.answers ≡ length self.old.answers) }
+        ensures put { OnOk result ((places : List ℕ) → slice_get self.old.places number ≡ Some places
+            → self.new.answers ≡ put_at self.old.answers places answers.items) }
         ensures right { OnOk result ((all : List Answer) (places : List ℕ)
             → slice_get self.old.places number ≡ Some places → AreFor all places answers.items
             → All (IsRight self.new.answers all) places) }

@@ -3,9 +3,9 @@ ghost use Rattle.std.specs.List.{All};
 ghost use Rattle.redis_cluster.specs.Orders.{NamesOnce, in_order};
 ghost use Rattle.redis_cluster.specs.Trace.{Ending};
 ghost use Rattle.redis_batches.specs.Pipeline.{Answer, AreSlotsOf, Planned};
-ghost use Rattle.redis_batches.specs.Batched.{AreBatches, AreFor, IsRight};
+ghost use Rattle.redis_batches.specs.Batched.{AreBatches, AreFor, IsRight, put_at};
 ghost use Rattle.redis_batches.specs.Taken.{answer_of, IsTaken, IsNotTaken};
-ghost use Rattle.redis_batches.specs.Driven.{batch_at, node_at, IsServed, WasStopped, WereAsked, WereAskedUntil};
+ghost use Rattle.redis_batches.specs.Driven.{Grew, answers_in, batch_at, node_at, IsServed, WasStopped, WereAsked, WereAskedUntil};
 ghost use Rattle.redis_batches.specs.Plan.{IsPlan};
 
 use crate::nodes::BatchNodes;
@@ -78,6 +78,9 @@ pub fn send_batches<N: BatchNodes>(
     ensures asked_until { IfErr result (λ stop. WereAskedUntil (N.asked nodes.old) (N.asked nodes.new)
         (map (batch_at plan.old) (take stop.answered order.now))
         (batch_at plan.old (get_or order.now stop.answered 0)) stop.error) }
+    // These are the answers that the nodes gave, batch after batch.
+    ensures gave { OnOk result (Grew (N.gave nodes.old) (N.gave nodes.new)
+        (answers_in plan.old (map answer_of plan.new.answers) order.now)) }
     ensures within { IfErr result (λ stop. stop.answered < length order.now) }
     ensures room { length plan.new.answers ≡ length plan.old.parts }
     ensures parts { plan.new.parts ≡ plan.old.parts }
@@ -123,6 +126,8 @@ fn send_one<N: BatchNodes>(
         (batch_at plan.now number ∷ [])) }
     ensures asked_until { IfErr result (λ error. WereAskedUntil (N.asked nodes.old) (N.asked nodes.new)
         [] (batch_at plan.now number) error) }
+    ensures gave { IfOk result (λ answers. Grew (N.gave nodes.old) (N.gave nodes.new)
+        (map answer_of answers.items ∷ [])) }
     ensures kept { N.kept nodes.new → N.kept nodes.old }
     ensures may_refuse { (count : ℕ) (ending : Ending) → N.may_refuse nodes.new count ending
         ↔ N.may_refuse nodes.old count ending }
@@ -147,6 +152,8 @@ fn tell_first(plan: &mut BatchPlan<'_>, number: usize, answers: Vec<Result<Value
     ensures told { plan.new.told ≡ slice_set plan.old.told number true }
     ensures same { (plan.new.nodes ≡ plan.old.nodes) × (plan.new.places ≡ plan.old.places)
         × (plan.new.parts ≡ plan.old.parts) × (length plan.new.answers ≡ length plan.old.answers) }
+    ensures put { (places : List ℕ) → slice_get plan.old.places number ≡ Some places
+        → plan.new.answers ≡ put_at plan.old.answers places answers.items }
     ensures right { (all : List Answer) (places : List ℕ)
         → slice_get plan.old.places number ≡ Some places → AreFor all places answers.items
         → All (IsRight plan.new.answers all) places }

@@ -1,5 +1,6 @@
-use Rattle.std.proofs.Common.{◌≡◌, ◌<◌, ◌∙◌, ℕ, ◌+◌, List, false, true, Some, refl, sym, ap, subst, arith, cond, map, length, get_or, take, take_all}
+use Rattle.std.proofs.Common.{◌≡◌, ◌<◌, ◌∙◌, ℕ, ◌+◌, List, [], ◌∷◌, All, false, true, Some, refl, sym, ap, subst, arith, cond, map, length, get_or, take, take_all}
 use Rattle.std.specs.Prelude.{nat_eq, slice_get, slice_set}
+use Rattle.std.proofs.lemmas.List.{length-map}
 use Rattle.resp_core.proofs.Cases.{by_test}
 use Rattle.cluster_slots.specs.Address.{Address}
 use Rattle.redis_cluster.specs.Orders.{NamesOnce, in_order, times}
@@ -10,13 +11,14 @@ use Rattle.redis_cluster.proofs.Once.{times_more, times-take, names_once-apart}
 use Rattle.redis_cluster.specs.State.{State}
 use Rattle.redis_routing.specs.Registry.{Registrations}
 use Rattle.redis_batches.specs.Pipeline.{Answer, Serve}
-use Rattle.redis_batches.specs.Batched.{AreFor, numbers_in}
+use Rattle.redis_batches.specs.Batched.{AreFor, numbers_in, put_at}
 use Rattle.redis_batches.specs.Taken.{answer_of, IsNotTaken, IsTaken}
-use Rattle.redis_batches.specs.Driven.{WereAsked, WereAskedUntil, batch_at, node_at}
-use Rattle.redis_batches.proofs.Asked.{asked_last, asked_next, asked_none, same_batch}
+use Rattle.redis_batches.specs.Driven.{Grew, WereAsked, WereAskedUntil, answers_in, batch_at, node_at}
+use Rattle.redis_batches.proofs.Asked.{asked_last, asked_more, asked_next, asked_none, same_batch}
 use Rattle.redis_batches.proofs.Untaken.{not_taken_wider}
 use Rattle.redis_batches.proofs.Entries.{get_there}
-use Rattle.redis_batches.proofs.Putting.{set_there}
+use Rattle.redis_batches.proofs.Given.{given_next}
+use Rattle.redis_batches.proofs.Putting.{map-put_at, set_there}
 use Rattle.redis_batches.proofs.Round as round
 use Rattle.redis_batches.proofs.send.send_batches.Goals as goal
 
@@ -99,6 +101,7 @@ loop-number-init g c =
       may_refuse = λ count ending. (λ may. may, λ may. may);
       registered = refl;
       asked = asked_none (nodes.asked c.args.nodes.now);
+      given = asked_none (nodes.gave c.args.nodes.now);
       answered = refl;
     }
 
@@ -145,6 +148,25 @@ loop-number-preserved g c =
           (λ may. before.0 (one.0 may), λ may. one.1 (before.1 may));
       registered = c.send_one.ensures.registered ∙ inv.registered;
       asked = asked_next (nodes.asked c.args.nodes.now) (nodes.asked c.loop-number.nodes) (nodes.asked c.send_one.new.nodes) plan order i (batch_at c.loop-number.plan k) (same_batch c.loop-number.plan plan k inv.same_nodes inv.same_places inv.same_parts) inv.asked inside c.in-Ok.ensures.asked;
+      given =
+          let ps = c.requires.batches.0 in
+          let is = c.requires.batches.2 in
+          let own = numbers_in is.batch ps k in
+          let at : slice_get c.loop-number.plan.places k ≡ Some own = ap (λ ls. slice_get ls k) inv.same_places ∙ is.places_are k below in
+          let before = c.loop-number.plan.answers in
+          let replies = c.in-Ok.answers.items in
+          let many : length (map answer_of before) ≡ length plan.parts = length-map before answer_of ∙ inv.room in
+          let within : All (λ p. p < length (map answer_of before)) own =
+          subst (λ n. All (λ p. p < n) own) (sym many)
+          (round.within nodes.step nodes.serve (nodes.registered c.args.nodes.now) ps c.requires.batches.1 plan.parts plan.places is order c.requires.order plan.nodes old k) in
+          let long : length (map answer_of replies) ≡ length own =
+          length-map replies answer_of ∙ c.in-Ok.ensures.answers own at ∙ ap (λ parts. length (in_order parts own)) inv.same_parts
+          ∙ round.batch_long nodes.step nodes.serve (nodes.registered c.args.nodes.now) ps c.requires.batches.1 plan.parts plan.places is order c.requires.order plan.nodes old k in
+          let put : map answer_of c.tell_first.new.plan.answers ≡ put_at (map answer_of before) own (map answer_of replies) =
+          ap (map answer_of) (c.tell_first.ensures.put own at) ∙ map-put_at answer_of before own replies in
+          subst (Grew (nodes.gave c.args.nodes.now) (nodes.gave c.send_one.new.nodes))
+          (sym (given_next (nodes.registered c.args.nodes.now) ps plan is order c.requires.order i inside (fresh (length plan.places) order i c.requires.order inside) (map answer_of before) (map answer_of c.tell_first.new.plan.answers) (map answer_of replies) put within long))
+          (asked_more (nodes.gave c.args.nodes.now) (nodes.gave c.loop-number.nodes) (nodes.gave c.send_one.new.nodes) (answers_in plan (map answer_of before) (take i order)) (map answer_of replies ∷ []) inv.given c.in-Ok.ensures.gave);
       answered = omega (arith, inv.answered);
     }
 
@@ -206,6 +228,12 @@ returns-in-Err-clause-asked_until g c =
     let inv = c.loop-number.invariant in
     let last = asked_last (nodes.asked c.args.nodes.now) (nodes.asked c.loop-number.nodes) (nodes.asked c.send_one.new.nodes) plan order i (batch_at c.loop-number.plan k) (same_batch c.loop-number.plan plan k inv.same_nodes inv.same_places inv.same_parts) inv.asked c.in-Err.error c.in-Err.ensures.asked_until in
     subst (λ n. WereAskedUntil (nodes.asked c.args.nodes.now) (nodes.asked c.send_one.new.nodes) (map (batch_at plan) (take n order)) (batch_at plan (get_or order n 0)) c.in-Err.error) (sym inv.answered) last
+
+pub returns-clause-gave : goal.returns-clause-gave
+returns-clause-gave g c =
+    let nodes = g.N.BatchNodes in
+    subst (λ o. Grew (nodes.gave c.args.nodes.now) (nodes.gave c.loop-number.nodes) (answers_in c.args.plan.now (map answer_of c.loop-number.plan.answers) o))
+    (take_all c.loop-number.number-index c.args.order.now (omega (arith, c.loop-number-test.false))) c.loop-number.invariant.given
 
 pub returns-in-Err-clause-within : goal.returns-in-Err-clause-within
 returns-in-Err-clause-within g c = omega (arith, c.loop-number.invariant.answered, c.loop-number-test.true)

@@ -1,7 +1,7 @@
 use Rattle.std.proofs.Common.{◌≡◌, ◌<◌, ◌∙◌, ℕ, List, Some, All, ap, refl, sym, subst, arith, length, map, slice_get}
 use Rattle.std.proofs.lemmas.List.{length-map}
 use Rattle.std.proofs.lemmas.Option.{slice_get_read, same_Some}
-use Rattle.redis_batches.specs.Batched.{AreFor, IsRight}
+use Rattle.redis_batches.specs.Batched.{AreFor, IsRight, put_at}
 use Rattle.redis_batches.specs.Plan.{Batches}
 use Rattle.redis_batches.proofs.Putting.{read_list}
 use Rattle.redis_batches.proofs.plan.BatchPlan.tell.Goals as goal
@@ -23,6 +23,17 @@ returns-clause-first c =
     let within : c.args.number < length plan.told.items = omega (arith, c.if-number-len.false, c.len.ensures, plan.told.ok.0) in
     ap (λ l. slice_get l c.args.number) (sym told)
     ∙ slice_get_read plan.told.items (length plan.told.items) c.args.number c.index.result.now refl within c.index.ensures ∙ ap Some c.if-index.false
+
+pub returns-clause-put : goal.returns-clause-put
+returns-clause-put c = λ places at.
+    let plan = c.self.inside in
+    let l = c.as_slice.result.now in
+    let within : c.args.number < length plan.places.items =
+    omega (arith, c.if-number-len.false, c.len.ensures, plan.told.ok.0, c.self.invariant.told, length-map plan.places.items (λ v. v.items)) in
+    let read = read_list (λ v. v.items) plan.places.items c.args.number c.index-3.result.now l within c.index-3.ensures c.as_slice.ensures.value in
+    let same : places ≡ l = same_Some places l (sym at ∙ ap (λ (p : Batches). slice_get p.places c.args.number) (sym c.self.view_is) ∙ read) in
+    let old : plan.answers.items ≡ c.args.self.now.answers = ap (λ (p : Batches). p.answers) c.self.view_is in
+    c.put_answers.ensures.put ∙ ap (λ a. put_at a l c.args.answers.items) old ∙ ap (λ ps. put_at c.args.self.now.answers ps c.args.answers.items) (sym same)
 
 pub returns-clause-right : goal.returns-clause-right
 returns-clause-right c = λ all places at for.
