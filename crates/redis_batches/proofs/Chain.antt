@@ -11,12 +11,12 @@ use Rattle.redis_cluster.specs.State.{State}
 use Rattle.redis_cluster.specs.Trace.{Ending, refused}
 use Rattle.redis_cluster.specs.Unsplit.{Step, Keyspace}
 use Rattle.redis_batches.specs.Batched.{put_at}
-use Rattle.redis_batches.specs.Driven.{WereAsked}
+use Rattle.redis_batches.specs.Driven.{Grew, WereAsked}
 use Rattle.redis_batches.specs.DrivenPipeline.{IsBeforeSending}
 use Rattle.redis_batches.specs.InRounds.{AreSentAgain, IsAgainFault, Stands}
 use Rattle.redis_batches.specs.Outgoing.{ArePutAt, GoesBehind, IsNextFault, IsNextServed}
 use Rattle.redis_batches.specs.Pipeline.{Answer, AreSlotsOf, Numbered, Planned, Refusals, Serve, ended, numbered, slot_of}
-use Rattle.redis_batches.specs.Rounds.{AreRounds, AreSentOn, Follows, IsLast, IsRoundServed, IsRoundStopped, IsSentOn, OwnErrorsStay, Round, StaysHere, after_round, after_rounds, batch_after, batches_before, go_on, last_round, latest_answers, round_batches}
+use Rattle.redis_batches.specs.Rounds.{AreRounds, AreSentOn, Follows, IsLast, IsRoundServed, IsRoundStopped, IsSentOn, OwnErrorsStay, Round, StaysHere, after_round, after_rounds, batch_after, batches_before, go_on, last_round, latest_answers, round_answers, round_batches}
 use Rattle.redis_batches.specs.Sent.{AreLast}
 use Rattle.redis_batches.specs.Taken.{Batch, answer_of}
 use Rattle.redis_batches.specs.Turns.{all_after, answers}
@@ -45,8 +45,8 @@ latest_more : (all : List Answer) (rounds : List Round) (next : Round) → lates
 latest_more all [] next = refl
 latest_more all (r ∷ rounds) next = latest_more (put_at all (map (λ (x : Numbered). x.0) r.sent) r.given) rounds next
 
-batches_more : (rounds : List Round) (next : Round) → flat_map round_batches (rounds ++ next ∷ []) ≡ flat_map round_batches rounds ++ round_batches next
-batches_more rounds next = flat_map-append round_batches rounds (next ∷ []) ∙ ap (λ l. flat_map round_batches rounds ++ l) (append-nil (round_batches next))
+one_more : {X : Type 0} (f : Round → List X) (rounds : List Round) (next : Round) → flat_map f (rounds ++ next ∷ []) ≡ flat_map f rounds ++ f next
+one_more f rounds next = flat_map-append f rounds (next ∷ []) ∙ ap (λ l. flat_map f rounds ++ l) (append-nil (f next))
 
 -- nothing is as long as nothing
 pub is_none : (ns : List ℕ) → length ns ≡ 0 → ns ≡ []
@@ -67,6 +67,7 @@ module _ {C : Type 0} (step : Step C) (serve : Serve C) (registered : Registrati
       → IsRoundServed step serve kept_then may registered arguments round old new → IsRoundServed step serve kept wide registered arguments round old new
   round_wider kept_then kept before may wide more round old new is = record {
     prepared = is.prepared;
+    long = is.long;
     served = record {
       refusals = is.served.refusals;
       trace = is.served.trace;
@@ -111,13 +112,14 @@ module _ {C : Type 0} (step : Step C) (serve : Serve C) (registered : Registrati
       (are.0, are.1, are.2, rounds_more kept may r rounds next are.1 now new are.3 follows served)
 
   pub next_wider : (kept : Type 0) → (may wide : ℕ → Ending → Type 0) → ((count : ℕ) (ending : Ending) → may count ending → wide count ending) → (ps : List Planned) (round : Round) (old new : State C) (asked_old asked_new : List Batch → Type 0)
-      (before after : List (Result Value ErrorParts)) (out : Outgoing) → IsNextServed step serve kept may registered arguments ps round old new asked_old asked_new before after out
-      → IsNextServed step serve kept wide registered arguments ps round old new asked_old asked_new before after out
-  next_wider kept may wide more ps round old new asked_old asked_new before after out is = record {
+      (gave_old gave_new : List (List Answer) → Type 0) (before after : List (Result Value ErrorParts)) (out : Outgoing) → IsNextServed step serve kept may registered arguments ps round old new asked_old asked_new gave_old gave_new before after out
+      → IsNextServed step serve kept wide registered arguments ps round old new asked_old asked_new gave_old gave_new before after out
+  next_wider kept may wide more ps round old new asked_old asked_new gave_old gave_new before after out is = record {
     next = is.next;
     follows = is.follows;
     served = round_wider kept kept (λ keep. keep) may wide more is.next old new is.served;
     asked = is.asked;
+    gave = is.gave;
     replies = is.replies;
     put = is.put;
     behind = is.behind;
@@ -132,13 +134,14 @@ module _ {C : Type 0} (step : Step C) (serve : Serve C) (registered : Registrati
   fault_wider kept may wide more ps round old new asked_old asked_new driven.Memory (inr is) = inr (is.0, is.1, round_wider kept kept (λ keep. keep) may wide more is.0 old new is.2, is.3)
 
   pub again_wider : (kept : Type 0) → (may wide : ℕ → Ending → Type 0) → ((count : ℕ) (ending : Ending) → may count ending → wide count ending) → (ps : List Planned) (round : Round) (retries : ℕ) (old new : State C) (asked_old asked_new : List Batch → Type 0)
-      (before after : List (Result Value ErrorParts)) → AreSentAgain step serve kept may registered arguments ps round retries old new asked_old asked_new before after
-      → AreSentAgain step serve kept wide registered arguments ps round retries old new asked_old asked_new before after
-  again_wider kept may wide more ps round retries old new asked_old asked_new before after is = record {
+      (gave_old gave_new : List (List Answer) → Type 0) (before after : List (Result Value ErrorParts)) → AreSentAgain step serve kept may registered arguments ps round retries old new asked_old asked_new gave_old gave_new before after
+      → AreSentAgain step serve kept wide registered arguments ps round retries old new asked_old asked_new gave_old gave_new before after
+  again_wider kept may wide more ps round retries old new asked_old asked_new gave_old gave_new before after is = record {
     rounds = is.rounds;
     few = is.few;
     again = rounds_wider kept kept (λ keep. keep) may wide more round is.rounds old new is.again;
     asked = is.asked;
+    gave = is.gave;
     done = is.done;
     latest = is.latest;
     as_one = is.as_one;
@@ -202,38 +205,40 @@ module _ {C : Type 0} (step : Step C) (serve : Serve C) (ps : List Planned) (are
         given_are = gives;
       }
 
-module _ {C : Type 0} (step : Step C) (serve : Serve C) (may : ℕ → Ending → Type 0) (registered : Registrations) (arguments : List (List (List ℕ))) (ps : List Planned) (round : Round) (start : State C) (asked_start : List Batch → Type 0)
+module _ {C : Type 0} (step : Step C) (serve : Serve C) (may : ℕ → Ending → Type 0) (registered : Registrations) (arguments : List (List (List ℕ))) (ps : List Planned) (round : Round) (start : State C) (asked_start : List Batch → Type 0) (gave_start : List (List Answer) → Type 0)
     (before : List (Result Value ErrorParts)) where
   -- so many rounds were sent, and these parts go out next
-  pub record IsSoFar (kept : Type 0) (k : ℕ) (now : State C) (asked_now : List Batch → Type 0) (all : List (Result Value ErrorParts)) (out : Outgoing) : Type 0 where
+  pub record IsSoFar (kept : Type 0) (k : ℕ) (now : State C) (asked_now : List Batch → Type 0) (gave_now : List (List Answer) → Type 0) (all : List (Result Value ErrorParts)) (out : Outgoing) : Type 0 where
     pub rounds : List Round
     pub many : length rounds ≡ k
     pub again : AreRounds step serve kept may registered arguments round rounds start now
     pub asked : WereAsked asked_start asked_now (flat_map round_batches rounds)
+    pub gave : Grew gave_start gave_now (flat_map round_answers rounds)
     pub behind : GoesBehind ps (last_round round rounds) out
     pub latest : map answer_of all ≡ latest_answers (map answer_of before) rounds
     pub stands : kept → OwnErrorsStay serve (map (λ p. p.task) ps) → (ks : Keyspace C) (refusals : Refusals) → Stands step serve ps refusals round ks start.keyspace before
         → Stands step serve ps (after_rounds refusals rounds) (last_round round rounds) ks now.keyspace all
 
-  pub none_so_far : (kept : Type 0) (out : Outgoing) → GoesBehind ps round out → IsSoFar kept 0 start asked_start before out
+  pub none_so_far : (kept : Type 0) (out : Outgoing) → GoesBehind ps round out → IsSoFar kept 0 start asked_start gave_start before out
   none_so_far kept out gone = record {
     rounds = [];
     many = refl;
     again = refl;
     asked = asked_none asked_start;
+    gave = asked_none gave_start;
     behind = gone;
     latest = refl;
     stands = λ keep own ks refusals is. is;
   }
 
-  module _ (kept_then kept : Type 0) (earlier : kept → kept_then) (k : ℕ) (now new : State C) (asked_now asked_new : List Batch → Type 0) (all more : List (Result Value ErrorParts)) (out later : Outgoing)
-      (so_far : IsSoFar kept_then k now asked_now all out) where
+  module _ (kept_then kept : Type 0) (earlier : kept → kept_then) (k : ℕ) (now new : State C) (asked_now asked_new : List Batch → Type 0) (gave_now gave_new : List (List Answer) → Type 0) (all more : List (Result Value ErrorParts)) (out later : Outgoing)
+      (so_far : IsSoFar kept_then k now asked_now gave_now all out) where
     -- the last round so far
     abbrev pub latest : Round
     latest = last_round round so_far.rounds
 
-    pub one_round_more : All (λ p. AreSlotsOf p.task p.slots) ps → (is : IsNextServed step serve kept may registered arguments ps latest now new asked_now asked_new all more later)
-        → map (λ z. z.0) (zip latest.sent is.follows.on) ≡ latest.sent → IsSoFar kept (k + 1) new asked_new more later
+    pub one_round_more : All (λ p. AreSlotsOf p.task p.slots) ps → (is : IsNextServed step serve kept may registered arguments ps latest now new asked_now asked_new gave_now gave_new all more later)
+        → map (λ z. z.0) (zip latest.sent is.follows.on) ≡ latest.sent → IsSoFar kept (k + 1) new asked_new gave_new more later
     one_round_more are is fronts =
         let longer : List Round = so_far.rounds ++ is.next ∷ [] in
         let last = last_more round so_far.rounds is.next in
@@ -242,7 +247,8 @@ module _ {C : Type 0} (step : Step C) (serve : Serve C) (may : ℕ → Ending �
           many = length_push so_far.rounds is.next ∙ ap (λ n. n + 1) so_far.many;
           again = rounds_more step serve registered arguments kept may round so_far.rounds is.next start now new
               (rounds_wider step serve registered arguments kept_then kept earlier may may (λ count ending is. is) round so_far.rounds start now so_far.again) is.follows is.served;
-          asked = subst (WereAsked asked_start asked_new) (sym (batches_more so_far.rounds is.next)) (asked_more asked_start asked_now asked_new (flat_map round_batches so_far.rounds) (round_batches is.next) so_far.asked is.asked);
+          asked = subst (WereAsked asked_start asked_new) (sym (one_more round_batches so_far.rounds is.next)) (asked_more asked_start asked_now asked_new (flat_map round_batches so_far.rounds) (round_batches is.next) so_far.asked is.asked);
+          gave = subst (Grew gave_start gave_new) (sym (one_more round_answers so_far.rounds is.next)) (asked_more gave_start gave_now gave_new (flat_map round_answers so_far.rounds) (round_answers is.next) so_far.gave is.gave);
           behind = subst (λ r. GoesBehind ps r later) (sym last) is.behind;
           latest = is.put.all_are ∙ ap (λ l. put_at l (map (λ (x : Numbered). x.0) is.next.sent) is.next.given) so_far.latest ∙ sym (latest_more (map answer_of before) so_far.rounds is.next);
           stands = λ keep own ks refusals was.
@@ -290,17 +296,18 @@ module _ {C : Type 0} (step : Step C) (serve : Serve C) (may : ℕ → Ending �
           so_far.rounds ++ is.0 ∷ [],
           omega (arith, few, so_far.many, length_push so_far.rounds is.0),
           rounds_more step serve registered arguments kept may round so_far.rounds is.0 start now new were is.1 is.2,
-          subst (WereAsked asked_start asked_new) (sym (batches_more so_far.rounds is.0)) (asked_more asked_start asked_now asked_new (flat_map round_batches so_far.rounds) (round_batches is.0) so_far.asked is.3),
+          subst (WereAsked asked_start asked_new) (sym (one_more round_batches so_far.rounds is.0)) (asked_more asked_start asked_now asked_new (flat_map round_batches so_far.rounds) (round_batches is.0) so_far.asked is.3),
         )
 
   -- In the end they were sent again as often as there are retries, or no part goes out again.
-  pub all_so_far : (kept : Type 0) (k retries : ℕ) (now : State C) (asked_now : List Batch → Type 0) (all : List (Result Value ErrorParts)) (out : Outgoing) → (so_far : IsSoFar kept k now asked_now all out) → k ≤ retries → (k ≡ retries) ⊎ (out.numbers.items ≡ [])
-      → AreSentAgain step serve kept may registered arguments ps round retries start now asked_start asked_now before all
-  all_so_far kept k retries now asked_now all out so_far few end = record {
+  pub all_so_far : (kept : Type 0) (k retries : ℕ) (now : State C) (asked_now : List Batch → Type 0) (gave_now : List (List Answer) → Type 0) (all : List (Result Value ErrorParts)) (out : Outgoing) → (so_far : IsSoFar kept k now asked_now gave_now all out) → k ≤ retries → (k ≡ retries) ⊎ (out.numbers.items ≡ [])
+      → AreSentAgain step serve kept may registered arguments ps round retries start now asked_start asked_now gave_start gave_now before all
+  all_so_far kept k retries now asked_now gave_now all out so_far few end = record {
     rounds = so_far.rounds;
     few = omega (arith, so_far.many, few);
     again = so_far.again;
     asked = so_far.asked;
+    gave = so_far.gave;
     done = ending end;
     latest = so_far.latest;
     as_one = λ keep own ks refusals is. (so_far.stands keep own ks refusals is).as_one;

@@ -143,10 +143,11 @@ module _ (registered : Registrations) (ps : List Planned) (arguments : List (Lis
         abbrev pub next : Round
         next = record { sent = xs; node_of = node_of; batches = plan; given = given; refusals = as_own xs served.refusals }
 
-        pub next_served : IsRoundServed step serve kept may_refuse registered arguments next old new
+        pub next_served : length given ≡ length xs → IsRoundServed step serve kept may_refuse registered arguments next old new
         unfolding prepared
-        next_served = record {
+        next_served long = record {
           prepared = prepared given (as_own xs served.refusals);
+          long = long;
           served = served;
           refusals_are = as_own_are xs xs_own xs_apart served.refusals;
         }

@@ -1,5 +1,5 @@
 -- The answers that nodes gave, at the places of the parts.
-use Rattle.std.proofs.Common.{◌≡◌, ◌<◌, ◌≤◌, ◌∙◌, ℕ, ◌+◌, List, [], ◌∷◌, ◌++◌, true, false, Some, Result, All, refl, sym, ap, subst, arith, length, map, get_or, take}
+use Rattle.std.proofs.Common.{◌≡◌, ◌<◌, ◌≤◌, ◌∙◌, ℕ, ◌+◌, List, [], ◌∷◌, ◌++◌, true, false, All, refl, sym, ap, arith, length, map, get_or, take}
 use Rattle.std.specs.Prelude.{nat_eq, slice_get, slice_set}
 use Rattle.std.specs.List.{enumerate_from}
 use Rattle.std.specs.Option.{option_to_list}

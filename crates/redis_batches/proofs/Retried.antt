@@ -10,7 +10,7 @@ use Rattle.redis_routing.specs.Registry.{Registrations}
 use Rattle.redis_cluster.specs.State.{State}
 use Rattle.redis_cluster.specs.Trace.{Ending}
 use Rattle.redis_cluster.specs.Unsplit.{Step}
-use Rattle.redis_batches.specs.Driven.{IsServed, WereAsked, WereAskedUntil, batch_at}
+use Rattle.redis_batches.specs.Driven.{Grew, IsServed, WereAsked, WereAskedUntil, answers_in, batch_at}
 use Rattle.redis_batches.specs.DrivenInRounds.{AreServedInRounds, IsRoundsFault, SentSoFar, WereSent, all_at_once}
 use Rattle.redis_batches.specs.DrivenPipeline.{AreAllTaken, IsOneServer, IsSendable}
 use Rattle.redis_batches.specs.InRounds.{AreSentAgain, IsAgainFault, Stands}
@@ -19,7 +19,7 @@ use Rattle.redis_batches.specs.Pipeline.{Answer, Numbered, Part, Planned, Refusa
 use Rattle.redis_batches.specs.PipelinePlan.{PipelineBatches}
 use Rattle.redis_batches.specs.Plan.{Batches}
 use Rattle.redis_batches.specs.Replies.{AreRepliesTo}
-use Rattle.redis_batches.specs.Rounds.{AreRounds, IsAsOne, IsSentOn, OwnErrorsStay, Round, after_rounds, batch_after, batches_before, go_on, goes_to, latest_answers, round_batches}
+use Rattle.redis_batches.specs.Rounds.{AreRounds, IsAsOne, IsSentOn, OwnErrorsStay, Round, after_rounds, batch_after, batches_before, go_on, goes_to, latest_answers, round_answers, round_batches}
 use Rattle.redis_batches.specs.Sent.{AreApart}
 use Rattle.redis_batches.specs.Taken.{Batch, answer_of, task_of}
 use Rattle.redis_batches.specs.Tasks.{with_slots}
@@ -176,7 +176,7 @@ module _ {C : Type 0} (step : Step C) (serve : Serve C) (may : ℕ → Ending �
             })
         later_fault ranges driven.Memory is = were_sent is.0 is.1 is.2 is.3
 
-      module _ (asked_old asked_between asked_new : List Batch → Type 0) (before after : List (Result Value ErrorParts)) (given_are : given ≡ map answer_of before) where
+      module _ (asked_old asked_between asked_new : List Batch → Type 0) (gave_old gave_between gave_new : List (List Answer) → Type 0) (before after : List (Result Value ErrorParts)) (given_are : given ≡ map answer_of before) where
         stands : kept → Stands step serve ps served.refusals first old.keyspace between.keyspace before
         stands keep = record {
           as_one = record { keyspace = served.keyspace (earlier keep); answers_are = sym given_are ∙ served.answers_are (earlier keep) };
@@ -185,7 +185,8 @@ module _ {C : Type 0} (step : Step C) (serve : Serve C) (may : ℕ → Ending �
           given_are = served.answers_are (earlier keep);
         }
 
-        module _ (again : AreSentAgain step serve kept may registered plan.batches.parts ps first retries between new asked_between asked_new before after) (asked : WereAsked asked_old asked_between (map (batch_at plan.batches) order))
+        module _ (again : AreSentAgain step serve kept may registered plan.batches.parts ps first retries between new asked_between asked_new gave_between gave_new before after) (asked : WereAsked asked_old asked_between (map (batch_at plan.batches) order))
+            (many : length before ≡ length plan.batches.parts) (gave : Grew gave_old gave_between (answers_in plan.batches given order))
             (replies : List Answer) (made : AreRepliesTo plan.splits (map answer_of after) replies) where
           -- which parts were refused at last
           abbrev last : Refusals
@@ -211,10 +212,12 @@ module _ {C : Type 0} (step : Step C) (serve : Serve C) (may : ℕ → Ending �
               )
 
           -- The pipeline was served in rounds.
-          pub served_in_rounds : AreServedInRounds step serve kept may registered is_node commands order retries asked_old asked_new old new replies
+          pub served_in_rounds : AreServedInRounds step serve kept may registered is_node commands order retries asked_old asked_new old new gave_old gave_new replies
           unfolding taken so_far were_sent
           served_in_rounds = record {
             sent = were_sent asked_old asked_between asked_new asked again.rounds again.few again.again again.asked;
+            long = ap length given_are ∙ length-map before answer_of ∙ many;
+            gave = asked_more gave_old gave_between gave_new (answers_in plan.batches given order) (flat_map round_answers again.rounds) gave again.gave;
             done = again.done;
             answers = map answer_of after;
             latest = again.latest ∙ ap (λ l. latest_answers l again.rounds) (sym given_are);

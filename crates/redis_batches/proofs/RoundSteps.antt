@@ -11,7 +11,7 @@ use Rattle.redis_cluster.specs.State.{State}
 use Rattle.redis_cluster.specs.Trace.{Ending}
 use Rattle.redis_cluster.specs.Unsplit.{Step}
 use Rattle.redis_batches.specs.Batched.{AreBatches, AreFor, IsRight, put_at}
-use Rattle.redis_batches.specs.Driven.{IsServed, WasStopped, WereAsked, WereAskedUntil, batch_at}
+use Rattle.redis_batches.specs.Driven.{Grew, IsServed, WasStopped, WereAsked, WereAskedUntil, answers_in, batch_at}
 use Rattle.redis_batches.specs.Outgoing.{ArePartsOf, GoesBehind, IsNext, IsNextServed, slot_at}
 use Rattle.redis_batches.specs.Pipeline.{Answer, AreSlotsOf, Numbered, Planned, Serve, slot_of}
 use Rattle.redis_batches.specs.Plan.{Batches, IsByNode, IsPlan}
@@ -77,25 +77,29 @@ module _ (registered : Registrations) (ps : List Planned) (arguments : List (Lis
       )
 
       module _ (given : List Answer) (all_served : IsServed step serve kept may_refuse (alone sent) plan.parts plan.nodes batches.batch order old new given) where
-        pub served : (asked_old asked_new : List Batch → Type 0) → WereAsked asked_old asked_new (map (batch_at plan) order)
+        as_many : length given ≡ length plan.parts → length given ≡ length sent
+        as_many many = many ∙ ap length own_parts ∙ length-map sent (λ x. get_or arguments x.0 [])
+
+        pub served : length given ≡ length plan.parts → (asked_old asked_new : List Batch → Type 0) → WereAsked asked_old asked_new (map (batch_at plan) order)
             → (x : Round) × Follows round x × IsRoundServed step serve kept may_refuse registered arguments x old new × WereAsked asked_old asked_new (round_batches x)
         unfolding batches
-        served asked_old asked_new asked = (
+        served many asked_old asked_new asked = (
           next registered ps arguments slots of round out gone plan whole nodes own_nodes by_node own_parts step serve kept may_refuse order in_order old new given all_served,
           follows registered ps arguments slots of round out gone plan given (next registered ps arguments slots of round out gone plan whole nodes own_nodes by_node own_parts step serve kept may_refuse order in_order old new given all_served).refusals,
-          next_served registered ps arguments slots of round out gone plan whole nodes own_nodes by_node own_parts step serve kept may_refuse order in_order old new given all_served,
+          next_served registered ps arguments slots of round out gone plan whole nodes own_nodes by_node own_parts step serve kept may_refuse order in_order old new given all_served (as_many many),
           subst (λ o. WereAsked asked_old asked_new (map (batch_at plan) o)) in_order asked,
         )
 
         -- and its answers were put at their places
-        pub next_is : (asked_old asked_new : List Batch → Type 0) → WereAsked asked_old asked_new (map (batch_at plan) order) → (replies before after : List (Result Value ErrorParts)) → given ≡ map answer_of replies → after ≡ put_at before ns replies → length after ≡ length before → length given ≡ length plan.parts
+        pub next_is : (asked_old asked_new : List Batch → Type 0) → WereAsked asked_old asked_new (map (batch_at plan) order) → (gave_old gave_new : List (List Answer) → Type 0) → Grew gave_old gave_new (answers_in plan given order) → (replies before after : List (Result Value ErrorParts)) → given ≡ map answer_of replies → after ≡ put_at before ns replies → length after ≡ length before → length given ≡ length plan.parts
             → ((all : List Answer) → AreFor all ns replies → All (IsRight after all) ns) → ((all : List Answer) → AreFor all ns replies → (place : ℕ) → IsRight before all place → IsRight after all place)
-            → (later : Outgoing) → IsNext slots ns nodes given later → IsNextServed step serve kept may_refuse registered arguments ps round old new asked_old asked_new before after later
+            → (later : Outgoing) → IsNext slots ns nodes given later → IsNextServed step serve kept may_refuse registered arguments ps round old new asked_old asked_new gave_old gave_new before after later
         unfolding batches
-        next_is asked_old asked_new asked replies before after given_are put room many right others later is = record {
+        next_is asked_old asked_new asked gave_old gave_new gave replies before after given_are put room many right others later is = record {
           next = next registered ps arguments slots of round out gone plan whole nodes own_nodes by_node own_parts step serve kept may_refuse order in_order old new given all_served;
           follows = follows registered ps arguments slots of round out gone plan given (next registered ps arguments slots of round out gone plan whole nodes own_nodes by_node own_parts step serve kept may_refuse order in_order old new given all_served).refusals;
-          served = next_served registered ps arguments slots of round out gone plan whole nodes own_nodes by_node own_parts step serve kept may_refuse order in_order old new given all_served;
+          served = next_served registered ps arguments slots of round out gone plan whole nodes own_nodes by_node own_parts step serve kept may_refuse order in_order old new given all_served (as_many many);
+          gave = subst (λ o. Grew gave_old gave_new (answers_in plan given o)) in_order gave;
           asked = subst (λ o. WereAsked asked_old asked_new (map (batch_at plan) o)) in_order asked;
           replies = replies;
           put = record {
@@ -106,7 +110,6 @@ module _ (registered : Registrations) (ps : List Planned) (arguments : List (Lis
             right = λ all for. subst (All (IsRight after all)) sent_are (right all (subst (λ l. AreFor all l replies) (sym sent_are) for));
             others = λ all for place was. others all (subst (λ l. AreFor all l replies) (sym sent_are) for) place was;
           };
-          behind = behind_next registered ps arguments slots of round out gone plan whole nodes own_nodes by_node own_parts step serve kept may_refuse order in_order old new given all_served later
-              (many ∙ ap length own_parts ∙ length-map sent (λ x. get_or arguments x.0 []))
+          behind = behind_next registered ps arguments slots of round out gone plan whole nodes own_nodes by_node own_parts step serve kept may_refuse order in_order old new given all_served later (as_many many)
               (subst (λ l. IsNext slots l nodes given later) ns_are is);
         }

@@ -7,12 +7,12 @@ use Rattle.redis_cluster.specs.Trace.{Ending}
 use Rattle.redis_cluster.specs.Unsplit.{Step}
 use Rattle.redis_cluster.specs.State.{State}
 use Rattle.redis_batches.specs.Pipeline.{Answer, Refusals, Serve, Task, numbered}
-use Rattle.redis_batches.specs.Driven.{WereAsked, WereAskedUntil, batch_at}
+use Rattle.redis_batches.specs.Driven.{Grew, WereAsked, WereAskedUntil, answers_in, batch_at}
 use Rattle.redis_batches.specs.DrivenPipeline.{AreAllTaken, AreAskedUntil, IsEarlyFault, IsLateFault, IsOneServer}
 use Rattle.redis_batches.specs.Placed.{Ranges}
 use Rattle.redis_batches.specs.Plan.{Batches}
 use Rattle.redis_batches.specs.Replies.{AreRepliesTo, AreUntouched}
-use Rattle.redis_batches.specs.Rounds.{AreRounds, Follows, IsAsOne, IsLast, IsRoundStopped, OwnErrorsStay, Round, after_rounds, batch_after, batches_before, last_round, latest_answers, round_batches}
+use Rattle.redis_batches.specs.Rounds.{AreRounds, Follows, IsAsOne, IsLast, IsRoundStopped, OwnErrorsStay, Round, after_rounds, batch_after, batches_before, last_round, latest_answers, round_answers, round_batches}
 use Rattle.redis_batches.specs.Taken.{Batch}
 use Rattle.redis_batches.specs.Tasks.{with_slots}
 use Rattle.redis_batches.specs.declared.fault.PipelineError.{PipelineError}
@@ -60,6 +60,12 @@ module _ {C : Type 0} {step : Step C} {serve : Serve C} {kept : Type 0}
   batches_sent sent =
       map (batch_at sent.taken.plan.batches) order ++ flat_map round_batches sent.rounds
 
+  -- and the answers to them
+  abbrev pub answers_sent : SentSoFar step serve kept may_refuse registered is_node commands order old now
+      → List (List Answer)
+  answers_sent sent =
+      answers_in sent.taken.plan.batches sent.given order ++ flat_map round_answers sent.rounds
+
   -- the last round
   abbrev pub last_sent : SentSoFar step serve kept may_refuse registered is_node commands order old now
       → Round
@@ -82,12 +88,15 @@ module _ {C : Type 0} (step : Step C) (serve : Serve C) (kept : Type 0)
     pub few : length so_far.rounds ≤ retries
     pub asked : WereAsked asked_old asked_new (batches_sent so_far)
 
-  -- Rounds were sent until no part went out again, or as many as retries. The replies are made of the
-  -- last answer to each part. Where nodes keep to the meaning, and errors of a command's own send it
+  -- Rounds were sent until no part went out again, or as many as retries. The replies are made of what
+  -- the nodes gave, of each part of its last answer. Where nodes keep to the meaning, and errors of a command's own send it
   -- nowhere, all is as on one server that takes the parts in the order of the pipeline, but for those
   -- refused at last.
-  pub record AreServedInRounds (replies : List Answer) : Type 0 where
+  pub record AreServedInRounds (gave_old gave_new : List (List Answer) → Type 0)
+      (replies : List Answer) : Type 0 where
     pub sent : WereSent
+    pub long : length sent.so_far.given ≡ length sent.so_far.taken.plan.batches.parts
+    pub gave : Grew gave_old gave_new (answers_sent sent.so_far)
     pub done : (length sent.so_far.rounds ≡ retries) ⊎ IsLast (last_sent sent.so_far)
     pub answers : List Answer
     pub latest : answers ≡ latest_answers sent.so_far.given sent.so_far.rounds

@@ -11,7 +11,7 @@ use Rattle.redis_batches.specs.Turns.{all_after}
 use Rattle.redis_batches.specs.Pipeline.{Answer, Serve, Task, one_server_answers, run}
 use Rattle.redis_batches.specs.Tasks.{AreTasksOf, with_slots}
 use Rattle.redis_batches.specs.Batched.{AreBatches}
-use Rattle.redis_batches.specs.Driven.{IsServed, WasStopped, WereAsked, WereAskedUntil, batch_at, node_at}
+use Rattle.redis_batches.specs.Driven.{Grew, IsServed, WasStopped, WereAsked, WereAskedUntil, answers_in, batch_at, node_at}
 use Rattle.redis_batches.specs.Placed.{Ranges}
 use Rattle.redis_batches.specs.PipelinePlan.{IsPlanFault, IsPlanOfCommands, PipelineBatches, pieces_of}
 use Rattle.redis_batches.specs.Replies.{AreRepliesTo, AreUntouched}
@@ -106,6 +106,19 @@ module _ (registered : Registrations) (is_node : ℕ → Address → Type 0)
       × WereAskedUntil old new (map (batch_at plan.batches) (take stop.answered order))
       (batch_at plan.batches (get_or order stop.answered 0)) stop.error
   AreAskedUntil Memory = AreAllAsked
+
+module _ (registered : Registrations) (is_node : ℕ → Address → Type 0)
+    (commands : List (List (List ℕ))) (order : List ℕ)
+    (gave_old gave_new : List (List Answer) → Type 0) where
+  -- The replies are made of what the nodes gave: to each batch the answers that stand at the places of
+  -- its parts.
+  pub record AreMade (replies : List Answer) : Type 0 where
+    pub plan : PipelineBatches
+    pub sendable : IsSendable registered is_node commands order plan
+    pub given : List Answer
+    pub long : length given ≡ length plan.batches.parts
+    pub gave : Grew gave_old gave_new (answers_in plan.batches given order)
+    pub replies_are : AreRepliesTo plan.splits given replies
 
 -- memory ran out: at the nodes, as the mark tells, or here
 abbrev pub IsWantOfMemory : Bool → PipelineError → Type 0

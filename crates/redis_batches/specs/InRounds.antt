@@ -7,9 +7,9 @@ use Rattle.redis_routing.specs.Registry.{Registrations}
 use Rattle.redis_cluster.specs.State.{State}
 use Rattle.redis_cluster.specs.Trace.{Ending}
 use Rattle.redis_cluster.specs.Unsplit.{Keyspace, Step}
-use Rattle.redis_batches.specs.Driven.{WereAsked, WereAskedUntil}
-use Rattle.redis_batches.specs.Pipeline.{Planned, Refusals, Serve, ended}
-use Rattle.redis_batches.specs.Rounds.{AreRounds, Follows, IsAsOne, IsLast, IsRoundStopped, OwnErrorsStay, Round, after_rounds, batch_after, batches_before, last_round, latest_answers, round_batches}
+use Rattle.redis_batches.specs.Driven.{Grew, WereAsked, WereAskedUntil}
+use Rattle.redis_batches.specs.Pipeline.{Answer, Planned, Refusals, Serve, ended}
+use Rattle.redis_batches.specs.Rounds.{AreRounds, Follows, IsAsOne, IsLast, IsRoundStopped, OwnErrorsStay, Round, after_rounds, batch_after, batches_before, last_round, latest_answers, round_answers, round_batches}
 use Rattle.redis_batches.specs.Taken.{Batch, answer_of}
 use Rattle.redis_batches.specs.Turns.{answers}
 use Rattle.redis_batches.specs.declared.fault.PipelineError.{PipelineError}
@@ -32,11 +32,13 @@ module _ {C : Type 0} (step : Step C) (serve : Serve C) (kept : Type 0)
     (old new : State C) where
   -- Rounds were sent behind this one until no part went out again, or as many as retries.
   pub record AreSentAgain (asked_old asked_new : List Batch → Type 0)
+      (gave_old gave_new : List (List Answer) → Type 0)
       (before after : List (Result Value ErrorParts)) : Type 0 where
     pub rounds : List Round
     pub few : length rounds ≤ retries
     pub again : AreRounds step serve kept may_refuse registered arguments round rounds old new
     pub asked : WereAsked asked_old asked_new (flat_map round_batches rounds)
+    pub gave : Grew gave_old gave_new (flat_map round_answers rounds)
     pub done : (length rounds ≡ retries) ⊎ IsLast (last_round round rounds)
     pub latest : map answer_of after ≡ latest_answers (map answer_of before) rounds
     pub as_one : kept → OwnErrorsStay serve (map (λ p. p.task) ps) → (start : Keyspace C) (refusals : Refusals)

@@ -13,9 +13,9 @@ use Rattle.redis_cluster.specs.Trace.{Ending}
 use Rattle.redis_cluster.specs.Unsplit.{Step}
 use Rattle.redis_batches.specs.Batched.{AreFor, IsRight, put_at}
 use Rattle.redis_batches.specs.Chosen.{has_slot}
-use Rattle.redis_batches.specs.Driven.{WereAsked, WereAskedUntil}
+use Rattle.redis_batches.specs.Driven.{Grew, WereAsked, WereAskedUntil}
 use Rattle.redis_batches.specs.Pipeline.{Answer, AreSlotsOf, Planned, Serve, numbered, pieces, slot_of}
-use Rattle.redis_batches.specs.Rounds.{AreSentOn, Follows, IsRoundServed, IsRoundStopped, IsSentOn, Round, batch_after, batches_before, go_on, goes_to, is_settled, round_batches}
+use Rattle.redis_batches.specs.Rounds.{AreSentOn, Follows, IsRoundServed, IsRoundStopped, IsSentOn, Round, batch_after, batches_before, go_on, goes_to, is_settled, round_answers, round_batches}
 use Rattle.redis_batches.specs.Sent.{AreApart, AreLast}
 use Rattle.redis_batches.specs.Taken.{Batch, answer_of, task_of}
 use Rattle.redis_batches.specs.declared.fault.PipelineError.{PipelineError}
@@ -81,11 +81,13 @@ module _ {C : Type 0} (step : Step C) (serve : Serve C) (kept : Type 0)
     (arguments : List (List (List ℕ))) (ps : List Planned) (round : Round) (old new : State C) where
   -- The next round was served, its answers were put at their places, and these go out after it.
   pub record IsNextServed (asked_old asked_new : List Batch → Type 0)
+      (gave_old gave_new : List (List Answer) → Type 0)
       (before after : List (Result Value ErrorParts)) (out : Outgoing) : Type 0 where
     pub next : Round
     pub follows : Follows round next
     pub served : IsRoundServed step serve kept may_refuse registered arguments next old new
     pub asked : WereAsked asked_old asked_new (round_batches next)
+    pub gave : Grew gave_old gave_new (round_answers next)
     pub replies : List (Result Value ErrorParts)
     pub put : ArePutAt next replies before after
     pub behind : GoesBehind ps next out

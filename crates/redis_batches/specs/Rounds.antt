@@ -14,7 +14,7 @@ use Rattle.redis_batches.specs.Turns.{all_after, of_slot}
 use Rattle.redis_batches.specs.Pipeline.{Answer, Numbered, Planned, Refusals, Serve, Task, over_keys, in_slot, ended, ended_answers, numbered, pieces, slot_of}
 use Rattle.redis_batches.specs.Batched.{AreBatches, put_at}
 use Rattle.redis_batches.specs.Plan.{Batches, IsByNode}
-use Rattle.redis_batches.specs.Driven.{IsServed, WasStopped, batch_at, node_at}
+use Rattle.redis_batches.specs.Driven.{IsServed, WasStopped, answers_in, batch_at, node_at}
 use Rattle.redis_batches.specs.Taken.{Batch}
 use Rattle.redis_batches.specs.declared.send.Stopped.{Stopped}
 
@@ -126,6 +126,7 @@ module _ {C : Type 0} (step : Step C) (serve : Serve C) (kept : Type 0)
   -- A round was served, as a pipeline of its own: each of its parts once, batch after batch.
   pub record IsRoundServed (round : Round) (old new : State C) : Type 0 where
     pub prepared : IsPrepared registered arguments round
+    pub long : length round.given ≡ length round.sent
     pub served : IsServed step serve kept may_refuse (alone round.sent) round.batches.parts
         round.batches.nodes prepared.has.batch (ascending (length round.batches.places)) old new
         round.given
@@ -150,6 +151,11 @@ module _ {C : Type 0} (step : Step C) (serve : Serve C) (kept : Type 0)
 abbrev pub round_batches : Round → List Batch
 round_batches round =
     map (batch_at round.batches) (ascending (length round.batches.places))
+
+-- the answers to them, batch after batch
+abbrev pub round_answers : Round → List (List Answer)
+round_answers round =
+    answers_in round.batches round.given (ascending (length round.batches.places))
 
 -- the batches of a round before the one of this number, and that one
 abbrev pub batches_before : Round → ℕ → List Batch

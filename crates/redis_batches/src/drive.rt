@@ -4,7 +4,7 @@ ghost use Rattle.redis_routing.specs.Names.{names_of};
 ghost use Rattle.redis_cluster.specs.Driven.{AreAllAnswered};
 ghost use Rattle.redis_cluster.specs.Trace.{Ending};
 ghost use Rattle.redis_batches.specs.Driven.{AlwaysAnswers, NeverRefuses};
-ghost use Rattle.redis_batches.specs.DrivenPipeline.{AreAllAsked, AreAskedUntil, IsBeforeSending, IsEarlyFault, IsOneServer, IsPipelineFault, IsPipelineServed, IsSendable, IsWantOfMemory};
+ghost use Rattle.redis_batches.specs.DrivenPipeline.{AreAllAsked, AreAskedUntil, AreMade, IsBeforeSending, IsEarlyFault, IsOneServer, IsPipelineFault, IsPipelineServed, IsSendable, IsWantOfMemory};
 ghost use Rattle.redis_batches.specs.Plan.{IsPlan};
 ghost use Rattle.redis_batches.specs.Reads.{IsSlotNode};
 ghost use Rattle.redis_batches.specs.Taken.{answer_of};
@@ -53,6 +53,12 @@ pub fn drive_pipeline<N: BatchNodes>(
         (names_of read_only.now (N.registered nodes.old)) commands.now)
         commands.now order.now
         (N.state nodes.old) (N.state nodes.new)
+        (map answer_of replies.items)) }
+    // The replies are made of the answers that the nodes gave, whatever they mean.
+    ensures made { IfOk result (λ replies. AreMade (N.registered nodes.old)
+        (IsSlotNode strategy.entry (λ s. picks s.now) slot_map.now
+        (names_of read_only.now (N.registered nodes.old)) commands.now)
+        commands.now order.now (N.gave nodes.old) (N.gave nodes.new)
         (map answer_of replies.items)) }
     // Where no part was refused, they are those of one server that takes the commands.
     ensures one_server { IfOk result (λ replies.

@@ -68,7 +68,7 @@ pub fn drive_pipeline_retrying<N: BatchNodes>(
 ) -> Result<Vec<Result<Value, RedisError>>, PipelineError>
     // The pipeline was sent, and after it no more rounds than retries, each of just the parts that go
     // out again, to where they were sent on. There is no further round only where no part goes out
-    // again, or no retry is left. Where the nodes keep to the meaning, keyspace and answers are those
+    // again, or no retry is left. The replies are made of what the nodes gave. Where the nodes keep to the meaning, keyspace and answers are those
     // of the parts in the order of the pipeline.
     ensures served { IfOk result (λ replies.
         AreServedInRounds N.step N.serve (N.kept nodes.new) (N.may_refuse nodes.old)
@@ -76,7 +76,7 @@ pub fn drive_pipeline_retrying<N: BatchNodes>(
         (IsSlotNode strategy.entry (λ s. picks s.now) slot_map.now
         (names_of read_only.now (N.registered nodes.old)) commands.now)
         commands.now order.now retries (N.asked nodes.old) (N.asked nodes.new)
-        (N.state nodes.old) (N.state nodes.new)
+        (N.state nodes.old) (N.state nodes.new) (N.gave nodes.old) (N.gave nodes.new)
         (map answer_of replies.items)) }
     // Each fault has its cause: up to the batch that was not taken, or up to the last round, each batch
     // was sent once, and no other was.
@@ -144,7 +144,7 @@ fn send_again<N: BatchNodes>(
         → AreSentAgain N.step N.serve (N.kept nodes.new) (N.may_refuse nodes.old)
         (N.registered nodes.old) (map sent_args parts.now) ps round retries
         (N.state nodes.old) (N.state nodes.new) (N.asked nodes.old) (N.asked nodes.new)
-        answers.old.items answers.new.items) }
+        (N.gave nodes.old) (N.gave nodes.new) answers.old.items answers.new.items) }
     ensures fault { IfErr result (λ error. (ps : List Planned) (round : Round)
         → ArePartsOf (N.registered nodes.old) ps (map sent_args parts.now) slots.now
         → GoesBehind ps round out

@@ -105,7 +105,7 @@ pub(super) fn send_round<N: BatchNodes>(
         → IsNextServed N.step N.serve (N.kept nodes.new) (N.may_refuse nodes.old)
         (N.registered nodes.old) (map sent_args parts.now) ps round
         (N.state nodes.old) (N.state nodes.new) (N.asked nodes.old) (N.asked nodes.new)
-        answers.old.items answers.new.items next) }
+        (N.gave nodes.old) (N.gave nodes.new) answers.old.items answers.new.items next) }
     ensures fault { IfErr result (λ error. (ps : List Planned) (round : Round)
         → ArePartsOf (N.registered nodes.old) ps (map sent_args parts.now) slots.now
         → GoesBehind ps round out.now

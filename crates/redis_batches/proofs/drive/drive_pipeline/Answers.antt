@@ -1,9 +1,11 @@
-use Rattle.std.proofs.Common.{◌∙◌, ℕ, ap, get_or, inr, map, subst, sym, take}
+use Rattle.std.proofs.Common.{◌∙◌, ℕ, ap, get_or, inr, length, map, subst, sym, take}
+use Rattle.std.proofs.lemmas.List.{length-map}
 use Rattle.cluster_slots.specs.Address.{Address}
 use Rattle.redis_routing.specs.Names.{names_of}
 use Rattle.redis_batches.specs.CommandTask.{split_in}
 use Rattle.redis_batches.specs.Batched.{AreBatches}
-use Rattle.redis_batches.specs.Driven.{WereAsked, WereAskedUntil, batch_at}
+use Rattle.redis_batches.specs.Driven.{Grew, WereAsked, WereAskedUntil, answers_in, batch_at}
+use Rattle.redis_batches.specs.Plan.{Batches}
 use Rattle.redis_batches.specs.Reads.{IsSlotNode}
 use Rattle.redis_batches.specs.Replies.{AreRepliesTo}
 use Rattle.redis_batches.specs.Taken.{answer_of}
@@ -55,6 +57,22 @@ returns-in-Ok-replies_of-clause-one_server g c =
     (subst (λ answers. AreRepliesTo (map split_in c.as_slice.result.now) (map answer_of answers) replies) c.into_answers.ensures.answers c.in-Ok-replies_of.ensures.replies) in
     pipeline_as_one nodes.step nodes.serve (nodes.kept c.send_batches.new.nodes) (nodes.may_refuse c.args.nodes.now) (nodes.registered c.args.nodes.now) is_node c.args.commands.now c.args.order.now old new
     c.in-Ok.plan c.into_parts-tasks.result.1 c.into_parts-tasks.ensures.batches sendable given replies c.in_default.ensures.served made
+
+pub returns-in-Ok-replies_of-clause-made : goal.returns-in-Ok-replies_of-clause-made
+returns-in-Ok-replies_of-clause-made g c =
+    let nodes = g.N.BatchNodes in
+    let answers = c.send_batches.new.plan.answers in
+    let given = map answer_of answers in
+    let replies = map answer_of c.in-Ok-replies_of.replies.items in
+    record {
+      plan = c.in-Ok.plan;
+      sendable = c.in-Ok.ensures.sendable;
+      given = given;
+      long = length-map answers answer_of ∙ c.send_batches.ensures.room ∙ ap (λ (b : Batches). length b.parts) c.into_parts-tasks.ensures.batches;
+      gave = subst (λ b. Grew (nodes.gave c.args.nodes.now) (nodes.gave c.send_batches.new.nodes) (answers_in b given c.args.order.now)) c.into_parts-tasks.ensures.batches c.in_default.ensures.gave;
+      replies_are = subst (λ splits. AreRepliesTo splits given replies) (ap (map split_in) c.as_slice.ensures.value ∙ c.into_parts-tasks.ensures.splits)
+          (subst (λ all. AreRepliesTo (map split_in c.as_slice.result.now) (map answer_of all) replies) c.into_answers.ensures.answers c.in-Ok-replies_of.ensures.replies);
+    }
 
 pub returns-clause-fault : goal.returns-clause-fault
 returns-clause-fault g c =

@@ -6,7 +6,7 @@ use Rattle.redis_routing.specs.Names.{names_of}
 use Rattle.redis_cluster.specs.Trace.{Ending}
 use Rattle.redis_batches.specs.Batched.{AreBatches}
 use Rattle.redis_batches.specs.CommandTask.{slots_kept, split_in}
-use Rattle.redis_batches.specs.Driven.{WereAsked, WereAskedUntil, batch_at}
+use Rattle.redis_batches.specs.Driven.{Grew, WereAsked, WereAskedUntil, answers_in, batch_at}
 use Rattle.redis_batches.specs.InRounds.{AreSentAgain, IsAgainFault}
 use Rattle.redis_batches.specs.Outgoing.{ArePartsOf, IsNext}
 use Rattle.redis_batches.specs.PartArguments.{sent_args}
@@ -296,19 +296,23 @@ returns-in-Ok-replies_of-clause-served g c =
     let asked_old = nodes.asked c.args.nodes.now in
     let asked_between = nodes.asked c.send_batches.new.nodes in
     let asked_new = nodes.asked c.send_again.new.nodes in
+    let gave_old = nodes.gave c.args.nodes.now in
+    let gave_between = nodes.gave c.send_batches.new.nodes in
+    let gave_new = nodes.gave c.send_again.new.nodes in
     let before = c.into_rest-parts.result.1.items in
     let after = c.send_again.new.answers.items in
-    let named : AreSentAgain nodes.step nodes.serve kept (nodes.may_refuse c.send_batches.new.nodes) registered plan.batches.parts ps first retries between new asked_between asked_new before after =
-    subst (λ a. AreSentAgain nodes.step nodes.serve kept (nodes.may_refuse c.send_batches.new.nodes) registered a ps first retries between new asked_between asked_new before after) arguments_are
-    (subst (λ r. AreSentAgain nodes.step nodes.serve kept (nodes.may_refuse c.send_batches.new.nodes) r arguments ps first retries between new asked_between asked_new before after) c.send_batches.ensures.registered
+    let named : AreSentAgain nodes.step nodes.serve kept (nodes.may_refuse c.send_batches.new.nodes) registered plan.batches.parts ps first retries between new asked_between asked_new gave_between gave_new before after =
+    subst (λ a. AreSentAgain nodes.step nodes.serve kept (nodes.may_refuse c.send_batches.new.nodes) registered a ps first retries between new asked_between asked_new gave_between gave_new before after) arguments_are
+    (subst (λ r. AreSentAgain nodes.step nodes.serve kept (nodes.may_refuse c.send_batches.new.nodes) r arguments ps first retries between new asked_between asked_new gave_between gave_new before after) c.send_batches.ensures.registered
     (c.in_default-send_again.ensures.again ps first later gone)) in
     let replies = map answer_of c.in-Ok-replies_of.replies.items in
     let made : AreRepliesTo plan.splits (map answer_of after) replies =
     subst (λ splits. AreRepliesTo splits (map answer_of after) replies) (ap (map split_in) c.as_slice-5.ensures.value ∙ c.into_placed-tasks.ensures.splits) c.in-Ok-replies_of.ensures.replies in
-    retried.served_in_rounds nodes.step nodes.serve may registered is_node commands order retries old between plan sendable kept_then given served kept c.send_again.ensures.kept new asked_old asked_between asked_new before after
+    retried.served_in_rounds nodes.step nodes.serve may registered is_node commands order retries old between plan sendable kept_then given served kept c.send_again.ensures.kept new asked_old asked_between asked_new gave_old gave_between gave_new before after
     (ap (map answer_of) (sym c.into_rest-parts.ensures.answers))
-    (chain.again_wider nodes.step nodes.serve registered plan.batches.parts kept (nodes.may_refuse c.send_batches.new.nodes) may more ps first retries between new asked_between asked_new before after named)
-    (subst (λ b. WereAsked asked_old asked_between (map (batch_at b) order)) c.into_placed-tasks.ensures.batches c.in_default.ensures.asked) replies made
+    (chain.again_wider nodes.step nodes.serve registered plan.batches.parts kept (nodes.may_refuse c.send_batches.new.nodes) may more ps first retries between new asked_between asked_new gave_between gave_new before after named)
+    (subst (λ b. WereAsked asked_old asked_between (map (batch_at b) order)) c.into_placed-tasks.ensures.batches c.in_default.ensures.asked)
+    (ap length c.into_rest-parts.ensures.answers ∙ room) (subst (λ b. Grew gave_old gave_between (answers_in b given order)) c.into_placed-tasks.ensures.batches c.in_default.ensures.gave) replies made
 
 pub returns-clause-fault : goal.returns-clause-fault
 returns-clause-fault g c =
@@ -349,10 +353,10 @@ returns-clause-fault g c =
     let new = nodes.state c.send_again.new.nodes in
     let more : (count : ℕ) (ending : Ending) → nodes.may_refuse c.send_batches.new.nodes count ending → may count ending = λ count ending. (c.send_batches.ensures.may_refuse count ending).0 in
     let again = c.in_default-send_again.ensures.again ps first later gone in
-    let named : AreSentAgain nodes.step nodes.serve kept (nodes.may_refuse c.send_batches.new.nodes) registered plan.batches.parts ps first retries between new (nodes.asked c.send_batches.new.nodes) (nodes.asked c.send_again.new.nodes) c.into_rest-parts.result.1.items c.send_again.new.answers.items =
-    subst (λ a. AreSentAgain nodes.step nodes.serve kept (nodes.may_refuse c.send_batches.new.nodes) registered a ps first retries between new (nodes.asked c.send_batches.new.nodes) (nodes.asked c.send_again.new.nodes) c.into_rest-parts.result.1.items c.send_again.new.answers.items) arguments_are
-    (subst (λ r. AreSentAgain nodes.step nodes.serve kept (nodes.may_refuse c.send_batches.new.nodes) r arguments ps first retries between new (nodes.asked c.send_batches.new.nodes) (nodes.asked c.send_again.new.nodes) c.into_rest-parts.result.1.items c.send_again.new.answers.items) c.send_batches.ensures.registered again) in
-    let wide = chain.again_wider nodes.step nodes.serve registered plan.batches.parts kept (nodes.may_refuse c.send_batches.new.nodes) may more ps first retries between new (nodes.asked c.send_batches.new.nodes) (nodes.asked c.send_again.new.nodes) c.into_rest-parts.result.1.items c.send_again.new.answers.items named in
+    let named : AreSentAgain nodes.step nodes.serve kept (nodes.may_refuse c.send_batches.new.nodes) registered plan.batches.parts ps first retries between new (nodes.asked c.send_batches.new.nodes) (nodes.asked c.send_again.new.nodes) (nodes.gave c.send_batches.new.nodes) (nodes.gave c.send_again.new.nodes) c.into_rest-parts.result.1.items c.send_again.new.answers.items =
+    subst (λ a. AreSentAgain nodes.step nodes.serve kept (nodes.may_refuse c.send_batches.new.nodes) registered a ps first retries between new (nodes.asked c.send_batches.new.nodes) (nodes.asked c.send_again.new.nodes) (nodes.gave c.send_batches.new.nodes) (nodes.gave c.send_again.new.nodes) c.into_rest-parts.result.1.items c.send_again.new.answers.items) arguments_are
+    (subst (λ r. AreSentAgain nodes.step nodes.serve kept (nodes.may_refuse c.send_batches.new.nodes) r arguments ps first retries between new (nodes.asked c.send_batches.new.nodes) (nodes.asked c.send_again.new.nodes) (nodes.gave c.send_batches.new.nodes) (nodes.gave c.send_again.new.nodes) c.into_rest-parts.result.1.items c.send_again.new.answers.items) c.send_batches.ensures.registered again) in
+    let wide = chain.again_wider nodes.step nodes.serve registered plan.batches.parts kept (nodes.may_refuse c.send_batches.new.nodes) may more ps first retries between new (nodes.asked c.send_batches.new.nodes) (nodes.asked c.send_again.new.nodes) (nodes.gave c.send_batches.new.nodes) (nodes.gave c.send_again.new.nodes) c.into_rest-parts.result.1.items c.send_again.new.answers.items named in
     retried.were_sent nodes.step nodes.serve may registered is_node commands order retries old between plan sendable kept_then given served kept c.send_again.ensures.kept new
     (nodes.asked c.args.nodes.now) (nodes.asked c.send_batches.new.nodes) (nodes.asked c.send_again.new.nodes)
     (subst (λ b. WereAsked (nodes.asked c.args.nodes.now) (nodes.asked c.send_batches.new.nodes) (map (batch_at b) order)) c.into_placed-tasks.ensures.batches c.in_default.ensures.asked)

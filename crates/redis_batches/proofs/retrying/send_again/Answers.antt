@@ -9,16 +9,16 @@ use Rattle.redis_batches.proofs.retrying.send_again.Goals as goal
 pub returns-then-is_empty-clause-again : goal.returns-then-is_empty-clause-again
 returns-then-is_empty-clause-again g c = λ ps round of gone.
     let nodes = g.N.BatchNodes in
-    chain.all_so_far nodes.step nodes.serve (nodes.may_refuse c.args.nodes.now) (nodes.registered c.args.nodes.now) (map sent_args c.args.parts.now) ps round (nodes.state c.args.nodes.now) (nodes.asked c.args.nodes.now) c.args.answers.now.items
-    (nodes.kept c.loop.nodes) c.loop.counter c.args.retries (nodes.state c.loop.nodes) (nodes.asked c.loop.nodes) c.loop.answers.items c.loop.out (c.loop.invariant.so_far ps round of gone) (omega (arith, c.loop-test.true))
+    chain.all_so_far nodes.step nodes.serve (nodes.may_refuse c.args.nodes.now) (nodes.registered c.args.nodes.now) (map sent_args c.args.parts.now) ps round (nodes.state c.args.nodes.now) (nodes.asked c.args.nodes.now) (nodes.gave c.args.nodes.now) c.args.answers.now.items
+    (nodes.kept c.loop.nodes) c.loop.counter c.args.retries (nodes.state c.loop.nodes) (nodes.asked c.loop.nodes) (nodes.gave c.loop.nodes) c.loop.answers.items c.loop.out (c.loop.invariant.so_far ps round of gone) (omega (arith, c.loop-test.true))
     (inr (chain.is_none c.loop.out.numbers.items (omega (arith, c.loop.out.numbers.ok.0, eqb-true (vec_len c.loop.out.numbers) 0 (sym c.is_empty.ensures ∙ c.if-is_empty.true)))))
 
 pub returns-clause-again : goal.returns-clause-again
 returns-clause-again g c = λ ps round of gone.
     let nodes = g.N.BatchNodes in
     let full : c.loop.counter ≡ c.args.retries = omega (arith, c.loop-test.false, c.loop.auto.counter-end) in
-    chain.all_so_far nodes.step nodes.serve (nodes.may_refuse c.args.nodes.now) (nodes.registered c.args.nodes.now) (map sent_args c.args.parts.now) ps round (nodes.state c.args.nodes.now) (nodes.asked c.args.nodes.now) c.args.answers.now.items
-    (nodes.kept c.loop.nodes) c.loop.counter c.args.retries (nodes.state c.loop.nodes) (nodes.asked c.loop.nodes) c.loop.answers.items c.loop.out (c.loop.invariant.so_far ps round of gone) (omega (arith, full)) (inl full)
+    chain.all_so_far nodes.step nodes.serve (nodes.may_refuse c.args.nodes.now) (nodes.registered c.args.nodes.now) (map sent_args c.args.parts.now) ps round (nodes.state c.args.nodes.now) (nodes.asked c.args.nodes.now) (nodes.gave c.args.nodes.now) c.args.answers.now.items
+    (nodes.kept c.loop.nodes) c.loop.counter c.args.retries (nodes.state c.loop.nodes) (nodes.asked c.loop.nodes) (nodes.gave c.loop.nodes) c.loop.answers.items c.loop.out (c.loop.invariant.so_far ps round of gone) (omega (arith, full)) (inl full)
 
 pub send_round-requires-clause-parts : goal.send_round-requires-clause-parts
 send_round-requires-clause-parts g c =
@@ -47,8 +47,8 @@ returns-in-Err-clause-fault g c = λ ps round of gone.
     let named : IsNextFault nodes.step nodes.serve kept (nodes.may_refuse c.loop.nodes) registered arguments ps latest now new asked_now asked_new c.in-Err.error =
     subst (λ r. IsNextFault nodes.step nodes.serve kept (nodes.may_refuse c.loop.nodes) r arguments ps latest now new asked_now asked_new c.in-Err.error) inv.registered (c.in-Err.ensures.fault ps latest own so_far.behind) in
     let wide = chain.fault_wider nodes.step nodes.serve registered arguments kept (nodes.may_refuse c.loop.nodes) (nodes.may_refuse c.args.nodes.now) (λ count ending. (inv.may_refuse count ending).0) ps latest now new asked_now asked_new c.in-Err.error named in
-    chain.fault_after nodes.step nodes.serve (nodes.may_refuse c.args.nodes.now) registered arguments ps round (nodes.state c.args.nodes.now) (nodes.asked c.args.nodes.now) c.args.answers.now.items
-    (nodes.kept c.loop.nodes) kept c.send_round.ensures.kept c.loop.counter now new (nodes.asked c.loop.nodes) (nodes.asked c.send_round.new.nodes) c.loop.answers.items c.send_round.new.answers.items c.loop.out c.loop.out so_far
+    chain.fault_after nodes.step nodes.serve (nodes.may_refuse c.args.nodes.now) registered arguments ps round (nodes.state c.args.nodes.now) (nodes.asked c.args.nodes.now) (nodes.gave c.args.nodes.now) c.args.answers.now.items
+    (nodes.kept c.loop.nodes) kept c.send_round.ensures.kept c.loop.counter now new (nodes.asked c.loop.nodes) (nodes.asked c.send_round.new.nodes) (nodes.gave c.loop.nodes) (nodes.gave c.send_round.new.nodes) c.loop.answers.items c.send_round.new.answers.items c.loop.out c.loop.out so_far
     c.args.retries (omega (arith, c.loop-test.true)) c.in-Err.error wide
 
 pub loop-preserved : goal.loop-preserved
@@ -62,6 +62,8 @@ loop-preserved g c =
     let new = nodes.state c.send_round.new.nodes in
     let asked_now = nodes.asked c.loop.nodes in
     let asked_new = nodes.asked c.send_round.new.nodes in
+    let gave_now = nodes.gave c.loop.nodes in
+    let gave_new = nodes.gave c.send_round.new.nodes in
     let all = c.loop.answers.items in
     let more = c.send_round.new.answers.items in
     let later = c.in-Ok.next in
@@ -70,11 +72,11 @@ loop-preserved g c =
           let so_far = inv.so_far ps round of gone in
           let latest = last_round round so_far.rounds in
           let own : ArePartsOf (nodes.registered c.loop.nodes) ps arguments c.args.slots.now = subst (λ r. ArePartsOf r ps arguments c.args.slots.now) (sym inv.registered) of in
-          let named : IsNextServed nodes.step nodes.serve kept (nodes.may_refuse c.loop.nodes) registered arguments ps latest now new asked_now asked_new all more later =
-          subst (λ r. IsNextServed nodes.step nodes.serve kept (nodes.may_refuse c.loop.nodes) r arguments ps latest now new asked_now asked_new all more later) inv.registered (c.in-Ok.ensures.served ps latest own so_far.behind) in
-          let wide = chain.next_wider nodes.step nodes.serve registered arguments kept (nodes.may_refuse c.loop.nodes) (nodes.may_refuse c.args.nodes.now) (λ count ending. (inv.may_refuse count ending).0) ps latest now new asked_now asked_new all more later named in
-          chain.one_round_more nodes.step nodes.serve (nodes.may_refuse c.args.nodes.now) registered arguments ps round (nodes.state c.args.nodes.now) (nodes.asked c.args.nodes.now) c.args.answers.now.items
-          (nodes.kept c.loop.nodes) kept c.send_round.ensures.kept c.loop.counter now new asked_now asked_new all more c.loop.out later so_far of.are wide
+          let named : IsNextServed nodes.step nodes.serve kept (nodes.may_refuse c.loop.nodes) registered arguments ps latest now new asked_now asked_new gave_now gave_new all more later =
+          subst (λ r. IsNextServed nodes.step nodes.serve kept (nodes.may_refuse c.loop.nodes) r arguments ps latest now new asked_now asked_new gave_now gave_new all more later) inv.registered (c.in-Ok.ensures.served ps latest own so_far.behind) in
+          let wide = chain.next_wider nodes.step nodes.serve registered arguments kept (nodes.may_refuse c.loop.nodes) (nodes.may_refuse c.args.nodes.now) (λ count ending. (inv.may_refuse count ending).0) ps latest now new asked_now asked_new gave_now gave_new all more later named in
+          chain.one_round_more nodes.step nodes.serve (nodes.may_refuse c.args.nodes.now) registered arguments ps round (nodes.state c.args.nodes.now) (nodes.asked c.args.nodes.now) (nodes.gave c.args.nodes.now) c.args.answers.now.items
+          (nodes.kept c.loop.nodes) kept c.send_round.ensures.kept c.loop.counter now new asked_now asked_new gave_now gave_new all more c.loop.out later so_far of.are wide
           (chain.fronts_of latest wide.follows.on wide.follows.on_are so_far.behind.long);
       room = c.in-Ok.ensures.room ∙ inv.room;
       kept = λ keep. inv.kept (c.send_round.ensures.kept keep);

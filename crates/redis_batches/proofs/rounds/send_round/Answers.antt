@@ -82,7 +82,7 @@ returns-in_default-next_parts-clause-fault g c = λ ps round of gone.
     inr (steps.served registered ps arguments slots of round out gone ns same plan whole targets targets_are by_node parts nodes.step nodes.serve (nodes.kept c.send_batches.new.nodes) (nodes.may_refuse c.args.nodes.now)
     c.len.result c.as_slice-2.result.now (c.as_slice-2.ensures.value ∙ c.in-Ok-first_numbers.ensures) c.len.ensures.len (nodes.state c.args.nodes.now) (nodes.state c.send_batches.new.nodes)
     (map answer_of c.send_batches.new.plan.answers) (c.in_default-send_batches.ensures.served _ own batches)
-    (nodes.asked c.args.nodes.now) (nodes.asked c.send_batches.new.nodes) c.in_default-send_batches.ensures.asked)
+    (length-map c.send_batches.new.plan.answers answer_of ∙ c.send_batches.ensures.room) (nodes.asked c.args.nodes.now) (nodes.asked c.send_batches.new.nodes) c.in_default-send_batches.ensures.asked)
 
 pub put_answers-requires-clause-within : goal.put_answers-requires-clause-within
 put_answers-requires-clause-within g c =
@@ -116,5 +116,5 @@ returns-clause-served g c = λ ps round of gone.
     steps.next_is registered ps arguments slots of round out gone ns same plan whole targets targets_are by_node parts nodes.step nodes.serve (nodes.kept c.send_batches.new.nodes) (nodes.may_refuse c.args.nodes.now)
     c.len.result c.as_slice-2.result.now (c.as_slice-2.ensures.value ∙ c.in-Ok-first_numbers.ensures) c.len.ensures.len (nodes.state c.args.nodes.now) (nodes.state c.send_batches.new.nodes)
     given (c.in_default-send_batches.ensures.served _ own batches) (nodes.asked c.args.nodes.now) (nodes.asked c.send_batches.new.nodes) c.in_default-send_batches.ensures.asked
-    replies c.args.answers.now.items c.put_answers.new.out.items (ap (map answer_of) (sym given_are)) c.put_answers.ensures.put c.put_answers.ensures.len (length-map c.send_batches.new.plan.answers answer_of ∙ c.send_batches.ensures.room)
+    (nodes.gave c.args.nodes.now) (nodes.gave c.send_batches.new.nodes) c.in_default-send_batches.ensures.gave replies c.args.answers.now.items c.put_answers.new.out.items (ap (map answer_of) (sym given_are)) c.put_answers.ensures.put c.put_answers.ensures.len (length-map c.send_batches.new.plan.answers answer_of ∙ c.send_batches.ensures.room)
     c.put_answers.ensures.right c.put_answers.ensures.kept c.in-Ok-next_parts.next found
