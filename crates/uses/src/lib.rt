@@ -1,6 +1,7 @@
 //! What a user of the layer writes: one file for each example.
 #![tactic(auto)]
 
+pub mod batched_bytes;
 pub mod batched_pipelines;
 pub mod batcher;
 pub mod bytes;

@@ -1,0 +1,57 @@
+//! A pipeline, sent as one batch for each node, in bytes.
+ghost use Rattle.std.specs.Prelude.{ℕ, List, IfOk};
+ghost use Rattle.redis_batches.specs.PipelinePlan.{PipelineBatches};
+ghost use Rattle.redis_batch_bytes.specs.Plans.{IsPlanOfRequests};
+ghost use Rattle.redis_batch_bytes.specs.Replies.{AreCombined};
+
+use cluster_map::{NodeAddress, SlotMap};
+use redis_batch_bytes::{BatchBytes, BatchFault, combine_pipeline, split_pipeline};
+use redis_cluster::routing::Registry;
+use std::alloc::{AllocError, Global};
+
+/// Connections to the nodes: each takes requests, and adds the bytes of as many replies.
+pub trait BatchConnections {
+    /// Sends the requests of a batch to a node, and adds the bytes of the replies.
+    fn answer(
+        &mut self,
+        node: &NodeAddress,
+        requests: &[u8],
+        count: usize,
+        replies: &mut Vec<u8>,
+    ) -> Result<(), AllocError>;
+}
+
+/// Sends each batch, and gives the replies, batch after batch.
+pub fn send_each<C: BatchConnections>(
+    alloc: Global,
+    connections: &mut C,
+    batches: &BatchBytes,
+) -> Result<Vec<u8>, AllocError> {
+    let mut replies = Vec::new(alloc);
+    let mut start = 0;
+    let counted = batches.nodes.iter().zip(batches.counts.iter());
+    for ((node, count), end) in counted.zip(batches.ends.iter()) {
+        if let Some(requests) = batches.bytes.get(start..*end) {
+            connections.answer(node, requests, *count, &mut replies)?;
+        }
+        start = *end;
+    }
+    Ok(replies)
+}
+
+/// The replies to the requests of a pipeline, in the order of the requests.
+pub fn replies_to<C: BatchConnections>(
+    alloc: Global,
+    connections: &mut C,
+    requests: &[u8],
+    registry: &Registry,
+    slot_map: &SlotMap,
+) -> Result<Vec<u8>, BatchFault>
+    ensures combined { IfOk result (λ combined. (plan : PipelineBatches) × (replies : List ℕ)
+        × IsPlanOfRequests registry.now slot_map.now requests.now plan
+        × AreCombined plan replies combined.items) }
+{
+    let batches = split_pipeline(alloc, requests, registry, slot_map)?;
+    let replies = send_each(alloc, connections, &batches)?;
+    combine_pipeline(alloc, requests, registry, slot_map, &replies)
+}
