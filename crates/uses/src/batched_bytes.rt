@@ -1,5 +1,5 @@
 //! A pipeline, sent as one batch for each node, in bytes.
-ghost use Rattle.std.specs.Prelude.{ℕ, List, IfOk};
+ghost use Rattle.std.specs.Prelude.{IfOk};
 ghost use Rattle.redis_batches.specs.PipelinePlan.{PipelineBatches};
 ghost use Rattle.redis_batch_bytes.specs.Plans.{IsPlanOfRequests};
 ghost use Rattle.redis_batch_bytes.specs.Replies.{AreCombined};
@@ -39,19 +39,30 @@ pub fn send_each<C: BatchConnections>(
     Ok(replies)
 }
 
-/// The replies to the requests of a pipeline, in the order of the requests.
+/// The replies to the requests of a pipeline, in their order, by those to its batches.
+pub fn in_order(
+    alloc: Global,
+    requests: &[u8],
+    registry: &Registry,
+    slot_map: &SlotMap,
+    replies: &[u8],
+) -> Result<Vec<u8>, BatchFault>
+    ensures combined { IfOk result (λ combined. (plan : PipelineBatches)
+        × IsPlanOfRequests registry.now slot_map.now requests.now plan
+        × AreCombined plan replies.now combined.items) }
+{
+    combine_pipeline(alloc, requests, registry, slot_map, replies)
+}
+
+/// What the client gets for its pipeline.
 pub fn replies_to<C: BatchConnections>(
     alloc: Global,
     connections: &mut C,
     requests: &[u8],
     registry: &Registry,
     slot_map: &SlotMap,
-) -> Result<Vec<u8>, BatchFault>
-    ensures combined { IfOk result (λ combined. (plan : PipelineBatches) × (replies : List ℕ)
-        × IsPlanOfRequests registry.now slot_map.now requests.now plan
-        × AreCombined plan replies combined.items) }
-{
+) -> Result<Vec<u8>, BatchFault> {
     let batches = split_pipeline(alloc, requests, registry, slot_map)?;
     let replies = send_each(alloc, connections, &batches)?;
-    combine_pipeline(alloc, requests, registry, slot_map, &replies)
+    in_order(alloc, requests, registry, slot_map, &replies)
 }
