@@ -1,10 +1,11 @@
 -- Batches that were sent, one after the other.
 use Rattle.std.proofs.Common.{◌≡◌, ◌<◌, ◌∙◌, inl, inr, ℕ, ◌+◌, List, [], ◌∷◌, ◌++◌, Result, Ok, Err, sym, ap, subst, map, length, get_or, take, append_assoc}
-use Rattle.std.specs.Prelude.{OnOk, IfErr}
+use Rattle.std.specs.Prelude.{OnOk, OnErr, IfErr}
 use Rattle.std.proofs.lemmas.List.{append-nil, map_more}
 use Rattle.redis_cluster.specs.Orders.{in_order}
 use Rattle.redis_cluster.specs.declared.nodes.SendError.{SendError}
-use Rattle.redis_batches.specs.Driven.{Grew, WereAsked, WereAskedUntil, batch_at, node_at}
+use Rattle.redis_batches.specs.Driven.{Grew, HaveAnswered, WereAsked, WereAskedUntil, batch_at, node_at}
+use Rattle.redis_batches.specs.Pipeline.{Answer}
 use Rattle.redis_batches.specs.Plan.{Batches}
 use Rattle.redis_batches.specs.Taken.{Batch, batch_for}
 
@@ -21,6 +22,11 @@ if_err_always (Err error) P is = is error
 pub asked_none : {X : Type 0} (old : List X → Type 0) → Grew old old []
 asked_none old before was = subst old (sym (append-nil before)) was
 
+-- where no answer came, none more
+pub none_more : {T E X : Type 0} (r : Result T E) (old new : List X → Type 0) → OnErr r ((before : List X) → old before → new before) → OnErr r (Grew old new [])
+none_more (Ok value) old new is = tt
+none_more (Err error) old new is = λ before was. subst new (sym (append-nil before)) (is before was)
+
 -- some, and then others
 pub asked_more : {X : Type 0} (old between new : List X → Type 0) (sent others : List X) → Grew old between sent → Grew between new others → Grew old new (sent ++ others)
 asked_more old between new sent others one other before was = subst new (append_assoc before sent others) (other (before ++ sent) (one before was))
@@ -31,6 +37,14 @@ pub asked_until_more : (old between new : List Batch → Type 0) (sent others : 
 asked_until_more old between new sent others last error one (inl all) =
     inl (subst (WereAsked old new) (sym (append_assoc sent others (last ∷ []))) (asked_more old between new sent (others ++ last ∷ []) one all))
 asked_until_more old between new sent others last error one (inr none) = inr (none.0, asked_more old between new sent others one none.1)
+
+-- answers, and then those to so many batches more
+pub answered_more : (old between new : List (List Answer) → Type 0) (first these : List (List Answer)) (count : ℕ) → Grew old between first → HaveAnswered between new these count → HaveAnswered old new (first ++ these) count
+answered_more old between new first these count one other = record {
+  more = other.more;
+  each = other.each;
+  gave = subst (Grew old new) (sym (append_assoc first these other.more)) (asked_more old between new first (these ++ other.more) one other.gave);
+}
 
 -- a plan with the same parts has the same batches
 pub same_batch : (now plan : Batches) (k : ℕ) → now.nodes ≡ plan.nodes → now.places ≡ plan.places → now.parts ≡ plan.parts → batch_at now k ≡ batch_at plan k

@@ -11,7 +11,7 @@ use Rattle.redis_cluster.specs.State.{State}
 use Rattle.redis_cluster.specs.Trace.{Ending, refused}
 use Rattle.redis_cluster.specs.Unsplit.{Step, Keyspace}
 use Rattle.redis_batches.specs.Batched.{put_at}
-use Rattle.redis_batches.specs.Driven.{Grew, WereAsked}
+use Rattle.redis_batches.specs.Driven.{Grew, HaveAnswered, WereAsked}
 use Rattle.redis_batches.specs.DrivenPipeline.{IsBeforeSending}
 use Rattle.redis_batches.specs.InRounds.{AreSentAgain, IsAgainFault, Stands}
 use Rattle.redis_batches.specs.Outgoing.{ArePutAt, GoesBehind, IsNextFault, IsNextServed}
@@ -24,7 +24,7 @@ use Rattle.redis_batches.specs.declared.going.Outgoing.{Outgoing}
 use Rattle.redis_batches.specs.declared.send.Stopped.{Stopped}
 use Rattle.redis_batches.proofs.Again.{IsRefusedBy, from_all, put_back, replies_for, round_leaves, same_sent}
 use Rattle.redis_batches.proofs.Alone.{IsOwnPart, alone_answers, alone_leaves, numbered_own}
-use Rattle.redis_batches.proofs.Asked.{asked_more, asked_none, asked_until_more}
+use Rattle.redis_batches.proofs.Asked.{answered_more, asked_more, asked_none, asked_until_more}
 use Rattle.redis_batches.specs.declared.fault.PipelineError.{PipelineError}
 use Rattle.redis_batches.specs.declared.fault.PipelineError.TheVariants as driven
 use Rattle.redis_batches.proofs.StayHere.{numbered_stay}
@@ -125,13 +125,13 @@ module _ {C : Type 0} (step : Step C) (serve : Serve C) (registered : Registrati
     behind = is.behind;
   }
 
-  pub fault_wider : (kept : Type 0) → (may wide : ℕ → Ending → Type 0) → ((count : ℕ) (ending : Ending) → may count ending → wide count ending) → (ps : List Planned) (round : Round) (old new : State C) (asked_old asked_new : List Batch → Type 0) (error : PipelineError)
-      → IsNextFault step serve kept may registered arguments ps round old new asked_old asked_new error → IsNextFault step serve kept wide registered arguments ps round old new asked_old asked_new error
-  fault_wider kept may wide more ps round old new asked_old asked_new (driven.Plan fault) is = is
-  fault_wider kept may wide more ps round old new asked_old asked_new driven.BadOrder is = is
-  fault_wider kept may wide more ps round old new asked_old asked_new (driven.Node stop) is = (is.0, is.1, stopped_wider kept may wide more is.0 old new stop is.2, is.3)
-  fault_wider kept may wide more ps round old new asked_old asked_new driven.Memory (inl same) = inl same
-  fault_wider kept may wide more ps round old new asked_old asked_new driven.Memory (inr is) = inr (is.0, is.1, round_wider kept kept (λ keep. keep) may wide more is.0 old new is.2, is.3)
+  pub fault_wider : (kept : Type 0) → (may wide : ℕ → Ending → Type 0) → ((count : ℕ) (ending : Ending) → may count ending → wide count ending) → (ps : List Planned) (round : Round) (old new : State C) (asked_old asked_new : List Batch → Type 0) (gave_old gave_new : List (List Answer) → Type 0) (error : PipelineError)
+      → IsNextFault step serve kept may registered arguments ps round old new asked_old asked_new gave_old gave_new error → IsNextFault step serve kept wide registered arguments ps round old new asked_old asked_new gave_old gave_new error
+  fault_wider kept may wide more ps round old new asked_old asked_new gave_old gave_new (driven.Plan fault) is = is
+  fault_wider kept may wide more ps round old new asked_old asked_new gave_old gave_new driven.BadOrder is = is
+  fault_wider kept may wide more ps round old new asked_old asked_new gave_old gave_new (driven.Node stop) is = (is.0, is.1, stopped_wider kept may wide more is.0 old new stop is.2, is.3, is.4)
+  fault_wider kept may wide more ps round old new asked_old asked_new gave_old gave_new driven.Memory (inl same) = inl same
+  fault_wider kept may wide more ps round old new asked_old asked_new gave_old gave_new driven.Memory (inr is) = inr (is.0, is.1, round_wider kept kept (λ keep. keep) may wide more is.0 old new is.2, is.3, is.4)
 
   pub again_wider : (kept : Type 0) → (may wide : ℕ → Ending → Type 0) → ((count : ℕ) (ending : Ending) → may count ending → wide count ending) → (ps : List Planned) (round : Round) (retries : ℕ) (old new : State C) (asked_old asked_new : List Batch → Type 0)
       (gave_old gave_new : List (List Answer) → Type 0) (before after : List (Result Value ErrorParts)) → AreSentAgain step serve kept may registered arguments ps round retries old new asked_old asked_new gave_old gave_new before after
@@ -147,21 +147,21 @@ module _ {C : Type 0} (step : Step C) (serve : Serve C) (registered : Registrati
     as_one = is.as_one;
   }
 
-  pub again_fault_wider : (kept : Type 0) → (may wide : ℕ → Ending → Type 0) → ((count : ℕ) (ending : Ending) → may count ending → wide count ending) → (ps : List Planned) (round : Round) (retries : ℕ) (old new : State C) (asked_old asked_new : List Batch → Type 0) (error : PipelineError)
-      → IsAgainFault step serve kept may registered arguments ps round retries old new asked_old asked_new error → IsAgainFault step serve kept wide registered arguments ps round retries old new asked_old asked_new error
-  again_fault_wider kept may wide more ps round retries old new asked_old asked_new (driven.Plan fault) is = is
-  again_fault_wider kept may wide more ps round retries old new asked_old asked_new driven.BadOrder is = is
-  again_fault_wider kept may wide more ps round retries old new asked_old asked_new (driven.Node stop) is =
-      (is.0, is.1, is.2, rounds_wider kept kept (λ keep. keep) may wide more round is.0 old is.2 is.3, is.4, is.5, stopped_wider kept may wide more is.4 is.2 new stop is.6, is.7)
-  again_fault_wider kept may wide more ps round retries old new asked_old asked_new driven.Memory is = (is.0, is.1, rounds_wider kept kept (λ keep. keep) may wide more round is.0 old new is.2, is.3)
+  pub again_fault_wider : (kept : Type 0) → (may wide : ℕ → Ending → Type 0) → ((count : ℕ) (ending : Ending) → may count ending → wide count ending) → (ps : List Planned) (round : Round) (retries : ℕ) (old new : State C) (asked_old asked_new : List Batch → Type 0) (gave_old gave_new : List (List Answer) → Type 0) (error : PipelineError)
+      → IsAgainFault step serve kept may registered arguments ps round retries old new asked_old asked_new gave_old gave_new error → IsAgainFault step serve kept wide registered arguments ps round retries old new asked_old asked_new gave_old gave_new error
+  again_fault_wider kept may wide more ps round retries old new asked_old asked_new gave_old gave_new (driven.Plan fault) is = is
+  again_fault_wider kept may wide more ps round retries old new asked_old asked_new gave_old gave_new driven.BadOrder is = is
+  again_fault_wider kept may wide more ps round retries old new asked_old asked_new gave_old gave_new (driven.Node stop) is =
+      (is.0, is.1, is.2, rounds_wider kept kept (λ keep. keep) may wide more round is.0 old is.2 is.3, is.4, is.5, stopped_wider kept may wide more is.4 is.2 new stop is.6, is.7, is.8)
+  again_fault_wider kept may wide more ps round retries old new asked_old asked_new gave_old gave_new driven.Memory is = (is.0, is.1, rounds_wider kept kept (λ keep. keep) may wide more round is.0 old new is.2, is.3, is.4)
 
   -- something was sent before
-  pub not_before : (kept : Type 0) (may : ℕ → Ending → Type 0) (ps : List Planned) (round : Round) (retries : ℕ) (old new : State C) (asked_old asked_new : List Batch → Type 0) (error : PipelineError)
-      → IsAgainFault step serve kept may registered arguments ps round retries old new asked_old asked_new error → IsBeforeSending error → ⊥
-  not_before kept may ps round retries old new asked_old asked_new (driven.Plan fault) is before = is
-  not_before kept may ps round retries old new asked_old asked_new driven.BadOrder is before = is
-  not_before kept may ps round retries old new asked_old asked_new (driven.Node stop) is before = before
-  not_before kept may ps round retries old new asked_old asked_new driven.Memory is before = before
+  pub not_before : (kept : Type 0) (may : ℕ → Ending → Type 0) (ps : List Planned) (round : Round) (retries : ℕ) (old new : State C) (asked_old asked_new : List Batch → Type 0) (gave_old gave_new : List (List Answer) → Type 0) (error : PipelineError)
+      → IsAgainFault step serve kept may registered arguments ps round retries old new asked_old asked_new gave_old gave_new error → IsBeforeSending error → ⊥
+  not_before kept may ps round retries old new asked_old asked_new gave_old gave_new (driven.Plan fault) is before = is
+  not_before kept may ps round retries old new asked_old asked_new gave_old gave_new driven.BadOrder is before = is
+  not_before kept may ps round retries old new asked_old asked_new gave_old gave_new (driven.Node stop) is before = before
+  not_before kept may ps round retries old new asked_old asked_new gave_old gave_new driven.Memory is before = before
 
 -- the parts of a round are in front of where they were sent on to
 pub fronts_of : (round : Round) (on : List (Option Address)) → AreSentOn round on → length round.given ≡ length round.sent → map (λ (z : Numbered × Option Address). z.0) (zip round.sent on) ≡ round.sent
@@ -266,14 +266,14 @@ module _ {C : Type 0} (step : Step C) (serve : Serve C) (may : ℕ → Ending �
         }
 
     -- why the next one was not served
-    pub fault_after : (retries : ℕ) → k < retries → (error : PipelineError) → IsNextFault step serve kept may registered arguments ps latest now new asked_now asked_new error
-        → IsAgainFault step serve kept may registered arguments ps round retries start new asked_start asked_new error
+    pub fault_after : (retries : ℕ) → k < retries → (error : PipelineError) → IsNextFault step serve kept may registered arguments ps latest now new asked_now asked_new gave_now gave_new error
+        → IsAgainFault step serve kept may registered arguments ps round retries start new asked_start asked_new gave_start gave_new error
     fault_after retries few error is = by_error error is
       where
         were : AreRounds step serve kept may registered arguments round so_far.rounds start now
         were = rounds_wider step serve registered arguments kept_then kept earlier may may (λ count ending is. is) round so_far.rounds start now so_far.again
 
-        by_error : (e : PipelineError) → IsNextFault step serve kept may registered arguments ps latest now new asked_now asked_new e → IsAgainFault step serve kept may registered arguments ps round retries start new asked_start asked_new e
+        by_error : (e : PipelineError) → IsNextFault step serve kept may registered arguments ps latest now new asked_now asked_new gave_now gave_new e → IsAgainFault step serve kept may registered arguments ps round retries start new asked_start asked_new gave_start gave_new e
         by_error (driven.Plan fault) is = absurd is
         by_error driven.BadOrder is = absurd is
         by_error (driven.Node stop) is = (
@@ -285,18 +285,21 @@ module _ {C : Type 0} (step : Step C) (serve : Serve C) (may : ℕ → Ending �
           is.1,
           is.2,
           asked_until_more asked_start asked_now asked_new (flat_map round_batches so_far.rounds) (batches_before is.0 stop.answered) (batch_after is.0 stop.answered) stop.error so_far.asked is.3,
+          subst (λ l. HaveAnswered gave_start gave_new l stop.answered) (append-nil (flat_map round_answers so_far.rounds)) (answered_more gave_start gave_now gave_new (flat_map round_answers so_far.rounds) [] stop.answered so_far.gave is.4),
         )
         by_error driven.Memory (inl same) = (
           so_far.rounds,
           omega (arith, few, so_far.many),
           subst (λ s. AreRounds step serve kept may registered arguments round so_far.rounds start s) (sym same.0) were,
           subst (WereAsked asked_start asked_new) (append-nil (flat_map round_batches so_far.rounds)) (asked_more asked_start asked_now asked_new (flat_map round_batches so_far.rounds) [] so_far.asked same.1),
+          subst (Grew gave_start gave_new) (append-nil (flat_map round_answers so_far.rounds)) (asked_more gave_start gave_now gave_new (flat_map round_answers so_far.rounds) [] so_far.gave same.2),
         )
         by_error driven.Memory (inr is) = (
           so_far.rounds ++ is.0 ∷ [],
           omega (arith, few, so_far.many, length_push so_far.rounds is.0),
           rounds_more step serve registered arguments kept may round so_far.rounds is.0 start now new were is.1 is.2,
           subst (WereAsked asked_start asked_new) (sym (one_more round_batches so_far.rounds is.0)) (asked_more asked_start asked_now asked_new (flat_map round_batches so_far.rounds) (round_batches is.0) so_far.asked is.3),
+          subst (Grew gave_start gave_new) (sym (one_more round_answers so_far.rounds is.0)) (asked_more gave_start gave_now gave_new (flat_map round_answers so_far.rounds) (round_answers is.0) so_far.gave is.4),
         )
 
   -- In the end they were sent again as often as there are retries, or no part goes out again.

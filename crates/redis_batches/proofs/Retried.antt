@@ -28,7 +28,7 @@ use Rattle.redis_batches.specs.declared.fault.PipelineError.TheVariants as drive
 use Rattle.redis_batches.specs.declared.going.Outgoing.{Outgoing}
 use Rattle.redis_batches.proofs.Again.{all_last}
 use Rattle.redis_batches.proofs.Alone.{slots_at}
-use Rattle.redis_batches.proofs.Asked.{asked_more, asked_until_more}
+use Rattle.redis_batches.proofs.Asked.{answered_more, asked_more, asked_until_more}
 use Rattle.redis_batches.proofs.Driving.{ServesAll}
 use Rattle.redis_batches.proofs.Ends.{after_agree, answers_agree, numbers_apart}
 use Rattle.redis_batches.proofs.GoOn.{go_by, goes_by}
@@ -142,20 +142,23 @@ module _ {C : Type 0} (step : Step C) (serve : Serve C) (may : ℕ → Ending �
         again = again;
       }
 
-      module _ (asked_old asked_between asked_new : List Batch → Type 0) (asked : WereAsked asked_old asked_between (map (batch_at plan.batches) order)) where
+      module _ (asked_old asked_between asked_new : List Batch → Type 0) (asked : WereAsked asked_old asked_between (map (batch_at plan.batches) order)) (long : length given ≡ length plan.batches.parts)
+          (gave_old gave_between gave_new : List (List Answer) → Type 0) (gave : Grew gave_old gave_between (answers_in plan.batches given order)) where
         -- no more than retries, and nothing else
         pub were_sent : (rounds : List Round) → length rounds ≤ retries → AreRounds step serve kept may registered plan.batches.parts first rounds between new → WereAsked asked_between asked_new (flat_map round_batches rounds)
-            → WereSent step serve kept may registered is_node commands order retries asked_old asked_new old new
+            → Grew gave_between gave_new (flat_map round_answers rounds) → WereSent step serve kept may registered is_node commands order retries asked_old asked_new gave_old gave_new old new
         unfolding taken so_far
-        were_sent rounds few again more = record {
+        were_sent rounds few again more further = record {
           so_far = so_far rounds new again;
           few = few;
           asked = asked_more asked_old asked_between asked_new (map (batch_at plan.batches) order) (flat_map round_batches rounds) asked more;
+          long = long;
+          gave = asked_more gave_old gave_between gave_new (answers_in plan.batches given order) (flat_map round_answers rounds) gave further;
         }
 
         -- what follows the first round stopped
-        pub later_fault : (ranges : _) (error : PipelineError) → IsAgainFault step serve kept may registered plan.batches.parts ps first retries between new asked_between asked_new error
-            → IsRoundsFault step serve kept may registered is_node commands order retries asked_old asked_new old new ranges error
+        pub later_fault : (ranges : _) (error : PipelineError) → IsAgainFault step serve kept may registered plan.batches.parts ps first retries between new asked_between asked_new gave_between gave_new error
+            → IsRoundsFault step serve kept may registered is_node commands order retries asked_old asked_new gave_old gave_new old new ranges error
         unfolding taken so_far
         later_fault ranges (driven.Plan fault) is = absurd is
         later_fault ranges driven.BadOrder is = absurd is
@@ -173,8 +176,10 @@ module _ {C : Type 0} (step : Step C) (serve : Serve C) (may : ℕ → Ending �
               follows = is.5;
               stopped = is.6;
               asked = subst (λ l. WereAskedUntil asked_old asked_new l (batch_after is.4 stop.answered) stop.error) (sym (append_assoc front rounds last)) all;
+              long = long;
+              gave = answered_more gave_old gave_between gave_new (answers_in plan.batches given order) (flat_map round_answers is.0) stop.answered gave is.8;
             })
-        later_fault ranges driven.Memory is = were_sent is.0 is.1 is.2 is.3
+        later_fault ranges driven.Memory is = were_sent is.0 is.1 is.2 is.3 is.4
 
       module _ (asked_old asked_between asked_new : List Batch → Type 0) (gave_old gave_between gave_new : List (List Answer) → Type 0) (before after : List (Result Value ErrorParts)) (given_are : given ≡ map answer_of before) where
         stands : kept → Stands step serve ps served.refusals first old.keyspace between.keyspace before
@@ -212,12 +217,10 @@ module _ {C : Type 0} (step : Step C) (serve : Serve C) (may : ℕ → Ending �
               )
 
           -- The pipeline was served in rounds.
-          pub served_in_rounds : AreServedInRounds step serve kept may registered is_node commands order retries asked_old asked_new old new gave_old gave_new replies
+          pub served_in_rounds : AreServedInRounds step serve kept may registered is_node commands order retries asked_old asked_new gave_old gave_new old new replies
           unfolding taken so_far were_sent
           served_in_rounds = record {
-            sent = were_sent asked_old asked_between asked_new asked again.rounds again.few again.again again.asked;
-            long = ap length given_are ∙ length-map before answer_of ∙ many;
-            gave = asked_more gave_old gave_between gave_new (answers_in plan.batches given order) (flat_map round_answers again.rounds) gave again.gave;
+            sent = were_sent asked_old asked_between asked_new asked (ap length given_are ∙ length-map before answer_of ∙ many) gave_old gave_between gave_new gave again.rounds again.few again.again again.asked again.gave;
             done = again.done;
             answers = map answer_of after;
             latest = again.latest ∙ ap (λ l. latest_answers l again.rounds) (sym given_are);

@@ -11,11 +11,11 @@ use Rattle.redis_cluster.specs.State.{State}
 use Rattle.redis_cluster.specs.Trace.{Ending}
 use Rattle.redis_cluster.specs.Unsplit.{Step}
 use Rattle.redis_batches.specs.Batched.{AreBatches, AreFor, IsRight, put_at}
-use Rattle.redis_batches.specs.Driven.{Grew, IsServed, WasStopped, WereAsked, WereAskedUntil, answers_in, batch_at}
+use Rattle.redis_batches.specs.Driven.{Grew, HaveAnswered, IsServed, WasStopped, WereAsked, WereAskedUntil, answers_in, batch_at}
 use Rattle.redis_batches.specs.Outgoing.{ArePartsOf, GoesBehind, IsNext, IsNextServed, slot_at}
 use Rattle.redis_batches.specs.Pipeline.{Answer, AreSlotsOf, Numbered, Planned, Serve, slot_of}
 use Rattle.redis_batches.specs.Plan.{Batches, IsByNode, IsPlan}
-use Rattle.redis_batches.specs.Rounds.{Follows, IsRoundServed, IsRoundStopped, Round, alone, ascending, batch_after, batches_before, round_batches}
+use Rattle.redis_batches.specs.Rounds.{Follows, IsRoundServed, IsRoundStopped, Round, alone, ascending, batch_after, batches_before, round_answers, round_batches}
 use Rattle.redis_batches.specs.Taken.{Batch, answer_of}
 use Rattle.redis_batches.specs.declared.going.Outgoing.{Outgoing}
 use Rattle.redis_batches.specs.declared.send.Stopped.{Stopped}
@@ -65,29 +65,31 @@ module _ (registered : Registrations) (ps : List Planned) (arguments : List (Lis
       in_order : order ≡ ascending (length plan.places)
       in_order = order_is ∙ ap (range_with_len 0) counted
 
-      pub stopped : (asked_old asked_new : List Batch → Type 0) (stop : Stopped) → WasStopped step serve registered kept may_refuse (alone sent) plan.parts plan.nodes batches.batch order old new stop.answered stop.error
-          → WereAskedUntil asked_old asked_new (map (batch_at plan) (take stop.answered order)) (batch_at plan (get_or order stop.answered 0)) stop.error
-          → (x : Round) × Follows round x × IsRoundStopped step serve kept may_refuse registered arguments x old new stop × WereAskedUntil asked_old asked_new (batches_before x stop.answered) (batch_after x stop.answered) stop.error
+      pub stopped : (asked_old asked_new : List Batch → Type 0) (gave_old gave_new : List (List Answer) → Type 0) (stop : Stopped) → WasStopped step serve registered kept may_refuse (alone sent) plan.parts plan.nodes batches.batch order old new stop.answered stop.error
+          → WereAskedUntil asked_old asked_new (map (batch_at plan) (take stop.answered order)) (batch_at plan (get_or order stop.answered 0)) stop.error → HaveAnswered gave_old gave_new [] stop.answered
+          → (x : Round) × Follows round x × IsRoundStopped step serve kept may_refuse registered arguments x old new stop × WereAskedUntil asked_old asked_new (batches_before x stop.answered) (batch_after x stop.answered) stop.error × HaveAnswered gave_old gave_new [] stop.answered
       unfolding batches
-      stopped asked_old asked_new stop is asked = (
+      stopped asked_old asked_new gave_old gave_new stop is asked gave = (
         record { sent = sent; node_of = to; batches = plan; given = []; refusals = λ x. None },
         follows registered ps arguments slots of round out gone plan [] (λ x. None),
         next_stopped registered ps arguments slots of round out gone plan whole nodes own_nodes by_node own_parts step serve kept may_refuse order in_order old new stop is,
         subst (λ o. WereAskedUntil asked_old asked_new (map (batch_at plan) (take stop.answered o)) (batch_at plan (get_or o stop.answered 0)) stop.error) in_order asked,
+        gave,
       )
 
       module _ (given : List Answer) (all_served : IsServed step serve kept may_refuse (alone sent) plan.parts plan.nodes batches.batch order old new given) where
         as_many : length given ≡ length plan.parts → length given ≡ length sent
         as_many many = many ∙ ap length own_parts ∙ length-map sent (λ x. get_or arguments x.0 [])
 
-        pub served : length given ≡ length plan.parts → (asked_old asked_new : List Batch → Type 0) → WereAsked asked_old asked_new (map (batch_at plan) order)
-            → (x : Round) × Follows round x × IsRoundServed step serve kept may_refuse registered arguments x old new × WereAsked asked_old asked_new (round_batches x)
+        pub served : length given ≡ length plan.parts → (asked_old asked_new : List Batch → Type 0) → WereAsked asked_old asked_new (map (batch_at plan) order) → (gave_old gave_new : List (List Answer) → Type 0) → Grew gave_old gave_new (answers_in plan given order)
+            → (x : Round) × Follows round x × IsRoundServed step serve kept may_refuse registered arguments x old new × WereAsked asked_old asked_new (round_batches x) × Grew gave_old gave_new (round_answers x)
         unfolding batches
-        served many asked_old asked_new asked = (
+        served many asked_old asked_new asked gave_old gave_new gave = (
           next registered ps arguments slots of round out gone plan whole nodes own_nodes by_node own_parts step serve kept may_refuse order in_order old new given all_served,
           follows registered ps arguments slots of round out gone plan given (next registered ps arguments slots of round out gone plan whole nodes own_nodes by_node own_parts step serve kept may_refuse order in_order old new given all_served).refusals,
           next_served registered ps arguments slots of round out gone plan whole nodes own_nodes by_node own_parts step serve kept may_refuse order in_order old new given all_served (as_many many),
           subst (λ o. WereAsked asked_old asked_new (map (batch_at plan) o)) in_order asked,
+          subst (λ o. Grew gave_old gave_new (answers_in plan given o)) in_order gave,
         )
 
         -- and its answers were put at their places

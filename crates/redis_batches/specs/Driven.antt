@@ -88,6 +88,13 @@ WereAsked old new sent = Grew old new sent
 abbrev pub answers_in : Batches → List Answer → List ℕ → List (List Answer)
 answers_in plan given order = map (λ k. in_order given (get_or plan.places k [])) order
 
+-- The nodes gave these answers, batch after batch, and then those to so many batches more.
+pub record HaveAnswered (old new : List (List Answer) → Type 0) (these : List (List Answer))
+    (count : ℕ) : Type 0 where
+  pub more : List (List Answer)
+  pub each : length more ≡ count
+  pub gave : Grew old new (these ++ more)
+
 -- These were sent, and then this one, unless memory ran out before.
 abbrev pub WereAskedUntil : (old new : List Batch → Type 0) → List Batch → Batch → SendError → Type 0
 WereAskedUntil old new sent last error =

@@ -1,5 +1,5 @@
 -- How a pipeline was sent in rounds, and its replies.
-use Rattle.std.specs.Prelude.{◌≡◌, ◌≤◌, ◌⊎◌, ◌++◌, ◌<◌, ℕ, List, None, length, map}
+use Rattle.std.specs.Prelude.{◌≡◌, ◌≤◌, ◌⊎◌, ◌++◌, ◌<◌, ℕ, List, [], None, length, map}
 use Rattle.std.specs.List.{All, flat_map}
 use Rattle.cluster_slots.specs.Address.{Address}
 use Rattle.redis_routing.specs.Registry.{Registrations}
@@ -7,7 +7,7 @@ use Rattle.redis_cluster.specs.Trace.{Ending}
 use Rattle.redis_cluster.specs.Unsplit.{Step}
 use Rattle.redis_cluster.specs.State.{State}
 use Rattle.redis_batches.specs.Pipeline.{Answer, Refusals, Serve, Task, numbered}
-use Rattle.redis_batches.specs.Driven.{Grew, WereAsked, WereAskedUntil, answers_in, batch_at}
+use Rattle.redis_batches.specs.Driven.{Grew, HaveAnswered, WereAsked, WereAskedUntil, answers_in, batch_at}
 use Rattle.redis_batches.specs.DrivenPipeline.{AreAllTaken, AreAskedUntil, IsEarlyFault, IsLateFault, IsOneServer}
 use Rattle.redis_batches.specs.Placed.{Ranges}
 use Rattle.redis_batches.specs.Plan.{Batches}
@@ -81,22 +81,23 @@ module _ {C : Type 0} {step : Step C} {serve : Serve C} {kept : Type 0}
 module _ {C : Type 0} (step : Step C) (serve : Serve C) (kept : Type 0)
     (may_refuse : ℕ → Ending → Type 0) (registered : Registrations)
     (is_node : ℕ → Address → Type 0) (commands : List (List (List ℕ))) (order : List ℕ)
-    (retries : ℕ) (asked_old asked_new : List Batch → Type 0) (old new : State C) where
-  -- No more rounds than retries were sent, and nothing else.
+    (retries : ℕ) (asked_old asked_new : List Batch → Type 0)
+    (gave_old gave_new : List (List Answer) → Type 0) (old new : State C) where
+  -- No more rounds than retries were sent, and nothing else. What they are answered is what the nodes
+  -- gave.
   pub record WereSent : Type 0 where
     pub so_far : SentSoFar step serve kept may_refuse registered is_node commands order old new
     pub few : length so_far.rounds ≤ retries
     pub asked : WereAsked asked_old asked_new (batches_sent so_far)
+    pub long : length so_far.given ≡ length so_far.taken.plan.batches.parts
+    pub gave : Grew gave_old gave_new (answers_sent so_far)
 
-  -- Rounds were sent until no part went out again, or as many as retries. The replies are made of what
-  -- the nodes gave, of each part of its last answer. Where nodes keep to the meaning, and errors of a command's own send it
+  -- Rounds were sent until no part went out again, or as many as retries. The replies are made of the
+  -- last answer to each part. Where nodes keep to the meaning, and errors of a command's own send it
   -- nowhere, all is as on one server that takes the parts in the order of the pipeline, but for those
   -- refused at last.
-  pub record AreServedInRounds (gave_old gave_new : List (List Answer) → Type 0)
-      (replies : List Answer) : Type 0 where
+  pub record AreServedInRounds (replies : List Answer) : Type 0 where
     pub sent : WereSent
-    pub long : length sent.so_far.given ≡ length sent.so_far.taken.plan.batches.parts
-    pub gave : Grew gave_old gave_new (answers_sent sent.so_far)
     pub done : (length sent.so_far.rounds ≡ retries) ⊎ IsLast (last_sent sent.so_far)
     pub answers : List Answer
     pub latest : answers ≡ latest_answers sent.so_far.given sent.so_far.rounds
@@ -124,6 +125,8 @@ module _ {C : Type 0} (step : Step C) (serve : Serve C) (kept : Type 0)
     pub asked : WereAskedUntil asked_old asked_new
         (batches_sent so_far ++ batches_before next stop.answered) (batch_after next stop.answered)
         stop.error
+    pub long : length so_far.given ≡ length so_far.taken.plan.batches.parts
+    pub gave : HaveAnswered gave_old gave_new (answers_sent so_far) stop.answered
 
   -- why there are no replies
   abbrev pub IsRoundsFault : Ranges → PipelineError → Type 0
@@ -132,6 +135,7 @@ module _ {C : Type 0} (step : Step C) (serve : Serve C) (kept : Type 0)
   IsRoundsFault ranges BadOrder = IsEarlyFault registered ranges is_node commands order BadOrder
   IsRoundsFault ranges (Node stop) =
       (IsLateFault step serve kept may_refuse registered is_node commands order old new (Node stop)
-      × AreAskedUntil registered is_node commands order asked_old asked_new (Node stop))
+      × AreAskedUntil registered is_node commands order asked_old asked_new (Node stop)
+      × HaveAnswered gave_old gave_new [] stop.answered)
       ⊎ StoppedInRounds stop
   IsRoundsFault ranges Memory = WereSent

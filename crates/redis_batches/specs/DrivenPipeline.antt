@@ -1,5 +1,5 @@
 -- How a pipeline was sent batch by batch, and its replies.
-use Rattle.std.specs.Prelude.{◌≡◌, ◌<◌, ◌⊎◌, ℕ, List, Bool, true, map, length, take, get_or}
+use Rattle.std.specs.Prelude.{◌≡◌, ◌<◌, ◌⊎◌, ℕ, List, [], Bool, true, map, length, take, get_or}
 use Rattle.std.specs.List.{All}
 use Rattle.cluster_slots.specs.Address.{Address}
 use Rattle.redis_routing.specs.Registry.{Registrations}
@@ -11,7 +11,7 @@ use Rattle.redis_batches.specs.Turns.{all_after}
 use Rattle.redis_batches.specs.Pipeline.{Answer, Serve, Task, one_server_answers, run}
 use Rattle.redis_batches.specs.Tasks.{AreTasksOf, with_slots}
 use Rattle.redis_batches.specs.Batched.{AreBatches}
-use Rattle.redis_batches.specs.Driven.{Grew, IsServed, WasStopped, WereAsked, WereAskedUntil, answers_in, batch_at, node_at}
+use Rattle.redis_batches.specs.Driven.{Grew, HaveAnswered, IsServed, WasStopped, WereAsked, WereAskedUntil, answers_in, batch_at, node_at}
 use Rattle.redis_batches.specs.Placed.{Ranges}
 use Rattle.redis_batches.specs.PipelinePlan.{IsPlanFault, IsPlanOfCommands, PipelineBatches, pieces_of}
 use Rattle.redis_batches.specs.Replies.{AreRepliesTo, AreUntouched}
@@ -108,17 +108,30 @@ module _ (registered : Registrations) (is_node : ℕ → Address → Type 0)
   AreAskedUntil Memory = AreAllAsked
 
 module _ (registered : Registrations) (is_node : ℕ → Address → Type 0)
-    (commands : List (List (List ℕ))) (order : List ℕ)
+    (commands : List (List (List ℕ))) (order : List ℕ) (asked_old asked_new : List Batch → Type 0)
     (gave_old gave_new : List (List Answer) → Type 0) where
-  -- The replies are made of what the nodes gave: to each batch the answers that stand at the places of
-  -- its parts.
-  pub record AreMade (replies : List Answer) : Type 0 where
+  -- Each batch of a plan of the commands was sent once, and no other was. The nodes gave these answers:
+  -- to each batch those that stand at the places of its parts.
+  pub record AreAllGiven (given : List Answer) : Type 0 where
     pub plan : PipelineBatches
     pub sendable : IsSendable registered is_node commands order plan
-    pub given : List Answer
+    pub asked : WereAsked asked_old asked_new (map (batch_at plan.batches) order)
     pub long : length given ≡ length plan.batches.parts
     pub gave : Grew gave_old gave_new (answers_in plan.batches given order)
-    pub replies_are : AreRepliesTo plan.splits given replies
+
+  -- The replies are made of these.
+  pub record AreMade (replies : List Answer) : Type 0 where
+    pub given : List Answer
+    pub all : AreAllGiven given
+    pub replies_are : AreRepliesTo all.plan.splits given replies
+
+  -- What the nodes gave where there are no replies: the answers to the batches before the one that was
+  -- not taken, or to all.
+  abbrev pub AreGivenUntil : PipelineError → Type 0
+  AreGivenUntil (Plan fault) = Unit {0}
+  AreGivenUntil BadOrder = Unit {0}
+  AreGivenUntil (Node stop) = HaveAnswered gave_old gave_new [] stop.answered
+  AreGivenUntil Memory = (given : List Answer) × AreAllGiven given
 
 -- memory ran out: at the nodes, as the mark tells, or here
 abbrev pub IsWantOfMemory : Bool → PipelineError → Type 0

@@ -7,7 +7,7 @@ use Rattle.redis_routing.specs.Registry.{Registrations}
 use Rattle.redis_cluster.specs.State.{State}
 use Rattle.redis_cluster.specs.Trace.{Ending}
 use Rattle.redis_cluster.specs.Unsplit.{Keyspace, Step}
-use Rattle.redis_batches.specs.Driven.{Grew, WereAsked, WereAskedUntil}
+use Rattle.redis_batches.specs.Driven.{Grew, HaveAnswered, WereAsked, WereAskedUntil}
 use Rattle.redis_batches.specs.Pipeline.{Answer, Planned, Refusals, Serve, ended}
 use Rattle.redis_batches.specs.Rounds.{AreRounds, Follows, IsAsOne, IsLast, IsRoundStopped, OwnErrorsStay, Round, after_rounds, batch_after, batches_before, last_round, latest_answers, round_answers, round_batches}
 use Rattle.redis_batches.specs.Taken.{Batch, answer_of}
@@ -46,10 +46,11 @@ module _ {C : Type 0} (step : Step C) (serve : Serve C) (kept : Type 0)
         → IsAsOne step serve ps (after_rounds refusals rounds) start new.keyspace (map answer_of after)
 
   -- why they were not, or their answers are lost
-  abbrev pub IsAgainFault : (asked_old asked_new : List Batch → Type 0) → PipelineError → Type 0
-  IsAgainFault asked_old asked_new (Plan fault) = ⊥
-  IsAgainFault asked_old asked_new BadOrder = ⊥
-  IsAgainFault asked_old asked_new (Node stop) =
+  abbrev pub IsAgainFault : (asked_old asked_new : List Batch → Type 0)
+      → (gave_old gave_new : List (List Answer) → Type 0) → PipelineError → Type 0
+  IsAgainFault asked_old asked_new gave_old gave_new (Plan fault) = ⊥
+  IsAgainFault asked_old asked_new gave_old gave_new BadOrder = ⊥
+  IsAgainFault asked_old asked_new gave_old gave_new (Node stop) =
       (rounds : List Round) × (length rounds < retries) × (between : State C)
       × AreRounds step serve kept may_refuse registered arguments round rounds old between
       × (next : Round) × Follows (last_round round rounds) next
@@ -57,6 +58,9 @@ module _ {C : Type 0} (step : Step C) (serve : Serve C) (kept : Type 0)
       × WereAskedUntil asked_old asked_new
       (flat_map round_batches rounds ++ batches_before next stop.answered)
       (batch_after next stop.answered) stop.error
-  IsAgainFault asked_old asked_new Memory = (rounds : List Round) × (length rounds ≤ retries)
+      × HaveAnswered gave_old gave_new (flat_map round_answers rounds) stop.answered
+  IsAgainFault asked_old asked_new gave_old gave_new Memory =
+      (rounds : List Round) × (length rounds ≤ retries)
       × AreRounds step serve kept may_refuse registered arguments round rounds old new
       × WereAsked asked_old asked_new (flat_map round_batches rounds)
+      × Grew gave_old gave_new (flat_map round_answers rounds)

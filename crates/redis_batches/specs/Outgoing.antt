@@ -13,7 +13,7 @@ use Rattle.redis_cluster.specs.Trace.{Ending}
 use Rattle.redis_cluster.specs.Unsplit.{Step}
 use Rattle.redis_batches.specs.Batched.{AreFor, IsRight, put_at}
 use Rattle.redis_batches.specs.Chosen.{has_slot}
-use Rattle.redis_batches.specs.Driven.{Grew, WereAsked, WereAskedUntil}
+use Rattle.redis_batches.specs.Driven.{Grew, HaveAnswered, WereAsked, WereAskedUntil}
 use Rattle.redis_batches.specs.Pipeline.{Answer, AreSlotsOf, Planned, Serve, numbered, pieces, slot_of}
 use Rattle.redis_batches.specs.Rounds.{AreSentOn, Follows, IsRoundServed, IsRoundStopped, IsSentOn, Round, batch_after, batches_before, go_on, goes_to, is_settled, round_answers, round_batches}
 use Rattle.redis_batches.specs.Sent.{AreApart, AreLast}
@@ -93,15 +93,18 @@ module _ {C : Type 0} (step : Step C) (serve : Serve C) (kept : Type 0)
     pub behind : GoesBehind ps next out
 
   -- why the next round was not served, or its answers are lost
-  abbrev pub IsNextFault : (asked_old asked_new : List Batch → Type 0) → PipelineError → Type 0
-  IsNextFault asked_old asked_new (Plan fault) = ⊥
-  IsNextFault asked_old asked_new BadOrder = ⊥
-  IsNextFault asked_old asked_new (Node stop) = (next : Round) × Follows round next
+  abbrev pub IsNextFault : (asked_old asked_new : List Batch → Type 0)
+      → (gave_old gave_new : List (List Answer) → Type 0) → PipelineError → Type 0
+  IsNextFault asked_old asked_new gave_old gave_new (Plan fault) = ⊥
+  IsNextFault asked_old asked_new gave_old gave_new BadOrder = ⊥
+  IsNextFault asked_old asked_new gave_old gave_new (Node stop) = (next : Round) × Follows round next
       × IsRoundStopped step serve kept may_refuse registered arguments next old new stop
       × WereAskedUntil asked_old asked_new (batches_before next stop.answered)
       (batch_after next stop.answered) stop.error
-  IsNextFault asked_old asked_new Memory =
-      ((new ≡ old) × WereAsked asked_old asked_new [])
+      × HaveAnswered gave_old gave_new [] stop.answered
+  IsNextFault asked_old asked_new gave_old gave_new Memory =
+      ((new ≡ old) × WereAsked asked_old asked_new [] × Grew gave_old gave_new [])
       ⊎ ((next : Round) × Follows round next
       × IsRoundServed step serve kept may_refuse registered arguments next old new
-      × WereAsked asked_old asked_new (round_batches next))
+      × WereAsked asked_old asked_new (round_batches next)
+      × Grew gave_old gave_new (round_answers next))

@@ -4,7 +4,7 @@ ghost use Rattle.redis_routing.specs.Names.{names_of};
 ghost use Rattle.redis_cluster.specs.Driven.{AreAllAnswered};
 ghost use Rattle.redis_cluster.specs.Trace.{Ending};
 ghost use Rattle.redis_batches.specs.Driven.{AlwaysAnswers, NeverRefuses};
-ghost use Rattle.redis_batches.specs.DrivenPipeline.{AreAllAsked, AreAskedUntil, AreMade, IsBeforeSending, IsEarlyFault, IsOneServer, IsPipelineFault, IsPipelineServed, IsSendable, IsWantOfMemory};
+ghost use Rattle.redis_batches.specs.DrivenPipeline.{AreAllAsked, AreAskedUntil, AreGivenUntil, AreMade, IsBeforeSending, IsEarlyFault, IsOneServer, IsPipelineFault, IsPipelineServed, IsSendable, IsWantOfMemory};
 ghost use Rattle.redis_batches.specs.Plan.{IsPlan};
 ghost use Rattle.redis_batches.specs.Reads.{IsSlotNode};
 ghost use Rattle.redis_batches.specs.Taken.{answer_of};
@@ -58,8 +58,8 @@ pub fn drive_pipeline<N: BatchNodes>(
     ensures made { IfOk result (λ replies. AreMade (N.registered nodes.old)
         (IsSlotNode strategy.entry (λ s. picks s.now) slot_map.now
         (names_of read_only.now (N.registered nodes.old)) commands.now)
-        commands.now order.now (N.gave nodes.old) (N.gave nodes.new)
-        (map answer_of replies.items)) }
+        commands.now order.now (N.asked nodes.old) (N.asked nodes.new)
+        (N.gave nodes.old) (N.gave nodes.new) (map answer_of replies.items)) }
     // Where no part was refused, they are those of one server that takes the commands.
     ensures one_server { IfOk result (λ replies.
         AreAllAnswered (N.state nodes.old).trace (N.state nodes.new).trace → N.kept nodes.new
@@ -80,6 +80,12 @@ pub fn drive_pipeline<N: BatchNodes>(
         (IsSlotNode strategy.entry (λ s. picks s.now) slot_map.now
         (names_of read_only.now (N.registered nodes.old)) commands.now)
         commands.now order.now (N.asked nodes.old) (N.asked nodes.new) error) }
+    // The nodes gave answers to the batches before it, and no others.
+    ensures given { IfErr result (λ error. AreGivenUntil (N.registered nodes.old)
+        (IsSlotNode strategy.entry (λ s. picks s.now) slot_map.now
+        (names_of read_only.now (N.registered nodes.old)) commands.now)
+        commands.now order.now (N.asked nodes.old) (N.asked nodes.new)
+        (N.gave nodes.old) (N.gave nodes.new) error) }
     // Each fault has its cause.
     ensures fault { IfErr result (λ error.
         IsPipelineFault N.step N.serve (N.kept nodes.new) (N.may_refuse nodes.old)

@@ -68,25 +68,27 @@ pub fn drive_pipeline_retrying<N: BatchNodes>(
 ) -> Result<Vec<Result<Value, RedisError>>, PipelineError>
     // The pipeline was sent, and after it no more rounds than retries, each of just the parts that go
     // out again, to where they were sent on. There is no further round only where no part goes out
-    // again, or no retry is left. The replies are made of what the nodes gave. Where the nodes keep to the meaning, keyspace and answers are those
-    // of the parts in the order of the pipeline.
+    // again, or no retry is left. The replies are made of what the nodes gave. Where the nodes keep to
+    // the meaning, and no command of the pipeline answers an error of its own that reads as one of the
+    // three, keyspace and answers are those of the parts in the order of the pipeline.
     ensures served { IfOk result (λ replies.
         AreServedInRounds N.step N.serve (N.kept nodes.new) (N.may_refuse nodes.old)
         (N.registered nodes.old)
         (IsSlotNode strategy.entry (λ s. picks s.now) slot_map.now
         (names_of read_only.now (N.registered nodes.old)) commands.now)
         commands.now order.now retries (N.asked nodes.old) (N.asked nodes.new)
-        (N.state nodes.old) (N.state nodes.new) (N.gave nodes.old) (N.gave nodes.new)
+        (N.gave nodes.old) (N.gave nodes.new) (N.state nodes.old) (N.state nodes.new)
         (map answer_of replies.items)) }
     // Each fault has its cause: up to the batch that was not taken, or up to the last round, each batch
-    // was sent once, and no other was.
+    // was sent once, no other was, and the nodes gave the answers to just these.
     ensures fault { IfErr result (λ error.
         IsRoundsFault N.step N.serve (N.kept nodes.new) (N.may_refuse nodes.old)
         (N.registered nodes.old)
         (IsSlotNode strategy.entry (λ s. picks s.now) slot_map.now
         (names_of read_only.now (N.registered nodes.old)) commands.now)
         commands.now order.now retries (N.asked nodes.old) (N.asked nodes.new)
-        (N.state nodes.old) (N.state nodes.new) slot_map.now error) }
+        (N.gave nodes.old) (N.gave nodes.new) (N.state nodes.old) (N.state nodes.new) slot_map.now
+        error) }
     // Where the commands, the map or the order is at fault, nothing was sent.
     ensures untouched { IfErr result (λ error. IsBeforeSending error → nodes.new ≡ nodes.old) }
     ensures kept { N.kept nodes.new → N.kept nodes.old }
@@ -150,7 +152,8 @@ fn send_again<N: BatchNodes>(
         → GoesBehind ps round out
         → IsAgainFault N.step N.serve (N.kept nodes.new) (N.may_refuse nodes.old)
         (N.registered nodes.old) (map sent_args parts.now) ps round retries
-        (N.state nodes.old) (N.state nodes.new) (N.asked nodes.old) (N.asked nodes.new) error) }
+        (N.state nodes.old) (N.state nodes.new) (N.asked nodes.old) (N.asked nodes.new)
+        (N.gave nodes.old) (N.gave nodes.new) error) }
     ensures room { OnOk result (length answers.new.items ≡ length answers.old.items) }
     ensures kept { N.kept nodes.new → N.kept nodes.old }
     ensures may_refuse { (count : ℕ) (ending : Ending) → N.may_refuse nodes.new count ending

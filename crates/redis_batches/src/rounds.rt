@@ -112,7 +112,7 @@ pub(super) fn send_round<N: BatchNodes>(
         → IsNextFault N.step N.serve (N.kept nodes.new) (N.may_refuse nodes.old)
         (N.registered nodes.old) (map sent_args parts.now) ps round
         (N.state nodes.old) (N.state nodes.new) (N.asked nodes.old) (N.asked nodes.new)
-        error) }
+        (N.gave nodes.old) (N.gave nodes.new) error) }
     ensures room { OnOk result (length answers.new.items ≡ length answers.old.items) }
     ensures kept { N.kept nodes.new → N.kept nodes.old }
     ensures may_refuse { (count : ℕ) (ending : Ending) → N.may_refuse nodes.new count ending

@@ -1,11 +1,11 @@
-ghost use Rattle.std.specs.Prelude.{◌≡◌, ◌<◌, ◌↔◌, ◌∷◌, [], ℕ, List, Some, true, false, length, map, get_or, slice_get, slice_set, take, IfOk, IfErr, OnOk};
+ghost use Rattle.std.specs.Prelude.{◌≡◌, ◌<◌, ◌↔◌, ◌∷◌, [], ℕ, List, Some, true, false, length, map, get_or, slice_get, slice_set, take, IfOk, IfErr, OnOk, OnErr};
 ghost use Rattle.std.specs.List.{All};
 ghost use Rattle.redis_cluster.specs.Orders.{NamesOnce, in_order};
 ghost use Rattle.redis_cluster.specs.Trace.{Ending};
 ghost use Rattle.redis_batches.specs.Pipeline.{Answer, AreSlotsOf, Planned};
 ghost use Rattle.redis_batches.specs.Batched.{AreBatches, AreFor, IsRight, put_at};
 ghost use Rattle.redis_batches.specs.Taken.{answer_of, IsTaken, IsNotTaken};
-ghost use Rattle.redis_batches.specs.Driven.{Grew, answers_in, batch_at, node_at, IsServed, WasStopped, WereAsked, WereAskedUntil};
+ghost use Rattle.redis_batches.specs.Driven.{Grew, HaveAnswered, answers_in, batch_at, node_at, IsServed, WasStopped, WereAsked, WereAskedUntil};
 ghost use Rattle.redis_batches.specs.Plan.{IsPlan};
 
 use crate::nodes::BatchNodes;
@@ -81,6 +81,8 @@ pub fn send_batches<N: BatchNodes>(
     // These are the answers that the nodes gave, batch after batch.
     ensures gave { OnOk result (Grew (N.gave nodes.old) (N.gave nodes.new)
         (answers_in plan.old (map answer_of plan.new.answers) order.now)) }
+    ensures gave_until { IfErr result
+        (λ stop. HaveAnswered (N.gave nodes.old) (N.gave nodes.new) [] stop.answered) }
     ensures within { IfErr result (λ stop. stop.answered < length order.now) }
     ensures room { length plan.new.answers ≡ length plan.old.parts }
     ensures parts { plan.new.parts ≡ plan.old.parts }
@@ -128,6 +130,7 @@ fn send_one<N: BatchNodes>(
         [] (batch_at plan.now number) error) }
     ensures gave { IfOk result (λ answers. Grew (N.gave nodes.old) (N.gave nodes.new)
         (map answer_of answers.items ∷ [])) }
+    ensures gave_none { OnErr result (Grew (N.gave nodes.old) (N.gave nodes.new) []) }
     ensures kept { N.kept nodes.new → N.kept nodes.old }
     ensures may_refuse { (count : ℕ) (ending : Ending) → N.may_refuse nodes.new count ending
         ↔ N.may_refuse nodes.old count ending }

@@ -65,14 +65,35 @@ returns-in-Ok-replies_of-clause-made g c =
     let given = map answer_of answers in
     let replies = map answer_of c.in-Ok-replies_of.replies.items in
     record {
-      plan = c.in-Ok.plan;
-      sendable = c.in-Ok.ensures.sendable;
       given = given;
-      long = length-map answers answer_of ∙ c.send_batches.ensures.room ∙ ap (λ (b : Batches). length b.parts) c.into_parts-tasks.ensures.batches;
-      gave = subst (λ b. Grew (nodes.gave c.args.nodes.now) (nodes.gave c.send_batches.new.nodes) (answers_in b given c.args.order.now)) c.into_parts-tasks.ensures.batches c.in_default.ensures.gave;
+      all = record {
+        plan = c.in-Ok.plan;
+        sendable = c.in-Ok.ensures.sendable;
+        asked = subst (λ b. WereAsked (nodes.asked c.args.nodes.now) (nodes.asked c.send_batches.new.nodes) (map (batch_at b) c.args.order.now)) c.into_parts-tasks.ensures.batches c.in_default.ensures.asked;
+        long = length-map answers answer_of ∙ c.send_batches.ensures.room ∙ ap (λ (b : Batches). length b.parts) c.into_parts-tasks.ensures.batches;
+        gave = subst (λ b. Grew (nodes.gave c.args.nodes.now) (nodes.gave c.send_batches.new.nodes) (answers_in b given c.args.order.now)) c.into_parts-tasks.ensures.batches c.in_default.ensures.gave;
+      };
       replies_are = subst (λ splits. AreRepliesTo splits given replies) (ap (map split_in) c.as_slice.ensures.value ∙ c.into_parts-tasks.ensures.splits)
           (subst (λ all. AreRepliesTo (map split_in c.as_slice.result.now) (map answer_of all) replies) c.into_answers.ensures.answers c.in-Ok-replies_of.ensures.replies);
     }
+
+pub returns-clause-given : goal.returns-clause-given
+returns-clause-given g c =
+    let nodes = g.N.BatchNodes in
+    let answers = c.send_batches.new.plan.answers in
+    let given = map answer_of answers in (
+      given,
+      record {
+        plan = c.in-Ok.plan;
+        sendable = c.in-Ok.ensures.sendable;
+        asked = subst (λ b. WereAsked (nodes.asked c.args.nodes.now) (nodes.asked c.send_batches.new.nodes) (map (batch_at b) c.args.order.now)) c.into_parts-tasks.ensures.batches c.in_default.ensures.asked;
+        long = length-map answers answer_of ∙ c.send_batches.ensures.room ∙ ap (λ (b : Batches). length b.parts) c.into_parts-tasks.ensures.batches;
+        gave = subst (λ b. Grew (nodes.gave c.args.nodes.now) (nodes.gave c.send_batches.new.nodes) (answers_in b given c.args.order.now)) c.into_parts-tasks.ensures.batches c.in_default.ensures.gave;
+      },
+    )
+
+pub returns-in-Err-send_batches-clause-given : goal.returns-in-Err-send_batches-clause-given
+returns-in-Err-send_batches-clause-given g c = c.in-Err-send_batches.ensures.gave_until
 
 pub returns-clause-fault : goal.returns-clause-fault
 returns-clause-fault g c =

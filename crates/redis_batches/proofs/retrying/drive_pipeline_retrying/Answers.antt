@@ -42,6 +42,7 @@ returns-in-Err-send_batches-clause-fault g c =
           (nodes.state c.args.nodes.now) (nodes.state c.send_batches.new.nodes) c.in-Ok.plan c.into_placed-tasks.result.1 c.into_placed-tasks.ensures.batches c.in-Ok.ensures.sendable stop
           c.in-Err-send_batches.ensures.within c.in-Err-send_batches.ensures.stopped,
       (c.in-Ok.plan, c.in-Ok.ensures.sendable, asked),
+      c.in-Err-send_batches.ensures.gave_until,
     )
 
 pub returns-in_default-all_slots-clause-fault : goal.returns-in_default-all_slots-clause-fault
@@ -63,7 +64,10 @@ returns-in_default-all_slots-clause-fault g c =
     retried.were_sent nodes.step nodes.serve may registered is_node commands order retries old between plan sendable kept_then given served kept_then (λ keep. keep) between
     (nodes.asked c.args.nodes.now) (nodes.asked c.send_batches.new.nodes) (nodes.asked c.send_batches.new.nodes)
     (subst (λ b. WereAsked (nodes.asked c.args.nodes.now) (nodes.asked c.send_batches.new.nodes) (map (batch_at b) order)) c.into_placed-tasks.ensures.batches c.in_default.ensures.asked)
-    [] (omega arith) refl (asked_none (nodes.asked c.send_batches.new.nodes))
+    (length-map c.send_batches.new.plan.answers answer_of ∙ c.send_batches.ensures.room ∙ ap (λ (b : Batches). length b.parts) c.into_placed-tasks.ensures.batches)
+    (nodes.gave c.args.nodes.now) (nodes.gave c.send_batches.new.nodes) (nodes.gave c.send_batches.new.nodes)
+    (subst (λ b. Grew (nodes.gave c.args.nodes.now) (nodes.gave c.send_batches.new.nodes) (answers_in b given order)) c.into_placed-tasks.ensures.batches c.in_default.ensures.gave)
+    [] (omega arith) refl (asked_none (nodes.asked c.send_batches.new.nodes)) (asked_none (nodes.gave c.send_batches.new.nodes))
 
 pub first_parts-requires-clause-targets : goal.first_parts-requires-clause-targets
 first_parts-requires-clause-targets g c =
@@ -128,7 +132,10 @@ returns-in_default-first_parts-clause-fault g c =
     retried.were_sent nodes.step nodes.serve may registered is_node commands order retries old between plan sendable kept_then given served kept_then (λ keep. keep) between
     (nodes.asked c.args.nodes.now) (nodes.asked c.send_batches.new.nodes) (nodes.asked c.send_batches.new.nodes)
     (subst (λ b. WereAsked (nodes.asked c.args.nodes.now) (nodes.asked c.send_batches.new.nodes) (map (batch_at b) order)) c.into_placed-tasks.ensures.batches c.in_default.ensures.asked)
-    [] (omega arith) refl (asked_none (nodes.asked c.send_batches.new.nodes))
+    (length-map c.send_batches.new.plan.answers answer_of ∙ c.send_batches.ensures.room ∙ ap (λ (b : Batches). length b.parts) c.into_placed-tasks.ensures.batches)
+    (nodes.gave c.args.nodes.now) (nodes.gave c.send_batches.new.nodes) (nodes.gave c.send_batches.new.nodes)
+    (subst (λ b. Grew (nodes.gave c.args.nodes.now) (nodes.gave c.send_batches.new.nodes) (answers_in b given order)) c.into_placed-tasks.ensures.batches c.in_default.ensures.gave)
+    [] (omega arith) refl (asked_none (nodes.asked c.send_batches.new.nodes)) (asked_none (nodes.gave c.send_batches.new.nodes))
 
 pub send_again-requires-clause-parts : goal.send_again-requires-clause-parts
 send_again-requires-clause-parts g c =
@@ -209,13 +216,17 @@ returns-in-Err-send_again-clause-fault g c =
     let asked_old = nodes.asked c.args.nodes.now in
     let asked_between = nodes.asked c.send_batches.new.nodes in
     let asked_new = nodes.asked c.send_again.new.nodes in
-    let named : IsAgainFault nodes.step nodes.serve kept (nodes.may_refuse c.send_batches.new.nodes) registered plan.batches.parts ps first retries between new asked_between asked_new error =
-    subst (λ a. IsAgainFault nodes.step nodes.serve kept (nodes.may_refuse c.send_batches.new.nodes) registered a ps first retries between new asked_between asked_new error) arguments_are
-    (subst (λ r. IsAgainFault nodes.step nodes.serve kept (nodes.may_refuse c.send_batches.new.nodes) r arguments ps first retries between new asked_between asked_new error) c.send_batches.ensures.registered
+    let gave_old = nodes.gave c.args.nodes.now in
+    let gave_between = nodes.gave c.send_batches.new.nodes in
+    let gave_new = nodes.gave c.send_again.new.nodes in
+    let named : IsAgainFault nodes.step nodes.serve kept (nodes.may_refuse c.send_batches.new.nodes) registered plan.batches.parts ps first retries between new asked_between asked_new gave_between gave_new error =
+    subst (λ a. IsAgainFault nodes.step nodes.serve kept (nodes.may_refuse c.send_batches.new.nodes) registered a ps first retries between new asked_between asked_new gave_between gave_new error) arguments_are
+    (subst (λ r. IsAgainFault nodes.step nodes.serve kept (nodes.may_refuse c.send_batches.new.nodes) r arguments ps first retries between new asked_between asked_new gave_between gave_new error) c.send_batches.ensures.registered
     (c.in-Err-send_again.ensures.fault ps first later gone)) in
     retried.later_fault nodes.step nodes.serve may registered is_node commands order retries old between plan sendable kept_then given served kept c.send_again.ensures.kept new asked_old asked_between asked_new
-    (subst (λ b. WereAsked asked_old asked_between (map (batch_at b) order)) c.into_placed-tasks.ensures.batches c.in_default.ensures.asked) c.args.slot_map.now error
-    (chain.again_fault_wider nodes.step nodes.serve registered plan.batches.parts kept (nodes.may_refuse c.send_batches.new.nodes) may more ps first retries between new asked_between asked_new error named)
+    (subst (λ b. WereAsked asked_old asked_between (map (batch_at b) order)) c.into_placed-tasks.ensures.batches c.in_default.ensures.asked) (length-map c.send_batches.new.plan.answers answer_of ∙ room) gave_old gave_between gave_new
+    (subst (λ b. Grew gave_old gave_between (answers_in b given order)) c.into_placed-tasks.ensures.batches c.in_default.ensures.gave) c.args.slot_map.now error
+    (chain.again_fault_wider nodes.step nodes.serve registered plan.batches.parts kept (nodes.may_refuse c.send_batches.new.nodes) may more ps first retries between new asked_between asked_new gave_between gave_new error named)
 
 pub returns-in-Err-send_again-clause-untouched : goal.returns-in-Err-send_again-clause-untouched
 returns-in-Err-send_again-clause-untouched g c = λ early.
@@ -253,7 +264,7 @@ returns-in-Err-send_again-clause-untouched g c = λ early.
     let gone = retried.first_behind nodes.step nodes.serve may registered is_node commands order retries old between plan sendable kept_then given served c.as_slice-2.result.now targets out slots_are targets_are
     (retried.answers_many nodes.step nodes.serve may registered is_node commands order retries old between plan sendable c.send_batches.new.plan.answers room) found in
     absurd (chain.not_before nodes.step nodes.serve (nodes.registered c.send_batches.new.nodes) arguments (nodes.kept c.send_again.new.nodes) (nodes.may_refuse c.send_batches.new.nodes) ps first retries between (nodes.state c.send_again.new.nodes)
-    (nodes.asked c.send_batches.new.nodes) (nodes.asked c.send_again.new.nodes) c.in-Err-send_again.error (c.in-Err-send_again.ensures.fault ps first later gone) early)
+    (nodes.asked c.send_batches.new.nodes) (nodes.asked c.send_again.new.nodes) (nodes.gave c.send_batches.new.nodes) (nodes.gave c.send_again.new.nodes) c.in-Err-send_again.error (c.in-Err-send_again.ensures.fault ps first later gone) early)
 
 pub returns-in-Ok-replies_of-clause-served : goal.returns-in-Ok-replies_of-clause-served
 returns-in-Ok-replies_of-clause-served g c =
@@ -360,4 +371,6 @@ returns-clause-fault g c =
     retried.were_sent nodes.step nodes.serve may registered is_node commands order retries old between plan sendable kept_then given served kept c.send_again.ensures.kept new
     (nodes.asked c.args.nodes.now) (nodes.asked c.send_batches.new.nodes) (nodes.asked c.send_again.new.nodes)
     (subst (λ b. WereAsked (nodes.asked c.args.nodes.now) (nodes.asked c.send_batches.new.nodes) (map (batch_at b) order)) c.into_placed-tasks.ensures.batches c.in_default.ensures.asked)
-    wide.rounds wide.few wide.again wide.asked
+    (length-map c.send_batches.new.plan.answers answer_of ∙ room) (nodes.gave c.args.nodes.now) (nodes.gave c.send_batches.new.nodes) (nodes.gave c.send_again.new.nodes)
+    (subst (λ b. Grew (nodes.gave c.args.nodes.now) (nodes.gave c.send_batches.new.nodes) (answers_in b given order)) c.into_placed-tasks.ensures.batches c.in_default.ensures.gave)
+    wide.rounds wide.few wide.again wide.asked wide.gave

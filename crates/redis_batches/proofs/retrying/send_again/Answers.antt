@@ -44,9 +44,11 @@ returns-in-Err-clause-fault g c = λ ps round of gone.
     let own : ArePartsOf (nodes.registered c.loop.nodes) ps arguments c.args.slots.now = subst (λ r. ArePartsOf r ps arguments c.args.slots.now) (sym inv.registered) of in
     let asked_now = nodes.asked c.loop.nodes in
     let asked_new = nodes.asked c.send_round.new.nodes in
-    let named : IsNextFault nodes.step nodes.serve kept (nodes.may_refuse c.loop.nodes) registered arguments ps latest now new asked_now asked_new c.in-Err.error =
-    subst (λ r. IsNextFault nodes.step nodes.serve kept (nodes.may_refuse c.loop.nodes) r arguments ps latest now new asked_now asked_new c.in-Err.error) inv.registered (c.in-Err.ensures.fault ps latest own so_far.behind) in
-    let wide = chain.fault_wider nodes.step nodes.serve registered arguments kept (nodes.may_refuse c.loop.nodes) (nodes.may_refuse c.args.nodes.now) (λ count ending. (inv.may_refuse count ending).0) ps latest now new asked_now asked_new c.in-Err.error named in
+    let gave_now = nodes.gave c.loop.nodes in
+    let gave_new = nodes.gave c.send_round.new.nodes in
+    let named : IsNextFault nodes.step nodes.serve kept (nodes.may_refuse c.loop.nodes) registered arguments ps latest now new asked_now asked_new gave_now gave_new c.in-Err.error =
+    subst (λ r. IsNextFault nodes.step nodes.serve kept (nodes.may_refuse c.loop.nodes) r arguments ps latest now new asked_now asked_new gave_now gave_new c.in-Err.error) inv.registered (c.in-Err.ensures.fault ps latest own so_far.behind) in
+    let wide = chain.fault_wider nodes.step nodes.serve registered arguments kept (nodes.may_refuse c.loop.nodes) (nodes.may_refuse c.args.nodes.now) (λ count ending. (inv.may_refuse count ending).0) ps latest now new asked_now asked_new gave_now gave_new c.in-Err.error named in
     chain.fault_after nodes.step nodes.serve (nodes.may_refuse c.args.nodes.now) registered arguments ps round (nodes.state c.args.nodes.now) (nodes.asked c.args.nodes.now) (nodes.gave c.args.nodes.now) c.args.answers.now.items
     (nodes.kept c.loop.nodes) kept c.send_round.ensures.kept c.loop.counter now new (nodes.asked c.loop.nodes) (nodes.asked c.send_round.new.nodes) (nodes.gave c.loop.nodes) (nodes.gave c.send_round.new.nodes) c.loop.answers.items c.send_round.new.answers.items c.loop.out c.loop.out so_far
     c.args.retries (omega (arith, c.loop-test.true)) c.in-Err.error wide

@@ -55,7 +55,7 @@ returns-in-Err-clause-fault g c = λ ps round of gone.
     let own = steps.planned_slots registered ps arguments slots of round out gone ns same plan whole targets targets_are by_node parts in
     steps.stopped registered ps arguments slots of round out gone ns same plan whole targets targets_are by_node parts nodes.step nodes.serve (nodes.kept c.send_batches.new.nodes) (nodes.may_refuse c.args.nodes.now)
     c.len.result c.as_slice-2.result.now (c.as_slice-2.ensures.value ∙ c.in-Ok-first_numbers.ensures) c.len.ensures.len (nodes.state c.args.nodes.now) (nodes.state c.send_batches.new.nodes)
-    (nodes.asked c.args.nodes.now) (nodes.asked c.send_batches.new.nodes) c.in-Err.stop (c.in-Err.ensures.stopped _ own batches) c.in-Err.ensures.asked_until
+    (nodes.asked c.args.nodes.now) (nodes.asked c.send_batches.new.nodes) (nodes.gave c.args.nodes.now) (nodes.gave c.send_batches.new.nodes) c.in-Err.stop (c.in-Err.ensures.stopped _ own batches) c.in-Err.ensures.asked_until c.in-Err.ensures.gave_until
 
 pub next_parts-requires-clause-within : goal.next_parts-requires-clause-within
 next_parts-requires-clause-within g c =
@@ -82,7 +82,8 @@ returns-in_default-next_parts-clause-fault g c = λ ps round of gone.
     inr (steps.served registered ps arguments slots of round out gone ns same plan whole targets targets_are by_node parts nodes.step nodes.serve (nodes.kept c.send_batches.new.nodes) (nodes.may_refuse c.args.nodes.now)
     c.len.result c.as_slice-2.result.now (c.as_slice-2.ensures.value ∙ c.in-Ok-first_numbers.ensures) c.len.ensures.len (nodes.state c.args.nodes.now) (nodes.state c.send_batches.new.nodes)
     (map answer_of c.send_batches.new.plan.answers) (c.in_default-send_batches.ensures.served _ own batches)
-    (length-map c.send_batches.new.plan.answers answer_of ∙ c.send_batches.ensures.room) (nodes.asked c.args.nodes.now) (nodes.asked c.send_batches.new.nodes) c.in_default-send_batches.ensures.asked)
+    (length-map c.send_batches.new.plan.answers answer_of ∙ c.send_batches.ensures.room) (nodes.asked c.args.nodes.now) (nodes.asked c.send_batches.new.nodes) c.in_default-send_batches.ensures.asked
+    (nodes.gave c.args.nodes.now) (nodes.gave c.send_batches.new.nodes) c.in_default-send_batches.ensures.gave)
 
 pub put_answers-requires-clause-within : goal.put_answers-requires-clause-within
 put_answers-requires-clause-within g c =

@@ -1,6 +1,6 @@
 use Rattle.std.proofs.Common.{◌≡◌, ◌<◌, ◌∙◌, ℕ, ◌+◌, List, [], ◌∷◌, All, false, true, Some, refl, sym, ap, subst, arith, cond, map, length, get_or, take, take_all}
 use Rattle.std.specs.Prelude.{nat_eq, slice_get, slice_set}
-use Rattle.std.proofs.lemmas.List.{length-map}
+use Rattle.std.proofs.lemmas.List.{append-nil, length-map, length-take-le}
 use Rattle.resp_core.proofs.Cases.{by_test}
 use Rattle.cluster_slots.specs.Address.{Address}
 use Rattle.redis_cluster.specs.Orders.{NamesOnce, in_order, times}
@@ -234,6 +234,21 @@ returns-clause-gave g c =
     let nodes = g.N.BatchNodes in
     subst (λ o. Grew (nodes.gave c.args.nodes.now) (nodes.gave c.loop-number.nodes) (answers_in c.args.plan.now (map answer_of c.loop-number.plan.answers) o))
     (take_all c.loop-number.number-index c.args.order.now (omega (arith, c.loop-number-test.false))) c.loop-number.invariant.given
+
+pub returns-in-Err-clause-gave_until : goal.returns-in-Err-clause-gave_until
+returns-in-Err-clause-gave_until g c =
+    let nodes = g.N.BatchNodes in
+    let order = c.args.order.now in
+    let i = c.loop-number.number-index in
+    let inv = c.loop-number.invariant in
+    let these = answers_in c.args.plan.now (map answer_of c.loop-number.plan.answers) (take i order) in
+    let old = nodes.gave c.args.nodes.now in
+    let new = nodes.gave c.send_one.new.nodes in
+    record {
+      more = these;
+      each = length-map (take i order) (λ k. in_order (map answer_of c.loop-number.plan.answers) (get_or c.args.plan.now.places k [])) ∙ length-take-le i order (omega (arith, c.loop-number-test.true)) ∙ sym inv.answered;
+      gave = subst (Grew old new) (append-nil these) (asked_more old (nodes.gave c.loop-number.nodes) new these [] inv.given c.in-Err.ensures.gave_none);
+    }
 
 pub returns-in-Err-clause-within : goal.returns-in-Err-clause-within
 returns-in-Err-clause-within g c = omega (arith, c.loop-number.invariant.answered, c.loop-number-test.true)

@@ -6,7 +6,7 @@ use Rattle.redis_cluster.specs.Orders.{in_order}
 use Rattle.redis_batches.specs.Taken.{answer_of, IsNotTaken, IsTaken, batch_for}
 use Rattle.redis_batches.specs.Driven.{WereAsked, batch_at, node_at}
 use Rattle.redis_batches.specs.Plan.{Batches, IsPlan}
-use Rattle.redis_batches.proofs.Asked.{asked_none, if_err_always, on_ok_always}
+use Rattle.redis_batches.proofs.Asked.{asked_none, if_err_always, none_more, on_ok_always}
 use Rattle.redis_batches.proofs.Entries.{get_there}
 use Rattle.redis_batches.proofs.send.send_one.Goals as goal
 
@@ -105,3 +105,11 @@ returns-in-Err-clause-untaken g c = λ places at. inr (refl, refl)
 
 pub returns-in-Err-clause-asked_until : goal.returns-in-Err-clause-asked_until
 returns-in-Err-clause-asked_until g c = inr (refl, asked_none (g.N.BatchNodes.asked c.args.nodes.now))
+
+pub returns-clause-gave_none : goal.returns-clause-gave_none
+returns-clause-gave_none g c =
+    let nodes = g.N.BatchNodes in
+    none_more c.send_batch.result (nodes.gave c.args.nodes.now) (nodes.gave c.send_batch.new.self) c.send_batch.ensures.gave_none
+
+pub returns-in-Err-clause-gave_none : goal.returns-in-Err-clause-gave_none
+returns-in-Err-clause-gave_none g c = asked_none (g.N.BatchNodes.gave c.args.nodes.now)
