@@ -1,5 +1,6 @@
 -- One command more of a batch.
-use Rattle.std.proofs.Common.{◌≡◌, ℕ, ◌+◌, zero, suc, List, [], ◌∷◌, ◌++◌, Option, Some, refl, sym, ap, ◌∙◌, subst, length, map, arith, append_assoc, append-nil}
+use Rattle.std.proofs.Common.{◌≡◌, ℕ, ◌+◌, zero, suc, List, [], ◌∷◌, ◌++◌, Option, Some, Err, refl, sym, ap, ◌∙◌, subst, length, map, arith, append_assoc, append-nil}
+use Rattle.std.specs.Prelude.{slice_get}
 use Rattle.std.specs.List.{zip}
 use Rattle.std.proofs.lemmas.List.{map-append, length-append, length-map}
 use Rattle.std.proofs.lemmas.Option.{same_Some}
@@ -11,7 +12,7 @@ use Rattle.redis_cluster.specs.Unsplit.{Step, Keyspace}
 use Rattle.redis_cluster.specs.State.{State}
 use Rattle.redis_batches.specs.Turns.{all_after, answers}
 use Rattle.redis_batches.specs.Pipeline.{Answer, Serve, Task, run_ended}
-use Rattle.redis_batches.specs.Taken.{AreAllowed, AreServed, IsTaken, batch_entries, ending_by, task_of}
+use Rattle.redis_batches.specs.Taken.{AnswersRefusals, AreAllowed, AreServed, IsTaken, batch_entries, ending_by, task_of}
 use Rattle.redis_batches.proofs.Entries.{allowed_append}
 use Rattle.redis_batches.proofs.Whole.{all_after-append, answers-append}
 
@@ -64,6 +65,14 @@ module _ (node : Address) (xs ys : List (List (List ℕ))) (ends others : List (
   entries_long : length (batch_entries node xs ends) ≡ length ends
   entries_long = length-map (zip xs ends) (λ x. entry node x.0 (ending_by x.1)) ∙ zip_long xs ends long
 
+-- errors of some, and of those after them
+errors_append : (ends others : List (Option ErrorParts)) (given more : List Answer) → length ends ≡ length given → AnswersRefusals ends given → AnswersRefusals others more → AnswersRefusals (ends ++ others) (given ++ more)
+errors_append [] others [] more long first second i error at = second i error at
+errors_append [] others (a ∷ given) more long first second i error at = absurd (omega (arith, long))
+errors_append (e ∷ ends) others [] more long first second i error at = absurd (omega (arith, long))
+errors_append (e ∷ ends) others (a ∷ given) more long first second zero error at = first zero error at
+errors_append (e ∷ ends) others (a ∷ given) more long first second (suc i) error at = errors_append ends others given more (omega (arith, long)) (λ j. first (suc j)) second i error at
+
 module _ {C : Type 0} (step : Step C) (serve : Serve C) where
   -- commands that were served, and then others
   served_append : (front back : List Task) (ends others : List (Option ErrorParts)) (old between new : Keyspace C) (given more : List Answer) → length ends ≡ length front
@@ -89,6 +98,7 @@ module _ {C : Type 0} (step : Step C) (serve : Serve C) where
       long = refl;
       trace = sym (append-nil now.trace);
       allowed = λ i error at. absurd (cc at);
+      errors = λ i error at. absurd (cc at);
       served = λ k tasks are. no_tasks tasks are;
     }
       where
@@ -97,10 +107,10 @@ module _ {C : Type 0} (step : Step C) (serve : Serve C) where
         no_tasks (t ∷ tasks) are = absurd (cc are)
 
     -- commands that were taken, and then others
-    pub taken_append : (xs ys : List (List (List ℕ))) (old between new : State C) (given more : List Answer)
+    pub taken_append : (xs ys : List (List (List ℕ))) (old between new : State C) (given more : List Answer) → length given ≡ length xs
         → IsTaken step serve registered kept may_refuse node xs old between given → IsTaken step serve registered kept may_refuse node ys between new more
         → IsTaken step serve registered kept may_refuse node (xs ++ ys) old new (given ++ more)
-    taken_append xs ys old between new given more one other =
+    taken_append xs ys old between new given more many one other =
         let first : length (batch_entries node xs one.ends) ≡ length one.ends = entries_long node xs ys one.ends other.ends one.long in
         let place : length between.trace ≡ length old.trace + length one.ends = ap length one.trace ∙ length-append old.trace (batch_entries node xs one.ends) ∙ ap (λ n. length old.trace + n) first in
         record {
@@ -111,6 +121,7 @@ module _ {C : Type 0} (step : Step C) (serve : Serve C) where
               ∙ append_assoc old.trace (batch_entries node xs one.ends) (batch_entries node ys other.ends)
               ∙ ap (λ l. old.trace ++ l) (sym (entries_append node xs ys one.ends other.ends one.long));
           allowed = allowed_append may_refuse (length old.trace) one.ends other.ends one.allowed (subst (λ n. AreAllowed may_refuse n other.ends) place other.allowed);
+          errors = errors_append one.ends other.ends given more (one.long ∙ sym many) one.errors other.errors;
           served = λ k tasks are.
               let two = two_tasks registered xs ys tasks are in
               let long : length one.ends ≡ length two.front = one.long ∙ sym (tasks_long registered xs two.front two.front_are) in
@@ -122,19 +133,25 @@ module _ {C : Type 0} (step : Step C) (serve : Serve C) where
     pub taken_one : (args : List (List ℕ)) (end : Option ErrorParts) (old new : State C) (answer : Answer)
         → new.trace ≡ old.trace ++ entry node args (ending_by end) ∷ []
         → ((error : ErrorParts) → end ≡ Some error → may_refuse (length old.trace) (refused error))
+        → ((error : ErrorParts) → end ≡ Some error → answer ≡ Err error)
         → ((task : Task) → task_of registered args ≡ Some task → (new.keyspace ≡ (run_ended step serve (task, end) old.keyspace).keys) × (answer ≡ (run_ended step serve (task, end) old.keyspace).reply))
         → IsTaken step serve registered kept may_refuse node (args ∷ []) old new (answer ∷ [])
-    taken_one args end old new answer grew may does = record {
+    taken_one args end old new answer grew may tells does = record {
       ends = end ∷ [];
       long = refl;
       trace = grew;
       allowed = at_first;
+      errors = its_error;
       served = λ k tasks are. one_task tasks are;
     }
       where
         at_first : AreAllowed may_refuse (length old.trace) (end ∷ [])
         at_first zero error is = subst (λ n. may_refuse n (refused error)) (omega arith) (may error (same_Some end (Some error) is))
         at_first (suc i) error is = absurd (cc is)
+
+        its_error : AnswersRefusals (end ∷ []) (answer ∷ [])
+        its_error zero error is = ap Some (tells error (same_Some end (Some error) is))
+        its_error (suc i) error is = absurd (cc is)
 
         one_task : (tasks : List Task) → task_of registered args ∷ [] ≡ map Some tasks → AreServed step serve tasks (end ∷ []) old.keyspace new.keyspace (answer ∷ [])
         one_task [] are = absurd (cc are)
@@ -146,12 +163,12 @@ module _ {C : Type 0} (step : Step C) (serve : Serve C) where
 -- One command more was taken, by nodes that have the same names and the same plan.
 pub taken_next : {C : Type 0} (step : Step C) (serve : Serve C) (kept : Type 0) (registered then_registered : Registrations) (may then_may : ℕ → Ending → Type 0) (node : Address)
     (front all : List (List (List ℕ))) (args : List (List ℕ)) (old between new : State C) (given all_given : List Answer) (answer : Answer)
-    → then_registered ≡ registered → then_may ≡ may → all ≡ front ++ args ∷ [] → all_given ≡ given ++ answer ∷ []
+    → length given ≡ length front → then_registered ≡ registered → then_may ≡ may → all ≡ front ++ args ∷ [] → all_given ≡ given ++ answer ∷ []
     → IsTaken step serve registered kept may node front old between given → IsTaken step serve then_registered kept then_may node (args ∷ []) between new (answer ∷ [])
     → IsTaken step serve registered kept may node all old new all_given
-taken_next step serve kept registered then_registered may then_may node front all args old between new given all_given answer names plan all_is given_is so_far one =
+taken_next step serve kept registered then_registered may then_may node front all args old between new given all_given answer many names plan all_is given_is so_far one =
     let same_names = subst (λ r. IsTaken step serve r kept then_may node (args ∷ []) between new (answer ∷ [])) names one in
     let same_plan = subst (λ m. IsTaken step serve registered kept m node (args ∷ []) between new (answer ∷ [])) plan same_names in
     subst (λ l. IsTaken step serve registered kept may node l old new all_given) (sym all_is)
     (subst (IsTaken step serve registered kept may node (front ++ args ∷ []) old new) (sym given_is)
-    (taken_append step serve registered kept may node front (args ∷ []) old between new given (answer ∷ []) so_far same_plan))
+    (taken_append step serve registered kept may node front (args ∷ []) old between new given (answer ∷ []) many so_far same_plan))

@@ -1,4 +1,5 @@
-ghost use Rattle.std.specs.Prelude.{◌≡◌, Some, IfOk};
+ghost use Rattle.std.specs.Prelude.{◌≡◌, Some, Err, IfOk};
+ghost use Rattle.resp_core.specs.ErrorParts.{ErrorParts};
 ghost use Rattle.redis_batches.specs.Pipeline.{Task, run, run_ended};
 ghost use Rattle.redis_batches.specs.Taken.{task_of};
 ghost use Rattle.memory_nodes.specs.Nodes.{keyspace_in, registered_in};
@@ -25,6 +26,9 @@ pub(super) fn answer_or_refuse(
     ensures done { IfOk result (λ answer. (task : Task)
         → task_of (registered_in store.old) cmd.now ≡ Some task
         → IsDone (run_ended step serve (task, refusal)) (keyspace_in store.old) (keyspace_in store.new) answer) }
+    // Whatever the command means, a refusal is answered by its error.
+    ensures refused { IfOk result (λ answer. (error : ErrorParts) → refusal ≡ Some error
+        → answer ≡ Err error) }
     ensures registered { registered_in store.new ≡ registered_in store.old }
 {
     match refusal {

@@ -72,6 +72,7 @@ module _ {C : Type 0} (step : Step C) (serve : Serve C) (registered : Registrati
       refusals = is.served.refusals;
       trace = is.served.trace;
       allowed = λ i error at. more _ (refused error) (is.served.allowed i error at);
+      errors = is.served.errors;
       keyspace = λ keep. is.served.keyspace (before keep);
       answers_are = λ keep. is.served.answers_are (before keep);
     };

@@ -1,5 +1,5 @@
 -- The answers that nodes gave, at the places of the parts.
-use Rattle.std.proofs.Common.{◌≡◌, ◌<◌, ◌≤◌, ◌∙◌, ℕ, ◌+◌, List, [], ◌∷◌, ◌++◌, true, false, All, refl, sym, ap, arith, length, map, get_or, take}
+use Rattle.std.proofs.Common.{◌≡◌, ◌<◌, ◌≤◌, ◌∙◌, ℕ, ◌+◌, zero, suc, List, [], ◌∷◌, ◌++◌, true, false, All, refl, sym, ap, arith, length, map, get_or, take}
 use Rattle.std.specs.Prelude.{nat_eq, slice_get, slice_set}
 use Rattle.std.specs.List.{enumerate_from}
 use Rattle.std.specs.Option.{option_to_list}
@@ -38,7 +38,7 @@ module _ {X : Type 0} where
   length-put_at all (p ∷ places) (x ∷ xs) = length-set (put_at all places xs) p x ∙ length-put_at all places xs
 
   -- at other places nothing changes
-  put_there : (all : List X) (places : List ℕ) (xs : List X) (j : ℕ) → All (λ p. nat_eq j p ≡ false) places → slice_get (put_at all places xs) j ≡ slice_get all j
+  pub put_there : (all : List X) (places : List ℕ) (xs : List X) (j : ℕ) → All (λ p. nat_eq j p ≡ false) places → slice_get (put_at all places xs) j ≡ slice_get all j
   put_there all [] xs j other = refl
   put_there all (p ∷ places) [] j other = refl
   put_there all (p ∷ places) (x ∷ xs) j other =
@@ -67,6 +67,17 @@ module _ {X : Type 0} where
       let room : p < length rest = omega (arith, All-head (λ q. q < length all) p places within, length-put_at all places xs) in
       ap (λ o. option_to_list o ++ in_order (slice_set rest p x) places) (set_here rest p x room)
       ∙ ap (λ l. x ∷ l) (set_others rest p x places apart.0 ∙ own_stand all places xs apart.1 (All-tail (λ q. q < length all) p places within) (omega (arith, long)))
+
+  -- each of them at its own
+  put_here : (all : List X) (places : List ℕ) (xs : List X) → AreDistinct places → All (λ p. p < length all) places → length xs ≡ length places → (i d : ℕ) → i < length places
+      → slice_get (put_at all places xs) (get_or places i d) ≡ slice_get xs i
+  put_here all [] xs apart within long i d inside = absurd (omega (arith, inside))
+  put_here all (p ∷ places) [] apart within long i d inside = absurd (omega (arith, long))
+  put_here all (p ∷ places) (x ∷ xs) apart within long zero d inside =
+      set_here (put_at all places xs) p x (omega (arith, All-head (λ q. q < length all) p places within, length-put_at all places xs))
+  put_here all (p ∷ places) (x ∷ xs) apart within long (suc i) d inside =
+      set_there (put_at all places xs) p (get_or places i d) x (apart.0 i d (omega (arith, inside)))
+      ∙ put_here all places xs apart.1 (All-tail (λ q. q < length all) p places within) (omega (arith, long)) i d (omega (arith, inside))
 
 -- numbers that are counted from one on
 from_on : (n : ℕ) (qs : List Part) → All (λ (x : Numbered). n ≤ x.0) (enumerate_from n qs)
@@ -116,8 +127,13 @@ module _ (batch : ℕ → ℕ) (ps : List Planned) where
   batch_stands all k xs within long =
       own_stand all (numbers_in batch ps k) xs (distinct_numbers (of_slot (λ x. batch (slot_of x)) k (numbered ps)) (numbers_apart (λ x. nat_eq (batch (slot_of x)) k) 0 (pieces ps))) within long
 
+  pub batch_here : {X : Type 0} (all : List X) (k : ℕ) (xs : List X) → All (λ p. p < length all) (numbers_in batch ps k) → length xs ≡ length (numbers_in batch ps k) → (i d : ℕ) → i < length (numbers_in batch ps k)
+      → slice_get (put_at all (numbers_in batch ps k) xs) (get_or (numbers_in batch ps k) i d) ≡ slice_get xs i
+  batch_here all k xs within long =
+      put_here all (numbers_in batch ps k) xs (distinct_numbers (of_slot (λ x. batch (slot_of x)) k (numbered ps)) (numbers_apart (λ x. nat_eq (batch (slot_of x)) k) 0 (pieces ps))) within long
+
 -- what was sent before is another batch
-not_again : (k : ℕ) (js : List ℕ) → times k js ≡ 0 → All (λ j. nat_eq j k ≡ false) js
+pub not_again : (k : ℕ) (js : List ℕ) → times k js ≡ 0 → All (λ j. nat_eq j k ≡ false) js
 not_again k [] none = All-nil (λ j. nat_eq j k ≡ false)
 not_again k (j ∷ js) none =
     by_test (nat_eq k j)

@@ -23,6 +23,7 @@ pub mod Fewest
 pub mod Planning
 pub mod Asked
 pub mod Given
+pub mod Errors
 pub mod Untaken
 pub mod Counting
 pub mod Primaries

@@ -126,6 +126,7 @@ module _ {C : Type 0} (step : Step C) (serve : Serve C) (may : ℕ → Ending �
           refusals = served.refusals;
           trace = served.trace;
           allowed = served.allowed;
+          errors = served.errors;
           keyspace = λ keep. served.keyspace (earlier keep);
           answers_are = λ keep. served.answers_are (earlier keep);
         };

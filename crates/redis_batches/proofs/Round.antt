@@ -23,7 +23,9 @@ use Rattle.redis_cluster.specs.Trace.{Entry, Ending}
 use Rattle.redis_cluster.specs.State.{State}
 use Rattle.cluster_slots.specs.Address.{Address}
 use Rattle.redis_batches.proofs.Entries.{own_entries, entries_agree, allowed_append, map_agree_on}
-use Rattle.redis_batches.specs.Batched.{numbers_in, part_entry, AreBatches, IsRight, AreFor}
+use Rattle.redis_batches.specs.Batched.{numbers_in, part_entry, put_at, AreBatches, IsRight, AreFor}
+use Rattle.redis_batches.proofs.Errors.{HasError, errors_at_end, errors_of_batch, errors_stay}
+use Rattle.redis_batches.proofs.Given.{not_again}
 use Rattle.redis_batches.proofs.Lists.{all_by_slot}
 use Rattle.redis_batches.proofs.Whole.{all_after-append, answers-append}
 use Rattle.redis_batches.proofs.KeptSlots.{batches_keep_slots}
@@ -118,11 +120,12 @@ module _ {C : Type 0} (step : Step C) (serve : Serve C) (registered : Registrati
   abbrev pub entry_with : Refusals → Numbered → Entry
   entry_with refusals = part_entry (node_at nodes) is.batch parts refusals
 
-  -- how far the batches have come: some parts were refused, as they may be, and the answers of the others stand
+  -- how far the batches have come: some parts were refused, as they may be, with the error as their answer, and the answers of the others stand
   pub record IsSoFar (kept : Type 0) (may_refuse : ℕ → Ending → Type 0) (i : ℕ) (now : State C) (out : List (Result Value ErrorParts)) : Type 0 where
     pub refusals : Refusals
     pub trace : now.trace ≡ start.trace ++ map (entry_with refusals) (so_many i)
     pub allowed : AreAllowed may_refuse (length start.trace) (map refusals (so_many i))
+    pub errors : All (HasError refusals out) (so_many i)
     pub keyspace : kept → now.keyspace ≡ all_after (ended step serve refusals) (so_many i) old
     pub put : kept → All (IsPut out) (answers (ended step serve refusals) (so_many i) old)
 
@@ -132,6 +135,7 @@ module _ {C : Type 0} (step : Step C) (serve : Serve C) (registered : Registrati
     refusals = λ x. None;
     trace = sym (append-nil start.trace);
     allowed = λ i error at. absurd (cc);
+    errors = All-nil (HasError (λ x. None) out);
     keyspace = λ keep. refl;
     put = λ keep. All-nil (IsPut out);
   }
@@ -250,16 +254,28 @@ module _ {C : Type 0} (step : Step C) (serve : Serve C) (registered : Registrati
     abbrev pub expected_next : List Answer
     expected_next = expected next
 
+    -- what was refused is answered by its error
+    errors_next : length out ≡ length parts → length replies ≡ length (numbers_in is.batch ps k) → All (HasError next (put_at out (numbers_in is.batch ps k) replies)) (so_many (i + 1))
+    errors_next room long =
+        let told : Numbered → Type 0 = HasError next (put_at out (numbers_in is.batch ps k) replies) in
+        let inside_out : All (λ p. p < length out) (numbers_in is.batch ps k) = subst (λ n. All (λ p. p < n) (numbers_in is.batch ps k)) (sym room) (within k) in
+        subst (All told) (sym (one_batch_more batch_of (numbered ps) order i k inside at))
+        (All-append told before own
+        (errors_stay is.batch ps k out replies (take i order) (not_again k (take i order) fresh) so_far.refusals next same_before so_far.errors)
+        (errors_of_batch is.batch ps k out replies next taken.ends ends_are taken.errors inside_out long))
+
     -- One batch more.
     pub one_more : (more : List (Result Value ErrorParts))
+        → more ≡ put_at out (numbers_in is.batch ps k) replies → length out ≡ length parts → length replies ≡ length (numbers_in is.batch ps k)
         → (kept → All (IsRight more (expected next)) (numbers_in is.batch ps k))
         → (kept → (place : ℕ) → IsRight out (expected next) place → IsRight more (expected next) place)
         → IsSoFar kept may_refuse (i + 1) new more
-    one_more more right others =
+    one_more more put room long right others =
         record {
           refusals = next;
           trace = trace_is;
           allowed = allowed_next;
+          errors = subst (λ l. All (HasError next l) (so_many (i + 1))) (sym put) (errors_next room long);
           keyspace = new_is;
           put = λ keep.
               let ks = all_after (ended step serve next) before old in
@@ -281,6 +297,7 @@ module _ {C : Type 0} (step : Step C) (serve : Serve C) (registered : Registrati
     refusals = so_far.refusals;
     trace = so_far.trace;
     allowed = so_far.allowed;
+    errors = so_far.errors;
     keyspace = λ keep. so_far.keyspace (before keep);
     put = λ keep. so_far.put (before keep);
   }
@@ -305,6 +322,10 @@ module _ {C : Type 0} (step : Step C) (serve : Serve C) (registered : Registrati
         refusals = r;
         trace = so_far.trace ∙ ap (λ o. start.trace ++ map (entry_with r) (batch_by_batch batch_of o (numbered ps))) (take_all i order past);
         allowed = subst (λ o. AreAllowed may_refuse (length start.trace) (map r (batch_by_batch batch_of o (numbered ps)))) (take_all i order past) so_far.allowed;
+        errors =
+            let sent : All (HasError r out) full = subst (λ o. All (HasError r out) (batch_by_batch batch_of o (numbered ps))) (take_all i order past) so_far.errors in
+            errors_at_end r out (pieces ps)
+            (all_by_slot slot_of (HasError r out) (numbered ps) (λ s. subst (All (HasError r out)) (sym (keeps s)) (All-filter (λ x. nat_eq (slot_of x) s) (HasError r out) full sent)));
         keyspace = λ keep. so_far.keyspace keep ∙ ap (λ o. all_after (ended step serve r) (batch_by_batch batch_of o (numbered ps)) old) (take_all i order past)
             ∙ refused_leaves step serve r ps are full keeps old;
         answers_are = λ keep.

@@ -13,7 +13,7 @@ use Rattle.redis_batches.specs.Batched.{numbers_in, part_entry}
 use Rattle.redis_cluster.specs.declared.nodes.SendError.{SendError}
 use Rattle.redis_cluster.specs.declared.nodes.SendError.TheVariants.{Memory}
 use Rattle.redis_batches.specs.Plan.{Batches}
-use Rattle.redis_batches.specs.Taken.{AreAllowed, Batch, IsNotTaken, batch_for}
+use Rattle.redis_batches.specs.Taken.{AnswersRefusals, AreAllowed, Batch, IsNotTaken, batch_for}
 
 -- the node at a number of a list
 abbrev pub node_at : List Address → ℕ → Address
@@ -37,14 +37,15 @@ module _ {C : Type 0} (step : Step C) (serve : Serve C) (kept : Type 0)
     pub keyspace : kept
         → new.keyspace ≡ all_after (ended step serve refusals) (in_batches batch order ps) old.keyspace
 
-  -- All were taken. Where nodes keep to the meaning, keyspace and answers are those of one server
-  -- that takes the parts in the order of the pipeline, but for those that were refused: a refused
-  -- part does nothing, and its answer is the error.
+  -- All were taken, and what was refused is answered by its error. Where nodes keep to the meaning,
+  -- keyspace and answers are those of one server that takes the parts in the order of the pipeline,
+  -- but for those that were refused, which do nothing.
   pub record IsServed (given : List Answer) : Type 0 where
     pub refusals : Refusals
     pub trace : new.trace ≡ old.trace
         ++ map (part_entry (node_at nodes) batch parts refusals) (in_batches batch order ps)
     pub allowed : AreAllowed may_refuse (length old.trace) (map refusals (in_batches batch order ps))
+    pub errors : AnswersRefusals (map refusals (numbered ps)) given
     pub keyspace : kept → new.keyspace ≡ all_after (ended step serve refusals) (numbered ps) old.keyspace
     pub answers_are : kept
         → given ≡ map (λ a. a.1) (answers (ended step serve refusals) (numbered ps) old.keyspace)

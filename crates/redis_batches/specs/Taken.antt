@@ -63,6 +63,12 @@ AreAllowed may_refuse place ends =
     (i : ℕ) (error : ErrorParts) → slice_get ends i ≡ Some (Some error)
     → may_refuse (place + i) (refused error)
 
+-- what was refused is answered by its error
+abbrev pub AnswersRefusals : List (Option ErrorParts) → List Answer → Type 0
+AnswersRefusals ends given =
+    (i : ℕ) (error : ErrorParts) → slice_get ends i ≡ Some (Some error)
+    → slice_get given i ≡ Some (Err error)
+
 module _ {C : Type 0} (step : Step C) (serve : Serve C) where
   -- One server took these commands one after the other, but for those that were refused: keyspace
   -- and answers are its own.
@@ -72,13 +78,15 @@ module _ {C : Type 0} (step : Step C) (serve : Serve C) where
     pub answers_are : given ≡ map (λ a. a.1) (answers (run_ended step serve) (zip tasks ends) old)
 
   -- A node took a batch: the trace grew by an entry for each command, answered or refused, as it may
-  -- be; and where nodes keep to the meaning, the commands are served.
+  -- be, and what was refused is answered by its error. Where nodes keep to the meaning, the commands
+  -- are served.
   pub record IsTaken (registered : Registrations) (kept : Type 0) (may_refuse : ℕ → Ending → Type 0) (node : Address)
       (batch : List (List (List ℕ))) (old new : State C) (given : List Answer) : Type 0 where
     pub ends : List (Option ErrorParts)
     pub long : length ends ≡ length batch
     pub trace : new.trace ≡ old.trace ++ batch_entries node batch ends
     pub allowed : AreAllowed may_refuse (length old.trace) ends
+    pub errors : AnswersRefusals ends given
     pub served : kept → (tasks : List Task) → map (task_of registered) batch ≡ map Some tasks
         → AreServed tasks ends old.keyspace new.keyspace given
 

@@ -48,6 +48,7 @@ widened may wide more taken = record {
   long = taken.long;
   trace = taken.trace;
   allowed = λ i error at. more _ (refused error) (taken.allowed i error at);
+  errors = taken.errors;
   served = taken.served;
 }
 
@@ -140,7 +141,10 @@ loop-number-preserved g c =
           let for : nodes.kept c.send_one.new.nodes → AreFor all list c.in-Ok.answers.items =
           λ keep. round.replies_right nodes.step nodes.serve (nodes.registered c.args.nodes.now) ps are plan.parts plan.places is order names plan.nodes old i k inside refl (nodes.kept c.loop-number.nodes) (nodes.kept c.send_one.new.nodes) c.send_one.ensures.kept (nodes.may_refuse c.args.nodes.now) now new c.loop-number.plan.answers c.in-Ok.answers.items so_far taken keep in
           round.one_more nodes.step nodes.serve (nodes.registered c.args.nodes.now) ps are plan.parts plan.places is order names plan.nodes old i k inside refl (nodes.kept c.loop-number.nodes) (nodes.kept c.send_one.new.nodes) c.send_one.ensures.kept (nodes.may_refuse c.args.nodes.now) now new c.loop-number.plan.answers c.in-Ok.answers.items so_far taken
-          c.tell_first.new.plan.answers (λ keep. c.tell_first.ensures.right all list at (for keep)) (λ keep. c.tell_first.ensures.others all list at (for keep));
+          c.tell_first.new.plan.answers (c.tell_first.ensures.put list at) inv.room
+          (c.in-Ok.ensures.answers list at ∙ ap (λ parts. length (in_order parts list)) inv.same_parts
+          ∙ round.batch_long nodes.step nodes.serve (nodes.registered c.args.nodes.now) ps are plan.parts plan.places is order names plan.nodes old k)
+          (λ keep. c.tell_first.ensures.right all list at (for keep)) (λ keep. c.tell_first.ensures.others all list at (for keep));
       kept = λ keep. inv.kept (c.send_one.ensures.kept keep);
       may_refuse = λ count ending.
           let one = c.send_one.ensures.may_refuse count ending in

@@ -22,6 +22,7 @@ returns-clause-taken c =
     (state (held.keyspace_in c.answer_or_refuse.new.store) (map entry_of c.push_reserved.new.self.items) (mark_in nodes)) (answer_of c.in_ok-answer.answer)
     (noted nodes.trace.items c.push_reserved.new.self.items entry node args refusal items c.in_ok-entry.ensures.node c.in_ok-entry.ensures.command ended)
     (as_planned nodes refusal c.in_ok-refusal.ensures)
+    (λ error is. ap answer_of (c.in_ok-answer.ensures.refused error is))
     (λ task is. let done = c.in_ok-answer.ensures.done task is in (done.keyspace, done.reply))
 
 pub returns-clause-noted : goal.returns-clause-noted

@@ -1,6 +1,6 @@
-use Rattle.std.proofs.Common.{◌≡◌, ◌+◌, Bor, Some, ap, refl, subst, sym, ◌∙◌, [], ◌∷◌, ◌++◌, map, length, take, length-append}
+use Rattle.std.proofs.Common.{◌≡◌, ◌+◌, Bor, Some, ap, refl, subst, sym, ◌∙◌, [], ◌∷◌, ◌++◌, arith, map, length, take, length-append}
 use Rattle.std.specs.Prelude.{slice_get}
-use Rattle.std.proofs.lemmas.List.{map-append}
+use Rattle.std.proofs.lemmas.List.{length-map, length-take-le, map-append}
 use Rattle.std.proofs.lemmas.Option.{slice_get_read}
 use Rattle.resp_core.specs.declared.cmd.Cmd.{Cmd}
 use Rattle.redis_batches.proofs.ByNode.{at_take}
@@ -35,6 +35,8 @@ loop-cmd-preserved c =
     let cmd = c.cmd-item.result in
     let so_far = c.loop-cmd.invariant in
     let there : slice_get batch i ≡ Some cmd = slice_get_read batch (length batch) i cmd refl c.loop-cmd-test.true c.cmd-item.is in
+    let many : length (map answer_of c.loop-cmd.answers.items) ≡ length (take i (map (λ (b : Bor Cmd). b.now) batch)) =
+    length-map c.loop-cmd.answers.items answer_of ∙ so_far.answers ∙ sym (length-take-le i (map (λ (b : Bor Cmd). b.now) batch) (omega (arith, c.loop-cmd-test.true, length-map batch (λ (b : Bor Cmd). b.now)))) in
     let given : map answer_of c.push.new.self.items ≡ map answer_of c.loop-cmd.answers.items ++ answer_of c.in_ok-answer.answer ∷ [] =
     ap (map answer_of) c.in_ok-push.ensures.items ∙ map-append answer_of c.loop-cmd.answers.items (c.in_ok-answer.answer ∷ []) in
     record {
@@ -42,7 +44,7 @@ loop-cmd-preserved c =
       taken = taken_next step serve (Unit {0}) (registered_in first) (registered_in between) (MayRefuse first) (MayRefuse between) c.args.node.now (take i (map (λ (b : Bor Cmd). b.now) batch)) (take (i + 1) (map (λ (b : Bor Cmd). b.now) batch)) cmd.now
           (state_in first) (state_in between) (state_in new)
           (map answer_of c.loop-cmd.answers.items) (map answer_of c.push.new.self.items) (answer_of c.in_ok-answer.answer)
-          so_far.registered (same_plan between first so_far.plan so_far.base) (at_take (λ (b : Bor Cmd). b.now) batch i cmd there) given so_far.taken c.in_ok-answer.ensures.taken;
+          many so_far.registered (same_plan between first so_far.plan so_far.base) (at_take (λ (b : Bor Cmd). b.now) batch i cmd there) given so_far.taken c.in_ok-answer.ensures.taken;
       as_planned = planned_next first between new c.args.node.now cmd.now so_far.plan so_far.base so_far.as_planned c.in_ok-answer.ensures.noted;
       plan = c.in_ok-answer.ensures.plan ∙ so_far.plan;
       base = c.in_ok-answer.ensures.base ∙ so_far.base;
@@ -66,10 +68,12 @@ returns-in_err-push-clause-begun c =
     let cmd = c.cmd-item.result in
     let so_far = c.loop-cmd.invariant in
     let there : slice_get batch i ≡ Some cmd = slice_get_read batch (length batch) i cmd refl c.loop-cmd-test.true c.cmd-item.is in
+    let many : length (map answer_of c.loop-cmd.answers.items) ≡ length (take i (map (λ (b : Bor Cmd). b.now) batch)) =
+    length-map c.loop-cmd.answers.items answer_of ∙ so_far.answers ∙ sym (length-take-le i (map (λ (b : Bor Cmd). b.now) batch) (omega (arith, c.loop-cmd-test.true, length-map batch (λ (b : Bor Cmd). b.now)))) in
     let given = map answer_of c.loop-cmd.answers.items in
     let next = taken_next step serve (Unit {0}) (registered_in first) (registered_in between) (MayRefuse first) (MayRefuse between) c.args.node.now (take i (map (λ (b : Bor Cmd). b.now) batch)) (take (i + 1) (map (λ (b : Bor Cmd). b.now) batch)) cmd.now
     (state_in first) (state_in between) (state_in new)
     given (given ++ answer_of c.in_ok-answer.answer ∷ []) (answer_of c.in_ok-answer.answer)
-    so_far.registered (same_plan between first so_far.plan so_far.base) (at_take (λ (b : Bor Cmd). b.now) batch i cmd there) refl so_far.taken c.in_ok-answer.ensures.taken in
+    many so_far.registered (same_plan between first so_far.plan so_far.base) (at_take (λ (b : Bor Cmd). b.now) batch i cmd there) refl so_far.taken c.in_ok-answer.ensures.taken in
     on_err_always c.from_residual-in_err-push.result
     (begun_by c.args.node.now (map (λ (b : Bor Cmd). b.now) batch) (i + 1) (trace_in first) (trace_in new) next.ends next.long next.trace)
