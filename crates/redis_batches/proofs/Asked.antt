@@ -1,6 +1,6 @@
 -- Batches that were sent, one after the other.
 use Rattle.std.proofs.Common.{◌≡◌, ◌<◌, ◌∙◌, inl, inr, ℕ, ◌+◌, List, [], ◌∷◌, ◌++◌, Result, Ok, Err, sym, ap, subst, map, length, get_or, take, append_assoc}
-use Rattle.std.specs.Prelude.{OnOk, OnErr, IfErr}
+use Rattle.std.specs.Prelude.{OnErr}
 use Rattle.std.proofs.lemmas.List.{append-nil, map_more}
 use Rattle.redis_cluster.specs.Orders.{in_order}
 use Rattle.redis_cluster.specs.declared.nodes.SendError.{SendError}
@@ -8,15 +8,6 @@ use Rattle.redis_batches.specs.Driven.{Grew, HaveAnswered, WereAsked, WereAskedU
 use Rattle.redis_batches.specs.Pipeline.{Answer}
 use Rattle.redis_batches.specs.Plan.{Batches}
 use Rattle.redis_batches.specs.Taken.{Batch, batch_for}
-
--- what holds whatever comes
-pub on_ok_always : {T E P : Type 0} (r : Result T E) → P → OnOk r P
-on_ok_always (Ok value) is = is
-on_ok_always (Err error) is = tt
-
-pub if_err_always : {T E : Type 0} (r : Result T E) (P : E → Type 0) → ((error : E) → P error) → IfErr r P
-if_err_always (Ok value) P is = tt
-if_err_always (Err error) P is = is error
 
 -- none
 pub asked_none : {X : Type 0} (old : List X → Type 0) → Grew old old []

@@ -5,6 +5,7 @@ ghost use Rattle.redis_cluster.specs.Sent.{IsIdleIfRefused};
 ghost use Rattle.redis_cluster.specs.Trace.{Ending};
 ghost use Rattle.redis_cluster.specs.Unsplit.{Step};
 ghost use Rattle.redis_cluster.specs.State.{State};
+ghost use Rattle.redis_batches.specs.Driven.{WereAsked, WereAskedUntil};
 ghost use Rattle.redis_batches.specs.Pipeline.{Answer, Serve};
 ghost use Rattle.redis_batches.specs.Taken.{answer_of, AreServed, AreTasks, Batch, IsTaken, IsUntaken, batch_entries, batch_for};
 
@@ -44,7 +45,7 @@ pub trait BatchNodes {
     ghost kept: { Self → Type 0 } = { λ _. Unit {0} };
 
     /// Whether these may be the batches that were sent so far, in their order, those among them that
-    /// were not taken, too.
+    /// were not taken, too. One before which memory ran out may be left out.
     ghost asked: { Self → List Batch → Type 0 } = { λ _ _. Unit {0} };
 
     /// Whether these may be the answers so far, batch after batch, in the order in which they came.
@@ -85,18 +86,24 @@ pub trait BatchNodes {
             node.now (map (λ cmd. cmd.now) batch.now)
             (state self.old) (state self.new) error) }
         ensures mark { OnOk result ((state self.new).mark ≡ false) }
-        // The batch was sent once, whether it was taken or not.
-        ensures asked { (before : List Batch) → asked self.old before
-            → asked self.new (before ++ batch_for node.now (map (λ cmd. cmd.now) batch.now) ∷ []) }
-        // Where nothing was sent, it may be that no answer came.
-        ensures gave_at_first { (state self.old).trace ≡ [] → gave self.old [] }
+        // The batch was sent once,
+        ensures asked { OnOk result (WereAsked (asked self.old) (asked self.new)
+            (batch_for node.now (map (λ cmd. cmd.now) batch.now) ∷ [])) }
+        // also where it was not taken, unless memory ran out before.
+        ensures asked_untaken { IfErr result (λ error. WereAskedUntil (asked self.old) (asked self.new)
+            [] (batch_for node.now (map (λ cmd. cmd.now) batch.now)) error) }
+        // There are batches that may be those that were sent so far.
+        ensures asked_so_far { (sent : List Batch) × asked self.old sent }
+        // Where nothing was sent, it may be that no answer came. Since a batch that was refused leaves
+        // no entry, an empty trace alone does not tell that.
+        ensures gave_at_first { (state self.old).trace ≡ [] → asked self.old [] → gave self.old [] }
         ensures gave { IfOk result (λ answers. (before : List (List Answer)) → gave self.old before
             → gave self.new (before ++ map answer_of answers.items ∷ [])) }
         ensures gave_none { OnErr result ((before : List (List Answer)) → gave self.old before
             → gave self.new before) }
         ensures kept { kept self.new → kept self.old }
         // Nodes to which nothing was sent kept to the meaning,
-        ensures kept_at_first { (state self.old).trace ≡ [] → kept self.old }
+        ensures kept_at_first { (state self.old).trace ≡ [] → asked self.old [] → kept self.old }
         // and they still do after answers that are those by it, also where some were refused,
         ensures stays_kept { IfOk result (λ answers. kept self.old
             → (ends : List (Option ErrorParts)) → length ends ≡ length batch.now
