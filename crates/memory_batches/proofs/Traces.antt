@@ -7,8 +7,8 @@ use Rattle.std.proofs.lemmas.List.{length-append, map-append}
 use Rattle.std.proofs.lemmas.Option.{same_Some, slice_get_within}
 use Rattle.cluster_slots.specs.Address.{Address}
 use Rattle.resp_core.specs.ErrorParts.{ErrorParts}
-use Rattle.redis_cluster.specs.Trace.{Entry, refused, entry}
-use Rattle.redis_batches.specs.Taken.{batch_entries, ending_by}
+use Rattle.redis_cluster.specs.Trace.{Entry, Ending, refused, entry}
+use Rattle.redis_batches.specs.Taken.{AreAllowed, batch_entries, ending_by}
 use Rattle.redis_batches.proofs.Putting.{get_front, get_last}
 use Rattle.memory_batches.specs.Nodes.{AreAsPlanned, IsBegun, entry_of, MayRefuse, may_end, refusal_for, refusal_in, trace_in}
 use Rattle.memory_batches.specs.declared.nodes.MemoryBatchNodes.{MemoryBatchNodes}
@@ -80,9 +80,11 @@ take_most zero (x ∷ xs) = omega arith
 take_most (suc i) (x ∷ xs) = omega (arith, take_most i xs)
 
 -- the entries of the first commands of a batch
-pub begun_by : (node : Address) (batch : List (List (List ℕ))) (i : ℕ) (old new : List Entry) (ends : List (Option ErrorParts)) → length ends ≡ length (take i batch) → new ≡ old ++ batch_entries node (take i batch) ends → IsBegun node batch old new
-begun_by node batch i old new ends long grew = record {
+pub begun_by : (may_refuse : ℕ → Ending → Type 0) (node : Address) (batch : List (List (List ℕ))) (i : ℕ) (old new : List Entry) (ends : List (Option ErrorParts)) → length ends ≡ length (take i batch) → new ≡ old ++ batch_entries node (take i batch) ends
+    → AreAllowed may_refuse (length old) ends → IsBegun may_refuse node batch old new
+begun_by may_refuse node batch i old new ends long grew allowed = record {
   ends = ends;
   within = omega (arith, long, take_most i batch);
   grew = grew ∙ ap (λ l. old ++ map (λ x. entry node x.0 (ending_by x.1)) l) (zip_take i batch ends long);
+  allowed = allowed;
 }

@@ -6,7 +6,7 @@ use Rattle.redis_routing.specs.Registry.{Registrations}
 use Rattle.redis_cluster.specs.Trace.{Entry, Ending, refused, entry}
 use Rattle.redis_cluster.specs.State.{State, state}
 use Rattle.redis_cluster.specs.Unsplit.{Keyspace}
-use Rattle.redis_batches.specs.Taken.{batch_entries, ending_by}
+use Rattle.redis_batches.specs.Taken.{AreAllowed, batch_entries, ending_by}
 use Rattle.memory_nodes.specs.Cells.{Cell}
 use Rattle.memory_nodes.specs.Nodes as store
 use Rattle.memory_batches.specs.declared.nodes.MemoryBatchNodes.{MemoryBatchNodes}
@@ -60,9 +60,10 @@ AreAsPlanned old new =
     (place : ℕ) (e : Entry) → length (trace_in old) ≤ place → slice_get (trace_in new) place ≡ Some e
     → e.ending ≡ ending_by (refusal_in old place)
 
--- A trace grew by the entries of the first commands of a batch.
-pub record IsBegun (node : Address) (batch : List (List (List ℕ))) (old new : List Entry)
-    : Type 0 where
+-- A trace grew by the entries of the first commands of a batch, refused only as they may be.
+pub record IsBegun (may_refuse : ℕ → Ending → Type 0) (node : Address)
+    (batch : List (List (List ℕ))) (old new : List Entry) : Type 0 where
   pub ends : List (Option ErrorParts)
   pub within : length ends ≤ length batch
   pub grew : new ≡ old ++ batch_entries node batch ends
+  pub allowed : AreAllowed may_refuse (length old) ends

@@ -151,8 +151,8 @@ impl MemoryBatchNodes {
             (state_in self.old) (state_in self.new)
             (map answer_of answers.new.items)) }
         ensures as_planned { OnOk result (AreAsPlanned self.old self.new) }
-        ensures begun { OnErr result (IsBegun node.now (map (λ cmd. cmd.now) batch.now)
-            (trace_in self.old) (trace_in self.new)) }
+        ensures begun { OnErr result (IsBegun (MayRefuse self.old) node.now
+            (map (λ cmd. cmd.now) batch.now) (trace_in self.old) (trace_in self.new)) }
         ensures plan { self.new.plan ≡ self.old.plan }
         ensures base { self.new.base ≡ self.old.base }
         ensures registered { registered_in self.new ≡ registered_in self.old }

@@ -132,12 +132,13 @@ module _ {C : Type 0} (step : Step C) (serve : Serve C) (registered : Registrati
         → IsInPart step serve tasks old.keyspace new.keyspace
 
   -- Memory ran out in the midst of a batch: the mark tells so, and the trace has the entries of its
-  -- first commands alone.
+  -- first commands alone, answered or refused, as they may be.
   pub record IsCutShort : Type 0 where
     pub mark : new.mark ≡ true
     pub ends : List (Option ErrorParts)
     pub within : length ends ≤ length batch
     pub trace : new.trace ≡ old.trace ++ batch_entries node batch ends
+    pub allowed : AreAllowed may_refuse (length old.trace) ends
 
   -- why a batch was not taken, and what stands then
   abbrev pub IsUntaken : SendError → Type 0

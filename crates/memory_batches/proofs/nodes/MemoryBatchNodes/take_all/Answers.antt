@@ -56,7 +56,7 @@ returns-in_err-answer-clause-begun c =
     let first = c.args.self.now in
     let so_far = c.loop-cmd.invariant in
     on_err_always c.from_residual.result
-    (begun_by c.args.node.now (map (λ (b : Bor Cmd). b.now) c.args.batch.now) c.loop-cmd.cmd-index (trace_in first) (trace_in c.take.new.self) so_far.taken.ends so_far.taken.long (c.in_err-answer.ensures.untaken ∙ so_far.taken.trace))
+    (begun_by (MayRefuse first) c.args.node.now (map (λ (b : Bor Cmd). b.now) c.args.batch.now) c.loop-cmd.cmd-index (trace_in first) (trace_in c.take.new.self) so_far.taken.ends so_far.taken.long (c.in_err-answer.ensures.untaken ∙ so_far.taken.trace) so_far.taken.allowed)
 
 pub returns-in_err-push-clause-begun : goal.returns-in_err-push-clause-begun
 returns-in_err-push-clause-begun c =
@@ -76,4 +76,4 @@ returns-in_err-push-clause-begun c =
     given (given ++ answer_of c.in_ok-answer.answer ∷ []) (answer_of c.in_ok-answer.answer)
     many so_far.registered (same_plan between first so_far.plan so_far.base) (at_take (λ (b : Bor Cmd). b.now) batch i cmd there) refl so_far.taken c.in_ok-answer.ensures.taken in
     on_err_always c.from_residual-in_err-push.result
-    (begun_by c.args.node.now (map (λ (b : Bor Cmd). b.now) batch) (i + 1) (trace_in first) (trace_in new) next.ends next.long next.trace)
+    (begun_by (MayRefuse first) c.args.node.now (map (λ (b : Bor Cmd). b.now) batch) (i + 1) (trace_in first) (trace_in new) next.ends next.long next.trace next.allowed)
