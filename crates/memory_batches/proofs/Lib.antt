@@ -5,3 +5,4 @@ pub mod Stores
 pub mod Traces
 pub mod Effects
 pub mod IntTexts
+pub mod OwnErrors
