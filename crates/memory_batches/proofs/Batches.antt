@@ -53,7 +53,7 @@ zip_long (x ∷ xs) [] long = absurd (omega arith)
 zip_long (x ∷ xs) (y ∷ ys) long = ap suc (zip_long xs ys (omega arith))
 
 -- there are as many tasks as commands
-tasks_long : (registered : Registrations) (xs : List (List (List ℕ))) (tasks : List Task) → map (task_of registered) xs ≡ map Some tasks → length tasks ≡ length xs
+pub tasks_long : (registered : Registrations) (xs : List (List (List ℕ))) (tasks : List Task) → map (task_of registered) xs ≡ map Some tasks → length tasks ≡ length xs
 tasks_long registered xs tasks are = sym (length-map tasks Some) ∙ ap length (sym are) ∙ length-map xs (task_of registered)
 
 module _ (node : Address) (xs ys : List (List (List ℕ))) (ends others : List (Option ErrorParts)) (long : length ends ≡ length xs) where

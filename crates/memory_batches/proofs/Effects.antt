@@ -84,7 +84,7 @@ module _ (slot : ℕ) (ks : Keyspace Cell) where
       record { keyspace = sym (ap (λ s. with_shelf slot s.keys ks) effect ∙ shelf_back slot ks); reply = ap Err error_is ∙ sym (ap (λ s. s.reply) effect) }
 
   -- a key with a string is of the slot
-  own_key : (key string : List ℕ) → string_at (shelf slot ks) key ≡ Some string → nat_eq (key_slot key) slot ≡ true
+  pub own_key : (key string : List ℕ) → string_at (shelf slot ks) key ≡ Some string → nat_eq (key_slot key) slot ≡ true
   own_key key string is = by_test (nat_eq (key_slot key) slot) (λ e. e) (λ e. absurd (let none : None ≡ Some string = sym (ap (λ b. value_at (cond b (ks key) None) []) e) ∙ is in cc none))
 
   -- a string that was moved

@@ -1,6 +1,7 @@
 pub mod Shelves
 pub mod Verbs
 pub mod Batches
+pub mod Broken
 pub mod Stores
 pub mod Traces
 pub mod Effects

@@ -6,7 +6,7 @@ use Rattle.std.proofs.lemmas.Slice.Eq.{bytes_eq-Decides}
 use Rattle.resp_core.proofs.Cases.{by_test}
 use Rattle.cluster_slots.specs.KeySlot.{key_slot}
 use Rattle.redis_cluster.specs.Unsplit.{Keyspace, put}
-use Rattle.redis_batches.specs.Served.{shelf, with_shelf}
+use Rattle.redis_batches.specs.Served.{AgreeElsewhere, shelf, with_shelf}
 
 module _ {C : Type 0} (slot : ℕ) (ks : Keyspace C) where
   -- a shelf that was only looked at
@@ -33,6 +33,13 @@ module _ {C : Type 0} (slot : ℕ) (ks : Keyspace C) where
 
     pub put_here : nat_eq (key_slot key) slot ≡ true → with_shelf slot (put key x (shelf slot ks)) ks ≡ put key x ks
     put_here is = put_more is (shelf slot ks) ∙ ap (put key x) shelf_back
+
+    -- it leaves the keys of other slots
+    pub put_apart : nat_eq (key_slot key) slot ≡ true → AgreeElsewhere slot ks (put key x ks)
+    put_apart is other there =
+        by_test (bytes_eq key other)
+        (λ same. absurd (let both : true ≡ false = sym (same_slot other true is same) ∙ there in cc both))
+        (λ differs. rw differs refl)
 
     -- a write at a key of another slot
     pub put_elsewhere : nat_eq (key_slot key) slot ≡ false → with_shelf slot (put key x (shelf slot ks)) ks ≡ ks

@@ -1,16 +1,15 @@
 -- What stands in a trace, and what a plan refuses.
 use Rattle.std.proofs.Common.{◌≡◌, ◌<◌, ◌≤◌, ℕ, zero, suc, List, [], ◌∷◌, ◌++◌, Option, Some, Result, Ok, Err, map, length, take, refl, sym, ap, subst, ◌∙◌, arith, inl, inr}
 use Rattle.std.specs.Prelude.{OnErr, slice_get}
-use Rattle.std.specs.List.{zip}
 use Rattle.std.proofs.lemmas.Bool.{cases_lt}
 use Rattle.std.proofs.lemmas.List.{length-append, map-append}
 use Rattle.std.proofs.lemmas.Option.{same_Some, slice_get_within}
 use Rattle.cluster_slots.specs.Address.{Address}
 use Rattle.resp_core.specs.ErrorParts.{ErrorParts}
-use Rattle.redis_cluster.specs.Trace.{Entry, Ending, refused, entry}
-use Rattle.redis_batches.specs.Taken.{AreAllowed, batch_entries, ending_by}
+use Rattle.redis_cluster.specs.Trace.{Entry, refused, entry}
+use Rattle.redis_batches.specs.Taken.{ending_by}
 use Rattle.redis_batches.proofs.Putting.{get_front, get_last}
-use Rattle.memory_batches.specs.Nodes.{AreAsPlanned, IsBegun, entry_of, MayRefuse, may_end, refusal_for, refusal_in, trace_in}
+use Rattle.memory_batches.specs.Nodes.{AreAsPlanned, entry_of, MayRefuse, may_end, refusal_for, refusal_in, trace_in}
 use Rattle.memory_batches.specs.declared.nodes.MemoryBatchNodes.{MemoryBatchNodes}
 use Rattle.memory_batches.specs.declared.trace_entry.BatchEntry.{BatchEntry}
 
@@ -64,27 +63,3 @@ planned_next first now later node args plan base are grew =
     let last : Entry = entry node args (ending_by (refusal_in now (length (trace_in now)))) in
     subst (EndSo (refusal_in first) (length (trace_in first))) (sym grew)
     (end_so_next (refusal_in first) (length (trace_in first)) (trace_in now) last are (ap ending_by (same_refusal now first (length (trace_in now)) plan base)))
-
-zip_take : {X Y : Type 0} (i : ℕ) (xs : List X) (ys : List Y) → length ys ≡ length (take i xs) → zip (take i xs) ys ≡ zip xs ys
-zip_take zero [] ys long = refl
-zip_take (suc i) [] ys long = refl
-zip_take zero (x ∷ xs) [] long = refl
-zip_take zero (x ∷ xs) (y ∷ ys) long = absurd (omega arith)
-zip_take (suc i) (x ∷ xs) [] long = absurd (omega arith)
-zip_take (suc i) (x ∷ xs) (y ∷ ys) long = ap (λ l. (x, y) ∷ l) (zip_take i xs ys (omega arith))
-
-take_most : {X : Type 0} (i : ℕ) (xs : List X) → length (take i xs) ≤ length xs
-take_most zero [] = omega arith
-take_most (suc i) [] = omega arith
-take_most zero (x ∷ xs) = omega arith
-take_most (suc i) (x ∷ xs) = omega (arith, take_most i xs)
-
--- the entries of the first commands of a batch
-pub begun_by : (may_refuse : ℕ → Ending → Type 0) (node : Address) (batch : List (List (List ℕ))) (i : ℕ) (old new : List Entry) (ends : List (Option ErrorParts)) → length ends ≡ length (take i batch) → new ≡ old ++ batch_entries node (take i batch) ends
-    → AreAllowed may_refuse (length old) ends → IsBegun may_refuse node batch old new
-begun_by may_refuse node batch i old new ends long grew allowed = record {
-  ends = ends;
-  within = omega (arith, long, take_most i batch);
-  grew = grew ∙ ap (λ l. old ++ map (λ x. entry node x.0 (ending_by x.1)) l) (zip_take i batch ends long);
-  allowed = allowed;
-}

@@ -6,9 +6,12 @@ use Rattle.redis_routing.specs.Registry.{Registrations}
 use Rattle.redis_cluster.specs.Trace.{Entry, Ending, refused, entry}
 use Rattle.redis_cluster.specs.State.{State, state}
 use Rattle.redis_cluster.specs.Unsplit.{Keyspace}
-use Rattle.redis_batches.specs.Taken.{AreAllowed, batch_entries, ending_by}
+use Rattle.redis_batches.specs.Pipeline.{Task}
+use Rattle.redis_batches.specs.Taken.{AreAllowed, IsBrokenOff, batch_entries, ending_by, task_of}
 use Rattle.memory_nodes.specs.Cells.{Cell}
 use Rattle.memory_nodes.specs.Nodes as store
+use Rattle.memory_nodes.specs.Steps.{step}
+use Rattle.memory_batches.specs.Strings.{serve}
 use Rattle.memory_batches.specs.declared.nodes.MemoryBatchNodes.{MemoryBatchNodes}
 use Rattle.memory_batches.specs.declared.trace_entry.BatchEntry.{BatchEntry}
 
@@ -60,10 +63,13 @@ AreAsPlanned old new =
     (place : ℕ) (e : Entry) → length (trace_in old) ≤ place → slice_get (trace_in new) place ≡ Some e
     → e.ending ≡ ending_by (refusal_in old place)
 
--- A trace grew by the entries of the first commands of a batch, refused only as they may be.
-pub record IsBegun (may_refuse : ℕ → Ending → Type 0) (node : Address)
-    (batch : List (List (List ℕ))) (old new : List Entry) : Type 0 where
+-- The first commands of a batch were served, but for those that were refused as they may be, and the
+-- trace grew by their entries. The one behind them was begun at most.
+pub record IsBegun (node : Address) (batch : List (List (List ℕ))) (old new : MemoryBatchNodes)
+    : Type 0 where
   pub ends : List (Option ErrorParts)
   pub within : length ends ≤ length batch
-  pub grew : new ≡ old ++ batch_entries node batch ends
-  pub allowed : AreAllowed may_refuse (length old) ends
+  pub grew : trace_in new ≡ trace_in old ++ batch_entries node batch ends
+  pub allowed : AreAllowed (MayRefuse old) (length (trace_in old)) ends
+  pub keyspace : (tasks : List Task) → map (task_of (registered_in old)) batch ≡ map Some tasks
+      → IsBrokenOff step serve tasks ends (keyspace_in old) (keyspace_in new)

@@ -1,7 +1,7 @@
-ghost use Rattle.std.specs.Prelude.{◌≡◌, Some, Err, IfOk};
+ghost use Rattle.std.specs.Prelude.{◌≡◌, Some, Err, IfOk, OnErr};
 ghost use Rattle.resp_core.specs.ErrorParts.{ErrorParts};
 ghost use Rattle.redis_batches.specs.Pipeline.{Task, run, run_ended};
-ghost use Rattle.redis_batches.specs.Taken.{task_of};
+ghost use Rattle.redis_batches.specs.Taken.{IsBegunAtMost, task_of};
 ghost use Rattle.memory_nodes.specs.Nodes.{keyspace_in, registered_in};
 ghost use Rattle.memory_nodes.specs.Steps.{step};
 ghost use Rattle.memory_batches.specs.Meaning.{IsDone};
@@ -29,6 +29,8 @@ pub(super) fn answer_or_refuse(
     // Whatever the command means, a refusal is answered by its error.
     ensures refused { IfOk result (λ answer. (error : ErrorParts) → refusal ≡ Some error
         → answer ≡ Err error) }
+    ensures begun { OnErr result ((task : Task) → task_of (registered_in store.old) cmd.now ≡ Some task
+        → IsBegunAtMost (Some task) (keyspace_in store.old) (keyspace_in store.new)) }
     ensures registered { registered_in store.new ≡ registered_in store.old }
 {
     match refusal {
@@ -47,6 +49,8 @@ fn answer(
     ensures done { IfOk result (λ answer. (task : Task)
         → task_of (registered_in store.old) cmd.now ≡ Some task
         → IsDone (run step serve task) (keyspace_in store.old) (keyspace_in store.new) answer) }
+    ensures begun { OnErr result ((task : Task) → task_of (registered_in store.old) cmd.now ≡ Some task
+        → IsBegunAtMost (Some task) (keyspace_in store.old) (keyspace_in store.new)) }
     ensures registered { registered_in store.new ≡ registered_in store.old }
 {
     match Meaning::of(alloc, cmd, store.registry())? {

@@ -1,6 +1,7 @@
 ghost use Rattle.std.specs.Prelude.{◌≡◌, ◌++◌, ◌+◌, ◌∷◌, ◌↔◌, ℕ, [], None, Some, false, true, IfErr, IfOk, OnErr, OnOk, length, map, option_copied};
 ghost use Rattle.redis_cluster.specs.Trace.{Ending, entry};
-ghost use Rattle.redis_batches.specs.Taken.{answer_of, ending_by, IsTaken, IsUntaken};
+ghost use Rattle.redis_batches.specs.Pipeline.{Task};
+ghost use Rattle.redis_batches.specs.Taken.{answer_of, ending_by, task_of, IsBegunAtMost, IsTaken, IsUntaken};
 ghost use Rattle.memory_nodes.specs.Cells.{Cell, value_at};
 ghost use Rattle.memory_nodes.specs.Steps.{step};
 ghost use Rattle.memory_batches.specs.Nodes.{registered_in, keyspace_in, trace_in, mark_in, state_in, refusal_in, may_end, MayRefuse, entry_of, AreAsPlanned, IsBegun};
@@ -124,6 +125,9 @@ impl MemoryBatchNodes {
         ensures noted { OnOk result (trace_in self.new ≡ trace_in self.old ++ entry node.now cmd.now
             (ending_by (refusal_in self.old (length (trace_in self.old)))) ∷ []) }
         ensures untaken { OnErr result (trace_in self.new ≡ trace_in self.old) }
+        ensures begun { OnErr result ((task : Task)
+            → task_of (registered_in self.old) cmd.now ≡ Some task
+            → IsBegunAtMost (Some task) (keyspace_in self.old) (keyspace_in self.new)) }
         ensures plan { self.new.plan ≡ self.old.plan }
         ensures base { self.new.base ≡ self.old.base }
         ensures registered { registered_in self.new ≡ registered_in self.old }
@@ -151,8 +155,8 @@ impl MemoryBatchNodes {
             (state_in self.old) (state_in self.new)
             (map answer_of answers.new.items)) }
         ensures as_planned { OnOk result (AreAsPlanned self.old self.new) }
-        ensures begun { OnErr result (IsBegun (MayRefuse self.old) node.now
-            (map (λ cmd. cmd.now) batch.now) (trace_in self.old) (trace_in self.new)) }
+        ensures begun { OnErr result (IsBegun node.now (map (λ cmd. cmd.now) batch.now)
+            self.old self.new) }
         ensures plan { self.new.plan ≡ self.old.plan }
         ensures base { self.new.base ≡ self.old.base }
         ensures registered { registered_in self.new ≡ registered_in self.old }
@@ -184,7 +188,8 @@ impl BatchNodes for MemoryBatchNodes {
 
     /// Where memory runs out before the first command, none is taken. Once one was begun, the answers
     /// are lost: what was taken stays, as at a node that fails between two commands, since undoing it
-    /// would take a copy of the keys.
+    /// would take a copy of the keys. A `RENAME` that was begun may leave its key gone and the new one
+    /// as it was. Any other command does all or nothing.
     fn send_batch(
         &mut self,
         node: &NodeAddress,

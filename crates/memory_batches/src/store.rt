@@ -1,4 +1,4 @@
-ghost use Rattle.std.specs.Prelude.{◌≡◌, None, OnOk, option_copied};
+ghost use Rattle.std.specs.Prelude.{◌≡◌, None, OnErr, OnOk, option_copied};
 ghost use Rattle.redis_cluster.specs.Unsplit.{put};
 ghost use Rattle.memory_nodes.specs.Nodes.{keyspace_in, registered_in};
 ghost use Rattle.redis_batches.specs.Served.{shelf, with_shelf};
@@ -50,6 +50,7 @@ pub(super) fn write(
 ) -> Result<(), AllocError>
     ensures keyspace { OnOk result
         (keyspace_in store.new ≡ with_string key.now string.now (keyspace_in store.old)) }
+    ensures stays { OnErr result (keyspace_in store.new ≡ keyspace_in store.old) }
     ensures registered { registered_in store.new ≡ registered_in store.old }
 {
     let mut command = Cmd::new(alloc);
@@ -72,6 +73,7 @@ fn write_length(
 ) -> Result<(), AllocError>
     ensures keyspace { OnOk result
         (keyspace_in store.new ≡ with_length key.now length.now (keyspace_in store.old)) }
+    ensures stays { OnErr result (keyspace_in store.new ≡ keyspace_in store.old) }
     ensures registered { registered_in store.new ≡ registered_in store.old }
 {
     let mut command = Cmd::new(alloc);
@@ -93,6 +95,7 @@ pub(super) fn remove(
     key: &[u8],
 ) -> Result<(), AllocError>
     ensures keyspace { OnOk result (keyspace_in store.new ≡ put key.now None (keyspace_in store.old)) }
+    ensures stays { OnErr result (keyspace_in store.new ≡ keyspace_in store.old) }
     ensures registered { registered_in store.new ≡ registered_in store.old }
 {
     let mut command = Cmd::new(alloc);
@@ -116,6 +119,7 @@ pub(super) fn put_in(
     ensures keyspace { OnOk result (keyspace_in store.new
         ≡ with_shelf slot (with_string key.now string.now (shelf slot (keyspace_in store.old)))
         (keyspace_in store.old)) }
+    ensures stays { OnErr result (keyspace_in store.new ≡ keyspace_in store.old) }
     ensures registered { registered_in store.new ≡ registered_in store.old }
 {
     if Slot::for_key(key).number() != slot {
@@ -136,6 +140,7 @@ pub(super) fn put_length_in(
     ensures keyspace { OnOk result (keyspace_in store.new
         ≡ with_shelf slot (with_length key.now length.now (shelf slot (keyspace_in store.old)))
         (keyspace_in store.old)) }
+    ensures stays { OnErr result (keyspace_in store.new ≡ keyspace_in store.old) }
     ensures registered { registered_in store.new ≡ registered_in store.old }
 {
     if Slot::for_key(key).number() != slot {

@@ -1,7 +1,7 @@
-ghost use Rattle.std.specs.Prelude.{◌≡◌, ◌<◌, [], IfOk, length, slice_index_or, Some, Err, map};
+ghost use Rattle.std.specs.Prelude.{◌≡◌, ◌<◌, [], IfOk, OnErr, length, slice_index_or, Some, Err, map};
 ghost use Rattle.resp_core.specs.View.{view};
 ghost use Rattle.memory_nodes.specs.Nodes.{keyspace_in, registered_in};
-ghost use Rattle.redis_batches.specs.Served.{in_shelf, shelf};
+ghost use Rattle.redis_batches.specs.Served.{AgreeElsewhere, in_shelf, shelf};
 ghost use Rattle.redis_batches.specs.Taken.{answer_of};
 ghost use Rattle.memory_batches.specs.Strings.{get, got, set, incr, raised, lpush, rename_in_slot, serve, own_error, string_at, length_at, list_length, number_at, one_more};
 ghost use Rattle.memory_batches.specs.Meaning.{IsDone};
@@ -25,6 +25,8 @@ pub(super) fn serve(
 ) -> Result<Result<Value, RedisError>, AllocError>
     ensures done { IfOk result (λ answer. IsDone (in_shelf slot (serve cmd.now))
         (keyspace_in store.old) (keyspace_in store.new) answer) }
+    ensures elsewhere { OnErr result (AgreeElsewhere slot (keyspace_in store.old)
+        (keyspace_in store.new)) }
     ensures registered { registered_in store.new ≡ registered_in store.old }
 {
     let Some(verb) = Verb::of(alloc, cmd)? else {
@@ -102,6 +104,7 @@ fn set(
 ) -> Result<Result<Value, RedisError>, AllocError>
     ensures done { IfOk result (λ answer. IsDone (in_shelf slot (set key.now string.now))
         (keyspace_in store.old) (keyspace_in store.new) answer) }
+    ensures stays { OnErr result (keyspace_in store.new ≡ keyspace_in store.old) }
     ensures registered { registered_in store.new ≡ registered_in store.old }
 {
     put_in(alloc, store, node, slot, key, string)?;
@@ -118,6 +121,7 @@ fn incr(
 ) -> Result<Result<Value, RedisError>, AllocError>
     ensures done { IfOk result (λ answer. IsDone (in_shelf slot (incr key.now))
         (keyspace_in store.old) (keyspace_in store.new) answer) }
+    ensures stays { OnErr result (keyspace_in store.new ≡ keyspace_in store.old) }
     ensures registered { registered_in store.new ≡ registered_in store.old }
 {
     if holds_list(store, slot, key) {
@@ -137,6 +141,7 @@ fn raised(
 ) -> Result<Result<Value, RedisError>, AllocError>
     ensures done { IfOk result (λ answer. IsDone (in_shelf slot (raised key.now))
         (keyspace_in store.old) (keyspace_in store.new) answer) }
+    ensures stays { OnErr result (keyspace_in store.new ≡ keyspace_in store.old) }
     ensures registered { registered_in store.new ≡ registered_in store.old }
 {
     let Some(number) = next_number(alloc, store, slot, key)? else {
@@ -181,6 +186,7 @@ fn lpush(
 ) -> Result<Result<Value, RedisError>, AllocError>
     ensures done { IfOk result (λ answer. IsDone (in_shelf slot (lpush key.now))
         (keyspace_in store.old) (keyspace_in store.new) answer) }
+    ensures stays { OnErr result (keyspace_in store.new ≡ keyspace_in store.old) }
     ensures registered { registered_in store.new ≡ registered_in store.old }
 {
     let Some(number) = next_length(alloc, store, slot, key)? else {
@@ -226,6 +232,8 @@ fn rename(
 ) -> Result<Result<Value, RedisError>, AllocError>
     ensures done { IfOk result (λ answer. IsDone (in_shelf slot (rename_in_slot key.now new.now))
         (keyspace_in store.old) (keyspace_in store.new) answer) }
+    ensures elsewhere { OnErr result (AgreeElsewhere slot (keyspace_in store.old)
+        (keyspace_in store.new)) }
     ensures registered { registered_in store.new ≡ registered_in store.old }
 {
     if Slot::for_key(key).number() != Slot::for_key(new).number() {

@@ -21,7 +21,7 @@ module _ {C : Type 0} (step : Step C) (serve : Serve C) (registered : Registrati
   lost_wider error is = record { mark = is.mark; allowed = more _ (lost error) is.allowed; trace = is.trace; keyspace = is.keyspace }
 
   cut_wider : IsCutShort step serve registered kept may node batch old new → IsCutShort step serve registered kept wide node batch old new
-  cut_wider is = record { mark = is.mark; ends = is.ends; within = is.within; trace = is.trace; allowed = λ i error at. more _ (refused error) (is.allowed i error at) }
+  cut_wider is = record { mark = is.mark; ends = is.ends; within = is.within; trace = is.trace; allowed = λ i error at. more _ (refused error) (is.allowed i error at); keyspace = is.keyspace }
 
   untaken_wider : (error : SendError) → IsUntaken step serve registered kept may node batch old new error → IsUntaken step serve registered kept wide node batch old new error
   untaken_wider (sent.Refused error) is = refused_wider (refused error) is

@@ -25,6 +25,11 @@ module _ {C : Type 0} where
   abbrev pub Agree : ℕ → Keyspace C → Keyspace C → Type 0
   Agree slot keyspace other = (key : List ℕ) → nat_eq (key_slot key) slot ≡ true → keyspace key ≡ other key
 
+  -- they have the same at all other keys
+  abbrev pub AgreeElsewhere : ℕ → Keyspace C → Keyspace C → Type 0
+  AgreeElsewhere slot keyspace other =
+      (key : List ℕ) → nat_eq (key_slot key) slot ≡ false → keyspace key ≡ other key
+
 module _ {C R : Type 0} where
   -- Whatever a command does to the keys of its slot: it is shown these alone, and of what it leaves
   -- these alone are kept.

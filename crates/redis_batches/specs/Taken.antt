@@ -15,6 +15,7 @@ use Rattle.redis_cluster.specs.Unsplit.{Step, Keyspace}
 use Rattle.redis_cluster.specs.declared.nodes.SendError.{SendError}
 use Rattle.redis_cluster.specs.declared.nodes.SendError.TheVariants as sent
 use Rattle.redis_cluster.specs.State.{State}
+use Rattle.redis_batches.specs.Served.{AgreeElsewhere}
 use Rattle.redis_batches.specs.Turns.{all_after, answers}
 use Rattle.redis_batches.specs.Pipeline.{Answer, Serve, Task, over_keys, in_slot, run_ended}
 
@@ -101,6 +102,20 @@ IsInPart step serve tasks old new =
     (ends : List (Option ErrorParts)) × (length ends ≡ length tasks)
     × (new ≡ all_after (run_ended step serve) (zip tasks ends) old)
 
+-- This command was begun at most: nothing changed but at keys of the slot that it keeps to. One over
+-- many keys did nothing.
+abbrev pub IsBegunAtMost : {C : Type 0} → Option Task → (old new : Keyspace C) → Type 0
+IsBegunAtMost None old new = new ≡ old
+IsBegunAtMost (Some (over_keys command)) old new = new ≡ old
+IsBegunAtMost (Some (in_slot slot args)) old new = AgreeElsewhere slot old new
+
+-- One server took those of these commands that have an end, and the next one was begun at most.
+abbrev pub IsBrokenOff : {C : Type 0} → Step C → Serve C → List Task → List (Option ErrorParts)
+    → (old new : Keyspace C) → Type 0
+IsBrokenOff step serve tasks ends old new =
+    IsBegunAtMost (slice_get tasks (length ends))
+    (all_after (run_ended step serve) (zip tasks ends) old) new
+
 -- the entries of a batch whose answers were lost
 abbrev pub lost_entries : Address → List (List (List ℕ)) → ErrorParts → List Entry
 lost_entries node batch error = map (λ args. entry node args (lost error)) batch
@@ -132,13 +147,16 @@ module _ {C : Type 0} (step : Step C) (serve : Serve C) (registered : Registrati
         → IsInPart step serve tasks old.keyspace new.keyspace
 
   -- Memory ran out in the midst of a batch: the mark tells so, and the trace has the entries of its
-  -- first commands alone, answered or refused, as they may be.
+  -- first commands alone, answered or refused, as they may be. Where nodes keep to the meaning, these
+  -- were served, and the one behind them was begun at most.
   pub record IsCutShort : Type 0 where
     pub mark : new.mark ≡ true
     pub ends : List (Option ErrorParts)
     pub within : length ends ≤ length batch
     pub trace : new.trace ≡ old.trace ++ batch_entries node batch ends
     pub allowed : AreAllowed may_refuse (length old.trace) ends
+    pub keyspace : kept → (tasks : List Task) → map (task_of registered) batch ≡ map Some tasks
+        → IsBrokenOff step serve tasks ends old.keyspace new.keyspace
 
   -- why a batch was not taken, and what stands then
   abbrev pub IsUntaken : SendError → Type 0

@@ -66,7 +66,8 @@ pub trait BatchNodes {
     /// `Refused` and `Redirected` where the node took none of them, and `Memory` where nothing was
     /// sent: keyspace and trace stay. `Lost` where answers are missing: which commands took effect is
     /// not known, and the trace has an entry for each that tells so. Where memory ran out before all
-    /// were taken, the mark tells so, and the trace has those that were.
+    /// were taken, the mark tells so, and the trace has those that were. The next one, unless it is over
+    /// many keys, may have changed keys of its slot.
     fn send_batch(
         &mut self,
         node: &NodeAddress,

@@ -1,15 +1,16 @@
-use Rattle.std.proofs.Common.{◌≡◌, ◌+◌, Bor, Some, ap, refl, subst, sym, ◌∙◌, [], ◌∷◌, ◌++◌, arith, map, length, take, length-append}
+use Rattle.std.proofs.Common.{◌≡◌, ◌+◌, Bor, Some, ap, refl, subst, sym, ◌∙◌, [], ◌∷◌, ◌++◌, arith, map, option_map, length, take, length-append}
 use Rattle.std.specs.Prelude.{slice_get}
 use Rattle.std.proofs.lemmas.List.{length-map, length-take-le, map-append}
-use Rattle.std.proofs.lemmas.Option.{slice_get_read}
+use Rattle.std.proofs.lemmas.Option.{slice_get-map, slice_get_read}
 use Rattle.resp_core.specs.declared.cmd.Cmd.{Cmd}
 use Rattle.redis_batches.proofs.ByNode.{at_take}
-use Rattle.redis_batches.specs.Taken.{answer_of, IsTaken}
+use Rattle.redis_batches.specs.Taken.{answer_of, task_of, IsBegunAtMost, IsTaken}
 use Rattle.memory_nodes.specs.Steps.{step}
-use Rattle.memory_batches.specs.Nodes.{registered_in, trace_in, state_in, MayRefuse}
+use Rattle.memory_batches.specs.Nodes.{registered_in, keyspace_in, state_in, MayRefuse}
 use Rattle.memory_batches.specs.Strings.{serve}
 use Rattle.memory_batches.proofs.Batches.{taken_none, taken_next}
-use Rattle.memory_batches.proofs.Traces.{begun_by, on_err_always, planned_next, planned_none, same_plan}
+use Rattle.memory_batches.proofs.Broken.{begun_by, not_begun, task_there}
+use Rattle.memory_batches.proofs.Traces.{on_err_always, planned_next, planned_none, same_plan}
 use Rattle.memory_batches.proofs.nodes.MemoryBatchNodes.take_all.Goals as goal
 
 pub loop-cmd-init : goal.loop-cmd-init
@@ -54,9 +55,20 @@ loop-cmd-preserved c =
 pub returns-in_err-answer-clause-begun : goal.returns-in_err-answer-clause-begun
 returns-in_err-answer-clause-begun c =
     let first = c.args.self.now in
+    let between = c.loop-cmd.self in
+    let new = c.take.new.self in
+    let batch = c.args.batch.now in
+    let commands = map (λ (b : Bor Cmd). b.now) batch in
+    let i = c.loop-cmd.cmd-index in
+    let cmd = c.cmd-item.result in
     let so_far = c.loop-cmd.invariant in
+    let there : slice_get batch i ≡ Some cmd = slice_get_read batch (length batch) i cmd refl c.loop-cmd-test.true c.cmd-item.is in
+    let at : slice_get commands i ≡ Some cmd.now = slice_get-map (λ (b : Bor Cmd). b.now) batch i ∙ ap (option_map (λ (b : Bor Cmd). b.now)) there in
     on_err_always c.from_residual.result
-    (begun_by (MayRefuse first) c.args.node.now (map (λ (b : Bor Cmd). b.now) c.args.batch.now) c.loop-cmd.cmd-index (trace_in first) (trace_in c.take.new.self) so_far.taken.ends so_far.taken.long (c.in_err-answer.ensures.untaken ∙ so_far.taken.trace) so_far.taken.allowed)
+    (begun_by c.args.node.now commands i first between new (map answer_of c.loop-cmd.answers.items) so_far.taken (omega (arith, c.loop-cmd-test.true, length-map batch (λ (b : Bor Cmd). b.now))) c.in_err-answer.ensures.untaken
+    (λ tasks are.
+    let next = task_there (registered_in first) commands tasks i cmd.now are at in
+    subst (λ o. IsBegunAtMost o (keyspace_in between) (keyspace_in new)) (sym next.there) (c.in_err-answer.ensures.begun next.task (ap (λ r. task_of r cmd.now) so_far.registered ∙ next.means))))
 
 pub returns-in_err-push-clause-begun : goal.returns-in_err-push-clause-begun
 returns-in_err-push-clause-begun c =
@@ -76,4 +88,5 @@ returns-in_err-push-clause-begun c =
     given (given ++ answer_of c.in_ok-answer.answer ∷ []) (answer_of c.in_ok-answer.answer)
     many so_far.registered (same_plan between first so_far.plan so_far.base) (at_take (λ (b : Bor Cmd). b.now) batch i cmd there) refl so_far.taken c.in_ok-answer.ensures.taken in
     on_err_always c.from_residual-in_err-push.result
-    (begun_by (MayRefuse first) c.args.node.now (map (λ (b : Bor Cmd). b.now) batch) (i + 1) (trace_in first) (trace_in new) next.ends next.long next.trace next.allowed)
+    (begun_by c.args.node.now (map (λ (b : Bor Cmd). b.now) batch) (i + 1) first new new (given ++ answer_of c.in_ok-answer.answer ∷ []) next (omega (arith, c.loop-cmd-test.true, length-map batch (λ (b : Bor Cmd). b.now))) refl
+    (λ tasks are. not_begun (slice_get tasks (i + 1)) (keyspace_in new) (keyspace_in new) refl))
