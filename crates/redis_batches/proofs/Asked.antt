@@ -26,7 +26,7 @@ asked_more old between new sent others one other before was = subst new (append_
 pub asked_until_more : (old between new : List Batch → Type 0) (sent others : List Batch) (last : Batch) (error : SendError) → WereAsked old between sent → WereAskedUntil between new others last error
     → WereAskedUntil old new (sent ++ others) last error
 asked_until_more old between new sent others last error one (inl all) =
-    inl (subst (WereAsked old new) (sym (append_assoc sent others (last ∷ []))) (asked_more old between new sent (others ++ last ∷ []) one all))
+    inl (all.0, subst (WereAsked old new) (sym (append_assoc sent others (last ∷ []))) (asked_more old between new sent (others ++ last ∷ []) one all.1))
 asked_until_more old between new sent others last error one (inr none) = inr (none.0, asked_more old between new sent others one none.1)
 
 -- answers, and then those to so many batches more
@@ -55,7 +55,7 @@ module _ (old between new : List Batch → Type 0) (plan : Batches) (order : Lis
   -- or one that was not taken
   pub asked_last : (error : SendError) → WereAskedUntil between new [] last error → WereAskedUntil old new (map (batch_at plan) (take i order)) (batch_at plan (get_or order i 0)) error
   asked_last error (inl one) =
-      let own : WereAsked between new (batch_at plan (get_or order i 0) ∷ []) = subst (λ b. WereAsked between new (b ∷ [])) same one in
-      inl (asked_more old between new (map (batch_at plan) (take i order)) (batch_at plan (get_or order i 0) ∷ []) so_far own)
+      let own : WereAsked between new (batch_at plan (get_or order i 0) ∷ []) = subst (λ b. WereAsked between new (b ∷ [])) same one.1 in
+      inl (one.0, asked_more old between new (map (batch_at plan) (take i order)) (batch_at plan (get_or order i 0) ∷ []) so_far own)
   asked_last error (inr none) =
       inr (none.0, subst (WereAsked old new) (append-nil (map (batch_at plan) (take i order))) (asked_more old between new (map (batch_at plan) (take i order)) [] so_far none.1))

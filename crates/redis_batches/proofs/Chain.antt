@@ -13,7 +13,7 @@ use Rattle.redis_cluster.specs.Unsplit.{Step, Keyspace}
 use Rattle.redis_batches.specs.Batched.{put_at}
 use Rattle.redis_batches.specs.Driven.{Grew, HaveAnswered, WereAsked}
 use Rattle.redis_batches.specs.DrivenPipeline.{IsBeforeSending}
-use Rattle.redis_batches.specs.InRounds.{AreSentAgain, IsAgainFault, Stands}
+use Rattle.redis_batches.specs.InRounds.{AreSentAgain, IsAgainFault, Stands, fault_behind}
 use Rattle.redis_batches.specs.Outgoing.{ArePutAt, GoesBehind, IsNextFault, IsNextServed}
 use Rattle.redis_batches.specs.Pipeline.{Answer, AreSlotsOf, Numbered, Planned, Refusals, Serve, ended, numbered, slot_of}
 use Rattle.redis_batches.specs.Rounds.{AreRounds, AreSentOn, Follows, IsLast, IsRoundServed, IsRoundStopped, IsSentOn, OwnErrorsStay, Round, StaysHere, after_round, after_rounds, batch_after, batches_before, go_on, last_round, latest_answers, round_answers, round_batches}
@@ -153,7 +153,7 @@ module _ {C : Type 0} (step : Step C) (serve : Serve C) (registered : Registrati
   again_fault_wider kept may wide more ps round retries old new asked_old asked_new gave_old gave_new (driven.Plan fault) is = is
   again_fault_wider kept may wide more ps round retries old new asked_old asked_new gave_old gave_new driven.BadOrder is = is
   again_fault_wider kept may wide more ps round retries old new asked_old asked_new gave_old gave_new (driven.Node stop) is =
-      (is.0, is.1, is.2, rounds_wider kept kept (λ keep. keep) may wide more round is.0 old is.2 is.3, is.4, is.5, stopped_wider kept may wide more is.4 is.2 new stop is.6, is.7, is.8)
+      (is.0, is.1, is.2, rounds_wider kept kept (λ keep. keep) may wide more round is.0 old is.2 is.3, is.4, is.5, stopped_wider kept may wide more is.4 is.2 new stop is.6, is.7, is.8, is.9)
   again_fault_wider kept may wide more ps round retries old new asked_old asked_new gave_old gave_new driven.Memory is = (is.0, is.1, rounds_wider kept kept (λ keep. keep) may wide more round is.0 old new is.2, is.3, is.4)
 
   -- something was sent before
@@ -268,13 +268,13 @@ module _ {C : Type 0} (step : Step C) (serve : Serve C) (may : ℕ → Ending �
 
     -- why the next one was not served
     pub fault_after : (retries : ℕ) → k < retries → (error : PipelineError) → IsNextFault step serve kept may registered arguments ps latest now new asked_now asked_new gave_now gave_new error
-        → IsAgainFault step serve kept may registered arguments ps round retries start new asked_start asked_new gave_start gave_new error
+        → IsAgainFault step serve kept may registered arguments ps round retries start new asked_start asked_new gave_start gave_new (fault_behind error (k + 1))
     fault_after retries few error is = by_error error is
       where
         were : AreRounds step serve kept may registered arguments round so_far.rounds start now
         were = rounds_wider step serve registered arguments kept_then kept earlier may may (λ count ending is. is) round so_far.rounds start now so_far.again
 
-        by_error : (e : PipelineError) → IsNextFault step serve kept may registered arguments ps latest now new asked_now asked_new gave_now gave_new e → IsAgainFault step serve kept may registered arguments ps round retries start new asked_start asked_new gave_start gave_new e
+        by_error : (e : PipelineError) → IsNextFault step serve kept may registered arguments ps latest now new asked_now asked_new gave_now gave_new e → IsAgainFault step serve kept may registered arguments ps round retries start new asked_start asked_new gave_start gave_new (fault_behind e (k + 1))
         by_error (driven.Plan fault) is = absurd is
         by_error driven.BadOrder is = absurd is
         by_error (driven.Node stop) is = (
@@ -284,9 +284,10 @@ module _ {C : Type 0} (step : Step C) (serve : Serve C) (may : ℕ → Ending �
           were,
           is.0,
           is.1,
-          is.2,
+          record { prepared = is.2.prepared; stopped = is.2.stopped },
           asked_until_more asked_start asked_now asked_new (flat_map round_batches so_far.rounds) (batches_before is.0 stop.answered) (batch_after is.0 stop.answered) stop.error so_far.asked is.3,
           subst (λ l. HaveAnswered gave_start gave_new l stop.answered) (append-nil (flat_map round_answers so_far.rounds)) (answered_more gave_start gave_now gave_new (flat_map round_answers so_far.rounds) [] stop.answered so_far.gave is.4),
+          ap (λ n. n + 1) (sym so_far.many),
         )
         by_error driven.Memory (inl same) = (
           so_far.rounds,

@@ -84,10 +84,10 @@ module _ {C : Type 0} (step : Step C) (serve : Serve C) (kept : Type 0) (may_ref
       let served : IsServed step serve kept may_refuse (map with_slots tasks) plan.batches.parts plan.batches.nodes sendable.batches.batch order old new given = subst (ServesAll given) same serves (map with_slots tasks) (slots_of_all tasks) sendable.batches in
       all_answered step serve registered kept may_refuse (map with_slots tasks) (slots_of_all tasks) plan.batches.parts plan.batches.places sendable.batches plan.batches.nodes order sendable.order_is old new given served never
 
-  pub pipeline_stopped : (plan : PipelineBatches) (batches : Batches) → batches ≡ plan.batches → IsSendable registered is_node commands order plan → (stop : Stopped) → stop.answered < length order → Stops stop batches
+  pub pipeline_stopped : (plan : PipelineBatches) (batches : Batches) → batches ≡ plan.batches → IsSendable registered is_node commands order plan → (stop : Stopped) → stop.answered < length order → stop.rounds ≡ 0 → Stops stop batches
       → IsLateFault step serve kept may_refuse registered is_node commands order old new (Node stop)
-  pipeline_stopped plan batches same sendable stop within stops =
-      (plan, sendable, within, subst (Stops stop) same stops (map with_slots sendable.of_commands.tasks) (slots_of_all sendable.of_commands.tasks) sendable.batches)
+  pipeline_stopped plan batches same sendable stop within first stops =
+      (plan, sendable, within, first, subst (Stops stop) same stops (map with_slots sendable.of_commands.tasks) (slots_of_all sendable.of_commands.tasks) sendable.batches)
 
   -- where nodes may do nothing but answer, it stopped for want of memory
   pub pipeline_unhindered : (plan : PipelineBatches) (batches : Batches) → batches ≡ plan.batches → IsSendable registered is_node commands order plan → (stop : Stopped) → Stops stop batches → AlwaysAnswers may_refuse (length old.trace)

@@ -173,6 +173,7 @@ module _ {C : Type 0} (step : Step C) (serve : Serve C) (may : ℕ → Ending �
               before = is.2;
               so_far = so_far is.0 is.2 is.3;
               few = is.1;
+              counted = is.9;
               next = is.4;
               follows = is.5;
               stopped = is.6;

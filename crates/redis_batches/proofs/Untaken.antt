@@ -18,7 +18,7 @@ module _ {C : Type 0} (step : Step C) (serve : Serve C) (registered : Registrati
   refused_wider ending is = record { mark = is.mark; allowed = more _ ending is.allowed; trace = is.trace; keyspace = is.keyspace }
 
   lost_wider : (error : _) → IsLost step serve registered kept may node batch old new error → IsLost step serve registered kept wide node batch old new error
-  lost_wider error is = record { mark = is.mark; allowed = more _ (lost error) is.allowed; trace = is.trace; keyspace = is.keyspace }
+  lost_wider error is = record { mark = is.mark; allowed = more _ (lost error) is.allowed; each = λ i inside. more _ (lost error) (is.each i inside); trace = is.trace; keyspace = is.keyspace }
 
   cut_wider : IsCutShort step serve registered kept may node batch old new → IsCutShort step serve registered kept wide node batch old new
   cut_wider is = record { mark = is.mark; ends = is.ends; within = is.within; trace = is.trace; allowed = λ i error at. more _ (refused error) (is.allowed i error at); keyspace = is.keyspace }
@@ -27,7 +27,7 @@ module _ {C : Type 0} (step : Step C) (serve : Serve C) (registered : Registrati
   untaken_wider (sent.Refused error) is = refused_wider (refused error) is
   untaken_wider (sent.Redirected redirect) is = refused_wider (redirected redirect) is
   untaken_wider (sent.Lost error) (inl is) = inl (lost_wider error is)
-  untaken_wider (sent.Lost error) (inr is) = inr (cut_wider is)
+  untaken_wider (sent.Lost error) (inr is) = inr (cut_wider is.0, is.1)
   untaken_wider sent.Memory is = is
 
   -- a batch that was not taken by nodes that may refuse less
@@ -50,7 +50,7 @@ module _ {C : Type 0} (step : Step C) (serve : Serve C) (registered : Registrati
   for_memory (sent.Refused error) is = absurd (not_refused error is.allowed)
   for_memory (sent.Redirected redirect) is = absurd (not_redirected redirect is.allowed)
   for_memory (sent.Lost error) (inl is) = absurd (not_lost error is.allowed)
-  for_memory (sent.Lost error) (inr is) = inr is.mark
+  for_memory (sent.Lost error) (inr is) = inr is.0.mark
   for_memory sent.Memory is = inl refl
 
   not_taken_for_memory : (error : SendError) → IsNotTaken step serve registered kept may_refuse node batch old new error → (error ≡ sent.Memory) ⊎ (new.mark ≡ true)

@@ -96,7 +96,8 @@ pub record HaveAnswered (old new : List (List Answer) → Type 0) (these : List 
   pub each : length more ≡ count
   pub gave : Grew old new (these ++ more)
 
--- These were sent, and then this one, unless memory ran out before.
+-- These were sent, and then this one, but where memory ran out before.
 abbrev pub WereAskedUntil : (old new : List Batch → Type 0) → List Batch → Batch → SendError → Type 0
 WereAskedUntil old new sent last error =
-    WereAsked old new (sent ++ last ∷ []) ⊎ ((error ≡ Memory) × WereAsked old new sent)
+    ((error ≡ Memory → ⊥) × WereAsked old new (sent ++ last ∷ []))
+    ⊎ ((error ≡ Memory) × WereAsked old new sent)

@@ -1,5 +1,5 @@
 -- How a pipeline was sent in rounds, and its replies.
-use Rattle.std.specs.Prelude.{◌≡◌, ◌≤◌, ◌⊎◌, ◌++◌, ◌<◌, ℕ, List, [], None, length, map}
+use Rattle.std.specs.Prelude.{◌≡◌, ◌≤◌, ◌⊎◌, ◌+◌, ◌++◌, ◌<◌, ℕ, List, [], None, length, map}
 use Rattle.std.specs.List.{All, flat_map}
 use Rattle.cluster_slots.specs.Address.{Address}
 use Rattle.redis_routing.specs.Registry.{Registrations}
@@ -113,11 +113,13 @@ module _ {C : Type 0} (step : Step C) (serve : Serve C) (kept : Type 0)
         (numbered (map with_slots (tasks_sent sent.so_far)))
         → IsOneServer step serve registered commands old new replies
 
-  -- Some rounds were sent, and of the next one the batches up to one that was not taken.
+  -- Some rounds were sent, and of the next one the batches up to one that was not taken. The first
+  -- round counts, too.
   pub record StoppedInRounds (stop : Stopped) : Type 0 where
     pub before : State C
     pub so_far : SentSoFar step serve kept may_refuse registered is_node commands order old before
     pub few : length so_far.rounds < retries
+    pub counted : stop.rounds ≡ length so_far.rounds + 1
     pub next : Round
     pub follows : Follows (last_sent so_far) next
     pub stopped : IsRoundStopped step serve kept may_refuse registered

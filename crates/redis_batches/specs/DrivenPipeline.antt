@@ -77,7 +77,7 @@ module _ {C : Type 0} (step : Step C) (serve : Serve C) (kept : Type 0)
   IsLateFault BadOrder = ⊥
   IsLateFault (Node stop) =
       (plan : PipelineBatches) × (sendable : IsSendable registered is_node commands order plan)
-      × (stop.answered < length order)
+      × (stop.answered < length order) × (stop.rounds ≡ 0)
       × WasStopped step serve registered kept may_refuse (map with_slots sendable.of_commands.tasks)
       plan.batches.parts plan.batches.nodes sendable.batches.batch order old new stop.answered
       stop.error

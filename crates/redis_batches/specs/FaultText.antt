@@ -14,10 +14,11 @@ pipeline_fault_text (faults.NotCovered number slot) =
     codes "slot " ++ (decimal slot ++ (codes " of command " ++ (decimal number ++ codes " not covered")))
 pipeline_fault_text faults.Memory = codes "out of memory"
 
--- how the batch ended that was not taken, and how many were taken before it
+-- how the batch ended that was not taken, and how many rounds and batches were taken before it
 abbrev pub stopped_text : Stopped → List ℕ
 stopped_text stop =
-    send_error_text stop.error ++ (codes " (batches taken: " ++ (decimal stop.answered ++ codes ")"))
+    send_error_text stop.error ++ (codes " (whole rounds before: " ++ (decimal stop.rounds
+    ++ (codes ", batches taken: " ++ (decimal stop.answered ++ codes ")"))))
 
 abbrev pub pipeline_error_text : PipelineError → List ℕ
 pipeline_error_text (Plan fault) = pipeline_fault_text fault

@@ -1,5 +1,5 @@
 -- What is sent behind a first round, and what it makes of the answers.
-use Rattle.std.specs.Prelude.{◌≡◌, ◌≤◌, ◌<◌, ◌⊎◌, ◌++◌, ℕ, List, Result, length, map}
+use Rattle.std.specs.Prelude.{◌≡◌, ◌≤◌, ◌<◌, ◌⊎◌, ◌+◌, ◌++◌, ℕ, List, Result, length, map}
 use Rattle.std.specs.List.{All, flat_map}
 use Rattle.resp_core.specs.ErrorParts.{ErrorParts}
 use Rattle.resp_core.specs.declared.value.Value.{Value}
@@ -14,6 +14,12 @@ use Rattle.redis_batches.specs.Taken.{Batch, answer_of}
 use Rattle.redis_batches.specs.Turns.{answers}
 use Rattle.redis_batches.specs.declared.fault.PipelineError.{PipelineError}
 use Rattle.redis_batches.specs.declared.fault.PipelineError.TheVariants.{Plan, BadOrder, Node, Memory}
+
+-- the fault of a round behind so many others
+abbrev pub fault_behind : PipelineError → ℕ → PipelineError
+fault_behind (Node stop) rounds =
+    Node (record { error = stop.error; answered = stop.answered; rounds = rounds })
+fault_behind error rounds = error
 
 -- All stands as on one server that takes the parts of a pipeline, and the last round was answered by
 -- what stood then.
@@ -45,7 +51,7 @@ module _ {C : Type 0} (step : Step C) (serve : Serve C) (kept : Type 0)
         → Stands step serve ps refusals round start old.keyspace before
         → IsAsOne step serve ps (after_rounds refusals rounds) start new.keyspace (map answer_of after)
 
-  -- why they were not, or their answers are lost
+  -- Why they were not, or their answers are lost. The round in front of them counts, too.
   abbrev pub IsAgainFault : (asked_old asked_new : List Batch → Type 0)
       → (gave_old gave_new : List (List Answer) → Type 0) → PipelineError → Type 0
   IsAgainFault asked_old asked_new gave_old gave_new (Plan fault) = ⊥
@@ -59,6 +65,7 @@ module _ {C : Type 0} (step : Step C) (serve : Serve C) (kept : Type 0)
       (flat_map round_batches rounds ++ batches_before next stop.answered)
       (batch_after next stop.answered) stop.error
       × HaveAnswered gave_old gave_new (flat_map round_answers rounds) stop.answered
+      × (stop.rounds ≡ length rounds + 1)
   IsAgainFault asked_old asked_new gave_old gave_new Memory =
       (rounds : List Round) × (length rounds ≤ retries)
       × AreRounds step serve kept may_refuse registered arguments round rounds old new

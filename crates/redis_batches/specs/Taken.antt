@@ -1,8 +1,8 @@
 -- What a node leaves that took a batch of commands.
-use Rattle.std.specs.Prelude.{◌≡◌, ◌≤◌, ◌⊎◌, ◌+◌, ℕ, List, [], ◌++◌, Option, None, Some, Result, Ok, Err, true, false, map, length, slice_get}
+use Rattle.std.specs.Prelude.{◌≡◌, ◌<◌, ◌≤◌, ◌⊎◌, ◌+◌, ℕ, List, [], ◌++◌, Option, None, Some, Result, Ok, Err, true, false, map, length, slice_get}
 use Rattle.std.specs.List.{zip}
 use Rattle.cluster_slots.specs.Address.{Address}
-use Rattle.resp_core.specs.ErrorParts.{ErrorParts}
+use Rattle.resp_core.specs.ErrorParts.{ErrorParts, out_of_memory}
 use Rattle.resp_core.specs.View.{view}
 use Rattle.resp_core.specs.declared.value.Value.{Value}
 use Rattle.redis_routing.specs.Names.{names_of}
@@ -17,7 +17,7 @@ use Rattle.redis_cluster.specs.declared.nodes.SendError.TheVariants as sent
 use Rattle.redis_cluster.specs.State.{State}
 use Rattle.redis_batches.specs.Served.{AgreeElsewhere}
 use Rattle.redis_batches.specs.Turns.{all_after, answers}
-use Rattle.redis_batches.specs.Pipeline.{Answer, Serve, Task, over_keys, in_slot, run_ended}
+use Rattle.redis_batches.specs.Pipeline.{Answer, Serve, Task, over_keys, in_slot, run, run_ended}
 
 -- what was answered
 abbrev pub answer_of : Result Value ErrorParts → Answer
@@ -91,6 +91,11 @@ module _ {C : Type 0} (step : Step C) (serve : Serve C) where
     pub served : kept → (tasks : List Task) → map (task_of registered) batch ≡ map Some tasks
         → AreServed tasks ends old.keyspace new.keyspace given
 
+-- one server that holds these keys answers the commands so, one after the other
+abbrev pub AreAnswered : {C : Type 0} → Step C → Serve C → List Task → Keyspace C → List Answer → Type 0
+AreAnswered step serve tasks keyspace given =
+    given ≡ map (λ a. a.1) (answers (run step serve) tasks keyspace)
+
 -- what holds of the tasks of some commands
 abbrev pub AreTasks : Registrations → List (List (List ℕ)) → (List Task → Type 0) → Type 0
 AreTasks registered batch P =
@@ -142,6 +147,7 @@ module _ {C : Type 0} (step : Step C) (serve : Serve C) (registered : Registrati
   pub record IsLost (error : ErrorParts) : Type 0 where
     pub mark : new.mark ≡ false
     pub allowed : may_refuse (length old.trace) (lost error)
+    pub each : (i : ℕ) → i < length batch → may_refuse (length old.trace + i) (lost error)
     pub trace : new.trace ≡ old.trace ++ lost_entries node batch error
     pub keyspace : kept → (tasks : List Task) → map (task_of registered) batch ≡ map Some tasks
         → IsInPart step serve tasks old.keyspace new.keyspace
@@ -162,7 +168,7 @@ module _ {C : Type 0} (step : Step C) (serve : Serve C) (registered : Registrati
   abbrev pub IsUntaken : SendError → Type 0
   IsUntaken (sent.Refused error) = IsRefused kept may_refuse old new (refused error)
   IsUntaken (sent.Redirected redirect) = IsRefused kept may_refuse old new (redirected redirect)
-  IsUntaken (sent.Lost error) = IsLost error ⊎ IsCutShort
+  IsUntaken (sent.Lost error) = IsLost error ⊎ (IsCutShort × (error ≡ out_of_memory))
   IsUntaken sent.Memory = IsUnsent old new
 
   -- so it was, or memory ran out before the node was asked

@@ -1,4 +1,4 @@
-ghost use Rattle.std.specs.Prelude.{◌≡◌, ◌↔◌, ◌++◌, ◌∷◌, ℕ, List, Option, [], false, map, length, IfOk, IfErr, OnOk, OnErr};
+ghost use Rattle.std.specs.Prelude.{◌≡◌, ◌↔◌, ◌++◌, ◌∷◌, ℕ, List, None, Option, [], false, map, length, IfOk, IfErr, OnOk, OnErr};
 ghost use Rattle.redis_routing.specs.Registry.{Registrations};
 ghost use Rattle.resp_core.specs.ErrorParts.{ErrorParts};
 ghost use Rattle.redis_cluster.specs.Sent.{IsIdleIfRefused};
@@ -7,7 +7,7 @@ ghost use Rattle.redis_cluster.specs.Unsplit.{Step};
 ghost use Rattle.redis_cluster.specs.State.{State};
 ghost use Rattle.redis_batches.specs.Driven.{WereAsked, WereAskedUntil};
 ghost use Rattle.redis_batches.specs.Pipeline.{Answer, Serve};
-ghost use Rattle.redis_batches.specs.Taken.{answer_of, AreServed, AreTasks, Batch, IsTaken, IsUntaken, batch_entries, batch_for};
+ghost use Rattle.redis_batches.specs.Taken.{answer_of, AreAnswered, AreServed, AreTasks, Batch, IsTaken, IsUntaken, batch_entries, batch_for};
 
 use cluster_slots::NodeAddress;
 use redis_cluster::driver::SendError;
@@ -98,6 +98,8 @@ pub trait BatchNodes {
         // Where nothing was sent, it may be that no answer came. Since a batch that was refused leaves
         // no entry, an empty trace alone does not tell that.
         ensures gave_at_first { (state self.old).trace ≡ [] → asked self.old [] → gave self.old [] }
+        // There are answers that may be those so far.
+        ensures gave_so_far { (given : List (List Answer)) × gave self.old given }
         ensures gave { IfOk result (λ answers. (before : List (List Answer)) → gave self.old before
             → gave self.new (before ++ map answer_of answers.items ∷ [])) }
         ensures gave_none { OnErr result ((before : List (List Answer)) → gave self.old before
@@ -113,6 +115,13 @@ pub trait BatchNodes {
             → AreTasks (registered self.old) (map (λ cmd. cmd.now) batch.now) (λ tasks.
             AreServed step serve tasks ends (state self.old).keyspace (state self.new).keyspace
             (map answer_of answers.items))
+            → kept self.new) }
+        // where all were answered whatever is said of the keys,
+        ensures stays_kept_answered { IfOk result (λ answers. kept self.old
+            → (state self.new).trace ≡ (state self.old).trace
+            ++ batch_entries node.now (map (λ cmd. cmd.now) batch.now) (map (λ cmd. None) batch.now)
+            → AreTasks (registered self.old) (map (λ cmd. cmd.now) batch.now) (λ tasks.
+            AreAnswered step serve tasks (state self.old).keyspace (map answer_of answers.items))
             → kept self.new) }
         // and where no answers came, unless a batch did something that was refused or sent on.
         ensures kept_untaken { IfErr result (λ error. kept self.old

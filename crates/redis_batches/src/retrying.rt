@@ -7,7 +7,7 @@ ghost use Rattle.redis_cluster.specs.Trace.{Ending};
 ghost use Rattle.redis_batches.specs.CommandTask.{slots_kept};
 ghost use Rattle.redis_batches.specs.DrivenInRounds.{AreServedInRounds, IsRoundsFault};
 ghost use Rattle.redis_batches.specs.DrivenPipeline.{IsBeforeSending};
-ghost use Rattle.redis_batches.specs.InRounds.{AreSentAgain, IsAgainFault};
+ghost use Rattle.redis_batches.specs.InRounds.{AreSentAgain, IsAgainFault, fault_behind};
 ghost use Rattle.redis_batches.specs.Outgoing.{ArePartsOf, GoesBehind, IsNext};
 ghost use Rattle.redis_batches.specs.PartArguments.{sent_args};
 ghost use Rattle.redis_batches.specs.Pipeline.{Planned};
@@ -54,8 +54,8 @@ use std::alloc::{AllocError, Global};
 /// # Errors
 ///
 /// As `drive_pipeline` has them. `Node` where a batch of some round was not taken: how many of that
-/// round were before it. `Memory` where memory ran out between two rounds or at the end: the replies
-/// are lost.
+/// round were before it, and how many rounds were sent whole before that, the first one counted.
+/// `Memory` where memory ran out between two rounds or at the end: the replies are lost.
 pub fn drive_pipeline_retrying<N: BatchNodes>(
     alloc: Global,
     commands: &[Cmd],
@@ -161,16 +161,29 @@ fn send_again<N: BatchNodes>(
     ensures registered { N.registered nodes.new ≡ N.registered nodes.old }
 {
     let mut out = out;
-    for _ in 0..retries {
+    for round in 0..retries {
         if out.numbers.is_empty() {
             return Ok(());
         }
         match send_round(alloc, parts, slots, &out, answers, nodes) {
             Ok(next) => out = next,
-            Err(error) => return Err(error),
+            Err(error) => return Err(fault_behind(error, round + 1)),
         }
     }
     Ok(())
+}
+
+/// The fault of a round behind so many others.
+fn fault_behind(error: PipelineError, rounds: usize) -> PipelineError
+    ensures { result ≡ fault_behind error rounds }
+{
+    match error {
+        PipelineError::Node(mut stop) => {
+            stop.rounds = rounds;
+            PipelineError::Node(stop)
+        }
+        error => error,
+    }
 }
 
 /// The parts that go out again after all parts were answered.

@@ -16,14 +16,16 @@ use std::alloc::Global;
 use std::error::Error;
 use std::fmt;
 
-/// A batch was not taken, for this cause. The first `answered` batches of the order were, and no
-/// later one was sent.
+/// A batch was not taken, for this cause. The first `answered` batches of its round were, and no later
+/// one was sent. A pipeline that is sent without rounds has one, the first.
 #[derive(Debug, Drop)]
 pub struct Stopped {
     /// How the batch ended that was not taken.
     pub error: SendError,
-    /// How many batches were taken before it.
+    /// How many batches of its round were taken before it.
     pub answered: usize,
+    /// How many rounds were sent whole before that one: none, where it is the first.
+    pub rounds: usize,
 }
 
 impl fmt::Display for Stopped {
@@ -34,7 +36,8 @@ impl fmt::Display for Stopped {
     fn fmt<W: fmt::Write>(&self, f: &mut fmt::Formatter<W>) -> fmt::Result {
         let error = &self.error;
         let answered = self.answered;
-        write!(f, "{error} (batches taken: {answered})")
+        let rounds = self.rounds;
+        write!(f, "{error} (whole rounds before: {rounds}, batches taken: {answered})")
     }
 }
 
@@ -84,6 +87,7 @@ pub fn send_batches<N: BatchNodes>(
     ensures gave_until { IfErr result
         (λ stop. HaveAnswered (N.gave nodes.old) (N.gave nodes.new) [] stop.answered) }
     ensures within { IfErr result (λ stop. stop.answered < length order.now) }
+    ensures first_round { IfErr result (λ stop. stop.rounds ≡ 0) }
     ensures room { length plan.new.answers ≡ length plan.old.parts }
     ensures parts { plan.new.parts ≡ plan.old.parts }
     ensures kept { N.kept nodes.new → N.kept nodes.old }
@@ -95,7 +99,13 @@ pub fn send_batches<N: BatchNodes>(
     for number in order {
         match send_one(alloc, plan, *number, nodes) {
             Ok(answers) => tell_first(plan, *number, answers),
-            Err(error) => return Err(Stopped { error, answered }),
+            Err(error) => {
+                return Err(Stopped {
+                    error,
+                    answered,
+                    rounds: 0,
+                });
+            }
         }
         answered += 1;
     }

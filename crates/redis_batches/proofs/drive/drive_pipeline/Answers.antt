@@ -28,7 +28,7 @@ returns-in-Err-send_batches-clause-fault g c =
     let old = nodes.state c.args.nodes.now in
     let new = nodes.state c.send_batches.new.nodes in
     pipeline_stopped nodes.step nodes.serve (nodes.kept c.send_batches.new.nodes) (nodes.may_refuse c.args.nodes.now) (nodes.registered c.args.nodes.now) is_node c.args.commands.now c.args.order.now old new
-    c.in-Ok.plan c.into_parts-tasks.result.1 c.into_parts-tasks.ensures.batches sendable c.in-Err-send_batches.stop c.in-Err-send_batches.ensures.within c.in-Err-send_batches.ensures.stopped
+    c.in-Ok.plan c.into_parts-tasks.result.1 c.into_parts-tasks.ensures.batches sendable c.in-Err-send_batches.stop c.in-Err-send_batches.ensures.within c.in-Err-send_batches.ensures.first_round c.in-Err-send_batches.ensures.stopped
 
 pub returns-in-Ok-replies_of-clause-served : goal.returns-in-Ok-replies_of-clause-served
 returns-in-Ok-replies_of-clause-served g c =

@@ -40,7 +40,7 @@ returns-in-Err-send_batches-clause-fault g c =
     inl (
       pipeline_stopped nodes.step nodes.serve (nodes.kept c.send_batches.new.nodes) (nodes.may_refuse c.args.nodes.now) (nodes.registered c.args.nodes.now) is_node c.args.commands.now c.args.order.now
           (nodes.state c.args.nodes.now) (nodes.state c.send_batches.new.nodes) c.in-Ok.plan c.into_placed-tasks.result.1 c.into_placed-tasks.ensures.batches c.in-Ok.ensures.sendable stop
-          c.in-Err-send_batches.ensures.within c.in-Err-send_batches.ensures.stopped,
+          c.in-Err-send_batches.ensures.within c.in-Err-send_batches.ensures.first_round c.in-Err-send_batches.ensures.stopped,
       (c.in-Ok.plan, c.in-Ok.ensures.sendable, asked),
       c.in-Err-send_batches.ensures.gave_until,
     )
