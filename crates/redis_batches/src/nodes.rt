@@ -74,8 +74,9 @@ pub trait BatchNodes {
         batch: &[&Cmd],
     ) -> Result<Vec<Result<Value, RedisError>>, SendError>
         ensures answers { IfOk result (λ answers. length answers.items ≡ length batch.now) }
-        // The trace has an entry for each command, in order, answered or refused, as it may be. Where
-        // the nodes keep to the meaning, the answers and the keyspace are those by it.
+        // The trace has an entry for each command, in order, answered or refused, as it may be, and what
+        // was refused is answered by its error. Where the nodes keep to the meaning, the answers and the
+        // keyspace are those by it.
         ensures taken { IfOk result (λ answers.
             IsTaken step serve (registered self.old) (kept self.new) (may_refuse self.old)
             node.now (map (λ cmd. cmd.now) batch.now)
