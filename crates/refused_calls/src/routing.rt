@@ -1,29 +1,28 @@
-//! Calls of `redis_routing` and `redis_routing`.
-use crate::fault::Fault;
-use crate::inputs::{LONG_HOST, address, cmd, read_only, routes};
-use crate::page::Page;
+//! Calls of `redis_routing`.
+use crate::inputs::{Known, read_only, routes};
+use printed_calls::{Fault, LONG_HOST, Page, address, cmd};
 use redis_cluster::routing::{
-    AggregateOp, MultiSlotArgPattern, MultipleNodeRoutingInfo, Names, ReadOnlyNames, Redirect,
+    AggregateOp, MultiSlotArgPattern, MultipleNodeRoutingInfo, ReadOnlyNames, Redirect,
     RegisterError, Registry, ResponsePolicy, Routable, RoutingInfo, SingleNodeRoutingInfo,
     SplitCommand, command_for_multi_slot_indices, command_for_multi_slot_indices_with,
     multi_slot_routes,
 };
-use std::alloc::{AllocError, Global};
+use std::alloc::Global;
 
 /// What a name is registered with.
 type Registered = (MultiSlotArgPattern, ResponsePolicy);
 
-/// Calls of `redis_routing`.
+/// Makes a call on names, by its name.
 pub fn call_of_names(page: &Page<'_>, alloc: Global, name: &str) -> Result<(), Fault> {
     match name {
-        "ReadOnlyNames::new" => page.answer(&has_names(&ReadOnlyNames::new(alloc))),
-        "ReadOnlyNames::insert" => insert(page, alloc),
-        "RegisterError::Display" => page.given(&format!(in alloc; "{}", RegisterError::Taken)),
-        "Registry::new" => page.answer(&standing(&Registry::new(alloc))),
-        "Registry::register" => register(page, alloc),
-        "Registry::eq" => page.answer(&(registry(alloc)? == registry(alloc)?)),
-        "Registry::clone" => page.given(&registry(alloc)?.clone().map(|copy| standing(&copy))),
-        "Routable::command" => page.given(&cmd(alloc, "cluster info")?.command(alloc)),
+        "ReadOnlyNames::new" => page.answer(has_names(&ReadOnlyNames::new(alloc))),
+        "ReadOnlyNames::insert" => insert(page, alloc, &mut read_only(alloc)?),
+        "RegisterError::Display" => page.display(alloc, Ok(RegisterError::Taken)),
+        "Registry::new" => page.answer(standing(&Registry::new(alloc))),
+        "Registry::register" => register(page, alloc, &mut registry(alloc)?),
+        "Registry::eq" => page.equal(registry(alloc), registry(alloc)),
+        "Registry::clone" => copied(page, &registry(alloc)?),
+        "Routable::command" => page.given(cmd(alloc, "cluster info")?.command(alloc)),
         _ => Err(Fault::Words),
     }
 }
@@ -33,12 +32,10 @@ fn has_names(names: &ReadOnlyNames) -> (bool, bool) {
     (names.contains(b"MGET"), names.contains(b"GET"))
 }
 
-fn insert(page: &Page<'_>, alloc: Global) -> Result<(), Fault> {
-    let mut names = read_only(alloc)?;
-    page.before(&has_names(&names))?;
+fn insert(page: &Page<'_>, alloc: Global, names: &mut ReadOnlyNames) -> Result<(), Fault> {
+    page.before(&has_names(names))?;
     let given = names.insert(alloc, b"get");
-    page.given(&given)?;
-    page.after(&has_names(&names))
+    page.left(given, &has_names(names))
 }
 
 /// How many names are registered, and what `OBJECT PUT` and `COUNTKEYS` are registered with.
@@ -58,48 +55,38 @@ fn registry(alloc: Global) -> Result<Registry, Fault> {
     Ok(registry)
 }
 
-fn register(page: &Page<'_>, alloc: Global) -> Result<(), Fault> {
-    let mut registry = registry(alloc)?;
-    page.before(&standing(&registry))?;
+fn register(page: &Page<'_>, alloc: Global, registry: &mut Registry) -> Result<(), Fault> {
+    page.before(&standing(registry))?;
     let policy = ResponsePolicy::Aggregate(AggregateOp::Sum);
     let given = registry.register(alloc, b"countkeys", MultiSlotArgPattern::KeysOnly, policy);
-    page.given(&given)?;
-    page.after(&standing(&registry))
+    page.left(given, &standing(registry))
 }
 
-/// Calls of `redis_routing`.
+fn copied(page: &Page<'_>, registry: &Registry) -> Result<(), Fault> {
+    match registry.clone() {
+        Ok(copy) => page.answer(standing(&copy)),
+        Err(_) => page.out_of_memory(""),
+    }
+}
+
+/// Makes a call on routings and routes, by its name.
 pub fn call(page: &Page<'_>, alloc: Global, name: &str) -> Result<(), Fault> {
     match name {
-        "Redirect::clone" => page.given(&Redirect::Moved(address(alloc, LONG_HOST)?).clone()),
-        "Redirect::from_error_text" => page.given(&redirect(alloc)),
-        "SingleNodeRoutingInfo::clone" => page.given(&by_address(alloc)?.clone()),
-        "MultipleNodeRoutingInfo::clone" => page.given(&multi_slot(alloc)?.clone()),
-        "RoutingInfo::clone" => {
-            page.given(&RoutingInfo::MultiNode((multi_slot(alloc)?, None)).clone())
-        }
-        "RoutingInfo::for_routable" => {
-            let command = cmd(alloc, "MGET a b a")?;
-            page.given(&RoutingInfo::for_routable(alloc, &command, &read_only(alloc)?))
-        }
-        "RoutingInfo::for_routable_with" => {
-            let command = cmd(alloc, "OBJECT PUT a 1 b 2 a 3")?;
-            let registry = registry(alloc)?;
-            let read_only = read_only(alloc)?;
-            let info = RoutingInfo::for_routable_with(alloc, &command, &read_only, &registry);
-            page.given(&info)
-        }
-        "multi_slot_routes" => {
-            let command = cmd(alloc, "MGET a b a")?;
-            let (read_only, registry) = (read_only(alloc)?, Registry::new(alloc));
-            page.given(&multi_slot_routes(alloc, &command, names_of(&read_only, &registry)))
-        }
+        "Redirect::clone" => page.copied(moved(alloc)),
+        "Redirect::from_error_text" => redirect(page, alloc),
+        "SingleNodeRoutingInfo::clone" => page.copied(by_address(alloc)),
+        "MultipleNodeRoutingInfo::clone" => page.copied(multi_slot(alloc)),
+        "RoutingInfo::clone" => page.copied(to_several(alloc)),
+        "RoutingInfo::for_routable" => routed(page, alloc),
+        "RoutingInfo::for_routable_with" => routed_with(page, alloc),
+        "multi_slot_routes" => routes_of(page, alloc),
         "command_for_multi_slot_indices" => {
             let command = cmd(alloc, "MGET a b a")?;
-            page.given(&command_for_multi_slot_indices(alloc, &command, &[0, 2]))
+            page.given(command_for_multi_slot_indices(alloc, &command, &[0, 2]))
         }
         "command_for_multi_slot_indices_with" => {
             let command = cmd(alloc, "OBJECT PUT a 1 b 2")?;
-            page.given(&command_for_multi_slot_indices_with(alloc, &command, 2, &[0, 1]))
+            page.given(command_for_multi_slot_indices_with(alloc, &command, 2, &[0, 1]))
         }
         "SplitCommand::new" => split(page, alloc),
         "SplitCommand::part" => part(page, alloc),
@@ -107,49 +94,67 @@ pub fn call(page: &Page<'_>, alloc: Global, name: &str) -> Result<(), Fault> {
     }
 }
 
-fn names_of<'a>(read_only: &'a ReadOnlyNames, registry: &'a Registry) -> Names<'a> {
-    Names {
-        read_only,
-        registry,
-    }
+fn moved(alloc: Global) -> Result<Redirect, Fault> {
+    Ok(Redirect::Moved(address(alloc, LONG_HOST)?))
 }
 
 /// The number of the slot, and the redirect, that a text of a long host tells.
-fn redirect(alloc: Global) -> Result<Option<(u16, Redirect)>, AllocError> {
-    let text = format!(in alloc; "MOVED 3999 {LONG_HOST}:6381")?;
-    match Redirect::from_error_text(alloc, text.as_str(), "n1")? {
-        Some((slot, redirect)) => Ok(Some((slot.number(), redirect))),
-        None => Ok(None),
+fn redirect(page: &Page<'_>, alloc: Global) -> Result<(), Fault> {
+    let text = "MOVED 3999 node-1.example.org:6381";
+    match Redirect::from_error_text(alloc, text, "n1") {
+        Ok(Some((slot, redirect))) => page.answer(Some((slot.number(), redirect))),
+        Ok(None) => Err(Fault::Refused),
+        Err(_) => page.out_of_memory(""),
     }
 }
 
-fn by_address(alloc: Global) -> Result<SingleNodeRoutingInfo, AllocError> {
+fn by_address(alloc: Global) -> Result<SingleNodeRoutingInfo, Fault> {
     let host = format!(in alloc; "n1")?;
     Ok(SingleNodeRoutingInfo::ByAddress { host, port: 1 })
 }
 
-fn multi_slot(alloc: Global) -> Result<MultipleNodeRoutingInfo, AllocError> {
+fn multi_slot(alloc: Global) -> Result<MultipleNodeRoutingInfo, Fault> {
     let pattern = MultiSlotArgPattern::KeysOnly;
     Ok(MultipleNodeRoutingInfo::MultiSlot((routes(alloc)?, pattern)))
 }
 
+fn to_several(alloc: Global) -> Result<RoutingInfo, Fault> {
+    Ok(RoutingInfo::MultiNode((multi_slot(alloc)?, None)))
+}
+
+fn routed(page: &Page<'_>, alloc: Global) -> Result<(), Fault> {
+    let command = cmd(alloc, "MGET a b a")?;
+    page.given(RoutingInfo::for_routable(alloc, &command, &read_only(alloc)?))
+}
+
+fn routed_with(page: &Page<'_>, alloc: Global) -> Result<(), Fault> {
+    let command = cmd(alloc, "OBJECT PUT a 1 b 2 a 3")?;
+    let registry = registry(alloc)?;
+    let none = ReadOnlyNames::new(alloc);
+    page.given(RoutingInfo::for_routable_with(alloc, &command, &none, &registry))
+}
+
+fn routes_of(page: &Page<'_>, alloc: Global) -> Result<(), Fault> {
+    let command = cmd(alloc, "MGET a b a")?;
+    let known = Known::new(alloc)?;
+    page.given(multi_slot_routes(alloc, &command, known.names()))
+}
+
 fn split(page: &Page<'_>, alloc: Global) -> Result<(), Fault> {
     let command = cmd(alloc, "MSET a 1 b 2 a 3")?;
-    let (read_only, registry) = (read_only(alloc)?, Registry::new(alloc));
-    match SplitCommand::new(alloc, &command, names_of(&read_only, &registry)) {
-        Ok(Some(split)) => page.answer(&split.routes()),
-        Ok(None) => page.answer(&"not split"),
+    let known = Known::new(alloc)?;
+    match SplitCommand::new(alloc, &command, known.names()) {
+        Ok(Some(split)) => page.answer(split.routes()),
+        Ok(None) => Err(Fault::Refused),
         Err(_) => page.out_of_memory(""),
     }
 }
 
 fn part(page: &Page<'_>, alloc: Global) -> Result<(), Fault> {
     let command = cmd(alloc, "MSET a 1 b 2 a 3")?;
-    let (read_only, registry) = (read_only(alloc)?, Registry::new(alloc));
-    let names = names_of(&read_only, &registry);
-    let split = SplitCommand::new(alloc, &command, names)?.ok_or(Fault::Refused)?;
-    if split.len() < 2 {
-        return Err(Fault::Refused);
+    let known = Known::new(alloc)?;
+    match SplitCommand::new(alloc, &command, known.names())? {
+        Some(split) if split.len() > 1 => page.given(split.part(alloc, 0)),
+        _ => Err(Fault::Refused),
     }
-    page.given(&split.part(alloc, 0))
 }

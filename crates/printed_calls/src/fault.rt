@@ -1,4 +1,4 @@
-use redis_cluster::routing::RegisterError;
+use redis_routing::RegisterError;
 use resp_core::{ErrorKind, RedisError};
 use std::alloc::{AllocError, AllocFailed};
 use std::io;
