@@ -36,7 +36,11 @@ pub fn call(page: &Page<'_>, alloc: Global, name: &str) -> Result<(), Fault> {
 
 fn stopped(alloc: Global) -> Result<Stopped, Fault> {
     let error = SendError::Refused(error(alloc)?);
-    Ok(Stopped { error, answered: 1 })
+    Ok(Stopped {
+        error,
+        answered: 1,
+        rounds: 0,
+    })
 }
 
 fn pipeline_error(alloc: Global) -> Result<PipelineError, Fault> {
