@@ -1,0 +1,16 @@
+-- What a client stands on.
+use Rattle.redis_routing.specs.Registry.{Registrations}
+use Rattle.wire_batches.specs.declared.logged.LoggedBatches.{LoggedBatches}
+use Rattle.wire_batches.specs.declared.batches.WireBatches.{WireBatches}
+
+-- the connections of a client
+abbrev pub wire_in : {W M : Type 0} → WireBatches W M → W
+wire_in nodes = nodes.wire
+
+-- the names that are registered with it
+abbrev pub registry_in : {W M : Type 0} → WireBatches W M → Registrations
+registry_in nodes = nodes.registry
+
+-- the transport of logged connections
+abbrev pub transport_in : {T : Type 0} → LoggedBatches T → T
+transport_in wire = wire.transport

@@ -1,0 +1,4 @@
+pub mod Said
+pub mod Replay
+pub mod Logged
+pub mod Held

@@ -1,0 +1,180 @@
+ghost use Rattle.std.specs.Prelude.{◌≡◌, ◌↔◌, ℕ, List, [], Bool, false, map, ⊤};
+ghost use Rattle.resp_core.specs.ErrorParts.{ErrorParts};
+ghost use Rattle.redis_cluster.specs.State.{state};
+ghost use Rattle.redis_cluster.specs.Unsplit.{Step, Keyspace};
+ghost use Rattle.redis_batches.specs.Pipeline.{Answer, Serve};
+ghost use Rattle.redis_batches.specs.Taken.{Batch};
+ghost use Rattle.wire_batches.specs.Said.{answers_in, batch_by, trace_by};
+ghost use Rattle.wire_batches.specs.Replay.{replay, AreKept};
+ghost use Rattle.wire_batches.specs.Held.{registry_in, wire_in, transport_in};
+
+use crate::logged::{BatchTransport, LoggedBatches};
+use crate::wire::BatchWire;
+use cluster_slots::NodeAddress;
+use redis_batches::BatchNodes;
+use redis_cluster::driver::SendError;
+use redis_routing::Registry;
+use resp_core::{Cmd, RedisError, Value};
+use std::marker::PhantomData;
+
+/// What commands are thought to mean, and what the nodes are thought to hold at first. No code reads
+/// it: what is proved for each `BatchMeaning` holds for any.
+pub trait BatchMeaning {
+    /// What stands at a key.
+    ghost Cell: { Type 0 };
+
+    /// What one key of a command over many keys does to its cell and adds to the reply.
+    ghost step: { Step Cell };
+
+    /// What any other command does to what stands at the keys of its slot, and what it answers.
+    ghost serve: { Serve Cell };
+
+    /// Whether an error that came as an answer tells that the node refused the command, as `MOVED`
+    /// does, and is none of the command's own.
+    ghost refuses: { ErrorParts → Bool };
+
+    /// What the nodes hold before the first batch.
+    ghost initial: { Keyspace Cell };
+
+    /// Of a batch whose answers were lost, by its number in the log, counted from 0: whether its
+    /// command of this place took effect. Nobody knows it, and what is proved for each
+    /// `BatchMeaning` holds for either.
+    ghost took: { ℕ → ℕ → Bool };
+}
+
+/// Nodes behind connections that take batches. They keep to a meaning exactly where the answers that
+/// the connections gave are those that the commands so far give by it, where what was refused did
+/// nothing.
+pub struct WireBatches<W, M> {
+    wire: W,
+    registry: Registry,
+    mark: bool,
+    meaning: PhantomData<M>,
+}
+
+impl<W: BatchWire, M: BatchMeaning> WireBatches<W, M> {
+    /// Nodes behind these connections, which may have sent something before. A command of a name of
+    /// the registry may be part of a pipeline, too.
+    pub fn new(wire: W, registry: Registry) -> Self
+        ensures wire { wire_in result ≡ wire }
+        ensures registered { ⟦<WireBatches<W, M> as BatchNodes>⟧.registered result ≡ registry }
+        ensures trace { (⟦<WireBatches<W, M> as BatchNodes>⟧.state result).trace
+            ≡ trace_by M.refuses (W.log wire) }
+        ensures keyspace { (⟦<WireBatches<W, M> as BatchNodes>⟧.state result).keyspace
+            ≡ replay registry M.refuses M.step M.serve M.took (W.log wire) M.initial }
+        ensures kept { AreKept registry M.refuses M.step M.serve M.took (W.log wire) M.initial
+            ↔ ⟦<WireBatches<W, M> as BatchNodes>⟧.kept result }
+        ensures asked { (batches : List Batch) → ⟦<WireBatches<W, M> as BatchNodes>⟧.asked result batches
+            ↔ (batches ≡ map batch_by (W.log wire)) }
+        ensures gave { (answers : List (List Answer)) → ⟦<WireBatches<W, M> as BatchNodes>⟧.gave result answers
+            ↔ (answers ≡ answers_in (W.log wire)) }
+        ensures mark { (⟦<WireBatches<W, M> as BatchNodes>⟧.state result).mark ≡ false }
+    {
+        WireBatches {
+            wire,
+            registry,
+            mark: false,
+            meaning: PhantomData,
+        }
+    }
+
+    /// The connections.
+    pub fn into_wire(self) -> W
+        ensures wire { result ≡ wire_in self }
+        // What contracts say of a client is said of the log of these connections, at any time.
+        ensures trace { (⟦<WireBatches<W, M> as BatchNodes>⟧.state self).trace
+            ≡ trace_by M.refuses (W.log result) }
+        ensures keyspace { (⟦<WireBatches<W, M> as BatchNodes>⟧.state self).keyspace
+            ≡ replay (registry_in self) M.refuses M.step M.serve M.took (W.log result) M.initial }
+        ensures kept { AreKept (registry_in self) M.refuses M.step M.serve M.took (W.log result) M.initial
+            ↔ ⟦<WireBatches<W, M> as BatchNodes>⟧.kept self }
+        ensures asked { (batches : List Batch) → ⟦<WireBatches<W, M> as BatchNodes>⟧.asked self batches
+            ↔ (batches ≡ map batch_by (W.log result)) }
+        ensures gave { (answers : List (List Answer)) → ⟦<WireBatches<W, M> as BatchNodes>⟧.gave self answers
+            ↔ (answers ≡ answers_in (W.log result)) }
+    {
+        let WireBatches {
+            wire,
+            registry: _,
+            mark: _,
+            meaning: _,
+        } = self;
+        wire
+    }
+}
+
+impl<T: BatchTransport, M: BatchMeaning> WireBatches<LoggedBatches<T>, M> {
+    /// Nodes behind a transport, to which nothing was sent yet. A command of a name of the registry
+    /// may be part of a pipeline, too.
+    pub fn over(transport: T, registry: Registry) -> Self
+        ensures transport { transport_in (wire_in result) ≡ transport }
+        ensures registered { ⟦<WireBatches<LoggedBatches<T>, M> as BatchNodes>⟧.registered result ≡ registry }
+        ensures trace { (⟦<WireBatches<LoggedBatches<T>, M> as BatchNodes>⟧.state result).trace ≡ [] }
+        ensures keyspace { (⟦<WireBatches<LoggedBatches<T>, M> as BatchNodes>⟧.state result).keyspace ≡ M.initial }
+        ensures kept { ⟦<WireBatches<LoggedBatches<T>, M> as BatchNodes>⟧.kept result }
+        ensures asked { (batches : List Batch)
+            → ⟦<WireBatches<LoggedBatches<T>, M> as BatchNodes>⟧.asked result batches ↔ (batches ≡ []) }
+        ensures gave { (answers : List (List Answer))
+            → ⟦<WireBatches<LoggedBatches<T>, M> as BatchNodes>⟧.gave result answers ↔ (answers ≡ []) }
+        ensures mark { (⟦<WireBatches<LoggedBatches<T>, M> as BatchNodes>⟧.state result).mark ≡ false }
+    {
+        WireBatches::new(LoggedBatches::new(transport), registry)
+    }
+}
+
+impl<W: BatchWire, M: BatchMeaning> BatchNodes for WireBatches<W, M> {
+    ghost Cell = { M.Cell };
+
+    ghost step = { M.step };
+
+    ghost serve = { M.serve };
+
+    ghost registered = { λ nodes. nodes.registry };
+
+    ghost state = { λ nodes. state
+        (replay nodes.registry M.refuses M.step M.serve M.took (W.log nodes.wire) M.initial)
+        (trace_by M.refuses (W.log nodes.wire)) nodes.mark };
+
+    ghost may_refuse = { λ nodes count ending. ⊤ };
+
+    ghost kept = { λ nodes. AreKept nodes.registry M.refuses M.step M.serve M.took (W.log nodes.wire) M.initial };
+
+    ghost asked = { λ nodes batches. batches ≡ map batch_by (W.log nodes.wire) };
+
+    ghost gave = { λ nodes answers. answers ≡ answers_in (W.log nodes.wire) };
+
+    fn registry(&self) -> &Registry {
+        &self.registry
+    }
+
+    fn send_batch(
+        &mut self,
+        node: &NodeAddress,
+        batch: &[&Cmd],
+    ) -> Result<Vec<Result<Value, RedisError>>, SendError> {
+        match self.wire.exchange(node, batch) {
+            Ok(answers) => {
+                self.mark = false;
+                Ok(answers)
+            }
+            Err(error) => match error {
+                SendError::Refused(error) => {
+                    self.mark = false;
+                    Err(SendError::Refused(error))
+                }
+                SendError::Redirected(redirect) => {
+                    self.mark = false;
+                    Err(SendError::Redirected(redirect))
+                }
+                SendError::Lost(error) => {
+                    self.mark = false;
+                    Err(SendError::Lost(error))
+                }
+                SendError::Memory => {
+                    self.mark = true;
+                    Err(SendError::Memory)
+                }
+            },
+        }
+    }
+}
