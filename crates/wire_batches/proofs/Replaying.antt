@@ -1,8 +1,7 @@
 -- One batch more.
 use Rattle.std.proofs.Common.{◌≡◌, ℕ, zero, suc, List, [], ◌∷◌, ◌++◌, Bool, true, false, cond, Option, None, Some, Ok, Err, length, map, arith, refl, sym, ap, ◌∙◌, subst, append_assoc}
-use Rattle.std.specs.Prelude.{slice_get}
 use Rattle.std.specs.List.{zip}
-use Rattle.std.proofs.lemmas.List.{length-map, map_push, append-nil}
+use Rattle.std.proofs.lemmas.List.{append-nil, length-map}
 use Rattle.resp_core.specs.ErrorParts.{ErrorParts}
 use Rattle.cluster_slots.specs.Address.{Address}
 use Rattle.redis_routing.specs.Registry.{Registrations}
@@ -10,8 +9,8 @@ use Rattle.redis_cluster.specs.Trace.{Entry, entry}
 use Rattle.redis_cluster.specs.Unsplit.{Step, Keyspace}
 use Rattle.redis_batches.specs.Pipeline.{Answer, Serve, Task, run, run_ended}
 use Rattle.redis_batches.specs.Taken.{AnswersRefusals, AreAnswered, AreServed, AreTasks, IsInPart, batch_entries, ending_by, task_of}
-use Rattle.redis_batches.specs.Turns.{all_after, answers}
-use Rattle.wire_batches.specs.Said.{Said, Outcome, said, given, refusal, redirection, loss, answers_by, answers_in, batch_by, entries_of, refusal_by, trace_by}
+use Rattle.redis_batches.specs.Turns.{answers}
+use Rattle.wire_batches.specs.Said.{Said, Outcome, said, given, loss, answers_by, answers_in, batch_by, entries_of, refusal_by, trace_by}
 use Rattle.wire_batches.specs.Replay.{add_task, after_outcome, after_said, ends_by, replay, tasks_in, IsKept, AreKept}
 
 not_empty : {X : Type 0} (x : X) (xs : List X) → x ∷ xs ≡ [] → ⊥
