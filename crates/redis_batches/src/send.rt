@@ -37,7 +37,10 @@ impl fmt::Display for Stopped {
         let error = &self.error;
         let answered = self.answered;
         let rounds = self.rounds;
-        write!(f, "{error} (whole rounds before: {rounds}, batches taken: {answered})")
+        write!(
+            f,
+            "{error} (whole rounds before: {rounds}, batches taken: {answered})"
+        )
     }
 }
 
