@@ -1,0 +1,7 @@
+//! A client over connections that take batches, and give whatever they give.
+#![tactic(auto)]
+
+pub mod client;
+pub mod scripted;
+#[cfg(test)]
+mod tests;
