@@ -89,6 +89,7 @@ pipeline_run direction registered ranges names commands order may_refuse new rep
             refusals = own.taken.served.refusals;
             trace = own.taken.served.trace;
             allowed = never_allowed may_refuse none _ _ own.taken.served.allowed;
+            errors = own.taken.served.errors;
             keyspace = own.taken.served.keyspace;
             answers_are = own.taken.served.answers_are;
           };
