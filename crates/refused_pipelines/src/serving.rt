@@ -1,4 +1,6 @@
 //! Calls of `slotroute_serve`.
+ghost use Rattle.slotroute_serve.specs.Commands.{RefuseNothing};
+
 use memory_nodes::MemoryNodes;
 use printed_calls::{Fault, Page, map};
 use slotroute_serve::{
@@ -46,10 +48,9 @@ fn run(page: &Page<'_>, alloc: Global) -> Result<(), Fault> {
     print_sends(page, &nodes)
 }
 
-fn run_over(
-    alloc: Global,
-    nodes: &mut MemoryNodes,
-) -> Result<Result<Vec<u8>, CommandFault>, Fault> {
+fn run_over(alloc: Global, nodes: &mut MemoryNodes) -> Result<Result<Vec<u8>, CommandFault>, Fault>
+    requires willing { RefuseNothing nodes.old }
+{
     let map = map(alloc)?;
     let names = read_only_names(alloc)?;
     let words: [&[u8]; 5] = [b"MSET", b"a", b"1", b"b", b"2"];

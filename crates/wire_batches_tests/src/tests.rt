@@ -34,7 +34,7 @@ fn lost() -> RedisError {
 }
 
 // What comes of `SET a 1`, `GET b` and `GET a`, those of `a` in the first batch.
-fn drive_three(alloc: Global, transport: &mut Scripted) -> Result<String, Fail> {
+fn drive_three(alloc: Global, transport: Scripted) -> Result<(String, Scripted), Fail> {
     let map = map_of(alloc, &TWO_NODES)?;
     let names = ReadOnlyNames::new(alloc);
     let commands = vec![in alloc;
@@ -42,12 +42,12 @@ fn drive_three(alloc: Global, transport: &mut Scripted) -> Result<String, Fail> 
         cmd_of_text(alloc, "GET b")?,
         cmd_of_text(alloc, "GET a")?,
     ]?;
-    let mut nodes = WireBatches::<LoggedBatches<&mut Scripted>, Any>::over(
+    let mut nodes = WireBatches::<LoggedBatches<Scripted>, Any>::over(
         transport,
         Registry::new(alloc),
     );
     let got = drive_over(alloc, &commands, &names, &map, &[0, 1], &mut nodes);
-    let _ = nodes.into_wire().into_transport();
+    let transport = nodes.into_wire().into_transport();
     let mut text = String::new(alloc);
     match &got {
         Ok(replies) => {
@@ -76,7 +76,7 @@ fn drive_three(alloc: Global, transport: &mut Scripted) -> Result<String, Fail> 
         }
         Err(_) => text.push_str(" another fault")?,
     }
-    Ok(text)
+    Ok((text, transport))
 }
 
 #[test]
@@ -84,11 +84,12 @@ fn answers_come_in_the_order_of_the_commands(rt: HostRuntime) -> Result<(), Fail
     let alloc = rt.alloc();
     let first = vec![in alloc; Ok(Value::Okay), Ok(Value::Int(1))]?;
     let second = vec![in alloc; Ok(Value::Int(5))]?;
-    let mut transport = Scripted {
+    let transport = Scripted {
         outcomes: vec![in alloc; Ok(second), Ok(first)]?,
         sent: Vec::new(alloc),
     };
-    assert_eq!(rt; drive_three(alloc, &mut transport)?.as_str(), " OK 5 1");
+    let (text, transport) = drive_three(alloc, transport)?;
+    assert_eq!(rt; text.as_str(), " OK 5 1");
     assert_eq!(rt; transport.sent.len(), 2);
     assert_eq!(rt; transport.sent[0], 2);
     assert_eq!(rt; transport.sent[1], 1);
@@ -100,11 +101,12 @@ fn an_error_is_the_answer_of_its_command(rt: HostRuntime) -> Result<(), Fail> {
     let alloc = rt.alloc();
     let first = vec![in alloc; Ok(Value::Okay), Err(lost())]?;
     let second = vec![in alloc; Ok(Value::Int(5))]?;
-    let mut transport = Scripted {
+    let transport = Scripted {
         outcomes: vec![in alloc; Ok(second), Ok(first)]?,
         sent: Vec::new(alloc),
     };
-    assert_eq!(rt; drive_three(alloc, &mut transport)?.as_str(), " OK 5 error");
+    let (text, _transport) = drive_three(alloc, transport)?;
+    assert_eq!(rt; text.as_str(), " OK 5 error");
     Ok(())
 }
 
@@ -112,14 +114,12 @@ fn an_error_is_the_answer_of_its_command(rt: HostRuntime) -> Result<(), Fail> {
 fn another_number_of_answers_is_a_loss(rt: HostRuntime) -> Result<(), Fail> {
     let alloc = rt.alloc();
     let first = vec![in alloc; Ok(Value::Okay)]?;
-    let mut transport = Scripted {
+    let transport = Scripted {
         outcomes: vec![in alloc; Ok(first)]?,
         sent: Vec::new(alloc),
     };
-    assert_eq!(rt;
-        drive_three(alloc, &mut transport)?.as_str(),
-        " lost at first"
-    );
+    let (text, transport) = drive_three(alloc, transport)?;
+    assert_eq!(rt; text.as_str(), " lost at first");
     assert_eq!(rt; transport.sent.len(), 1);
     Ok(())
 }
@@ -128,14 +128,12 @@ fn another_number_of_answers_is_a_loss(rt: HostRuntime) -> Result<(), Fail> {
 fn no_batch_is_sent_after_a_refusal(rt: HostRuntime) -> Result<(), Fail> {
     let alloc = rt.alloc();
     let first = vec![in alloc; Ok(Value::Okay), Ok(Value::Int(1))]?;
-    let mut transport = Scripted {
+    let transport = Scripted {
         outcomes: vec![in alloc; Err(SendError::Refused(lost())), Ok(first)]?,
         sent: Vec::new(alloc),
     };
-    assert_eq!(rt;
-        drive_three(alloc, &mut transport)?.as_str(),
-        " refused later"
-    );
+    let (text, transport) = drive_three(alloc, transport)?;
+    assert_eq!(rt; text.as_str(), " refused later");
     assert_eq!(rt; transport.sent.len(), 2);
     Ok(())
 }
