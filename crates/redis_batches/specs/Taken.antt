@@ -132,7 +132,8 @@ pub record IsUnsent {C : Type 0} (old new : State C) : Type 0 where
   pub keyspace : new.keyspace ≡ old.keyspace
 
 module _ {C : Type 0} (kept : Type 0) (may_refuse : ℕ → Ending → Type 0) (old new : State C) where
-  -- A node refused a batch, or sent it on, as it may: it did nothing, and no entry tells of it.
+  -- A node refused a batch, or sent it on, as it may, and no entry tells of it. Where nodes keep to the
+  -- meaning, it did nothing.
   pub record IsRefused (ending : Ending) : Type 0 where
     pub mark : new.mark ≡ false
     pub allowed : may_refuse (length old.trace) ending

@@ -24,9 +24,10 @@ use std::alloc::Global;
 /// the order of the commands. Commands are planned as `PipelinePlan::new` has it, by the names that
 /// the nodes know and those that only read. `order` names each batch once.
 ///
-/// Where no node refuses anything, keyspace and replies are those of one server that takes the
-/// commands one after the other, whatever the order and whatever a command does to the keys of its
-/// slot. A part that a node refused does nothing, and the reply of its command is the error.
+/// Where the nodes keep to one meaning and refuse nothing, keyspace and replies are those of one
+/// server that takes the commands one after the other, whatever the order and whatever a command
+/// does to the keys of its slot. The reply of a command of which a part was refused is the error; of
+/// such nodes that part did nothing.
 ///
 /// # Errors
 ///
@@ -60,7 +61,8 @@ pub fn drive_pipeline<N: BatchNodes>(
         (names_of read_only.now (N.registered nodes.old)) commands.now)
         commands.now order.now (N.asked nodes.old) (N.asked nodes.new)
         (N.gave nodes.old) (N.gave nodes.new) (map answer_of replies.items)) }
-    // Where no part was refused, they are those of one server that takes the commands.
+    // Where no part was refused and the nodes keep to the meaning, keyspace and replies are those of
+    // one server that takes the commands.
     ensures one_server { IfOk result (λ replies.
         AreAllAnswered (N.state nodes.old).trace (N.state nodes.new).trace → N.kept nodes.new
         → IsOneServer N.step N.serve (N.registered nodes.old) commands.now

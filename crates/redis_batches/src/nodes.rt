@@ -57,14 +57,14 @@ pub trait BatchNodes {
 
     /// Sends commands to a node, which takes them one after the other, and gives an answer to each,
     /// in their order. That is a reply, an error of the command's own, or the error that the node
-    /// refused it with, as `MOVED` is. A command that was refused did nothing. `SET a 1`, `INCR a`
-    /// and `GET b` go out in one write, where one node serves both slots, and three answers come
-    /// back.
+    /// refused it with, as `MOVED` is. `SET a 1`, `INCR a` and `GET b` go out in one write, where one
+    /// node serves both slots, and three answers come back. Of nodes that keep to their meaning, what
+    /// was refused did nothing.
     ///
     /// # Errors
     ///
     /// `Refused` and `Redirected` where the node took none of them, and `Memory` where nothing was
-    /// sent: keyspace and trace stay. `Lost` where answers are missing: which commands took effect is
+    /// sent: the trace stays, and so does the keyspace of nodes that keep to their meaning. `Lost` where answers are missing: which commands took effect is
     /// not known, and the trace has an entry for each that tells so. Where memory ran out before all
     /// were taken, the mark tells so, and the trace has those that were. The next one, unless it is over
     /// many keys, may have changed keys of its slot.
