@@ -2,6 +2,7 @@
 #![tactic(auto)]
 
 pub mod batched_bytes;
+pub mod batched_client;
 pub mod batched_pipelines;
 pub mod batcher;
 pub mod bytes;

@@ -2,6 +2,8 @@
 #![tactic(auto)]
 
 #[cfg(test)]
+mod batched_client;
+#[cfg(test)]
 mod client;
 #[cfg(test)]
 mod examples;

@@ -1,7 +1,6 @@
 //! A client over connections that take batches, and give whatever they give.
 #![tactic(auto)]
 
-pub mod client;
 pub mod scripted;
 #[cfg(test)]
 mod tests;

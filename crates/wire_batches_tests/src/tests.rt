@@ -1,7 +1,6 @@
-use crate::client::drive_over;
 use crate::scripted::Scripted;
 use fixtures::{TWO_NODES, cmd_of_text, map_of};
-use redis_batches::PipelineError;
+use redis_batches::{PipelineError, drive_pipeline};
 use redis_cluster::routing::{ReadOnlyNames, Registry};
 use resp_core::{ErrorKind, RedisError, Value};
 use std::alloc::Global;
@@ -46,7 +45,7 @@ fn drive_three(alloc: Global, transport: Scripted) -> Result<(String, Scripted),
         transport,
         Registry::new(alloc),
     );
-    let got = drive_over(alloc, &commands, &names, &map, &[0, 1], &mut nodes);
+    let got = drive_pipeline(alloc, &commands, &names, &map, None, &[0, 1], &mut nodes);
     let transport = nodes.into_wire().into_transport();
     let mut text = String::new(alloc);
     match &got {

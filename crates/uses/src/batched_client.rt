@@ -1,0 +1,82 @@
+//! A client with connections of its own, which sends a pipeline as one batch for each node.
+ghost use Rattle.std.specs.Prelude.{◌≡◌, [], map, IfOk};
+ghost use Rattle.redis_cluster.specs.Driven.{AreAllAnswered};
+ghost use Rattle.redis_batches.specs.DrivenPipeline.{IsOneServer};
+ghost use Rattle.redis_batches.specs.Taken.{answer_of};
+ghost use Rattle.wire_batches.specs.Held.{registry_in};
+
+use cluster_map::{NodeAddress, SlotMap};
+use redis_batches::{BatchNodes, PipelineError, drive_pipeline};
+use redis_cluster::driver::SendError;
+use redis_cluster::routing::{ReadOnlyNames, Registry};
+use resp_core::{Cmd, ErrorKind, RedisError, Value};
+use std::alloc::Global;
+use wire_batches::{BatchMeaning, BatchTransport, BatchWire, LoggedBatches, WireBatches};
+
+/// Connections of the user's own. These give the answers that they hold, those to the last batch
+/// first; others write the batch to a socket of the node, and read as many answers.
+#[derive(Drop)]
+pub struct BatchConnections {
+    /// What they give, the last batch first.
+    pub answers: Vec<Vec<Result<Value, RedisError>>>,
+}
+
+impl BatchTransport for BatchConnections {
+    fn exchange(
+        &mut self,
+        _node: &NodeAddress,
+        _batch: &[&Cmd],
+    ) -> Result<Vec<Result<Value, RedisError>>, SendError> {
+        match self.answers.pop() {
+            Some(answers) => Ok(answers),
+            None => Err(SendError::Lost(RedisError::from((ErrorKind::Client, "no answers")))),
+        }
+    }
+}
+
+/// A client over a transport, which has sent nothing yet.
+pub fn batch_client_over<T: BatchTransport, M: BatchMeaning>(
+    transport: T,
+    registry: Registry,
+) -> WireBatches<LoggedBatches<T>, M>
+    ensures registered { registry_in result ≡ registry }
+    ensures unsent { (⟦<WireBatches<LoggedBatches<T>, M> as BatchNodes>⟧.state result).trace ≡ [] }
+    ensures kept { ⟦<WireBatches<LoggedBatches<T>, M> as BatchNodes>⟧.kept result }
+{
+    WireBatches::over(transport, registry)
+}
+
+/// Sends a pipeline, one batch for each primary, and gives the reply to each command.
+///
+/// Where the servers answered as one would and refused nothing, keyspace and replies are those of one
+/// server that takes the commands one after the other.
+pub fn send_pipeline<W: BatchWire, M: BatchMeaning>(
+    alloc: Global,
+    commands: &[Cmd],
+    slot_map: &SlotMap,
+    order: &[usize],
+    client: &mut WireBatches<W, M>,
+) -> Result<Vec<Result<Value, RedisError>>, PipelineError>
+    ensures one_server { IfOk result (λ replies.
+        AreAllAnswered (⟦<WireBatches<W, M> as BatchNodes>⟧.state client.old).trace
+        (⟦<WireBatches<W, M> as BatchNodes>⟧.state client.new).trace
+        → ⟦<WireBatches<W, M> as BatchNodes>⟧.kept client.new
+        → IsOneServer M.step M.serve (registry_in client.old) commands.now
+        (⟦<WireBatches<W, M> as BatchNodes>⟧.state client.old)
+        (⟦<WireBatches<W, M> as BatchNodes>⟧.state client.new)
+        (map answer_of replies.items)) }
+    // Servers that answered so until now did so before.
+    ensures kept { ⟦<WireBatches<W, M> as BatchNodes>⟧.kept client.new
+        → ⟦<WireBatches<W, M> as BatchNodes>⟧.kept client.old }
+{
+    let none_only_reads = ReadOnlyNames::new(alloc);
+    drive_pipeline(
+        alloc,
+        commands,
+        &none_only_reads,
+        slot_map,
+        None,
+        order,
+        client,
+    )
+}
