@@ -63,11 +63,12 @@ pub trait BatchNodes {
     ///
     /// # Errors
     ///
-    /// `Refused` and `Redirected` where the node took none of them, and `Memory` where nothing was
-    /// sent: the trace stays, and so does the keyspace of nodes that keep to their meaning. `Lost` where answers are missing: which commands took effect is
-    /// not known, and the trace has an entry for each that tells so. Where memory ran out before all
-    /// were taken, the mark tells so, and the trace has those that were. The next one, unless it is over
-    /// many keys, may have changed keys of its slot.
+    /// `Refused` and `Redirected` where the node took none of them: the trace stays, and so does the
+    /// keyspace of nodes that keep to their meaning. `Memory` where nothing was sent: keyspace and
+    /// trace stay. `Lost` where answers are missing: which commands took effect is not known, and the
+    /// trace has an entry for each that tells so. Where memory ran out before all were taken, the mark
+    /// tells so, and the trace has those that were. The next one, unless it is over many keys, may
+    /// have changed keys of its slot.
     fn send_batch(
         &mut self,
         node: &NodeAddress,
