@@ -112,6 +112,9 @@ fn place_in(index: &[u16], count: usize, page_bits: u32, end: u16) -> usize
     ensures bound { result ≤ count }
 {
     let (ends, pages) = index.split_at(count);
+    if count < LANES {
+        return place_of(ends, end);
+    }
     let known = match pages.get(usize::from(end >> page_bits)) {
         Some(number) => usize::from(*number),
         None => 0,
