@@ -1,0 +1,81 @@
+//! Pipelines that are driven over nodes in memory.
+use crate::Rows;
+use crate::texts::{Answers, answers_text, order_of};
+use cluster_map::ReadRoutingStrategy;
+use example_strategies::FirstReplica;
+use fixtures::{cmds, number};
+use redis_batches::{PipelineError, drive_pipeline, drive_pipeline_retrying};
+use resp_core::{Cmd, RedisResult};
+use std::alloc::Global;
+
+/// A pipeline: its commands, and the order of its batches.
+#[derive(Drop)]
+pub struct Pipeline {
+    pub commands: Vec<Cmd>,
+    pub order: Vec<usize>,
+}
+
+/// The pipeline of an order, a space, and the commands.
+pub fn pipeline_of(alloc: Global, words: &str) -> RedisResult<Pipeline> {
+    let (order, commands) = words.split_once(' ').unwrap_or((words, ""));
+    Ok(Pipeline {
+        commands: cmds(alloc, commands)?,
+        order: order_of(alloc, order)?,
+    })
+}
+
+fn driven(alloc: Global, rows: &mut Rows, sent: &Pipeline) -> Result<Answers, PipelineError> {
+    let strategy: Option<&dyn ReadRoutingStrategy> = match rows.at_replicas {
+        true => Some(&FirstReplica),
+        false => None,
+    };
+    drive_pipeline(
+        alloc,
+        &sent.commands,
+        &rows.read_only,
+        &rows.map,
+        strategy,
+        &sent.order,
+        &mut rows.nodes,
+    )
+}
+
+fn driven_again(
+    alloc: Global,
+    rows: &mut Rows,
+    sent: &Pipeline,
+    retries: usize,
+) -> Result<Answers, PipelineError> {
+    drive_pipeline_retrying(
+        alloc,
+        &sent.commands,
+        &rows.read_only,
+        &rows.map,
+        None,
+        &sent.order,
+        retries,
+        &mut rows.nodes,
+    )
+}
+
+/// The replies, or why there are none.
+fn replies_text(alloc: Global, driven: Result<Answers, PipelineError>) -> RedisResult<String> {
+    match driven {
+        Ok(replies) => answers_text(alloc, replies.as_slice()),
+        Err(error) => Ok(format!(in alloc; "{error}")?),
+    }
+}
+
+/// The replies to a pipeline.
+pub fn drive(alloc: Global, rows: &mut Rows, words: &str) -> RedisResult<String> {
+    let sent = pipeline_of(alloc, words)?;
+    replies_text(alloc, driven(alloc, rows, &sent))
+}
+
+/// The replies to a pipeline whose refused parts go out again, so many rounds.
+pub fn drive_again(alloc: Global, rows: &mut Rows, words: &str) -> RedisResult<String> {
+    let (retries, words) = words.split_once(' ').unwrap_or((words, ""));
+    let retries = number(retries)?;
+    let sent = pipeline_of(alloc, words)?;
+    replies_text(alloc, driven_again(alloc, rows, &sent, retries))
+}

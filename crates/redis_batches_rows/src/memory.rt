@@ -1,0 +1,77 @@
+//! Nodes in memory that take batches.
+use crate::texts::{answers_text, error_of};
+use cluster_slots::NodeAddress;
+use fixtures::{bad_row, bytes, cmds, number};
+use memory_batches::MemoryBatchNodes;
+use redis_batches::BatchNodes;
+use resp_core::{Cmd, RedisError, RedisResult};
+use std::alloc::Global;
+
+/// Adds the refusal of the command of a place, behind those of earlier places.
+fn add_refusal(plan: &mut Vec<Option<RedisError>>, text: &str) -> RedisResult<()> {
+    let (place, error) = text.split_once(' ').unwrap_or((text, ""));
+    for _ in plan.len()..number(place)? {
+        plan.push(None)?;
+    }
+    plan.push(Some(error_of(error)?))?;
+    Ok(())
+}
+
+/// From now on nodes refuse the commands of these places, each with its error.
+pub fn refuse(alloc: Global, nodes: &mut MemoryBatchNodes, text: &str) -> RedisResult<()> {
+    let mut plan = Vec::new(alloc);
+    for refusal in text.split("; ") {
+        add_refusal(&mut plan, refusal)?;
+    }
+    nodes.plan(plan);
+    Ok(())
+}
+
+fn batch_of<'a>(alloc: Global, commands: &'a [Cmd]) -> RedisResult<Vec<&'a Cmd>> {
+    let mut batch = Vec::new(alloc);
+    for command in commands {
+        batch.push(command)?;
+    }
+    Ok(batch)
+}
+
+fn sent(
+    alloc: Global,
+    nodes: &mut MemoryBatchNodes,
+    node: &NodeAddress,
+    batch: &[&Cmd],
+) -> RedisResult<String> {
+    match nodes.send_batch(node, batch) {
+        Ok(answers) => answers_text(alloc, answers.as_slice()),
+        Err(_) => Err(bad_row("a batch that was not taken")),
+    }
+}
+
+/// What a node answers to a batch.
+pub fn batch(alloc: Global, nodes: &mut MemoryBatchNodes, words: &str) -> RedisResult<String> {
+    let (node, commands) = words.split_once(' ').unwrap_or((words, ""));
+    let node = NodeAddress::try_from(alloc, node)?;
+    let commands = cmds(alloc, commands)?;
+    let batch = batch_of(alloc, commands.as_slice())?;
+    sent(alloc, nodes, &node, batch.as_slice())
+}
+
+/// The string at a key.
+pub fn value(alloc: Global, nodes: &MemoryBatchNodes, key: &str) -> RedisResult<String> {
+    match nodes.get(&bytes(alloc, key)?, b"") {
+        Some(value) => Ok(String::from_utf8_lossy(alloc, value)?),
+        None => Ok(String::from_str(alloc, "nil")?),
+    }
+}
+
+/// The hosts that commands were sent to, one after the other.
+pub fn hosts(alloc: Global, nodes: &MemoryBatchNodes) -> RedisResult<String> {
+    let mut text = String::new(alloc);
+    for entry in nodes.trace() {
+        if !text.is_empty() {
+            text.push(' ')?;
+        }
+        text.push_str(entry.node.host())?;
+    }
+    Ok(text)
+}

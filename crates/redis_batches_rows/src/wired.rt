@@ -1,0 +1,133 @@
+//! Pipelines that are driven over connections, which give what a row says.
+use crate::driven::{Pipeline, pipeline_of};
+use crate::texts::{Answers, answers_of, answers_text, error_of};
+use cluster_map::SlotMap;
+use redis_batches::{PipelineError, Stopped, drive_pipeline};
+use redis_cluster::routing::{ReadOnlyNames, Registry};
+use resp_core::{Cmd, ErrorKind, RedisError, RedisResult};
+use std::alloc::Global;
+use wire_batches::{
+    BatchMeaning, BatchTransport, LoggedBatches, NodeAddress, SendError, WireBatches,
+};
+
+/// Gives these outcomes, the last one first, whatever is sent, and then loses the answers.
+#[derive(Drop)]
+pub struct Scripted {
+    pub outcomes: Vec<Result<Answers, SendError>>,
+    /// How many commands each batch had.
+    pub sent: Vec<usize>,
+}
+
+impl BatchTransport for Scripted {
+    fn exchange(&mut self, _node: &NodeAddress, batch: &[&Cmd]) -> Result<Answers, SendError> {
+        if self.sent.push(batch.len()).is_err() {
+            return Err(SendError::Memory);
+        }
+        match self.outcomes.pop() {
+            Some(outcome) => outcome,
+            None => Err(SendError::Lost(RedisError::from((ErrorKind::Client, "no answers")))),
+        }
+    }
+}
+
+impl BatchMeaning for Any {
+    ghost use Rattle.std.specs.Prelude.{None, Ok, false};
+    ghost use Rattle.resp_core.specs.Reply.{nil};
+
+    ghost Cell = { Unit {0} };
+
+    ghost step = { λ registered name shared key extras cell. record { cell = None; result = record { value = nil; counts = false } } };
+
+    ghost serve = { λ args keyspace. record { keys = keyspace; reply = Ok nil } };
+
+    ghost refuses = { λ error. false };
+
+    ghost initial = { λ key. None };
+
+    ghost took = { λ number place. false };
+}
+
+/// Stands for any meaning: no code reads it.
+#[derive(Drop)]
+struct Any;
+
+/// What comes of a batch: `refused`, `lost`, or answers.
+fn outcome_of(alloc: Global, text: &str) -> RedisResult<Result<Answers, SendError>> {
+    match text {
+        "refused" => Ok(Err(SendError::Refused(error_of("error")?))),
+        "lost" => Ok(Err(SendError::Lost(error_of("error")?))),
+        _ => Ok(Ok(answers_of(alloc, text)?)),
+    }
+}
+
+fn transport_of(alloc: Global, text: &str) -> RedisResult<Scripted> {
+    let mut outcomes = Vec::new(alloc);
+    for outcome in text.rsplit("; ") {
+        outcomes.push(outcome_of(alloc, outcome)?)?;
+    }
+    Ok(Scripted {
+        outcomes,
+        sent: Vec::new(alloc),
+    })
+}
+
+fn driven(
+    alloc: Global,
+    map: &SlotMap,
+    sent: &Pipeline,
+    transport: Scripted,
+) -> (Result<Answers, PipelineError>, Scripted) {
+    let names = ReadOnlyNames::new(alloc);
+    let mut nodes = WireBatches::<LoggedBatches<Scripted>, Any>::over(
+        transport,
+        Registry::new(alloc),
+    );
+    let driven = drive_pipeline(
+        alloc,
+        &sent.commands,
+        &names,
+        map,
+        None,
+        &sent.order,
+        &mut nodes,
+    );
+    (driven, nodes.into_wire().into_transport())
+}
+
+fn stopped_text(alloc: Global, stopped: &Stopped) -> RedisResult<String> {
+    let cause = match &stopped.error {
+        SendError::Refused(_) => "refused",
+        SendError::Redirected(_) => "redirected",
+        SendError::Lost(_) => "lost",
+        SendError::Memory => "memory",
+    };
+    let answered = stopped.answered;
+    Ok(format!(in alloc; "{cause}, {answered} taken before")?)
+}
+
+fn replies_text(alloc: Global, driven: &Result<Answers, PipelineError>) -> RedisResult<String> {
+    match driven {
+        Ok(replies) => answers_text(alloc, replies.as_slice()),
+        Err(PipelineError::Node(stopped)) => stopped_text(alloc, stopped),
+        Err(error) => Ok(format!(in alloc; "{error}")?),
+    }
+}
+
+fn push_sent(alloc: Global, text: &mut String, sent: &[usize]) -> RedisResult<()> {
+    text.push_str("; sent")?;
+    for count in sent {
+        text.push_str(&format!(in alloc; " {count}")?)?;
+    }
+    Ok(())
+}
+
+/// The replies to a pipeline whose batches have these outcomes, and how many commands each batch had
+/// that was sent.
+pub fn drive(alloc: Global, map: &SlotMap, words: &str) -> RedisResult<String> {
+    let (outcomes, words) = words.split_once(" | ").unwrap_or(("", words));
+    let sent = pipeline_of(alloc, words)?;
+    let (driven, transport) = driven(alloc, map, &sent, transport_of(alloc, outcomes)?);
+    let mut text = replies_text(alloc, &driven)?;
+    push_sent(alloc, &mut text, transport.sent.as_slice())?;
+    Ok(text)
+}
