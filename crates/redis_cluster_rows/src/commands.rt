@@ -1,0 +1,152 @@
+//! Commands: where they go, how they are split, and what stands in them.
+use crate::known::Known;
+use crate::replies::{indices, is_reply, reply};
+use crate::texts::{bytes_text, cmd_text, equality, routes_text, routing_text};
+use cluster_map::Route;
+use fixtures::{bad_row, bytes, cmd, number};
+use redis_cluster::routing::{
+    Routable, RoutingInfo, SplitCommand, command_for_multi_slot_indices,
+    command_for_multi_slot_indices_with, multi_slot_routes,
+};
+use resp_core::{Cmd, RedisResult};
+use std::alloc::{AllocError, Global};
+
+/// What the call of this name answers of a command, which is the last of the words.
+pub fn call(alloc: Global, known: &Known, name: &str, text: &str) -> RedisResult<String> {
+    let (first, text) = match name {
+        "arg" | "position" | "part" | "take" | "take_two" => {
+            text.split_once(' ').unwrap_or((text, ""))
+        }
+        _ => ("", text),
+    };
+    if is_reply(text) {
+        told(alloc, known, name, first, &reply(alloc, text)?)
+    } else {
+        told(alloc, known, name, first, &cmd(alloc, text)?)
+    }
+}
+
+fn told<R: Routable>(
+    alloc: Global,
+    known: &Known,
+    name: &str,
+    first: &str,
+    command: &R,
+) -> RedisResult<String> {
+    match name {
+        "route" => route(alloc, known, command),
+        "route_with" => routing_text(alloc, &found_with(alloc, known, command)?),
+        "clone_route" => clone_route(alloc, known, command),
+        "parts" => parts(alloc, known, command),
+        "routes" => routes(alloc, known, command),
+        "part" => part(alloc, known, number(first)?, command),
+        "take" => taken(alloc, take(alloc, command, &indices(alloc, first)?)),
+        "take_two" => taken(alloc, take_two(alloc, command, &indices(alloc, first)?)),
+        "name" => bytes_text(alloc, command.command(alloc)?.as_deref()),
+        "arg" => bytes_text(alloc, command.arg_idx(number(first)?)),
+        "position" => position(alloc, command.position(&bytes(alloc, first)?)),
+        _ => Err(bad_row("no call of this name")),
+    }
+}
+
+fn found<R: Routable>(
+    alloc: Global,
+    known: &Known,
+    command: &R,
+) -> Result<Option<RoutingInfo>, AllocError> {
+    RoutingInfo::for_routable(alloc, command, &known.read_only)
+}
+
+fn found_with<R: Routable>(
+    alloc: Global,
+    known: &Known,
+    command: &R,
+) -> Result<Option<RoutingInfo>, AllocError> {
+    RoutingInfo::for_routable_with(alloc, command, &known.read_only, &known.registry)
+}
+
+fn route<R: Routable>(alloc: Global, known: &Known, command: &R) -> RedisResult<String> {
+    routing_text(alloc, &found(alloc, known, command)?)
+}
+
+/// Whether a copy of where a command goes is equal, or `none` where it goes nowhere.
+fn clone_route<R: Routable>(alloc: Global, known: &Known, command: &R) -> RedisResult<String> {
+    match found(alloc, known, command)? {
+        Some(info) => Ok(equality(alloc, &info)?),
+        None => Ok(String::from_str(alloc, "none")?),
+    }
+}
+
+fn split<'a, R: Routable>(
+    alloc: Global,
+    known: &Known,
+    command: &'a R,
+) -> Result<Option<SplitCommand<'a, R>>, AllocError> {
+    SplitCommand::new(alloc, command, known.names())
+}
+
+fn part_count<R: Routable>(alloc: Global, known: &Known, command: &R) -> RedisResult<usize> {
+    match split(alloc, known, command)? {
+        Some(split) => Ok(split.len()),
+        None => Ok(0),
+    }
+}
+
+/// Where a command goes, of which `many` is several nodes, and in how many parts.
+fn parts<R: Routable>(alloc: Global, known: &Known, command: &R) -> RedisResult<String> {
+    let route = route(alloc, known, command)?;
+    let parts = part_count(alloc, known, command)?;
+    let route = if parts > 1 { "many" } else { route.as_str() };
+    Ok(format!(in alloc; "{route} in {parts}")?)
+}
+
+fn routes_of<R: Routable>(
+    alloc: Global,
+    known: &Known,
+    command: &R,
+) -> Result<Option<Vec<(Route, Vec<usize>)>>, AllocError> {
+    multi_slot_routes(alloc, command, known.names())
+}
+
+fn routes<R: Routable>(alloc: Global, known: &Known, command: &R) -> RedisResult<String> {
+    match routes_of(alloc, known, command)? {
+        Some(routes) => routes_text(alloc, &routes),
+        None => Ok(String::from_str(alloc, "none")?),
+    }
+}
+
+/// The part of this number, or `none`.
+fn part<R: Routable>(
+    alloc: Global,
+    known: &Known,
+    number: usize,
+    command: &R,
+) -> RedisResult<String> {
+    match split(alloc, known, command)? {
+        Some(split) if number < split.len() => cmd_text(alloc, &split.part(alloc, number)?),
+        _ => Ok(String::from_str(alloc, "none")?),
+    }
+}
+
+fn take<R: Routable>(alloc: Global, command: &R, indices: &[usize]) -> RedisResult<Cmd> {
+    command_for_multi_slot_indices(alloc, command, indices)
+}
+
+fn take_two<R: Routable>(alloc: Global, command: &R, indices: &[usize]) -> RedisResult<Cmd> {
+    command_for_multi_slot_indices_with(alloc, command, 2, indices)
+}
+
+/// A command, or the kind of its error.
+fn taken(alloc: Global, given: RedisResult<Cmd>) -> RedisResult<String> {
+    match given {
+        Ok(cmd) => cmd_text(alloc, &cmd),
+        Err(error) => Ok(format!(in alloc; "{:?}", error.kind())?),
+    }
+}
+
+fn position(alloc: Global, place: Option<usize>) -> RedisResult<String> {
+    match place {
+        Some(place) => Ok(format!(in alloc; "{place}")?),
+        None => Ok(String::from_str(alloc, "none")?),
+    }
+}
