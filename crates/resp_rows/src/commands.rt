@@ -1,0 +1,126 @@
+//! Commands, errors and deep values.
+use crate::deep;
+use crate::texts::{command, escaped, first};
+use fixtures::{number, words};
+use resp_core::{Cmd, ErrorKind, RedisError, RedisResult};
+use std::alloc::Global;
+
+/// What a call of `resp_core` answers.
+pub fn call(alloc: Global, name: &str, words: &str) -> Option<RedisResult<String>> {
+    Some(match name {
+        "debug" => debug(alloc, words),
+        "debug_lines" => debug_lines(alloc, words),
+        "with_capacity" => with_capacity(alloc, words),
+        "with_room" => with_room(alloc, words),
+        "arg" => arg(alloc, words),
+        "many_items" => many_items(alloc, words),
+        "long_item" => long_item(alloc, words),
+        "error" => error(alloc),
+        "error_with" => error_with(alloc, words),
+        "deep" => deep::compare(alloc, words),
+        "deep_debug" => deep::debug(alloc, words),
+        _ => return None,
+    })
+}
+
+fn debug(alloc: Global, words: &str) -> RedisResult<String> {
+    let cmd = command(alloc, words)?;
+    Ok(format!(in alloc; "{cmd:?}")?)
+}
+
+fn debug_lines(alloc: Global, words: &str) -> RedisResult<String> {
+    let cmd = command(alloc, words)?;
+    escaped(alloc, format!(in alloc; "{cmd:#?}")?.as_bytes())
+}
+
+/// Whether a command has no item, as a row says it.
+fn emptiness(alloc: Global, cmd: &Cmd) -> RedisResult<String> {
+    Ok(format!(in alloc; "empty {}", cmd.is_empty())?)
+}
+
+fn with_capacity(alloc: Global, words: &str) -> RedisResult<String> {
+    let cmd = Cmd::with_capacity(alloc, number(words)?)?;
+    emptiness(alloc, &cmd)
+}
+
+/// A command with room for so many items and bytes, and the words behind these numbers.
+fn roomy(alloc: Global, words: &str) -> RedisResult<(Cmd, &str)> {
+    let (items, rest) = first(words);
+    let (bytes, rest) = first(rest);
+    let cmd = Cmd::with_room(alloc, number(items)?, number(bytes)?)?;
+    Ok((cmd, rest))
+}
+
+fn with_room(alloc: Global, words: &str) -> RedisResult<String> {
+    let (cmd, _) = roomy(alloc, words)?;
+    emptiness(alloc, &cmd)
+}
+
+fn add(cmd: &mut Cmd, items: &[Vec<u8>]) -> RedisResult<()> {
+    for item in items {
+        cmd.arg(item)?;
+    }
+    Ok(())
+}
+
+/// Whether a command that had room for items is equal to one that had none.
+fn arg(alloc: Global, text: &str) -> RedisResult<String> {
+    let (mut cmd, rest) = roomy(alloc, text)?;
+    add(&mut cmd, &words(alloc, rest)?)?;
+    let same = cmd == command(alloc, rest)?;
+    Ok(format!(in alloc; "{} items, equal {same}", cmd.len())?)
+}
+
+/// A command of so many items, of which each is its own place.
+fn counted(alloc: Global, items: usize) -> RedisResult<Cmd> {
+    let mut cmd = Cmd::new(alloc);
+    for place in 0..items {
+        cmd.write_arg(&place.to_be_bytes())?;
+    }
+    Ok(cmd)
+}
+
+/// Whether each item of a command is its own place.
+fn is_counted(cmd: &Cmd) -> bool {
+    for (place, item) in (0..cmd.len()).zip(cmd.args()) {
+        if item != place.to_be_bytes().as_slice() {
+            return false;
+        }
+    }
+    true
+}
+
+/// Whether a command keeps what was put in, how many items it has, and whether its clone is equal.
+fn kept(alloc: Global, cmd: &Cmd, is_kept: bool) -> RedisResult<String> {
+    let same = cmd.clone()? == *cmd;
+    Ok(format!(in alloc; "{} items, kept {is_kept}, clone equal {same}", cmd.len())?)
+}
+
+fn many_items(alloc: Global, words: &str) -> RedisResult<String> {
+    let cmd = counted(alloc, number(words)?)?;
+    kept(alloc, &cmd, is_counted(&cmd))
+}
+
+/// A command of three items, of which this is the second.
+fn between(alloc: Global, item: &[u8]) -> RedisResult<Cmd> {
+    let mut cmd = Cmd::new(alloc);
+    cmd.arg(b"SET")?.arg(item)?.arg(b"")?;
+    Ok(cmd)
+}
+
+fn long_item(alloc: Global, words: &str) -> RedisResult<String> {
+    let long = vec![in alloc; 7u8; number(words)?]?;
+    let cmd = between(alloc, &long)?;
+    kept(alloc, &cmd, cmd.arg_idx(1) == Some(long.as_slice()))
+}
+
+fn error(alloc: Global) -> RedisResult<String> {
+    let error = RedisError::from((ErrorKind::Client, "bad text"));
+    Ok(format!(in alloc; "\"{error}\"")?)
+}
+
+fn error_with(alloc: Global, detail: &str) -> RedisResult<String> {
+    let detail = String::from_str(alloc, detail)?;
+    let error = RedisError::from((ErrorKind::Client, "bad text", detail));
+    Ok(format!(in alloc; "\"{error}\"")?)
+}

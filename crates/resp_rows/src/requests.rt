@@ -1,0 +1,78 @@
+//! Requests as bytes, and where they go.
+use crate::routing;
+use crate::texts::{command, escaped, quoted};
+use fixtures::bytes;
+use resp::{RequestError, RequestFault, read_request, request_len, write_command};
+use resp_core::{Cmd, RedisResult};
+use std::alloc::Global;
+
+/// What a call answers that is of one request.
+pub fn call(alloc: Global, name: &str, words: &str) -> Option<RedisResult<String>> {
+    Some(match name {
+        "request" => request(alloc, words),
+        "request_len" => request_len_row(alloc, words),
+        "request_cuts" => request_cuts(alloc, words),
+        "write_command" => write_row(alloc, words),
+        "route" => routing::route(alloc, words),
+        "parts" => routing::parts(alloc, words),
+        "part" => routing::part(alloc, words),
+        "combine" => routing::combine(alloc, words),
+        _ => return None,
+    })
+}
+
+fn items_text(alloc: Global, cmd: &Cmd) -> RedisResult<String> {
+    let mut text = String::from_str(alloc, "[")?;
+    for item in cmd.args() {
+        text.push(' ')?;
+        text.push_str(&quoted(alloc, item)?)?;
+    }
+    text.push_str(" ]")?;
+    Ok(text)
+}
+
+fn found_text(alloc: Global, cmd: Cmd, left: usize) -> RedisResult<String> {
+    let text = items_text(alloc, &cmd)?;
+    Ok(format!(in alloc; "{text}, {left} left")?)
+}
+
+fn request(alloc: Global, words: &str) -> RedisResult<String> {
+    let bytes = bytes(alloc, words)?;
+    match read_request(alloc, &bytes) {
+        Ok((cmd, rest)) => found_text(alloc, cmd, rest.len()),
+        Err(error) => Ok(format!(in alloc; "{error}")?),
+    }
+}
+
+fn request_len_row(alloc: Global, words: &str) -> RedisResult<String> {
+    match request_len(&bytes(alloc, words)?) {
+        Ok(length) => Ok(format!(in alloc; "{length}")?),
+        Err(fault) => Ok(format!(in alloc; "{fault}")?),
+    }
+}
+
+/// Whether both readers of a request say that these bytes are incomplete.
+fn is_incomplete(alloc: Global, bytes: &[u8]) -> bool {
+    let read = matches!(
+        read_request(alloc, bytes),
+        Err(RequestError::Fault(RequestFault::Incomplete))
+    );
+    read && request_len(bytes) == Err(RequestFault::Incomplete)
+}
+
+/// How many of the cuts of a request are incomplete.
+fn request_cuts(alloc: Global, words: &str) -> RedisResult<String> {
+    let whole = bytes(alloc, words)?;
+    let mut cuts: usize = 0;
+    for end in 0..whole.len() {
+        if is_incomplete(alloc, &whole[..end]) {
+            cuts = cuts.saturating_add(1);
+        }
+    }
+    Ok(format!(in alloc; "{cuts} of {} incomplete", whole.len())?)
+}
+
+fn write_row(alloc: Global, words: &str) -> RedisResult<String> {
+    let cmd = command(alloc, words)?;
+    escaped(alloc, &write_command(alloc, &cmd)?)
+}

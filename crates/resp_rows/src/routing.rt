@@ -1,0 +1,104 @@
+//! Where a request goes, its parts, and the one reply of those to the parts, where no name only
+//! reads and none is registered.
+use crate::texts::{command, escaped, first, halves};
+use fixtures::{bytes, number};
+use redis_bytes::{BytesFault, Parts};
+use redis_routing::{Names, ReadOnlyNames, Registry, RoutingInfo};
+use resp::write_command;
+use resp_core::RedisResult;
+use std::alloc::Global;
+
+/// The request of some words.
+fn request(alloc: Global, words: &str) -> RedisResult<Vec<u8>> {
+    let cmd = command(alloc, words)?;
+    Ok(write_command(alloc, &cmd)?)
+}
+
+/// The text of a fault.
+pub fn fault_text(alloc: Global, fault: BytesFault) -> RedisResult<String> {
+    Ok(format!(in alloc; "{fault}")?)
+}
+
+fn routed(alloc: Global, request: &[u8]) -> Result<Option<RoutingInfo>, BytesFault> {
+    let (read_only, registry) = (ReadOnlyNames::new(alloc), Registry::new(alloc));
+    let names = Names {
+        read_only: &read_only,
+        registry: &registry,
+    };
+    redis_bytes::route(alloc, request, names)
+}
+
+/// Where a request goes.
+pub fn route(alloc: Global, words: &str) -> RedisResult<String> {
+    match routed(alloc, &request(alloc, words)?) {
+        Ok(info) => Ok(format!(in alloc; "{info:?}")?),
+        Err(fault) => fault_text(alloc, fault),
+    }
+}
+
+fn split(alloc: Global, request: &[u8]) -> Result<Parts, BytesFault> {
+    let (read_only, registry) = (ReadOnlyNames::new(alloc), Registry::new(alloc));
+    let names = Names {
+        read_only: &read_only,
+        registry: &registry,
+    };
+    redis_bytes::split(alloc, request, names)
+}
+
+fn parts_text(alloc: Global, parts: Parts) -> RedisResult<String> {
+    let Parts {
+        routes,
+        ends,
+        bytes,
+    } = parts;
+    Ok(format!(in alloc; "{} routes, ends {ends:?} of {}", routes.len(), bytes.len())?)
+}
+
+/// How many parts a request has, and where their bytes end.
+pub fn parts(alloc: Global, words: &str) -> RedisResult<String> {
+    match split(alloc, &request(alloc, words)?) {
+        Ok(parts) => parts_text(alloc, parts),
+        Err(fault) => fault_text(alloc, fault),
+    }
+}
+
+/// What stands between an end and the one before it.
+pub fn piece<'a>(bytes: &'a [u8], ends: &[usize], index: usize) -> &'a [u8] {
+    let start = match index.checked_sub(1) {
+        Some(before) => ends.get(before).copied().unwrap_or(0),
+        None => 0,
+    };
+    match ends.get(index) {
+        Some(end) => bytes.get(start..*end).unwrap_or(&[]),
+        None => &[],
+    }
+}
+
+/// The bytes of one part of a request.
+pub fn part(alloc: Global, words: &str) -> RedisResult<String> {
+    let (index, words) = first(words);
+    let index = number(index)?;
+    match split(alloc, &request(alloc, words)?) {
+        Ok(parts) => escaped(alloc, piece(&parts.bytes, &parts.ends, index)),
+        Err(fault) => fault_text(alloc, fault),
+    }
+}
+
+fn combined(alloc: Global, request: &[u8], replies: &[u8]) -> Result<Vec<u8>, BytesFault> {
+    let (read_only, registry) = (ReadOnlyNames::new(alloc), Registry::new(alloc));
+    let names = Names {
+        read_only: &read_only,
+        registry: &registry,
+    };
+    redis_bytes::combine(alloc, request, names, replies)
+}
+
+/// The one reply to a request by the replies to its parts.
+pub fn combine(alloc: Global, words: &str) -> RedisResult<String> {
+    let (words, replies) = halves(words);
+    let request = request(alloc, words)?;
+    match combined(alloc, &request, &bytes(alloc, replies)?) {
+        Ok(reply) => escaped(alloc, &reply),
+        Err(fault) => fault_text(alloc, fault),
+    }
+}

@@ -1,0 +1,69 @@
+//! Tables of slots.
+use crate::routing::fault_text;
+use crate::texts::{escaped, first};
+use cluster_map::SlotAddr;
+use fixtures::{bytes, number};
+use redis_bytes::{BytesFault, NO_NODE, Table, slot_map, slot_table};
+use resp_core::RedisResult;
+use std::alloc::Global;
+
+/// The table that rows speak of.
+#[derive(Drop)]
+pub struct Tables {
+    table: Table,
+}
+
+impl Tables {
+    /// That of no slots.
+    pub fn new(alloc: Global) -> Self {
+        let (numbers, nodes) = (Vec::new(alloc), Vec::new(alloc));
+        Tables {
+            table: Table { numbers, nodes },
+        }
+    }
+
+    /// What a call of tables answers.
+    pub fn call(&mut self, alloc: Global, name: &str, words: &str) -> Option<RedisResult<String>> {
+        Some(match name {
+            "slot_map" => map_row(alloc, words),
+            "slot_table" => self.keep(alloc, words),
+            "number" => self.number(alloc, words),
+            _ => return None,
+        })
+    }
+
+    /// Keeps the table of the primaries that a reply tells.
+    fn keep(&mut self, alloc: Global, words: &str) -> RedisResult<String> {
+        match table_of(alloc, words)? {
+            Ok(table) => self.table = table,
+            Err(fault) => return fault_text(alloc, fault),
+        }
+        let nodes = escaped(alloc, &self.table.nodes)?;
+        Ok(format!(in alloc; "{} slots, {nodes}", self.table.numbers.len())?)
+    }
+
+    /// The number that a slot has in the table.
+    fn number(&self, alloc: Global, words: &str) -> RedisResult<String> {
+        let slot: usize = number(words)?;
+        Ok(match self.table.numbers.get(slot) {
+            Some(number) if *number == NO_NODE => String::from_str(alloc, "no node")?,
+            Some(number) => format!(in alloc; "{number}")?,
+            None => String::from_str(alloc, "no slot")?,
+        })
+    }
+}
+
+fn table_of(alloc: Global, words: &str) -> RedisResult<Result<Table, BytesFault>> {
+    let (answering, reply) = first(words);
+    let reply = bytes(alloc, reply)?;
+    Ok(slot_table(alloc, &reply, answering, SlotAddr::Master, 0))
+}
+
+/// How many ranges the map of a reply has.
+fn map_row(alloc: Global, words: &str) -> RedisResult<String> {
+    let (answering, reply) = first(words);
+    match slot_map(alloc, &bytes(alloc, reply)?, answering) {
+        Ok(map) => Ok(format!(in alloc; "{} ranges", map.values().count())?),
+        Err(fault) => fault_text(alloc, fault),
+    }
+}
