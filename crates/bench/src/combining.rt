@@ -1,6 +1,6 @@
 use crate::fault::Fault;
+use crate::inputs::{bulks, cmd, counts, ints, read_only, repeated, turned_counts};
 use crate::watch::Watch;
-use bench_inputs::{bulks, cmd, counts, ints, read_only, repeated, turned_counts};
 use redis_cluster::routing::{
     AggregateOp, LogicalAggregateOp, Names, Registry, SplitCommand, aggregate,
     combine_and_sort_array_results, combine_array_results, combine_map_results, logical_aggregate,

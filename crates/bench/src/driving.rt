@@ -1,6 +1,6 @@
 use crate::fault::Fault;
+use crate::inputs::{Hosts, cmd, map, read_only};
 use crate::watch::Watch;
-use bench_inputs::{Hosts, cmd, map, read_only};
 use memory_nodes::MemoryNodes;
 use redis_cluster::driver::{SplitPlan, drive};
 use redis_cluster::routing::{Names, Registry, SplitCommand};

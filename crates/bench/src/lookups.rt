@@ -1,6 +1,6 @@
 use crate::fault::Fault;
+use crate::inputs::{Hosts, keys, map, ranges, slots_reply};
 use crate::watch::Watch;
-use bench_inputs::{Hosts, keys, map, ranges, slots_reply};
 use cluster_map::{Route, Slot, SlotAddr, SlotMap, SlotRangeMap};
 use std::alloc::{AllocError, Global};
 

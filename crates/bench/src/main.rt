@@ -9,6 +9,7 @@
 mod combining;
 mod driving;
 mod fault;
+mod inputs;
 mod lookups;
 mod operation;
 mod pipelines;

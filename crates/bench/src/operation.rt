@@ -1,6 +1,7 @@
 use crate::combining::{self, Combining};
 use crate::driving::{self, Driving};
 use crate::fault::Fault;
+use crate::inputs::Hosts;
 use crate::lookups::{self, Lookups};
 use crate::pipelines::{self, Pipelines};
 use crate::routing::{self, Routing};
@@ -8,7 +9,6 @@ use crate::splitting::{self, Splitting};
 use crate::values::{self, Values};
 use crate::watch::Watch;
 use Operation::{Combine, Drive, LookUp, Pipe, Route, Split, Value};
-use bench_inputs::Hosts;
 use std::alloc::Global;
 
 /// What can be timed.

@@ -1,6 +1,6 @@
 use crate::fault::Fault;
+use crate::inputs::{Hosts, map, mixed_pipeline, reply_to};
 use crate::watch::Watch;
-use bench_inputs::{Hosts, map, mixed_pipeline, reply_to};
 use cluster_map::SlotMap;
 use redis_batches::PipelinePlan;
 use redis_cluster::routing::{Names, ReadOnlyNames, Registry};

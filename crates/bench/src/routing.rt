@@ -1,6 +1,6 @@
 use crate::fault::Fault;
+use crate::inputs::{cmd, one_key, read_only};
 use crate::watch::Watch;
-use bench_inputs::{cmd, one_key, read_only};
 use redis_cluster::routing::{
     AggregateOp, MultiSlotArgPattern, MultipleNodeRoutingInfo, RegisterError, Registry,
     ResponsePolicy, Routable, RoutingInfo, SingleNodeRoutingInfo,

@@ -1,6 +1,6 @@
 use crate::fault::Fault;
+use crate::inputs::{cmd, read_only};
 use crate::watch::Watch;
-use bench_inputs::{cmd, read_only};
 use redis_cluster::routing::{Names, Registry, SplitCommand};
 use resp_core::Cmd;
 use std::alloc::{AllocError, Global};

@@ -1,6 +1,6 @@
 use crate::fault::Fault;
+use crate::inputs::{bulks, ints, keys, nested};
 use crate::watch::Watch;
-use bench_inputs::{bulks, ints, keys, nested};
 use redis_cluster::pipeline::ClusterPipeline;
 use resp_core::{Cmd, Value};
 use std::alloc::Global;

@@ -1,6 +1,4 @@
 //! Keys, ranges, commands and replies for `bench` to call with.
-#![tactic(auto)]
-
 use cluster_map::{NodeAddress, SlotMap, SlotRange};
 use redis_cluster::routing::ReadOnlyNames;
 use resp_core::{Cmd, Value};
