@@ -7,7 +7,7 @@ use cluster_map::{
     ClusterTopology, NodeAddress, ReadRoutingStrategy, Route, SlotAddr, SlotAddrs, SlotMap,
     SlotRange,
 };
-use fixtures::{Turns, bad_row, bytes, map, number, ranges, value};
+use fixtures::{bad_row, bytes, map, number, ranges, value};
 use resp_core::{RedisResult, Value};
 use std::alloc::Global;
 
@@ -148,16 +148,6 @@ fn find(
     }
 }
 
-fn find_by_turns(
-    alloc: Global,
-    map: &SlotMap,
-    turns: &Turns,
-    name: &str,
-    words: &str,
-) -> RedisResult<String> {
-    find(alloc, map, Some(turns), name, words)
-}
-
 /// The same, with the strategy that is lent.
 fn find_by(
     alloc: Global,
@@ -168,8 +158,10 @@ fn find_by(
 ) -> RedisResult<String> {
     match lent {
         Lent::Nothing => find(alloc, map, None, name, words),
-        Lent::Turns(turns) => find_by_turns(alloc, map, turns, name, words),
-        Lent::Boxed(strategy) => find(alloc, map, Some(&**strategy), name, words),
+        Lent::Turns(turns) => find(alloc, map, Some(turns), name, words),
+        Lent::First(first) => find(alloc, map, Some(first), name, words),
+        Lent::Index(index) => find(alloc, map, Some(index), name, words),
+        Lent::Shards(shards) => find(alloc, map, Some(shards), name, words),
     }
 }
 
@@ -266,7 +258,7 @@ impl Cluster {
     }
 
     fn strategy(&mut self, alloc: Global, name: &str) -> RedisResult<String> {
-        self.lent = Lent::new(alloc, name)?;
+        self.lent = Lent::new(name)?;
         Ok(String::from_str(alloc, "OK")?)
     }
 

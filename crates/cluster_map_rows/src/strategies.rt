@@ -14,8 +14,9 @@ pub enum Lent {
     Nothing,
     /// One that counts how often it is asked.
     Turns(Turns),
-    /// Any other one.
-    Boxed(Box<dyn ReadRoutingStrategy>),
+    First(FirstReplica),
+    Index(PickIndex),
+    Shards(ShardAware),
 }
 
 /// What the default factory makes.
@@ -24,17 +25,22 @@ fn made() -> FirstReplica {
     factory.create_strategy()
 }
 
+// As a user tells a strategy of which the type is not known.
+fn tell(strategy: &mut dyn ReadRoutingStrategy, topology: ClusterTopology) {
+    strategy.on_topology_changed(topology);
+}
+
 impl Lent {
     /// The strategy of a name, as it is before it is asked for anything.
-    pub fn new(alloc: Global, name: &str) -> RedisResult<Lent> {
+    pub fn new(name: &str) -> RedisResult<Lent> {
         match name {
             "none" => Ok(Lent::Nothing),
             "turns" => Ok(Lent::Turns(Turns::new())),
-            "first" => Ok(Lent::Boxed(Box::new(alloc, FirstReplica)?)),
-            "made" => Ok(Lent::Boxed(Box::new(alloc, made())?)),
-            "shards" => Ok(Lent::Boxed(Box::new(alloc, ShardAware::new())?)),
+            "first" => Ok(Lent::First(FirstReplica)),
+            "made" => Ok(Lent::First(made())),
+            "shards" => Ok(Lent::Shards(ShardAware::new())),
             _ => match name.strip_prefix("index ") {
-                Some(index) => Ok(Lent::Boxed(Box::new(alloc, PickIndex::new(number(index)?))?)),
+                Some(index) => Ok(Lent::Index(PickIndex::new(number(index)?))),
                 None => Err(bad_row("no strategy of this name")),
             },
         }
@@ -44,8 +50,10 @@ impl Lent {
     pub fn tell(&mut self, topology: ClusterTopology) {
         match self {
             Lent::Nothing => {}
-            Lent::Turns(turns) => turns.on_topology_changed(topology),
-            Lent::Boxed(strategy) => strategy.on_topology_changed(topology),
+            Lent::Turns(turns) => tell(turns, topology),
+            Lent::First(first) => tell(first, topology),
+            Lent::Index(index) => tell(index, topology),
+            Lent::Shards(shards) => tell(shards, topology),
         }
     }
 

@@ -9,29 +9,32 @@ mod steady_streams;
 mod strategies;
 mod streams;
 
-use cluster_map::ReadRoutingStrategy;
 use failing::Failing;
 use fixtures::{Calls, bad_row, run};
 use resp_core::RedisResult;
 use runs::{Run, run_of, serve_all, serve_over, shown};
 use std::alloc::Global;
 use std::process::ExitCode;
+use strategies::{Strategy, serve_by};
 use streams::Mode;
 
 /// The strategy that the next `serve` is handed.
 #[derive(Drop)]
 struct Rows {
-    strategy: Option<Box<dyn ReadRoutingStrategy>>,
+    strategy: Option<Strategy>,
 }
 
 impl Rows {
     fn hand_in(&mut self, alloc: Global, name: &str) -> RedisResult<String> {
-        self.strategy = Some(strategies::named(alloc, name)?);
+        self.strategy = Some(Strategy::named(name)?);
         Ok(String::from_str(alloc, "handed in")?)
     }
 
     fn serve(&mut self, alloc: Global, run: &Run) -> RedisResult<String> {
-        shown(alloc, &serve_all(alloc, run, self.strategy.take()))
+        match self.strategy.take() {
+            Some(strategy) => shown(alloc, &serve_by(alloc, run, strategy)?),
+            None => shown(alloc, &serve_all(alloc, run, None)),
+        }
     }
 
     fn serve_row(&mut self, alloc: Global, name: &str, run: &Run) -> RedisResult<String> {

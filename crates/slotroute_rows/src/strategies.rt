@@ -3,6 +3,7 @@ ghost use Rattle.std.specs.Prelude.{◌≡◌};
 ghost use Rattle.cluster_map.specs.Candidates.{IsCandidate};
 ghost use Rattle.cluster_map.specs.ReadCandidates.{addresses_of, candidates_of};
 
+use crate::runs::{Run, Written, serve_all};
 use cluster_map::{ClusterTopology, NodeAddress, ReadCandidates, ReadRoutingStrategy, Replicas};
 use example_strategies::{FirstReplica, PickIndex, ShardAware};
 use fixtures::{bad_row, number};
@@ -58,30 +59,51 @@ fn replicas_of<'a>(candidates: &ReadCandidates<'a>) -> Replicas<'a>
     }
 }
 
-fn counts_told(alloc: Global) -> RedisResult<Box<dyn ReadRoutingStrategy>> {
-    let by_count = PickIndex::new(0);
-    Ok(Box::new(alloc, CountsTold { by_count })?)
+/// A strategy that a run is handed.
+#[derive(Clone, Copy)]
+pub enum Strategy {
+    First,
+    Pick(usize),
+    Shard,
+    Told,
+    Turns,
 }
 
-fn in_turn(alloc: Global) -> RedisResult<Box<dyn ReadRoutingStrategy>> {
-    let asked = Cell::new(0);
-    Ok(Box::new(alloc, ReplicasInTurn { asked })?)
-}
-
-fn pick(alloc: Global, name: &str) -> RedisResult<Box<dyn ReadRoutingStrategy>> {
-    match name.strip_prefix("pick=") {
-        Some(index) => Ok(Box::new(alloc, PickIndex::new(number(index)?))?),
-        None => Err(bad_row("no strategy of this name")),
+impl Strategy {
+    /// The strategy of a name.
+    pub fn named(name: &str) -> RedisResult<Strategy> {
+        match name {
+            "first" => Ok(Strategy::First),
+            "shard" => Ok(Strategy::Shard),
+            "told" => Ok(Strategy::Told),
+            "turns" => Ok(Strategy::Turns),
+            _ => match name.strip_prefix("pick=") {
+                Some(index) => Ok(Strategy::Pick(number(index)?)),
+                None => Err(bad_row("no strategy of this name")),
+            },
+        }
     }
 }
 
-/// The strategy of a name.
-pub fn named(alloc: Global, name: &str) -> RedisResult<Box<dyn ReadRoutingStrategy>> {
-    match name {
-        "first" => Ok(Box::new(alloc, FirstReplica)?),
-        "shard" => Ok(Box::new(alloc, ShardAware::new())?),
-        "told" => counts_told(alloc),
-        "turns" => in_turn(alloc),
-        _ => pick(alloc, name),
+fn serve_told(alloc: Global, run: &Run) -> RedisResult<Written> {
+    let by_count = PickIndex::new(0);
+    Ok(serve_all(alloc, run, Some(Box::new(alloc, CountsTold { by_count })?)))
+}
+
+fn serve_in_turn(alloc: Global, run: &Run) -> RedisResult<Written> {
+    let asked = Cell::new(0);
+    Ok(serve_all(alloc, run, Some(Box::new(alloc, ReplicasInTurn { asked })?)))
+}
+
+/// A run over streams that do not fail, which is handed this strategy.
+pub fn serve_by(alloc: Global, run: &Run, strategy: Strategy) -> RedisResult<Written> {
+    match strategy {
+        Strategy::First => Ok(serve_all(alloc, run, Some(Box::new(alloc, FirstReplica)?))),
+        Strategy::Pick(index) => {
+            Ok(serve_all(alloc, run, Some(Box::new(alloc, PickIndex::new(index))?)))
+        }
+        Strategy::Shard => Ok(serve_all(alloc, run, Some(Box::new(alloc, ShardAware::new())?))),
+        Strategy::Told => serve_told(alloc, run),
+        Strategy::Turns => serve_in_turn(alloc, run),
     }
 }
