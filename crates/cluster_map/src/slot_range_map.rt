@@ -1,4 +1,4 @@
-ghost use Rattle.std.specs.Prelude.{◌≡◌, ◌<◌, ◌≤◌, ◌+◌, ℕ, nat_lt, List, [], length, map, filter, take, drop, slice_get, IsOk, IfOk, OnOk, OnErr, MatchOption};
+ghost use Rattle.std.specs.Prelude.{◌≡◌, ◌<◌, ◌≤◌, ◌+◌, ℕ, nat_lt, List, [], length, map, filter, take, drop, slice_get, IsOk, IfOk, OnOk, OnErr, MatchOption, IfSome};
 ghost use Rattle.std.specs.List.{AllZip};
 ghost use Rattle.std.specs.List.Sorted.{IsNonDecreasing};
 ghost use Rattle.std.specs.Vec.{vec_capacity};
@@ -84,22 +84,23 @@ fn count_below(ends: &[u16], end: u16) -> usize
     usize::from(below)
 }
 
-/// How many of the ends are below this one, where it is known that so many are or more. Where they
-/// are few more, none is looked at but `LANES` of them.
-fn place_from(ends: &[u16], known: usize, end: u16) -> usize
+/// How many of the ends are below this one, where it is known that so many are or more. It looks at
+/// `LANES` ends, and tells nothing where all of these are below.
+fn place_near(ends: &[u16], known: usize, end: u16) -> Option<usize>
     requires rises { IsNonDecreasing ends.now }
+    requires many { 16 ≤ length ends.now }
     requires known { known ≤ length (filter (λ e. nat_lt e end) ends.now) }
-    ensures place { result ≡ length (filter (λ e. nat_lt e end) ends.now) }
-    ensures bound { result ≤ length ends.now }
+    ensures place { IfSome result
+        (λ place. place ≡ length (filter (λ e. nat_lt e end) ends.now)) }
+    ensures bound { IfSome result (λ place. place ≤ length ends.now) }
 {
-    if ends.len() >= LANES {
-        let first = known.min(ends.len() - LANES);
-        let below = count_below(&ends[first..first + LANES], end);
-        if below < LANES {
-            return first + below;
-        }
+    let first = known.min(ends.len() - LANES);
+    let below = count_below(&ends[first..first + LANES], end);
+    if below < LANES {
+        Some(first + below)
+    } else {
+        None
     }
-    place_of(ends, end)
 }
 
 /// How many of the ends in an index of so many ranges are below this one.
@@ -112,14 +113,16 @@ fn place_in(index: &[u16], count: usize, page_bits: u32, end: u16) -> usize
     ensures bound { result ≤ count }
 {
     let (ends, pages) = index.split_at(count);
-    if count < LANES {
-        return place_of(ends, end);
+    if count >= LANES {
+        let known = match pages.get(usize::from(end >> page_bits)) {
+            Some(number) => usize::from(*number),
+            None => 0,
+        };
+        if let Some(place) = place_near(ends, known, end) {
+            return place;
+        }
     }
-    let known = match pages.get(usize::from(end >> page_bits)) {
-        Some(number) => usize::from(*number),
-        None => 0,
-    };
-    place_from(ends, known, end)
+    place_of(ends, end)
 }
 
 /// Whether there is a range at the place that has this end.

@@ -5,8 +5,8 @@ use Rattle.cluster_map.proofs.Pages.{page_known}
 use Rattle.cluster_map.proofs.slot_range_map.place_in.Goals.{in-Some, in-None}
 use Rattle.cluster_map.proofs.slot_range_map.place_in.Goals as goal
 
-pub place_from-requires-clause-known : goal.place_from-requires-clause-known
-place_from-requires-clause-known c =
+pub place_near-requires-clause-known : goal.place_near-requires-clause-known
+place_near-requires-clause-known c =
     let ends = c.split_at.result.0.now in
     let numbers = c.split_at.result.1.now in
     let pages : ArePages c.args.page_bits numbers ends = rw (c.split_at.ensures.back, c.split_at.ensures.front) c.requires.pages in

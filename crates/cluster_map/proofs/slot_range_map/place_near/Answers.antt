@@ -2,7 +2,7 @@ use Rattle.std.proofs.Common.{◌≡◌, ◌+◌, ◌-◌, take, drop, ap, ◌�
 use Rattle.std.specs.List.{slice_range}
 use Rattle.cluster_map.proofs.Places.{below, below-most}
 use Rattle.cluster_map.proofs.Pages.{below_near}
-use Rattle.cluster_map.proofs.slot_range_map.place_from.Goals as goal
+use Rattle.cluster_map.proofs.slot_range_map.place_near.Goals as goal
 
 pub returns-then-below-lt-LANES : goal.returns-then-below-lt-LANES
 returns-then-below-lt-LANES c =
