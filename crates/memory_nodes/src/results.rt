@@ -1,10 +1,9 @@
-ghost use Rattle.std.specs.Prelude.{◌≡◌, ◌<◌, ◌≤◌, ◌^◌, ◌+◌, ◌++◌, ◌∷◌, [], List, false, map, cond, IfOk, IfSome};
-ghost use Rattle.std.specs.Vec.{vec_len, vec_capacity};
+ghost use Rattle.std.specs.Prelude.{◌≡◌, ◌<◌, ◌^◌, ◌+◌, ◌++◌, ◌∷◌, ℕ, [], List, false, IfOk, IfSome};
 ghost use Rattle.resp_core.specs.Reply.{nil};
 ghost use Rattle.resp_core.specs.View.{view};
 ghost use Rattle.redis_cluster.specs.MultiKey.{form_by_policy};
 ghost use Rattle.redis_cluster.specs.Unsplit.{TupleResult, reply_by};
-ghost use Rattle.memory_nodes.specs.Results.{result_of, HoldResults};
+ghost use Rattle.memory_nodes.specs.Results.{result_of, HoldResults, HaveRoom, FitPolicy};
 
 use redis_routing::{AggregateOp, ResponsePolicy};
 use resp_core::Value;
@@ -43,50 +42,64 @@ impl KeyResult {
 
 /// What tuples add to the reply.
 #[derive(Drop)]
-pub(super) struct Results {
-    /// The value of each, in order.
-    pub(super) values: Vec<Value>,
-    /// How many count.
-    pub(super) count: usize,
+pub(super) enum Results {
+    /// The value of each, in order, where the reply is a list.
+    Values(Vec<Value>),
+    /// How many count, where the reply is no list.
+    Count(usize),
 }
 
 impl Results {
-    /// What no tuple adds, with room for what so many tuples add.
-    pub(super) fn with_room(alloc: Global, tuples: usize) -> Result<Results, AllocError>
+    /// What no tuple adds to a reply by this policy, with room for what so many tuples add.
+    #[tactic(auto, unfolding(crate::specs::Results::HoldResults, crate::specs::Results::HaveRoom, crate::specs::Results::FitPolicy))]
+    pub(super) fn with_room(
+        alloc: Global,
+        policy: ResponsePolicy,
+        tuples: usize,
+    ) -> Result<Results, AllocError>
+        requires few { tuples < 2 ^ 63 }
         ensures empty { IfOk result (λ results. HoldResults results []) }
-        ensures room { IfOk result
-            (λ results. vec_len results.values + tuples ≤ vec_capacity results.values) }
+        ensures room { IfOk result (λ results. HaveRoom results tuples) }
+        ensures fit { IfOk result (λ results. FitPolicy results policy) }
     {
-        Ok(Results {
-            values: Vec::with_capacity(alloc, tuples)?,
-            count: 0,
-        })
+        match policy {
+            ResponsePolicy::CombineArrays => {
+                Ok(Results::Values(Vec::with_capacity(alloc, tuples)?))
+            }
+            _ => Ok(Results::Count(0)),
+        }
     }
 
     /// Adds what the next tuple adds. Takes no memory.
+    #[tactic(auto, unfolding(crate::specs::Results::HoldResults, crate::specs::Results::HaveRoom, crate::specs::Results::FitPolicy))]
     pub(super) fn add(&mut self, added: KeyResult)
-        requires few { self.old.count + 1 < 2 ^ 64 }
-        requires room { vec_len self.old.values < vec_capacity self.old.values }
-        ensures values { map view self.new.values.items ≡ map view self.old.values.items
-            ++ view added.value ∷ [] }
-        ensures count { self.new.count ≡ self.old.count + cond added.counts 1 0 }
-        ensures len { vec_len self.new.values ≡ vec_len self.old.values + 1 }
-        ensures room { vec_capacity self.new.values ≡ vec_capacity self.old.values }
+        requires room { HaveRoom self.old 1 }
+        ensures results { (results : List TupleResult) → HoldResults self.old results
+            → HoldResults self.new (results ++ result_of added ∷ []) }
+        ensures room { (tuples : ℕ) → HaveRoom self.old (tuples + 1) → HaveRoom self.new tuples }
+        ensures fit { (policy : ResponsePolicy) → FitPolicy self.old policy
+            → FitPolicy self.new policy }
     {
-        self.count += usize::from(added.counts);
-        self.values.push_reserved(added.value);
+        match self {
+            Results::Values(values) => values.push_reserved(added.value),
+            Results::Count(count) => *count += usize::from(added.counts),
+        }
     }
 
     /// The reply that a policy makes of them.
+    #[tactic(auto, unfolding(crate::specs::Results::HoldResults, crate::specs::Results::HaveRoom, crate::specs::Results::FitPolicy))]
     pub(super) fn into_reply(self, policy: ResponsePolicy) -> Value
-        requires { self.count < 2 ^ 63 }
+        requires few { HaveRoom self 0 }
+        requires fit { FitPolicy self policy }
         ensures { (results : List TupleResult) → HoldResults self results
             → IfSome (form_by_policy policy) (λ form. view result ≡ reply_by form results) }
     {
-        match policy {
-            ResponsePolicy::CombineArrays => Value::Array(self.values),
-            ResponsePolicy::Aggregate(AggregateOp::Sum) => Value::Int(self.count as i64),
-            _ => Value::Okay,
+        match (self, policy) {
+            (Results::Values(values), _) => Value::Array(values),
+            (Results::Count(count), ResponsePolicy::Aggregate(AggregateOp::Sum)) => {
+                Value::Int(count as i64)
+            }
+            (Results::Count(_), _) => Value::Okay,
         }
     }
 }

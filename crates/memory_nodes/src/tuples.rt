@@ -4,7 +4,7 @@ ghost use Rattle.redis_cluster.specs.MultiKey.{multi_key};
 ghost use Rattle.redis_cluster.specs.Unsplit.{put, after, results, keyspace_after, reply_to};
 ghost use Rattle.memory_nodes.specs.Cells.{keyspace_of, value_at};
 ghost use Rattle.memory_nodes.specs.Parts.{words, key_tuples, act_on};
-ghost use Rattle.memory_nodes.specs.Results.{result_of, HoldResults};
+ghost use Rattle.memory_nodes.specs.Results.{result_of, HoldResults, HaveRoom, FitPolicy};
 ghost use Rattle.memory_nodes.specs.Steps.{act, shown, step};
 ghost use Rattle.memory_nodes.specs.Undo.{before_all};
 
@@ -61,7 +61,8 @@ fn run_tuples<'a>(
         (λ kept. HoldResults kept
         (results (act_on whole.now) (key_tuples whole.now.pattern (words whole.now.tuples.now))
         (keyspace_of cells.old))) }
-    ensures few { IfOk result (λ kept. kept.count < 2 ^ 63) }
+    ensures few { IfOk result (λ kept. HaveRoom kept 0) }
+    ensures fit { IfOk result (λ kept. FitPolicy kept whole.now.policy) }
     // Where memory runs out, undoing the changes leads back.
     ensures undo { OnErr result
         (before_all changes.new.items (keyspace_of cells.new)
@@ -69,7 +70,7 @@ fn run_tuples<'a>(
 {
     let action = Action::by(whole.registered, &whole.name);
     let width = whole.pattern.width();
-    let mut results = Results::with_room(alloc, whole.tuples.len())?;
+    let mut results = Results::with_room(alloc, whole.policy, whole.tuples.len())?;
     let mut rest = whole.tuples;
     while rest.len() >= width {
         let (tuple, others) = rest.split_at(width);

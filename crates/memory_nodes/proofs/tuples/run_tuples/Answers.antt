@@ -1,16 +1,14 @@
-use Rattle.std.proofs.Common.{◌≡◌, ◌+◌, ◌-◌, ◌<◌, ◌≤◌, true, [], ◌∷◌, map, length, take, drop, subst, sym, ap, ◌∙◌}
+use Rattle.std.proofs.Common.{◌≡◌, ◌+◌, ◌-◌, ◌<◌, [], ◌∷◌, ◌++◌, length, take, drop, subst, sym, ap, ◌∙◌, append_assoc, append-nil, arith}
 use Rattle.std.specs.Prelude.{slice_get}
-use Rattle.std.specs.Vec.{vec_len, vec_capacity}
 use Rattle.std.proofs.lemmas.List.{length-map}
-use Rattle.resp_core.specs.View.{view}
 use Rattle.redis_routing.specs.Tuples.{width_of}
 use Rattle.redis_cluster.specs.Unsplit.{put, after, results}
 use Rattle.memory_nodes.specs.Cells.{keyspace_of}
 use Rattle.memory_nodes.specs.Parts.{words, key_tuples, act_on}
-use Rattle.memory_nodes.specs.Results.{result_of}
+use Rattle.memory_nodes.specs.Results.{result_of, HoldResults}
 use Rattle.memory_nodes.specs.Steps.{act, action_by}
 use Rattle.memory_nodes.proofs.KeyTuples.{first_tuple, no-tuple}
-use Rattle.memory_nodes.proofs.Running.{after-more, results-more, enough_words, words_back, key_is, extras_are, values-more, count-more, few-more, room-left, all-kept}
+use Rattle.memory_nodes.proofs.Running.{after-more, results-more, enough_words, words_back, key_is, extras_are, room-for, one-left, one-less}
 use Rattle.memory_nodes.proofs.Undoing.{at-err}
 use Rattle.memory_nodes.proofs.tuples.run_tuples.Goals as goal
 
@@ -49,15 +47,17 @@ loop-rest-preserved c =
     ∙ results-more (act_on whole) pattern (words rest) enough_left old new is_after in
     record {
       cells = ap (λ xs. after (act_on whole) (key_tuples pattern xs) new) left ∙ after-more (act_on whole) pattern (words rest) enough_left old new is_after ∙ c.loop-rest.invariant.cells;
-      values = values-more (map view c.loop-rest.results.values.items) (map view c.add.new.self.values.items) c.loop-rest.results.count c.add.new.self.count (result_of c.in_ok-added.added) (results (act_on whole) (key_tuples pattern (words others)) new) (results (act_on whole) (key_tuples pattern (words rest)) old) c.add.ensures.values all_results ∙ c.loop-rest.invariant.values;
-      count = count-more (map view c.loop-rest.results.values.items) (map view c.add.new.self.values.items) c.loop-rest.results.count c.add.new.self.count (result_of c.in_ok-added.added) (results (act_on whole) (key_tuples pattern (words others)) new) (results (act_on whole) (key_tuples pattern (words rest)) old) c.add.ensures.count all_results ∙ c.loop-rest.invariant.count;
-      few = few-more pattern c.in_ok-added.added.counts c.loop-rest.results.count c.add.new.self.count width (length rest) (length others) (length whole.tuples.now) c.add.ensures.count c.width-width.ensures c.split_at.ensures.back_len c.loop-rest.invariant.few;
-      room = few-more pattern true (vec_len c.loop-rest.results.values) (vec_len c.add.new.self.values) width (length rest) (length others) (vec_capacity c.add.new.self.values) c.add.ensures.len c.width-width.ensures c.split_at.ensures.back_len (subst (λ n. vec_len c.loop-rest.results.values + length rest ≤ n) (sym c.add.ensures.room) c.loop-rest.invariant.room);
+      added = (c.loop-rest.invariant.added.0 ++ result_of c.in_ok-added.added ∷ [], c.add.ensures.results c.loop-rest.invariant.added.0 c.loop-rest.invariant.added.1, append_assoc c.loop-rest.invariant.added.0 (result_of c.in_ok-added.added ∷ []) (results (act_on whole) (key_tuples pattern (words others)) new) ∙ ap (λ rs. c.loop-rest.invariant.added.0 ++ rs) all_results ∙ c.loop-rest.invariant.added.2);
+      room = c.add.ensures.room (length others) (room-for c.loop-rest.results (length others + 1) (length rest) (one-less pattern width (length rest) (length others) c.width-width.ensures c.split_at.ensures.back_len) c.loop-rest.invariant.room);
+      fit = c.add.ensures.fit whole.policy c.loop-rest.invariant.fit;
       undo = λ kept. c.in_ok-added.ensures.undo kept ∙ c.loop-rest.invariant.undo kept;
     }
 
-pub add-requires-clause-room : goal.add-requires-clause-room
-add-requires-clause-room c = room-left c.args.whole.now.pattern (vec_len c.loop-rest.results.values) (vec_capacity c.loop-rest.results.values) c.width-width.result (length c.loop-rest.rest.now) c.width-width.ensures c.loop-rest-test.true c.loop-rest.invariant.room
+pub add-requires : goal.add-requires
+add-requires c = record { room = room-for c.loop-rest.results 1 (length c.loop-rest.rest.now) (one-left c.args.whole.now.pattern c.width-width.result (length c.loop-rest.rest.now) c.width-width.ensures c.loop-rest-test.true) c.loop-rest.invariant.room }
+
+pub returns-clause-few : goal.returns-clause-few
+returns-clause-few c = room-for c.loop-rest.results 0 (length c.loop-rest.rest.now) (omega arith) c.loop-rest.invariant.room
 
 pub returns-in_err-added-clause-undo : goal.returns-in_err-added-clause-undo
 returns-in_err-added-clause-undo c =
@@ -70,5 +70,6 @@ returns-clause-results c =
     let now = keyspace_of c.loop-rest.cells in
     let few : length (words rest) < width_of whole.pattern = subst (λ n. n < width_of whole.pattern) (sym (length-map rest (λ arg. arg.items))) (subst (λ n. length rest < n) c.width-width.ensures c.loop-rest-test.false) in
     let none : results (act_on whole) (key_tuples whole.pattern (words rest)) now ≡ [] = ap (λ ts. results (act_on whole) ts now) (no-tuple whole.pattern (words rest) few) in
-    let kept = all-kept (map view c.loop-rest.results.values.items) c.loop-rest.results.count (results (act_on whole) (key_tuples whole.pattern (words rest)) now) (results (act_on whole) (key_tuples whole.pattern (words whole.tuples.now)) (keyspace_of c.args.cells.now)) none c.loop-rest.invariant.values c.loop-rest.invariant.count in
-    record { values = kept.0; count = kept.1 }
+    let done = c.loop-rest.invariant.added.0 in
+    let all : done ≡ results (act_on whole) (key_tuples whole.pattern (words whole.tuples.now)) (keyspace_of c.args.cells.now) = sym (append-nil done) ∙ ap (λ rs. done ++ rs) (sym none) ∙ c.loop-rest.invariant.added.2 in
+    subst (HoldResults c.loop-rest.results) all c.loop-rest.invariant.added.1
