@@ -113,16 +113,32 @@ fn place_in(index: &[u16], count: usize, page_bits: u32, end: u16) -> usize
     ensures bound { result ≤ count }
 {
     let (ends, pages) = index.split_at(count);
-    if count >= LANES {
-        let known = match pages.get(usize::from(end >> page_bits)) {
-            Some(number) => usize::from(*number),
-            None => 0,
-        };
-        if let Some(place) = place_near(ends, known, end) {
-            return place;
-        }
+    if count < LANES {
+        place_of(ends, end)
+    } else {
+        place_by_pages(ends, pages, page_bits, end)
     }
-    place_of(ends, end)
+}
+
+/// How many of these ends, of which there is a page or more, are below this one. Never inline, so
+/// that a look-up among few ranges is.
+#[inline(never)]
+fn place_by_pages(ends: &[u16], pages: &[u16], page_bits: u32, end: u16) -> usize
+    requires rises { IsNonDecreasing ends.now }
+    requires many { 16 ≤ length ends.now }
+    requires bits { page_bits < 16 }
+    requires pages { ArePages page_bits pages.now ends.now }
+    ensures place { result ≡ length (filter (λ e. nat_lt e end) ends.now) }
+    ensures bound { result ≤ length ends.now }
+{
+    let known = match pages.get(usize::from(end >> page_bits)) {
+        Some(number) => usize::from(*number),
+        None => 0,
+    };
+    match place_near(ends, known, end) {
+        Some(place) => place,
+        None => place_of(ends, end),
+    }
 }
 
 /// Whether there is a range at the place that has this end.

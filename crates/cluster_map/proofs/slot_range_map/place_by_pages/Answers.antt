@@ -1,15 +1,14 @@
 use Rattle.std.proofs.Common.{rules, ◌≡◌, ◌<◌, length, get_or, arith}
 use Rattle.std.proofs.lemmas.Bool.Decides.{nat_tests}
-use Rattle.cluster_map.specs.RangeIndex.{ArePages}
 use Rattle.cluster_map.proofs.Pages.{page_known}
-use Rattle.cluster_map.proofs.slot_range_map.place_in.Goals.{in-Some, in-None}
-use Rattle.cluster_map.proofs.slot_range_map.place_in.Goals as goal
+use Rattle.cluster_map.proofs.slot_range_map.place_by_pages.Goals.{in-Some, in-None}
+use Rattle.cluster_map.proofs.slot_range_map.place_by_pages.Goals as goal
 
 pub place_near-requires-clause-known : goal.place_near-requires-clause-known
 place_near-requires-clause-known c =
-    let ends = c.split_at.result.0.now in
-    let numbers = c.split_at.result.1.now in
-    let pages : ArePages c.args.page_bits numbers ends = rw (c.split_at.ensures.back, c.split_at.ensures.front) c.requires.pages in
+    let ends = c.args.ends.now in
+    let numbers = c.args.pages.now in
+    let pages = c.requires.pages in
     elim c.match-get.branch [
       | in-Some w ↦
           let within : c.from.result < length numbers = grind (arith, nat_tests) in
