@@ -60,6 +60,7 @@ impl ClusterTopology {
     }
 
     /// The shard that serves the slot, where a range holds for it. O(log n).
+    #[inline]
     pub fn shard_for_slot(&self, slot: u16) -> Option<&Shard>
         ensures shard { MatchOption result (IsUncovered self.now.ranges slot)
             (λ shard. IsShardAt self.now slot shard.now) }
@@ -127,9 +128,16 @@ fn first_places(alloc: Global, ranges: &SlotRangeMap<usize>) -> Result<Vec<usize
     for place in ranges.values() {
         seen.insert(*place)?;
     }
-    let mut found = Vec::new(alloc);
-    for place in seen.iter() {
-        found.push(*place)?;
+    listed(alloc, &seen)
+}
+
+/// The members of a set, in order.
+fn listed(alloc: Global, members: &IndexSet<usize>) -> Result<Vec<usize>, AllocError>
+    ensures { IfOk result (λ found. found.items ≡ members.now.keys) }
+{
+    let mut found = Vec::with_capacity(alloc, members.len())?;
+    for member in members.iter() {
+        found.push(*member)?;
     }
     Ok(found)
 }

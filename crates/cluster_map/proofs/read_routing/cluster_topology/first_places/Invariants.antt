@@ -1,4 +1,4 @@
-use Rattle.std.proofs.Common.{◌≡◌, ◌++◌, [], nat_eq, map, fold}
+use Rattle.std.proofs.Common.{◌≡◌, [], nat_eq, map, fold}
 use Rattle.cluster_map.specs.RangeMap.{value_of}
 use Rattle.cluster_map.proofs.Members.{add_by}
 use Rattle.cluster_map.proofs.read_routing.cluster_topology.first_places.Given as goal
@@ -9,7 +9,3 @@ invariant-loop-place l =
     (goal.iterator-loop-place).can_next l.place-iterator ×
     (goal.iterator-loop-place).is_finite l.place-iterator ×
     (fold (add_by nat_eq) l.seen.keys l.place-iterator ≡ fold (add_by nat_eq) [] (map value_of l.ranges))
-
--- those found, and then those that are left, are all members
-abbrev pub invariant-loop-place-2 : goal.invariant-loop-place-2
-invariant-loop-place-2 l = l.found.items ++ l.place-iterator ≡ fold (add_by nat_eq) [] (map value_of l.ranges)
