@@ -1,4 +1,4 @@
-ghost use Rattle.std.specs.Prelude.{◌≡◌, ◌≤◌};
+ghost use Rattle.std.specs.Prelude.{◌≡◌, ◌≤◌, Some, option_and_then};
 ghost use Rattle.redis_routing.specs.Tuples.{is_complete, width_of, fits, tuple_args_count};
 ghost use Rattle.redis_routing.specs.RouteBy.{base_routing};
 ghost use Rattle.redis_routing.specs.Policies.{policy_of};
@@ -105,8 +105,16 @@ pub fn routing_and_policy(name: &[u8]) -> (Option<RouteBy>, Option<ResponsePolic
     ensures routing { result.0 ≡ base_routing name.now }
     ensures policy { result.1 ≡ policy_of name.now }
 {
-    match find(&NAMES, &NAME_PLACES, name) {
+    match in_tables(name) {
         Some((route_by, policy)) => (Some(route_by), policy),
         None => (None, None),
     }
+}
+
+/// What the tables say of a name.
+fn in_tables(name: &[u8]) -> Option<(RouteBy, Option<ResponsePolicy>)>
+    ensures routing { option_and_then (λ row. Some row.0) result ≡ base_routing name.now }
+    ensures policy { option_and_then (λ row. row.1) result ≡ policy_of name.now }
+{
+    find(&NAMES, &NAME_PLACES, name)
 }
