@@ -21,7 +21,7 @@ mod upper_case;
 mod words;
 
 pub use info::{MultipleNodeRoutingInfo, Redirect, RoutingInfo, SingleNodeRoutingInfo};
-pub use lookup::contains;
+pub use lookup::{contains, look_up};
 pub use names::Names;
 pub use policy::{AggregateOp, LogicalAggregateOp, ResponsePolicy};
 pub use read_only::ReadOnlyNames;

@@ -50,6 +50,18 @@ fn name_hash(name: &[u8]) -> usize
         + usize::from(name[len - 1]) * 7
 }
 
+/// What stands beside the name in a table of a few rows, which are gone over one by one.
+pub fn look_up<V: Copy>(rows: &[(&[u8], V)], name: &[u8]) -> Option<V>
+    ensures { result ≡ lookup_name (map (λ row. (row.0.now, row.1)) rows.now) name.now }
+{
+    for row in rows {
+        if row.0 == name {
+            return Some(row.1);
+        }
+    }
+    None
+}
+
 /// Whether the name is one of these ascending names.
 pub fn contains(names: &[&[u8]], name: &[u8]) -> bool
     requires { ascends (map (λ n. n.now) names.now) ≡ true }
