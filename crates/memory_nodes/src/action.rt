@@ -1,7 +1,7 @@
 ghost use Rattle.std.specs.Prelude.{◌≡◌};
 ghost use Rattle.memory_nodes.specs.Steps.{action_of, action_by, registered_action};
 
-use redis_routing::{AggregateOp, MultiSlotArgPattern, ResponsePolicy};
+use redis_routing::{AggregateOp, MultiSlotArgPattern, ResponsePolicy, look_up};
 
 /// What a command does with each of its keys.
 #[derive(Clone, Copy)]
@@ -22,22 +22,25 @@ pub(super) enum Action {
     WriteAtPath,
 }
 
+/// What commands of each name do.
+const ACTIONS: [(&[u8], Action); 9] = [
+    (b"MGET", Action::Read),
+    (b"JSON.MGET", Action::ReadAtShared),
+    (b"EXISTS", Action::Count),
+    (b"TOUCH", Action::Count),
+    (b"DEL", Action::Remove),
+    (b"UNLINK", Action::Remove),
+    (b"WATCH", Action::Leave),
+    (b"MSET", Action::Write),
+    (b"JSON.MSET", Action::WriteAtPath),
+];
+
 impl Action {
     /// What a command does by its name, given in upper case.
     pub(super) fn of_name(name: &[u8]) -> Action
         ensures { result ≡ action_of name.now }
     {
-        match name {
-            b"MGET" => Action::Read,
-            b"JSON.MGET" => Action::ReadAtShared,
-            b"EXISTS" => Action::Count,
-            b"TOUCH" => Action::Count,
-            b"DEL" => Action::Remove,
-            b"UNLINK" => Action::Remove,
-            b"MSET" => Action::Write,
-            b"JSON.MSET" => Action::WriteAtPath,
-            _ => Action::Leave,
-        }
+        look_up(&ACTIONS, name).unwrap_or(Action::Leave)
     }
 
     /// What a command does by what its name is registered with, or where it is not, by the name.
