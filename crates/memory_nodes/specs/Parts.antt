@@ -9,7 +9,14 @@ use Rattle.redis_cluster.specs.PlacedTuples.{unplaced}
 use Rattle.redis_cluster.specs.Unsplit.{Act}
 use Rattle.memory_nodes.specs.Cells.{Cell}
 use Rattle.memory_nodes.specs.Steps.{step}
+use Rattle.memory_nodes.specs.declared.name.Name.{Name}
+use Rattle.memory_nodes.specs.declared.name.Name.TheVariants.{Given, Made}
 use Rattle.memory_nodes.specs.declared.whole_command.WholeCommand.{WholeCommand}
+
+-- a name as its bytes
+abbrev pub bytes_of : Name → List ℕ
+bytes_of (Given name) = name.now
+bytes_of (Made name) = name.items
 
 -- arguments as their bytes
 abbrev pub words : List (Vec ℕ Global) → List (List ℕ)
@@ -23,7 +30,7 @@ key_tuples pattern args = map unplaced (tuples_from pattern 0 args)
 abbrev pub with_form : WholeCommand → ReplyForm → MultiKey
 with_form whole form =
     record {
-      name = whole.name.items;
+      name = whole.name.now;
       registered = whole.registered;
       shared = slice_get (words whole.shared.now) 0;
       tuples = key_tuples whole.pattern (words whole.tuples.now);
@@ -37,5 +44,5 @@ command_by whole = option_map (with_form whole) (form_by_policy whole.policy)
 -- what each of its tuples does
 abbrev pub act_on : WholeCommand → Act Cell
 act_on whole =
-    λ t. step whole.registered whole.name.items (slice_get (words whole.shared.now) 0) t.key
+    λ t. step whole.registered whole.name.now (slice_get (words whole.shared.now) 0) t.key
     t.extras

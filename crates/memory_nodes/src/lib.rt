@@ -4,6 +4,7 @@
 mod action;
 mod cells;
 mod change;
+mod name;
 mod nodes;
 mod planned;
 mod results;

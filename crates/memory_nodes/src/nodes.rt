@@ -1,4 +1,5 @@
 ghost use Rattle.std.specs.Prelude.{◌≡◌, ◌⊎◌, ◌<◌, ◌≤◌, ◌+◌, ◌++◌, ◌∷◌, ◌↔◌, ℕ, [], None, Some, false, IfOk, OnOk, IfErr, OnErr, IfSome, IsSome, IsTrue, option_copied, length, map};
+ghost use Rattle.std.specs.Vec.{vec_len, vec_capacity};
 ghost use Rattle.resp_core.specs.View.{view};
 ghost use Rattle.redis_cluster.specs.MultiKey.{multi_key};
 ghost use Rattle.redis_cluster.specs.Sent.{IsLeft, IsUnanswered, ending_of};
@@ -155,7 +156,7 @@ impl MemoryNodes {
         ensures registered { registered_in self.new ≡ registered_in self.old }
     {
         let entry = TraceEntry::with_answer(self.alloc, node, cmd)?;
-        self.trace.reserve(1)?;
+        reserve_entry(&mut self.trace)?;
         let reply = run(
             self.alloc,
             &self.registry,
@@ -297,4 +298,13 @@ impl Nodes for MemoryNodes {
             }
         }
     }
+}
+
+/// Makes room for one entry more, at first for six: a trace of so many sends never moves.
+fn reserve_entry(trace: &mut Vec<TraceEntry>) -> Result<(), AllocError>
+    ensures items { trace.new.items ≡ trace.old.items }
+    ensures room { OnOk result (vec_len trace.new < vec_capacity trace.new) }
+{
+    let entries = if trace.is_empty() { 6 } else { 1 };
+    trace.reserve(entries)
 }

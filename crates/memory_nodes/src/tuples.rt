@@ -11,6 +11,7 @@ ghost use Rattle.memory_nodes.specs.Undo.{before_all};
 use crate::action::Action;
 use crate::cells::{Cells, is_there, remove, value_at, write, write_at_path};
 use crate::change::{Change, undo_all};
+use crate::name::Name;
 use crate::results::{KeyResult, Results};
 use crate::whole_command::WholeCommand;
 use redis_routing::Registry;
@@ -35,7 +36,8 @@ pub(super) fn run(
         (λ command. keyspace_of cells.new ≡ keyspace_after step command (keyspace_of cells.old))) }
     ensures memory { OnErr result (keyspace_of cells.new ≡ keyspace_of cells.old) }
 {
-    let whole = WholeCommand::new(alloc, registry, cmd, args)?;
+    let name = Name::of(alloc, cmd)?;
+    let whole = WholeCommand::new(registry, cmd, name.as_slice(), args);
     let mut changes = Vec::new(alloc);
     match run_tuples(alloc, cells, &whole, &mut changes) {
         Ok(results) => Ok(results.into_reply(whole.policy)),
@@ -68,7 +70,7 @@ fn run_tuples<'a>(
         (before_all changes.new.items (keyspace_of cells.new)
         ≡ before_all changes.old.items (keyspace_of cells.old)) }
 {
-    let action = Action::by(whole.registered, &whole.name);
+    let action = Action::by(whole.registered, whole.name);
     let width = whole.pattern.width();
     let mut results = Results::with_room(alloc, whole.policy, whole.tuples.len())?;
     let mut rest = whole.tuples;

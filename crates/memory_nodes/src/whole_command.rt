@@ -1,18 +1,18 @@
-ghost use Rattle.std.specs.Prelude.{◌≡◌, ◌<◌, Some, IfOk, IsSome, map};
+ghost use Rattle.std.specs.Prelude.{◌≡◌, ◌<◌, Some, IsSome, map};
+ghost use Rattle.redis_routing.specs.Command.{command_name};
 ghost use Rattle.redis_cluster.specs.MultiKey.{multi_key};
 ghost use Rattle.redis_routing.specs.Registry.{registered_as, tables_with};
 ghost use Rattle.redis_routing.specs.Complete.{pattern_of};
 ghost use Rattle.memory_nodes.specs.Parts.{command_by, words};
 
-use redis_routing::{MultiSlotArgPattern, Registry, ResponsePolicy, Routable, RouteBy, name_words};
+use redis_routing::{MultiSlotArgPattern, Registry, ResponsePolicy, RouteBy, name_words};
 use resp_core::Cmd;
-use std::alloc::{AllocError, Global};
 
 /// A multi-key command, taken apart.
 #[derive(Drop)]
 pub(super) struct WholeCommand<'a> {
     /// The name in upper case.
-    pub(super) name: Vec<u8>,
+    pub(super) name: &'a [u8],
     /// What the name is registered with, unless the tables have it.
     pub(super) registered: Option<(MultiSlotArgPattern, ResponsePolicy)>,
     /// How its arguments make tuples of a key and what goes with it.
@@ -26,33 +26,25 @@ pub(super) struct WholeCommand<'a> {
 }
 
 impl<'a> WholeCommand<'a> {
-    /// Takes a command apart whose arguments are these.
-    pub(super) fn new(
-        alloc: Global,
-        registry: &Registry,
-        cmd: &Cmd,
-        args: &'a [Vec<u8>],
-    ) -> Result<Self, AllocError>
+    /// Takes a command of this name apart whose arguments are these. Takes no memory.
+    pub(super) fn new(registry: &Registry, cmd: &Cmd, name: &'a [u8], args: &'a [Vec<u8>]) -> Self
+        requires name { command_name (map Some cmd.now) ≡ Some name.now }
         requires args { words args.now ≡ cmd.now }
         requires whole { IsSome (multi_key registry.now (map Some cmd.now)) }
-        ensures command { IfOk result
-            (λ whole. multi_key registry.now (map Some cmd.now) ≡ command_by whole) }
+        ensures command { multi_key registry.now (map Some cmd.now) ≡ command_by result }
     {
-        let Some(name) = cmd.command(alloc)? else {
-            unreachable!()
-        };
-        let registered = registered_as(registry, &name);
-        let (pattern, policy) = shape_of(registry, &name);
+        let registered = registered_as(registry, name);
+        let (pattern, policy) = shape_of(registry, name);
         let (_, run) = args.split_at(name_words(cmd));
         let (tuples, shared) = run.split_at(pattern.own_len(run.len()));
-        Ok(WholeCommand {
+        WholeCommand {
             name,
             registered,
             pattern,
             policy,
             tuples,
             shared,
-        })
+        }
     }
 }
 

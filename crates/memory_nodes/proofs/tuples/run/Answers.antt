@@ -15,4 +15,4 @@ with_any P f (Some form) h = h form
 pub returns-in-Ok-clause-cells : goal.returns-in-Ok-clause-cells
 returns-in-Ok-clause-cells c =
     let IsAfter : MultiKey → Type 0 = λ command. keyspace_of c.run_tuples.new.cells ≡ keyspace_after step command (keyspace_of c.args.cells.now) in
-    subst (λ o. IfSome o IsAfter) (sym c.in_ok-whole.ensures.command) (with_any IsAfter (with_form c.in_ok-whole.whole) (form_by_policy c.in_ok-whole.whole.policy) (λ form. c.in-Ok.ensures.cells))
+    subst (λ o. IfSome o IsAfter) (sym c.new-whole.ensures.command) (with_any IsAfter (with_form c.new-whole.result) (form_by_policy c.new-whole.result.policy) (λ form. c.in-Ok.ensures.cells))

@@ -29,11 +29,11 @@ loop-rest-preserved c =
     let new = keyspace_of c.run_tuple.new.cells in
     let is_key : key ≡ first.key = c.word.ensures ∙ key_is rest tuple others width pattern c.width-width.ensures enough c.split_at.ensures.front c.split_at.ensures.back in
     let are_extras : extras ≡ first.extras = extras_are rest tuple others width pattern c.width-width.ensures enough c.split_at.ensures.front c.split_at.ensures.back in
-    let is_action : c.by-action.result ≡ action_by whole.registered whole.name.items = c.by-action.ensures ∙ ap (action_by whole.registered) c.deref.ensures.value in
+    let is_action : c.by-action.result ≡ action_by whole.registered whole.name.now = c.by-action.ensures in
     let is_outcome : act c.by-action.result shared extras (old key) ≡ act_on whole first (old first.key) =
     ap (λ a. act a shared extras (old key)) is_action
-    ∙ ap (λ es. act (action_by whole.registered whole.name.items) shared es (old key)) are_extras
-    ∙ ap (λ k. act (action_by whole.registered whole.name.items) shared first.extras (old k)) is_key in
+    ∙ ap (λ es. act (action_by whole.registered whole.name.now) shared es (old key)) are_extras
+    ∙ ap (λ k. act (action_by whole.registered whole.name.now) shared first.extras (old k)) is_key in
     let enough_left = enough_words rest tuple others width pattern c.width-width.ensures enough c.split_at.ensures.front c.split_at.ensures.back in
     let left = words_back rest tuple others width pattern c.width-width.ensures enough c.split_at.ensures.front c.split_at.ensures.back in
     let is_after : new ≡ put first.key (act_on whole first (old first.key)).cell old =
