@@ -2,7 +2,7 @@ ghost use Rattle.std.specs.Prelude.{◌≡◌, IfOk, Some, map};
 ghost use Rattle.redis_routing.specs.Command.{command_name};
 ghost use Rattle.memory_batches.specs.Strings.{length_of, verb_of, verb_in};
 
-use redis_routing::Routable;
+use redis_routing::{Routable, look_up};
 use resp_core::Cmd;
 use std::alloc::{AllocError, Global};
 
@@ -21,6 +21,15 @@ pub(super) enum Verb {
     Lpush,
 }
 
+/// The commands by their names.
+const VERBS: [(&[u8], Verb); 5] = [
+    (b"GET", Verb::Get),
+    (b"SET", Verb::Set),
+    (b"INCR", Verb::Incr),
+    (b"RENAME", Verb::Rename),
+    (b"LPUSH", Verb::Lpush),
+];
+
 impl Verb {
     /// The one that a command names, if it is one of these.
     pub(super) fn of(alloc: Global, cmd: &Cmd) -> Result<Option<Verb>, AllocError>
@@ -36,14 +45,7 @@ impl Verb {
     fn of_name(name: &[u8]) -> Option<Verb>
         ensures { result ≡ verb_of name.now }
     {
-        match name {
-            b"GET" => Some(Verb::Get),
-            b"SET" => Some(Verb::Set),
-            b"INCR" => Some(Verb::Incr),
-            b"RENAME" => Some(Verb::Rename),
-            b"LPUSH" => Some(Verb::Lpush),
-            _ => None,
-        }
+        look_up(&VERBS, name)
     }
 
     /// How many arguments it takes, the name included.
