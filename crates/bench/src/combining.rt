@@ -78,36 +78,32 @@ fn numbers(
     replies: &Vec<Value>,
     op: AggregateOp,
 ) -> Result<(), Fault> {
-    watch.time_with(
-        alloc,
-        || Ok(replies.clone()?),
-        |values| Ok(sample(&aggregate(values, op)?)),
-    )
+    watch.time_copies(alloc, replies, |values| Ok(sample(&aggregate(values, op)?)))
 }
 
 /// The bits of these replies.
 fn logical(watch: &mut Watch<'_>, alloc: Global, replies: &Vec<Value>) -> Result<(), Fault> {
-    watch.time_with(
+    watch.time_copies(
         alloc,
-        || Ok(replies.clone()?),
+        replies,
         |values| Ok(sample(&logical_aggregate(alloc, values, LogicalAggregateOp::And)?)),
     )
 }
 
 /// The map of these replies.
 fn maps(watch: &mut Watch<'_>, alloc: Global, replies: &Vec<Value>) -> Result<(), Fault> {
-    watch.time_with(
+    watch.time_copies(
         alloc,
-        || Ok(replies.clone()?),
+        replies,
         |values| Ok(sample(&combine_map_results(alloc, values)?)),
     )
 }
 
 /// The items of these replies in one array.
 fn arrays(watch: &mut Watch<'_>, alloc: Global, replies: &Vec<Value>) -> Result<(), Fault> {
-    watch.time_with(
+    watch.time_copies(
         alloc,
-        || Ok(replies.clone()?),
+        replies,
         |values| Ok(sample(&combine_array_results(alloc, values)?)),
     )
 }
@@ -131,12 +127,8 @@ fn sorted(watch: &mut Watch<'_>, alloc: Global, command: &Cmd) -> Result<(), Fau
     let split = SplitCommand::new(alloc, command, names)?.ok_or(Fault::Refused)?;
     let replies = replies_to(alloc, &split)?;
     let (routes, pattern) = (split.routes(), split.pattern());
-    watch.time_with(
-        alloc,
-        || Ok(replies.clone()?),
-        |values| {
-            let reply = combine_and_sort_array_results(alloc, values, routes, &pattern)?;
-            Ok(sample(&reply))
-        },
-    )
+    watch.time_copies(alloc, &replies, |values| {
+        let reply = combine_and_sort_array_results(alloc, values, routes, &pattern)?;
+        Ok(sample(&reply))
+    })
 }

@@ -73,11 +73,10 @@ fn node_of_slot(watch: &mut Watch<'_>, map: &SlotMap) -> Result<(), Fault> {
 
 /// The map of so many ranges, by ascending slots.
 fn from_slots(watch: &mut Watch<'_>, alloc: Global, count: usize) -> Result<(), Fault> {
-    watch.time_with(
-        alloc,
-        || Ok(ranges(alloc, Hosts::Shared, count)?),
-        |ranges| Ok(port_at(&SlotMap::from_slots(alloc, ranges)?, 0)),
-    )
+    let ranges = ranges(alloc, Hosts::Shared, count)?;
+    watch.time_copies(alloc, &ranges, |ranges| {
+        Ok(port_at(&SlotMap::from_slots(alloc, ranges)?, 0))
+    })
 }
 
 /// The map of a reply to `CLUSTER SLOTS` of so many ranges.

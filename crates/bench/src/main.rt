@@ -19,7 +19,7 @@ mod values;
 mod watch;
 
 use fault::Fault;
-use operation::{Operation, ROWS, call};
+use operation::{Operation, Row, call, rows};
 use std::alloc::Global;
 use std::process::ExitCode;
 use std::{env, io};
@@ -32,8 +32,8 @@ const WHOLE_NANOS: usize = 500_000_000;
 
 const ROUND_NANOS: usize = 200_000;
 
-fn operation_of(wanted: &str) -> Result<Operation, Fault> {
-    for (operation, name, _) in &ROWS {
+fn operation_of(rows: &[Row], wanted: &str) -> Result<Operation, Fault> {
+    for (operation, name, _) in rows {
         if *name == wanted {
             return Ok(*operation);
         }
@@ -41,18 +41,18 @@ fn operation_of(wanted: &str) -> Result<Operation, Fault> {
     Err(Fault::Words)
 }
 
-fn list(rt: &HostRuntime) -> Result<(), Fault> {
-    for (_, name, (unit, sizes)) in &ROWS {
-        for size in *sizes {
-            println!(rt; "{name} {size} {unit}")?;
+fn list(rt: &HostRuntime, rows: &[Row]) -> Result<(), Fault> {
+    for (_, name, sizes) in rows {
+        for size in sizes.all() {
+            println!(rt; "{name} {size} {}", sizes.unit())?;
         }
     }
     Ok(())
 }
 
-fn each(rt: &HostRuntime, alloc: Global) -> Result<(), Fault> {
-    for (operation, name, (_, sizes)) in &ROWS {
-        let size = sizes.first().copied().unwrap_or(0);
+fn each(rt: &HostRuntime, alloc: Global, rows: &[Row]) -> Result<(), Fault> {
+    for (operation, name, sizes) in rows {
+        let size = sizes.all().first().copied().unwrap_or(0);
         let mut watch = Watch::new(rt, 1, 1);
         call(*operation, &mut watch, alloc, size)?;
         println!(rt; "{name} {size} {}", watch.answers)?;
@@ -60,13 +60,12 @@ fn each(rt: &HostRuntime, alloc: Global) -> Result<(), Fault> {
     Ok(())
 }
 
-fn once(rt: &HostRuntime, alloc: Global, name: &str, size: usize) -> Result<(), Fault> {
+fn once(rt: &HostRuntime, alloc: Global, operation: Operation, size: usize) -> Result<(), Fault> {
     let mut watch = Watch::new(rt, 1, 1);
-    call(operation_of(name)?, &mut watch, alloc, size)
+    call(operation, &mut watch, alloc, size)
 }
 
-fn time(rt: &HostRuntime, alloc: Global, name: &str, size: usize) -> Result<(), Fault> {
-    let operation = operation_of(name)?;
+fn time(rt: &HostRuntime, alloc: Global, operation: Operation, size: usize) -> Result<(), Fault> {
     let mut first = Watch::new(rt, 1, 3);
     call(operation, &mut first, alloc, size)?;
     let nanos = first.least().max(1);
@@ -83,30 +82,31 @@ fn time(rt: &HostRuntime, alloc: Global, name: &str, size: usize) -> Result<(), 
     Ok(())
 }
 
-fn run(rt: &HostRuntime, alloc: Global) -> Result<(), Fault> {
+fn run(rt: &HostRuntime, alloc: Global, rows: &[Row]) -> Result<(), Fault> {
     let mut words = Vec::new(alloc);
     for word in env::args(rt)?.skip(1) {
         words.push(word)?;
     }
     let verb = words.get(0).map(|word| word.as_str()).ok_or(Fault::Words)?;
     if verb == "list" {
-        return list(rt);
+        return list(rt, rows);
     }
     if verb == "each" {
-        return each(rt, alloc);
+        return each(rt, alloc, rows);
     }
     let name = words.get(1).map(|word| word.as_str()).ok_or(Fault::Words)?;
+    let operation = operation_of(rows, name)?;
     let size = words.get(2).map(|word| word.as_str()).ok_or(Fault::Words)?;
     let size = size.parse::<usize>().map_err(|_| Fault::Words)?;
     match verb {
-        "once" => once(rt, alloc, name, size),
-        "time" => time(rt, alloc, name, size),
+        "once" => once(rt, alloc, operation, size),
+        "time" => time(rt, alloc, operation, size),
         _ => Err(Fault::Words),
     }
 }
 
 fn main(rt: HostRuntime) -> ExitCode {
-    let Err(fault) = run(&rt, rt.alloc()) else {
+    let Err(fault) = run(&rt, rt.alloc(), rows()) else {
         return ExitCode::from(0);
     };
     let line = match fault {

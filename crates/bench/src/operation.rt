@@ -30,108 +30,154 @@ pub enum Operation {
     Pipe(Pipelines),
 }
 
-/// What sizes count, and the sizes.
-pub type Sizes = (&'static str, &'static [usize]);
+/// What sizes count, and which there are.
+#[derive(Clone, Copy)]
+pub enum Sizes {
+    Bytes,
+    Ranges,
+    Inserts,
+    Replies,
+    Bits,
+    Pairs,
+    Keys,
+    Words,
+    Commands,
+    Items,
+    Levels,
+    One,
+}
 
-const BYTES: Sizes = ("bytes", &[3, 64, 1024]);
+impl Sizes {
+    /// What they count.
+    pub fn unit(self) -> &'static str {
+        match self {
+            Sizes::Bytes => "bytes",
+            Sizes::Ranges | Sizes::Inserts => "ranges",
+            Sizes::Replies => "replies",
+            Sizes::Bits => "bits",
+            Sizes::Pairs => "pairs",
+            Sizes::Keys => "keys",
+            Sizes::Words => "words",
+            Sizes::Commands => "commands",
+            Sizes::Items => "items",
+            Sizes::Levels => "levels",
+            Sizes::One => "call",
+        }
+    }
 
-const RANGES: Sizes = ("ranges", &[3, 1000, 16384]);
-
-const INSERTS: Sizes = ("ranges", &[3, 1000, 4000]);
-
-const REPLIES: Sizes = ("replies", &[3, 1000, 16384]);
-
-const BITS: Sizes = ("bits", &[100, 1000, 16000]);
-
-const PAIRS: Sizes = ("pairs", &[25, 1000, 4000]);
-
-const KEYS: Sizes = ("keys", &[10, 1000, 100_000]);
-
-const WORDS: Sizes = ("words", &[10, 1000, 100_000]);
-
-const COMMANDS: Sizes = ("commands", &[10, 1000, 100_000]);
-
-const ITEMS: Sizes = ("items", &[10, 1000, 100_000]);
-
-const LEVELS: Sizes = ("levels", &[10, 1000, 100_000]);
-
-const ONE: Sizes = ("call", &[1]);
+    /// The sizes, the least one first.
+    pub fn all(self) -> &'static [usize] {
+        match self {
+            Sizes::Bytes => &[3, 64, 1024],
+            Sizes::Ranges | Sizes::Replies => &[3, 1000, 16384],
+            Sizes::Inserts => &[3, 1000, 4000],
+            Sizes::Bits => &[100, 1000, 16000],
+            Sizes::Pairs => &[25, 1000, 4000],
+            Sizes::One => &[1],
+            _ => &[10, 1000, 100_000],
+        }
+    }
+}
 
 /// An operation, its name and its sizes.
 pub type Row = (Operation, &'static str, Sizes);
 
-/// All operations, in the order in which they are printed.
-pub static ROWS: [Row; 49] = [
-    (LookUp(Lookups::KeySlot), "key-slot", BYTES),
-    (LookUp(Lookups::Node), "look-up", RANGES),
-    (LookUp(Lookups::FromSlots), "map-from-slots", RANGES),
-    (LookUp(Lookups::FromReply), "map-from-reply", RANGES),
+const ROWS: [Row; 49] = [
+    (LookUp(Lookups::KeySlot), "key-slot", Sizes::Bytes),
+    (LookUp(Lookups::Node), "look-up", Sizes::Ranges),
+    (LookUp(Lookups::FromSlots), "map-from-slots", Sizes::Ranges),
+    (LookUp(Lookups::FromReply), "map-from-reply", Sizes::Ranges),
     (
         LookUp(Lookups::InsertAscending),
         "insert-ascending",
-        INSERTS,
+        Sizes::Inserts,
     ),
     (
         LookUp(Lookups::InsertDescending),
         "insert-descending",
-        INSERTS,
+        Sizes::Inserts,
     ),
-    (LookUp(Lookups::Topology(Hosts::Shared)), "topology", RANGES),
+    (
+        LookUp(Lookups::Topology(Hosts::Shared)),
+        "topology",
+        Sizes::Ranges,
+    ),
     (
         LookUp(Lookups::Topology(Hosts::Own)),
         "topology-own-nodes",
-        RANGES,
+        Sizes::Ranges,
     ),
     (
         LookUp(Lookups::Topology(Hosts::OneHash)),
         "topology-one-hash",
-        RANGES,
+        Sizes::Ranges,
     ),
-    (LookUp(Lookups::Nodes(Hosts::Shared)), "nodes", RANGES),
+    (
+        LookUp(Lookups::Nodes(Hosts::Shared)),
+        "nodes",
+        Sizes::Ranges,
+    ),
     (
         LookUp(Lookups::Nodes(Hosts::OneHash)),
         "nodes-one-hash",
-        RANGES,
+        Sizes::Ranges,
     ),
-    (LookUp(Lookups::Shard), "shard-of-slot", RANGES),
-    (Route(Routing::Name), "name-get", BYTES),
-    (Route(Routing::TwoWordName), "name-cluster-info", ONE),
-    (Route(Routing::Policy), "policy-found", ONE),
-    (Route(Routing::NoPolicy), "policy-not-found", ONE),
-    (Route(Routing::Get), "route-get", BYTES),
-    (Route(Routing::Flushall), "route-flushall", BYTES),
-    (Route(Routing::Sadd), "route-sadd", WORDS),
-    (Route(Routing::Mget), "route-mget", KEYS),
-    (Route(Routing::Registered), "route-registered", KEYS),
-    (Split(Splitting::Del), "split-del", KEYS),
-    (Split(Splitting::Mget), "split-mget", KEYS),
-    (Split(Splitting::Mset), "split-mset", KEYS),
-    (Split(Splitting::DelParts), "parts-del", KEYS),
-    (Split(Splitting::MsetParts), "parts-mset", KEYS),
-    (Combine(Combining::Sums), "combine-sums", REPLIES),
-    (Combine(Combining::Least), "combine-least", REPLIES),
-    (Combine(Combining::Logical), "combine-logical", BITS),
-    (Combine(Combining::Maps), "combine-maps", PAIRS),
-    (Combine(Combining::TurnedMaps), "combine-maps-turned", PAIRS),
-    (Combine(Combining::Arrays), "combine-arrays", ITEMS),
-    (Combine(Combining::Sorted), "combine-sorted", KEYS),
-    (Value(Values::Command), "command", WORDS),
-    (Value(Values::DropInt), "drop-int", ONE),
-    (Value(Values::DropInts), "drop-int-array", ITEMS),
-    (Value(Values::DropBulks), "drop-bulk-array", ITEMS),
-    (Value(Values::DropNested), "drop-nested", LEVELS),
-    (Value(Values::CloneBulks), "clone-bulk-array", ITEMS),
-    (Value(Values::CloneNested), "clone-nested", LEVELS),
-    (Value(Values::EqualBulks), "equal-bulk-array", ITEMS),
-    (Value(Values::EqualNested), "equal-nested", LEVELS),
-    (Value(Values::Check), "pipeline-check", COMMANDS),
-    (Split(Splitting::DelWithParts), "split-and-parts-del", KEYS),
-    (Drive(Driving::DelPlan), "plan-del", KEYS),
-    (Drive(Driving::Del), "drive-del", KEYS),
-    (Drive(Driving::Mget), "drive-mget", KEYS),
-    (Pipe(Pipelines::OverFew), "pipeline-plan-3", COMMANDS),
-    (Pipe(Pipelines::OverMany), "pipeline-plan-1000", COMMANDS),
+    (LookUp(Lookups::Shard), "shard-of-slot", Sizes::Ranges),
+    (Route(Routing::Name), "name-get", Sizes::Bytes),
+    (Route(Routing::TwoWordName), "name-cluster-info", Sizes::One),
+    (Route(Routing::Policy), "policy-found", Sizes::One),
+    (Route(Routing::NoPolicy), "policy-not-found", Sizes::One),
+    (Route(Routing::Get), "route-get", Sizes::Bytes),
+    (Route(Routing::Flushall), "route-flushall", Sizes::Bytes),
+    (Route(Routing::Sadd), "route-sadd", Sizes::Words),
+    (Route(Routing::Mget), "route-mget", Sizes::Keys),
+    (Route(Routing::Registered), "route-registered", Sizes::Keys),
+    (Split(Splitting::Del), "split-del", Sizes::Keys),
+    (Split(Splitting::Mget), "split-mget", Sizes::Keys),
+    (Split(Splitting::Mset), "split-mset", Sizes::Keys),
+    (Split(Splitting::DelParts), "parts-del", Sizes::Keys),
+    (Split(Splitting::MsetParts), "parts-mset", Sizes::Keys),
+    (Combine(Combining::Sums), "combine-sums", Sizes::Replies),
+    (Combine(Combining::Least), "combine-least", Sizes::Replies),
+    (Combine(Combining::Logical), "combine-logical", Sizes::Bits),
+    (Combine(Combining::Maps), "combine-maps", Sizes::Pairs),
+    (
+        Combine(Combining::TurnedMaps),
+        "combine-maps-turned",
+        Sizes::Pairs,
+    ),
+    (Combine(Combining::Arrays), "combine-arrays", Sizes::Items),
+    (Combine(Combining::Sorted), "combine-sorted", Sizes::Keys),
+    (Value(Values::Command), "command", Sizes::Words),
+    (Value(Values::DropInt), "drop-int", Sizes::One),
+    (Value(Values::DropInts), "drop-int-array", Sizes::Items),
+    (Value(Values::DropBulks), "drop-bulk-array", Sizes::Items),
+    (Value(Values::DropNested), "drop-nested", Sizes::Levels),
+    (Value(Values::CloneBulks), "clone-bulk-array", Sizes::Items),
+    (Value(Values::CloneNested), "clone-nested", Sizes::Levels),
+    (Value(Values::EqualBulks), "equal-bulk-array", Sizes::Items),
+    (Value(Values::EqualNested), "equal-nested", Sizes::Levels),
+    (Value(Values::Check), "pipeline-check", Sizes::Commands),
+    (
+        Split(Splitting::DelWithParts),
+        "split-and-parts-del",
+        Sizes::Keys,
+    ),
+    (Drive(Driving::DelPlan), "plan-del", Sizes::Keys),
+    (Drive(Driving::Del), "drive-del", Sizes::Keys),
+    (Drive(Driving::Mget), "drive-mget", Sizes::Keys),
+    (Pipe(Pipelines::OverFew), "pipeline-plan-3", Sizes::Commands),
+    (
+        Pipe(Pipelines::OverMany),
+        "pipeline-plan-1000",
+        Sizes::Commands,
+    ),
 ];
+
+/// All operations, in the order in which they are printed.
+pub fn rows() -> &'static [Row] {
+    &ROWS
+}
 
 /// Makes the calls of an operation at a size, as the watch asks for them.
 pub fn call(

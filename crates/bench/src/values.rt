@@ -62,14 +62,10 @@ fn command(watch: &mut Watch<'_>, alloc: Global, words: &[Vec<u8>]) -> Result<()
 
 /// Drops a value.
 fn dropped(watch: &mut Watch<'_>, alloc: Global, value: &Value) -> Result<(), Fault> {
-    watch.time_with(
-        alloc,
-        || Ok(value.clone()?),
-        |value| {
-            drop(value);
-            Ok(1)
-        },
-    )
+    watch.time_copies(alloc, value, |copy| {
+        drop(copy);
+        Ok(1)
+    })
 }
 
 /// Copies a value. What it takes to drop the copy is not timed.

@@ -68,6 +68,28 @@ impl<'a> Watch<'a> {
         Ok(())
     }
 
+    /// `time` for a call that uses up a copy of a value, made before the round.
+    pub fn time_copies<T, F>(&mut self, alloc: Global, given: &T, call: F) -> Result<(), Fault>
+    where
+        T: Clone + Drop,
+        F: Fn(T) -> Result<usize, Fault>,
+        requires { F.IsAlwaysCallable call }
+    {
+        for _ in 0..self.rounds {
+            let mut stock = Vec::with_capacity(alloc, self.calls)?;
+            for _ in 0..self.calls {
+                stock.push(given.clone()?)?;
+            }
+            self.start()?;
+            for copy in stock {
+                let answer = call(copy)?;
+                self.keep(answer);
+            }
+            self.stop()?;
+        }
+        Ok(())
+    }
+
     /// `time` for a call whose result is dropped after the round.
     pub fn time_kept<T, F>(&mut self, alloc: Global, call: F) -> Result<(), Fault>
     where
