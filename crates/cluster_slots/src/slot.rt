@@ -1,4 +1,4 @@
-ghost use Rattle.std.specs.Prelude.{◌≡◌, ◌<◌, ◌+◌, ◌*◌, ◌↔◌, [], ◌∷◌, ◌++◌, ℕ, List, IsSome, IsTrue, IfSome, MatchOption, Contains, position, fold, length, replicate, nat_eq, ◌==◌, bit_xor};
+ghost use Rattle.std.specs.Prelude.{◌≡◌, ◌<◌, ◌+◌, ◌*◌, ◌↔◌, [], ◌∷◌, ◌++◌, ℕ, List, IsSome, IfSome, MatchOption, Contains, position, fold, length, replicate, nat_eq, ◌==◌, bit_xor};
 ghost use Rattle.std.specs.List.{list_any};
 ghost use Rattle.cluster_slots.specs.HashTag.{HasTag, HasNoTag, IsHashTag};
 ghost use Rattle.cluster_slots.specs.declared.slot.TheConstants.{SLOT_SIZE};
@@ -152,11 +152,21 @@ fn cut_at(bytes: &[u8], byte: u8) -> Option<(&[u8], &[u8])>
     Some((&bytes[..at], &bytes[at + 1..]))
 }
 
-/// How many bytes are compared at once.
-const LANES: usize = 16;
+/// Whether the byte is one of these.
+fn has_byte(bytes: &[u8], byte: u8) -> bool
+    ensures { result ≡ list_any (nat_eq byte) bytes.now }
+{
+    match bytes {
+        [] => false,
+        [a] => byte == *a,
+        [a, b] => (byte == *a) | (byte == *b),
+        [a, b, c] => (byte == *a) | (byte == *b) | (byte == *c),
+        _ => is_among(bytes, byte),
+    }
+}
 
 /// Whether the byte is one of these. No step ends the search, so many are compared at once.
-fn has_byte(bytes: &[u8], byte: u8) -> bool
+fn is_among(bytes: &[u8], byte: u8) -> bool
     ensures { result ≡ list_any (nat_eq byte) bytes.now }
 {
     let mut found = false;
@@ -166,19 +176,11 @@ fn has_byte(bytes: &[u8], byte: u8) -> bool
     found
 }
 
-/// Whether many bytes are seen not to have this one. Of few nothing is told, since a search that
-/// ends at the first one takes less time there.
-fn lacks_byte(bytes: &[u8], byte: u8) -> bool
-    ensures { IsTrue result → ¬ (Contains bytes.now byte) }
-{
-    bytes.len() >= LANES && !has_byte(bytes, byte)
-}
-
 /// What stands between the first braces of a key, if it is not empty.
 fn get_hashtag(key: &[u8]) -> Option<&[u8]>
     ensures { MatchOption result (HasNoTag key.now) (λ tag. HasTag key.now tag.now) }
 {
-    if lacks_byte(key, b'{') {
+    if !has_byte(key, b'{') {
         return None;
     }
     let (_, rest) = cut_at(key, b'{')?;

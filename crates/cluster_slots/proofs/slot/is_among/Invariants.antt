@@ -1,6 +1,6 @@
 use Rattle.std.proofs.Common.{◌≡◌, ◌||◌, nat_eq, drop}
 use Rattle.std.specs.List.{list_any}
-use Rattle.cluster_slots.proofs.slot.has_byte.Given as goal
+use Rattle.cluster_slots.proofs.slot.is_among.Given as goal
 
 -- it is one of those so far, or of the rest
 abbrev pub invariant-loop-other : goal.invariant-loop-other
