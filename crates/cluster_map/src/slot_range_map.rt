@@ -72,16 +72,15 @@ fn place_of(ends: &[u16], end: u16) -> usize
 /// How many ends are compared at once.
 const LANES: usize = 16;
 
-/// How many of `LANES` ends are below this one.
+/// How many of a few ends are below this one.
 fn count_below(ends: &[u16], end: u16) -> usize
-    requires { length ends.now ≡ 16 }
     ensures { result ≡ length (filter (λ e. nat_lt e end) ends.now) }
 {
-    let mut below: u16 = 0;
+    let mut below = 0;
     for other in ends {
-        below += u16::from(*other < end);
+        below += usize::from(*other < end);
     }
-    usize::from(below)
+    below
 }
 
 /// How many of the ends are below this one, where it is known that so many are or more. It looks at
@@ -114,7 +113,7 @@ fn place_in(index: &[u16], count: usize, page_bits: u32, end: u16) -> usize
 {
     let (ends, pages) = index.split_at(count);
     if count < LANES {
-        place_of(ends, end)
+        count_below(ends, end)
     } else {
         place_by_pages(ends, pages, page_bits, end)
     }
