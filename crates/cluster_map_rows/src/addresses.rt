@@ -85,14 +85,12 @@ fn clone_is_as(alloc: Global, address: &NodeAddress, text: &str) -> Result<bool,
 }
 
 /// Whether a text names an address that prints as the text and is equal to this one.
-fn named_is_as(alloc: Global, address: &NodeAddress, text: &str) -> Result<bool, AllocError> {
-    match NodeAddress::try_from(alloc, text) {
-        Ok(named) => is_as(alloc, &named, address, text),
-        Err(_) => Ok(false),
-    }
+fn named_is_as(alloc: Global, address: &NodeAddress, text: &str) -> RedisResult<bool> {
+    let named = NodeAddress::try_from(alloc, text)?;
+    Ok(is_as(alloc, &named, address, text)?)
 }
 
-fn keeps_text(alloc: Global, address: &NodeAddress, text: &str) -> Result<bool, AllocError> {
+fn keeps_text(alloc: Global, address: &NodeAddress, text: &str) -> RedisResult<bool> {
     Ok(
         is_as(alloc, address, address, text)?
             && clone_is_as(alloc, address, text)?

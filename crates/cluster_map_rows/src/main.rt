@@ -30,7 +30,7 @@ impl Rows {
     /// A map of no range, and a cluster of no node.
     fn new(alloc: Global) -> Self {
         Rows {
-            ranges: SlotRangeMap::new(alloc),
+            ranges: SlotRangeMap::default(alloc),
             cluster: Cluster::new(alloc),
         }
     }

@@ -59,7 +59,7 @@ fn driven_again(
 }
 
 /// The replies, or why there are none.
-fn replies_text(alloc: Global, driven: Result<Answers, PipelineError>) -> RedisResult<String> {
+pub fn replies_text(alloc: Global, driven: Result<Answers, PipelineError>) -> RedisResult<String> {
     match driven {
         Ok(replies) => answers_text(alloc, replies.as_slice()),
         Err(error) => Ok(format!(in alloc; "{error}")?),

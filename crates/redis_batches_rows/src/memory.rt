@@ -1,7 +1,7 @@
 //! Nodes in memory that take batches.
 use crate::texts::{answers_text, error_of};
 use cluster_slots::NodeAddress;
-use fixtures::{bad_row, bytes, cmds, number};
+use fixtures::{bytes, cmds, number};
 use memory_batches::MemoryBatchNodes;
 use redis_batches::BatchNodes;
 use resp_core::{Cmd, RedisError, RedisResult};
@@ -43,7 +43,7 @@ fn sent(
 ) -> RedisResult<String> {
     match nodes.send_batch(node, batch) {
         Ok(answers) => answers_text(alloc, answers.as_slice()),
-        Err(_) => Err(bad_row("a batch that was not taken")),
+        Err(error) => Ok(format!(in alloc; "{error}")?),
     }
 }
 

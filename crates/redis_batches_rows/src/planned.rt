@@ -97,7 +97,7 @@ fn tell_all(alloc: Global, plan: &mut PipelinePlan<'_>, told: &str) -> RedisResu
 fn push_combined(alloc: Global, text: &mut String, plan: PipelinePlan<'_>) -> RedisResult<()> {
     match plan.combine(alloc) {
         Ok(replies) => text.push_str(&answers_text(alloc, replies.as_slice())?)?,
-        Err(_) => text.push_str("none")?,
+        Err(error) => text.push_str(&format!(in alloc; "{error}")?)?,
     }
     Ok(())
 }

@@ -1,8 +1,8 @@
 //! Pipelines that are driven over connections, which give what a row says.
-use crate::driven::{Pipeline, pipeline_of};
-use crate::texts::{Answers, answers_of, answers_text, error_of};
+use crate::driven::{Pipeline, pipeline_of, replies_text};
+use crate::texts::{Answers, answers_of, error_of};
 use cluster_map::SlotMap;
-use redis_batches::{PipelineError, Stopped, drive_pipeline};
+use redis_batches::{PipelineError, drive_pipeline};
 use redis_cluster::routing::{ReadOnlyNames, Registry};
 use resp_core::{Cmd, ErrorKind, RedisError, RedisResult};
 use std::alloc::Global;
@@ -94,25 +94,6 @@ fn driven(
     (driven, nodes.into_wire().into_transport())
 }
 
-fn stopped_text(alloc: Global, stopped: &Stopped) -> RedisResult<String> {
-    let cause = match &stopped.error {
-        SendError::Refused(_) => "refused",
-        SendError::Redirected(_) => "redirected",
-        SendError::Lost(_) => "lost",
-        SendError::Memory => "memory",
-    };
-    let answered = stopped.answered;
-    Ok(format!(in alloc; "{cause}, {answered} taken before")?)
-}
-
-fn replies_text(alloc: Global, driven: &Result<Answers, PipelineError>) -> RedisResult<String> {
-    match driven {
-        Ok(replies) => answers_text(alloc, replies.as_slice()),
-        Err(PipelineError::Node(stopped)) => stopped_text(alloc, stopped),
-        Err(error) => Ok(format!(in alloc; "{error}")?),
-    }
-}
-
 fn push_sent(alloc: Global, text: &mut String, sent: &[usize]) -> RedisResult<()> {
     text.push_str("; sent")?;
     for count in sent {
@@ -127,7 +108,7 @@ pub fn drive(alloc: Global, map: &SlotMap, words: &str) -> RedisResult<String> {
     let (outcomes, words) = words.split_once(" | ").unwrap_or(("", words));
     let sent = pipeline_of(alloc, words)?;
     let (driven, transport) = driven(alloc, map, &sent, transport_of(alloc, outcomes)?);
-    let mut text = replies_text(alloc, &driven)?;
+    let mut text = replies_text(alloc, driven)?;
     push_sent(alloc, &mut text, transport.sent.as_slice())?;
     Ok(text)
 }

@@ -1,5 +1,6 @@
 //! The names that only read, and those that are registered.
 use crate::replies::{pattern, policy};
+use crate::texts::equality;
 use fixtures::{bytes, words};
 use redis_cluster::routing::{Names, ReadOnlyNames, RegisterError, Registry};
 use resp_core::RedisResult;
@@ -44,6 +45,7 @@ pub fn call(
         "reads" => Some(reads(alloc, known, text)),
         "registry" => Some(registry(alloc, known, text)),
         "register" => Some(register(alloc, known, text)),
+        "clone_registry" => Some(clone_registry(alloc, known)),
         "refusals" => Some(refusals(alloc)),
         _ => None,
     }
@@ -82,6 +84,11 @@ fn register(alloc: Global, known: &mut Known, text: &str) -> RedisResult<String>
         Ok(()) => Ok(String::from_str(alloc, "ok")?),
         Err(refusal) => Ok(format!(in alloc; "{refusal}")?),
     }
+}
+
+/// Whether a copy of the registry is equal.
+fn clone_registry(alloc: Global, known: &Known) -> RedisResult<String> {
+    Ok(equality(alloc, &known.registry)?)
 }
 
 /// The texts of all refusals.

@@ -16,9 +16,7 @@ pub fn call(
         "pipe" => Some(pipe(alloc, pipeline, text)),
         "write" => Some(write(alloc, pipeline, text)),
         "room" => Some(room(alloc, pipeline, text)),
-        "cmd" => Some(cmd(alloc, pipeline, text)),
-        "add" => Some(add(alloc, pipeline, text)),
-        "ignore" => Some(ignore(alloc, pipeline)),
+        "cmd" | "add" | "ignore" | "copy" => Some(changed(alloc, pipeline, name, text)),
         "ignored" => Some(ignored(alloc, pipeline, text)),
         _ => None,
     }
@@ -76,25 +74,48 @@ fn room(alloc: Global, pipeline: &mut ClusterPipeline, text: &str) -> RedisResul
     len(alloc, pipeline)
 }
 
-/// Adds a command of a name and an argument.
-fn cmd(alloc: Global, pipeline: &mut ClusterPipeline, text: &str) -> RedisResult<String> {
-    let (name, arg) = text.split_once(' ').unwrap_or((text, ""));
-    pipeline.cmd(alloc, name.as_bytes())?.arg(arg.as_bytes())?;
-    len(alloc, pipeline)
+/// Adds a command of a name, and an argument behind it where there is one, or an argument to the
+/// last command, or marks that; or puts a copy of the pipeline in its place.
+fn change(
+    alloc: Global,
+    pipeline: &mut ClusterPipeline,
+    name: &str,
+    text: &str,
+) -> RedisResult<()> {
+    match (name, text.split_once(' ')) {
+        ("cmd", Some((name, arg))) => {
+            pipeline.cmd(alloc, name.as_bytes())?.arg(arg.as_bytes())?;
+        }
+        ("cmd", None) => {
+            pipeline.cmd(alloc, text.as_bytes())?;
+        }
+        ("add", _) => {
+            pipeline.arg(text.as_bytes())?;
+        }
+        ("ignore", _) => {
+            pipeline.ignore()?;
+        }
+        _ => *pipeline = pipeline.clone()?,
+    }
+    Ok(())
 }
 
-/// Adds an argument to the last command. Of an error it tells the kind too.
-fn add(alloc: Global, pipeline: &mut ClusterPipeline, text: &str) -> RedisResult<String> {
-    match pipeline.arg(text.as_bytes()) {
-        Ok(pipeline) => len(alloc, pipeline),
+/// How many commands a pipeline has after such a change. Of an error it tells the kind too, or that
+/// the pipeline is not as it was.
+fn changed(
+    alloc: Global,
+    pipeline: &mut ClusterPipeline,
+    name: &str,
+    text: &str,
+) -> RedisResult<String> {
+    let before = format!(in alloc; "{pipeline:?}")?;
+    match change(alloc, pipeline, name, text) {
+        Ok(()) => len(alloc, pipeline),
+        Err(_) if format!(in alloc; "{pipeline:?}")? != before => {
+            Ok(String::from_str(alloc, "changed")?)
+        }
         Err(error) => Ok(format!(in alloc; "{:?}: {error}", error.kind())?),
     }
-}
-
-/// Marks the last command. The pipeline is from then on a copy of it.
-fn ignore(alloc: Global, pipeline: &mut ClusterPipeline) -> RedisResult<String> {
-    *pipeline = pipeline.ignore()?.clone()?;
-    len(alloc, pipeline)
 }
 
 fn ignored(alloc: Global, pipeline: &ClusterPipeline, text: &str) -> RedisResult<String> {

@@ -67,6 +67,7 @@ fn other(
         "plan" => cluster::plan(alloc, cluster, words),
         "target" => plans::target(alloc, cluster, lent, words),
         "combine" => plans::combine(alloc, cluster, words),
+        "once" => plans::once(alloc, words),
         "print" => texts::print(alloc, words),
         "short" => short::short(alloc, cluster, words),
         "over" => wires::over(alloc, cluster, words),

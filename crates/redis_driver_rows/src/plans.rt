@@ -1,11 +1,11 @@
 //! Plans and retries of a client with connections of its own.
 use crate::cluster::Cluster;
 use crate::lent::Lent;
-use crate::nodes::cut;
+use crate::nodes::{cut, order};
 use cluster_map::{ReadRoutingStrategy, Route, SlotAddr, SlotMap};
 use example_strategies::{FirstReplica, PickIndex};
 use fixtures::{bad_row, cmd, nested, number, value};
-use redis_cluster::driver::{PlanFault, Retry, SplitPlan};
+use redis_cluster::driver::{PlanFault, Retry, SplitPlan, names_once};
 use redis_cluster::routing::Names;
 use resp_core::{Cmd, RedisResult, Value};
 use std::alloc::{AllocError, Global};
@@ -90,9 +90,18 @@ fn combined(alloc: Global, plan: SplitPlan<'_, Cmd>) -> RedisResult<String> {
 pub fn combine(alloc: Global, cluster: &Cluster, words: &str) -> RedisResult<String> {
     let (text, reply) = words.split_once("; ").unwrap_or((words, ""));
     let command = cmd(alloc, text)?;
-    let Ok(mut plan) = plan_of(alloc, cluster, &command) else {
-        return Err(bad_row("no plan"));
-    };
-    tell(alloc, &mut plan, reply)?;
-    combined(alloc, plan)
+    match plan_of(alloc, cluster, &command) {
+        Ok(mut plan) => {
+            tell(alloc, &mut plan, reply)?;
+            combined(alloc, plan)
+        }
+        Err(fault) => Ok(format!(in alloc; "{fault}")?),
+    }
+}
+
+/// Whether an order names so many parts, each once.
+pub fn once(alloc: Global, words: &str) -> RedisResult<String> {
+    let (count, word) = cut(words);
+    let is_once = names_once(alloc, number(count)?, &order(alloc, word)?)?;
+    Ok(format!(in alloc; "{is_once}")?)
 }

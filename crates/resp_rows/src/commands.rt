@@ -1,7 +1,7 @@
 //! Commands, errors and deep values.
 use crate::deep;
 use crate::texts::{command, escaped, first};
-use fixtures::{number, words};
+use fixtures::{bad_row, number, words};
 use resp_core::{Cmd, ErrorKind, RedisError, RedisResult};
 use std::alloc::Global;
 
@@ -17,6 +17,7 @@ pub fn call(alloc: Global, name: &str, words: &str) -> Option<RedisResult<String
         "long_item" => long_item(alloc, words),
         "error" => error(alloc),
         "error_with" => error_with(alloc, words),
+        "same_error" => same_error(alloc, words),
         "deep" => deep::compare(alloc, words),
         "deep_debug" => deep::debug(alloc, words),
         _ => return None,
@@ -56,9 +57,17 @@ fn with_room(alloc: Global, words: &str) -> RedisResult<String> {
     emptiness(alloc, &cmd)
 }
 
+/// Adds items, of which one that is refused may not change the command.
 fn add(cmd: &mut Cmd, items: &[Vec<u8>]) -> RedisResult<()> {
     for item in items {
-        cmd.arg(item)?;
+        let before = cmd.clone()?;
+        if let Err(error) = cmd.arg(item).map(|_| ()) {
+            return Err(if *cmd == before {
+                error.into()
+            } else {
+                bad_row("changed")
+            });
+        }
     }
     Ok(())
 }
@@ -119,8 +128,19 @@ fn error(alloc: Global) -> RedisResult<String> {
     Ok(format!(in alloc; "\"{error}\"")?)
 }
 
-fn error_with(alloc: Global, detail: &str) -> RedisResult<String> {
+fn detailed(alloc: Global, detail: &str) -> RedisResult<RedisError> {
     let detail = String::from_str(alloc, detail)?;
-    let error = RedisError::from((ErrorKind::Client, "bad text", detail));
+    Ok(RedisError::from((ErrorKind::Client, "bad text", detail)))
+}
+
+fn error_with(alloc: Global, detail: &str) -> RedisResult<String> {
+    let error = detailed(alloc, detail)?;
     Ok(format!(in alloc; "\"{error}\"")?)
+}
+
+/// Whether the errors of two details are equal.
+fn same_error(alloc: Global, words: &str) -> RedisResult<String> {
+    let (one, other) = first(words);
+    let same = detailed(alloc, one)? == detailed(alloc, other)?;
+    Ok(format!(in alloc; "{same}")?)
 }

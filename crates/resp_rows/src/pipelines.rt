@@ -20,7 +20,7 @@ pub struct Pipelines {
 impl Pipelines {
     /// No map and no batches.
     pub fn new(alloc: Global) -> Self {
-        let map = SlotMap::new(alloc);
+        let map = SlotMap::default(alloc);
         let batches = BatchBytes {
             nodes: Vec::new(alloc),
             counts: Vec::new(alloc),

@@ -10,9 +10,10 @@ mod strategies;
 mod streams;
 
 use failing::Failing;
-use fixtures::{Calls, bad_row, run};
+use fixtures::{Calls, bad_row, number, run};
 use resp_core::RedisResult;
 use runs::{Run, run_of, serve_all, serve_over, shown};
+use slotroute_serve::{CommandFault, Refusal};
 use std::alloc::Global;
 use std::process::ExitCode;
 use strategies::{Strategy, serve_by};
@@ -69,12 +70,19 @@ impl Rows {
     }
 }
 
+/// What the fault of a command prints that has a key of this slot, which no node has.
+fn fault(alloc: Global, slot: &str) -> RedisResult<String> {
+    let fault = CommandFault::Refused(Refusal::NotCovered(number(slot)?));
+    Ok(format!(in alloc; "{fault}")?)
+}
+
 impl Calls for Rows {
     fn call(&mut self, alloc: Global, name: &str, words: &str) -> RedisResult<String> {
         match name {
             "strategy" => self.hand_in(alloc, words),
             "prints" => outputs::prints(alloc, words),
             "ends" => outputs::ends(alloc, words),
+            "fault" => fault(alloc, words),
             _ => self.serve_row(alloc, name, &run_of(alloc, words)?),
         }
     }
