@@ -119,8 +119,8 @@ fn place_in(index: &[u16], count: usize, page_bits: u32, end: u16) -> usize
     }
 }
 
-/// How many of these ends, of which there is a page or more, are below this one. Never inline, so
-/// that a look-up among few ranges is.
+/// How many of these ends, of which there are `LANES` or more, are below this one, by the number of
+/// its page. Never inline, so that a look-up among fewer can be.
 #[inline(never)]
 fn place_by_pages(ends: &[u16], pages: &[u16], page_bits: u32, end: u16) -> usize
     requires rises { IsNonDecreasing ends.now }

@@ -152,7 +152,8 @@ fn cut_at(bytes: &[u8], byte: u8) -> Option<(&[u8], &[u8])>
     Some((&bytes[..at], &bytes[at + 1..]))
 }
 
-/// Whether the byte is one of these.
+/// Whether the byte is one of these. Up to three are compared without a loop, which would take longer
+/// than the comparisons.
 fn has_byte(bytes: &[u8], byte: u8) -> bool
     ensures { result ≡ list_any (nat_eq byte) bytes.now }
 {

@@ -10,7 +10,7 @@ use std::alloc::{AllocError, Global};
 /// The name of a command in upper case.
 #[derive(Drop)]
 pub(super) enum Name<'a> {
-    /// The first argument of the command, which is just that.
+    /// The first argument of the command, which is the name as it stands.
     Given(&'a [u8]),
     /// Made of one or two arguments.
     Made(Vec<u8>),

@@ -300,7 +300,8 @@ impl Nodes for MemoryNodes {
     }
 }
 
-/// Makes room for one entry more, at first for six: a trace of so many sends never moves.
+/// Makes room for one entry more, at first for six, so that a trace of up to six sends that were
+/// answered never moves.
 fn reserve_entry(trace: &mut Vec<TraceEntry>) -> Result<(), AllocError>
     ensures items { trace.new.items ≡ trace.old.items }
     ensures room { OnOk result (vec_len trace.new < vec_capacity trace.new) }

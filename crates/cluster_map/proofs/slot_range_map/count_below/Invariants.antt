@@ -6,5 +6,5 @@ use Rattle.cluster_map.proofs.slot_range_map.count_below.Given as goal
 abbrev pub invariant-loop-other : goal.invariant-loop-other
 invariant-loop-other l = record {
   counted : l.below + below l.end (drop l.other-index l.ends) ≡ below l.end l.ends;
-  few : below l.end l.ends ≤ length l.ends;
+  most : below l.end l.ends ≤ length l.ends;
 }
