@@ -19,10 +19,11 @@ pub fn order_of(alloc: Global, text: &str) -> RedisResult<Vec<usize>> {
 }
 
 /// The errors that nodes refuse a command with. An error has a fixed text.
-const ERRORS: [&str; 7] = [
+const ERRORS: [&str; 8] = [
     "ASK 15495 n4:4",
     "LOADING",
     "MOVED 15495 n3:3",
+    "MOVED 15495 node-3.example.org:3",
     "TRYAGAIN later",
     "e",
     "error",

@@ -67,9 +67,10 @@ pub fn run_of(alloc: Global, text: &str) -> RedisResult<Run> {
     Ok(Run { words, input })
 }
 
+/// A stream with room, so that no output fails for memory where what is written is short.
 fn writer(alloc: Global, mode: Mode) -> Writer {
     Writer {
-        bytes: Vec::new(alloc),
+        bytes: Vec::with_capacity(alloc, 1000).unwrap_or(Vec::new(alloc)),
         mode,
     }
 }
