@@ -1,13 +1,12 @@
 -- The name of a command by its first two arguments, and the arguments that it takes.
-use Rattle.std.proofs.Common.{◌≡◌, ℕ, ◌+◌, ◌<◌, ◌≤◌, List, [], ◌∷◌, ◌++◌, Option, Some, None, Bool, true, false, length, map, take, refl, sym, ap, ◌∙◌, arith}
+use Rattle.std.proofs.Common.{◌≡◌, ℕ, ◌<◌, ◌≤◌, List, [], ◌∷◌, ◌++◌, Option, Some, None, false, length, take, refl, ap, ◌∙◌, arith}
 use Rattle.std.specs.Char.{to_ascii_uppercase}
-use Rattle.std.specs.Prelude.{if◌then◌else◌}
 use Rattle.std.proofs.lemmas.List.{length-append, length-map}
 use Rattle.redis_routing.specs.Upper.{upper}
 use Rattle.redis_routing.specs.TwoWords.{takes_second}
 use Rattle.redis_routing.specs.NameWords.{name_words_of, words_by}
 use Rattle.redis_routing.specs.PresentArguments.{present_arguments}
-use Rattle.redis_routing.specs.Command.{Arguments, HasWords, argument, command_name, name_from, name_by, with_second, in_upper_case}
+use Rattle.redis_routing.specs.Command.{Arguments, HasWords, argument, command_name, name_from, name_by, in_upper_case}
 use Rattle.resp_core.proofs.Cases.{by_test}
 
 by_first : (args : Arguments) (first : List ℕ) → Some first ≡ argument args 0 → Some (name_by (upper first) (in_upper_case (argument args 1))) ≡ command_name args

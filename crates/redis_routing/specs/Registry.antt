@@ -1,6 +1,6 @@
 -- Registered names: commands over many keys that the tables don't have, as those of a module. Each
 -- name stands with how its arguments make tuples, and how the replies to its parts make one.
-use Rattle.std.specs.Prelude.{ℕ, List, length, Bool, true, false, ◌&&◌, ◌||◌, not, if◌then◌else◌, cond, nat_eq, Option, None, Some, is_some, is_none, option_map}
+use Rattle.std.specs.Prelude.{ℕ, List, length, Bool, ◌&&◌, ◌||◌, not, if◌then◌else◌, cond, nat_eq, Option, None, Some, is_some, is_none, option_map}
 use Rattle.std.specs.List.{list_any, before_first, after_first}
 use Rattle.redis_routing.specs.Lookup.{lookup_name}
 use Rattle.redis_routing.specs.NameTables.{NameTables}

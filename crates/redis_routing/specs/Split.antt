@@ -1,5 +1,5 @@
 -- A complete multi-key command, split by slot.
-use Rattle.std.specs.Prelude.{◌≡◌, ◌<◌, ◌^◌, ℕ, Bool, true, false, List, Option, None, Some, length, map, option_map, slice_get}
+use Rattle.std.specs.Prelude.{◌≡◌, ◌<◌, ◌^◌, ℕ, Bool, true, List, Option, None, Some, length, map, option_map, slice_get}
 use Rattle.cluster_slots.specs.SlotRoute.{SlotRoute}
 use Rattle.redis_routing.specs.Command.{Arguments, HasWords, command_name}
 use Rattle.redis_routing.specs.Tuples.{is_complete}

@@ -1,4 +1,4 @@
-use Rattle.std.proofs.Common.{◌≡◌, ◌≤◌, length, arith}
+use Rattle.std.proofs.Common.{◌≡◌, arith}
 use Rattle.cluster_map.proofs.Places.{below, below-most}
 use Rattle.cluster_map.proofs.slot_range_map.place_in.Goals as goal
 

@@ -1,6 +1,4 @@
-use Rattle.std.proofs.Common.{◌∙◌, ap, sym}
-use Rattle.std.specs.Prelude.{IfSome, ◌≡◌, true}
-use Rattle.redis_routing.specs.Registry.{is_registrable}
+use Rattle.std.proofs.Common.{◌∙◌}
 use Rattle.redis_routing.proofs.Registrations.{found_row, found_registrable}
 use Rattle.redis_routing.proofs.registry.Registry.get.Goals as goal
 

@@ -1,6 +1,5 @@
-use Rattle.std.proofs.Common.{◌∙◌, ap}
-use Rattle.std.specs.List.{list_all}
-use Rattle.redis_routing.proofs.Registrations.{may_stand, row_of, cloned_rows, cloned_may_stand}
+use Rattle.std.proofs.Common.{◌∙◌}
+use Rattle.redis_routing.proofs.Registrations.{cloned_rows, cloned_may_stand}
 use Rattle.redis_routing.proofs.registry.RegistryClone.clone.Goals as goal
 
 pub invariant_of-result : goal.invariant_of-result
