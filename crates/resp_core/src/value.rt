@@ -9,16 +9,16 @@ mod comparing;
 mod copying;
 mod freeing;
 
-use self::comparing::same;
+use self::comparing::{same_by_list, same_flat};
 use self::copying::{copy_flat, copy_in_order};
-use std::alloc::AllocError;
+use std::alloc::{AllocError, Global};
 
 /// A reply of a Redis server, as a tree.
 ///
 /// However deep the tree is, to drop, clone or compare it takes no more stack. To drop it takes no
 /// memory either, and to clone it memory for the copy and for lists of what is under way. To
-/// compare it takes a list of the arrays and maps inside arrays and maps. Where there is no memory
-/// for that list, `==` recurses. `Debug` recurses.
+/// compare it takes no memory down to 32 levels, and a list of the arrays and maps that lie deeper.
+/// Where there is no memory for that list, `==` recurses. `Debug` recurses.
 ///
 /// ```
 /// let not_a_count = (ErrorKind::UnexpectedReturnType, "the reply is not a count");
@@ -122,8 +122,8 @@ impl Clone for Value {
     }
 }
 
-/// Down to how many levels arrays and maps are copied by recursion. What lies deeper is copied
-/// without, so that the stack does not grow with a value's depth.
+/// Down to how many levels arrays and maps are copied and compared by recursion. What lies deeper is
+/// gone over without, so that the stack does not grow with a value's depth.
 const RECURSED_LEVELS: u8 = 32;
 
 #[cycle(copy)]
@@ -171,7 +171,7 @@ impl PartialEq for Value {
         ensures value { result ≡ same_reply (view self.now) (view other.now) }
         ensures same { IsTrue result ↔ (view self.now ≡ view other.now) }
     {
-        same(self, other)
+        same_value(self, other, RECURSED_LEVELS)
     }
 }
 
@@ -179,30 +179,49 @@ impl Eq for Value {
     ghost laws = { on_equiv view same_reply-equivalence };
 }
 
+/// Whether two values are equal. Where no level is left, arrays and maps are compared by a list, or
+/// without memory for that list, by recursion over levels anew.
 #[cycle(same)]
-fn same_value(a: &Value, b: &Value) -> bool
+fn same_value(a: &Value, b: &Value, levels: u8) -> bool
     ensures { IsTrue result ↔ (view a.now ≡ view b.now) }
 {
     match (a, b) {
-        (Value::Nil, Value::Nil) | (Value::Okay, Value::Okay) => true,
-        (Value::Int(m), Value::Int(n)) => m == n,
-        (Value::BulkString(x), Value::BulkString(y)) => x == y,
-        (Value::Array(xs), Value::Array(ys)) => same_items(xs, ys),
-        (Value::SimpleString(x), Value::SimpleString(y)) => x == y,
-        (Value::Map(xs), Value::Map(ys)) => same_pairs(xs, ys),
-        _ => false,
+        (Value::Array(xs), Value::Array(ys)) => {
+            match same_if_deep(*xs.allocator(), a, b, levels) {
+                Some(same) => same,
+                None => same_items(xs, ys, levels.wrapping_sub(1)),
+            }
+        }
+        (Value::Map(xs), Value::Map(ys)) => match same_if_deep(*xs.allocator(), a, b, levels) {
+            Some(same) => same,
+            None => same_pairs(xs, ys, levels.wrapping_sub(1)),
+        },
+        _ => same_flat(a, b),
+    }
+}
+
+/// Whether two values are equal, by a list. `None` where a level is left, or no memory for the list.
+fn same_if_deep(alloc: Global, a: &Value, b: &Value, levels: u8) -> Option<bool>
+    ensures { IfSome result (λ same. IsTrue same ↔ (view a.now ≡ view b.now)) }
+{
+    if levels > 0 {
+        return None;
+    }
+    match same_by_list(alloc, a, b) {
+        Ok(same) => Some(same),
+        Err(_) => None,
     }
 }
 
 #[cycle(same)]
-fn same_items(xs: &[Value], ys: &[Value]) -> bool
+fn same_items(xs: &[Value], ys: &[Value], levels: u8) -> bool
     ensures { IsTrue result ↔ (map view xs.now ≡ map view ys.now) }
 {
     if xs.len() != ys.len() {
         return false;
     }
     for (x, y) in xs.iter().zip(ys) {
-        if !same_value(x, y) {
+        if !same_value(x, y, levels) {
             return false;
         }
     }
@@ -210,14 +229,14 @@ fn same_items(xs: &[Value], ys: &[Value]) -> bool
 }
 
 #[cycle(same)]
-fn same_pairs(xs: &[(Value, Value)], ys: &[(Value, Value)]) -> bool
+fn same_pairs(xs: &[(Value, Value)], ys: &[(Value, Value)], levels: u8) -> bool
     ensures { IsTrue result ↔ (map view_pair xs.now ≡ map view_pair ys.now) }
 {
     if xs.len() != ys.len() {
         return false;
     }
     for (x, y) in xs.iter().zip(ys) {
-        if !same_value(&x.0, &y.0) || !same_value(&x.1, &y.1) {
+        if !same_value(&x.0, &y.0, levels) || !same_value(&x.1, &y.1, levels) {
             return false;
         }
     }

@@ -1,30 +1,32 @@
 //! Comparing values without recursion. The pairs of values that are still to be compared stand in a
 //! list; only arrays and maps are put there.
-ghost use Rattle.std.specs.Prelude.{◌≡◌, ◌+◌, ◌<◌, ◌≤◌, ◌↔◌, IsTrue, IsFalse, IfOk, map};
+ghost use Rattle.std.specs.Prelude.{◌≡◌, ◌⊎◌, ◌+◌, ◌<◌, ◌≤◌, ◌↔◌, IsTrue, IsFalse, IfOk, map};
 ghost use Rattle.resp_core.specs.View.{view, view_pair};
 ghost use Rattle.resp_core.specs.Reply.{replies_of, pairs_of};
 ghost use Rattle.resp_core.specs.Freeing.{steps_in, steps_in_items, steps_in_pairs, steps_in_value};
+ghost use Rattle.resp_core.specs.Copying.{IsFlat};
 ghost use Rattle.resp_core.specs.Waiting.{AreSame, steps_waiting};
 
-use super::{Value, same_value};
+use super::Value;
 use std::alloc::{AllocError, Global};
 
-/// Whether two values are equal. If memory runs out for the list, it recurses.
-pub(super) fn same(a: &Value, b: &Value) -> bool
+/// Whether two values are equal, of which not both are arrays and not both are maps.
+#[inline]
+pub(super) fn same_flat(a: &Value, b: &Value) -> bool
+    requires { IsFlat (view a.now) ⊎ ¬ (view a.now ≡ view b.now) }
     ensures { IsTrue result ↔ (view a.now ≡ view b.now) }
 {
-    let alloc = match a {
-        Value::Array(items) => *items.allocator(),
-        Value::Map(items) => *items.allocator(),
-        _ => return same_value(a, b),
-    };
-    match same_by_list(alloc, a, b) {
-        Ok(same) => same,
-        Err(_) => same_value(a, b),
+    match (a, b) {
+        (Value::Nil, Value::Nil) | (Value::Okay, Value::Okay) => true,
+        (Value::Int(m), Value::Int(n)) => m == n,
+        (Value::BulkString(x), Value::BulkString(y)) => x == y,
+        (Value::SimpleString(x), Value::SimpleString(y)) => x == y,
+        _ => false,
     }
 }
 
-fn same_by_list<'a>(alloc: Global, a: &'a Value, b: &'a Value) -> Result<bool, AllocError>
+/// Whether two values are equal, by a list of what waits to be compared.
+pub(super) fn same_by_list<'a>(alloc: Global, a: &'a Value, b: &'a Value) -> Result<bool, AllocError>
     ensures { IfOk result (λ same. IsTrue same ↔ (view a.now ≡ view b.now)) }
 {
     let mut waiting = Vec::new(alloc);
@@ -55,7 +57,7 @@ fn add_inside<'a>(
     match (a, b) {
         (Value::Array(xs), Value::Array(ys)) => add_items(waiting, xs, ys),
         (Value::Map(xs), Value::Map(ys)) => add_pairs(waiting, xs, ys),
-        _ => Ok(same_value(a, b)),
+        _ => Ok(same_flat(a, b)),
     }
 }
 
@@ -127,6 +129,6 @@ fn add<'a>(
             waiting.push((a, b))?;
             Ok(true)
         }
-        _ => Ok(same_value(a, b)),
+        _ => Ok(same_flat(a, b)),
     }
 }

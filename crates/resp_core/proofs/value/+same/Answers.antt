@@ -25,12 +25,12 @@ same_pairs-returns-then-not-same_value t c =
           ]) e),
     )
 
-pub same_value-returns-in-Array-Array : goal.same_value-returns-in-Array-Array
-same_value-returns-in-Array-Array t c =
+pub same_value-returns-in-None : goal.same_value-returns-in-None
+same_value-returns-in-None t c =
     let at = c.in-Array-Array in
-    Array-same _ _ _ at.xs at.ys _ _ at.is-0 at.is-1 c.deref.ensures.value c.deref-in-Array-Array.ensures.value c.same_items.ensures
+    Array-same _ _ _ at.xs at.ys _ _ at.is-0 at.is-1 c.deref.ensures.value c.deref-in-None.ensures.value c.same_items.ensures
 
-pub same_value-returns-in-Map-Map : goal.same_value-returns-in-Map-Map
-same_value-returns-in-Map-Map t c =
+pub same_value-returns-in-None-same_if_deep : goal.same_value-returns-in-None-same_if_deep
+same_value-returns-in-None-same_if_deep t c =
     let at = c.in-Map-Map in
-    Map-same _ _ _ at.xs at.ys _ _ at.is-0 at.is-1 c.deref-in-Map-Map.ensures.value c.deref-in-Map-Map-2.ensures.value c.same_pairs.ensures
+    Map-same _ _ _ at.xs at.ys _ _ at.is-0 at.is-1 c.deref-in-None-same_if_deep.ensures.value c.deref-in-None-same_if_deep-2.ensures.value c.same_pairs.ensures

@@ -5,4 +5,4 @@ use Rattle.resp_core.proofs.value.ValuePartialEq.eq.Goals as goal
 
 pub returns-clause-value : goal.returns-clause-value
 returns-clause-value c =
-    same_from_decides c.same.result _ c.same.ensures (same_reply-Decides (view c.args.self.now) (view c.args.other.now))
+    same_from_decides c.same_value.result _ c.same_value.ensures (same_reply-Decides (view c.args.self.now) (view c.args.other.now))
