@@ -1,5 +1,6 @@
 ghost use Rattle.std.specs.Prelude.{◌≡◌, ◌<◌, ◌^◌, IfOk, IfSome, IsTrue, ◌↔◌, map, length, option_map, option_copied};
 ghost use Rattle.std.specs.Cmp.{on_per, on_equiv, partial_equiv_from_equiv};
+ghost use Rattle.resp_core.specs.Copying.{IsFlat};
 ghost use Rattle.resp_core.specs.View.{view, view_pair};
 ghost use Rattle.resp_core.specs.SameReply.{same_reply};
 ghost use Rattle.resp_core.specs.SameReplyLaws.{same_reply-equivalence};
@@ -11,7 +12,7 @@ mod freeing;
 
 use self::comparing::{same_by_list, same_flat};
 use self::copying::{copy_flat, copy_in_order};
-use std::alloc::{AllocError, Global};
+use std::alloc::AllocError;
 
 /// A reply of a Redis server, as a tree.
 ///
@@ -98,6 +99,20 @@ impl Value {
             None
         }
     }
+
+    /// Whether there is no value inside.
+    fn is_flat(&self) -> bool
+        ensures flat { IsTrue result → IsFlat (view self.now) }
+    {
+        match self {
+            Value::Array(_) | Value::Map(_) => false,
+            Value::Nil
+            | Value::Int(_)
+            | Value::BulkString(_)
+            | Value::SimpleString(_)
+            | Value::Okay => true,
+        }
+    }
 }
 
 impl Drop for Value {
@@ -146,7 +161,13 @@ fn copy_items(items: &Vec<Value>, levels: u8) -> Result<Vec<Value>, AllocError>
 {
     let mut copies = Vec::with_capacity(*items.allocator(), items.len())?;
     for item in items {
-        copies.push(copy_value(item, levels)?)?;
+        // In line, since most arrays have no array inside.
+        let copy = if item.is_flat() {
+            copy_flat(item)?
+        } else {
+            copy_value(item, levels)?
+        };
+        copies.push(copy)?;
     }
     Ok(copies)
 }
@@ -186,30 +207,21 @@ fn same_value(a: &Value, b: &Value, levels: u8) -> bool
     ensures { IsTrue result ↔ (view a.now ≡ view b.now) }
 {
     match (a, b) {
-        (Value::Array(xs), Value::Array(ys)) => {
-            match same_if_deep(*xs.allocator(), a, b, levels) {
-                Some(same) => same,
-                None => same_items(xs, ys, levels.wrapping_sub(1)),
+        (Value::Array(xs), Value::Array(ys)) if levels == 0 => {
+            match same_by_list(*xs.allocator(), a, b) {
+                Ok(same) => same,
+                Err(_) => same_items(xs, ys, u8::MAX),
             }
         }
-        (Value::Map(xs), Value::Map(ys)) => match same_if_deep(*xs.allocator(), a, b, levels) {
-            Some(same) => same,
-            None => same_pairs(xs, ys, levels.wrapping_sub(1)),
-        },
+        (Value::Map(xs), Value::Map(ys)) if levels == 0 => {
+            match same_by_list(*xs.allocator(), a, b) {
+                Ok(same) => same,
+                Err(_) => same_pairs(xs, ys, u8::MAX),
+            }
+        }
+        (Value::Array(xs), Value::Array(ys)) => same_items(xs, ys, levels - 1),
+        (Value::Map(xs), Value::Map(ys)) => same_pairs(xs, ys, levels - 1),
         _ => same_flat(a, b),
-    }
-}
-
-/// Whether two values are equal, by a list. `None` where a level is left, or no memory for the list.
-fn same_if_deep(alloc: Global, a: &Value, b: &Value, levels: u8) -> Option<bool>
-    ensures { IfSome result (λ same. IsTrue same ↔ (view a.now ≡ view b.now)) }
-{
-    if levels > 0 {
-        return None;
-    }
-    match same_by_list(alloc, a, b) {
-        Ok(same) => Some(same),
-        Err(_) => None,
     }
 }
 
@@ -221,7 +233,12 @@ fn same_items(xs: &[Value], ys: &[Value], levels: u8) -> bool
         return false;
     }
     for (x, y) in xs.iter().zip(ys) {
-        if !same_value(x, y, levels) {
+        let same = if x.is_flat() {
+            same_flat(x, y)
+        } else {
+            same_value(x, y, levels)
+        };
+        if !same {
             return false;
         }
     }

@@ -44,14 +44,14 @@ impl ClusterTopology {
     pub fn from_shards(alloc: Global, shards: Vec<Shard>) -> Result<Self, AllocError>
         ensures put { IfOk result (λ topology. topology ≡ topology_of shards.items) }
     {
-        let mut entries = Vec::new(alloc);
+        let mut entries = Vec::with_capacity(alloc, range_count(&shards))?;
         for place in 0..shards.len() {
             let shard = &shards[place];
             push_ranges(&mut entries, shard.slot_ranges(), place)?;
         }
         let mut ranges: SlotRangeMap<usize> = SlotRangeMap::new(alloc);
         ranges.extend(entries)?;
-        let order = first_places(alloc, &ranges)?;
+        let order = first_places(alloc, shards.len(), &ranges)?;
         Ok(ClusterTopology {
             shards,
             ranges,
@@ -105,6 +105,15 @@ fn copy_places(places: &Vec<usize>) -> Result<Vec<usize>, AllocError>
     places.clone()
 }
 
+/// How many ranges the shards have. It is only room that is made for them.
+fn range_count(shards: &[Shard]) -> usize {
+    let mut count = 0_usize;
+    for shard in shards {
+        count = count.saturating_add(shard.slot_ranges().len());
+    }
+    count
+}
+
 /// Adds the ranges of the shard at a place, each with that place.
 fn push_ranges(
     entries: &mut Vec<(u16, u16, usize)>,
@@ -120,11 +129,15 @@ fn push_ranges(
     Ok(())
 }
 
-/// Each place once, by its first range.
-fn first_places(alloc: Global, ranges: &SlotRangeMap<usize>) -> Result<Vec<usize>, AllocError>
+/// Each place once, by its first range, with room for so many.
+fn first_places(
+    alloc: Global,
+    room: usize,
+    ranges: &SlotRangeMap<usize>,
+) -> Result<Vec<usize>, AllocError>
     ensures { IfOk result (λ places. places.items ≡ places_left ranges.now) }
 {
-    let mut seen: IndexSet<usize> = IndexSet::new(alloc);
+    let mut seen: IndexSet<usize> = IndexSet::with_capacity(alloc, room)?;
     for place in ranges.values() {
         seen.insert(*place)?;
     }

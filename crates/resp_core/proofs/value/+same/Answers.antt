@@ -1,4 +1,4 @@
-use Rattle.std.proofs.Common.{rules, ap}
+use Rattle.std.proofs.Common.{◌≡◌, ◌∙◌, rules, ap, sym}
 use Rattle.std.proofs.lemmas.Bool.{false≢true}
 use Rattle.std.proofs.lemmas.Bool.Decides.{not_from_Decides}
 use Rattle.std.proofs.lemmas.Slice.Zip.{zip_turn}
@@ -6,12 +6,15 @@ use Rattle.resp_core.specs.View.{view, view_pair}
 use Rattle.resp_core.proofs.SameItems.{differ_from_item}
 use Rattle.resp_core.proofs.Views.{Array-same, Map-same}
 use Rattle.resp_core.proofs.value.+same.Goals as goal
-use Rattle.resp_core.proofs.value.+same.Goals.{same_pairs-then-not-same_value-via-then-not-same_value, same_pairs-then-not-same_value-via-else-not-same_value+then-not-same_value-2}
+use Rattle.resp_core.proofs.value.+same.Goals.{same_items-then-is_flat, same_items-else-is_flat, same_pairs-then-not-same_value-via-then-not-same_value, same_pairs-then-not-same_value-via-else-not-same_value+then-not-same_value-2}
 
-pub same_items-returns-then-not-same_value : goal.same_items-returns-then-not-same_value
-same_items-returns-then-not-same_value t c =
+pub same_items-returns-then-not-same : goal.same_items-returns-then-not-same
+same_items-returns-then-not-same t c =
     let turn = zip_turn c.args.xs.now c.args.ys.now c.loop-x.yielded c.into_iter-x-iterator.result c.loop-x.x-iterator c.next.new.self _ (search rules) (search rules) c.loop-x.yielded_by _ c.in-Some.is c.next.ensures.steps in
-    let differ = not_from_Decides _ c.same_value.ensures c.if-not-same_value.true in
+    let differ : view c.in-Some.x.now ≡ view c.in-Some.y.now → ⊥ = elim c.if-is_flat.branch [
+      | same_items-then-is_flat w ↦ not_from_Decides _ w.same_flat-same.ensures (sym w.same-is ∙ c.if-not-same.true)
+      | same_items-else-is_flat w ↦ not_from_Decides _ w.same_value-same.ensures (sym w.same-is ∙ c.if-not-same.true)
+    ] in
     (λ h. absurd (false≢true h), λ e. absurd (differ_from_item view _ _ _ _ _ turn differ e))
 
 pub same_pairs-returns-then-not-same_value : goal.same_pairs-returns-then-not-same_value
@@ -25,12 +28,22 @@ same_pairs-returns-then-not-same_value t c =
           ]) e),
     )
 
-pub same_value-returns-in-None : goal.same_value-returns-in-None
-same_value-returns-in-None t c =
+pub same_value-returns-in-Err : goal.same_value-returns-in-Err
+same_value-returns-in-Err t c =
     let at = c.in-Array-Array in
-    Array-same _ _ _ at.xs at.ys _ _ at.is-0 at.is-1 c.deref.ensures.value c.deref-in-None.ensures.value c.same_items.ensures
+    Array-same _ _ _ at.xs at.ys _ _ at.is-0 at.is-1 c.deref.ensures.value c.deref-in-Err.ensures.value c.same_items.ensures
 
-pub same_value-returns-in-None-same_if_deep : goal.same_value-returns-in-None-same_if_deep
-same_value-returns-in-None-same_if_deep t c =
+pub same_value-returns-in-Err-same_by_list : goal.same_value-returns-in-Err-same_by_list
+same_value-returns-in-Err-same_by_list t c =
     let at = c.in-Map-Map in
-    Map-same _ _ _ at.xs at.ys _ _ at.is-0 at.is-1 c.deref-in-None-same_if_deep.ensures.value c.deref-in-None-same_if_deep-2.ensures.value c.same_pairs.ensures
+    Map-same _ _ _ at.xs at.ys _ _ at.is-0 at.is-1 c.deref-in-Err-same_by_list.ensures.value c.deref-in-Err-same_by_list-2.ensures.value c.same_pairs.ensures
+
+pub same_value-returns-in-Array-Array-2 : goal.same_value-returns-in-Array-Array-2
+same_value-returns-in-Array-Array-2 t c =
+    let at = c.in-Array-Array-2 in
+    Array-same _ _ _ at.xs at.ys _ _ at.is-0 at.is-1 c.deref-in-Array-Array-2.ensures.value c.deref-in-Array-Array-2-2.ensures.value c.same_items-in-Array-Array-2.ensures
+
+pub same_value-returns-in-Map-Map-2 : goal.same_value-returns-in-Map-Map-2
+same_value-returns-in-Map-Map-2 t c =
+    let at = c.in-Map-Map-2 in
+    Map-same _ _ _ at.xs at.ys _ _ at.is-0 at.is-1 c.deref-in-Map-Map-2.ensures.value c.deref-in-Map-Map-2-2.ensures.value c.same_pairs-in-Map-Map-2.ensures
