@@ -7,9 +7,9 @@ use Rattle.std.specs.Str.{bytes_eq}
 abbrev pub name_hash : List ℕ → ℕ
 name_hash name =
     cond (nat_lt (length name) 3) 0
-    (get_or name 0 0 * 107 + get_or name ((length name - 3) / 2) 0
-    + get_or name (length name - 7) 0 * 72 + get_or name (length name - 3) 0 * 12
-    + get_or name (length name - 1) 0 * 7)
+    ((((get_or name (length name - 7) 0 * 4 + get_or name 0 0) * 15
+    + get_or name ((length name - 3) / 2) 0) * 9 + get_or name (length name - 1) 0) * 33
+    + get_or name (length name - 3) 0)
 
 -- the place that a list of places has for the name's number
 abbrev pub row_of : List ℕ → List ℕ → ℕ

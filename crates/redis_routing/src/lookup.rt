@@ -43,11 +43,10 @@ fn name_hash(name: &[u8]) -> usize
     if len < 3 {
         return 0;
     }
-    usize::from(name[0]) * 107
-        + usize::from(name[(len - 3) / 2])
-        + usize::from(name[len.saturating_sub(7)]) * 72
-        + usize::from(name[len - 3]) * 12
-        + usize::from(name[len - 1]) * 7
+    let front = usize::from(name[len.saturating_sub(7)]) * 4 + usize::from(name[0]);
+    let middle = front * 15 + usize::from(name[(len - 3) / 2]);
+    let end = middle * 9 + usize::from(name[len - 1]);
+    end * 33 + usize::from(name[len - 3])
 }
 
 /// What stands beside the name in a table of a few rows, which are gone over one by one.

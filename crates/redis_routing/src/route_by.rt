@@ -101,6 +101,7 @@ pub fn base_routing(name: &[u8]) -> Option<RouteBy>
 
 /// How commands of a name are routed, as `base_routing` has it, and how the replies to them make
 /// one, as `ResponsePolicy::for_command` has it: one look-up for both.
+#[inline]
 pub fn routing_and_policy(name: &[u8]) -> (Option<RouteBy>, Option<ResponsePolicy>)
     ensures routing { result.0 ≡ base_routing name.now }
     ensures policy { result.1 ≡ policy_of name.now }

@@ -111,13 +111,17 @@ fn for_command<R: Routable>(
         (R.args command.now)) }
 {
     let mut room = [0; ROOM];
-    if let Some(len) = short_name(command, &mut room) {
-        return by_name(alloc, command, &room[..len], read_only, registry);
-    }
-    match command.command(alloc)? {
-        Some(name) => by_name(alloc, command, &name, read_only, registry),
-        None => Ok(None),
-    }
+    let short = short_name(command, &mut room);
+    let long = match short {
+        Some(_) => None,
+        None => command.command(alloc)?,
+    };
+    let name = match (short, &long) {
+        (Some(len), _) => &room[..len],
+        (None, Some(name)) => name.as_slice(),
+        (None, None) => return Ok(None),
+    };
+    by_name(alloc, command, name, read_only, registry)
 }
 
 /// Where a command of the name goes by the tables, and by a registry where there is one.

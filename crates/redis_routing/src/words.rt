@@ -37,6 +37,7 @@ fn takes_second_in_any_case(first: &[u8]) -> bool
 
 /// Writes the name of a command, as `Routable::command` answers it, at the front of the room, and
 /// tells how many bytes it has. `None` where there is no name or too little room. Takes no memory.
+#[inline]
 pub(super) fn short_name<R: Routable>(command: &R, room: &mut [u8]) -> Option<usize>
     ensures within { IfSome result (λ len. len ≤ length room.new) }
     ensures name { IfSome result (λ len. Some (take len room.new)
