@@ -1,4 +1,5 @@
 ghost use Rattle.std.specs.Prelude.{◌≡◌, ◌<◌, ◌^◌, ◌++◌, ◌∷◌, [], ◌↔◌, IsTrue, IfOk, OnOk, OnErr, length, slice_get, slice_index, option_copied};
+ghost use Rattle.std.specs.Vec.{vec_len, vec_capacity};
 ghost use Rattle.std.specs.Iterator.{YieldsFirstRef, item_count};
 ghost use Rattle.std.specs.Cmp.Rules.{comparing};
 ghost use Rattle.std.proofs.Common.{rules};
@@ -32,6 +33,11 @@ impl Model for Cmd {
 
     ghost invariant = { λ c. AreItemsAt 0 c.ends.items c.bytes.items };
 }
+
+/// How many arguments a short command has, and how many bytes they have together.
+const SHORT_ARGS: usize = 4;
+
+const SHORT_BYTES: usize = 32;
 
 impl Cmd {
     /// A command of no argument. Takes no memory.
@@ -91,7 +97,9 @@ impl Cmd {
         ensures added { OnOk result (self.new ≡ self.old ++ arg.now ∷ []) }
         ensures unchanged { OnErr result (self.new ≡ self.old) }
     {
-        self.ends.reserve(1)?;
+        if self.ends.len() == self.ends.capacity() {
+            make_room(&mut self.ends, &mut self.bytes)?;
+        }
         self.bytes.extend_from_slice(arg)?;
         self.ends.push_reserved(self.bytes.len());
         Ok(())
@@ -132,6 +140,21 @@ impl Cmd {
             ends: self.ends.iter(),
         }
     }
+}
+
+/// Makes room for the end of one more argument. The first time it is room for a short command, so
+/// that such a command takes memory twice.
+#[cold]
+fn make_room(ends: &mut Vec<usize>, bytes: &mut Vec<u8>) -> Result<(), AllocError>
+    ensures ends { ends.new.items ≡ ends.old.items }
+    ensures bytes { bytes.new.items ≡ bytes.old.items }
+    ensures room { OnOk result (vec_len ends.new < vec_capacity ends.new) }
+{
+    if !ends.is_empty() {
+        return ends.reserve(1);
+    }
+    bytes.reserve(SHORT_BYTES)?;
+    ends.reserve(SHORT_ARGS)
 }
 
 /// Where the argument at a place starts: where the one before it ends.
