@@ -12,7 +12,7 @@ mod freeing;
 
 use self::comparing::{same_by_list, same_flat};
 use self::copying::{copy_flat, copy_in_order};
-use std::alloc::AllocError;
+use std::alloc::{AllocError, Global};
 
 /// A reply of a Redis server, as a tree.
 ///
@@ -207,21 +207,31 @@ fn same_value(a: &Value, b: &Value, levels: u8) -> bool
     ensures { IsTrue result ↔ (view a.now ≡ view b.now) }
 {
     match (a, b) {
-        (Value::Array(xs), Value::Array(ys)) if levels == 0 => {
-            match same_by_list(*xs.allocator(), a, b) {
-                Ok(same) => same,
-                Err(_) => same_items(xs, ys, u8::MAX),
+        (Value::Array(xs), Value::Array(ys)) => {
+            match same_if_deep(*xs.allocator(), a, b, levels) {
+                Some(same) => same,
+                None => same_items(xs, ys, levels.wrapping_sub(1)),
             }
         }
-        (Value::Map(xs), Value::Map(ys)) if levels == 0 => {
-            match same_by_list(*xs.allocator(), a, b) {
-                Ok(same) => same,
-                Err(_) => same_pairs(xs, ys, u8::MAX),
-            }
-        }
-        (Value::Array(xs), Value::Array(ys)) => same_items(xs, ys, levels - 1),
-        (Value::Map(xs), Value::Map(ys)) => same_pairs(xs, ys, levels - 1),
+        (Value::Map(xs), Value::Map(ys)) => match same_if_deep(*xs.allocator(), a, b, levels) {
+            Some(same) => same,
+            None => same_pairs(xs, ys, levels.wrapping_sub(1)),
+        },
         _ => same_flat(a, b),
+    }
+}
+
+/// Whether two values are equal, by a list. `None` where a level is left, or no memory for the list.
+#[inline(always)]
+fn same_if_deep(alloc: Global, a: &Value, b: &Value, levels: u8) -> Option<bool>
+    ensures { IfSome result (λ same. IsTrue same ↔ (view a.now ≡ view b.now)) }
+{
+    if levels > 0 {
+        return None;
+    }
+    match same_by_list(alloc, a, b) {
+        Ok(same) => Some(same),
+        Err(_) => None,
     }
 }
 

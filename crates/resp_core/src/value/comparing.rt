@@ -11,7 +11,7 @@ use super::Value;
 use std::alloc::{AllocError, Global};
 
 /// Whether two values are equal, of which not both are arrays and not both are maps.
-#[inline]
+#[inline(always)]
 pub(super) fn same_flat(a: &Value, b: &Value) -> bool
     requires { IsFlat (view a.now) ⊎ ¬ (view a.now ≡ view b.now) }
     ensures { IsTrue result ↔ (view a.now ≡ view b.now) }
@@ -26,7 +26,11 @@ pub(super) fn same_flat(a: &Value, b: &Value) -> bool
 }
 
 /// Whether two values are equal, by a list of what waits to be compared.
-pub(super) fn same_by_list<'a>(alloc: Global, a: &'a Value, b: &'a Value) -> Result<bool, AllocError>
+pub(super) fn same_by_list<'a>(
+    alloc: Global,
+    a: &'a Value,
+    b: &'a Value,
+) -> Result<bool, AllocError>
     ensures { IfOk result (λ same. IsTrue same ↔ (view a.now ≡ view b.now)) }
 {
     let mut waiting = Vec::new(alloc);

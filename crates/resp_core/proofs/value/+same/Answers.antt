@@ -28,22 +28,12 @@ same_pairs-returns-then-not-same_value t c =
           ]) e),
     )
 
-pub same_value-returns-in-Err : goal.same_value-returns-in-Err
-same_value-returns-in-Err t c =
+pub same_value-returns-in-None : goal.same_value-returns-in-None
+same_value-returns-in-None t c =
     let at = c.in-Array-Array in
-    Array-same _ _ _ at.xs at.ys _ _ at.is-0 at.is-1 c.deref.ensures.value c.deref-in-Err.ensures.value c.same_items.ensures
+    Array-same _ _ _ at.xs at.ys _ _ at.is-0 at.is-1 c.deref.ensures.value c.deref-in-None.ensures.value c.same_items.ensures
 
-pub same_value-returns-in-Err-same_by_list : goal.same_value-returns-in-Err-same_by_list
-same_value-returns-in-Err-same_by_list t c =
+pub same_value-returns-in-None-same_if_deep : goal.same_value-returns-in-None-same_if_deep
+same_value-returns-in-None-same_if_deep t c =
     let at = c.in-Map-Map in
-    Map-same _ _ _ at.xs at.ys _ _ at.is-0 at.is-1 c.deref-in-Err-same_by_list.ensures.value c.deref-in-Err-same_by_list-2.ensures.value c.same_pairs.ensures
-
-pub same_value-returns-in-Array-Array-2 : goal.same_value-returns-in-Array-Array-2
-same_value-returns-in-Array-Array-2 t c =
-    let at = c.in-Array-Array-2 in
-    Array-same _ _ _ at.xs at.ys _ _ at.is-0 at.is-1 c.deref-in-Array-Array-2.ensures.value c.deref-in-Array-Array-2-2.ensures.value c.same_items-in-Array-Array-2.ensures
-
-pub same_value-returns-in-Map-Map-2 : goal.same_value-returns-in-Map-Map-2
-same_value-returns-in-Map-Map-2 t c =
-    let at = c.in-Map-Map-2 in
-    Map-same _ _ _ at.xs at.ys _ _ at.is-0 at.is-1 c.deref-in-Map-Map-2.ensures.value c.deref-in-Map-Map-2-2.ensures.value c.same_pairs-in-Map-Map-2.ensures
+    Map-same _ _ _ at.xs at.ys _ _ at.is-0 at.is-1 c.deref-in-None-same_if_deep.ensures.value c.deref-in-None-same_if_deep-2.ensures.value c.same_pairs.ensures
