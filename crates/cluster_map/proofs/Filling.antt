@@ -6,6 +6,7 @@ use Rattle.cluster_map.specs.EachOnce.{once_by}
 use Rattle.cluster_map.specs.RangeMap.{RangeEntry, end_of, value_of, insert_entry, insert_entries}
 use Rattle.cluster_map.specs.Shards.{ShardNodes}
 use Rattle.cluster_map.specs.Topology.{place_entry, place_entries, places_left}
+use Rattle.cluster_map.specs.Inner.Topology.{AllPlaces}
 use Rattle.resp_core.proofs.Cases.{by_test}
 use Rattle.cluster_map.proofs.Ranges.{Contains-cons_cases, Contains-nil}
 
@@ -25,11 +26,6 @@ place_entries-more ss i s within is =
     let m : length (take i ss) ≡ i = length-take-le i ss (omega arith) in
     let n : 0 + length (take i ss) ≡ i = omega arith in
     ap (λ k. place_entries 0 (take i ss) ++ map (place_entry k) s.ranges) (sym n) ∙ sym (place_entries-last 0 (take i ss) s) ∙ ap (place_entries 0) (sym t)
-
--- each place is below a number
-abbrev pub AllPlaces : ℕ → List (RangeEntry ℕ) → Type 0
-AllPlaces n [] = Unit {0}
-AllPlaces n (e ∷ es) = (value_of e < n) × AllPlaces n es
 
 places-filter : (n : ℕ) (p : RangeEntry ℕ → Bool) (es : List (RangeEntry ℕ)) → AllPlaces n es → AllPlaces n (filter p es)
 places-filter n p [] all = tt
@@ -67,11 +63,11 @@ place_below n (r ∷ rs) all e there = elim (Contains-cons_cases r rs e there) [
   | inr later ↦ place_below n rs all.1 e later
 ]
 
-abbrev AllBelow : ℕ → List ℕ → Type 0
+abbrev pub AllBelow : ℕ → List ℕ → Type 0
 AllBelow n [] = Unit {0}
 AllBelow n (k ∷ ks) = (k < n) × AllBelow n ks
 
-below-values : (n : ℕ) (es : List (RangeEntry ℕ)) → AllPlaces n es → AllBelow n (map value_of es)
+pub below-values : (n : ℕ) (es : List (RangeEntry ℕ)) → AllPlaces n es → AllBelow n (map value_of es)
 below-values n [] all = tt
 below-values n (e ∷ es) all = (all.0, below-values n es all.1)
 

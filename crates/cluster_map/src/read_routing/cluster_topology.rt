@@ -1,12 +1,12 @@
 ghost use Rattle.std.specs.Prelude.{◌≡◌, ◌++◌, map, IfOk, OnOk, MatchOption};
 ghost use Rattle.cluster_map.specs.RangeMap.{Ascends, IsUncovered};
+ghost use Rattle.cluster_map.specs.Inner.Topology.{AllPlaces};
 ghost use Rattle.cluster_map.specs.ShardsToGive.{shards_to_give};
 ghost use Rattle.cluster_map.specs.Topology.{place_entry, topology_of, places_left, shards_left, IsShardAt};
 
 use crate::read_routing::shard::Shard;
 use crate::read_routing::shards::Shards;
 use crate::slot_range_map::SlotRangeMap;
-use indexmap::IndexSet;
 use std::alloc::{AllocError, Global};
 use std::marker::Model;
 
@@ -129,28 +129,22 @@ fn push_ranges(
     Ok(())
 }
 
-/// Each place once, by its first range, with room for so many.
+/// Each place once, by its first range. The places are below this number.
 fn first_places(
     alloc: Global,
-    room: usize,
+    count: usize,
     ranges: &SlotRangeMap<usize>,
 ) -> Result<Vec<usize>, AllocError>
+    requires { AllPlaces count ranges.now }
     ensures { IfOk result (λ places. places.items ≡ places_left ranges.now) }
 {
-    let mut seen: IndexSet<usize> = IndexSet::with_capacity(alloc, room)?;
+    let mut is_listed = vec![in alloc; false; count]?;
+    let mut places = Vec::with_capacity(alloc, count)?;
     for place in ranges.values() {
-        seen.insert(*place)?;
+        if !is_listed[*place] {
+            is_listed[*place] = true;
+            places.push(*place)?;
+        }
     }
-    listed(alloc, &seen)
-}
-
-/// The members of a set, in order.
-fn listed(alloc: Global, members: &IndexSet<usize>) -> Result<Vec<usize>, AllocError>
-    ensures { IfOk result (λ found. found.items ≡ members.now.keys) }
-{
-    let mut found = Vec::with_capacity(alloc, members.len())?;
-    for member in members.iter() {
-        found.push(*member)?;
-    }
-    Ok(found)
+    Ok(places)
 }

@@ -1,8 +1,10 @@
-use Rattle.std.proofs.Common.{◌≡◌, ◌++◌, [], ap, ◌∙◌, rules, length, take, map}
+use Rattle.std.proofs.Common.{◌≡◌, ◌≤◌, ◌++◌, ℕ, List, [], ap, sym, subst, ◌∙◌, rules, arith, length, take, map}
 use Rattle.std.proofs.lemmas.List.{take_all}
-use Rattle.cluster_map.specs.RangeMap.{insert_entries}
+use Rattle.cluster_map.specs.RangeMap.{RangeEntry, insert_entries}
+use Rattle.cluster_map.specs.Shards.{ShardNodes}
 use Rattle.cluster_map.specs.Topology.{place_entry, place_entries}
-use Rattle.cluster_map.proofs.Filling.{AllPlaces, place_entries-more, all_places, place_below, left_below}
+use Rattle.cluster_map.specs.Inner.Topology.{AllPlaces}
+use Rattle.cluster_map.proofs.Filling.{place_entries-more, all_places, place_below, left_below}
 use Rattle.cluster_map.proofs.read_routing.cluster_topology.ClusterTopology.from_shards.Goals as goal
 
 pub loop-place-preserved : goal.loop-place-preserved
@@ -12,9 +14,22 @@ loop-place-preserved c =
     ∙ ap (λ z. place_entries 0 (take c.loop-place.place c.args.shards.items) ++ map (place_entry c.loop-place.place) z) c.slot_ranges.ensures
     ∙ place_entries-more c.args.shards.items c.loop-place.place c.index-shard.result.now (search rules) c.index-shard.ensures
 
+-- the ranges of all shards are put in, once each shard was gone over
+put_all : (ss : List ShardNodes) (n : ℕ) (before entries after : List (RangeEntry ℕ)) → entries ≡ place_entries 0 (take n ss) → length ss ≤ n → before ≡ [] → after ≡ insert_entries before entries → after ≡ insert_entries [] (place_entries 0 ss)
+put_all ss n before entries after is past none put =
+    put ∙ ap (λ z. insert_entries z entries) none ∙ ap (insert_entries []) (is ∙ ap (place_entries 0) (take_all n ss past))
+
+pub first_places-requires : goal.first_places-requires
+first_places-requires c =
+    let shards = c.args.shards.items in
+    let all = put_all shards c.loop-place.place _ _ c.extend.new.self c.loop-place.invariant (search rules) c.new-ranges.ensures c.in_ok-extend.ensures.put in
+    let ok = c.args.shards.ok in
+    let count : c.len.result ≡ length shards = omega arith in
+    subst (λ n. AllPlaces n c.extend.new.self) (sym count) (rw all (all_places shards))
+
 pub invariant_of-result : goal.invariant_of-result
 invariant_of-result c =
-    let entries : c.loop-place.entries.items ≡ place_entries 0 c.args.shards.items = c.loop-place.invariant ∙ ap (place_entries 0) (take_all c.loop-place.place c.args.shards.items (search rules)) in
-    let all : c.extend.new.self ≡ insert_entries [] (place_entries 0 c.args.shards.items) = c.in_ok-extend.ensures.put ∙ ap (λ z. insert_entries z c.loop-place.entries.items) c.new-ranges.ensures ∙ ap (insert_entries []) entries in
-    let places : AllPlaces (length c.args.shards.items) c.extend.new.self = rw all (all_places c.args.shards.items) in
-    (c.in_ok-order.ensures, rw c.in_ok-order.ensures (left_below (length c.args.shards.items) c.extend.new.self places), place_below (length c.args.shards.items) c.extend.new.self places)
+    let shards = c.args.shards.items in
+    let all = put_all shards c.loop-place.place _ _ c.extend.new.self c.loop-place.invariant (search rules) c.new-ranges.ensures c.in_ok-extend.ensures.put in
+    let places : AllPlaces (length shards) c.extend.new.self = rw all (all_places shards) in
+    (c.in_ok-order.ensures, rw c.in_ok-order.ensures (left_below (length shards) c.extend.new.self places), place_below (length shards) c.extend.new.self places)
