@@ -2,6 +2,7 @@ pub mod Agree
 pub mod Arguments
 pub mod CommandNames
 pub mod NameSets
+pub mod NameSpots
 pub mod Patterns
 pub mod Placed
 pub mod RegisteredNames

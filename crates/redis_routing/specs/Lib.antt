@@ -20,6 +20,7 @@ pub mod Upper
 pub mod RouteBy
 pub mod Complete
 pub mod Groups
+pub mod Inner
 pub mod Laws
 pub mod Parts
 pub mod Routing

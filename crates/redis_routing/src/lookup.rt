@@ -36,7 +36,7 @@ fn row_of(places: &[u8], name: &[u8]) -> usize
 
 /// A number for a name by five of its bytes, by which a table tells its names apart. It is 0 for a
 /// name of fewer than three.
-fn name_hash(name: &[u8]) -> usize
+pub(super) fn name_hash(name: &[u8]) -> usize
     ensures { result ≡ name_hash name.now }
 {
     let len = name.len();

@@ -1,27 +1,51 @@
-ghost use Rattle.std.specs.Prelude.{◌≡◌, ℕ, List, [], ◌||◌, OnOk, OnErr};
+ghost use Rattle.std.specs.Prelude.{◌≡◌, ◌≢◌, ◌<◌, ◌≤◌, ◌++◌, ◌∷◌, ℕ, List, [], Some, length, slice_get, ◌||◌, OnOk, OnErr};
 ghost use Rattle.std.specs.Str.{bytes_eq};
 ghost use Rattle.redis_routing.specs.ReadOnly.{is_among};
 ghost use Rattle.redis_routing.specs.Upper.{upper};
+ghost use Rattle.redis_routing.specs.Inner.NameSpots.{spot_of, found_at};
 
+use super::lookup::name_hash;
 use super::upper_case::to_upper_case;
 use std::alloc::{AllocError, Global};
 use std::collections::BTreeSet;
 use std::marker::Model;
 
+/// How many spots there are.
+const SPOTS: usize = 1024;
+
+/// What stands at a free spot, and is no row.
+const FREE: u16 = u16::MAX;
+
+/// What its spot says of a name: that no name has it, that this one does, or that another does.
+enum Found {
+    Free,
+    Here,
+    Other,
+}
+
 /// The names of the commands that only read, whose keys a replica may serve.
 ///
 /// A command's name is looked up as `Routable::command` gives it, in upper case.
+///
+/// Five bytes of a name make its number, which gives it one of 1024 spots. The first name of a spot
+/// stands in the row that the spot tells, and further names of the spot in a tree. So a look-up
+/// mostly costs one comparison of names at most, and O(log n) at worst, whatever names are put in.
 #[derive(Drop)]
 pub struct ReadOnlyNames {
-    names: BTreeSet<Vec<u8>>,
+    rows: Vec<Vec<u8>>,
+    spots: Vec<u16>,
+    crowded: BTreeSet<Vec<u8>>,
 }
 
 impl Model for ReadOnlyNames {
-    ghost use Rattle.std.specs.Prelude.{ℕ, List, map};
+    ghost use Rattle.std.specs.Prelude.{ℕ, List, ◌++◌};
+    ghost use Rattle.redis_routing.specs.Inner.NameSpots.{names_of, HaveSpots};
 
     ghost Value = { List (List ℕ) };
 
-    ghost view = { λ set. map (λ name. name.items) set.names.keys };
+    ghost view = { λ set. names_of set.rows.items ++ names_of set.crowded.keys };
+
+    ghost invariant = { λ set. HaveSpots set.rows.items set.spots.items set.crowded.keys };
 }
 
 impl ReadOnlyNames {
@@ -30,7 +54,9 @@ impl ReadOnlyNames {
         ensures { result ≡ [] }
     {
         ReadOnlyNames {
-            names: BTreeSet::new(alloc),
+            rows: Vec::new(alloc),
+            spots: Vec::new(alloc),
+            crowded: BTreeSet::new(alloc),
         }
     }
 
@@ -44,14 +70,66 @@ impl ReadOnlyNames {
             → is_among self.new q ≡ (bytes_eq q (upper name.now) || is_among self.old q)) }
         ensures unchanged { OnErr result (self.new ≡ self.old) }
     {
-        self.names.insert(to_upper_case(alloc, name)?)?;
+        let name = to_upper_case(alloc, name)?;
+        match look_up(self.spots.as_slice(), self.rows.as_slice(), name.as_slice()) {
+            Found::Free => push_row(&mut self.rows, &mut self.spots, name)?,
+            Found::Here => {}
+            Found::Other => {
+                self.crowded.insert(name)?;
+            }
+        }
         Ok(())
     }
 
-    /// Whether these very bytes are one of the names. O(log n).
+    /// Whether these very bytes are one of the names. Mostly one comparison, at worst O(log n).
     pub fn contains(&self, name: &[u8]) -> bool
         ensures { result ≡ is_among self.now name.now }
     {
-        self.names.contains(name)
+        match look_up(self.spots.as_slice(), self.rows.as_slice(), name) {
+            Found::Free => false,
+            Found::Here => true,
+            Found::Other => self.crowded.contains(name),
+        }
     }
+}
+
+/// The spot of a name.
+fn spot_of(name: &[u8]) -> usize
+    ensures spot { result ≡ spot_of name.now }
+    ensures bound { result < SPOTS }
+{
+    name_hash(name) % SPOTS
+}
+
+/// What its spot says of a name.
+fn look_up(spots: &[u16], rows: &[Vec<u8>], name: &[u8]) -> Found
+    ensures { result ≡ found_at rows.now spots.now name.now }
+{
+    let Some(row) = spots.get(spot_of(name)) else {
+        return Found::Free;
+    };
+    match rows.get(usize::from(*row)) {
+        None => Found::Free,
+        Some(own) if own.as_slice() == name => Found::Here,
+        Some(_) => Found::Other,
+    }
+}
+
+/// Puts a name last among the rows, and its row at its spot, once there is room for both.
+fn push_row(rows: &mut Vec<Vec<u8>>, spots: &mut Vec<u16>, name: Vec<u8>) -> Result<(), AllocError>
+    requires { length rows.old.items ≤ SPOTS }
+    ensures pushed { OnOk result (rows.new.items ≡ rows.old.items ++ name ∷ []) }
+    ensures noted { OnOk result (slice_get spots.new.items (spot_of name.items)
+        ≡ Some (length rows.old.items)) }
+    ensures others { OnOk result ((spot row : ℕ) → spot < SPOTS → spot ≢ spot_of name.items
+        → slice_get spots.old.items spot ≡ Some row → slice_get spots.new.items spot ≡ Some row) }
+    ensures few { OnOk result (length spots.new.items ≤ SPOTS) }
+    ensures rows { OnErr result (rows.new.items ≡ rows.old.items) }
+    ensures spots { OnErr result (spots.new.items ≡ spots.old.items) }
+{
+    rows.reserve(1)?;
+    spots.resize(SPOTS, FREE)?;
+    spots[spot_of(name.as_slice())] = rows.len() as u16;
+    rows.push_reserved(name);
+    Ok(())
 }
