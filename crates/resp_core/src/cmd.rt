@@ -34,9 +34,10 @@ impl Model for Cmd {
     ghost invariant = { λ c. AreItemsAt 0 c.ends.items c.bytes.items };
 }
 
-/// How many arguments a short command has, and how many bytes they have together.
+/// For how many arguments the first one makes room.
 const SHORT_ARGS: usize = 4;
 
+/// For how many bytes the first argument makes room.
 const SHORT_BYTES: usize = 32;
 
 impl Cmd {
@@ -98,7 +99,7 @@ impl Cmd {
         ensures unchanged { OnErr result (self.new ≡ self.old) }
     {
         if self.ends.len() == self.ends.capacity() {
-            make_room(&mut self.ends, &mut self.bytes)?;
+            make_room(&mut self.ends, &mut self.bytes, arg.len())?;
         }
         self.bytes.extend_from_slice(arg)?;
         self.ends.push_reserved(self.bytes.len());
@@ -142,10 +143,10 @@ impl Cmd {
     }
 }
 
-/// Makes room for the end of one more argument. The first time it is room for a short command, so
-/// that such a command takes memory twice.
+/// Makes room for the end of one more argument. The first time it makes room for a short command, or
+/// for the argument's bytes where these are more, so that such a command asks for memory twice.
 #[cold]
-fn make_room(ends: &mut Vec<usize>, bytes: &mut Vec<u8>) -> Result<(), AllocError>
+fn make_room(ends: &mut Vec<usize>, bytes: &mut Vec<u8>, len: usize) -> Result<(), AllocError>
     ensures ends { ends.new.items ≡ ends.old.items }
     ensures bytes { bytes.new.items ≡ bytes.old.items }
     ensures room { OnOk result (vec_len ends.new < vec_capacity ends.new) }
@@ -153,7 +154,7 @@ fn make_room(ends: &mut Vec<usize>, bytes: &mut Vec<u8>) -> Result<(), AllocErro
     if !ends.is_empty() {
         return ends.reserve(1);
     }
-    bytes.reserve(SHORT_BYTES)?;
+    bytes.reserve(SHORT_BYTES.max(len))?;
     ends.reserve(SHORT_ARGS)
 }
 

@@ -18,8 +18,8 @@ use std::alloc::{AllocError, Global};
 ///
 /// However deep the tree is, to drop, clone or compare it takes no more stack. To drop it takes no
 /// memory either, and to clone it memory for the copy and for lists of what is under way. To
-/// compare it takes no memory down to 32 levels, and a list of the arrays and maps that lie deeper.
-/// Where there is no memory for that list, `==` recurses. `Debug` recurses.
+/// compare it takes no memory down to 32 levels, and a list for each array or map of level 33 that
+/// has others inside. Where there is no memory for such a list, `==` recurses. `Debug` recurses.
 ///
 /// ```
 /// let not_a_count = (ErrorKind::UnexpectedReturnType, "the reply is not a count");
@@ -138,7 +138,7 @@ impl Clone for Value {
 }
 
 /// Down to how many levels arrays and maps are copied and compared by recursion. What lies deeper is
-/// gone over without, so that the stack does not grow with a value's depth.
+/// gone over by lists, so that the stack does not grow with a value's depth.
 const RECURSED_LEVELS: u8 = 32;
 
 #[cycle(copy)]
@@ -200,8 +200,21 @@ impl Eq for Value {
     ghost laws = { on_equiv view same_reply-equivalence };
 }
 
-/// Whether two values are equal. Where no level is left, arrays and maps are compared by a list, or
-/// without memory for that list, by recursion over levels anew.
+/// Levels without end, once there was no memory for a list. None is asked for again inside, so that
+/// nothing is gone over more than twice.
+const ALL_LEVELS: u8 = u8::MAX;
+
+/// How many levels are left inside an array or a map.
+fn levels_inside(levels: u8) -> u8 {
+    if levels == 0 || levels == ALL_LEVELS {
+        ALL_LEVELS
+    } else {
+        levels - 1
+    }
+}
+
+/// Whether two values are equal. Where no level is left, arrays and maps are compared by a list.
+/// Without memory for that list they are compared by recursion.
 #[cycle(same)]
 fn same_value(a: &Value, b: &Value, levels: u8) -> bool
     ensures { IsTrue result ↔ (view a.now ≡ view b.now) }
@@ -210,12 +223,12 @@ fn same_value(a: &Value, b: &Value, levels: u8) -> bool
         (Value::Array(xs), Value::Array(ys)) => {
             match same_if_deep(*xs.allocator(), a, b, levels) {
                 Some(same) => same,
-                None => same_items(xs, ys, levels.wrapping_sub(1)),
+                None => same_items(xs, ys, levels_inside(levels)),
             }
         }
         (Value::Map(xs), Value::Map(ys)) => match same_if_deep(*xs.allocator(), a, b, levels) {
             Some(same) => same,
-            None => same_pairs(xs, ys, levels.wrapping_sub(1)),
+            None => same_pairs(xs, ys, levels_inside(levels)),
         },
         _ => same_flat(a, b),
     }
@@ -229,10 +242,7 @@ fn same_if_deep(alloc: Global, a: &Value, b: &Value, levels: u8) -> Option<bool>
     if levels > 0 {
         return None;
     }
-    match same_by_list(alloc, a, b) {
-        Ok(same) => Some(same),
-        Err(_) => None,
-    }
+    same_by_list(alloc, a, b).ok()
 }
 
 #[cycle(same)]
@@ -243,6 +253,7 @@ fn same_items(xs: &[Value], ys: &[Value], levels: u8) -> bool
         return false;
     }
     for (x, y) in xs.iter().zip(ys) {
+        // In line, as in `copy_items`.
         let same = if x.is_flat() {
             same_flat(x, y)
         } else {

@@ -10,7 +10,7 @@ ghost use Rattle.resp_core.specs.Waiting.{AreSame, steps_waiting};
 use super::Value;
 use std::alloc::{AllocError, Global};
 
-/// Whether two values are equal, of which not both are arrays and not both are maps.
+/// Whether two values are equal, where the first has no value inside or the two differ.
 #[inline(always)]
 pub(super) fn same_flat(a: &Value, b: &Value) -> bool
     requires { IsFlat (view a.now) ⊎ ¬ (view a.now ≡ view b.now) }
