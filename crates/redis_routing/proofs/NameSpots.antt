@@ -8,7 +8,7 @@ use Rattle.std.proofs.lemmas.Map.Steps.{le-length_from_below}
 use Rattle.std.proofs.lemmas.List.Folds.{list_any-append}
 use Rattle.std.proofs.lemmas.Slice.Eq.{bytes_eq-Decides}
 use Rattle.redis_routing.specs.ReadOnly.{is_among}
-use Rattle.redis_routing.specs.Inner.NameSpots.{names_of, spot_of, own_of, own_at, found, found_at, HaveSpots}
+use Rattle.redis_routing.specs.Inner.NameSpots.{bytes_of, spot_of, holder_of, holder_at, found, found_at, HaveSpots}
 use Rattle.redis_routing.specs.declared.read_only.Found.{Found}
 use Rattle.redis_routing.specs.declared.read_only.Found.TheVariants.{Free, Here, Other}
 use Rattle.redis_routing.specs.declared.read_only.TheConstants.{SPOTS}
@@ -33,20 +33,20 @@ or_neither false b h = refl
 
 -- of rows and their names
 
-row_among : (rows : List (Vec ℕ Global)) (row : ℕ) (own : Vec ℕ Global) (q : List ℕ) → slice_get rows row ≡ Some own → own.items ≡ q → is_among (names_of rows) q ≡ true
+row_among : (rows : List (Vec ℕ Global)) (row : ℕ) (own : Vec ℕ Global) (q : List ℕ) → slice_get rows row ≡ Some own → own.items ≡ q → is_among (bytes_of rows) q ≡ true
 row_among [] row own q got same = cc
 row_among (n ∷ rows) zero own q got same =
     let one : n ≡ own = cc in
-    or_first (bytes_eq q n.items) (is_among (names_of rows) q) ((bytes_eq-Decides q n.items).1 (sym same ∙ sym (ap (λ z. z.items) one)))
+    or_first (bytes_eq q n.items) (is_among (bytes_of rows) q) ((bytes_eq-Decides q n.items).1 (sym same ∙ sym (ap (λ z. z.items) one)))
 row_among (n ∷ rows) (suc row) own q got same = by_test (bytes_eq q n.items)
-    (λ t. or_first (bytes_eq q n.items) (is_among (names_of rows) q) t)
-    (λ t. or_neither (bytes_eq q n.items) (is_among (names_of rows) q) t ∙ row_among rows row own q got same)
+    (λ t. or_first (bytes_eq q n.items) (is_among (bytes_of rows) q) t)
+    (λ t. or_neither (bytes_eq q n.items) (is_among (bytes_of rows) q) t ∙ row_among rows row own q got same)
 
-among_row : (rows : List (Vec ℕ Global)) (q : List ℕ) → is_among (names_of rows) q ≡ true → (row : ℕ) × (own : Vec ℕ Global) × (slice_get rows row ≡ Some own) × (own.items ≡ q)
+among_row : (rows : List (Vec ℕ Global)) (q : List ℕ) → is_among (bytes_of rows) q ≡ true → (row : ℕ) × (own : Vec ℕ Global) × (slice_get rows row ≡ Some own) × (own.items ≡ q)
 among_row [] q h = cc
 among_row (n ∷ rows) q h = by_test (bytes_eq q n.items)
     (λ t. (0, n, refl, sym ((bytes_eq-Decides q n.items).0 t)))
-    (λ t. let (row, own, got, same) = among_row rows q (or_rest (bytes_eq q n.items) (is_among (names_of rows) q) h t) in (suc row, own, got, same))
+    (λ t. let (row, own, got, same) = among_row rows q (or_rest (bytes_eq q n.items) (is_among (bytes_of rows) q) h t) in (suc row, own, got, same))
 
 got_still : (rows : List (Vec ℕ Global)) (name own : Vec ℕ Global) (row : ℕ) → slice_get rows row ≡ Some own → slice_get (rows ++ name ∷ []) row ≡ Some own
 got_still [] name own row h = cc
@@ -88,14 +88,14 @@ found_here name (Some own) h = by_test (bytes_eq own.items name)
 is_here : (name : List ℕ) (own : Vec ℕ Global) → own.items ≡ name → found name (Some own) ≡ Here
 is_here name own same = rw ((bytes_eq-Decides own.items name).1 same) refl
 
-own_told : (rows : List (Vec ℕ Global)) (spot : Option ℕ) → own_of rows spot ≢ None → (row : ℕ) × (own : Vec ℕ Global) × (spot ≡ Some row) × (slice_get rows row ≡ Some own)
+own_told : (rows : List (Vec ℕ Global)) (spot : Option ℕ) → holder_of rows spot ≢ None → (row : ℕ) × (own : Vec ℕ Global) × (spot ≡ Some row) × (slice_get rows row ≡ Some own)
 own_told rows None h = absurd (h refl)
 own_told rows (Some row) h = by_option (slice_get rows row)
     (λ none. absurd (h none))
     (λ own got. (row, own, refl, got))
 
-own_row : (rows : List (Vec ℕ Global)) (spots : List ℕ) (q : List ℕ) (row : ℕ) (own : Vec ℕ Global) → slice_get spots (spot_of q) ≡ Some row → slice_get rows row ≡ Some own → own_at rows spots q ≡ Some own
-own_row rows spots q row own told got = ap (own_of rows) told ∙ got
+own_row : (rows : List (Vec ℕ Global)) (spots : List ℕ) (q : List ℕ) (row : ℕ) (own : Vec ℕ Global) → slice_get spots (spot_of q) ≡ Some row → slice_get rows row ≡ Some own → holder_at rows spots q ≡ Some own
+own_row rows spots q row own told got = ap (holder_of rows) told ∙ got
 
 -- what a look-up says of the names
 
@@ -103,31 +103,31 @@ pub said : (rows rows' : List (Vec ℕ Global)) (spots spots' : List ℕ) (q q' 
 said rows rows' spots spots' q q' f g of_rows of_spots of_name is same =
     sym (ap (λ z. found_at z spots q) of_rows) ∙ sym (ap (λ z. found_at rows' z q) of_spots) ∙ sym (ap (found_at rows' spots') of_name) ∙ sym is ∙ same
 
-not_in_rows : (rows : List (Vec ℕ Global)) (spots : List ℕ) (crowded : List (Vec ℕ Global)) → HaveSpots rows spots crowded → (q : List ℕ) → found_at rows spots q ≢ Here → is_among (names_of rows) q ≡ false
-not_in_rows rows spots crowded have q h = by_test (is_among (names_of rows) q)
+not_in_rows : (rows : List (Vec ℕ Global)) (spots : List ℕ) (crowded : List (Vec ℕ Global)) → HaveSpots rows spots crowded → (q : List ℕ) → found_at rows spots q ≢ Here → is_among (bytes_of rows) q ≡ false
+not_in_rows rows spots crowded have q h = by_test (is_among (bytes_of rows) q)
     (λ t. let (row, own, got, same) = among_row rows q t in
     let told : slice_get spots (spot_of q) ≡ Some row = ap (λ z. slice_get spots (spot_of z)) (sym same) ∙ have.each row own got in
     absurd (h (ap (found q) (own_row rows spots q row own told got) ∙ is_here q own same)))
     (λ t. t)
 
-here_told : (rows : List (Vec ℕ Global)) (q : List ℕ) (spot : Option ℕ) → found q (own_of rows spot) ≡ Here → is_among (names_of rows) q ≡ true
+here_told : (rows : List (Vec ℕ Global)) (q : List ℕ) (spot : Option ℕ) → found q (holder_of rows spot) ≡ Here → is_among (bytes_of rows) q ≡ true
 here_told rows q None h = cc
 here_told rows q (Some row) h =
     let (own, got, same) = found_here q (slice_get rows row) h in row_among rows row own q got same
 
-pub here_among : (rows : List (Vec ℕ Global)) (spots : List ℕ) (crowded : List (Vec ℕ Global)) (q : List ℕ) → found_at rows spots q ≡ Here → is_among (names_of rows ++ names_of crowded) q ≡ true
+pub here_among : (rows : List (Vec ℕ Global)) (spots : List ℕ) (crowded : List (Vec ℕ Global)) (q : List ℕ) → found_at rows spots q ≡ Here → is_among (bytes_of rows ++ bytes_of crowded) q ≡ true
 here_among rows spots crowded q h =
-    list_any-append (bytes_eq q) (names_of rows) (names_of crowded)
-    ∙ or_first (is_among (names_of rows) q) (is_among (names_of crowded) q) (here_told rows q (slice_get spots (spot_of q)) h)
+    list_any-append (bytes_eq q) (bytes_of rows) (bytes_of crowded)
+    ∙ or_first (is_among (bytes_of rows) q) (is_among (bytes_of crowded) q) (here_told rows q (slice_get spots (spot_of q)) h)
 
-pub other_among : (rows : List (Vec ℕ Global)) (spots : List ℕ) (crowded : List (Vec ℕ Global)) → HaveSpots rows spots crowded → (q : List ℕ) → found_at rows spots q ≢ Here → is_among (names_of rows ++ names_of crowded) q ≡ is_among (names_of crowded) q
+pub other_among : (rows : List (Vec ℕ Global)) (spots : List ℕ) (crowded : List (Vec ℕ Global)) → HaveSpots rows spots crowded → (q : List ℕ) → found_at rows spots q ≢ Here → is_among (bytes_of rows ++ bytes_of crowded) q ≡ is_among (bytes_of crowded) q
 other_among rows spots crowded have q h =
-    list_any-append (bytes_eq q) (names_of rows) (names_of crowded) ∙ or_neither (is_among (names_of rows) q) (is_among (names_of crowded) q) (not_in_rows rows spots crowded have q h)
+    list_any-append (bytes_eq q) (bytes_of rows) (bytes_of crowded) ∙ or_neither (is_among (bytes_of rows) q) (is_among (bytes_of crowded) q) (not_in_rows rows spots crowded have q h)
 
-pub free_among : (rows : List (Vec ℕ Global)) (spots : List ℕ) (crowded : List (Vec ℕ Global)) → HaveSpots rows spots crowded → (q : List ℕ) → found_at rows spots q ≡ Free → is_among (names_of rows ++ names_of crowded) q ≡ false
+pub free_among : (rows : List (Vec ℕ Global)) (spots : List ℕ) (crowded : List (Vec ℕ Global)) → HaveSpots rows spots crowded → (q : List ℕ) → found_at rows spots q ≡ Free → is_among (bytes_of rows ++ bytes_of crowded) q ≡ false
 free_among rows spots crowded have q h =
     other_among rows spots crowded have q (λ here. let no : Free ≡ Here = sym h ∙ here in cc)
-    ∙ by_test (is_among (names_of crowded) q) (λ t. absurd (have.taken q t (found_free q (own_at rows spots q) h))) (λ t. t)
+    ∙ by_test (is_among (bytes_of crowded) q) (λ t. absurd (have.taken q t (found_free q (holder_at rows spots q) h))) (λ t. t)
 
 -- each row is told by a spot, so there are no more than spots
 number_told : (spots : List ℕ) (spot row : ℕ) → slice_get spots spot ≡ Some row → list_any (eqb row) spots ≡ true
@@ -153,21 +153,21 @@ known_among names items name known spelt q = by_test (bytes_eq q name)
     (λ t. rw t (ap (is_among names) ((bytes_eq-Decides q name).0 t ∙ sym spelt) ∙ known))
     (λ t. rw t refl)
 
-pub crowded_among : (rows crowded after : List (Vec ℕ Global)) (k : Vec ℕ Global) (name : List ℕ) → after ≡ insert_key by_items crowded k → k.items ≡ name → (q : List ℕ) → is_among (names_of rows ++ names_of after) q ≡ (bytes_eq q name || is_among (names_of rows ++ names_of crowded) q)
+pub crowded_among : (rows crowded after : List (Vec ℕ Global)) (k : Vec ℕ Global) (name : List ℕ) → after ≡ insert_key by_items crowded k → k.items ≡ name → (q : List ℕ) → is_among (bytes_of rows ++ bytes_of after) q ≡ (bytes_eq q name || is_among (bytes_of rows ++ bytes_of crowded) q)
 crowded_among [] crowded after k name keys items q = among-insert q name k crowded after keys items
 crowded_among (n ∷ rows) crowded after k name keys items q =
     ap (λ b. bytes_eq q n.items || b) (crowded_among rows crowded after k name keys items q)
-    ∙ or_swap (bytes_eq q n.items) (bytes_eq q name) (is_among (names_of rows ++ names_of crowded) q)
+    ∙ or_swap (bytes_eq q n.items) (bytes_eq q name) (is_among (bytes_of rows ++ bytes_of crowded) q)
 
 -- what another name has is not the spot of a name that none has
-apart : (rows : List (Vec ℕ Global)) (spots : List ℕ) (name q : List ℕ) (row : ℕ) (own : Vec ℕ Global) → own_at rows spots name ≡ None → slice_get spots (spot_of q) ≡ Some row → slice_get rows row ≡ Some own → spot_of q ≢ spot_of name
+apart : (rows : List (Vec ℕ Global)) (spots : List ℕ) (name q : List ℕ) (row : ℕ) (own : Vec ℕ Global) → holder_at rows spots name ≡ None → slice_get spots (spot_of q) ≡ Some row → slice_get rows row ≡ Some own → spot_of q ≢ spot_of name
 apart rows spots name q row own none told got same =
     let no : None ≡ Some own = sym none ∙ own_row rows spots name row own (ap (slice_get spots) (sym same) ∙ told) got in cc
 
 pub have_pushed : (rows rows' : List (Vec ℕ Global)) (spots spots' : List ℕ) (crowded : List (Vec ℕ Global)) → HaveSpots rows spots crowded → (name : Vec ℕ Global) → found_at rows spots name.items ≡ Free → rows' ≡ rows ++ name ∷ [] → slice_get spots' (spot_of name.items) ≡ Some (length rows) → length spots' ≤ SPOTS
     → ((spot row : ℕ) → spot < SPOTS → spot ≢ spot_of name.items → slice_get spots spot ≡ Some row → slice_get spots' spot ≡ Some row) → HaveSpots rows' spots' crowded
 have_pushed rows rows' spots spots' crowded have name free pushed noted few others =
-    let none = found_free name.items (own_at rows spots name.items) free in
+    let none = found_free name.items (holder_at rows spots name.items) free in
     let kept = λ (q : List ℕ) (row : ℕ) (own : Vec ℕ Global) (told : slice_get spots (spot_of q) ≡ Some row) (got : slice_get rows row ≡ Some own). others (spot_of q) row (spot_within q) (apart rows spots name.items q row own none told got) told in
     record {
       few = few;
@@ -177,7 +177,7 @@ have_pushed rows rows' spots spots' crowded have name free pushed noted few othe
       ];
       taken = λ q there nobody.
           let (row, own, told, got) = own_told rows (slice_get spots (spot_of q)) (have.taken q there) in
-          let still : own_at rows' spots' q ≡ Some own = own_row rows' spots' q row own (kept q row own told got) (ap (λ z. slice_get z row) pushed ∙ got_still rows name own row got) in
+          let still : holder_at rows' spots' q ≡ Some own = own_row rows' spots' q row own (kept q row own told got) (ap (λ z. slice_get z row) pushed ∙ got_still rows name own row got) in
           let no : None ≡ Some own = sym nobody ∙ still in cc;
     }
 
@@ -186,7 +186,7 @@ have_crowded rows spots crowded after have name other keys = record {
   few = have.few;
   each = have.each;
   taken = λ q there. by_test (bytes_eq q name.items)
-      (λ t. λ nobody. let at : own_at rows spots name.items ≡ None = ap (own_at rows spots) (sym ((bytes_eq-Decides q name.items).0 t)) ∙ nobody in
+      (λ t. λ nobody. let at : holder_at rows spots name.items ≡ None = ap (holder_at rows spots) (sym ((bytes_eq-Decides q name.items).0 t)) ∙ nobody in
       let no : Free ≡ Other = sym (ap (found name.items) at) ∙ other in cc)
-      (λ t. have.taken q (or_rest (bytes_eq q name.items) (is_among (names_of crowded) q) (sym (among-insert q name.items name crowded after keys refl) ∙ there) t));
+      (λ t. have.taken q (or_rest (bytes_eq q name.items) (is_among (bytes_of crowded) q) (sym (among-insert q name.items name crowded after keys refl) ∙ there) t));
 }

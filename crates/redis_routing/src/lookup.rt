@@ -34,8 +34,8 @@ fn row_of(places: &[u8], name: &[u8]) -> usize
     usize::from(places[name_hash(name) % places.len()])
 }
 
-/// A number for a name by five of its bytes, by which a table tells its names apart. It is 0 for a
-/// name of fewer than three.
+/// A number for a name by five of its bytes, by which a table or a set finds it. It is 0 for a name
+/// of fewer than three.
 pub(super) fn name_hash(name: &[u8]) -> usize
     ensures { result ≡ name_hash name.now }
 {
@@ -43,10 +43,11 @@ pub(super) fn name_hash(name: &[u8]) -> usize
     if len < 3 {
         return 0;
     }
-    let front = usize::from(name[len.saturating_sub(7)]) * 4 + usize::from(name[0]);
-    let middle = front * 15 + usize::from(name[(len - 3) / 2]);
-    let end = middle * 9 + usize::from(name[len - 1]);
-    end * 33 + usize::from(name[len - 3])
+    // Each factor is a shift or two. By these all names of the tables differ.
+    let two = usize::from(name[len.saturating_sub(7)]) * 4 + usize::from(name[0]);
+    let three = two * 15 + usize::from(name[(len - 3) / 2]);
+    let four = three * 9 + usize::from(name[len - 1]);
+    four * 33 + usize::from(name[len - 3])
 }
 
 /// What stands beside the name in a table of a few rows, which are gone over one by one.

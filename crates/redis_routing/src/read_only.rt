@@ -10,7 +10,7 @@ use std::alloc::{AllocError, Global};
 use std::collections::BTreeSet;
 use std::marker::Model;
 
-/// How many spots there are.
+/// How many spots a set has.
 const SPOTS: usize = 1024;
 
 /// What stands at a free spot, and is no row.
@@ -28,8 +28,8 @@ enum Found {
 /// A command's name is looked up as `Routable::command` gives it, in upper case.
 ///
 /// Five bytes of a name make its number, which gives it one of 1024 spots. The first name of a spot
-/// stands in the row that the spot tells, and further names of the spot in a tree. So a look-up
-/// mostly costs one comparison of names at most, and O(log n) at worst, whatever names are put in.
+/// stands in a row that the spot tells, and further names of the spot in a tree. So a look-up mostly
+/// compares one name or none, and costs O(log n) at worst, whatever names are put in.
 #[derive(Drop)]
 pub struct ReadOnlyNames {
     rows: Vec<Vec<u8>>,
@@ -39,11 +39,11 @@ pub struct ReadOnlyNames {
 
 impl Model for ReadOnlyNames {
     ghost use Rattle.std.specs.Prelude.{ℕ, List, ◌++◌};
-    ghost use Rattle.redis_routing.specs.Inner.NameSpots.{names_of, HaveSpots};
+    ghost use Rattle.redis_routing.specs.Inner.NameSpots.{bytes_of, HaveSpots};
 
     ghost Value = { List (List ℕ) };
 
-    ghost view = { λ set. names_of set.rows.items ++ names_of set.crowded.keys };
+    ghost view = { λ set. bytes_of set.rows.items ++ bytes_of set.crowded.keys };
 
     ghost invariant = { λ set. HaveSpots set.rows.items set.spots.items set.crowded.keys };
 }
@@ -71,7 +71,7 @@ impl ReadOnlyNames {
         ensures unchanged { OnErr result (self.new ≡ self.old) }
     {
         let name = to_upper_case(alloc, name)?;
-        match look_up(self.spots.as_slice(), self.rows.as_slice(), name.as_slice()) {
+        match find_spot(self.rows.as_slice(), self.spots.as_slice(), name.as_slice()) {
             Found::Free => push_row(&mut self.rows, &mut self.spots, name)?,
             Found::Here => {}
             Found::Other => {
@@ -81,11 +81,11 @@ impl ReadOnlyNames {
         Ok(())
     }
 
-    /// Whether these very bytes are one of the names. Mostly one comparison, at worst O(log n).
+    /// Whether these very bytes are one of the names. Mostly one comparison or none, at worst O(log n).
     pub fn contains(&self, name: &[u8]) -> bool
         ensures { result ≡ is_among self.now name.now }
     {
-        match look_up(self.spots.as_slice(), self.rows.as_slice(), name) {
+        match find_spot(self.rows.as_slice(), self.spots.as_slice(), name) {
             Found::Free => false,
             Found::Here => true,
             Found::Other => self.crowded.contains(name),
@@ -102,7 +102,7 @@ fn spot_of(name: &[u8]) -> usize
 }
 
 /// What its spot says of a name.
-fn look_up(spots: &[u16], rows: &[Vec<u8>], name: &[u8]) -> Found
+fn find_spot(rows: &[Vec<u8>], spots: &[u16], name: &[u8]) -> Found
     ensures { result ≡ found_at rows.now spots.now name.now }
 {
     let Some(row) = spots.get(spot_of(name)) else {
@@ -110,7 +110,7 @@ fn look_up(spots: &[u16], rows: &[Vec<u8>], name: &[u8]) -> Found
     };
     match rows.get(usize::from(*row)) {
         None => Found::Free,
-        Some(own) if own.as_slice() == name => Found::Here,
+        Some(holder) if holder.as_slice() == name => Found::Here,
         Some(_) => Found::Other,
     }
 }

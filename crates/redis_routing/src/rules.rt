@@ -111,6 +111,7 @@ fn for_command<R: Routable>(
         (R.args command.now)) }
 {
     let mut room = [0; ROOM];
+    // One call for both names, so that the route is made in place and not copied.
     let short = short_name(command, &mut room);
     let long = match short {
         Some(_) => None,

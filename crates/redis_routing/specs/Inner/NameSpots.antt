@@ -9,21 +9,21 @@ use Rattle.redis_routing.specs.declared.read_only.Found.TheVariants.{Free, Here,
 use Rattle.redis_routing.specs.declared.read_only.TheConstants.{SPOTS}
 
 -- the names as their bytes
-abbrev pub names_of : List (Vec ℕ Global) → List (List ℕ)
-names_of rows = map (λ name. name.items) rows
+abbrev pub bytes_of : List (Vec ℕ Global) → List (List ℕ)
+bytes_of rows = map (λ name. name.items) rows
 
 -- the spot of a name
 unfoldable pub spot_of : List ℕ → ℕ
 spot_of name = name_hash name % SPOTS
 
 -- the name in the row that a spot tells
-abbrev pub own_of : List (Vec ℕ Global) → Option ℕ → Option (Vec ℕ Global)
-own_of rows None = None
-own_of rows (Some row) = slice_get rows row
+abbrev pub holder_of : List (Vec ℕ Global) → Option ℕ → Option (Vec ℕ Global)
+holder_of rows None = None
+holder_of rows (Some row) = slice_get rows row
 
 -- the name that has the spot of a name
-abbrev pub own_at : List (Vec ℕ Global) → List ℕ → List ℕ → Option (Vec ℕ Global)
-own_at rows spots name = own_of rows (slice_get spots (spot_of name))
+abbrev pub holder_at : List (Vec ℕ Global) → List ℕ → List ℕ → Option (Vec ℕ Global)
+holder_at rows spots name = holder_of rows (slice_get spots (spot_of name))
 
 -- what the name that has its spot says of a name
 abbrev pub found : List ℕ → Option (Vec ℕ Global) → Found
@@ -32,7 +32,7 @@ found name (Some own) = cond (bytes_eq own.items name) Here Other
 
 -- what its spot says of a name
 abbrev pub found_at : List (Vec ℕ Global) → List ℕ → List ℕ → Found
-found_at rows spots name = found name (own_at rows spots name)
+found_at rows spots name = found name (holder_at rows spots name)
 
 -- the spots are no more than so many, the name of each row has its spot, and some name has the spot of each name in the
 -- tree
@@ -40,4 +40,4 @@ pub record HaveSpots (rows : List (Vec ℕ Global)) (spots : List ℕ) (crowded 
   pub few : length spots ≤ SPOTS
   pub each : (row : ℕ) (name : Vec ℕ Global) → slice_get rows row ≡ Some name
       → slice_get spots (spot_of name.items) ≡ Some row
-  pub taken : (name : List ℕ) → is_among (names_of crowded) name ≡ true → own_at rows spots name ≢ None
+  pub taken : (name : List ℕ) → is_among (bytes_of crowded) name ≡ true → holder_at rows spots name ≢ None
