@@ -105,7 +105,7 @@ fn copy_places(places: &Vec<usize>) -> Result<Vec<usize>, AllocError>
     places.clone()
 }
 
-/// How many ranges the shards have. It is only room that is made for them.
+/// How many ranges the shards have. No contract: it only makes room.
 fn range_count(shards: &[Shard]) -> usize {
     let mut count = 0_usize;
     for shard in shards {
@@ -129,7 +129,7 @@ fn push_ranges(
     Ok(())
 }
 
-/// Each place once, by its first range. The places are below this number.
+/// Each place once, by its first range. Each is below `count`.
 fn first_places(
     alloc: Global,
     count: usize,
