@@ -139,10 +139,10 @@ impl Clone for Value {
 
 /// Down to how many levels arrays and maps are copied and compared by recursion. What lies deeper is
 /// gone over by lists, so that the stack does not grow with a value's depth.
-const RECURSED_LEVELS: u8 = 32;
+const RECURSED_LEVELS: usize = 32;
 
 #[cycle(copy)]
-fn copy_value(value: &Value, levels: u8) -> Result<Value, AllocError>
+fn copy_value(value: &Value, levels: usize) -> Result<Value, AllocError>
     ensures { IfOk result (λ copy. view copy ≡ view value.now) }
 {
     match value {
@@ -156,7 +156,7 @@ fn copy_value(value: &Value, levels: u8) -> Result<Value, AllocError>
 }
 
 #[cycle(copy)]
-fn copy_items(items: &Vec<Value>, levels: u8) -> Result<Vec<Value>, AllocError>
+fn copy_items(items: &Vec<Value>, levels: usize) -> Result<Vec<Value>, AllocError>
     ensures { IfOk result (λ copies. map view copies.items ≡ map view items.now.items) }
 {
     let mut copies = Vec::with_capacity(*items.allocator(), items.len())?;
@@ -173,7 +173,7 @@ fn copy_items(items: &Vec<Value>, levels: u8) -> Result<Vec<Value>, AllocError>
 }
 
 #[cycle(copy)]
-fn copy_pairs(items: &Vec<(Value, Value)>, levels: u8) -> Result<Vec<(Value, Value)>, AllocError>
+fn copy_pairs(items: &Vec<(Value, Value)>, levels: usize) -> Result<Vec<(Value, Value)>, AllocError>
     ensures { IfOk result (λ copies. map view_pair copies.items ≡ map view_pair items.now.items) }
 {
     let mut copies = Vec::with_capacity(*items.allocator(), items.len())?;
@@ -200,35 +200,24 @@ impl Eq for Value {
     ghost laws = { on_equiv view same_reply-equivalence };
 }
 
-/// Levels without end, once there was no memory for a list. None is asked for again inside, so that
-/// nothing is gone over more than twice.
-const ALL_LEVELS: u8 = u8::MAX;
-
-/// How many levels are left inside an array or a map.
-fn levels_inside(levels: u8) -> u8 {
-    if levels == 0 || levels == ALL_LEVELS {
-        ALL_LEVELS
-    } else {
-        levels - 1
-    }
-}
-
 /// Whether two values are equal. Where no level is left, arrays and maps are compared by a list.
-/// Without memory for that list they are compared by recursion.
+/// Without memory for that list they are compared by recursion. Then the levels start at their
+/// greatest number, so that no list is asked for again inside.
 #[cycle(same)]
-fn same_value(a: &Value, b: &Value, levels: u8) -> bool
+#[inline(always)]
+fn same_value(a: &Value, b: &Value, levels: usize) -> bool
     ensures { IsTrue result ↔ (view a.now ≡ view b.now) }
 {
     match (a, b) {
         (Value::Array(xs), Value::Array(ys)) => {
             match same_if_deep(*xs.allocator(), a, b, levels) {
                 Some(same) => same,
-                None => same_items(xs, ys, levels_inside(levels)),
+                None => same_items(xs, ys, levels.wrapping_sub(1)),
             }
         }
         (Value::Map(xs), Value::Map(ys)) => match same_if_deep(*xs.allocator(), a, b, levels) {
             Some(same) => same,
-            None => same_pairs(xs, ys, levels_inside(levels)),
+            None => same_pairs(xs, ys, levels.wrapping_sub(1)),
         },
         _ => same_flat(a, b),
     }
@@ -236,7 +225,7 @@ fn same_value(a: &Value, b: &Value, levels: u8) -> bool
 
 /// Whether two values are equal, by a list. `None` where a level is left, or no memory for the list.
 #[inline(always)]
-fn same_if_deep(alloc: Global, a: &Value, b: &Value, levels: u8) -> Option<bool>
+fn same_if_deep(alloc: Global, a: &Value, b: &Value, levels: usize) -> Option<bool>
     ensures { IfSome result (λ same. IsTrue same ↔ (view a.now ≡ view b.now)) }
 {
     if levels > 0 {
@@ -246,20 +235,14 @@ fn same_if_deep(alloc: Global, a: &Value, b: &Value, levels: u8) -> Option<bool>
 }
 
 #[cycle(same)]
-fn same_items(xs: &[Value], ys: &[Value], levels: u8) -> bool
+fn same_items(xs: &[Value], ys: &[Value], levels: usize) -> bool
     ensures { IsTrue result ↔ (map view xs.now ≡ map view ys.now) }
 {
     if xs.len() != ys.len() {
         return false;
     }
     for (x, y) in xs.iter().zip(ys) {
-        // In line, as in `copy_items`.
-        let same = if x.is_flat() {
-            same_flat(x, y)
-        } else {
-            same_value(x, y, levels)
-        };
-        if !same {
+        if !same_value(x, y, levels) {
             return false;
         }
     }
@@ -267,7 +250,7 @@ fn same_items(xs: &[Value], ys: &[Value], levels: u8) -> bool
 }
 
 #[cycle(same)]
-fn same_pairs(xs: &[(Value, Value)], ys: &[(Value, Value)], levels: u8) -> bool
+fn same_pairs(xs: &[(Value, Value)], ys: &[(Value, Value)], levels: usize) -> bool
     ensures { IsTrue result ↔ (map view_pair xs.now ≡ map view_pair ys.now) }
 {
     if xs.len() != ys.len() {

@@ -6,15 +6,12 @@ use Rattle.resp_core.specs.View.{view, view_pair}
 use Rattle.resp_core.proofs.SameItems.{differ_from_item}
 use Rattle.resp_core.proofs.Views.{Array-same, Map-same}
 use Rattle.resp_core.proofs.value.+same.Goals as goal
-use Rattle.resp_core.proofs.value.+same.Goals.{same_items-then-is_flat, same_items-else-is_flat, same_pairs-then-not-same_value-via-then-not-same_value, same_pairs-then-not-same_value-via-else-not-same_value+then-not-same_value-2}
+use Rattle.resp_core.proofs.value.+same.Goals.{same_pairs-then-not-same_value-via-then-not-same_value, same_pairs-then-not-same_value-via-else-not-same_value+then-not-same_value-2}
 
-pub same_items-returns-then-not-same : goal.same_items-returns-then-not-same
-same_items-returns-then-not-same t c =
+pub same_items-returns-then-not-same_value : goal.same_items-returns-then-not-same_value
+same_items-returns-then-not-same_value t c =
     let turn = zip_turn c.args.xs.now c.args.ys.now c.loop-x.yielded c.into_iter-x-iterator.result c.loop-x.x-iterator c.next.new.self _ (search rules) (search rules) c.loop-x.yielded_by _ c.in-Some.is c.next.ensures.steps in
-    let differ : view c.in-Some.x.now ≡ view c.in-Some.y.now → ⊥ = elim c.if-is_flat.branch [
-      | same_items-then-is_flat w ↦ not_from_Decides _ w.same_flat-same.ensures (sym w.same-is ∙ c.if-not-same.true)
-      | same_items-else-is_flat w ↦ not_from_Decides _ w.same_value-same.ensures (sym w.same-is ∙ c.if-not-same.true)
-    ] in
+    let differ : view c.in-Some.x.now ≡ view c.in-Some.y.now → ⊥ = not_from_Decides _ c.same_value.ensures c.if-not-same_value.true in
     (λ h. absurd (false≢true h), λ e. absurd (differ_from_item view _ _ _ _ _ turn differ e))
 
 pub same_pairs-returns-then-not-same_value : goal.same_pairs-returns-then-not-same_value
