@@ -71,7 +71,7 @@ impl ReadOnlyNames {
         ensures unchanged { OnErr result (self.new ≡ self.old) }
     {
         let name = to_upper_case(alloc, name)?;
-        match find_spot(self.rows.as_slice(), self.spots.as_slice(), name.as_slice()) {
+        match find_spot(&self.rows, &self.spots, &name) {
             Found::Free => push_row(&mut self.rows, &mut self.spots, name)?,
             Found::Here => {}
             Found::Other => {
@@ -85,7 +85,7 @@ impl ReadOnlyNames {
     pub fn contains(&self, name: &[u8]) -> bool
         ensures { result ≡ is_among self.now name.now }
     {
-        match find_spot(self.rows.as_slice(), self.spots.as_slice(), name) {
+        match find_spot(&self.rows, &self.spots, name) {
             Found::Free => false,
             Found::Here => true,
             Found::Other => self.crowded.contains(name),
@@ -129,7 +129,7 @@ fn push_row(rows: &mut Vec<Vec<u8>>, spots: &mut Vec<u16>, name: Vec<u8>) -> Res
 {
     rows.reserve(1)?;
     spots.resize(SPOTS, FREE)?;
-    spots[spot_of(name.as_slice())] = rows.len() as u16;
+    spots[spot_of(&name)] = rows.len() as u16;
     rows.push_reserved(name);
     Ok(())
 }

@@ -18,7 +18,7 @@ get_set_other (n ∷ xs) (suc place) (suc i) value h = get_set_other xs place i 
 
 pub returns-clause-others : goal.returns-clause-others
 returns-clause-others c = λ spot row within other told.
-    let at = c.spot_of.ensures.spot ∙ ap spot_of c.as_slice.ensures.value in
+    let at = c.spot_of.ensures.spot ∙ ap spot_of c.deref.ensures.value in
     get_set_other c.resize.new.self.items c.spot_of.result spot _ (λ same. other (same ∙ at))
     ∙ ap (λ z. slice_get z spot) c.in_ok-resize.ensures.items
     ∙ get_taken c.args.spots.now.items _ SPOTS spot row within told

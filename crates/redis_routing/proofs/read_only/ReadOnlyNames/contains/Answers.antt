@@ -5,17 +5,17 @@ use Rattle.redis_routing.proofs.read_only.ReadOnlyNames.contains.Goals as goal
 
 pub returns-in-Free : goal.returns-in-Free
 returns-in-Free c =
-    let free = said _ _ _ _ _ _ _ _ c.as_slice.ensures.value c.as_slice-2.ensures.value refl c.find_spot.ensures c.in-Free.is in
+    let free = said _ _ _ _ _ _ _ _ c.deref.ensures.value c.deref-2.ensures.value refl c.find_spot.ensures c.in-Free.is in
     rw (← c.self.view_is) (sym (free_among _ _ _ c.self.invariant _ free))
 
 pub returns-in-Here : goal.returns-in-Here
 returns-in-Here c =
-    let here = said _ _ _ _ _ _ _ _ c.as_slice.ensures.value c.as_slice-2.ensures.value refl c.find_spot.ensures c.in-Here.is in
+    let here = said _ _ _ _ _ _ _ _ c.deref.ensures.value c.deref-2.ensures.value refl c.find_spot.ensures c.in-Here.is in
     rw (← c.self.view_is) (sym (here_among _ _ _ _ here))
 
 pub returns-in-Other : goal.returns-in-Other
 returns-in-Other c =
-    let other = said _ _ _ _ _ _ _ _ c.as_slice.ensures.value c.as_slice-2.ensures.value refl c.find_spot.ensures c.in-Other.is in
+    let other = said _ _ _ _ _ _ _ _ c.deref.ensures.value c.deref-2.ensures.value refl c.find_spot.ensures c.in-Other.is in
     rw (← c.self.view_is)
     (c.contains.ensures ∙ among_keys c.args.name.now c.self.inside.crowded.keys
     ∙ sym (other_among _ _ _ c.self.invariant _ (λ here. let no = sym other ∙ here in cc)))
