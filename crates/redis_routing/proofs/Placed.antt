@@ -5,7 +5,7 @@ use Rattle.std.specs.Str.{bytes_eq}
 use Rattle.std.proofs.lemmas.List.{get_or_default}
 use Rattle.std.proofs.lemmas.Slice.Eq.{bytes_eq-Decides}
 use Rattle.redis_routing.specs.Lookup.{lookup_name, has_name}
-use Rattle.redis_routing.specs.Places.{row_of, stand_at_their_rows}
+use Rattle.redis_routing.specs.Places.{stand_at_their_rows}
 use Rattle.redis_routing.proofs.Search.{missing, missing_name}
 use Rattle.resp_core.proofs.Cases.{by_test, or_second}
 
@@ -42,20 +42,20 @@ module _ {X : Type 0} (key : X → List ℕ) (place : List ℕ → ℕ) where
       (λ equal. let here : place n ≡ o = ap place (sym ((bytes_eq-Decides (key x) n).0 equal)) ∙ first in absurd (omega arith))
       (λ unlike. rw unlike (found_from value xs n (o + 1) i d rest (omega arith) same))
 
-module _ {X : Type 0} (key : X → List ℕ) (places : List ℕ) where
-  standing : (xs : List X) → stand_at_their_rows places (map key xs) ≡ true → Stand key (row_of places) 0 xs
+module _ {X : Type 0} (key : X → List ℕ) (place : List ℕ → ℕ) where
+  standing : (xs : List X) → stand_at_their_rows place (map key xs) ≡ true → Stand key place 0 xs
   standing xs h = (bytes_eq-Decides _ _).0 h
 
   -- the name stands there
-  pub found_at_place : {A : Type 0} (value : X → A) (xs : List X) (n : List ℕ) (i : ℕ) (d : X) → stand_at_their_rows places (map key xs) ≡ true → i < length xs → bytes_eq (key (get_or xs i d)) n ≡ true → lookup_name (map (λ x. (key x, value x)) xs) n ≡ Some (value (get_or xs i d))
-  found_at_place value xs n i d h inside same = found_from key (row_of places) value xs n 0 i d (standing xs h) inside ((bytes_eq-Decides (key (get_or xs i d)) n).0 same)
+  pub found_at_place : {A : Type 0} (value : X → A) (xs : List X) (n : List ℕ) (i : ℕ) (d : X) → stand_at_their_rows place (map key xs) ≡ true → i < length xs → bytes_eq (key (get_or xs i d)) n ≡ true → lookup_name (map (λ x. (key x, value x)) xs) n ≡ Some (value (get_or xs i d))
+  found_at_place value xs n i d h inside same = found_from key place value xs n 0 i d (standing xs h) inside ((bytes_eq-Decides (key (get_or xs i d)) n).0 same)
 
   -- the name does not stand at its place
-  pub not_at_place : {A : Type 0} (value : X → A) (xs : List X) (n : List ℕ) (i : ℕ) → stand_at_their_rows places (map key xs) ≡ true → i ≡ row_of places n → ((d : X) → i < length xs → bytes_eq (key (get_or xs i d)) n ≡ false) → lookup_name (map (λ x. (key x, value x)) xs) n ≡ None
-  not_at_place value xs n i h is unlike = missing key value xs n (apart key (row_of places) xs n i (standing xs h) is unlike)
+  pub not_at_place : {A : Type 0} (value : X → A) (xs : List X) (n : List ℕ) (i : ℕ) → stand_at_their_rows place (map key xs) ≡ true → i ≡ place n → ((d : X) → i < length xs → bytes_eq (key (get_or xs i d)) n ≡ false) → lookup_name (map (λ x. (key x, value x)) xs) n ≡ None
+  not_at_place value xs n i h is unlike = missing key value xs n (apart key place xs n i (standing xs h) is unlike)
 
-  pub no_name_at_place : (xs : List X) (n : List ℕ) (i : ℕ) → stand_at_their_rows places (map key xs) ≡ true → i ≡ row_of places n → ((d : X) → i < length xs → bytes_eq (key (get_or xs i d)) n ≡ false) → has_name (map key xs) n ≡ false
-  no_name_at_place xs n i h is unlike = missing_name key xs n (apart key (row_of places) xs n i (standing xs h) is unlike)
+  pub no_name_at_place : (xs : List X) (n : List ℕ) (i : ℕ) → stand_at_their_rows place (map key xs) ≡ true → i ≡ place n → ((d : X) → i < length xs → bytes_eq (key (get_or xs i d)) n ≡ false) → has_name (map key xs) n ≡ false
+  no_name_at_place xs n i h is unlike = missing_name key xs n (apart key place xs n i (standing xs h) is unlike)
 
   name_at : (xs : List X) (n : List ℕ) (i : ℕ) (d : X) → i < length xs → bytes_eq (key (get_or xs i d)) n ≡ true → has_name (map key xs) n ≡ true
   name_at [] n i d inside same = absurd (omega arith)
@@ -63,6 +63,6 @@ module _ {X : Type 0} (key : X → List ℕ) (places : List ℕ) where
   name_at (x ∷ xs) n (suc i) d inside same = or_second (bytes_eq (key x) n) (has_name (map key xs) n) (name_at xs n i d (omega arith) same)
 
   -- whether a name stands at its place, by a test there
-  pub named_at_place : (xs : List X) (n : List ℕ) (i : ℕ) (d : X) (b : Bool) → stand_at_their_rows places (map key xs) ≡ true → i ≡ row_of places n → i < length xs → b ≡ bytes_eq (key (get_or xs i d)) n → b ≡ has_name (map key xs) n
+  pub named_at_place : (xs : List X) (n : List ℕ) (i : ℕ) (d : X) (b : Bool) → stand_at_their_rows place (map key xs) ≡ true → i ≡ place n → i < length xs → b ≡ bytes_eq (key (get_or xs i d)) n → b ≡ has_name (map key xs) n
   named_at_place xs n i d true h is inside test = sym (name_at xs n i d inside (sym test))
   named_at_place xs n i d false h is inside test = sym (no_name_at_place xs n i h is (λ e below. ap (λ x. bytes_eq (key x) n) (get_or_default xs i e d inside) ∙ sym test))

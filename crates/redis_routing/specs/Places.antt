@@ -11,10 +11,14 @@ name_hash name =
     + get_or name ((length name - 3) / 2) 0) * 9 + get_or name (length name - 1) 0) * 33
     + get_or name (length name - 3) 0)
 
--- the place that a list of places has for the name's number
-abbrev pub row_of : List ℕ → List ℕ → ℕ
-row_of places name = get_or places (name_hash name % length places) 0
+-- a number for a first word by two of its bytes
+abbrev pub word_hash : List ℕ → ℕ
+word_hash word = cond (nat_lt (length word) 2) 0 (get_or word 1 0 * 3 + get_or word (length word - 1) 0)
+
+-- the place that a list of places has for a number
+abbrev pub row_of : List ℕ → ℕ → ℕ
+row_of places number = get_or places (number % length places) 0
 
 -- whether each name stands at its place
-abbrev pub stand_at_their_rows : List ℕ → List (List ℕ) → Bool
-stand_at_their_rows places names = bytes_eq (map (row_of places) names) (range_with_len 0 (length names))
+abbrev pub stand_at_their_rows : (List ℕ → ℕ) → List (List ℕ) → Bool
+stand_at_their_rows place names = bytes_eq (map place names) (range_with_len 0 (length names))

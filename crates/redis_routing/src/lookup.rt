@@ -1,14 +1,15 @@
 ghost use Rattle.std.specs.Prelude.{◌≡◌, ◌<◌, map, true, length};
 ghost use Rattle.redis_routing.specs.Lookup.{lookup_name, has_name, ascends};
-ghost use Rattle.redis_routing.specs.Places.{name_hash, row_of, stand_at_their_rows};
+ghost use Rattle.redis_routing.specs.Places.{name_hash, word_hash, row_of, stand_at_their_rows};
 
 /// What stands beside the name in a table whose rows stand at the places of their names.
 pub(super) fn find<V: Copy>(rows: &[(&[u8], V)], places: &[u8], name: &[u8]) -> Option<V>
     requires some { 0 < length places.now }
-    requires placed { stand_at_their_rows places.now (map (λ row. row.0.now) rows.now) ≡ true }
+    requires placed { stand_at_their_rows (λ name. row_of places.now (name_hash name))
+        (map (λ row. row.0.now) rows.now) ≡ true }
     ensures { result ≡ lookup_name (map (λ row. (row.0.now, row.1)) rows.now) name.now }
 {
-    let place = row_of(places, name);
+    let place = row_of(places, name_hash(name));
     if place < rows.len() && rows[place].0 == name {
         Some(rows[place].1)
     } else {
@@ -16,22 +17,23 @@ pub(super) fn find<V: Copy>(rows: &[(&[u8], V)], places: &[u8], name: &[u8]) -> 
     }
 }
 
-/// Whether the name is one of these, which stand at their places.
-pub(super) fn is_placed(names: &[&[u8]], places: &[u8], name: &[u8]) -> bool
+/// Whether the word is one of these first words, which stand at their places.
+pub(super) fn is_placed(words: &[&[u8]], places: &[u8], word: &[u8]) -> bool
     requires some { 0 < length places.now }
-    requires placed { stand_at_their_rows places.now (map (λ n. n.now) names.now) ≡ true }
-    ensures { result ≡ has_name (map (λ n. n.now) names.now) name.now }
+    requires placed { stand_at_their_rows (λ word. row_of places.now (word_hash word))
+        (map (λ w. w.now) words.now) ≡ true }
+    ensures { result ≡ has_name (map (λ w. w.now) words.now) word.now }
 {
-    let place = row_of(places, name);
-    place < names.len() && names[place] == name
+    let place = row_of(places, word_hash(word));
+    place < words.len() && words[place] == word
 }
 
-/// The place that a list of places has for the name's number.
-fn row_of(places: &[u8], name: &[u8]) -> usize
+/// The place that a list of places has for a number.
+fn row_of(places: &[u8], number: usize) -> usize
     requires { 0 < length places.now }
-    ensures { result ≡ row_of places.now name.now }
+    ensures { result ≡ row_of places.now number }
 {
-    usize::from(places[name_hash(name) % places.len()])
+    usize::from(places[number % places.len()])
 }
 
 /// A number for a name by five of its bytes, by which a table or a set finds it. It is 0 for a name
@@ -48,6 +50,18 @@ pub(super) fn name_hash(name: &[u8]) -> usize
     let three = two * 15 + usize::from(name[(len - 3) / 2]);
     let four = three * 9 + usize::from(name[len - 1]);
     four * 33 + usize::from(name[len - 3])
+}
+
+/// A number for a first word by two of its bytes, by which those that take a second word differ. It
+/// is 0 for a word of fewer than two.
+fn word_hash(word: &[u8]) -> usize
+    ensures { result ≡ word_hash word.now }
+{
+    let len = word.len();
+    if len < 2 {
+        return 0;
+    }
+    usize::from(word[1]) * 3 + usize::from(word[len - 1])
 }
 
 /// What stands beside the name in a table of a few rows, which are gone over one by one.

@@ -60,6 +60,6 @@ pub(super) const NAME_PLACES: [u8; 1024] = [
 
 /// The row of `TWO_WORD_NAMES` that a first word has, if it has one, by its number; 255 is no row.
 pub(super) const TWO_WORD_PLACES: [u8; 32] = [
-    255, 255, 10, 3, 255, 255, 13, 255, 8, 255, 255, 5, 2, 255, 1, 255, 255, 11, 255, 12, 255, 255,
-    14, 255, 9, 0, 255, 255, 7, 4, 255, 6,
+    255, 10, 255, 255, 255, 13, 255, 255, 7, 255, 14, 12, 255, 5, 255, 255, 255, 3, 8, 255, 4, 0,
+    2, 255, 1, 255, 9, 255, 6, 11, 255, 255,
 ];
