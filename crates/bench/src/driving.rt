@@ -45,12 +45,7 @@ fn plan(watch: &mut Watch<'_>, alloc: Global, command: &Cmd) -> Result<(), Fault
 }
 
 /// The route numbers of a command, in order.
-fn order_of(alloc: Global, command: &Cmd) -> Result<Vec<usize>, Fault> {
-    let (read_only, registry) = (read_only(alloc)?, Registry::new(alloc));
-    let names = Names {
-        read_only: &read_only,
-        registry: &registry,
-    };
+fn order_of(alloc: Global, command: &Cmd, names: Names<'_>) -> Result<Vec<usize>, Fault> {
     let split = SplitCommand::new(alloc, command, names)?.ok_or(Fault::Refused)?;
     let mut order = Vec::new(alloc);
     for number in 0..split.len() {
@@ -62,8 +57,12 @@ fn order_of(alloc: Global, command: &Cmd) -> Result<Vec<usize>, Fault> {
 /// A command, driven over nodes in memory that hold no key.
 fn driven(watch: &mut Watch<'_>, alloc: Global, command: &Cmd) -> Result<(), Fault> {
     let map = map(alloc, Hosts::Shared, RANGES)?;
-    let read_only = read_only(alloc)?;
-    let order = order_of(alloc, command)?;
+    let (read_only, registry) = (read_only(alloc)?, Registry::new(alloc));
+    let names = Names {
+        read_only: &read_only,
+        registry: &registry,
+    };
+    let order = order_of(alloc, command, names)?;
     watch.time(|_| {
         let mut nodes = MemoryNodes::new(alloc);
         let answer = drive(
