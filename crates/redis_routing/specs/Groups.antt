@@ -1,5 +1,5 @@
 -- The routes of tuples, one for each slot, as the code makes them.
-use Rattle.std.specs.Prelude.{◌≡◌, ℕ, ◌+◌, ◌<◌, ◌++◌, ◌∷◌, List, [], map, length, get_or, nat_eq, if◌then◌else◌}
+use Rattle.std.specs.Prelude.{ℕ, ◌++◌, ◌∷◌, List, [], map, nat_eq, if◌then◌else◌}
 use Rattle.std.specs.List.{flat_map}
 use Rattle.cluster_slots.specs.SlotRoute.{SlotRoute}
 use Rattle.cluster_slots.specs.declared.slot.SlotAddr.{SlotAddr}
@@ -24,21 +24,8 @@ lists_of_tuples nodes ts = map (list_of_slot nodes ts) (first_appearances (map s
 abbrev pub with_places : SlotRoute → List ℕ → List RouteList → List RouteList
 with_places route places [] = (route, places) ∷ []
 with_places route places (r ∷ rs) =
-    if nat_eq r.0.slot route.slot then (r.0, r.1 ++ places) ∷ rs else r ∷ with_places route places rs
+    if nat_eq route.slot r.0.slot then (r.0, r.1 ++ places) ∷ rs else r ∷ with_places route places rs
 
 -- the lists with the shared places at the end of each
 abbrev pub with_shared : List ℕ → List RouteList → List RouteList
 with_shared places lists = map (λ r. (r.0, r.1 ++ places)) lists
-
--- the number of a slot among these, counted from a number on, or 0 where it is not there
-abbrev pub number_from : ℕ → List ℕ → ℕ → ℕ
-number_from n [] slot = 0
-number_from n (s ∷ slots) slot = if nat_eq s slot then n else number_from (n + 1) slots slot
-
-abbrev pub number_of : List ℕ → ℕ → ℕ
-number_of slots slot = number_from 1 slots slot
-
--- A table has the number of each slot, or it is empty.
-pub record AreNumbered (numbers slots : List ℕ) : Type 0 where
-  pub long : 0 < length numbers → length numbers ≡ 16384
-  pub each : (slot : ℕ) → slot < length numbers → get_or numbers slot 0 ≡ number_of slots slot

@@ -1,1 +1,2 @@
 pub mod NameSpots
+pub mod SlotHash

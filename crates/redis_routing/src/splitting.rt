@@ -1,6 +1,7 @@
-ghost use Rattle.std.specs.Prelude.{◌≡◌, ◌<◌, ◌≤◌, ◌^◌, ◌+◌, ◌-◌, ◌++◌, ◌∷◌, [], ℕ, List, Some, length, IfOk, OnOk, option_map};
-ghost use Rattle.std.specs.List.{range_with_len};
-ghost use Rattle.redis_routing.specs.Groups.{AreNumbered, lists_of_tuples, number_of, with_places, with_shared};
+ghost use Rattle.std.specs.Prelude.{◌≡◌, ◌<◌, ◌^◌, ◌+◌, ◌-◌, ◌++◌, [], Some, length, nat_eq, IfOk, IfSome, OnOk, option_map};
+ghost use Rattle.std.specs.List.{position_or_len, range_with_len};
+ghost use Rattle.indexmap.specs.IndexSet.{insert_key};
+ghost use Rattle.redis_routing.specs.Groups.{lists_of_tuples, with_places, with_shared};
 ghost use Rattle.redis_routing.specs.RoutingInfo.{as_routing, route_lists};
 ghost use Rattle.redis_routing.specs.Routing.{to_slots, routes_of, routing_of_routes};
 ghost use Rattle.redis_routing.specs.Command.{command_name};
@@ -13,17 +14,20 @@ use super::info::{MultipleNodeRoutingInfo, RoutingInfo, SingleNodeRoutingInfo, n
 use crate::policy::ResponsePolicy;
 use crate::routable::Routable;
 use crate::route_by::MultiSlotArgPattern;
-use cluster_slots::{Route, SlotAddr};
+use crate::slot_set::SlotSet;
+use cluster_slots::{Route, SLOT_SIZE, SlotAddr};
 use std::alloc::{AllocError, Global};
+use std::hash::BuildHasherDefault;
 
-/// How many tuples are grouped by going over the lists of their slots, without a table.
-const FEW: usize = 64;
+/// Up to this many tuples, the list of a slot is found by a search and not by a set.
+const FEW: usize = 40;
 
-/// How many slots there are, as `SLOT_SIZE` has it.
-const SLOTS: usize = 16384;
+/// Up to this many tuples, a set has room for as many slots. For more tuples it has room for all
+/// slots, so that no slots can be picked that make it slow.
+const MANY: usize = 1024;
 
-/// How many arguments the name of a command takes: a name that is longer than the first argument
-/// takes a second one.
+/// The number of arguments that a command's name takes. A name longer than the first argument takes
+/// two.
 pub(super) fn words_of<R: Routable>(command: &R, name: &[u8]) -> usize
     requires { Some name.now ≡ command_name (R.args command.now) }
     ensures { result ≡ name_words_of (R.args command.now) }
@@ -34,8 +38,8 @@ pub(super) fn words_of<R: Routable>(command: &R, name: &[u8]) -> usize
     }
 }
 
-/// To the slots of a command's keys, which stand after a name of so many words, if its arguments
-/// make whole tuples.
+/// The routing to the slots of a command's keys, which follow a name of `words` words. `None` if the
+/// arguments don't make whole tuples.
 pub(super) fn by_slots<R: Routable>(
     alloc: Global,
     command: &R,
@@ -56,7 +60,7 @@ pub(super) fn by_slots<R: Routable>(
     Ok(Some(routing_of_routes(routes, pattern, policy)))
 }
 
-/// The routes of so many present arguments, which make whole tuples, after a name of so many words.
+/// The routes of a command's `count` arguments after a name of `words` words. They make whole tuples.
 pub(super) fn routes_by_slot<R: Routable>(
     alloc: Global,
     command: &R,
@@ -75,7 +79,7 @@ pub(super) fn routes_by_slot<R: Routable>(
     share(alloc, lists, own, count)
 }
 
-/// How many arguments follow a name of so many words up to the first gap.
+/// The number of arguments after a name of `words` words, up to the first gap.
 pub(super) fn present_len<R: Routable>(command: &R, words: usize) -> usize
     requires { words < 2 ^ 63 }
     ensures count { result ≡ length (present_arguments_after words (R.args command.now)) }
@@ -89,8 +93,8 @@ pub(super) fn present_len<R: Routable>(command: &R, words: usize) -> usize
     count
 }
 
-/// A route for each slot with the places of its tuples, by the first tuple of each slot. The cost is
-/// linear in the number of tuples, whatever their slots are.
+/// A route for each slot with the indices of its tuples, in order of each slot's first tuple. The
+/// cost is linear in the number of tuples, whatever their slots are.
 fn group_by_slot<R: Routable>(
     alloc: Global,
     command: &R,
@@ -106,137 +110,95 @@ fn group_by_slot<R: Routable>(
         ≡ lists_of_tuples nodes
         (tuples_in pattern (present_arguments_after words (R.args command.now)))) }
 {
-    if own / pattern.width() <= FEW {
-        fill(alloc, command, words, pattern, own, nodes, &mut [])
-    } else {
-        fill_by_table(alloc, command, words, pattern, own, nodes)
-    }
-}
-
-/// The same with a table on the stack, which has the number of each slot's list.
-#[inline(never)]
-fn fill_by_table<R: Routable>(
-    alloc: Global,
-    command: &R,
-    words: usize,
-    pattern: MultiSlotArgPattern,
-    own: usize,
-    nodes: SlotAddr,
-) -> Result<Vec<(Route, Vec<usize>)>, AllocError>
-    requires few { own + words < 2 ^ 64 }
-    requires own { own
-        ≡ tuple_args_count pattern (length (present_arguments_after words (R.args command.now))) }
-    ensures { IfOk result (λ lists. route_lists lists.items
-        ≡ lists_of_tuples nodes
-        (tuples_in pattern (present_arguments_after words (R.args command.now)))) }
-{
-    let table = &mut [0; SLOTS];
-    fill(alloc, command, words, pattern, own, nodes, &mut table[..])
-}
-
-/// The same with a table of no slot, or with none, where the lists are gone over one by one.
-fn fill<R: Routable>(
-    alloc: Global,
-    command: &R,
-    words: usize,
-    pattern: MultiSlotArgPattern,
-    own: usize,
-    nodes: SlotAddr,
-    numbers: &mut [u16],
-) -> Result<Vec<(Route, Vec<usize>)>, AllocError>
-    requires few { own + words < 2 ^ 64 }
-    requires own { own
-        ≡ tuple_args_count pattern (length (present_arguments_after words (R.args command.now))) }
-    requires numbered { AreNumbered numbers.old [] }
-    ensures { IfOk result (λ lists. route_lists lists.items
-        ≡ lists_of_tuples nodes
-        (tuples_in pattern (present_arguments_after words (R.args command.now)))) }
-{
     let width = pattern.width();
-    let mut lists = Vec::with_capacity(alloc, (own / width).min(FEW))?;
-    for number in 0..own / width {
+    let count = own / width;
+    let mut slots = new_slot_set(alloc, count)?;
+    let mut lists = Vec::with_capacity(alloc, count.min(FEW))?;
+    for number in 0..count {
         let place = number * width;
         let Some(key) = command.arg_idx(place + words) else {
             unreachable!()
         };
-        add(
-            alloc,
-            &mut lists,
-            numbers,
-            Route::with_key(key, nodes),
-            place,
-            width,
-        )?;
+        let route = Route::with_key(key, nodes);
+        add(alloc, &mut lists, &mut slots, route, place, width)?;
     }
     Ok(lists)
 }
 
-/// Puts the places of a tuple at the end of its slot's list, or in a list of their own.
+/// An empty set of slots, or `None` if there are few tuples.
+fn new_slot_set(alloc: Global, count: usize) -> Result<Option<SlotSet>, AllocError>
+    ensures { IfOk result (λ slots. IfSome slots (λ set. set.keys ≡ [])) }
+{
+    if count <= FEW {
+        return Ok(None);
+    }
+    let room = if count <= MANY {
+        count
+    } else {
+        usize::from(SLOT_SIZE)
+    };
+    let set = SlotSet::with_capacity_and_hasher(alloc, room, BuildHasherDefault::new())?;
+    Ok(Some(set))
+}
+
+/// Appends the indices of a tuple to its slot's list, or to a new list if the slot has none.
 fn add(
     alloc: Global,
     lists: &mut Vec<(Route, Vec<usize>)>,
-    numbers: &mut [u16],
+    slots: &mut Option<SlotSet>,
     route: Route,
     place: usize,
     width: usize,
 ) -> Result<(), AllocError>
     requires fits { place + width < 2 ^ 64 }
-    requires slot { route.slot < 16384 }
-    requires few { length lists.old.items ≤ 16384 }
-    requires numbered { AreNumbered numbers.old (slots_of (route_lists lists.old.items)) }
+    requires slots { IfSome slots.old (λ set. set.keys ≡ slots_of (route_lists lists.old.items)) }
     ensures lists { OnOk result (route_lists lists.new.items
         ≡ with_places route (range_with_len place width) (route_lists lists.old.items)) }
-    ensures numbered { OnOk result
-        (AreNumbered numbers.new (slots_of (route_lists lists.new.items))) }
+    ensures slots { OnOk result
+        (IfSome slots.new (λ set. set.keys ≡ slots_of (route_lists lists.new.items))) }
 {
-    let number = number_of(lists, numbers, route.slot());
-    if number > 0 {
-        return push_places(&mut lists[number - 1].1, place, place + width);
+    let index = list_index(lists, slots, route.slot())?;
+    if index < lists.len() {
+        return push_places(&mut lists[index].1, place, place + width);
     }
     let mut places = Vec::new(alloc);
     push_places(&mut places, place, place + width)?;
     lists.push((route, places))?;
-    note(numbers, route.slot(), lists.len());
     Ok(())
 }
 
-/// The number of a slot's list, counted from 1, or 0 where it has none.
-fn number_of(lists: &[(Route, Vec<usize>)], numbers: &[u16], slot: u16) -> usize
-    requires slot { slot < 16384 }
-    requires numbered { AreNumbered numbers.now (slots_of (route_lists lists.now)) }
-    ensures { result ≡ number_of (slots_of (route_lists lists.now)) slot }
+/// The index of a slot's list, or the number of lists if the slot has none. A new slot is put into
+/// the set, if there is one.
+fn list_index(
+    lists: &[(Route, Vec<usize>)],
+    slots: &mut Option<SlotSet>,
+    slot: u16,
+) -> Result<usize, AllocError>
+    requires slots { IfSome slots.old (λ set. set.keys ≡ slots_of (route_lists lists.now)) }
+    ensures index { IfOk result (λ index. index
+        ≡ position_or_len (nat_eq slot) (slots_of (route_lists lists.now))) }
+    ensures slots { OnOk result (IfSome slots.new (λ set. set.keys
+        ≡ insert_key nat_eq (slots_of (route_lists lists.now)) slot)) }
 {
-    if numbers.is_empty() {
-        number_by_search(lists, slot)
-    } else {
-        usize::from(numbers[usize::from(slot)])
+    match slots {
+        Some(set) => Ok(set.insert_full(slot)?.0),
+        None => Ok(search(lists, slot)),
     }
 }
 
-fn number_by_search(lists: &[(Route, Vec<usize>)], slot: u16) -> usize
-    ensures { result ≡ number_of (slots_of (route_lists lists.now)) slot }
+/// The index of a slot's list, or the number of lists if the slot has none.
+fn search(lists: &[(Route, Vec<usize>)], slot: u16) -> usize
+    ensures { result ≡ position_or_len (nat_eq slot) (slots_of (route_lists lists.now)) }
 {
     for index in 0..lists.len() {
         if lists[index].0.slot() == slot {
-            return index + 1;
+            return index;
         }
     }
-    0
+    lists.len()
 }
 
-/// Notes the number of a slot's new list, where there is a table.
-fn note(numbers: &mut [u16], slot: u16, number: usize)
-    requires slot { slot < 16384 }
-    requires small { number < 2 ^ 16 }
-    ensures { (slots : List ℕ) → AreNumbered numbers.old slots → number_of slots slot ≡ 0
-        → length slots + 1 ≡ number → AreNumbered numbers.new (slots ++ slot ∷ []) }
-{
-    if usize::from(slot) < numbers.len() {
-        numbers[usize::from(slot)] = number as u16;
-    }
-}
-
-/// Puts the places from one up to another at the end.
+/// Appends the indices from `start` up to `end`.
 fn push_places(places: &mut Vec<usize>, start: usize, end: usize) -> Result<(), AllocError>
     ensures { OnOk result
         (places.new.items ≡ places.old.items ++ range_with_len start (end - start)) }
@@ -244,7 +206,7 @@ fn push_places(places: &mut Vec<usize>, start: usize, end: usize) -> Result<(), 
     places.extend(start..end)
 }
 
-/// The routes with the shared places, from one up to another, at the end of each list.
+/// The lists, each with the shared indices from `own` up to `count` at its end.
 fn share(
     alloc: Global,
     lists: Vec<(Route, Vec<usize>)>,
@@ -265,7 +227,7 @@ fn share(
     Ok(routes)
 }
 
-/// One node, where there is one route.
+/// The routing to one node if there is one route, and else to the node of each route.
 fn routing_of_routes(
     routes: Vec<(Route, Vec<usize>)>,
     pattern: MultiSlotArgPattern,

@@ -1,50 +1,45 @@
-use Rattle.std.proofs.Common.{◌≡◌, ◌+◌, ◌-◌, ◌++◌, ◌∷◌, [], ap, sym, ◌∙◌, subst, arith, length}
-use Rattle.std.specs.List.{range_with_len}
-use Rattle.std.proofs.lemmas.List.{map_push}
+use Rattle.std.proofs.Common.{◌≡◌, ◌<◌, ◌≤◌, ◌+◌, ◌-◌, ◌++◌, ◌∷◌, [], ap, sym, ◌∙◌, subst, arith, nat_eq, length, IfSome}
+use Rattle.std.specs.List.{position_or_len, range_with_len}
+use Rattle.std.proofs.lemmas.List.{length-map, map_push}
 use Rattle.std.proofs.lemmas.Result.{on_ok_weaker}
-use Rattle.redis_routing.specs.Groups.{AreNumbered, number_of}
+use Rattle.indexmap.specs.IndexSet.{insert_key}
 use Rattle.redis_routing.specs.RoutingInfo.{route_list, route_lists}
 use Rattle.redis_routing.specs.Split.{slots_of}
-use Rattle.redis_routing.proofs.Grouping.{list_inside, lists_longer, slots_stay, no_number}
+use Rattle.redis_routing.proofs.Grouping.{list_added, lists_longer, slot_added}
 use Rattle.redis_routing.proofs.splitting.add.Goals as goal
 
-pub index_mut-requires : goal.index_mut-requires
-index_mut-requires c =
+pub returns-then-index-len-clause-lists : goal.returns-then-index-len-clause-lists
+returns-then-index-len-clause-lists c =
     let items = c.args.lists.now.items in
-    let number = c.number_of-number.result in
-    let is : number ≡ number_of (slots_of (route_lists items)) c.args.route.slot = rw (← c.slot.ensures, ← c.deref.ensures.value) c.number_of-number.ensures in
-    let inside = list_inside c.args.route (range_with_len c.args.place c.args.width) items number is c.if-number-gt0.true in
-    omega (arith, inside, c.deref.ensures.len, ap length c.deref.ensures.value)
-
-pub returns-then-number-gt0-clause-lists : goal.returns-then-number-gt0-clause-lists
-returns-then-number-gt0-clause-lists c =
-    let items = c.args.lists.now.items in
-    let number = c.number_of-number.result in
-    let is : number ≡ number_of (slots_of (route_lists items)) c.args.route.slot = rw (← c.slot.ensures, ← c.deref.ensures.value) c.number_of-number.ensures in
+    let is : c.in_ok-index.index ≡ position_or_len (nat_eq c.args.route.slot) (slots_of (route_lists items)) = rw (← c.slot.ensures, ← c.deref.ensures.value) c.in_ok-index.ensures.index in
+    let inside : c.in_ok-index.index < length items = omega (arith, c.if-index-len.true, c.len.ensures) in
     let size : c.args.place + c.args.width - c.args.place ≡ c.args.width = omega arith in
     on_ok_weaker c.push_places.result
-    (λ pushed. lists_longer c.args.route (range_with_len c.args.place c.args.width) items number is c.if-number-gt0.true c.index_mut.result.now c.push_places.new.places c.index_mut.ensures.value (rw size at pushed))
+    (λ pushed. lists_longer items c.in_ok-index.index inside c.index_mut.result.now c.index_mut.ensures.value c.args.route (range_with_len c.args.place c.args.width) c.push_places.new.places is (rw size at pushed))
     c.push_places.ensures
 
-pub returns-then-number-gt0-clause-numbered : goal.returns-then-number-gt0-clause-numbered
-returns-then-number-gt0-clause-numbered c =
+pub returns-then-index-len-clause-slots : goal.returns-then-index-len-clause-slots
+returns-then-index-len-clause-slots c =
     let items = c.args.lists.now.items in
-    let number = c.number_of-number.result in
-    let is : number ≡ number_of (slots_of (route_lists items)) c.args.route.slot = rw (← c.slot.ensures, ← c.deref.ensures.value) c.number_of-number.ensures in
-    let size : c.args.place + c.args.width - c.args.place ≡ c.args.width = omega arith in
+    let kept : IfSome c.list_index.new.slots (λ set. set.keys ≡ insert_key nat_eq (slots_of (route_lists items)) c.args.route.slot) = rw (← c.slot.ensures, ← c.deref.ensures.value) c.in_ok-index.ensures.slots in
     on_ok_weaker c.push_places.result
-    (λ pushed. subst (AreNumbered c.args.numbers.now) (sym (slots_stay c.args.route (range_with_len c.args.place c.args.width) items number is c.if-number-gt0.true c.index_mut.result.now c.push_places.new.places c.index_mut.ensures.value (rw size at pushed))) c.requires.numbered)
-    c.push_places.ensures
+    (λ is. subst (λ slots. IfSome c.list_index.new.slots (λ set. set.keys ≡ slots)) (sym (ap slots_of is ∙ slot_added c.args.route (range_with_len c.args.place c.args.width) (route_lists items))) kept)
+    (returns-then-index-len-clause-lists c)
 
 pub returns-clause-lists : goal.returns-clause-lists
 returns-clause-lists c =
     let items = c.args.lists.now.items in
-    let is : c.number_of-number.result ≡ number_of (slots_of (route_lists items)) c.args.route.slot = rw (← c.slot.ensures, ← c.deref.ensures.value) c.number_of-number.ensures in
-    let zero : c.number_of-number.result ≡ 0 = omega arith in
-    let none : number_of (slots_of (route_lists items)) c.args.route.slot ≡ 0 = sym is ∙ zero in
+    let is : c.in_ok-index.index ≡ position_or_len (nat_eq c.args.route.slot) (slots_of (route_lists items)) = rw (← c.slot.ensures, ← c.deref.ensures.value) c.in_ok-index.ensures.index in
+    let none : length (route_lists items) ≤ position_or_len (nat_eq c.args.route.slot) (slots_of (route_lists items)) = omega (arith, is, c.if-index-len.false, c.len.ensures, length-map items route_list) in
     let size : c.args.place + c.args.width - c.args.place ≡ c.args.width = omega arith in
     let places : c.push_places-2.new.places.items ≡ range_with_len c.args.place c.args.width = rw (c.new-places.ensures.items, size) at c.in_ok-push_places.ensures in
     ap route_lists c.in_ok-push.ensures.items
     ∙ map_push route_list items (c.args.route, c.push_places-2.new.places)
     ∙ ap (λ ps. route_lists items ++ (c.args.route, ps) ∷ []) places
-    ∙ sym (no_number c.args.route (range_with_len c.args.place c.args.width) (route_lists items) 1 none (omega arith))
+    ∙ sym (list_added c.args.route (range_with_len c.args.place c.args.width) (route_lists items) none)
+
+pub returns-clause-slots : goal.returns-clause-slots
+returns-clause-slots c =
+    let items = c.args.lists.now.items in
+    let kept : IfSome c.list_index.new.slots (λ set. set.keys ≡ insert_key nat_eq (slots_of (route_lists items)) c.args.route.slot) = rw (← c.slot.ensures, ← c.deref.ensures.value) c.in_ok-index.ensures.slots in
+    subst (λ slots. IfSome c.list_index.new.slots (λ set. set.keys ≡ slots)) (sym (ap slots_of (returns-clause-lists c) ∙ slot_added c.args.route (range_with_len c.args.place c.args.width) (route_lists items))) kept

@@ -1,13 +1,13 @@
-use Rattle.std.proofs.Common.{◌≡◌, take}
-use Rattle.redis_routing.specs.Groups.{AreNumbered, lists_of_tuples}
+use Rattle.std.proofs.Common.{◌≡◌, take, IfSome}
+use Rattle.redis_routing.specs.Groups.{lists_of_tuples}
 use Rattle.redis_routing.specs.PresentArguments.{present_arguments_after}
 use Rattle.redis_routing.specs.RoutingInfo.{route_lists}
 use Rattle.redis_routing.specs.Split.{slots_of}
 use Rattle.redis_routing.specs.Tuples.{tuples_in}
-use Rattle.redis_routing.proofs.splitting.fill.Given as goal
+use Rattle.redis_routing.proofs.splitting.group_by_slot.Given as goal
 
 abbrev pub invariant-loop-number : goal.invariant-loop-number
 invariant-loop-number g l = record {
   lists : route_lists l.lists.items ≡ lists_of_tuples l.fn.nodes (take l.number (tuples_in l.fn.pattern (present_arguments_after l.fn.words (g.R.Routable.args l.fn.command))));
-  numbered : AreNumbered l.numbers (slots_of (route_lists l.lists.items));
+  slots : IfSome l.slots (λ set. set.keys ≡ slots_of (route_lists l.lists.items));
 }
