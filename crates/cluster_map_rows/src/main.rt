@@ -40,7 +40,6 @@ impl Calls for Rows {
     fn call(&mut self, alloc: Global, name: &str, words: &str) -> RedisResult<String> {
         match name {
             "slot" => slots::slot(alloc, words),
-            "remainder" => slots::remainder(alloc, words),
             "slots_of_bytes" => slots::slots_of_bytes(alloc, words),
             "address" => addresses::address(alloc, words, false),
             "address_size" => addresses::address(alloc, words, true),

@@ -1,4 +1,4 @@
-//! Slots of keys, and remainders by division of one bit after the other.
+//! Slots of keys, beside remainders by division of one bit after the other.
 use crate::texts::two;
 use cluster_map::{Route, SLOT_SIZE, Slot, SlotAddr};
 use fixtures::{bytes, number};
@@ -41,13 +41,7 @@ pub fn slot(alloc: Global, words: &str) -> RedisResult<String> {
     Ok(format!(in alloc; "key {slot}, route {routed} {addr:?}, tag {by_bits}")?)
 }
 
-/// The remainder of bytes.
-pub fn remainder(alloc: Global, word: &str) -> RedisResult<String> {
-    let remainder = remainder_by_bits(&bytes(alloc, word)?);
-    Ok(format!(in alloc; "{remainder:#06x}")?)
-}
-
-/// Of how many keys of one byte, up to a last byte, the slot is that of the byte's remainder.
+/// Of how many keys of one byte, up to a last byte, the slot is that of the remainder bit by bit.
 pub fn slots_of_bytes(alloc: Global, word: &str) -> RedisResult<String> {
     let mut count: u16 = 0;
     for byte in 0..=number::<u8>(word)? {
