@@ -1,5 +1,5 @@
 -- The number of a line, digit by digit, up to the line's end.
-use Rattle.std.proofs.Common.{◌≡◌, ℕ, ◌+◌, ◌-◌, ◌*◌, ◌<◌, ◌≤◌, Bool, true, false, ◌&&◌, eqb, ltb, List, [], ◌∷◌, ◌++◌, length, get_or, drop, append_assoc, Some, None, Ok, Err, refl, sym, ap, ◌∙◌, arith, inl, inr}
+use Rattle.std.proofs.Common.{◌≡◌, ℕ, ◌+◌, ◌-◌, ◌*◌, ◌/◌, ◌%◌, ◌^◌, ◌<◌, ◌≤◌, Bool, true, false, not, ◌&&◌, cond, eqb, ltb, List, [], ◌∷◌, ◌++◌, length, get_or, drop, append_assoc, append-nil, decimal, Some, None, Ok, Err, refl, sym, ap, ◌∙◌, arith, inl, inr}
 use Rattle.std.specs.Char.{is_ascii_digit, digit_value}
 use Rattle.std.proofs.lemmas.Bool.{ltb-true}
 use Rattle.std.proofs.lemmas.Bool.Decides.{nat_tests}
@@ -7,19 +7,15 @@ use Rattle.std.proofs.lemmas.List.{drop_more, drop_all, length-drop}
 use Rattle.std.proofs.lemmas.Option.{none-some, same_Some}
 use Rattle.resp_core.proofs.Cases.{by_test}
 use Rattle.resp.specs.declared.stop.Stop.TheVariants.{WantsMore, StopsAt}
-use Rattle.resp.specs.Requests.{digits_at, with_digit}
-use Rattle.resp.proofs.Digits.{number_after}
+use Rattle.std.proofs.lemmas.Fmt.{decimal_digit, decimal_step, decimal_by_steps}
+use Rattle.std.proofs.lemmas.Str.{digit_value-digit_char}
+use Rattle.resp.specs.Requests.{digits_at, is_next_digit, with_digit}
+use Rattle.resp.proofs.Digits.{digit_is}
 use Rattle.resp.proofs.Steps.{both}
 use Rattle.resp.proofs.Readers.{read, stopped, went, no_read, no_stop, same_value, same_rest, Filled, Takes, Stops, IsReader}
 
-abbrev is_more : ℕ → ℕ → ℕ → Bool
-is_more limit n b = is_ascii_digit b && ltb (n * 10 + digit_value b) limit
-
 abbrev next : ℕ → ℕ → ℕ
 next n b = n * 10 + digit_value b
-
-no_some : {A : Type 0} (x : A) → None ≡ Some x → ⊥
-no_some x e = absurd cc
 
 wants_no_stop : {A : Type 0} (n : ℕ) → stopped {A = A} WantsMore ≡ stopped (StopsAt n) → ⊥
 wants_no_stop n e = absurd cc
@@ -30,71 +26,127 @@ stop_wants_no n e = absurd cc
 same_left : {A : Type 0} (n m : ℕ) → stopped {A = A} (StopsAt n) ≡ stopped (StopsAt m) → n ≡ m
 same_left n m e = cc
 
--- ---- as numbers in a text
+-- ---- as the texts of numbers
+
+-- the text of the digits so far
+abbrev written : Bool → ℕ → List ℕ
+written some n = cond some (decimal n) []
+
+record Next (limit : ℕ) (some : Bool) (n b : ℕ) : Type 0 where
+  digit : digit_value b + 48 ≡ b
+  small : digit_value b < 10
+  not_zero : some ≡ true → 0 < n
+  low : next n b < limit
+
+after_digit : (some : Bool) (n : ℕ) → not (some && eqb n 0) ≡ true → some ≡ true → 0 < n
+after_digit some n e t = grind (arith, nat_tests)
+
+next_is : (limit : ℕ) (some : Bool) (n b : ℕ) → is_next_digit limit some n b ≡ true → Next limit some n b
+next_is limit some n b e =
+    let d = both (is_ascii_digit b) _ e in
+    let r = both (not (some && eqb n 0)) _ d.1 in
+    let high : b ≤ 57 = grind (arith, nat_tests) in
+    let digit : digit_value b + 48 ≡ b = digit_is b d.0 in
+    record { digit = digit; small = omega (arith, digit, high); not_zero = after_digit some n r.0; low = ltb-true _ _ r.1 }
+
+-- one digit more is written after the others
+next_written : (limit : ℕ) → limit < 2 ^ 64 → (some : Bool) (n b : ℕ) → (some ≡ false → n ≡ 0) → Next limit some n b → decimal (next n b) ≡ written some n ++ b ∷ []
+next_written limit short true n b none e =
+    let some : 0 < n = e.not_zero refl in
+    let front : next n b / 10 ≡ n = omega arith in
+    let last : 48 + next n b % 10 ≡ b = omega arith in
+    decimal_step (next n b) (omega arith) (omega arith) ∙ rw (front, last) refl
+next_written limit short false n b none e =
+    let zero : n ≡ 0 = none refl in
+    let is : next n b ≡ digit_value b = omega arith in
+    let last : 48 + digit_value b ≡ b = omega arith in
+    ap decimal is ∙ decimal_digit (digit_value b) e.small ∙ rw last refl
 
 pub record Digits (limit : ℕ) (some : Bool) (n : ℕ) (bytes rest : List ℕ) (m : ℕ) : Type 0 where
   pub text : List ℕ
   pub bytes_are : bytes ≡ text ++ 13 ∷ rest
-  pub number : number_after limit n text ≡ Some m
-  pub long : some ≡ false → 0 < length text
+  pub number : decimal m ≡ written some n ++ text
+  pub low : m < limit
 
-no_false : (b : Bool) → (b && false) ≡ true → ⊥
-no_false true e = absurd cc
-no_false false e = absurd cc
-
-some_first : (some other : Bool) → (some && other) ≡ true → some ≡ false → ⊥
-some_first true other e f = absurd cc
-some_first false other e f = absurd cc
-
-second : (some other : Bool) → (some && other) ≡ true → other ≡ true
-second true other e = e
-second false other e = absurd cc
-
-pub digits_text : (limit : ℕ) (some : Bool) (n : ℕ) (bytes rest : List ℕ) (m : ℕ) → digits_at limit some n bytes ≡ Ok (m, rest) → Digits limit some n bytes rest m
+pub digits_text : (limit : ℕ) → limit < 2 ^ 64 → (some : Bool) (n : ℕ) → (some ≡ false → n ≡ 0) → n < limit → (bytes rest : List ℕ) (m : ℕ) → digits_at limit some n bytes ≡ Ok (m, rest) → Digits limit some n bytes rest m
 unfolding digits_at
-digits_text limit some n [] rest m e = absurd (no_read WantsMore m rest e)
-digits_text limit some n (b ∷ bytes) rest m e = by_test (is_more limit n b)
+digits_text limit short some n none low [] rest m e = absurd (no_read WantsMore m rest e)
+digits_text limit short some n none low (b ∷ bytes) rest m e = by_test (is_next_digit limit some n b)
     (λ t.
-    let later = digits_text limit true (next n b) bytes rest m (rw t at e) in
+    let is = next_is limit some n b t in
+    let later = digits_text limit short true (next n b) no is.low bytes rest m (rw t at e) in
     record {
       text = b ∷ later.text;
       bytes_are = ap (λ (bs : List ℕ). b ∷ bs) later.bytes_are;
-      number = rw t later.number;
-      long = λ f. omega arith;
+      number = later.number ∙ ap (λ (ds : List ℕ). ds ++ later.text) (next_written limit short some n b none is) ∙ append_assoc (written some n) (b ∷ []) later.text;
+      low = later.low;
     })
     (λ f. elim (went (some && eqb b 13) (read n bytes) (stopped (StopsAt (length bytes + 1))) (read m rest) (rw f at e)) [
       | inl p ↦
-          let last : eqb b 13 ≡ true = second some (eqb b 13) p.0 in
-          let is : b ≡ 13 = grind (arith, nat_tests) in
+          let t = both some (eqb b 13) p.0 in
+          let is : b ≡ 13 = grind (arith, nat_tests, t.1) in
+          let same : n ≡ m = same_value n m bytes rest p.1 in
           record {
             text = [];
             bytes_are = ap (λ (c : ℕ). c ∷ bytes) is ∙ ap (λ (bs : List ℕ). 13 ∷ bs) (same_rest n m bytes rest p.1);
-            number = ap (λ (k : ℕ). Some k) (same_value n m bytes rest p.1);
-            long = λ g. absurd (some_first some (eqb b 13) p.0 g);
+            number = rw t.0 (ap decimal (sym same) ∙ sym (append-nil (decimal n)));
+            low = omega (arith, same, low);
           }
       | inr p ↦ absurd (no_read (StopsAt (length bytes + 1)) m rest p.1)
     ])
-
-pub digits_again : (limit : ℕ) (some : Bool) (n : ℕ) (text rest : List ℕ) (m : ℕ) → number_after limit n text ≡ Some m → (some ≡ false → 0 < length text) → digits_at limit some n (text ++ 13 ∷ rest) ≡ Ok (m, rest)
-unfolding digits_at
-digits_again limit true n [] rest m e long = ap (λ (k : ℕ). read k rest) (same_Some n m e)
-digits_again limit false n [] rest m e long = absurd (omega (arith, long refl))
-digits_again limit some n (d ∷ ds) rest m e long = by_test (is_more limit n d)
-    (λ t. rw t (digits_again limit true (next n d) ds rest m (rw t at e) no))
-    (λ f. absurd (no_some m (rw f at e)))
   where
-    no : true ≡ false → 0 < length ds
+    no : true ≡ false → next n b ≡ 0
     no h = absurd cc
+
+digit_goes : (limit : ℕ) (some : Bool) (n d : ℕ) → d < 10 → (some ≡ true → 0 < n) → n * 10 + d < limit → (rest : List ℕ) → digits_at limit some n ((48 + d) ∷ rest) ≡ digits_at limit true (n * 10 + d) rest
+unfolding digits_at
+digit_goes limit some n d small not_zero low rest =
+    let u : ltb d 10 ≡ true = grind (arith, nat_tests) in
+    let value : digit_value (48 + d) ≡ d = rw u at (digit_value-digit_char d (omega (arith, small))) in
+    let digit : is_ascii_digit (48 + d) ≡ true = grind (arith, nat_tests) in
+    let allowed : not (some && eqb n 0) ≡ true = grind (arith, nat_tests) in
+    let t : ltb (n * 10 + d) limit ≡ true = grind (arith, nat_tests) in
+    rw (digit, allowed, value, t) refl
+
+pub number_goes : (limit n : ℕ) → n < limit → n < 2 ^ 64 → (rest : List ℕ) → digits_at limit false 0 (decimal n ++ rest) ≡ digits_at limit true n rest
+number_goes limit n low short = decimal_by_steps (λ n ds. n < limit → (rest : List ℕ) → digits_at limit false 0 (ds ++ rest) ≡ digits_at limit true n rest) one more n short low
+  where
+    no : false ≡ true → 0 < 0
+    no h = absurd cc
+
+    one : (n : ℕ) → n < 10 → n < limit → (rest : List ℕ) → digits_at limit false 0 ((48 + n) ∷ rest) ≡ digits_at limit true n rest
+    one n small low rest =
+        let is : 0 * 10 + n ≡ n = omega arith in
+        digit_goes limit false 0 n small no (omega (arith, low)) rest ∙ ap (λ (k : ℕ). digits_at limit true k rest) is
+
+    more : (n : ℕ) (ds : List ℕ) → 10 ≤ n → (n / 10 < limit → (rest : List ℕ) → digits_at limit false 0 (ds ++ rest) ≡ digits_at limit true (n / 10) rest) → n < limit → (rest : List ℕ) → digits_at limit false 0 ((ds ++ (48 + n % 10) ∷ []) ++ rest) ≡ digits_at limit true n rest
+    more n ds large before low rest =
+        let is : n / 10 * 10 + n % 10 ≡ n = omega arith in
+        let high : n / 10 * 10 + n % 10 < limit = omega (arith, is, low) in
+        let front : n / 10 < limit = omega (arith, low) in
+        ap (digits_at limit false 0) (append_assoc ds ((48 + n % 10) ∷ []) rest)
+        ∙ before front ((48 + n % 10) ∷ rest)
+        ∙ digit_goes limit true (n / 10) (n % 10) (omega arith) (λ t. omega (arith, large)) high rest
+        ∙ ap (λ (k : ℕ). digits_at limit true k rest) is
+
+pub digits_again : (limit n : ℕ) → n < limit → n < 2 ^ 64 → (rest : List ℕ) → digits_at limit false 0 (decimal n ++ 13 ∷ rest) ≡ Ok (n, rest)
+unfolding digits_at
+digits_again limit n low short rest = number_goes limit n low short (13 ∷ rest)
 
 -- ---- as a reader
 
-digits_takes : (limit : ℕ) (some : Bool) (n : ℕ) (bytes rest : List ℕ) (m : ℕ) → digits_at limit some n bytes ≡ Ok (m, rest) → Takes (digits_at limit some n) bytes rest m
-digits_takes limit some n bytes rest m e =
-    let d = digits_text limit some n bytes rest m e in
+pub number_front : (limit : ℕ) → 0 < limit → limit < 2 ^ 64 → (bytes rest : List ℕ) (n : ℕ) → digits_at limit false 0 bytes ≡ Ok (n, rest) → (bytes ≡ decimal n ++ 13 ∷ rest) × (n < limit)
+number_front limit some short bytes rest n e =
+    let d = digits_text limit short false 0 (λ h. refl) some bytes rest n e in
+    (d.bytes_are ∙ ap (λ (ds : List ℕ). ds ++ 13 ∷ rest) (sym d.number), d.low)
+
+digits_takes : (limit : ℕ) → 0 < limit → limit < 2 ^ 64 → (bytes rest : List ℕ) (n : ℕ) → digits_at limit false 0 bytes ≡ Ok (n, rest) → Takes (digits_at limit false 0) bytes rest n
+digits_takes limit some short bytes rest n e =
+    let d = number_front limit some short bytes rest n e in
     record {
-      front = d.text ++ 13 ∷ [];
-      bytes_are = d.bytes_are ∙ sym (append_assoc d.text (13 ∷ []) rest);
-      reads = λ other. ap (digits_at limit some n) (append_assoc d.text (13 ∷ []) other) ∙ digits_again limit some n d.text other m d.number d.long;
+      front = decimal n ++ 13 ∷ [];
+      bytes_are = d.0 ∙ sym (append_assoc (decimal n) (13 ∷ []) rest);
+      reads = λ other. ap (digits_at limit false 0) (append_assoc (decimal n) (13 ∷ []) other) ∙ digits_again limit n d.1 (omega (arith, d.1, short)) other;
     }
 
 digits_fills : (limit : ℕ) → 0 < limit → (some : Bool) (n : ℕ) → (some ≡ false → n ≡ 0) → (bytes : List ℕ) → digits_at limit some n bytes ≡ Err WantsMore → Filled (digits_at limit some n) bytes
@@ -104,7 +156,7 @@ digits_fills limit large false n none [] e =
     let is : n ≡ 0 = none refl in
     let t : ltb 0 limit ≡ true = grind (arith, nat_tests) in
     record { more = 48 ∷ 13 ∷ []; value = 0; reads = rw (is, t) refl }
-digits_fills limit large some n none (b ∷ bytes) e = by_test (is_more limit n b)
+digits_fills limit large some n none (b ∷ bytes) e = by_test (is_next_digit limit some n b)
     (λ t.
     let later = digits_fills limit large true (next n b) no bytes (rw t at e) in
     record { more = later.more; value = later.value; reads = rw t later.reads })
@@ -119,7 +171,7 @@ digits_fills limit large some n none (b ∷ bytes) e = by_test (is_more limit n 
 digits_stops : (limit : ℕ) (some : Bool) (n : ℕ) (bytes : List ℕ) (left : ℕ) → digits_at limit some n bytes ≡ Err (StopsAt left) → Stops (digits_at limit some n) bytes left
 unfolding digits_at
 digits_stops limit some n [] left e = absurd (wants_no_stop left e)
-digits_stops limit some n (b ∷ bytes) left e = by_test (is_more limit n b)
+digits_stops limit some n (b ∷ bytes) left e = by_test (is_next_digit limit some n b)
     (λ t.
     let later = digits_stops limit true (next n b) bytes left (rw t at e) in
     record {
@@ -144,8 +196,8 @@ digits_stops limit some n (b ∷ bytes) left e = by_test (is_more limit n b)
       }
     ])
 
-pub digits_reader : (limit : ℕ) → 0 < limit → IsReader (digits_at limit false 0)
-digits_reader limit large = record { takes = digits_takes limit false 0; fills = digits_fills limit large false 0 (λ e. refl); stops = digits_stops limit false 0 }
+pub digits_reader : (limit : ℕ) → 0 < limit → limit < 2 ^ 64 → IsReader (digits_at limit false 0)
+digits_reader limit large short = record { takes = digits_takes limit large short; fills = digits_fills limit large false 0 (λ e. refl); stops = digits_stops limit false 0 }
 
 pub digits_wants : (limit : ℕ) → digits_at limit false 0 [] ≡ Err WantsMore
 unfolding digits_at
@@ -160,39 +212,38 @@ module _ (limit n i : ℕ) (bytes : List ℕ) (lt : i < length bytes) where
   left_here : length (drop (i + 1) bytes) + 1 ≡ length bytes - i
   left_here = omega (arith, lt, length-drop (i + 1) bytes)
 
-  pub digit_goes_on : (some : Bool) (m : ℕ) → Some m ≡ with_digit limit n (get_or bytes i 0) → digits_at limit some n (drop i bytes) ≡ digits_at limit (ltb 0 (i + 1)) m (drop (i + 1) bytes)
+  pub digit_goes_on : (some : Bool) (m : ℕ) → Some m ≡ with_digit limit some n (get_or bytes i 0) → digits_at limit some n (drop i bytes) ≡ digits_at limit (ltb 0 (i + 1)) m (drop (i + 1) bytes)
   unfolding digits_at
   digit_goes_on some m e =
       let t : ltb 0 (i + 1) ≡ true = grind (arith, nat_tests) in
-      by_test (is_more limit n (get_or bytes i 0))
+      by_test (is_next_digit limit some n (get_or bytes i 0))
       (λ u.
       let is : m ≡ next n (get_or bytes i 0) = same_Some _ _ (rw u at e) in
       here some ∙ rw (u, t, is) refl)
       (λ f. absurd (none-some m (sym (rw f at e))))
 
-  no_more : None ≡ with_digit limit n (get_or bytes i 0) → is_more limit n (get_or bytes i 0) ≡ false
-  no_more e = by_test (is_more limit n (get_or bytes i 0)) (λ t. absurd (none-some (next n (get_or bytes i 0)) (rw t at e))) (λ f. f)
+  no_more : (some : Bool) → None ≡ with_digit limit some n (get_or bytes i 0) → is_next_digit limit some n (get_or bytes i 0) ≡ false
+  no_more some e = by_test (is_next_digit limit some n (get_or bytes i 0)) (λ t. absurd (none-some (next n (get_or bytes i 0)) (rw t at e))) (λ f. f)
 
-  pub digits_end : (some : Bool) → None ≡ with_digit limit n (get_or bytes i 0) → some ≡ true → get_or bytes i 0 ≡ 13 → digits_at limit some n (drop i bytes) ≡ Ok (n, drop (i + 1) bytes)
+  pub digits_end : (some : Bool) → None ≡ with_digit limit some n (get_or bytes i 0) → some ≡ true → get_or bytes i 0 ≡ 13 → digits_at limit some n (drop i bytes) ≡ Ok (n, drop (i + 1) bytes)
   unfolding digits_at
   digits_end some e s last =
-      let f = no_more e in
+      let f = no_more some e in
       let l : eqb (get_or bytes i 0) 13 ≡ true = grind (arith, nat_tests) in
       here some ∙ rw (f, s, l) refl
 
-  pub digits_stop : (some : Bool) → None ≡ with_digit limit n (get_or bytes i 0) → (some && eqb (get_or bytes i 0) 13) ≡ false → digits_at limit some n (drop i bytes) ≡ Err (StopsAt (length bytes - i))
+  pub digits_stop : (some : Bool) → None ≡ with_digit limit some n (get_or bytes i 0) → (some && eqb (get_or bytes i 0) 13) ≡ false → digits_at limit some n (drop i bytes) ≡ Err (StopsAt (length bytes - i))
   unfolding digits_at
   digits_stop some e other =
-      let f = no_more e in
+      let f = no_more some e in
       here some ∙ rw (f, other, left_here) refl
 
-  pub digit_low : (m : ℕ) → Some m ≡ with_digit limit n (get_or bytes i 0) → m < limit
-  digit_low m e =
-      by_test (is_more limit n (get_or bytes i 0))
+  pub digit_low : (some : Bool) (m : ℕ) → Some m ≡ with_digit limit some n (get_or bytes i 0) → m < limit
+  digit_low some m e =
+      by_test (is_next_digit limit some n (get_or bytes i 0))
       (λ u.
       let is : m ≡ next n (get_or bytes i 0) = same_Some _ _ (rw u at e) in
-      let t : ltb (next n (get_or bytes i 0)) limit ≡ true = (both (is_ascii_digit (get_or bytes i 0)) (ltb (next n (get_or bytes i 0)) limit) u).1 in
-      let low : next n (get_or bytes i 0) < limit = ltb-true _ _ t in
+      let low = (next_is limit some n (get_or bytes i 0) u).low in
       omega (arith, is, low))
       (λ f. absurd (none-some m (sym (rw f at e))))
 

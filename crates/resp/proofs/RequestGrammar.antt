@@ -1,14 +1,13 @@
 -- What is read of a request is one, each one is read, and why nothing is read.
-use Rattle.std.proofs.Common.{◌≡◌, ℕ, zero, suc, ◌+◌, ◌-◌, ◌<◌, ◌≤◌, ◌^◌, false, List, [], ◌∷◌, ◌++◌, length, take, append_assoc, append-nil, Some, None, Ok, Err, refl, sym, ap, subst, ◌∙◌, arith, decimal}
+use Rattle.std.proofs.Common.{◌≡◌, ℕ, zero, suc, ◌+◌, ◌-◌, ◌<◌, ◌≤◌, ◌^◌, false, List, [], ◌∷◌, ◌++◌, length, take, append_assoc, append-nil, Ok, Err, refl, sym, ap, subst, ◌∙◌, arith, decimal}
 use Rattle.std.specs.List.{flat_map, AllByRecursion}
 use Rattle.std.proofs.lemmas.List.{take_at, length-append}
 use Rattle.resp.specs.declared.stop.Stop.{Stop}
 use Rattle.resp.specs.declared.stop.Stop.TheVariants.{WantsMore, StopsAt}
 use Rattle.resp.specs.declared.fault.RequestFault.TheVariants.{Malformed}
-use Rattle.resp.specs.Forms.{crlf, line, length_in, InOrder, IsBulk, IsRequest, bulk_form, request}
+use Rattle.resp.specs.Forms.{crlf, line, IsRequest, bulk_form, request}
 use Rattle.resp.specs.Requests.{Read, and_then, byte_at, digits_at, line_at, so_many_at, word_at, bulk_at, bulks_at, request_at, rest_of, IsStopIn, fault_at, CanBeRequest, BeginsNoRequest, RequestCause}
-use Rattle.resp.proofs.Digits.{number_in_is, number_in_none, number_decimal}
-use Rattle.resp.proofs.NumberLines.{digits_text, digits_again, digits_reader, digits_wants}
+use Rattle.resp.proofs.NumberLines.{number_front, digits_again, digits_reader, digits_wants}
 use Rattle.resp.proofs.Readers.{read, stopped, no_read, no_stop, same_value, same_rest, Filled, IsReader, joint_reader, nothing_reader, nothing_begins, byte_reader, byte_front, byte_again, byte_wants, so_many_again, so_many_front, so_many_reader, so_many_begins}
 
 -- what two readers read was read by each
@@ -36,8 +35,11 @@ number_line text = and_then (digits_at limit false 0 text) line_end
 some_room : 0 < limit
 some_room = omega arith
 
+few_bits : limit < 2 ^ 64
+few_bits = omega arith
+
 number_line_reader : IsReader number_line
-number_line_reader = joint_reader (digits_at limit false 0) line_end (digits_reader limit some_room) line_end_reader line_end_begins
+number_line_reader = joint_reader (digits_at limit false 0) line_end (digits_reader limit some_room few_bits) line_end_reader line_end_begins
 
 number_line_begins : Filled number_line []
 number_line_begins = number_line_reader.fills [] (ap (λ (r : Read ℕ). and_then r line_end) (digits_wants limit))
@@ -50,35 +52,25 @@ line_wants : (mark : ℕ) → line_at mark [] ≡ Err WantsMore
 unfolding line_at
 line_wants mark = ap (λ (r : Read ℕ). and_then r (λ _ text. number_line text)) (byte_wants mark)
 
-line_front : (mark : ℕ) (bytes rest : List ℕ) (n : ℕ) → line_at mark bytes ≡ Ok (n, rest) → (text : List ℕ) × (length_in text ≡ Some n) × (bytes ≡ line mark text ++ rest)
+line_front : (mark : ℕ) (bytes rest : List ℕ) (n : ℕ) → line_at mark bytes ≡ Ok (n, rest) → (bytes ≡ line mark (decimal n) ++ rest) × (n < limit)
 unfolding line_at
 line_front mark bytes rest n e =
     let a = first_read (byte_at mark bytes) (λ _ text. number_line text) n rest e in
     let b = first_read (digits_at limit false 0 a.1) line_end n rest a.3 in
     let c = first_read (byte_at 10 b.1) (λ _ rest. read b.0 rest) n rest b.3 in
-    let d = digits_text limit false 0 a.1 b.1 b.0 b.2 in
+    let d = number_front limit some_room few_bits a.1 b.1 b.0 b.2 in
     let same : b.0 ≡ n = same_value b.0 n c.1 rest c.3 in
     let last : c.1 ≡ rest = same_rest b.0 n c.1 rest c.3 in
     let ends : b.1 ≡ 10 ∷ rest = byte_front 10 b.1 c.1 c.0 c.2 ∙ ap (λ (t : List ℕ). 10 ∷ t) last in
-    let is : a.1 ≡ (d.text ++ crlf) ++ rest = d.bytes_are ∙ ap (λ (t : List ℕ). d.text ++ 13 ∷ t) ends ∙ sym (append_assoc d.text crlf rest) in (
-      d.text,
-      number_in_is limit d.text some_room (d.long refl) ∙ d.number ∙ ap (λ (k : ℕ). Some k) same,
-      byte_front mark bytes a.1 a.0 a.2 ∙ ap (λ (t : List ℕ). mark ∷ t) is,
-    )
+    let is : a.1 ≡ (decimal n ++ crlf) ++ rest = d.0 ∙ ap (λ (t : List ℕ). decimal b.0 ++ 13 ∷ t) ends ∙ ap (λ (k : ℕ). decimal k ++ 13 ∷ 10 ∷ rest) same ∙ sym (append_assoc (decimal n) crlf rest) in
+    (byte_front mark bytes a.1 a.0 a.2 ∙ ap (λ (t : List ℕ). mark ∷ t) is, omega (arith, d.1, same))
 
-has_length : (text : List ℕ) (n : ℕ) → length_in text ≡ Some n → 0 < length text
-has_length [] n e = absurd (none (sym (number_in_none limit [] refl) ∙ e))
-  where
-    none : None ≡ Some n → ⊥
-    none h = absurd cc
-has_length (d ∷ ds) n e = omega arith
-
-line_again : (mark : ℕ) (text rest : List ℕ) (n : ℕ) → length_in text ≡ Some n → line_at mark (line mark text ++ rest) ≡ Ok (n, rest)
+line_again : (mark n : ℕ) (rest : List ℕ) → n < limit → line_at mark (line mark (decimal n) ++ rest) ≡ Ok (n, rest)
 unfolding line_at
-line_again mark text rest n e =
-    let long = has_length text n e in
-    let digits : digits_at limit false 0 ((text ++ crlf) ++ rest) ≡ Ok (n, 10 ∷ rest) = ap (digits_at limit false 0) (append_assoc text crlf rest) ∙ digits_again limit false 0 text (10 ∷ rest) n (sym (number_in_is limit text some_room long) ∙ e) (λ _. long) in
-    ap (λ (r : Read ℕ). and_then r (λ _ text. number_line text)) (byte_again mark ((text ++ crlf) ++ rest))
+line_again mark n rest low =
+    let short : n < 2 ^ 64 = omega (arith, low) in
+    let digits : digits_at limit false 0 ((decimal n ++ crlf) ++ rest) ≡ Ok (n, 10 ∷ rest) = ap (digits_at limit false 0) (append_assoc (decimal n) crlf rest) ∙ digits_again limit n low short (10 ∷ rest) in
+    ap (λ (r : Read ℕ). and_then r (λ _ text. number_line text)) (byte_again mark ((decimal n ++ crlf) ++ rest))
     ∙ ap (λ (r : Read ℕ). and_then r line_end) digits
     ∙ ap (λ (r : Read ℕ). and_then r (λ _ rest. read n rest)) (byte_again 10 rest)
 
@@ -122,7 +114,7 @@ bulk_wants : bulk_at [] ≡ Err WantsMore
 unfolding bulk_at
 bulk_wants = ap (λ (r : Read ℕ). and_then r word_at) (line_wants 36)
 
-bulk_front : (bytes rest word : List ℕ) → bulk_at bytes ≡ Ok (word, rest) → (form : List ℕ) × (bytes ≡ form ++ rest) × IsBulk word form
+bulk_front : (bytes rest word : List ℕ) → bulk_at bytes ≡ Ok (word, rest) → (bytes ≡ bulk_form word ++ rest) × (length word < limit)
 unfolding bulk_at word_at
 bulk_front bytes rest word e =
     let a = first_read (line_at 36 bytes) word_at word rest e in
@@ -136,17 +128,16 @@ bulk_front bytes rest word e =
     let ends : b.1 ≡ crlf ++ rest = byte_front 13 b.1 c.1 c.0 c.2 ∙ ap (λ (t : List ℕ). 13 ∷ t) (byte_front 10 c.1 d.1 d.0 d.2 ∙ ap (λ (t : List ℕ). 10 ∷ t) last) in
     let is : a.1 ≡ (word ++ crlf) ++ rest = m.0 ∙ ap (λ (t : List ℕ). b.0 ++ t) ends ∙ ap (λ (w : List ℕ). w ++ (crlf ++ rest)) same ∙ sym (append_assoc word crlf rest) in
     let long : a.0 ≡ length word = sym m.1 ∙ ap (length {A = ℕ}) same in (
-      line 36 l.0 ++ (word ++ crlf),
-      l.2 ∙ ap (λ (t : List ℕ). line 36 l.0 ++ t) is ∙ sym (append_assoc (line 36 l.0) (word ++ crlf) rest),
-      (l.0, l.1 ∙ ap (λ (k : ℕ). Some k) long, refl),
+      l.0 ∙ ap (λ (t : List ℕ). line 36 (decimal a.0) ++ t) is ∙ ap (λ (k : ℕ). line 36 (decimal k) ++ ((word ++ crlf) ++ rest)) long ∙ sym (append_assoc (line 36 (decimal (length word))) (word ++ crlf) rest),
+      omega (arith, long, l.1),
     )
 
-bulk_again : (word form rest : List ℕ) → IsBulk word form → bulk_at (form ++ rest) ≡ Ok (word, rest)
+bulk_again : (word rest : List ℕ) → length word < limit → bulk_at (bulk_form word ++ rest) ≡ Ok (word, rest)
 unfolding bulk_at word_at
-bulk_again word form rest is =
-    let bytes : form ++ rest ≡ line 36 is.0 ++ (word ++ (13 ∷ 10 ∷ rest)) = ap (λ (t : List ℕ). t ++ rest) is.2 ∙ append_assoc (line 36 is.0) (word ++ crlf) rest ∙ ap (λ (t : List ℕ). line 36 is.0 ++ t) (append_assoc word crlf rest) in
+bulk_again word rest short =
+    let bytes : bulk_form word ++ rest ≡ line 36 (decimal (length word)) ++ (word ++ (13 ∷ 10 ∷ rest)) = append_assoc (line 36 (decimal (length word))) (word ++ crlf) rest ∙ ap (λ (t : List ℕ). line 36 (decimal (length word)) ++ t) (append_assoc word crlf rest) in
     ap bulk_at bytes
-    ∙ ap (λ (r : Read ℕ). and_then r word_at) (line_again 36 is.0 (word ++ (13 ∷ 10 ∷ rest)) (length word) is.1)
+    ∙ ap (λ (r : Read ℕ). and_then r word_at) (line_again 36 (length word) (word ++ (13 ∷ 10 ∷ rest)) short)
     ∙ ap (λ (r : Read (List ℕ)). and_then r word_end) (so_many_again word (13 ∷ 10 ∷ rest) (length word) refl)
     ∙ ap (λ (r : Read ℕ). and_then r (λ _ last. line_feed word last)) (byte_again 13 (10 ∷ rest))
     ∙ ap (λ (r : Read ℕ). and_then r (λ _ rest. read word rest)) (byte_again 10 rest)
@@ -177,32 +168,31 @@ bulks_reader (suc n) =
     let r : IsReader (bulks_at (suc n)) = joint_reader bulk_at (more_words n) bulk_reader (more_reader n m.0 m.1) (more_begin n m.0 m.1) in
     (r, r.fills [] (ap (λ (r : Read (List ℕ)). and_then r (more_words n)) bulk_wants))
 
-bulks_front : (n : ℕ) (bytes rest : List ℕ) (words : Words) → bulks_at n bytes ≡ Ok (words, rest) → (form : List ℕ) × (bytes ≡ form ++ rest) × InOrder IsBulk words form × (length words ≡ n)
+abbrev AreShort : Words → Type 0
+AreShort words = AllByRecursion (λ w. length w < limit) words
+
+bulks_front : (n : ℕ) (bytes rest : List ℕ) (words : Words) → bulks_at n bytes ≡ Ok (words, rest) → (bytes ≡ flat_map bulk_form words ++ rest) × AreShort words × (length words ≡ n)
 unfolding bulks_at
 bulks_front zero bytes rest words e =
     let none : [] ≡ words = same_value [] words bytes rest e in
-    ([], same_rest [] words bytes rest e, subst (λ (ws : Words). InOrder IsBulk ws []) none refl, ap (length {A = List ℕ}) (sym none))
+    subst (λ (ws : Words). (bytes ≡ flat_map bulk_form ws ++ rest) × AreShort ws × (length ws ≡ 0)) none (same_rest [] words bytes rest e, tt, refl)
 bulks_front (suc n) bytes rest words e =
     let a = first_read (bulk_at bytes) (more_words n) words rest e in
     let b = first_read (bulks_at n a.1) (λ ws rest. read (a.0 ∷ ws) rest) words rest a.3 in
     let one = bulk_front bytes a.1 a.0 a.2 in
     let two = bulks_front n a.1 b.1 b.0 b.2 in
     let same : a.0 ∷ b.0 ≡ words = same_value (a.0 ∷ b.0) words b.1 rest b.3 in
-    let last : b.1 ≡ rest = same_rest (a.0 ∷ b.0) words b.1 rest b.3 in (
-      one.0 ++ two.0,
-      one.1 ∙ ap (λ (t : List ℕ). one.0 ++ t) (two.1 ∙ ap (λ (t : List ℕ). two.0 ++ t) last) ∙ sym (append_assoc one.0 two.0 rest),
-      subst (λ (ws : Words). InOrder IsBulk ws (one.0 ++ two.0)) same (one.0, two.0, refl, one.2, two.2),
-      ap (length {A = List ℕ}) (sym same) ∙ ap suc two.3,
-    )
+    let last : b.1 ≡ rest = same_rest (a.0 ∷ b.0) words b.1 rest b.3 in
+    let is : bytes ≡ flat_map bulk_form (a.0 ∷ b.0) ++ rest = one.0 ∙ ap (λ (t : List ℕ). bulk_form a.0 ++ t) (two.0 ∙ ap (λ (t : List ℕ). flat_map bulk_form b.0 ++ t) last) ∙ sym (append_assoc (bulk_form a.0) (flat_map bulk_form b.0) rest) in
+    subst (λ (ws : Words). (bytes ≡ flat_map bulk_form ws ++ rest) × AreShort ws × (length ws ≡ suc n)) same (is, (one.1, two.1), ap suc two.2)
 
-bulks_again : (words : Words) (form rest : List ℕ) → InOrder IsBulk words form → bulks_at (length words) (form ++ rest) ≡ Ok (words, rest)
+bulks_again : (words : Words) (rest : List ℕ) → AreShort words → bulks_at (length words) (flat_map bulk_form words ++ rest) ≡ Ok (words, rest)
 unfolding bulks_at
-bulks_again [] form rest is = ap (λ (t : List ℕ). read [] (t ++ rest)) is
-bulks_again (w ∷ ws) form rest is =
-    let bytes : form ++ rest ≡ is.0 ++ (is.1 ++ rest) = ap (λ (t : List ℕ). t ++ rest) is.2 ∙ append_assoc is.0 is.1 rest in
-    ap (bulks_at (suc (length ws))) bytes
-    ∙ ap (λ (r : Read (List ℕ)). and_then r (more_words (length ws))) (bulk_again w is.0 (is.1 ++ rest) is.3)
-    ∙ ap (λ (r : Read Words). and_then r (λ words rest. read (w ∷ words) rest)) (bulks_again ws is.1 rest is.4)
+bulks_again [] rest short = refl
+bulks_again (w ∷ ws) rest short =
+    ap (bulks_at (suc (length ws))) (append_assoc (bulk_form w) (flat_map bulk_form ws) rest)
+    ∙ ap (λ (r : Read (List ℕ)). and_then r (more_words (length ws))) (bulk_again w (flat_map bulk_form ws ++ rest) short.0)
+    ∙ ap (λ (r : Read Words). and_then r (λ words rest. read (w ∷ words) rest)) (bulks_again ws rest short.1)
 
 -- ---- a request
 
@@ -216,18 +206,18 @@ request_front bytes rest args e =
     let a = first_read (line_at 42 bytes) bulks_at args rest e in
     let l = line_front 42 bytes a.1 a.0 a.2 in
     let b = bulks_front a.0 a.1 rest args a.3 in (
-      line 42 l.0 ++ b.0,
-      l.2 ∙ ap (λ (t : List ℕ). line 42 l.0 ++ t) b.1 ∙ sym (append_assoc (line 42 l.0) b.0 rest),
-      (l.0, b.0, l.1 ∙ ap (λ (k : ℕ). Some k) (sym b.3), refl, b.2),
+      request args,
+      l.0 ∙ ap (λ (t : List ℕ). line 42 (decimal a.0) ++ t) b.0 ∙ ap (λ (k : ℕ). line 42 (decimal k) ++ (flat_map bulk_form args ++ rest)) (sym b.2) ∙ sym (append_assoc (line 42 (decimal (length args))) (flat_map bulk_form args) rest),
+      (refl, omega (arith, b.2, l.1), b.1),
     )
 
 pub request_again : (args : Words) (form rest : List ℕ) → IsRequest args form → request_at (form ++ rest) ≡ Ok (args, rest)
 unfolding request_at
 request_again args form rest is =
-    let bytes : form ++ rest ≡ line 42 is.0 ++ (is.1 ++ rest) = ap (λ (t : List ℕ). t ++ rest) is.3 ∙ append_assoc (line 42 is.0) is.1 rest in
+    let bytes : form ++ rest ≡ line 42 (decimal (length args)) ++ (flat_map bulk_form args ++ rest) = ap (λ (t : List ℕ). t ++ rest) is.0 ∙ append_assoc (line 42 (decimal (length args))) (flat_map bulk_form args) rest in
     ap request_at bytes
-    ∙ ap (λ (r : Read ℕ). and_then r bulks_at) (line_again 42 is.0 (is.1 ++ rest) (length args) is.2)
-    ∙ bulks_again args is.1 rest is.4
+    ∙ ap (λ (r : Read ℕ). and_then r bulks_at) (line_again 42 (length args) (flat_map bulk_form args ++ rest) is.1)
+    ∙ bulks_again args rest is.2
 
 -- ---- the causes
 
@@ -338,15 +328,3 @@ unfolding bulks_at
 bulks_done count counter rest le =
     let none : count - counter ≡ 0 = omega (arith, le) in
     ap (λ (n : ℕ). bulks_at n rest) none
-
--- ---- what is written is read
-
-bulk_written : (word : List ℕ) → length word < limit → IsBulk word (bulk_form word)
-bulk_written word short = (decimal (length word), number_decimal limit (length word) short (omega (arith, short)), refl)
-
-bulks_written : (words : Words) → AllByRecursion (λ w. length w < limit) words → InOrder IsBulk words (flat_map bulk_form words)
-bulks_written [] short = refl
-bulks_written (w ∷ ws) short = (bulk_form w, flat_map bulk_form ws, refl, bulk_written w short.0, bulks_written ws short.1)
-
-pub written : (args : Words) → length args < limit → AllByRecursion (λ w. length w < limit) args → IsRequest args (request args)
-written args few short = (decimal (length args), flat_map bulk_form args, number_decimal limit (length args) few (omega (arith, few)), refl, bulks_written args short)

@@ -197,16 +197,11 @@ abbrev mutual
 
 -- ---- requests
 
--- a bulk string: "$3", the end of a line, "abc", and the end of a line
-abbrev pub IsBulk : List ℕ → List ℕ → Type 0
-IsBulk bytes form = (text : List ℕ) × (length_in text ≡ Some (length bytes))
-    × (form ≡ line 36 text ++ (bytes ++ crlf))
-
--- a request with these arguments: an array of bulk strings
-abbrev pub IsRequest : List (List ℕ) → List ℕ → Type 0
-IsRequest args form = (text : List ℕ) × (body : List ℕ) × (length_in text ≡ Some (length args))
-    × (form ≡ line 42 text ++ body) × InOrder IsBulk args body
-
--- the one form that is written
+-- an array of bulk strings, whose numbers have no sign and no leading zero
 abbrev pub request : List (List ℕ) → List ℕ
 request args = line 42 (decimal (length args)) ++ flat_map bulk_form args
+
+-- The bytes are the request with these arguments. Each number has 63 bits.
+abbrev pub IsRequest : List (List ℕ) → List ℕ → Type 0
+IsRequest args form = (form ≡ request args) × (length args < 2 ^ 63)
+    × AllByRecursion (λ arg. length arg < 2 ^ 63) args

@@ -1,6 +1,6 @@
 -- Reading a request byte by byte. What a whole request is, says `IsRequest`; the contract of
 -- `read_request` joins the two.
-use Rattle.std.specs.Prelude.{◌≡◌, ◌==◌, ◌<◌, ◌+◌, ◌-◌, ◌≤◌, ◌*◌, ◌^◌, ◌++◌, ◌&&◌, ℕ, zero, suc, Bool, true, false, nat_lt, if◌then◌else◌, List, [], ◌∷◌, length, take, drop, Option, Some, None, Result, Ok, Err}
+use Rattle.std.specs.Prelude.{◌≡◌, ◌==◌, ◌<◌, ◌+◌, ◌-◌, ◌≤◌, ◌*◌, ◌^◌, ◌++◌, ◌&&◌, ℕ, zero, suc, Bool, true, false, not, nat_lt, if◌then◌else◌, List, [], ◌∷◌, length, take, drop, Option, Some, None, Result, Ok, Err}
 use Rattle.std.specs.Char.{is_ascii_digit, digit_value}
 use Rattle.resp.specs.declared.stop.Stop.{Stop}
 use Rattle.resp.specs.declared.stop.Stop.TheVariants.{WantsMore, StopsAt}
@@ -40,20 +40,23 @@ byte_at byte [] = Err WantsMore
 byte_at byte (b ∷ bytes) =
     if b == byte then Ok (byte, bytes) else Err (StopsAt (length bytes + 1))
 
--- the number with one digit more, if it is below the limit
-abbrev pub with_digit : ℕ → ℕ → ℕ → Option ℕ
-with_digit limit n b =
-    if is_ascii_digit b && nat_lt (n * 10 + digit_value b) limit
-    then Some (n * 10 + digit_value b)
-    else None
+-- Whether a byte is a digit that goes on after those of n, if there were some: no zero stands before
+-- other digits, and the number stays below the limit.
+abbrev pub is_next_digit : ℕ → Bool → ℕ → ℕ → Bool
+is_next_digit limit some n b = is_ascii_digit b
+    && (not (some && n == 0) && nat_lt (n * 10 + digit_value b) limit)
 
--- the number below the limit whose digits go on here after those of n, if there were some, up to
--- the first byte of the line's end
+-- the number with one digit more
+abbrev pub with_digit : ℕ → Bool → ℕ → ℕ → Option ℕ
+with_digit limit some n b =
+    if is_next_digit limit some n b then Some (n * 10 + digit_value b) else None
+
+-- the number whose digits go on here after those of n, if there were some, up to the first byte of
+-- the line's end
 unfoldable pub digits_at : ℕ → Bool → ℕ → List ℕ → Read ℕ
 digits_at limit some n [] = Err WantsMore
 digits_at limit some n (b ∷ bytes) =
-    if is_ascii_digit b && nat_lt (n * 10 + digit_value b) limit
-    then digits_at limit true (n * 10 + digit_value b) bytes
+    if is_next_digit limit some n b then digits_at limit true (n * 10 + digit_value b) bytes
     else (if some && b == 13 then Ok (n, bytes) else Err (StopsAt (length bytes + 1)))
 
 -- a line with this mark and a number

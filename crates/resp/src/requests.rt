@@ -11,7 +11,7 @@ use std::alloc::Global;
 /// and gives it with the bytes after it.
 ///
 /// Any bytes are taken. `*0\r\n` is a command of no argument. Inline commands are `Malformed`, and
-/// so are lengths below 0.
+/// so are numbers with a sign or a leading zero.
 ///
 /// Memory is taken for what was read alone, never for a length that is only announced, which tests
 /// show and no clause says. The cost is linear in the bytes. A caller that reads anew each time more bytes have come pays for all bytes
@@ -158,13 +158,13 @@ fn after_byte(byte: u8, bytes: &[u8]) -> Result<&[u8], Stop>
     }
 }
 
-/// The number that one or more digits write, which the first byte of a line's end follows.
+/// A number with no leading zero, which the first byte of a line's end follows.
 fn digits_at(bytes: &[u8]) -> Result<(u64, &[u8]), Stop>
     ensures { IsRead (λ x. (x.0, x.1.now)) result (digits_at (2 ^ 63) false 0 bytes.now) }
 {
     let mut number = 0;
     for (index, b) in bytes.iter().enumerate() {
-        let Some(more) = with_digit(number, *b) else {
+        let Some(more) = with_digit(number, index > 0, *b) else {
             if index > 0 && *b == b'\r' {
                 let (_, rest) = bytes.split_at(index + 1);
                 return Ok((number, rest));
@@ -176,12 +176,12 @@ fn digits_at(bytes: &[u8]) -> Result<(u64, &[u8]), Stop>
     Err(Stop::WantsMore)
 }
 
-/// The number with one digit more, if it has 63 bits.
-fn with_digit(number: u64, b: u8) -> Option<u64>
+/// The number with one digit more, if it has 63 bits. No zero stands before other digits.
+fn with_digit(number: u64, has_digits: bool, b: u8) -> Option<u64>
     requires { number < 2 ^ 63 }
-    ensures { result ≡ with_digit (2 ^ 63) number b }
+    ensures { result ≡ with_digit (2 ^ 63) has_digits number b }
 {
-    if !b.is_ascii_digit() {
+    if !b.is_ascii_digit() || (has_digits && number == 0) {
         return None;
     }
     let value = u64::from(b - b'0');

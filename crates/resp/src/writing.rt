@@ -2,7 +2,7 @@ ghost use Rattle.std.specs.Prelude.{◌≡◌, ◌++◌, ◌≤◌, ◌<◌, ◌
 ghost use Rattle.std.specs.List.{flat_map, AllByRecursion};
 ghost use Rattle.resp_core.specs.Reply.{simple, replies_of};
 ghost use Rattle.resp_core.specs.View.{view};
-ghost use Rattle.resp.specs.Forms.{line, form, forms, bulk_form, request, IsRequest, depth, depth_items, HasForm, HaveForm, IsInLine, IsForm};
+ghost use Rattle.resp.specs.Forms.{line, form, forms, bulk_form, IsRequest, depth, depth_items, HasForm, HaveForm, IsInLine, IsForm};
 
 use crate::fault::WriteError;
 use crate::reading::MAX_LEVELS;
@@ -38,9 +38,7 @@ pub fn write(alloc: Global, value: &Value) -> Result<Vec<u8>, WriteError>
 ///
 /// If memory runs out.
 pub fn write_command(alloc: Global, command: &Cmd) -> Result<Vec<u8>, AllocError>
-    ensures bytes { IfOk result (λ bytes. bytes.items ≡ request command.now) }
-    // They are a form of the command: `read_request` reads them, whatever follows.
-    ensures readable { IfOk result (λ bytes. IsRequest command.now bytes.items) }
+    ensures { IfOk result (λ bytes. IsRequest command.now bytes.items) }
 {
     let mut out = Vec::new(alloc);
     push_count(&mut out, b'*', command.len())?;

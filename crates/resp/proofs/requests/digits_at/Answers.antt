@@ -47,7 +47,7 @@ loop-index-preserved c =
     let bytes = c.args.bytes.now in
     let lt : i < length bytes = omega arith in (
       sym (digit_goes_on (2 ^ 63) c.loop-index.number i bytes lt (ltb 0 i) c.in-Some.more c.in-Some.ensures) ∙ c.loop-index.invariant.0,
-      digit_low (2 ^ 63) c.loop-index.number i bytes lt c.in-Some.more c.in-Some.ensures,
+      digit_low (2 ^ 63) c.loop-index.number i bytes lt (ltb 0 i) c.in-Some.more c.in-Some.ensures,
     )
 
 pub returns : goal.returns

@@ -1,8 +1,7 @@
-use Rattle.std.proofs.Common.{Vec, Global, ◌≡◌, ◌++◌, [], ◌<◌, ◌^◌, ℕ, List, length, decimal, get_or, take, ap, sym, subst, ◌∙◌, arith}
+use Rattle.std.proofs.Common.{Vec, Global, ◌≡◌, ◌++◌, [], ◌<◌, ◌^◌, ℕ, List, length, decimal, get_or, take, ap, subst, ◌∙◌, arith}
 use Rattle.std.specs.List.{flat_map, AllByRecursion}
 use Rattle.std.proofs.lemmas.List.{take_all}
-use Rattle.resp.specs.Forms.{line, bulk_form, request, IsRequest}
-use Rattle.resp.proofs.RequestGrammar.{written}
+use Rattle.resp.specs.Forms.{line, bulk_form, request}
 use Rattle.resp.proofs.Written.{words_more, word_at, none_at, short_more}
 use Rattle.resp.proofs.writing.write_command.Goals as goal
 use Rattle.resp.proofs.writing.write_command.Goals.{in-Some+in_ok-push_bulk, in_default}
@@ -24,10 +23,10 @@ loop-index-preserved c =
       | in_default w ↦ absurd (none_at args index lt w.in_default.ensures.item)
     ]
 
-pub returns-clause-readable : goal.returns-clause-readable
-returns-clause-readable c =
+pub returns : goal.returns
+returns c =
     let args = c.args.command.now in
     let whole : take c.loop-index.index args ≡ args = take_all c.loop-index.index args (omega arith) in
     let few : length args < 2 ^ 63 = omega arith in
     let bytes : c.loop-index.out.items ≡ request args = c.loop-index.invariant.0 ∙ ap (λ (ws : List (List ℕ)). line 42 (decimal (length args)) ++ flat_map bulk_form ws) whole in
-    subst (IsRequest args) (sym bytes) (written args few (subst (AllByRecursion (λ w. length w < 2 ^ 63)) whole c.loop-index.invariant.1))
+    (bytes, few, subst (AllByRecursion (λ w. length w < 2 ^ 63)) whole c.loop-index.invariant.1)
