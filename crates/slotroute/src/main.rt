@@ -7,8 +7,7 @@
 //! command, one for each slot: its slot, its node, and its words. `slotroute run forward`
 //! runs the commands of the lines that follow the map and a line with no field, and prints the parts
 //! that it sends and the replies; `run reverse` sends the parts in the other order. A last word
-//! `first`, `pick=N` or `shard` says which nodes serve reads. `slotroute pipeline forward` and
-//! `pipeline reverse` run these commands as one pipeline, and print its batches and its replies.
+//! `first`, `pick=N` or `shard` says which nodes serve reads.
 #![tactic(auto)]
 
 ghost use Rattle.std.specs.Prelude.{◌≤◌, IfOk};

@@ -6,9 +6,6 @@ pub mod Leaving
 pub mod MultiLines
 pub mod Reading
 pub mod Running
-pub mod PipelineRows
-pub mod Piping
-pub mod PipelineEnding
 pub mod Serving
 pub mod Splitting
 pub mod Writing

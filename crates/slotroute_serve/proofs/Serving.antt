@@ -16,10 +16,8 @@ use Rattle.cluster_slots.specs.declared.slot.SlotAddr.TheVariants.{Master}
 use Rattle.slotroute_serve.specs.Lines.{leading_lines, after_map}
 use Rattle.slotroute_serve.specs.MapLines.{Made, IsMap}
 use Rattle.slotroute_serve.specs.Faults.{fault_line, fault_of_map, fault_of_answer, fault_of_run, WhyNoMap, WhyNoSplit, IsCaused, IsInputLeft}
-use Rattle.slotroute_serve.specs.Output.{Output, first_after_map, IsAnswer, IsNodeAnswer, IsRequest, split_words, slot_line, usage_line, bad_map_line, not_multi_key_line, IsRunWords, IsPipelineWords, refused_line, usage, bad_map, not_multi_key, answer, run_to_end, run_refused, pipeline_to_end, pipeline_refused, served, unserved, node_request, split_request, run_request, pipeline_request, node_answer, split_answer}
+use Rattle.slotroute_serve.specs.Output.{Output, first_after_map, IsAnswer, IsNodeAnswer, IsRequest, split_words, slot_line, usage_line, bad_map_line, not_multi_key_line, IsRunWords, refused_line, usage, bad_map, not_multi_key, answer, run_to_end, run_refused, served, unserved, node_request, split_request, run_request, node_answer, split_answer}
 use Rattle.slotroute_serve.specs.Requests.{Asks, AsksFor, WhyNoAnswer}
-use Rattle.slotroute_serve.specs.PipelineFaults.{PipelineEnds, PipelineStops}
-use Rattle.slotroute_serve.specs.Pipelines.{AllPiped, PipeRefused}
 use Rattle.slotroute_serve.specs.RunFaults.{RunEnds, RunStops}
 use Rattle.slotroute_serve.specs.Runs.{RefusedAt}
 use Rattle.slotroute_serve.specs.Split.{IsSplitAnswer}
@@ -107,15 +105,14 @@ module _ (handed : Bool) where
   is_request words (request.Answer (Node key)) a = rw a (node_request key.now)
   is_request words (request.Answer (Split command)) (a, some) = rw a (split_request (map string_bytes command.now) some)
   is_request words (request.Run direction) a = run_request direction words a
-  is_request words (request.Pipeline direction) a = pipeline_request direction words a
 
   -- a request reads, so nothing is said of a reader that is not touched
   pub touched : {S : Type 0} (words : List (List ℕ)) (old new : S) → IsRequest words → ¬ (IsRequest words) → new ≡ old
   touched words old new w other = absurd (other w)
 
   no_map_of : (words : List (List ℕ)) (input left out : Option (List ℕ)) (e : MapFault) → IsRequest words → IfSome input (λ bytes. WhyNoMap (leading_lines bytes) e) → Leaves input left (λ bytes rest. IsInputLeft bytes rest e) → Explains handed words input left out out (fault_of_map e)
-  no_map_of words input left out map_fault.Memory w h l = ([], nothing out, w, inl (refl, inl l))
-  no_map_of words input left out map_fault.Input w h l = ([], nothing out, w, inl (refl, inl l))
+  no_map_of words input left out map_fault.Memory w h l = ([], nothing out, w, inl (refl, l))
+  no_map_of words input left out map_fault.Input w h l = ([], nothing out, w, inl (refl, l))
   no_map_of words None left out (map_fault.BadLine n) w h l = (nothing out, tt)
   no_map_of words (Some bytes) None out (map_fault.BadLine n) w h l = absurd l
   no_map_of words (Some bytes) (Some rest) out (map_fault.BadLine n) w h l = (nothing out, rw l (bad_map words bytes n w h))
@@ -138,19 +135,19 @@ module _ (handed : Bool) where
   pub no_memory : (words : List (List ℕ)) (input left out : Option (List ℕ)) (r : Result ℕ Fault) → IsRequest words → Leaves input left (λ bytes rest. rest ≡ after_map bytes) → IsErrAnd r (λ x. x ≡ fault.Memory)
       → MatchResult r (HasAnswer handed words input left out out) (Explains handed words input left out out)
   no_memory words input left out (Ok x) w l is = absurd is
-  no_memory words input left out (Err x) w l is = rw is ([], nothing out, w, inl (refl, inl (left_after_map input left l)))
+  no_memory words input left out (Err x) w l is = rw is ([], nothing out, w, inl (refl, left_after_map input left l))
 
   -- what explains that a command has no lines
   no_split_of : (command : List (List ℕ)) (input left out : Option (List ℕ)) (made : Made) (e : AnswerFault) → command ≢ [] → IfSome input (λ bytes. IsMap (leading_lines bytes) made) → Leaves input left (λ bytes rest. rest ≡ after_map bytes) → WhyNoSplit made.registry command e
       → Explains handed (split_words command) input left out out (fault_of_answer e)
-  no_split_of command input left out made answer_fault.Memory some m l h = ([], nothing out, split_request command some, inl (refl, inl (left_after_map input left l)))
+  no_split_of command input left out made answer_fault.Memory some m l h = ([], nothing out, split_request command some, inl (refl, left_after_map input left l))
   no_split_of command None left out made answer_fault.NotMultiKey some m l h = (nothing out, tt)
   no_split_of command (Some bytes) None out made answer_fault.NotMultiKey some m l h = absurd l
   no_split_of command (Some bytes) (Some rest) out made answer_fault.NotMultiKey some m l h = (nothing out, rw l (not_multi_key command bytes made some m h))
 
   no_answer_of : (words : List (List ℕ)) (asked : Question) (input left out : Option (List ℕ)) (made : Made) (e : AnswerFault) → Asks words asked → IfSome input (λ bytes. IsMap (leading_lines bytes) made) → Leaves input left (λ bytes rest. rest ≡ after_map bytes) → WhyNoAnswer made.registry asked e
       → Explains handed words input left out out (fault_of_answer e)
-  no_answer_of words (Node key) input left out made e a m l h = rw (a, h) ([], nothing out, node_request key.now, inl (refl, inl (left_after_map input left l)))
+  no_answer_of words (Node key) input left out made e a m l h = rw (a, h) ([], nothing out, node_request key.now, inl (refl, left_after_map input left l))
   no_answer_of words (Split command) input left out made e (a, some) m l h = rw a (no_split_of (map string_bytes command.now) input left out made e some m l h)
 
   pub no_answer : (words : List (List ℕ)) (asked : Question) (input left out : Option (List ℕ)) (made : Made) (e : AnswerFault) (r : Result ℕ Fault) → Asks words asked → IfSome input (λ bytes. IsMap (leading_lines bytes) made) → Leaves input left (λ bytes rest. rest ≡ after_map bytes) → WhyNoAnswer made.registry asked e
@@ -219,43 +216,6 @@ module _ (handed : Bool) where
       → Leaves input mid (λ bytes rest. rest ≡ after_map bytes) → RunStops handed direction made.registry (insert_ranges [] made.ranges) first mid left out new e → IsErrAnd r (λ x. x ≡ fault_of_run e) → MatchResult r (HasAnswer handed words input left out new) (Explains handed words input left out new)
   run_stopped words direction first input mid left out new made e (Ok x) asked f m l h is = absurd is
   run_stopped words direction first input mid left out new made e (Err x) asked f m l h is = rw is (stopped_early words direction first input mid left out new made e asked f m l h)
-
-  -- The run of a pipeline.
-  pub piped_to_end : (words : List (List ℕ)) (direction : Direction) (first : ℕ) (input mid left out new : Option (List ℕ)) (made : Made) → IsPipelineWords direction words → IfSome input (λ bytes. first ≡ first_after_map bytes) → IfSome input (λ bytes. IsMap (leading_lines bytes) made)
-      → Leaves input mid (λ bytes rest. rest ≡ after_map bytes) → PipelineEnds direction made.registry (insert_ranges [] made.ranges) first mid left out new → HasAnswer handed words input left out new 0
-  piped_to_end words direction first input mid left out new made asked f m l (text, written, all) =
-      (text, written, after_the_map _ _ _ input mid left (both _ _ input m f) l all (λ bytes rest known run. pipeline_to_end words direction bytes rest text made asked known.0 (subst (λ (number : ℕ). AllPiped direction made.registry (insert_ranges [] made.ranges) number (after_map bytes) rest text) known.1 run)))
-
-  pipe_stopped_early : (words : List (List ℕ)) (direction : Direction) (first : ℕ) (input mid left out new : Option (List ℕ)) (made : Made) (e : RunFault) → IsPipelineWords direction words → IfSome input (λ bytes. first ≡ first_after_map bytes) → IfSome input (λ bytes. IsMap (leading_lines bytes) made)
-      → Leaves input mid (λ bytes rest. rest ≡ after_map bytes) → PipelineStops direction made.registry (insert_ranges [] made.ranges) first mid left out new e → Explains handed words input left out new (fault_of_run e)
-  pipe_stopped_early words direction first input mid left out new made (run_fault.Command n r) asked f m l (text, written, (none, stopped)) = (
-    text,
-    written,
-    inl none,
-    after_the_map _ _ _ input mid left (both _ _ input m f) l stopped (λ bytes rest known at.
-        subst (λ (outs : List ℕ). Output handed words bytes rest outs (refused_line n r) 2) (sym none)
-        (pipeline_refused words direction bytes rest made n r asked known.0 (subst (λ (number : ℕ). PipeRefused made.registry (insert_ranges [] made.ranges) number (after_map bytes) rest n r) known.1 at))),
-  )
-  pipe_stopped_early words direction first input mid left out new made run_fault.Memory asked f m l (text, written, (none, stopped)) =
-      (text, written, pipeline_request direction words asked, inl (none, inr (direction, asked, after_the_map _ _ _ input mid left m l stopped (λ bytes rest is_map stops. record { made = made; is_map = is_map; stops = stops }))))
-  pipe_stopped_early words direction first input mid left out new made run_fault.Input asked f m l (text, written, (none, stopped)) =
-      (text, written, pipeline_request direction words asked, inl (none, inr (direction, asked, after_the_map _ _ _ input mid left m l stopped (λ bytes rest is_map stops. record { made = made; is_map = is_map; stops = stops }))))
-  pipe_stopped_early words direction first input mid left out new made run_fault.Output asked f m l (text, written, cut) = (
-    text,
-    written,
-    inl (after_the_map _ _ _ input mid left (both _ _ input m f) l cut (λ bytes rest known at. record {
-      whole = at.whole;
-      status = 0;
-      called_for = pipeline_to_end words direction bytes rest at.whole made asked known.0 (subst (λ (number : ℕ). AllPiped direction made.registry (insert_ranges [] made.ranges) number (after_map bytes) rest at.whole) known.1 at.all);
-      count = at.count;
-      begins = at.begins;
-    })),
-  )
-
-  pub pipe_stopped : (words : List (List ℕ)) (direction : Direction) (first : ℕ) (input mid left out new : Option (List ℕ)) (made : Made) (e : RunFault) (r : Result ℕ Fault) → IsPipelineWords direction words → IfSome input (λ bytes. first ≡ first_after_map bytes) → IfSome input (λ bytes. IsMap (leading_lines bytes) made)
-      → Leaves input mid (λ bytes rest. rest ≡ after_map bytes) → PipelineStops direction made.registry (insert_ranges [] made.ranges) first mid left out new e → IsErrAnd r (λ x. x ≡ fault_of_run e) → MatchResult r (HasAnswer handed words input left out new) (Explains handed words input left out new)
-  pipe_stopped words direction first input mid left out new made e (Ok x) asked f m l h is = absurd is
-  pipe_stopped words direction first input mid left out new made e (Err x) asked f m l h is = rw is (pipe_stopped_early words direction first input mid left out new made e asked f m l h)
 
   pub caused_as : (reads writes : Type 0) (e : RunFault) (r : Result ℕ Fault) → IsCaused reads writes (fault_of_run e) → IsErrAnd r (λ x. x ≡ fault_of_run e) → IfErr r (IsCaused reads writes)
   caused_as reads writes e (Ok x) h is = absurd is

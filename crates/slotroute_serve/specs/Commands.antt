@@ -27,7 +27,7 @@ use Rattle.slotroute_serve.specs.declared.direction.Direction.{Direction}
 use Rattle.slotroute_serve.specs.declared.refusal.CommandFault.{CommandFault}
 use Rattle.slotroute_serve.specs.declared.refusal.CommandFault.TheVariants.{Refused, Memory}
 use Rattle.slotroute_serve.specs.declared.refusal.Refusal.{Refusal}
-use Rattle.slotroute_serve.specs.declared.refusal.Refusal.TheVariants.{NotMultiKey, NotRoutable, NotCovered, NodeRefused, ReplyLost, BadReply}
+use Rattle.slotroute_serve.specs.declared.refusal.Refusal.TheVariants.{NotMultiKey, NotCovered, NodeRefused, ReplyLost, BadReply}
 
 -- the names of the commands that only read
 abbrev pub only_reads : List ℕ → Bool
@@ -66,7 +66,6 @@ IsRefused registered entries words (NotCovered slot) =
     (routes : List SlotRoute)
     × (command_routes_by (names_with registered) (map Some words) ≡ Some routes)
     × IsFirstUncovered entries routes slot
-IsRefused registered entries words NotRoutable = ⊥
 IsRefused registered entries words NodeRefused = ⊥
 IsRefused registered entries words ReplyLost = ⊥
 IsRefused registered entries words BadReply = ⊥

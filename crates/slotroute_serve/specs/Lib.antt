@@ -11,9 +11,6 @@ pub mod Output
 pub mod Requests
 pub mod RunFaults
 pub mod Runs
-pub mod PrintedPipelines
-pub mod Pipelines
-pub mod PipelineFaults
 pub mod Serves
 pub mod Split
 pub mod Streams

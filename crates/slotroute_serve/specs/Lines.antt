@@ -55,11 +55,6 @@ pub record StopsInLine (input left : List ℕ) : Type 0 where
   pub begun : input ≡ read ++ left
   pub ends : left ≡ more ++ drop_through line_feed input
 
--- what is left begins in some line, or right after it
-pub record StopsAmong (input left : List ℕ) : Type 0 where
-  pub count : ℕ
-  pub stops : StopsInLine (after_lines count input) left
-
 -- what is left begins in a leading line or in the one that ends them, or right after it
 pub record StopsInMap (input left : List ℕ) : Type 0 where
   pub count : ℕ

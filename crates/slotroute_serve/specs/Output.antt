@@ -15,7 +15,6 @@ use Rattle.slotroute_serve.specs.RefusalText.{run_refusal_text}
 use Rattle.slotroute_serve.specs.Printed.{line_feed, space}
 use Rattle.slotroute_serve.specs.Lines.{leading_lines, after_lines, after_map}
 use Rattle.slotroute_serve.specs.MapLines.{Made, IsMap, IsFirstBadLine}
-use Rattle.slotroute_serve.specs.Pipelines.{AllPiped, PipeRefused}
 use Rattle.slotroute_serve.specs.Runs.{AllRun, RefusedAt}
 use Rattle.slotroute_serve.specs.Split.{IsSplitAnswer, split_routes}
 use Rattle.slotroute_serve.specs.declared.strategy.StrategyName.{StrategyName}
@@ -59,33 +58,25 @@ abbrev pub IsRunWords : Direction → List (List ℕ) → Type 0
 IsRunWords direction [] = ⊥
 IsRunWords direction (word ∷ words) = (word ≡ codes "run") × IsDirected direction words
 
--- the words `pipeline DIRECTION` of this direction
-abbrev pub IsPipelineWords : Direction → List (List ℕ) → Type 0
-IsPipelineWords direction [] = ⊥
-IsPipelineWords direction (word ∷ words) =
-    (word ≡ codes "pipeline") × (words ≡ direction_word direction ∷ [])
-
 -- three words: `run`, one more, and one that names the strategy
 abbrev pub IsRunBy : StrategyName → List (List ℕ) → Type 0
 IsRunBy strategy (command ∷ direction ∷ word ∷ []) =
     (command ≡ codes "run") × NamesStrategy word strategy
 IsRunBy strategy words = ⊥
 
--- the words are `node KEY`, `split WORD ..` with one word or more, or those of `run` or `pipeline`
+-- the words are `node KEY`, `split WORD ..` with one word or more, or those of `run`
 pub data IsRequest : List (List ℕ) → Type 0 where
   node_request : (key : List ℕ) → IsRequest (node_words key)
   split_request : (command : List (List ℕ)) → command ≢ [] → IsRequest (split_words command)
   run_request : (direction : Direction) (words : List (List ℕ)) → IsRunWords direction words
       → IsRequest words
-  pipeline_request : (direction : Direction) (words : List (List ℕ))
-      → IsPipelineWords direction words → IsRequest words
 
 abbrev pub slot_line : ℕ → List ℕ → List ℕ
 slot_line slot node = codes "slot " ++ decimal slot ++ space ∷ node ++ line_feed ∷ []
 
 abbrev pub usage_line : List ℕ
 usage_line =
-    codes "usage: slotroute node KEY | split WORD .. | run forward|reverse [first|pick=N|shard] | pipeline forward|reverse\n"
+    codes "usage: slotroute node KEY | split WORD .. | run forward|reverse [first|pick=N|shard]\n"
 
 abbrev pub bad_map_line : ℕ → List ℕ
 bad_map_line number = codes "slotroute: bad map line " ++ decimal number ++ line_feed ∷ []
@@ -147,14 +138,3 @@ pub data Output (handed : Bool)
       → RefusedAt handed direction made.registry (insert_ranges [] made.ranges) (first_after_map input)
       (after_map input) left text number refusal
       → Output handed words input left text (refused_line number refusal) 2
-  pipeline_to_end : (words : List (List ℕ)) (direction : Direction) (input left text : List ℕ)
-      (made : Made) → IsPipelineWords direction words → IsMap (leading_lines input) made
-      → AllPiped direction made.registry (insert_ranges [] made.ranges) (first_after_map input)
-      (after_map input) left text
-      → Output handed words input left text [] 0
-  pipeline_refused : (words : List (List ℕ)) (direction : Direction) (input left : List ℕ)
-      (made : Made) (number : ℕ) (refusal : Refusal) → IsPipelineWords direction words
-      → IsMap (leading_lines input) made
-      → PipeRefused made.registry (insert_ranges [] made.ranges) (first_after_map input)
-      (after_map input) left number refusal
-      → Output handed words input left [] (refused_line number refusal) 2

@@ -2,13 +2,13 @@
 use Rattle.std.specs.Prelude.{◌≡◌, ◌≢◌, ℕ, List, [], map, string_bytes}
 use Rattle.redis_routing.specs.Registry.{Registrations}
 use Rattle.slotroute_serve.specs.Faults.{WhyNoSplit}
-use Rattle.slotroute_serve.specs.Output.{node_words, split_words, IsRunWords, IsPipelineWords}
+use Rattle.slotroute_serve.specs.Output.{node_words, split_words, IsRunWords}
 use Rattle.slotroute_serve.specs.declared.fault.AnswerFault.{AnswerFault}
 use Rattle.slotroute_serve.specs.declared.fault.AnswerFault.TheVariants.{Memory}
 use Rattle.slotroute_serve.specs.declared.request.Question.{Question}
 use Rattle.slotroute_serve.specs.declared.request.Question.TheVariants.{Node, Split}
 use Rattle.slotroute_serve.specs.declared.request.Request.{Request}
-use Rattle.slotroute_serve.specs.declared.request.Request.TheVariants.{Answer, Run, Pipeline}
+use Rattle.slotroute_serve.specs.declared.request.Request.TheVariants.{Answer, Run}
 
 -- the words are those of the question
 abbrev pub Asks : List (List ℕ) → Question → Type 0
@@ -20,7 +20,6 @@ Asks words (Split command) =
 abbrev pub AsksFor : List (List ℕ) → Request → Type 0
 AsksFor words (Answer question) = Asks words question
 AsksFor words (Run direction) = IsRunWords direction words
-AsksFor words (Pipeline direction) = IsPipelineWords direction words
 
 -- why a question has no answer on a map, where these names are registered
 abbrev pub WhyNoAnswer : Registrations → Question → AnswerFault → Type 0

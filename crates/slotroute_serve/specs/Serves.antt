@@ -4,9 +4,9 @@ use Rattle.std.specs.Io.KnownBytes.{Appends}
 use Rattle.cluster_map.specs.SlotNodes.{insert_ranges}
 use Rattle.slotroute_serve.specs.declared.direction.Direction.{Direction}
 use Rattle.slotroute_serve.specs.Faults.{fault_line, IsCaused}
-use Rattle.slotroute_serve.specs.Lines.{leading_lines, after_map, StopsAmong, StopsInMap}
+use Rattle.slotroute_serve.specs.Lines.{leading_lines, after_map, StopsInMap}
 use Rattle.slotroute_serve.specs.MapLines.{Made, IsMap}
-use Rattle.slotroute_serve.specs.Output.{Output, IsRequest, IsRunWords, IsPipelineWords, usage_line, bad_map_line, not_multi_key_line, refused_line}
+use Rattle.slotroute_serve.specs.Output.{Output, IsRequest, IsRunWords, usage_line, bad_map_line, not_multi_key_line, refused_line}
 use Rattle.slotroute_serve.specs.Runs.{StopsAfter, CutShort}
 use Rattle.slotroute_serve.specs.Streams.{Leaves}
 use Rattle.slotroute_serve.specs.declared.fault.Fault.{Fault}
@@ -44,18 +44,6 @@ pub record CutsRun (handed : Bool) (direction : Direction) (input left text : Li
   pub is_map : IsMap (leading_lines input) made
   pub cut : CutShort handed direction made.registry (insert_ranges [] made.ranges) (after_map input) left text
 
--- the map was read, and the reading stopped in a line after it, or right after that line
-pub record StopsAfterMap (input left : List ℕ) : Type 0 where
-  pub made : Made
-  pub is_map : IsMap (leading_lines input) made
-  pub stops : StopsAmong (after_map input) left
-
--- the reading stopped in the map, or among the lines of a pipeline
-abbrev pub IsReadInPart : List (List ℕ) → Option (List ℕ) → Option (List ℕ) → Type 0
-IsReadInPart words input left =
-    Leaves input left StopsInMap
-    ⊎ ((direction : Direction) × IsPipelineWords direction words × Leaves input left StopsAfterMap)
-
 -- the text of the commands that were run so far, which is none but for `run`
 abbrev pub IsSoFar : Bool → List (List ℕ) → Option (List ℕ) → Option (List ℕ) → List ℕ → Type 0
 IsSoFar handed words input left text =
@@ -63,16 +51,15 @@ IsSoFar handed words input left text =
     ⊎ ((direction : Direction) × IsRunWords direction words
     × Leaves input left (λ bytes rest. BeginsRun handed direction bytes rest text))
 
--- the reading stopped in the map or among the lines of a pipeline, when nothing was written, or
--- among the commands of a run
+-- the reading stopped in the map, when nothing was written, or among the commands of a run
 abbrev pub IsUnfinished : Bool → List (List ℕ) → Option (List ℕ) → Option (List ℕ) → List ℕ → Type 0
 IsUnfinished handed words input left text =
-    ((text ≡ []) × IsReadInPart words input left)
+    ((text ≡ []) × Leaves input left StopsInMap)
     ⊎ ((direction : Direction) × IsRunWords direction words
     × Leaves input left (λ bytes rest. BeginsRun handed direction bytes rest text))
 
--- the text is the first bytes of an answer or of what a pipeline prints, or what the first commands
--- of a run print and the first bytes of what the next one does
+-- the text is the first bytes of an answer, or what the first commands of a run print and the
+-- first bytes of what the next one does
 abbrev pub IsCutShort : Bool → List (List ℕ) → Option (List ℕ) → Option (List ℕ) → List ℕ → Type 0
 IsCutShort handed words input left text =
     Leaves input left (λ bytes rest. BeginsOutput handed words bytes rest text)

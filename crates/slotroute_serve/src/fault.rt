@@ -14,7 +14,7 @@ pub enum Fault {
     BadMapLine(u64),
     /// The command of `split` is no multi-key command, or not a complete one.
     NotMultiKey,
-    /// The command of this line of `run` or `pipeline`, counted from 1, is refused.
+    /// The command of this line of `run`, counted from 1, is refused.
     Command(u64, Refusal),
     /// Memory ran out.
     Memory,
@@ -57,7 +57,7 @@ pub enum AnswerFault {
     Memory,
 }
 
-/// Why a run of commands, or of a pipeline, is not done to the end.
+/// Why a run of commands is not done to the end.
 #[derive(Debug, Drop)]
 pub enum RunFault {
     /// The command of this line, counted from 1, is refused.

@@ -1,16 +1,12 @@
 //! The program over any reader and writers: what it prints for its words and its input.
 #![tactic(auto)]
 
-mod batch_printing;
 mod command;
 mod direction;
 mod fault;
 mod input;
 mod multi;
 mod output;
-mod pipeline;
-mod pipeline_input;
-mod pipeline_run;
 mod printing;
 mod program;
 mod refusal;

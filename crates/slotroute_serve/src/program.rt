@@ -11,7 +11,6 @@ use crate::direction::Direction;
 use crate::fault::{AnswerFault, Fault, RunFault};
 use crate::input::{LeadingLines, read_map};
 use crate::output::emit;
-use crate::pipeline_run::pipe_commands;
 use crate::request::{Question, Request, request_of};
 use crate::run::run_commands;
 use crate::split::split_answer;
@@ -24,7 +23,7 @@ use std::io::{BufRead, Write};
 
 /// The line for other words.
 pub const USAGE: &str =
-    "usage: slotroute node KEY | split WORD .. | run forward|reverse [first|pick=N|shard] | pipeline forward|reverse\n";
+    "usage: slotroute node KEY | split WORD .. | run forward|reverse [first|pick=N|shard]\n";
 
 /// Runs the program on the words after its name, and gives its status.
 ///
@@ -115,10 +114,6 @@ fn run<R: Source, O: Sink>(
             run_told(
                 alloc, &direction, first, &map, registry, strategy, reader, out,
             )?;
-            return Ok(0);
-        }
-        Request::Pipeline(direction) => {
-            pipe_commands(alloc, &direction, first, &map, registry, reader, out)?;
             return Ok(0);
         }
     };

@@ -10,8 +10,6 @@ use std::fmt;
 pub enum Refusal {
     /// It is not a multi-key command, or not a complete one.
     NotMultiKey,
-    /// It is no complete multi-key command either, and goes to no single slot.
-    NotRoutable,
     /// No node serves this slot of one of its keys.
     NotCovered(u16),
     /// A node refused a part of it.
@@ -30,9 +28,6 @@ impl fmt::Display for Refusal {
     fn fmt<W: fmt::Write>(&self, f: &mut fmt::Formatter<W>) -> fmt::Result {
         match self {
             Refusal::NotMultiKey => write!(f, "not a multi-key command"),
-            Refusal::NotRoutable => {
-                write!(f, "neither a multi-key command nor one of a single slot")
-            }
             Refusal::NotCovered(slot) => write!(f, "slot {slot} not covered"),
             Refusal::NodeRefused => write!(f, "node refused"),
             Refusal::ReplyLost => write!(f, "reply lost"),

@@ -13,8 +13,6 @@ pub enum Request<'a> {
     Answer(Question<'a>),
     /// To run the commands that follow the map.
     Run(Direction),
-    /// To run the commands that follow the map as one pipeline.
-    Pipeline(Direction),
 }
 
 /// What is asked of the map.
@@ -26,8 +24,7 @@ pub enum Question<'a> {
     Split(&'a [String]),
 }
 
-/// The request of the words `node KEY`, `split WORD ..`, `run forward|reverse ..`, or
-/// `pipeline forward|reverse`.
+/// The request of the words `node KEY`, `split WORD ..` or `run forward|reverse ..`.
 pub fn request_of(words: &[String]) -> Option<Request<'_>>
     ensures { MatchOption result
         (¬ (IsRequest (map string_bytes words.now)))
@@ -40,7 +37,6 @@ pub fn request_of(words: &[String]) -> Option<Request<'_>>
         "node" => node_request(rest),
         "split" => split_request(rest),
         "run" => run_request(rest),
-        "pipeline" => pipeline_request(rest),
         _ => None,
     }
 }
@@ -76,29 +72,6 @@ fn run_request(words: &[String]) -> Option<Request<'_>>
         Some(direction) => Some(Request::Run(direction)),
         None => None,
     }
-}
-
-fn pipeline_request(words: &[String]) -> Option<Request<'_>>
-    ensures { MatchOption result
-        ((direction : Way) → map string_bytes words.now ≢ direction_word direction ∷ [])
-        (AsksFor (codes "pipeline" ∷ map string_bytes words.now)) }
-{
-    match sole_direction(words) {
-        Some(direction) => Some(Request::Pipeline(direction)),
-        None => None,
-    }
-}
-
-/// The direction of the one word after `pipeline`.
-fn sole_direction(words: &[String]) -> Option<Direction>
-    ensures { MatchOption result
-        ((direction : Way) → map string_bytes words.now ≢ direction_word direction ∷ [])
-        (λ direction. map string_bytes words.now ≡ direction_word direction ∷ []) }
-{
-    let [direction] = words else {
-        return None;
-    };
-    direction_by(direction.as_str())
 }
 
 /// The direction of the words after `run`.

@@ -4,6 +4,8 @@
 #[cfg(test)]
 mod batched_client;
 #[cfg(test)]
+mod batched_pipelines;
+#[cfg(test)]
 mod client;
 #[cfg(test)]
 mod examples;

@@ -1,7 +1,7 @@
-use Rattle.slotroute_serve.proofs.Serving.{answer_status, usage_fault, is_request, touched, no_map, no_memory, no_answer, answered, not_written, run_stopped, ran_to_end, pipe_stopped, piped_to_end}
+use Rattle.slotroute_serve.proofs.Serving.{answer_status, usage_fault, is_request, touched, no_map, no_memory, no_answer, answered, not_written, run_stopped, ran_to_end}
 use Rattle.slotroute_serve.specs.Requests.{Asks, AsksFor}
 use Rattle.slotroute_serve.specs.MapLines.{made_in}
-use Rattle.slotroute_serve.specs.Output.{IsRunWords, IsPipelineWords}
+use Rattle.slotroute_serve.specs.Output.{IsRunWords}
 use Rattle.std.proofs.Common.{is_some, subst, map, string_bytes}
 use Rattle.slotroute_serve.proofs.program.run.Goals as goal
 
@@ -79,24 +79,3 @@ returns-in-Run-clause-asked g c = is_request (is_some c.args.strategy) _ c.in-So
 
 pub returns-in-Run-clause-untouched : goal.returns-in-Run-clause-untouched
 returns-in-Run-clause-untouched g c = touched (is_some c.args.strategy) _ _ _ (is_request (is_some c.args.strategy) _ c.in-Some.request c.in-Some.ensures)
-
-pub returns-in_err-pipe_commands-in-Pipeline-clause-answer : goal.returns-in_err-pipe_commands-in-Pipeline-clause-answer
-returns-in_err-pipe_commands-in-Pipeline-clause-answer g c =
-    let asks : IsPipelineWords c.in-Pipeline.direction (map string_bytes c.args.words.now) = subst (AsksFor (map string_bytes c.args.words.now)) c.in-Pipeline.is c.in-Some.ensures in
-    pipe_stopped (is_some c.args.strategy) _ c.in-Pipeline.direction _ (g.R.Source.remaining c.args.reader.now) (g.R.Source.remaining c.read_map.new.source) (g.R.Source.remaining c.pipe_commands.new.reader) (g.O.Sink.contents c.args.out.now) (g.O.Sink.contents c.pipe_commands.new.out) (made_in c.in_ok-made.made) c.in_err-pipe_commands-in-Pipeline.field-0.0 c.from_residual-in_err-pipe_commands-in-Pipeline.result
-    asks c.in_ok-made.ensures.next c.in_ok-made.ensures.map c.in_ok-made.ensures.rest (rw c.in_ok-map.ensures.put at c.in_err-pipe_commands-in-Pipeline.ensures.run) c.from_residual-in_err-pipe_commands-in-Pipeline.ensures.1
-
-pub returns-in_err-pipe_commands-in-Pipeline-clause-untouched : goal.returns-in_err-pipe_commands-in-Pipeline-clause-untouched
-returns-in_err-pipe_commands-in-Pipeline-clause-untouched g c = touched (is_some c.args.strategy) _ _ _ (is_request (is_some c.args.strategy) _ c.in-Some.request c.in-Some.ensures)
-
-pub returns-in-Pipeline-clause-answer : goal.returns-in-Pipeline-clause-answer
-returns-in-Pipeline-clause-answer g c =
-    let asks : IsPipelineWords c.in-Pipeline.direction (map string_bytes c.args.words.now) = subst (AsksFor (map string_bytes c.args.words.now)) c.in-Pipeline.is c.in-Some.ensures in
-    piped_to_end (is_some c.args.strategy) _ c.in-Pipeline.direction _ (g.R.Source.remaining c.args.reader.now) (g.R.Source.remaining c.read_map.new.source) (g.R.Source.remaining c.pipe_commands.new.reader) (g.O.Sink.contents c.args.out.now) (g.O.Sink.contents c.pipe_commands.new.out) (made_in c.in_ok-made.made)
-    asks c.in_ok-made.ensures.next c.in_ok-made.ensures.map c.in_ok-made.ensures.rest (rw c.in_ok-map.ensures.put at c.in_ok-pipe_commands-in-Pipeline.ensures.run)
-
-pub returns-in-Pipeline-clause-asked : goal.returns-in-Pipeline-clause-asked
-returns-in-Pipeline-clause-asked g c = is_request (is_some c.args.strategy) _ c.in-Some.request c.in-Some.ensures
-
-pub returns-in-Pipeline-clause-untouched : goal.returns-in-Pipeline-clause-untouched
-returns-in-Pipeline-clause-untouched g c = touched (is_some c.args.strategy) _ _ _ (is_request (is_some c.args.strategy) _ c.in-Some.request c.in-Some.ensures)

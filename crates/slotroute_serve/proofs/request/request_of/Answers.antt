@@ -2,7 +2,7 @@ use Rattle.std.proofs.Common.{arith, ◌≡◌, ◌⊎◌, inl, inr, ℕ, List, 
 use Rattle.std.specs.Prelude.{Option, Some, None, MatchOption}
 use Rattle.std.proofs.lemmas.List.{take_rest}
 use Rattle.slotroute_serve.specs.declared.direction.Direction.{Direction}
-use Rattle.slotroute_serve.specs.Output.{IsRequest, IsDirected, IsRunWords, IsPipelineWords, direction_word, node_words, split_words, node_request, split_request, run_request, pipeline_request}
+use Rattle.slotroute_serve.specs.Output.{IsRequest, IsDirected, IsRunWords, node_words, split_words, node_request, split_request, run_request}
 use Rattle.slotroute_serve.specs.Requests.{AsksFor}
 use Rattle.slotroute_serve.specs.declared.request.Request.{Request}
 use Rattle.slotroute_serve.proofs.request.request_of.Goals as goal
@@ -12,13 +12,12 @@ first_and_rest : {A : Type 0} (f : A → List ℕ) (ws : List A) (a : A) → a �
 first_and_rest f [] a e h = absurd (omega arith)
 first_and_rest f (x ∷ xs) a e h = rw (take_rest (x ∷ xs) 1) (ap (λ z. f z ∷ map f xs) (sym e))
 
--- the four forms of words
+-- the three forms of words
 form : (ws : List (List ℕ)) → IsRequest ws
-    → ((key : List ℕ) × (ws ≡ node_words key)) ⊎ (((command : List (List ℕ)) × (ws ≡ split_words command)) ⊎ (((direction : Direction) × IsRunWords direction ws) ⊎ ((direction : Direction) × IsPipelineWords direction ws)))
+    → ((key : List ℕ) × (ws ≡ node_words key)) ⊎ (((command : List (List ℕ)) × (ws ≡ split_words command)) ⊎ ((direction : Direction) × IsRunWords direction ws))
 form ws (node_request key) = inl (key, refl)
 form ws (split_request command some) = inr (inl (command, refl))
-form ws (run_request direction words run) = inr (inr (inl (direction, run)))
-form ws (pipeline_request direction words piped) = inr (inr (inr (direction, piped)))
+form ws (run_request direction words run) = inr (inr (direction, run))
 
 abbrev first_of : List (List ℕ) → List ℕ
 first_of [] = []
@@ -28,22 +27,8 @@ not_directed : (rest : List (List ℕ)) → ((direction : Direction) → ¬ (IsD
 not_directed rest none asked = elim (form (codes "run" ∷ rest) asked) as (λ _. ⊥) [
   | inl (key, e) ↦ let same : codes "run" ≡ codes "node" = ap first_of e in cc same
   | inr (inl (command, e)) ↦ let same : codes "run" ≡ codes "split" = ap first_of e in cc same
-  | inr (inr (inl (direction, run))) ↦ none direction run.1
-  | inr (inr (inr (direction, piped))) ↦ let same : codes "run" ≡ codes "pipeline" = piped.0 in cc same
+  | inr (inr (direction, run)) ↦ none direction run.1
 ]
-
--- the words after `pipeline` are no direction alone
-not_piped : (rest : List (List ℕ)) → ((direction : Direction) → ¬ (rest ≡ direction_word direction ∷ [])) → ¬ (IsRequest (codes "pipeline" ∷ rest))
-not_piped rest none asked = elim (form (codes "pipeline" ∷ rest) asked) as (λ _. ⊥) [
-  | inl (key, e) ↦ let same : codes "pipeline" ≡ codes "node" = ap first_of e in cc same
-  | inr (inl (command, e)) ↦ let same : codes "pipeline" ≡ codes "split" = ap first_of e in cc same
-  | inr (inr (inl (direction, run))) ↦ let same : codes "pipeline" ≡ codes "run" = run.0 in cc same
-  | inr (inr (inr (direction, piped))) ↦ none direction piped.1
-]
-
-asks_pipeline : (ws rest : List (List ℕ)) (r : Option Request) → ws ≡ codes "pipeline" ∷ rest → MatchOption r ((direction : Direction) → ¬ (rest ≡ direction_word direction ∷ [])) (AsksFor (codes "pipeline" ∷ rest)) → MatchOption r (¬ (IsRequest ws)) (AsksFor ws)
-asks_pipeline ws rest None e h = subst (λ (w : List (List ℕ)). ¬ (IsRequest w)) (sym e) (not_piped rest h)
-asks_pipeline ws rest (Some request) e h = subst (λ (w : List (List ℕ)). AsksFor w request) (sym e) h
 
 asks_run : (ws rest : List (List ℕ)) (r : Option Request) → ws ≡ codes "run" ∷ rest → MatchOption r ((direction : Direction) → ¬ (IsDirected direction rest)) (AsksFor (codes "run" ∷ rest)) → MatchOption r (¬ (IsRequest ws)) (AsksFor ws)
 asks_run ws rest None e h = subst (λ (w : List (List ℕ)). ¬ (IsRequest w)) (sym e) (not_directed rest h)
@@ -53,8 +38,3 @@ pub returns-in-run : goal.returns-in-run
 returns-in-run c =
     asks_run (map string_bytes c.args.words.now) (map string_bytes (take (length c.args.words.now - 1) (drop 1 c.args.words.now))) c.run_request.result
     (first_and_rest string_bytes c.args.words.now c.word-item.result c.word-item.is c.in-len1-up.len_at_least ∙ ap (λ w. w ∷ map string_bytes (take (length c.args.words.now - 1) (drop 1 c.args.words.now))) (sym c.as_str.ensures.value ∙ c.in-run.is)) c.run_request.ensures
-
-pub returns-in-pipeline : goal.returns-in-pipeline
-returns-in-pipeline c =
-    asks_pipeline (map string_bytes c.args.words.now) (map string_bytes (take (length c.args.words.now - 1) (drop 1 c.args.words.now))) c.pipeline_request.result
-    (first_and_rest string_bytes c.args.words.now c.word-item.result c.word-item.is c.in-len1-up.len_at_least ∙ ap (λ w. w ∷ map string_bytes (take (length c.args.words.now - 1) (drop 1 c.args.words.now))) (sym c.as_str.ensures.value ∙ c.in-pipeline.is)) c.pipeline_request.ensures
