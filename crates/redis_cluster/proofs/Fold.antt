@@ -51,7 +51,7 @@ module _ {C : Type 0} (act : Act C) where
   cell_after-append key (x ∷ xs) ys c = cell_after-append key xs ys _
 
   -- the tuples of slots that the key's is not one of leave its cell
-  skips : (test : ℕ → Bool) (key : List ℕ) → test (key_slot key) ≡ false → (ts : List KeyTuple) (c : Option C)
+  pub skips : (test : ℕ → Bool) (key : List ℕ) → test (key_slot key) ≡ false → (ts : List KeyTuple) (c : Option C)
       → cell_after key (filter (λ t. test (key_slot t.key)) ts) c ≡ c
   skips test key other [] c = refl
   skips test key other (t ∷ ts) c =
@@ -62,7 +62,7 @@ module _ {C : Type 0} (act : Act C) where
       (λ there. rw there (skips test key other ts c))
 
   -- the tuples of slots of which the key's is one do what all tuples do
-  keeps : (test : ℕ → Bool) (key : List ℕ) → test (key_slot key) ≡ true → (ts : List KeyTuple) (c : Option C)
+  pub keeps : (test : ℕ → Bool) (key : List ℕ) → test (key_slot key) ≡ true → (ts : List KeyTuple) (c : Option C)
       → cell_after key (filter (λ t. test (key_slot t.key)) ts) c ≡ cell_after key ts c
   keeps test key own [] c = refl
   keeps test key own (t ∷ ts) c =

@@ -23,6 +23,7 @@ pub mod JoinedCounts
 pub mod PlacesOfKeys
 pub mod JoinedLists
 pub mod Joined
+pub mod Amid
 pub mod Zips
 pub mod Told
 pub mod Planned

@@ -32,7 +32,7 @@ use Rattle.redis_routing.proofs.Picks.{complete_fits}
 use Rattle.redis_routing.proofs.Patterns.{fits_some}
 use Rattle.redis_routing.proofs.SelfRouting.{All-first_appearances, all_there, complete_again, present_arguments-part, same_contents, shared_again, tuples_again}
 use Rattle.redis_routing.proofs.SomeRoutes.{some_route}
-use Rattle.redis_cluster.specs.MultiKey.{MultiKey, ReplyForm, list, count, okay, command_with, form_by_policy, form_of_policy, is_whole, multi_key, part_of, shape_of, shared_by, tuples_by, tuples_of_slot}
+use Rattle.redis_cluster.specs.MultiKey.{KeyTuple, MultiKey, ReplyForm, list, count, okay, command_with, form_by_policy, form_of_policy, is_whole, multi_key, part_of, shape_of, shared_by, slots_in, tuples_by, tuples_of_slot}
 use Rattle.redis_cluster.specs.PlacedTuples.{tuples_of, unplaced}
 use Rattle.redis_cluster.proofs.Shapes.{whole_is, tuples_are_placed, shared_is}
 use Rattle.resp_core.proofs.Cases.{by_test}
@@ -195,6 +195,25 @@ listed number xs k d inside =
     same_test : (a b : ℕ) → nat_eq a b ≡ nat_eq b a
     same_test a b = grind (arith, nat_tests)
 
+-- The slots of a command: each is that of a key, none stands twice, and that of each key stands once.
+module _ (command : MultiKey) where
+  abbrev slot_of_key : KeyTuple → ℕ
+  slot_of_key t = key_slot t.key
+
+  pub slots_have_keys : All (λ slot. list_any (λ t. nat_eq (key_slot t.key) slot) command.tuples ≡ true) (slots_in command)
+  slots_have_keys =
+      let There : ℕ → Type 0 = λ slot. list_any (λ t. nat_eq (key_slot t.key) slot) command.tuples ≡ true in
+      All-first_appearances There (map slot_of_key command.tuples) (All-map There slot_of_key command.tuples (all_there slot_of_key command.tuples))
+
+  counted : (slot : ℕ) → count_by (nat_eq slot) (slots_in command) ≡ cond (list_any (nat_eq slot) (map slot_of_key command.tuples)) 1 0
+  counted slot = count_firsts slot (map slot_of_key command.tuples)
+
+  pub slots_once : (slot : ℕ) → count_by (nat_eq slot) (slots_in command) ≤ 1
+  slots_once slot = rw (counted slot) (by_test (list_any (nat_eq slot) (map slot_of_key command.tuples)) (λ found. rw found (omega arith)) (λ none. rw none (omega arith)))
+
+  pub keys_once : All (λ t. count_by (nat_eq (key_slot t.key)) (slots_in command) ≡ 1) command.tuples
+  keys_once k d inside = counted (key_slot (get_or command.tuples k d).key) ∙ ap (λ b. cond b 1 0) (listed slot_of_key command.tuples k d inside)
+
 -- the slots of a command's tuples, and the routes of its parts
 module _ (pattern : MultiSlotArgPattern) (present : List (List ℕ)) (command : MultiKey) (whole : HasTuples pattern present command) where
   abbrev numbers : List ℕ
@@ -212,20 +231,15 @@ module _ (pattern : MultiSlotArgPattern) (present : List (List ℕ)) (command : 
         let firsts = first_appearances (map slot_of (tuples_in pattern present)) in
         map-map (λ r. r.0.slot) (route_of_slot reads pattern present) firsts ∙ map-id firsts ∙ ap first_appearances same_slots
 
-    counted : (slot : ℕ) → count_by (nat_eq slot) (slots_of routes) ≡ cond (list_any (nat_eq slot) numbers) 1 0
-    counted slot = ap (count_by (nat_eq slot)) slots_are ∙ count_firsts slot numbers
-
     keys_have : All (λ slot. list_any (λ t. nat_eq (key_slot t.key) slot) command.tuples ≡ true) (first_appearances (map slot_of (tuples_in pattern present)))
     keys_have =
-        let There : ℕ → Type 0 = λ slot. list_any (λ t. nat_eq (key_slot t.key) slot) command.tuples ≡ true in
-        subst (λ ns. All There (first_appearances ns)) (sym same_slots)
-        (All-first_appearances There numbers (All-map There (λ t. key_slot t.key) command.tuples (all_there (λ t. key_slot t.key) command.tuples)))
+        subst (λ ns. All (λ slot. list_any (λ t. nat_eq (key_slot t.key) slot) command.tuples ≡ true) (first_appearances ns)) (sym same_slots) (slots_have_keys command)
 
     pub are_routes_of : AreRoutesOf command routes
     are_routes_of = record {
       slots = slots_are;
-      at_most_once = λ slot. rw (counted slot) (by_test (list_any (nat_eq slot) numbers) (λ found. rw found (omega arith)) (λ none. rw none (omega arith)));
-      once = λ k d inside. counted (key_slot (get_or command.tuples k d).key) ∙ ap (λ b. cond b 1 0) (listed (λ t. key_slot t.key) command.tuples k d inside);
+      at_most_once = λ slot. subst (λ slots. count_by (nat_eq slot) slots ≤ 1) (sym slots_are) (slots_once command slot);
+      once = subst (λ slots. All (λ (t : KeyTuple). count_by (nat_eq (key_slot t.key)) slots ≡ 1) command.tuples) (sym slots_are) (keys_once command);
       of_keys = All-map (λ r. list_any (λ t. nat_eq (key_slot t.key) r.0.slot) command.tuples ≡ true) (route_of_slot reads pattern present) _ keys_have;
       some = some_route reads pattern present (complete_fits pattern (length present) whole.complete);
     }

@@ -1,10 +1,12 @@
 -- What a split command is by its tuples: each slot of a key has one route, whose list is the places of the slot's part.
-use Rattle.std.proofs.Common.{◌≡◌, ℕ, ◌<◌, ◌^◌, List, [], None, length, refl, sym, subst, arith}
+use Rattle.std.proofs.Common.{◌≡◌, ℕ, ◌<◌, ◌^◌, List, [], None, length, map, refl, sym, ap, ◌∙◌, subst, arith}
 use Rattle.std.specs.Prelude.{All, slice_get}
 use Rattle.redis_routing.specs.PresentArguments.{present_arguments}
+use Rattle.cluster_slots.specs.KeySlot.{key_slot}
+use Rattle.redis_routing.specs.Parts.{first_appearances}
 use Rattle.redis_routing.specs.Tuples.{shared_in}
 use Rattle.redis_routing.specs.Split.{Split, IsSplit, slots_of}
-use Rattle.redis_cluster.specs.MultiKey.{MultiKey, list}
+use Rattle.redis_cluster.specs.MultiKey.{MultiKey, list, slots_in}
 use Rattle.redis_cluster.specs.PlacedTuples.{tuples_of}
 use Rattle.redis_cluster.proofs.Fold.{NamesSlots}
 use Rattle.redis_cluster.proofs.SplitParts.{AreRoutesOf, HasTuples, are_routes_of}
@@ -40,3 +42,7 @@ module _ (split : Split) (held : IsSplit split) where
     some = routes_are.some;
     few = omega (arith, tuples_few_present split.pattern present command whole, few_present split.arguments, held.few);
   }
+
+-- its routes are those of the slots of the command with these tuples
+pub slots_of_split : (split : Split) → IsSplit split → (unsplit : MultiKey) → unsplit.tuples ≡ tuples_in_split split → slots_of split.routes ≡ slots_in unsplit
+slots_of_split split held unsplit tuples = (routes_are split held).slots ∙ ap (λ ts. first_appearances (map (λ t. key_slot t.key) ts)) (sym tuples)

@@ -51,6 +51,7 @@ pub mod Driven
 pub mod Ready
 pub mod Faults
 pub mod Joined
+pub mod Amid
 pub mod Ended
 pub mod FaultText
 pub mod Retry

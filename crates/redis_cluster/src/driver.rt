@@ -1,4 +1,4 @@
-ghost use Rattle.std.specs.Prelude.{◌≡◌, ◌<◌, ◌↔◌, ◌++◌, ◌⊎◌, ℕ, List, Ok, Err, None, map, length, IsSome, IfOk, OnOk, IfErr};
+ghost use Rattle.std.specs.Prelude.{◌≡◌, ◌<◌, ◌↔◌, ◌++◌, ◌⊎◌, ℕ, List, Ok, Err, None, map, length, Some, IsSome, IfOk, OnOk, IfErr};
 ghost use Rattle.std.specs.List.{All};
 ghost use Rattle.resp_core.specs.declared.error.ErrorKind.TheVariants.{OutOfMemory};
 ghost use Rattle.resp_core.specs.ErrorParts.{ErrorParts};
@@ -7,9 +7,10 @@ ghost use Rattle.resp_core.specs.View.{view};
 ghost use Rattle.cluster_slots.specs.SlotRoute.{SlotRoute};
 ghost use Rattle.cluster_map.specs.RouteNode.{IsRouteNode};
 ghost use Rattle.redis_routing.specs.Names.{names_of};
+ghost use Rattle.redis_cluster.specs.Amid.{ArePartsOf, IsServedAmid};
 ghost use Rattle.redis_cluster.specs.Attempts.{AreAllowed};
 ghost use Rattle.redis_cluster.specs.Front.{IsSameCommand, front};
-ghost use Rattle.redis_cluster.specs.MultiKey.{MultiKey};
+ghost use Rattle.redis_cluster.specs.MultiKey.{MultiKey, multi_key};
 ghost use Rattle.redis_cluster.specs.Orders.{NamesOnce, in_order};
 ghost use Rattle.redis_cluster.specs.Trace.{Ending};
 ghost use Rattle.redis_cluster.specs.Unsplit.{keyspace_after, reply_to};
@@ -58,10 +59,15 @@ use std::alloc::Global;
 /// `DEL foo bar baz {bar}vaz` goes out as `DEL foo`, `DEL bar {bar}vaz` and `DEL baz`, and the
 /// counts are added up.
 ///
-/// Where it gives a reply, each part went once, and the reply is made of those that the nodes gave.
-/// Where the nodes keep to one meaning over one keyspace, keyspace and reply are those of the
-/// unsplit command, whatever that does to a single key, whatever the order. Arguments from the
-/// first gap on are not sent.
+/// If it returns a reply, each part went once, and the reply is built from the replies that the nodes
+/// gave. Other clients may write the same keys meanwhile, and replicas may lag. Each node runs its
+/// part at one moment, on what it holds then. The reply is that of the unsplit command on a server
+/// that has, at each key, what the key's node held at that moment. What the command leaves there is,
+/// at each key, what the node held right after the part.
+///
+/// If nobody else writes these keys meanwhile, that is what stood at the call. So keyspace and reply
+/// are those of the unsplit command, whatever it does to a single key, whatever the order. Arguments
+/// from the first gap on are not sent.
 ///
 /// # Errors
 ///
@@ -99,6 +105,12 @@ pub fn drive<R: Routable, N: Nodes>(
         IsJoined (names_of read_only.now (N.registered nodes.old)) (R.args command.now)
         order.now
         (N.gave nodes.old) (N.gave nodes.new) (Err error.kind)) }
+    // Others may write the same keys meanwhile, and replicas may lag. Take any keyspace that has, at
+    // each key of the command, what the key's node held when it ran the key's part. If each node
+    // replied by what it held, the reply is that of the unsplit command on this keyspace.
+    ensures amid { IfOk result (λ value.
+        IsServedAmid N.step (N.registered nodes.old) (R.args command.now) order.now
+        (N.gave nodes.old) (N.gave nodes.new) (view value)) }
     // The headline: where the nodes keep to one meaning over one keyspace, each part went once, in
     // the order given, to a node of its route, and the keyspace and the reply are those of the
     // unsplit command.
@@ -142,6 +154,10 @@ pub fn drive<R: Routable, N: Nodes>(
     ensures untouched { IfErr result (λ e. IsBefore e.fault → nodes.new ≡ nodes.old) }
     // Nodes that kept to it now did so before.
     ensures kept { N.kept nodes.new → N.kept nodes.old }
+    // What the unsplit command leaves there is, at each key, what the key's node holds right after the
+    // key's part, whatever becomes of the other parts.
+    ensures parts { (c : MultiKey) → multi_key (N.registered nodes.old) (R.args command.now) ≡ Some c
+        → ArePartsOf N.step (N.registered nodes.old) (R.args command.now) c }
     // A command with gaps and its front have the same tuples, routes and parts.
     ensures gaps { IsSameCommand (R.args command.now) (front (R.args command.now)) }
     // The same names stay registered.
@@ -238,6 +254,10 @@ pub fn drive_plan<R: Routable, N: Nodes>(
         × ((before : List Reply) → N.gave nodes.old before
         → N.gave nodes.new (before ++ in_order replies order.now))
         × (joined plan.entry.split replies ≡ Err error.kind)) }
+    // The reply where others write the same keys meanwhile, as `drive` has it.
+    ensures amid { IfOk result (λ value.
+        IsServedAmid N.step (N.registered nodes.old) plan.entry.split.arguments order.now
+        (N.gave nodes.old) (N.gave nodes.new) (view value)) }
     ensures driven { IfOk result (λ value.
         (asked : Request) (c : MultiKey) → IsPlanFor asked order.now (N.registered nodes.old) plan.entry c → N.kept nodes.new
         → IsDriven (IsPlanNode plan.entry) N.step asked
@@ -266,6 +286,8 @@ pub fn drive_plan<R: Routable, N: Nodes>(
         (λ e. HaveGiven (N.gave nodes.old) (N.gave nodes.new) e.answered) }
     ensures untouched { IfErr result (λ e. IsBefore e.fault → nodes.new ≡ nodes.old) }
     ensures kept { N.kept nodes.new → N.kept nodes.old }
+    ensures parts { (c : MultiKey) → multi_key (N.registered nodes.old) plan.entry.split.arguments ≡ Some c
+        → ArePartsOf N.step (N.registered nodes.old) plan.entry.split.arguments c }
     ensures registered { N.registered nodes.new ≡ N.registered nodes.old }
     ensures may_refuse { (count : ℕ) (ending : Ending) → N.may_refuse nodes.new count ending
         ↔ N.may_refuse nodes.old count ending }
@@ -315,6 +337,9 @@ pub(super) fn drive_tries<R: Routable, N: Nodes>(
         × ((before : List Reply) → N.gave nodes.old before
         → N.gave nodes.new (before ++ in_order replies order.now))
         × (joined plan.entry.split replies ≡ Err error.kind)) }
+    ensures amid { IfOk result (λ value.
+        IsServedAmid N.step (N.registered nodes.old) plan.entry.split.arguments order.now
+        (N.gave nodes.old) (N.gave nodes.new) (view value)) }
     ensures given { IfErr result
         (λ e. HaveGiven (N.gave nodes.old) (N.gave nodes.new) e.answered) }
     ensures stopped { IfErr result

@@ -1,4 +1,4 @@
-ghost use Rattle.std.specs.Prelude.{◌≡◌, ◌↔◌, ◌++◌, ℕ, List, Ok, Err, map, length, IsSome, IfOk, IfErr};
+ghost use Rattle.std.specs.Prelude.{◌≡◌, ◌↔◌, ◌++◌, ℕ, List, Ok, Err, map, length, Some, IsSome, IfOk, IfErr};
 ghost use Rattle.std.specs.List.{All, AllZip, zip};
 ghost use Rattle.resp_core.specs.ErrorParts.{ErrorParts};
 ghost use Rattle.resp_core.specs.View.{view};
@@ -6,8 +6,9 @@ ghost use Rattle.cluster_slots.specs.SlotRoute.{SlotRoute};
 ghost use Rattle.cluster_map.specs.RouteNode.{IsRouteNode};
 ghost use Rattle.redis_routing.specs.Names.{names_of};
 ghost use Rattle.redis_cluster.specs.Front.{IsSameCommand, front};
-ghost use Rattle.redis_cluster.specs.MultiKey.{MultiKey};
+ghost use Rattle.redis_cluster.specs.MultiKey.{MultiKey, multi_key};
 ghost use Rattle.redis_cluster.specs.Trace.{Ending};
+ghost use Rattle.redis_cluster.specs.Amid.{ArePartsOf, IsServedAmid};
 ghost use Rattle.redis_cluster.specs.Attempts.{AreAllowed, HaveOneAnswer};
 ghost use Rattle.redis_cluster.specs.Driven.{request, AreAllAnswered, IsDelivered, IsDrivable, IsUnhindered};
 ghost use Rattle.redis_cluster.specs.Faults.{IsBefore, unseen};
@@ -47,9 +48,10 @@ use std::alloc::{AllocError, Global};
 ///
 /// Where it gives a reply, each part was answered once, whatever was refused or redirected on the
 /// way, and no route was sent more than `retries + 1` times, or more than once where no send may end
-/// but with an answer. Where the nodes kept to one meaning, part of which is that what they refused
-/// did nothing, each part took effect once. A part that was answered, or whose reply was lost, is
-/// never sent again: it may have taken effect.
+/// but with an answer. The reply is that of the unsplit command amid what others write, as for
+/// `drive`. If the nodes kept to one meaning, part of which is that what they refused did nothing,
+/// each part took effect once. A part that was answered, or whose reply was lost, is never sent
+/// again: it may have taken effect.
 ///
 /// An `Ask` is followed as a `Moved` is: that `ASKING` goes before the command is the connection's
 /// matter, as is what a `Moved` changes in the map. A refusal with the code `TRYAGAIN` is a refusal
@@ -98,6 +100,12 @@ pub fn drive_retrying<R: Routable, N: Nodes>(
     ensures unjoined { IfErr result (λ e. (error : ErrorParts) → e.fault ≡ DriveFault.Reply error →
         IsJoined (names_of read_only.now (N.registered nodes.old)) (R.args command.now) order.now
         (N.gave nodes.old) (N.gave nodes.new) (Err error.kind)) }
+    // Others may write the same keys meanwhile, and replicas may lag. Take any keyspace that has, at
+    // each key of the command, what the key's node held when it ran the key's part. If each node that
+    // gave a reply gave it by what it held, the reply is that of the unsplit command on this keyspace.
+    ensures amid { IfOk result (λ value.
+        IsServedAmid N.step (N.registered nodes.old) (R.args command.now) order.now
+        (N.gave nodes.old) (N.gave nodes.new) (view value)) }
     // Where the nodes keep to one meaning over one keyspace, the keyspace and the reply are those of
     // the unsplit command, whatever was refused or redirected.
     ensures driven { IfOk result (λ value. N.kept nodes.new → IsRetried
@@ -137,6 +145,10 @@ pub fn drive_retrying<R: Routable, N: Nodes>(
     ensures untouched { IfErr result (λ e. IsBefore e.fault → nodes.new ≡ nodes.old) }
     // Nodes that kept to it now did so before.
     ensures kept { N.kept nodes.new → N.kept nodes.old }
+    // What the unsplit command leaves there is, at each key, what the key's node holds right after the
+    // key's part, whatever becomes of the other parts.
+    ensures parts { (c : MultiKey) → multi_key (N.registered nodes.old) (R.args command.now) ≡ Some c
+        → ArePartsOf N.step (N.registered nodes.old) (R.args command.now) c }
     // A command with gaps and its front have the same tuples, routes and parts.
     ensures gaps { IsSameCommand (R.args command.now) (front (R.args command.now)) }
     // The same names stay registered.

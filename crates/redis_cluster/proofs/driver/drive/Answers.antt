@@ -3,6 +3,7 @@ use Rattle.std.proofs.lemmas.List.{append-nil}
 use Rattle.std.proofs.lemmas.Result.{IfErr-weaker, IfOk-weaker}
 use Rattle.cluster_slots.specs.Address.{Address}
 use Rattle.cluster_slots.specs.SlotRoute.{SlotRoute}
+use Rattle.resp_core.specs.View.{view}
 use Rattle.redis_routing.specs.Names.{names_of}
 use Rattle.redis_routing.specs.Registry.{Registrations}
 use Rattle.redis_cluster.specs.MultiKey.{MultiKey}
@@ -10,6 +11,9 @@ use Rattle.redis_cluster.specs.Driven.{Request, request}
 use Rattle.redis_cluster.specs.Joined.{IsSplitOf}
 use Rattle.redis_cluster.specs.Faults.{fault_of_plan, unseen, IsCauseBeforeSending}
 use Rattle.redis_cluster.specs.declared.fault.DriveFault.{DriveFault}
+use Rattle.redis_routing.specs.Command.{Arguments}
+use Rattle.redis_cluster.specs.Amid.{IsServedAmid}
+use Rattle.redis_cluster.proofs.Amid.{are_parts_of}
 use Rattle.redis_cluster.proofs.Gaps.{same_command}
 use Rattle.redis_cluster.proofs.TriedOnce.{early_fault, early_cut, early_plan}
 use Rattle.redis_cluster.specs.Ready.{IsPlanFor, IsPlanNode}
@@ -155,3 +159,16 @@ returns-in-Err-clause-unjoined g c = λ error is.
 pub returns-in-Err-clause-given : goal.returns-in-Err-clause-given
 returns-in-Err-clause-given g c =
     record { replies = []; each = refl; gave = λ before was. subst (g.N.Nodes.gave c.args.nodes.now) (sym (append-nil before)) was }
+
+pub returns-in-Ok-clause-amid : goal.returns-in-Ok-clause-amid
+returns-in-Ok-clause-amid g c =
+    let nodes = g.N.Nodes in
+    IfOk-weaker c.drive_plan.result _ _
+    (λ value. subst (λ (args : Arguments). IsServedAmid nodes.step (nodes.registered c.args.nodes.now) args c.args.order.now (nodes.gave c.args.nodes.now) (nodes.gave c.drive_plan.new.nodes) (view value)) c.in-Ok.ensures.arguments)
+    c.drive_plan.ensures.amid
+
+pub returns-in-Ok-clause-parts : goal.returns-in-Ok-clause-parts
+returns-in-Ok-clause-parts g c = λ command is. are_parts_of g.N.Nodes.step command (g.N.Nodes.registered c.args.nodes.now) (g.R.Routable.args c.args.command.now) is
+
+pub returns-in-Err-clause-parts : goal.returns-in-Err-clause-parts
+returns-in-Err-clause-parts g c = λ command is. are_parts_of g.N.Nodes.step command (g.N.Nodes.registered c.args.nodes.now) (g.R.Routable.args c.args.command.now) is

@@ -10,6 +10,9 @@ use Rattle.redis_cluster.specs.Unsplit.{results_of}
 use Rattle.redis_cluster.proofs.Once.{length-names_once}
 use Rattle.redis_routing.specs.Split.{Split}
 use Rattle.redis_cluster.specs.Joined.{joined}
+use Rattle.redis_cluster.specs.Plan.{Plan}
+use Rattle.redis_routing.specs.Split.{IsSplit}
+use Rattle.redis_cluster.proofs.Amid.{served_amid}
 use Rattle.redis_cluster.proofs.Ended.{no_reply_fault, memory_is_no_reply, same_reply}
 use Rattle.redis_cluster.proofs.Joined.{arrays_make_lists, memory_makes_lists}
 use Rattle.redis_cluster.proofs.driver.drive_tries.Goals as goal
@@ -92,3 +95,16 @@ returns-in-Err-combine-clause-given g c =
       each = length-in_order (map view told.values) c.args.order.now below ∙ same ∙ sym routes ∙ sym c.len-answered.ensures.len;
       gave = told.gave;
     }
+
+pub returns-in-Ok-clause-amid : goal.returns-in-Ok-clause-amid
+returns-in-Ok-clause-amid g c =
+    let told = c.in_default.ensures.told in
+    let made = c.in-Ok.ensures.joined told.values told.all_told in
+    let plan : Plan = c.args.plan in
+    served_amid g.N.Nodes.step (g.N.Nodes.registered c.args.nodes.now) plan c.requires.command.0 c.args.order.now (g.N.Nodes.gave c.args.nodes.now) (g.N.Nodes.gave c.send_all.new.nodes) (view c.in-Ok.reply) (map view told.values)
+    c.requires.command.1
+    (subst IsSplit c.in_default.ensures.plan c.len-answered.ensures.plan.split)
+    c.requires.order
+    (length-map told.values view ∙ told.each)
+    told.gave
+    (ap (λ (s : Split). joined s (map view told.values)) (sym c.in_default.ensures.plan) ∙ made)

@@ -5,6 +5,7 @@ use Rattle.std.specs.Prelude.{OnOk}
 use Rattle.std.proofs.Common.{Result, Ok, Err, IfOk}
 use Rattle.std.proofs.lemmas.List.{append-nil}
 use Rattle.std.proofs.lemmas.Result.{IfErr-weaker, IfOk-weaker}
+use Rattle.resp_core.specs.View.{view}
 use Rattle.redis_routing.specs.Names.{names_of}
 use Rattle.redis_cluster.specs.Driven.{request}
 use Rattle.redis_cluster.specs.Faults.{unseen, IsCauseBeforeSending}
@@ -12,6 +13,9 @@ use Rattle.redis_cluster.specs.Sends.{targets}
 use Rattle.redis_cluster.specs.Tries.{tries_with}
 use Rattle.redis_cluster.specs.declared.fault.DriveFault.{DriveFault}
 use Rattle.redis_cluster.specs.declared.fault.DriveFault.TheVariants.{Memory}
+use Rattle.redis_routing.specs.Command.{Arguments}
+use Rattle.redis_cluster.specs.Amid.{IsServedAmid}
+use Rattle.redis_cluster.proofs.Amid.{are_parts_of}
 use Rattle.redis_cluster.proofs.Gaps.{same_command}
 use Rattle.redis_cluster.proofs.EachTry.{each_try, each_named}
 use Rattle.redis_cluster.proofs.Allowed.{allowed_none}
@@ -238,3 +242,19 @@ returns-in-Err-retries_of-clause-headline g c = λ headline now. refl
 
 pub returns-in-Err-retries_of-clause-carried : goal.returns-in-Err-retries_of-clause-carried
 returns-in-Err-retries_of-clause-carried g c = λ routes command can all now. refl
+
+pub returns-in-Ok-retries_of-clause-amid : goal.returns-in-Ok-retries_of-clause-amid
+returns-in-Ok-retries_of-clause-amid g c =
+    let nodes = g.N.Nodes in
+    IfOk-weaker c.drive_tries.result _ _
+    (λ value. subst (λ (args : Arguments). IsServedAmid nodes.step (nodes.registered c.args.nodes.now) args c.args.order.now (nodes.gave c.args.nodes.now) (nodes.gave c.drive_tries.new.nodes) (view value)) c.in-Ok.ensures.split.arguments)
+    c.drive_tries.ensures.amid
+
+pub returns-in-Ok-retries_of-clause-parts : goal.returns-in-Ok-retries_of-clause-parts
+returns-in-Ok-retries_of-clause-parts g c = λ command is. are_parts_of g.N.Nodes.step command (g.N.Nodes.registered c.args.nodes.now) (g.R.Routable.args c.args.command.now) is
+
+pub returns-in-Err-clause-parts : goal.returns-in-Err-clause-parts
+returns-in-Err-clause-parts g c = λ command is. are_parts_of g.N.Nodes.step command (g.N.Nodes.registered c.args.nodes.now) (g.R.Routable.args c.args.command.now) is
+
+pub returns-in-Err-retries_of-clause-parts : goal.returns-in-Err-retries_of-clause-parts
+returns-in-Err-retries_of-clause-parts g c = λ command is. are_parts_of g.N.Nodes.step command (g.N.Nodes.registered c.args.nodes.now) (g.R.Routable.args c.args.command.now) is

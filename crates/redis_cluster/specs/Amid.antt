@@ -1,0 +1,82 @@
+-- What a multi-key command replies and leaves on a real cluster. Other clients write the same keys
+-- meanwhile, and replicas lag. Each node runs its part at one moment, on what it holds then.
+use Rattle.std.specs.Prelude.{◌≡◌, ◌≢◌, ◌++◌, ◌∷◌, [], ℕ, List, Some, map, length}
+use Rattle.std.specs.List.{All}
+use Rattle.resp_core.specs.Reply.{Reply}
+use Rattle.cluster_slots.specs.KeySlot.{key_slot}
+use Rattle.redis_routing.specs.Command.{Arguments}
+use Rattle.redis_routing.specs.Registry.{Registrations}
+use Rattle.redis_cluster.specs.MultiKey.{MultiKey, multi_key, part_by_slot, part_of, slots_in}
+use Rattle.redis_cluster.specs.Orders.{NamesOnce, in_order, times}
+use Rattle.redis_cluster.specs.Unsplit.{Step, Keyspace, keyspace_after, reply_to}
+
+-- What the node of each slot holds, at a moment of the slot's own.
+abbrev pub Moments : Type 0 → Type 0
+Moments C = ℕ → Keyspace C
+
+-- One keyspace has, at each key of the command, what the key's node held when it ran the key's part.
+--
+-- `MGET a b`, and another client's `MSET a 1 b 1` comes between the two parts:
+--     the keyspace has the old `a` and the new `b`. No server ever held it.
+-- The part of `a` goes to a replica that lags: the keyspace has the `a` of the replica.
+-- `b` expires between the parts, and its part is the second: the keyspace has no `b`.
+-- An importing node runs the part of `a` after `ASK`: the keyspace has the `a` of that node.
+abbrev pub IsAssembled : {C : Type 0} → MultiKey → Moments C → Keyspace C → Type 0
+IsAssembled command held one = All (λ t. one t.key ≡ held (key_slot t.key) t.key) command.tuples
+
+module _ {C : Type 0} (step : Step C) (command : MultiKey) (held : Moments C) where
+  -- the reply to the part of each slot, by what the slot's node held
+  --
+  -- `MGET a b`, if the node of `a` has 1 there and the node of `b` has nothing there:
+  --     the replies [1] and [nil]
+  abbrev pub replies_by : List Reply
+  replies_by = map (λ slot. reply_to step (part_of command slot) (held slot)) (slots_in command)
+
+  -- what the node of each slot holds right after the slot's part
+  --
+  -- `MSET a 1 b 2`: the node of `a` holds what it held, but 1 at `a`
+  abbrev pub held_after : Moments C
+  held_after = λ slot. keyspace_after step (part_of command slot) (held slot)
+
+-- The nodes gave one reply to each part. If each is that of the part on what its node held, then the
+-- value is the reply of the unsplit command on each keyspace that is assembled of that.
+--
+-- `MGET a b` as above replies the old `a` and the new `b`.
+-- `DEL a b`, and another client deletes `b` between the parts: the keyspace has no `b`, so the reply
+--     counts `a` alone.
+pub record IsServedAmid {C : Type 0} (step : Step C) (registered : Registrations) (args : Arguments)
+    (order : List ℕ) (old new : List Reply → Type 0) (value : Reply) : Type 0 where
+  pub command : MultiKey
+  pub command_is : multi_key registered args ≡ Some command
+  pub order_is : NamesOnce (length (slots_in command)) order
+  pub replies : List Reply
+  pub each : length replies ≡ length (slots_in command)
+  pub gave : (before : List Reply) → old before → new (before ++ in_order replies order)
+  pub reply : (held : Moments C) (one : Keyspace C) → IsAssembled command held one
+      → replies ≡ replies_by step command held → value ≡ reply_to step command one
+
+-- the keyspace after the parts of these slots, one after the other
+abbrev pub after_parts : {C : Type 0} → Step C → MultiKey → List ℕ → Keyspace C → Keyspace C
+after_parts step command [] keyspace = keyspace
+after_parts step command (slot ∷ slots) keyspace =
+    after_parts step command slots (keyspace_after step (part_of command slot) keyspace)
+
+-- What is sent for a slot means the slot's part. What the unsplit command leaves in an assembled
+-- keyspace is, at each key, what the key's node holds right after the key's part. A part leaves the
+-- keys of other slots as they were. So if nobody else writes these keys, the keyspace at first is
+-- assembled: the node of each slot holds what parts of other slots left of it.
+--
+-- `MSET a 1 b 2`, and another client deletes `a` after the part of `a`: 1 is what the node of `a` held
+--     right after the part, and what the unsplit command leaves. It need not be there at the return.
+-- `MGET a b`, and nobody else writes: the reply is that on the keyspace that stood at the call.
+pub record ArePartsOf {C : Type 0} (step : Step C) (registered : Registrations) (args : Arguments)
+    (command : MultiKey) : Type 0 where
+  pub meant : All (λ slot. multi_key registered (part_by_slot registered args slot)
+      ≡ Some (part_of command slot)) (slots_in command)
+  pub left : (held : Moments C) (one : Keyspace C) → IsAssembled command held one
+      → IsAssembled command (held_after step command held) (keyspace_after step command one)
+  pub apart : (slot : ℕ) (before : Keyspace C) (key : List ℕ) → key_slot key ≢ slot
+      → keyspace_after step (part_of command slot) before key ≡ before key
+  pub undisturbed : (first : Keyspace C) (before : ℕ → List ℕ)
+      → ((slot : ℕ) → times slot (before slot) ≡ 0)
+      → IsAssembled command (λ slot. after_parts step command (before slot) first) first
