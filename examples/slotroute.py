@@ -7,7 +7,7 @@ prints the split of a request, and the one reply of the replies to its parts.
 
 import ctypes
 import sys
-from ctypes import POINTER, byref, c_char_p, c_size_t, c_uint16, c_uint32
+from ctypes import POINTER, byref, c_char, c_char_p, c_size_t, c_uint16, c_uint32
 from itertools import pairwise
 
 TOO_SMALL, REQUEST_INCOMPLETE, REPLY_INCOMPLETE, REPLY_IS_ERROR, NO_REDIRECT = 2, 3, 7, 10, 15
@@ -68,16 +68,16 @@ class Library:
         return self.lib.slotroute_slot(key, len(key))
 
     def request_len(self, data):
-        """How many bytes the first request has; None where more are needed."""
+        """How many bytes the first request has, or None if more are needed. A bytearray is not copied."""
         return self._len(self.lib.slotroute_request_len, data, REQUEST_INCOMPLETE)
 
     def reply_len(self, data):
-        """How many bytes the first reply has; None where more are needed."""
+        """How many bytes the first reply has, or None if more are needed. A bytearray is not copied."""
         return self._len(self.lib.slotroute_reply_len, data, REPLY_INCOMPLETE)
 
     def _len(self, call, data, incomplete):
-        told = Told()
-        answer = call(data, len(data), byref(told))
+        told, start = Told(), data if isinstance(data, bytes) else byref(c_char.from_buffer(data))
+        answer = call(start, len(data), byref(told))
         if answer == incomplete:
             return None
         self._expect_done(answer, told)
