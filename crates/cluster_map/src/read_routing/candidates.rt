@@ -4,7 +4,7 @@ use crate::read_routing::replicas::Replicas;
 use cluster_slots::NodeAddress;
 
 /// The nodes that a read may go to where the primary is one of them.
-#[derive(Clone, Copy)]
+#[derive(Clone, Copy, Debug)]
 pub struct AnyNodeCandidates<'a> {
     slot: u16,
     primary: &'a NodeAddress,
@@ -37,7 +37,7 @@ impl<'a> AnyNodeCandidates<'a> {
 }
 
 /// The nodes that a read may go to where only replicas are asked for.
-#[derive(Clone, Copy)]
+#[derive(Clone, Copy, Debug)]
 pub struct ReplicasOnlyCandidates<'a> {
     slot: u16,
     replicas: Replicas<'a>,
@@ -62,7 +62,7 @@ impl<'a> ReplicasOnlyCandidates<'a> {
 }
 
 /// The nodes that a strategy picks from.
-#[derive(Clone, Copy)]
+#[derive(Clone, Copy, Debug)]
 pub enum ReadCandidates<'a> {
     /// The primary and its replicas.
     AnyNode(AnyNodeCandidates<'a>),

@@ -5,7 +5,7 @@ use cluster_slots::NodeAddress;
 use std::slice;
 
 /// The replicas of a slot, of which there is at least one.
-#[derive(Clone, Copy)]
+#[derive(Clone, Copy, Debug)]
 pub struct Replicas<'a> {
     nodes: &'a [NodeAddress],
     ghost some: { 0 < length nodes.now },
