@@ -1,24 +1,24 @@
 -- A command with gaps is the same command as its front.
 use Rattle.std.proofs.Common.{◌≡◌, ℕ, List, [], ◌∷◌, ◌++◌, Bool, cond, Option, None, Some, refl, sym, ap, ◌∙◌, map, take, length}
+use Rattle.std.specs.List.{flat_map}
+use Rattle.std.specs.Option.{option_to_list}
 use Rattle.redis_routing.specs.Command.{Arguments, command_name}
 use Rattle.redis_routing.specs.Names.{Names}
 use Rattle.redis_routing.specs.NameWords.{name_words_of}
-use Rattle.redis_routing.specs.Registry.{tables_with}
+use Rattle.redis_routing.specs.Registry.{Registrations, tables_with}
 use Rattle.redis_routing.specs.TwoWords.{takes_second}
 use Rattle.redis_routing.specs.Upper.{upper}
 use Rattle.resp_core.proofs.Cases.{by_test}
 use Rattle.redis_routing.specs.PresentArguments.{arguments_before_gap, present_arguments, present_arguments_after}
 use Rattle.redis_routing.specs.Tuples.{is_complete}
-use Rattle.redis_routing.specs.declared.route_by.MultiSlotArgPattern.{MultiSlotArgPattern}
 use Rattle.redis_routing.specs.declared.route_by.RouteBy.{RouteBy}
 use Rattle.redis_routing.specs.declared.route_by.RouteBy.TheVariants as route_by
-use Rattle.redis_routing.specs.Complete.{pattern_by_name, part_by_pattern, routes_by, routes_by_name}
-use Rattle.redis_routing.specs.Parts.{arguments_in_slot}
+use Rattle.redis_routing.specs.Complete.{pattern_by_name, routes_by, routes_by_name}
 use Rattle.redis_routing.specs.Routing.{routes_of}
 use Rattle.redis_routing.specs.Split.{policy_by_name}
 use Rattle.redis_routing.proofs.SelfRouting.{arguments_before_gap-map}
 use Rattle.redis_cluster.specs.Front.{front, IsSameCommand}
-use Rattle.redis_cluster.specs.MultiKey.{command_with, form_of_policy}
+use Rattle.redis_cluster.specs.MultiKey.{MultiKey, command_with, form_of_policy, multi_key, part_args_in, tuple_args, tuples_of_slot}
 
 -- the front has the words of the name, and what is present after them
 record IsFront (args : Arguments) : Type 0 where
@@ -83,18 +83,21 @@ module _ (args : Arguments) where
   named_same names None = refl
   named_same names (Some name) = routed_same (names.only_reads name) ((tables_with names.registered).route_by name)
 
-  part_same : (slot : ℕ) (pattern : Option MultiSlotArgPattern) → part_by_pattern pattern (front args) slot ≡ part_by_pattern pattern args slot
+  part_same : (slot : ℕ) (command : Option MultiKey) → part_args_in (front args) command slot ≡ part_args_in args command slot
   part_same slot None = refl
-  part_same slot (Some pattern) =
-      ap (λ words. take words (front args) ++ map Some (arguments_in_slot pattern (present_arguments (front args)) slot)) same.words
-      ∙ ap (λ words. words ++ map Some (arguments_in_slot pattern (present_arguments (front args)) slot)) same.first
-      ∙ ap (λ present. take (name_words_of args) args ++ map Some (arguments_in_slot pattern present slot)) same.present
+  part_same slot (Some command) =
+      let rest : Arguments = map Some (flat_map tuple_args (tuples_of_slot slot command.tuples) ++ option_to_list command.shared) in
+      ap (λ words. take words (front args) ++ rest) same.words ∙ ap (λ words. words ++ rest) same.first
+
+  command_same : (registered : Registrations) → multi_key registered (front args) ≡ multi_key registered args
+  command_same registered =
+      ap (λ name. command_with registered name (present_arguments (front args)) (pattern_by_name registered name) (form_of_policy (policy_by_name registered name))) same.name
+      ∙ ap (λ present. command_with registered (command_name args) present (pattern_by_name registered (command_name args)) (form_of_policy (policy_by_name registered (command_name args)))) same.present
 
   pub same_command : IsSameCommand args (front args)
   same_command =
       record {
-        command = λ registry. ap (λ name. command_with registry name (present_arguments (front args)) (pattern_by_name registry name) (form_of_policy (policy_by_name registry name))) same.name
-            ∙ ap (λ present. command_with registry (command_name args) present (pattern_by_name registry (command_name args)) (form_of_policy (policy_by_name registry (command_name args)))) same.present;
+        command = command_same;
         routes = λ names. ap (routes_by_name names (front args)) same.name ∙ named_same names (command_name args);
-        part = λ registry slot. ap (λ name. part_by_pattern (pattern_by_name registry name) (front args) slot) same.name ∙ part_same slot (pattern_by_name registry (command_name args));
+        part = λ registered slot. ap (λ command. part_args_in (front args) command slot) (command_same registered) ∙ part_same slot (multi_key registered args);
       }

@@ -221,9 +221,14 @@ pub(super) fn plan_in_order<'a, R: Routable, N: Nodes>(
 }
 
 /// Sends the parts of a plan in an order, each once, and gives what `drive` gives for the command
-/// that the plan is of: `drive` makes a plan and calls this. So a client that has to know how many
-/// routes there are before it can name an order makes the plan first, asks it for `len`, and splits
-/// only once.
+/// that the plan is of: `drive` makes a plan and calls this. A client whose order depends on the
+/// number of routes makes the plan first, by the names that the nodes have registered:
+///
+/// ```
+/// let plan = SplitPlan::new(alloc, command, names, slot_map, None, 0)?;
+/// let order: Vec<usize> = (0..plan.len()).rev().collect(alloc)?;
+/// drive_plan(alloc, plan, &order, nodes)
+/// ```
 ///
 /// # Errors
 ///

@@ -89,6 +89,19 @@ pub struct DriveError {
     pub answered: usize,
 }
 
+impl From<AllocError> for DriveError {
+    ghost use Rattle.redis_cluster.specs.declared.fault.DriveFault.TheVariants as drive;
+
+    ghost from_gives = { λ _ error. error ≡ record { fault = drive.Memory; answered = 0 } };
+
+    fn from(_error: AllocError) -> Self {
+        DriveError {
+            fault: DriveFault::Memory,
+            answered: 0,
+        }
+    }
+}
+
 impl fmt::Display for DriveFault {
     ghost use Rattle.redis_cluster.specs.FaultText.{drive_fault_text};
 
@@ -139,6 +152,19 @@ impl From<PlanFault> for DriveFault {
             PlanFault::NotMultiKey => DriveFault::NotMultiKey,
             PlanFault::NotCovered(slot) => DriveFault::NotCovered(slot),
             PlanFault::Memory => DriveFault::Memory,
+        }
+    }
+}
+
+impl From<PlanFault> for DriveError {
+    ghost use Rattle.redis_cluster.specs.Faults.{fault_of_plan};
+
+    fn from(fault: PlanFault) -> Self
+        ensures { result ≡ record { fault = fault_of_plan fault; answered = 0 } }
+    {
+        DriveError {
+            fault: DriveFault::from(fault),
+            answered: 0,
         }
     }
 }

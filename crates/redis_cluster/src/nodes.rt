@@ -1,11 +1,14 @@
-ghost use Rattle.std.specs.Prelude.{◌≡◌, ℕ, List, [], ◌∷◌, ◌++◌, false, Some, map, IfOk, OnOk, OnErr, IfErr, IfSome, ◌↔◌};
+ghost use Rattle.std.specs.Prelude.{◌≡◌, ℕ, List, Result, [], ◌∷◌, ◌++◌, false, Some, map, IfOk, OnOk, OnErr, IfErr, IfSome, ◌↔◌};
 ghost use Rattle.resp_core.specs.Reply.{Reply};
+ghost use Rattle.resp_core.specs.declared.value.Value.{Value as Held};
+ghost use Rattle.cluster_slots.specs.Address.{Address};
 ghost use Rattle.resp_core.specs.View.{view};
 ghost use Rattle.redis_routing.specs.Registry.{Registrations};
 ghost use Rattle.redis_cluster.specs.MultiKey.{multi_key, IsPart};
 ghost use Rattle.redis_cluster.specs.Unsplit.{Step, keyspace_after, reply_to};
 ghost use Rattle.redis_cluster.specs.State.{State};
 ghost use Rattle.redis_cluster.specs.Trace.{Ending, answered, entry};
+ghost use Rattle.redis_cluster.specs.declared.nodes.SendError.{SendError as Unsent};
 ghost use Rattle.redis_cluster.specs.Sent.{IsIdleIfRefused, IsLeft, IsUnanswered, ending_of};
 
 use cluster_slots::NodeAddress;
@@ -83,6 +86,10 @@ pub trait Nodes {
     /// Whether these may be the replies so far, in the order in which they came.
     ghost gave: { Self → List Reply → Type 0 } = { λ _ _. Unit {0} };
 
+    /// What one send may do: the nodes before, the address, the command, what came back, and the
+    /// nodes after. No nodes have to say it.
+    ghost went: { Self → Address → List (List ℕ) → Result Held Unsent → Self → Type 0 } = { λ _ _ _ _ _. Unit {0} };
+
     /// The registered names: a command of one of them is split and sent too.
     fn registry(&self) -> &Registry
         ensures { result.now ≡ registered self.now };
@@ -132,6 +139,7 @@ pub trait Nodes {
             IfSome (multi_key (registered self.old) (map Some cmd.now))
             (λ command. kept self.new
             → IsLeft step command (state self.old).keyspace (state self.new).keyspace (ending_of error))) }
+        ensures went { went self.old node.now cmd.now result self.new }
         ensures may_refuse { (count : ℕ) (ending : Ending) → may_refuse self.new count ending
             ↔ may_refuse self.old count ending }
         ensures registered { registered self.new ≡ registered self.old };

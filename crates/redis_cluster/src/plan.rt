@@ -9,6 +9,7 @@ ghost use Rattle.cluster_map.specs.ReplyNode.{IsCovered};
 ghost use Rattle.cluster_map.specs.RouteNode.{IsRouteNode};
 ghost use Rattle.redis_routing.specs.Command.{command_name};
 ghost use Rattle.redis_routing.specs.Names.{names_in};
+ghost use Rattle.redis_routing.specs.Registry.{Registrations};
 ghost use Rattle.redis_routing.specs.Complete.{multi_slot_routes, pattern_by_name};
 ghost use Rattle.redis_routing.specs.Split.{policy_by_name, split_part, slots_of};
 ghost use Rattle.redis_routing.specs.RoutingInfo.{route_lists};
@@ -19,6 +20,7 @@ ghost use Rattle.redis_cluster.specs.Faults.{IsPlanFault};
 ghost use Rattle.redis_cluster.specs.Joined.{joined};
 ghost use Rattle.redis_cluster.specs.Plan.{IsPlan, ArePartReplies, ArePartsAnswered};
 ghost use Rattle.redis_cluster.specs.Ready.{IsPlanFor};
+ghost use Rattle.redis_cluster.specs.Sends.{IsPlanOf};
 
 use crate::fault::PlanFault;
 use cluster_map::{ReadRoutingStrategy, SlotMap};
@@ -125,6 +127,9 @@ impl<'a, R: Routable> SplitPlan<'a, R> {
             (λ plan. All (λ route. IsCovered slot_map.now route.0.slot) plan.split.routes) }
         ensures untold { IfOk result
             (λ plan. plan.replies ≡ map (λ route. None) plan.split.routes) }
+        // `drive_plan` takes it over nodes with the same registered names.
+        ensures command { IfOk result (λ plan. (registered : Registrations)
+            → names.entry.registry.now ≡ registered → (c : MultiKey) × IsPlanOf registered c plan) }
         // So it is ready to be driven, in any order.
         ensures ready { IfOk result (λ plan. (order : List ℕ) → (c : MultiKey) × IsPlanFor
             (request (R.args command.now) (names_in names.entry) slot_map.now order) order

@@ -21,12 +21,6 @@ use Rattle.redis_cluster.proofs.Wider.{plan_node, delivered_at, driven_at, cut_a
 use Rattle.redis_cluster.proofs.Headline.{headline_fault, carried_fault}
 use Rattle.redis_cluster.proofs.driver.drive.Goals as goal
 
-pub drive_plan-requires : goal.drive_plan-requires
-drive_plan-requires g c =
-    let asked_by : Registrations → Request = λ registered. request (g.R.Routable.args c.args.command.now) (names_of c.args.read_only.now registered) c.args.slot_map.now c.args.order.now in
-    let ready = subst (λ registered. (command : MultiKey) × IsPlanFor (asked_by registered) c.args.order.now registered c.in-Ok.plan command) c.registry.ensures (c.in-Ok.ensures.ready c.args.order.now) in
-    record { command = (ready.0, ready.1.0.plan_is); untold = c.in-Ok.ensures.untold }
-
 pub returns-in-Ok-clause-delivered : goal.returns-in-Ok-clause-delivered
 returns-in-Ok-clause-delivered g c =
     let asked_by : Registrations → Request = λ registered. request (g.R.Routable.args c.args.command.now) (names_of c.args.read_only.now registered) c.args.slot_map.now c.args.order.now in

@@ -1,4 +1,4 @@
-use Rattle.std.proofs.Common.{◌≡◌, ◌⊎◌, ℕ, List, Option, Some, IfSome, Result, Ok, Err, IsErrAnd, IfErr, inl, inr, refl, ap, sym, subst, ◌∙◌, false, length, map, option_map, replicate}
+use Rattle.std.proofs.Common.{◌≡◌, ◌⊎◌, ℕ, List, [], Option, Some, IfSome, Result, Ok, Err, IsErrAnd, IfErr, inl, inr, refl, ap, sym, subst, ◌∙◌, false, length, map, option_map, replicate}
 use Rattle.std.specs.List.{AllZip}
 use Rattle.std.specs.declared.alloc.Global.{Global}
 use Rattle.std.specs.declared.vec.Vec.{Vec}
@@ -19,7 +19,9 @@ use Rattle.std.proofs.lemmas.List.{length-replicate}
 use Rattle.std.proofs.lemmas.Slice.Zip.{AllZip-long}
 use Rattle.redis_cluster.proofs.Covered.{IsNode, covered_by_nodes, firsts-route_lists}
 use Rattle.redis_cluster.specs.Plan.{Plan, told}
+use Rattle.redis_cluster.specs.MultiKey.{MultiKey}
 use Rattle.redis_cluster.specs.Ready.{IsPlanNode}
+use Rattle.redis_cluster.specs.Sends.{IsPlanOf}
 use Rattle.redis_cluster.proofs.Planned.{joining_routes, made_parts, ready}
 use Rattle.redis_cluster.proofs.Wider.{own_nodes}
 use Rattle.redis_cluster.proofs.Telling.{length-told, none_told}
@@ -121,3 +123,9 @@ returns-clause-ready g c = λ order.
     (sym (ap (option_map (λ s. s.routes)) c.in-Some.is) ∙ new.routes) (of_some _ found split c.in-Some.is new.pattern) (of_some _ found split c.in-Some.is new.policy)
     whole (own_nodes plan whole.nodes) (returns-clause-covered g c) in
     (made.0, (made.1, refl, refl))
+
+pub returns-clause-command : goal.returns-clause-command
+returns-clause-command g c = λ registered same.
+    let plan : Plan = record { split = c.in-Some.split; nodes = map (λ n. n.now) c.in_ok-nodes.nodes.items; parts = c.in_ok-parts.parts.items; replies = told c.in_ok-answered.answered.items c.in_ok-replies.replies.items } in
+    let made = returns-clause-ready g c [] in
+    subst (λ known. (command : MultiKey) × IsPlanOf known command plan) same (made.0, made.1.0.plan_is)
