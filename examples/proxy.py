@@ -396,7 +396,9 @@ def options():
     parser.add_argument("library", help="the libslotroute.so that tools/c-archive makes")
     parser.add_argument("port", type=int, help="the port of 127.0.0.1 that clients connect to")
     parser.add_argument("node", help="HOST:PORT of a node of the cluster")
-    parser.add_argument("--password", default=os.environ.get("REDISCLI_AUTH"), help="of the nodes; else REDISCLI_AUTH")
+    parser.add_argument(
+        "--password", default=os.environ.get("REDISCLI_AUTH"), help="of the nodes; if absent, REDISCLI_AUTH"
+    )
     return parser.parse_args()
 
 
