@@ -50,7 +50,7 @@ TAKEN.update(
     ZSCAN ZSCORE ZUNION ZUNIONSTORE
     """.split()
 )
-SUM = 7  # the policy that adds the replies of all nodes
+ASK, SUM = 2, 7  # a kind of redirect, and the policy that adds the replies of all nodes
 REDIRECTS, ASKING = (b"-MOVED ", b"-ASK ", b"-TRYAGAIN "), request("ASKING")
 RESET_AT_CLOSE = socket.SOL_SOCKET, socket.SO_LINGER, struct.pack("ii", 1, 0)  # drops what is not sent yet
 
@@ -121,8 +121,8 @@ class Messages:
                 yield message
 
     async def next(self):
-        """The next message, or None if the stream has ended. After a look in vain that took a while, more
-        bytes come for four times as long, so that a long message is looked at few times."""
+        """The next message, or None if the stream has ended. A look in vain that takes a while is followed by
+        a pause of four times as long and a longer read, so that a long message is looked at few times."""
         while True:
             start = time.monotonic()
             if (message := self.take()) is not None:
@@ -131,7 +131,7 @@ class Messages:
                 raise ValueError(f"a message of more than {self.longest} bytes")
             if (took := time.monotonic() - start) > 0.001:
                 await asyncio.sleep(4 * took)
-            if not (more := await self.read(self.longest)):
+            if not (more := await self.read(max(1 << 16, len(self.data)))):
                 return None
             self.data += more
 
@@ -279,19 +279,20 @@ class Cluster:
             if node is None:
                 return NOT_SERVED
             *_, reply = await self.ask(node, asking * ASKING + message, asking + 1)
-            if reply.startswith(REDIRECTS[1:]):
-                self.moving[slot] = time.monotonic() + MOVING
+            if not reply.startswith(REDIRECTS):
+                return reply
             if reply.startswith(b"-TRYAGAIN "):
                 await asyncio.sleep(PAUSE)
                 node, asking = self.at(slot), False
-                continue
-            redirect = self.library.redirect(reply[1:-2], node.host.encode()) if reply[:1] == b"-" else None
-            if redirect is None:
+            elif (redirect := self.library.redirect(reply[1:-2], node.host.encode())) is None:
                 return reply
-            told, host = redirect
-            node, asking = self.node(host, told.port), told.kind == 2
-            if not asking:
-                self.move(told.slot, node)
+            else:
+                told, host = redirect
+                node, asking = self.node(host, told.port), told.kind == ASK
+                if not asking:
+                    self.move(told.slot, node)
+            if not reply.startswith(b"-MOVED "):
+                self.moving[slot] = time.monotonic() + MOVING
         return reply
 
     async def split(self, message):
@@ -324,10 +325,13 @@ class Cluster:
         if any(refused):
             parts = [*requests_in(batch)]
             slots = [self.slots_of(request(*words))[0] for words in parts]
-            held = overtaken(parts, slots, refused)
+            late = overtaken(parts, slots, refused)
             for at in (at for at in range(count) if refused[at]):
-                self.moving[slots[at]] = time.monotonic() + MOVING
-                replies[at] = OVERTAKEN if at in held else await self.send(slots[at], request(*parts[at]))
+                if at in late:
+                    self.moving[slots[at]] = time.monotonic() + MOVING
+                    replies[at] = OVERTAKEN
+                else:
+                    replies[at] = await self.send(slots[at], request(*parts[at]))
         return b"".join(replies)
 
     def batches_of(self, messages):
