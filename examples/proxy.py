@@ -11,6 +11,7 @@ connections. docs/PROXY.md says what clients can rely on. Python 3.11 is needed.
 import argparse
 import asyncio
 import os
+import re
 import socket
 import struct
 import sys
@@ -51,6 +52,7 @@ TAKEN.update(
     """.split()
 )
 ASK, SUM = 2, 7  # a kind of redirect, and the policy that adds the replies of all nodes
+ZEROS = re.compile(rb"\n\$0\d")
 REDIRECTS, ASKING = (b"-MOVED ", b"-ASK ", b"-TRYAGAIN "), request("ASKING")
 RESET_AT_CLOSE = socket.SOL_SOCKET, socket.SO_LINGER, struct.pack("ii", 1, 0)  # drops what is not sent yet
 
@@ -85,6 +87,12 @@ def requests_in(batch):
             words.append(batch[line + 2 : end])
             at = end + 2
         yield words
+
+
+def plain(message):
+    """A request with no zeros before its lengths, at which a server closes the connection."""
+    has_zeros = message.startswith(b"*0") or ZEROS.search(message)
+    return request(*next(requests_in(message))) if has_zeros else message
 
 
 def overtaken(parts, slots, refused):
@@ -384,7 +392,7 @@ async def serve(cluster, reader, writer):
         try:
             while (message := await messages.next()) is not None:
                 # A server does not answer a request of no words, and neither does the proxy.
-                some = [it for it in (message, *messages.ready()) if it[:30].strip(b"*0\r\n")]
+                some = [plain(it) for it in (message, *messages.ready()) if it[:30].strip(b"*0\r\n")]
                 writer.write(await cluster.answer_all(some) if some else b"")
                 await writer.drain()
         except (Refused, ValueError) as caught:
