@@ -1,2 +1,2 @@
+pub mod NodeSets
 pub mod Topology
-pub mod Windows

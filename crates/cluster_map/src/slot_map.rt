@@ -18,12 +18,13 @@ ghost use Rattle.cluster_map.specs.Topology.{shards_of, shards_left, topology_of
 use crate::read_routing::{ClusterTopology, ReadCandidates, ReadRoutingStrategy, Replicas};
 use crate::slot_range_map::{SlotRangeMap, Values};
 use crate::topology::parse_slots;
-use addresses::{insert_all, node_count, range_count};
+use addresses::insert_all;
 use cluster_slots::{NodeAddress, Route, SlotAddr};
 use grouping::shards_of;
 use node_set::NodeSet;
 use resp_core::{RedisResult, Value};
 use std::alloc::{AllocError, Global};
+use std::cell::Cell;
 use std::marker::Model;
 
 mod addresses;
@@ -339,11 +340,12 @@ impl SlotMap {
             ≡ each_once (map (λ (e : RangeEntry SlotNodes). (value_of e).primary) self.now)) }
         ensures order { Ascends self.now }
     {
-        let mut seen = NodeSet::with_room(alloc, range_count(self.values()))?;
+        let misses = Cell::new(0);
+        let mut seen = NodeSet::with_capacity(alloc, &misses, self.slots.len())?;
         for addrs in self.values() {
             seen.insert_full(&addrs.primary)?;
         }
-        Ok(seen.into_nodes())
+        seen.into_nodes()
     }
 
     /// Each node once, by its first range and, within a range, the primary first.
@@ -356,11 +358,12 @@ impl SlotMap {
             ≡ each_once (flat_map (λ (e : RangeEntry SlotNodes). nodes_in (value_of e)) self.now)) }
         ensures order { Ascends self.now }
     {
-        let mut seen = NodeSet::with_room(alloc, node_count(self.values()))?;
+        let misses = Cell::new(0);
+        let mut seen = NodeSet::with_capacity(alloc, &misses, self.slots.len())?;
         for addrs in self.values() {
             insert_all(&mut seen, addrs)?;
         }
-        Ok(seen.into_nodes())
+        seen.into_nodes()
     }
 
     /// The shards of this map: for each primary, in order of the end of its first range, all its

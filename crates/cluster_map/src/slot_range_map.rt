@@ -210,6 +210,14 @@ impl<V> SlotRangeMap<V> {
         (*start <= slot).then_some(value)
     }
 
+    /// The number of ranges.
+    pub(crate) fn len(&self) -> usize
+        ensures count { result ≡ length self.now }
+        ensures order { Ascends self.now }
+    {
+        self.ranges.len()
+    }
+
     /// The ranges as (start, end, value), by ascending end.
     pub fn iter(&self) -> Iter<'_, V>
         ensures all { result ≡ self.now }

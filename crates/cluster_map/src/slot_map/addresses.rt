@@ -7,7 +7,6 @@ ghost use Rattle.cluster_map.specs.Targets.{left_in};
 
 use crate::slot_map::SlotAddrs;
 use crate::slot_map::node_set::NodeSet;
-use crate::slot_range_map::Values;
 use cluster_slots::NodeAddress;
 use std::alloc::AllocError;
 
@@ -51,7 +50,10 @@ impl<'a> IntoIterator for &'a SlotAddrs {
 }
 
 /// Puts in the nodes of a range.
-pub(crate) fn insert_all<'a>(seen: &mut NodeSet<'a>, addrs: &'a SlotAddrs) -> Result<(), AllocError>
+pub(crate) fn insert_all<'a>(
+    seen: &mut NodeSet<'a, '_>,
+    addrs: &'a SlotAddrs,
+) -> Result<(), AllocError>
     ensures { OnOk result ((before : List Address) → seen.old ≡ each_once before
         → seen.new ≡ each_once (before ++ nodes_in addrs.now)) }
 {
@@ -59,24 +61,4 @@ pub(crate) fn insert_all<'a>(seen: &mut NodeSet<'a>, addrs: &'a SlotAddrs) -> Re
         seen.insert_full(address)?;
     }
     Ok(())
-}
-
-/// How many nodes the ranges have, one range after the other. It is only room that is made for them.
-pub(crate) fn node_count(ranges: Values<'_, SlotAddrs>) -> usize {
-    let mut count = 0_usize;
-    for addrs in ranges {
-        count = count
-            .saturating_add(addrs.replicas().len())
-            .saturating_add(1);
-    }
-    count
-}
-
-/// How many ranges there are. It is only room that is made for their primaries.
-pub(crate) fn range_count(ranges: Values<'_, SlotAddrs>) -> usize {
-    let mut count = 0_usize;
-    for _ in ranges {
-        count = count.saturating_add(1);
-    }
-    count
 }

@@ -6,10 +6,10 @@ ghost use Rattle.cluster_map.specs.Inner.Topology.{primary_of};
 
 use crate::read_routing::Shard;
 use crate::slot_map::SlotAddrs;
-use crate::slot_map::addresses::range_count;
 use crate::slot_map::node_set::NodeSet;
 use crate::slot_range_map::SlotRangeMap;
 use std::alloc::{AllocError, Global};
+use std::cell::Cell;
 
 /// The shards of the ranges, by first appearance of their primaries.
 pub(crate) fn shards_of(
@@ -20,7 +20,8 @@ pub(crate) fn shards_of(
     ensures ends { IfOk result (λ shards. All (λ e. end_of e < 2 ^ 16) ranges.now) }
     ensures order { Ascends ranges.now }
 {
-    let mut seen = NodeSet::with_room(alloc, range_count(ranges.values()))?;
+    let misses = Cell::new(0);
+    let mut seen = NodeSet::with_capacity(alloc, &misses, ranges.len())?;
     let mut shards = Vec::new(alloc);
     for (start, end, addrs) in ranges.iter() {
         add_range(alloc, &mut seen, &mut shards, start, end, addrs)?;
@@ -32,7 +33,7 @@ pub(crate) fn shards_of(
 /// in the set, each at the place of its shard.
 fn add_range<'a>(
     alloc: Global,
-    seen: &mut NodeSet<'a>,
+    seen: &mut NodeSet<'a, '_>,
     shards: &mut Vec<Shard>,
     start: u16,
     end: u16,
