@@ -341,7 +341,7 @@ impl SlotMap {
         ensures order { Ascends self.now }
     {
         let misses = Cell::new(0);
-        let mut seen = NodeSet::with_capacity(alloc, &misses, self.slots.len())?;
+        let mut seen = NodeSet::for_ranges(alloc, self.slots.len(), &misses)?;
         for addrs in self.values() {
             seen.insert_full(&addrs.primary)?;
         }
@@ -359,7 +359,7 @@ impl SlotMap {
         ensures order { Ascends self.now }
     {
         let misses = Cell::new(0);
-        let mut seen = NodeSet::with_capacity(alloc, &misses, self.slots.len())?;
+        let mut seen = NodeSet::for_ranges(alloc, self.slots.len(), &misses)?;
         for addrs in self.values() {
             insert_all(&mut seen, addrs)?;
         }

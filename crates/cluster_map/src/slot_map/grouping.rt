@@ -21,7 +21,7 @@ pub(crate) fn shards_of(
     ensures order { Ascends ranges.now }
 {
     let misses = Cell::new(0);
-    let mut seen = NodeSet::with_capacity(alloc, &misses, ranges.len())?;
+    let mut seen = NodeSet::for_ranges(alloc, ranges.len(), &misses)?;
     let mut shards = Vec::new(alloc);
     for (start, end, addrs) in ranges.iter() {
         add_range(alloc, &mut seen, &mut shards, start, end, addrs)?;

@@ -21,6 +21,9 @@ const MOST_MISSES: usize = 16;
 /// The most nodes that are found by their hash. So no look-up passes many that are not counted.
 const MOST_HASHED: usize = 32768;
 
+/// The most nodes that room is made for, since many ranges often have few nodes.
+const MOST_ROOM: usize = 2048;
+
 /// Addresses of nodes, each once, in order of first appearance.
 ///
 /// Nodes are found by their hash. Hosts can be chosen so that their hashes are equal, and then a
@@ -45,17 +48,18 @@ impl<'a, 'c> Model for NodeSet<'a, 'c> {
 }
 
 impl<'a, 'c> NodeSet<'a, 'c> {
-    /// A set of no nodes, with room for `count` of them. `misses` counts the comparisons of one
-    /// look-up.
-    pub(crate) fn with_capacity(
+    /// A set of no nodes, with room for those of so many ranges. `misses` counts the comparisons of
+    /// one look-up.
+    pub(crate) fn for_ranges(
         alloc: Global,
-        misses: &'c Cell<usize>,
         count: usize,
+        misses: &'c Cell<usize>,
     ) -> Result<Self, AllocError>
         ensures { IfOk result (λ nodes. nodes ≡ []) }
     {
+        let room = count.saturating_mul(2).min(MOST_ROOM);
         Ok(NodeSet {
-            hashed: IndexSet::with_capacity(alloc, count)?,
+            hashed: IndexSet::with_capacity(alloc, room)?,
             misses,
             ordered: None,
         })
