@@ -48,8 +48,8 @@ impl<'a, 'c> Model for NodeSet<'a, 'c> {
 }
 
 impl<'a, 'c> NodeSet<'a, 'c> {
-    /// A set of no nodes, with room for those of so many ranges. `misses` counts the comparisons of
-    /// one look-up.
+    /// An empty set, with room for the nodes of `count` ranges. `misses` counts the comparisons of one
+    /// look-up.
     pub(crate) fn for_ranges(
         alloc: Global,
         count: usize,
