@@ -22,9 +22,9 @@ use std::hash::BuildHasherDefault;
 /// Up to this many tuples, the list of a slot is found by a search and not by a set.
 const FEW: usize = 40;
 
-/// Up to this many tuples, a set has room for as many slots. For more tuples it has room for all
-/// slots, so that no slots can be picked that make it slow.
-const MANY: usize = 1024;
+/// A set has room for this many slots for each tuple, and at most for all slots. So picked slots cost
+/// at most twice as much as others.
+const ROOM_PER_TUPLE: usize = 10;
 
 /// The number of arguments that a command's name takes. A name longer than the first argument takes
 /// two.
@@ -132,11 +132,8 @@ fn new_slot_set(alloc: Global, count: usize) -> Result<Option<SlotSet>, AllocErr
     if count <= FEW {
         return Ok(None);
     }
-    let room = if count <= MANY {
-        count
-    } else {
-        usize::from(SLOT_SIZE)
-    };
+    let room = count.saturating_mul(ROOM_PER_TUPLE);
+    let room = room.min(usize::from(SLOT_SIZE));
     let set = SlotSet::with_capacity_and_hasher(alloc, room, BuildHasherDefault::new())?;
     Ok(Some(set))
 }
