@@ -18,6 +18,7 @@ pub mod Placing
 pub mod Answered
 pub mod PutBack
 pub mod ServerReplies
+pub mod Amid
 pub mod Untouched
 pub mod Fewest
 pub mod Planning

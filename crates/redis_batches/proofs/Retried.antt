@@ -27,6 +27,7 @@ use Rattle.redis_batches.specs.declared.fault.PipelineError.{PipelineError}
 use Rattle.redis_batches.specs.declared.fault.PipelineError.TheVariants as driven
 use Rattle.redis_batches.specs.declared.going.Outgoing.{Outgoing}
 use Rattle.redis_batches.proofs.Again.{all_last}
+use Rattle.redis_batches.proofs.Amid.{served_amid}
 use Rattle.redis_batches.proofs.Alone.{slots_at}
 use Rattle.redis_batches.proofs.Asked.{answered_more, asked_more, asked_until_more}
 use Rattle.redis_batches.proofs.Driving.{ServesAll}
@@ -227,6 +228,7 @@ module _ {C : Type 0} (step : Step C) (serve : Serve C) (may : ℕ → Ending �
             answers = map answer_of after;
             latest = again.latest ∙ ap (λ l. latest_answers l again.rounds) (sym given_are);
             replies_are = made;
+            amid = served_amid step registered plan.splits sendable.of_commands.tasks (map answer_of after) replies sendable.of_commands.splits_are made;
             as_one = as_one;
             untouched = λ keep own. replies_untouched step serve registered last plan.splits sendable.of_commands.tasks sendable.of_commands.splits_are (slots_of_all sendable.of_commands.tasks) old.keyspace replies
                 (subst (λ l. AreRepliesTo plan.splits l replies) (as_one keep own).answers_are made);

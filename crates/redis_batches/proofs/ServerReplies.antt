@@ -6,11 +6,10 @@ use Rattle.resp_core.specs.Reply.{Reply}
 use Rattle.redis_routing.specs.Registry.{Registrations}
 use Rattle.redis_routing.specs.Split.{Split}
 use Rattle.redis_cluster.specs.MultiKey.{MultiKey, slots_in}
-use Rattle.redis_cluster.specs.Plan.{ArePartsAnswered, tuples_in_split}
 use Rattle.redis_cluster.specs.SlotResults.{results_of_slot}
 use Rattle.redis_cluster.specs.Unsplit.{Step, Keyspace, act_of, reply_by, reply_to, results_of}
 use Rattle.redis_cluster.specs.Joined.{joined}
-use Rattle.redis_cluster.proofs.Joined.{joined_is_unsplit}
+use Rattle.redis_cluster.proofs.Amid.{joined_parts}
 use Rattle.redis_cluster.proofs.Parts.{length-results}
 use Rattle.redis_batches.specs.Pipeline.{Answer, Serve, Task, over_keys, in_slot, run, part_answer, piece_answers, one_server_answers}
 use Rattle.redis_batches.specs.Tasks.{AreSplitsOf, IsSplitAs, IsSplitOfTask, slots_of_task, with_slots}
@@ -37,7 +36,7 @@ all_there f [] = refl
 all_there f (slot ∷ slots) = ap (with_reply (f slot)) (all_there f slots)
 
 -- a reply is joined in one way
-joined_once : (split : Split) (replies : List Reply) (whole : Reply) (reply : Answer) → joined split replies ≡ Ok whole → IsJoinedAs split replies reply → reply ≡ Ok whole
+pub joined_once : (split : Split) (replies : List Reply) (whole : Reply) (reply : Answer) → joined split replies ≡ Ok whole → IsJoinedAs split replies reply → reply ≡ Ok whole
 joined_once split replies whole (Ok reply) is made = let same : Ok reply ≡ Ok whole = sym made ∙ is in cc
 joined_once split replies whole (Err error) is made = absurd (cc (is, made))
 
@@ -55,14 +54,8 @@ module _ {C : Type 0} (step : Step C) (serve : Serve C) (registered : Registrati
   keys_reply command split is keyspace reply made =
       let results = results_of step command keyspace in
       let own = λ (slot : ℕ). reply_by command.form (results_of_slot slot command.tuples results) in
-      let replies = map own (slots_in command) in
-      let answered : ArePartsAnswered split command.form results replies = record {
-        form_is = is.form;
-        each = length-results (act_of step command) command.tuples keyspace ∙ ap length is.tuples;
-        replies_are = ap (λ ts. map (λ slot. reply_by command.form (results_of_slot slot ts results)) (slots_in command)) is.tuples
-            ∙ ap (map (λ slot. reply_by command.form (results_of_slot slot (tuples_in_split split) results))) (sym is.slots);
-      } in
-      joined_once split replies (reply_to step command keyspace) reply (joined_is_unsplit split command.form results replies is.split_is answered)
+      joined_once split (map own (slots_in command)) (reply_to step command keyspace) reply
+      (joined_parts split command is.split_is is.form is.tuples results (length-results (act_of step command) command.tuples keyspace))
       (subst (λ found. IsSplitReply split found reply) (all_there own (slots_in command)) made)
 
   -- The reply that is made of what a command's parts answer on one server is the server's.

@@ -6,6 +6,7 @@ use Rattle.redis_routing.specs.Registry.{Registrations}
 use Rattle.redis_cluster.specs.Trace.{Ending}
 use Rattle.redis_cluster.specs.Unsplit.{Step}
 use Rattle.redis_cluster.specs.State.{State}
+use Rattle.redis_batches.specs.Amid.{AreServedAmid}
 use Rattle.redis_batches.specs.Pipeline.{Answer, Refusals, Serve, Task, numbered}
 use Rattle.redis_batches.specs.Driven.{Grew, HaveAnswered, WereAsked, WereAskedUntil, answers_in, batch_at}
 use Rattle.redis_batches.specs.DrivenPipeline.{AreAllTaken, AreAskedUntil, IsEarlyFault, IsLateFault, IsOneServer}
@@ -93,15 +94,17 @@ module _ {C : Type 0} (step : Step C) (serve : Serve C) (kept : Type 0)
     pub gave : Grew gave_old gave_new (answers_sent so_far)
 
   -- Rounds were sent until no part went out again, or as many as retries. The replies are made of the
-  -- last answer to each part. Where nodes keep to the meaning, and errors of a command's own send it
-  -- nowhere, all is as on one server that takes the parts in the order of the pipeline, but for those
-  -- refused at last.
+  -- last answer to each part. Others may write the same keys meanwhile: a command over many keys has
+  -- the reply of the unsplit command on what the nodes held when they gave these answers. Where nodes
+  -- keep to the meaning, and errors of a command's own send it nowhere, all is as on one server that
+  -- takes the parts in the order of the pipeline, but for those refused at last.
   pub record AreServedInRounds (replies : List Answer) : Type 0 where
     pub sent : WereSent
     pub done : (length sent.so_far.rounds ≡ retries) ⊎ IsLast (last_sent sent.so_far)
     pub answers : List Answer
     pub latest : answers ≡ latest_answers sent.so_far.given sent.so_far.rounds
     pub replies_are : AreRepliesTo sent.so_far.taken.plan.splits answers replies
+    pub amid : AreServedAmid step (tasks_sent sent.so_far) answers replies
     pub as_one : kept → OwnErrorsStay serve (tasks_sent sent.so_far)
         → IsAsOne step serve (map with_slots (tasks_sent sent.so_far)) (refused_at_last sent.so_far)
         old.keyspace new.keyspace answers

@@ -7,6 +7,7 @@ use Rattle.redis_cluster.specs.Orders.{NamesOnce}
 use Rattle.redis_cluster.specs.Trace.{Ending}
 use Rattle.redis_cluster.specs.Unsplit.{Step}
 use Rattle.redis_cluster.specs.State.{State}
+use Rattle.redis_batches.specs.Amid.{AreServedAmid}
 use Rattle.redis_batches.specs.Turns.{all_after}
 use Rattle.redis_batches.specs.Pipeline.{Answer, Serve, Task, one_server_answers, run}
 use Rattle.redis_batches.specs.Tasks.{AreTasksOf, with_slots}
@@ -119,11 +120,13 @@ module _ (registered : Registrations) (is_node : ℕ → Address → Type 0)
     pub long : length given ≡ length plan.batches.parts
     pub gave : Grew gave_old gave_new (answers_in plan.batches given order)
 
-  -- The replies are made of these.
-  pub record AreMade (replies : List Answer) : Type 0 where
+  -- The replies are made of these. Others may write the same keys meanwhile: a command over many keys
+  -- has the reply of the unsplit command on what the nodes held when they ran its parts.
+  pub record AreMade {C : Type 0} (step : Step C) (replies : List Answer) : Type 0 where
     pub given : List Answer
     pub all : AreAllGiven given
     pub replies_are : AreRepliesTo all.plan.splits given replies
+    pub amid : AreServedAmid step all.sendable.of_commands.tasks given replies
 
   -- What the nodes gave where there are no replies: the answers to the batches before the one that was
   -- not taken, or to all.

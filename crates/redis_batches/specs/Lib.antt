@@ -15,6 +15,7 @@ pub mod Chosen
 pub mod Pipelined
 pub mod Replies
 pub mod PipelinePlan
+pub mod Amid
 pub mod DrivenPipeline
 pub mod FaultText
 pub mod Rounds

@@ -24,6 +24,10 @@ use std::alloc::Global;
 /// the order of the commands. Commands are planned as `PipelinePlan::new` has it, by the names that
 /// the nodes know and those that only read. `order` names each batch once.
 ///
+/// Other clients may write the same keys meanwhile, and replicas may lag. A command over many keys
+/// then has the reply of the unsplit command on a server that has, at each key, what the key's node
+/// held when it ran the key's part.
+///
 /// Where the nodes keep to one meaning and refuse nothing, keyspace and replies are those of one
 /// server that takes the commands one after the other, whatever the order and whatever a command
 /// does to the keys of its slot. The reply of a command of which a part was refused is the error; of
@@ -55,12 +59,14 @@ pub fn drive_pipeline<N: BatchNodes>(
         commands.now order.now
         (N.state nodes.old) (N.state nodes.new)
         (map answer_of replies.items)) }
-    // The replies are made of the answers that the nodes gave, whatever they mean.
+    // The replies are made of the answers that the nodes gave, whatever they mean. Others may write the
+    // same keys meanwhile, and replicas may lag. Field `amid`: a command over many keys has the reply
+    // of the unsplit command on what the nodes held when they ran its parts.
     ensures made { IfOk result (λ replies. AreMade (N.registered nodes.old)
         (IsSlotNode strategy.entry (λ s. picks s.now) slot_map.now
         (names_of read_only.now (N.registered nodes.old)) commands.now)
         commands.now order.now (N.asked nodes.old) (N.asked nodes.new)
-        (N.gave nodes.old) (N.gave nodes.new) (map answer_of replies.items)) }
+        (N.gave nodes.old) (N.gave nodes.new) N.step (map answer_of replies.items)) }
     // Where no part was refused and the nodes keep to the meaning, keyspace and replies are those of
     // one server that takes the commands.
     ensures one_server { IfOk result (λ replies.

@@ -10,6 +10,7 @@ use Rattle.redis_batches.specs.Reads.{IsSlotNode}
 use Rattle.redis_batches.specs.Replies.{AreRepliesTo}
 use Rattle.redis_batches.specs.Taken.{answer_of}
 use Rattle.redis_batches.specs.Tasks.{with_slots}
+use Rattle.redis_batches.proofs.Amid.{served_amid}
 use Rattle.redis_batches.proofs.Driving.{all_taken, pipeline_answered, pipeline_as_one, pipeline_served, pipeline_stopped, pipeline_unhindered}
 use Rattle.redis_batches.proofs.Planning.{slots_of_all}
 use Rattle.redis_batches.proofs.drive.drive_pipeline.Goals as goal
@@ -64,17 +65,20 @@ returns-in-Ok-replies_of-clause-made g c =
     let answers = c.send_batches.new.plan.answers in
     let given = map answer_of answers in
     let replies = map answer_of c.in-Ok-replies_of.replies.items in
+    let replies_are : AreRepliesTo c.in-Ok.plan.splits given replies = subst (λ splits. AreRepliesTo splits given replies) (ap (map split_in) c.as_slice.ensures.value ∙ c.into_parts-tasks.ensures.splits)
+    (subst (λ all. AreRepliesTo (map split_in c.as_slice.result.now) (map answer_of all) replies) c.into_answers.ensures.answers c.in-Ok-replies_of.ensures.replies) in
+    let sendable = c.in-Ok.ensures.sendable in
     record {
       given = given;
       all = record {
         plan = c.in-Ok.plan;
-        sendable = c.in-Ok.ensures.sendable;
+        sendable = sendable;
         asked = subst (λ b. WereAsked (nodes.asked c.args.nodes.now) (nodes.asked c.send_batches.new.nodes) (map (batch_at b) c.args.order.now)) c.into_parts-tasks.ensures.batches c.in_default.ensures.asked;
         long = length-map answers answer_of ∙ c.send_batches.ensures.room ∙ ap (λ (b : Batches). length b.parts) c.into_parts-tasks.ensures.batches;
         gave = subst (λ b. Grew (nodes.gave c.args.nodes.now) (nodes.gave c.send_batches.new.nodes) (answers_in b given c.args.order.now)) c.into_parts-tasks.ensures.batches c.in_default.ensures.gave;
       };
-      replies_are = subst (λ splits. AreRepliesTo splits given replies) (ap (map split_in) c.as_slice.ensures.value ∙ c.into_parts-tasks.ensures.splits)
-          (subst (λ all. AreRepliesTo (map split_in c.as_slice.result.now) (map answer_of all) replies) c.into_answers.ensures.answers c.in-Ok-replies_of.ensures.replies);
+      replies_are = replies_are;
+      amid = served_amid nodes.step (nodes.registered c.args.nodes.now) c.in-Ok.plan.splits sendable.of_commands.tasks given replies sendable.of_commands.splits_are replies_are;
     }
 
 pub returns-clause-given : goal.returns-clause-given
