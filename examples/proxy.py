@@ -11,7 +11,6 @@ connections. docs/PROXY.md says what clients can rely on. Python 3.11 is needed.
 import argparse
 import asyncio
 import os
-import re
 import socket
 import struct
 import sys
@@ -52,7 +51,6 @@ TAKEN.update(
     """.split()
 )
 ASK, SUM = 2, 7  # a kind of redirect, and the policy that adds the replies of all nodes
-ZEROS = re.compile(rb"\n\$0\d")
 REDIRECTS, ASKING = (b"-MOVED ", b"-ASK ", b"-TRYAGAIN "), request("ASKING")
 RESET_AT_CLOSE = socket.SOL_SOCKET, socket.SO_LINGER, struct.pack("ii", 1, 0)  # drops what is not sent yet
 
@@ -87,12 +85,6 @@ def requests_in(batch):
             words.append(batch[line + 2 : end])
             at = end + 2
         yield words
-
-
-def plain(message):
-    """A request with no zeros before its lengths, at which a server closes the connection."""
-    has_zeros = message.startswith(b"*0") or ZEROS.search(message)
-    return request(*next(requests_in(message))) if has_zeros else message
 
 
 def overtaken(parts, slots, refused):
@@ -130,15 +122,15 @@ class Messages:
 
     async def next(self):
         """The next message, or None if the stream has ended. A look in vain that takes a while is followed by
-        a pause of four times as long and a longer read, so that a long message is looked at few times."""
+        a pause of twice as long and a longer read, so that a long message is looked at few times."""
         while True:
-            start = time.monotonic()
+            start = time.thread_time()
             if (message := self.take()) is not None:
                 return message
             if len(self.data) > self.longest:
                 raise ValueError(f"a message of more than {self.longest} bytes")
-            if (took := time.monotonic() - start) > 0.001:
-                await asyncio.sleep(4 * took)
+            if (took := time.thread_time() - start) > 0.001:
+                await asyncio.sleep(2 * took)
             if not (more := await self.read(max(1 << 16, len(self.data)))):
                 return None
             self.data += more
@@ -392,7 +384,7 @@ async def serve(cluster, reader, writer):
         try:
             while (message := await messages.next()) is not None:
                 # A server does not answer a request of no words, and neither does the proxy.
-                some = [plain(it) for it in (message, *messages.ready()) if it[:30].strip(b"*0\r\n")]
+                some = [it for it in (message, *messages.ready()) if it != b"*0\r\n"]
                 writer.write(await cluster.answer_all(some) if some else b"")
                 await writer.drain()
         except (Refused, ValueError) as caught:
