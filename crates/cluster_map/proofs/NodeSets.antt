@@ -1,5 +1,5 @@
 -- A tree finds each node of a set at its index, and no other.
-use Rattle.std.proofs.Common.{rules, ◌≡◌, ◌+◌, ℕ, zero, suc, Bool, true, false, not, cond, ◌||◌, List, [], ◌∷◌, ◌++◌, length, Option, Some, None, map, filter, fold, if◌then◌else◌, refl, sym, ap, subst, ◌∙◌, arith}
+use Rattle.std.proofs.Common.{rules, ◌≡◌, ◌+◌, ℕ, Bool, true, false, not, cond, ◌||◌, List, [], ◌∷◌, ◌++◌, length, Some, None, filter, if◌then◌else◌, refl, sym, ap, ◌∙◌, arith}
 use Rattle.std.specs.List.{list_any, position_or_len, IsDistinct, AllByRecursion}
 use Rattle.std.specs.Ordering.{is_eq}
 use Rattle.std.specs.Cmp.Rules.{comparing}
@@ -11,7 +11,7 @@ use Rattle.cluster_map.specs.EachOnce.{each_once}
 use Rattle.cluster_map.specs.Inner.NodeSets.{addresses_counted, index_of}
 use Rattle.cluster_map.specs.declared.slot_map.node_set.counted.Counted.{Counted}
 use Rattle.cluster_map.proofs.Groups.{same_refl, same_sym}
-use Rattle.cluster_map.proofs.Members.{add_new, added_once, list_any-last}
+use Rattle.cluster_map.proofs.Members.{add_new, list_any-last}
 
 pub same_from_cmp : (a b : Address) → is_eq (address_cmp a b) ≡ same_address a b
 same_from_cmp a b = sym (search (comparing, rules))

@@ -18,7 +18,8 @@ mod ordered;
 /// The most nodes that a look-up by hash may compare in vain.
 const MOST_MISSES: usize = 16;
 
-/// The most nodes that are found by their hash. So no look-up passes many that are not counted.
+/// The most nodes that are found by their hash. A look-up also passes nodes that it does not
+/// compare, and this bounds their number.
 const MOST_HASHED: usize = 32768;
 
 /// The most nodes that room is made for, since many ranges often have few nodes.
@@ -27,13 +28,13 @@ const MOST_ROOM: usize = 2048;
 /// Addresses of nodes, each once, in order of first appearance.
 ///
 /// Nodes are found by their hash. Hosts can be chosen so that their hashes are equal, and then a
-/// look-up compares many nodes. After the first look-up that compares too many, nodes are found in
-/// a tree.
+/// look-up compares many nodes. After the first look-up that compares too many, a tree finds the
+/// nodes.
 #[derive(Drop)]
 pub(crate) struct NodeSet<'a, 'c> {
     hashed: IndexSet<Counted<'a, 'c>>,
     misses: &'c Cell<usize>,
-    // all nodes, if they are found in a tree
+    // all nodes, if a tree finds them
     ordered: Option<OrderedNodes<'a>>,
 }
 
@@ -48,8 +49,8 @@ impl<'a, 'c> Model for NodeSet<'a, 'c> {
 }
 
 impl<'a, 'c> NodeSet<'a, 'c> {
-    /// An empty set, with room for the nodes of `count` ranges. `misses` counts the comparisons of one
-    /// look-up.
+    /// An empty set, with room for the nodes of `count` ranges. `misses` counts the nodes that one look-up
+    /// compares in vain.
     pub(crate) fn for_ranges(
         alloc: Global,
         count: usize,
