@@ -1,5 +1,6 @@
 -- What a node leaves that took a batch of commands.
 use Rattle.std.specs.Prelude.{◌≡◌, ◌<◌, ◌≤◌, ◌⊎◌, ◌+◌, ℕ, List, [], ◌++◌, Option, None, Some, Result, Ok, Err, true, false, map, length, slice_get}
+use Rattle.std.specs.Global.{Vec}
 use Rattle.std.specs.List.{zip}
 use Rattle.cluster_slots.specs.Address.{Address}
 use Rattle.resp_core.specs.ErrorParts.{ErrorParts, out_of_memory}
@@ -23,6 +24,10 @@ use Rattle.redis_batches.specs.Pipeline.{Answer, Serve, Task, over_keys, in_slot
 abbrev pub answer_of : Result Value ErrorParts → Answer
 answer_of (Ok value) = Ok (view value)
 answer_of (Err error) = Err error
+
+-- what a send of a batch gives: an answer to each command, or why there is none
+abbrev pub Came : Type 0
+Came = Result (Vec (Result Value ErrorParts)) SendError
 
 -- the slot that a command goes to, where it goes to a node of one slot
 abbrev pub slot_routed : Option Routing → Option ℕ

@@ -1,13 +1,14 @@
 ghost use Rattle.std.specs.Prelude.{◌≡◌, ◌↔◌, ◌++◌, ◌∷◌, ℕ, List, None, Option, [], false, map, length, IfOk, IfErr, OnOk, OnErr};
 ghost use Rattle.redis_routing.specs.Registry.{Registrations};
 ghost use Rattle.resp_core.specs.ErrorParts.{ErrorParts};
+ghost use Rattle.cluster_slots.specs.Address.{Address};
 ghost use Rattle.redis_cluster.specs.Sent.{IsIdleIfRefused};
 ghost use Rattle.redis_cluster.specs.Trace.{Ending};
 ghost use Rattle.redis_cluster.specs.Unsplit.{Step};
 ghost use Rattle.redis_cluster.specs.State.{State};
 ghost use Rattle.redis_batches.specs.Driven.{WereAsked, WereAskedUntil};
 ghost use Rattle.redis_batches.specs.Pipeline.{Answer, Serve};
-ghost use Rattle.redis_batches.specs.Taken.{answer_of, AreAnswered, AreServed, AreTasks, Batch, IsTaken, IsUntaken, batch_entries, batch_for};
+ghost use Rattle.redis_batches.specs.Taken.{answer_of, AreAnswered, AreServed, AreTasks, Batch, Came, IsTaken, IsUntaken, batch_entries, batch_for};
 
 use cluster_slots::NodeAddress;
 use redis_cluster::driver::SendError;
@@ -50,6 +51,10 @@ pub trait BatchNodes {
 
     /// Whether these may be the answers so far, batch after batch, in the order in which they came.
     ghost gave: { Self → List (List Answer) → Type 0 } = { λ _ _. Unit {0} };
+
+    /// What one send may do: the nodes before, the address, the batch, what came back, and the nodes
+    /// after. No nodes have to say it.
+    ghost went: { Self → Address → List (List (List ℕ)) → Came → Self → Type 0 } = { λ _ _ _ _ _. Unit {0} };
 
     /// The registered names: a command of one of them may be part of a pipeline, too.
     fn registry(&self) -> &Registry
@@ -129,6 +134,7 @@ pub trait BatchNodes {
         ensures kept_untaken { IfErr result (λ error. kept self.old
             → IsIdleIfRefused (state self.old).keyspace (state self.new).keyspace error
             → kept self.new) }
+        ensures went { went self.old node.now (map (λ cmd. cmd.now) batch.now) result self.new }
         ensures may_refuse { (count : ℕ) (ending : Ending) → may_refuse self.new count ending
             ↔ may_refuse self.old count ending }
         ensures registered { registered self.new ≡ registered self.old };

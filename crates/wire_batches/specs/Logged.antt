@@ -1,18 +1,11 @@
 -- What a log of batches says.
-use Rattle.std.specs.Prelude.{◌≡◌, ℕ, List, Result, Ok, Err, cond, codes, length, map, nat_eq, None}
-use Rattle.std.specs.Global.{Vec}
+use Rattle.std.specs.Prelude.{ℕ, List, Ok, Err, cond, codes, length, map, nat_eq, None}
 use Rattle.resp_core.specs.ErrorParts.{ErrorParts, out_of_memory}
 use Rattle.resp_core.specs.declared.error.ErrorKind.TheVariants.{Client}
-use Rattle.resp_core.specs.declared.value.Value.{Value}
 use Rattle.cluster_slots.specs.Address.{Address}
-use Rattle.redis_cluster.specs.declared.nodes.SendError.{SendError}
 use Rattle.redis_cluster.specs.declared.nodes.SendError.TheVariants.{Refused, Redirected, Lost, Memory}
-use Rattle.redis_batches.specs.Taken.{answer_of}
+use Rattle.redis_batches.specs.Taken.{answer_of, Came}
 use Rattle.wire_batches.specs.Said.{Outcome, given, refusal, redirection, loss, Said, said}
-
--- what a transport gives: an answer to each command, or why there is none
-abbrev pub Came : Type 0
-Came = Result (Vec (Result Value ErrorParts)) SendError
 
 -- running out of memory, before which nothing was sent, is not logged
 abbrev pub outcome_by : Came → Outcome

@@ -4,7 +4,7 @@ use Rattle.std.specs.List.{zip}
 use Rattle.resp_core.specs.ErrorParts.{ErrorParts}
 use Rattle.redis_routing.specs.Registry.{Registrations}
 use Rattle.redis_cluster.specs.Unsplit.{Step, Keyspace}
-use Rattle.redis_batches.specs.Pipeline.{Answer, Serve, Task, run_ended}
+use Rattle.redis_batches.specs.Pipeline.{Serve, Task, run_ended}
 use Rattle.redis_batches.specs.Taken.{task_of}
 use Rattle.redis_batches.specs.Turns.{all_after, answers}
 use Rattle.wire_batches.specs.Said.{Said, Outcome, given, refusal, redirection, loss, refusal_by}

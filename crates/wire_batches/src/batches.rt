@@ -42,9 +42,38 @@ pub trait BatchMeaning {
     ghost took: { ℕ → ℕ → Bool };
 }
 
+impl BatchMeaning for Any {
+    ghost use Rattle.std.specs.Prelude.{None, Ok, false};
+    ghost use Rattle.resp_core.specs.Reply.{nil};
+
+    ghost Cell = { Unit {0} };
+
+    ghost step = { λ registered name shared key extras cell. record { cell = None; result = record { value = nil; counts = false } } };
+
+    ghost serve = { λ args keyspace. record { keys = keyspace; reply = Ok nil } };
+
+    ghost refuses = { λ error. false };
+
+    ghost initial = { λ key. None };
+
+    ghost took = { λ number place. false };
+}
+
+/// Stands for any `BatchMeaning`, in the type of a client.
+#[derive(Drop)]
+pub struct Any;
+
+/// A client over a transport, of any meaning. A transport that borrows is a struct with one lifetime.
+///
+/// ```
+/// let mut client = BatchClient::over(connections, Registry::new(alloc));
+/// ```
+pub type BatchClient<T> = WireBatches<LoggedBatches<T>, Any>;
+
 /// Nodes behind connections that take batches. They keep to a meaning exactly where the answers that
 /// the connections gave are those that the commands so far give by it, where what was refused did
 /// nothing.
+#[derive(Drop)]
 pub struct WireBatches<W, M> {
     wire: W,
     registry: Registry,
@@ -142,6 +171,9 @@ impl<W: BatchWire, M: BatchMeaning> BatchNodes for WireBatches<W, M> {
     ghost asked = { λ nodes batches. batches ≡ map batch_by (W.log nodes.wire) };
 
     ghost gave = { λ nodes answers. answers ≡ answers_in (W.log nodes.wire) };
+
+    // each send is one exchange of the connections, whose outcome it gives
+    ghost went = { λ old node commands came new. W.went old.wire node commands came new.wire };
 
     fn registry(&self) -> &Registry {
         &self.registry

@@ -9,7 +9,7 @@ pub mod logged;
 /// Connections whose log contracts see.
 pub mod wire;
 
-pub use batches::{BatchMeaning, WireBatches};
+pub use batches::{Any, BatchClient, BatchMeaning, WireBatches};
 pub use cluster_slots::NodeAddress;
 pub use logged::{BatchTransport, LoggedBatches};
 pub use redis_batches::BatchNodes;

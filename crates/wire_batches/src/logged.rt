@@ -1,6 +1,7 @@
 ghost use Rattle.std.specs.Prelude.{◌≡◌, ℕ, List, Result, [], map, length, IfOk};
 ghost use Rattle.cluster_slots.specs.Address.{Address};
-ghost use Rattle.wire_batches.specs.Logged.{Came, in_length, said_by};
+ghost use Rattle.redis_batches.specs.Taken.{Came};
+ghost use Rattle.wire_batches.specs.Logged.{in_length, said_by};
 ghost use Rattle.wire_batches.specs.Held.{transport_in};
 
 use crate::log::Log;
@@ -45,6 +46,7 @@ impl<T: BatchTransport> BatchTransport for &mut T {
 }
 
 /// Connections, with a log that only proofs read: it takes no memory, and does nothing.
+#[derive(Drop)]
 pub struct LoggedBatches<T> {
     transport: T,
     sends: Log<NodeAddress, Cmd, Result<Vec<Result<Value, RedisError>>, SendError>>,

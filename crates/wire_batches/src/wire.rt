@@ -1,10 +1,6 @@
-ghost use Rattle.std.specs.Prelude.{◌≡◌, ◌++◌, ◌∷◌, [], ℕ, List, Result, map, length, IfOk, IfErr};
-ghost use Rattle.std.specs.Global.{Vec as Listed};
+ghost use Rattle.std.specs.Prelude.{◌≡◌, ◌++◌, ◌∷◌, [], ℕ, List, map, length, IfOk, IfErr};
 ghost use Rattle.cluster_slots.specs.Address.{Address};
-ghost use Rattle.resp_core.specs.ErrorParts.{ErrorParts};
-ghost use Rattle.resp_core.specs.declared.value.Value.{Value as Held};
-ghost use Rattle.redis_cluster.specs.declared.nodes.SendError.{SendError as Unsent};
-ghost use Rattle.redis_batches.specs.Taken.{answer_of};
+ghost use Rattle.redis_batches.specs.Taken.{answer_of, Came};
 ghost use Rattle.wire_batches.specs.Said.{Said, said, given, IsUnsaid};
 
 use cluster_slots::NodeAddress;
@@ -19,7 +15,7 @@ pub trait BatchWire {
 
     /// What one exchange may do: the connections before, the node, the batch, what came back, and
     /// the connections after. None has to say it.
-    ghost went: { Self → Address → List (List (List ℕ)) → Result (Listed (Result Held ErrorParts)) Unsent → Self → Type 0 } = { λ _ _ _ _ _. Unit {0} };
+    ghost went: { Self → Address → List (List (List ℕ)) → Came → Self → Type 0 } = { λ _ _ _ _ _. Unit {0} };
 
     /// Sends a batch to a node, and waits for what comes back.
     ///

@@ -1,4 +1,4 @@
-use Rattle.std.proofs.Common.{inl, ap, length, map, refl, sym, ◌∙◌, ◌++◌}
+use Rattle.std.proofs.Common.{inl, ap, map, refl, sym, ◌∙◌, ◌++◌}
 use Rattle.std.proofs.lemmas.List.{append-nil, length-map}
 use Rattle.redis_batches.specs.Taken.{answer_of, batch_entries}
 use Rattle.wire_batches.specs.Said.{given, refusal, redirection, loss, refusal_by, trace_by}
