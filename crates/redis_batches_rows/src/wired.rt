@@ -6,9 +6,7 @@ use redis_batches::{PipelineError, drive_pipeline};
 use redis_cluster::routing::{ReadOnlyNames, Registry};
 use resp_core::{Cmd, ErrorKind, RedisError, RedisResult};
 use std::alloc::Global;
-use wire_batches::{
-    BatchMeaning, BatchTransport, LoggedBatches, NodeAddress, SendError, WireBatches,
-};
+use wire_batches::{BatchClient, BatchTransport, NodeAddress, Redirect, SendError};
 
 /// Gives these outcomes, the last one first, whatever is sent, and then loses the answers.
 #[derive(Drop)]
@@ -30,31 +28,13 @@ impl BatchTransport for Scripted {
     }
 }
 
-impl BatchMeaning for Any {
-    ghost use Rattle.std.specs.Prelude.{None, Ok, false};
-    ghost use Rattle.resp_core.specs.Reply.{nil};
-
-    ghost Cell = { Unit {0} };
-
-    ghost step = { λ registered name shared key extras cell. record { cell = None; result = record { value = nil; counts = false } } };
-
-    ghost serve = { λ args keyspace. record { keys = keyspace; reply = Ok nil } };
-
-    ghost refuses = { λ error. false };
-
-    ghost initial = { λ key. None };
-
-    ghost took = { λ number place. false };
-}
-
-/// Stands for any meaning: no code reads it.
-#[derive(Drop)]
-struct Any;
-
-/// What comes of a batch: `refused`, `lost`, or answers.
+/// What comes of a batch: `refused`, `moved`, `lost`, or answers.
 fn outcome_of(alloc: Global, text: &str) -> RedisResult<Result<Answers, SendError>> {
     match text {
         "refused" => Ok(Err(SendError::Refused(error_of("error")?))),
+        "moved" => Ok(Err(SendError::Redirected(Redirect::Moved(NodeAddress::try_from(
+            alloc, "n3:3",
+        )?)))),
         "lost" => Ok(Err(SendError::Lost(error_of("error")?))),
         _ => Ok(Ok(answers_of(alloc, text)?)),
     }
@@ -78,10 +58,7 @@ fn driven(
     transport: Scripted,
 ) -> (Result<Answers, PipelineError>, Scripted) {
     let names = ReadOnlyNames::new(alloc);
-    let mut nodes = WireBatches::<LoggedBatches<Scripted>, Any>::over(
-        transport,
-        Registry::new(alloc),
-    );
+    let mut nodes = BatchClient::over(transport, Registry::new(alloc));
     let driven = drive_pipeline(
         alloc,
         &sent.commands,

@@ -9,25 +9,7 @@ use fixtures::{cmd, values};
 use redis_cluster::routing::Registry;
 use resp_core::{RedisResult, Value};
 use std::alloc::Global;
-use std::marker::Brand;
-use wire_nodes::{Logged, Meaning, Wire, WireNodes};
-
-impl Meaning for Any {
-    ghost use Rattle.std.specs.Prelude.{None, false};
-    ghost use Rattle.resp_core.specs.Reply.{nil};
-
-    ghost Cell = { Unit {0} };
-
-    ghost step = { λ registered name shared key extras cell. record { cell = None; result = record { value = nil; counts = false } } };
-
-    ghost initial = { λ key. None };
-
-    ghost took = { λ number. false };
-}
-
-/// Stands for any meaning: no code reads it.
-#[derive(Drop)]
-pub struct Any;
+use wire_nodes::{Any, Client, Logged, Wire, WireNodes};
 
 /// The outcomes of a text, the last one first.
 fn outcomes(alloc: Global, text: &str) -> RedisResult<Vec<Value>> {
@@ -70,12 +52,8 @@ pub fn over(alloc: Global, cluster: &Cluster, words: &str) -> RedisResult<String
         outcomes: outcomes(alloc, script)?,
         sent: String::new(alloc),
     };
-    let mut nodes = WireNodes::<Logged<&mut Script>, Any>::over(
-        &mut transport,
-        Registry::new(alloc),
-    );
+    let mut nodes = Client::over(&mut transport, Registry::new(alloc));
     let driven = driven(alloc, cluster, words, &mut nodes);
-    let _ = nodes.into_wire().into_transport();
     Ok(format!(in alloc; "{};{}", driven?, transport.sent)?)
 }
 

@@ -11,17 +11,18 @@ use redis_cluster::driver::SendError;
 use redis_cluster::routing::{ReadOnlyNames, Registry};
 use resp_core::{Cmd, ErrorKind, RedisError, Value};
 use std::alloc::Global;
-use wire_batches::{BatchMeaning, BatchTransport, BatchWire, LoggedBatches, WireBatches};
+use wire_batches::{BatchClient, BatchMeaning, BatchTransport, BatchWire, WireBatches};
 
-/// Connections of the user's own. These give the answers that they hold, those to the last batch
-/// first; others write the batch to a socket of the node, and read as many answers.
+/// Borrows the connections of the user's own for one pipeline. These give the answers that they hold,
+/// those to the last batch first. Others write the batch to a socket of the node, and read as many
+/// answers.
 #[derive(Drop)]
-pub struct BatchConnections {
+pub struct BatchConnections<'a> {
     /// What they give, the last batch first.
-    pub answers: Vec<Vec<Result<Value, RedisError>>>,
+    pub answers: &'a mut Vec<Vec<Result<Value, RedisError>>>,
 }
 
-impl BatchTransport for BatchConnections {
+impl BatchTransport for BatchConnections<'_> {
     fn exchange(
         &mut self,
         _node: &NodeAddress,
@@ -32,18 +33,6 @@ impl BatchTransport for BatchConnections {
             None => Err(SendError::Lost(RedisError::from((ErrorKind::Client, "no answers")))),
         }
     }
-}
-
-/// A client over a transport, which has sent nothing yet.
-pub fn batch_client_over<T: BatchTransport, M: BatchMeaning>(
-    transport: T,
-    registry: Registry,
-) -> WireBatches<LoggedBatches<T>, M>
-    ensures registered { registry_in result ≡ registry }
-    ensures unsent { (⟦<WireBatches<LoggedBatches<T>, M> as BatchNodes>⟧.state result).trace ≡ [] }
-    ensures kept { ⟦<WireBatches<LoggedBatches<T>, M> as BatchNodes>⟧.kept result }
-{
-    WireBatches::over(transport, registry)
 }
 
 /// Sends a pipeline, one batch for each primary, and gives the reply to each command.
@@ -79,4 +68,16 @@ pub fn send_pipeline<W: BatchWire, M: BatchMeaning>(
         order,
         client,
     )
+}
+
+/// The same over connections, for one pipeline.
+pub fn send_over(
+    alloc: Global,
+    commands: &[Cmd],
+    slot_map: &SlotMap,
+    order: &[usize],
+    connections: BatchConnections<'_>,
+) -> Result<Vec<Result<Value, RedisError>>, PipelineError> {
+    let mut client = BatchClient::over(connections, Registry::new(alloc));
+    send_pipeline(alloc, commands, slot_map, order, &mut client)
 }

@@ -12,29 +12,12 @@ ghost use Rattle.redis_cluster.specs.Unsplit.{keyspace_after, reply_to};
 ghost use Rattle.wire_nodes.specs.Held.{registry_in};
 ghost use Rattle.uses.specs.Client.{asked, read, write, AreSentOnce, IsPrimary};
 
-use cluster_map::{NodeAddress, SlotMap};
-use redis_cluster::driver::{DriveError, Nodes, SendError, drive};
-use redis_cluster::routing::{ReadOnlyNames, Registry};
-use resp_core::{Cmd, ErrorKind, RedisError, Value};
+use cluster_map::SlotMap;
+use redis_cluster::driver::{DriveError, Nodes, drive};
+use redis_cluster::routing::ReadOnlyNames;
+use resp_core::{Cmd, Value};
 use std::alloc::{AllocError, Global};
-use wire_nodes::{Logged, Meaning, Transport, Wire, WireNodes};
-
-/// Connections of the user's own. These give the replies that they hold, the last one first; others
-/// write the command to a socket of the node, and read.
-#[derive(Drop)]
-pub struct Connections {
-    /// What they give, the last one first.
-    pub replies: Vec<Value>,
-}
-
-impl Transport for Connections {
-    fn exchange(&mut self, _node: &NodeAddress, _cmd: &Cmd) -> Result<Value, SendError> {
-        match self.replies.pop() {
-            Some(value) => Ok(value),
-            None => Err(SendError::Lost(RedisError::from((ErrorKind::Client, "no reply")))),
-        }
-    }
-}
+use wire_nodes::{Meaning, Wire, WireNodes};
 
 /// Why a client has not read what it wrote.
 #[derive(Drop)]
@@ -55,19 +38,6 @@ impl From<AllocError> for ClientFault {
     fn from(_: AllocError) -> Self {
         ClientFault::Memory
     }
-}
-
-/// A client over a transport, which has sent nothing yet.
-pub fn client_over<T: Transport, M: Meaning>(
-    transport: T,
-    registry: Registry,
-) -> WireNodes<Logged<T>, M>
-    ensures registered { registry_in result ≡ registry }
-    ensures unsent { (⟦<WireNodes<Logged<T>, M> as Nodes>⟧.state result).trace ≡ [] }
-    ensures kept { ⟦<WireNodes<Logged<T>, M> as Nodes>⟧.kept result }
-    ensures initial { (⟦<WireNodes<Logged<T>, M> as Nodes>⟧.state result).keyspace ≡ M.initial }
-{
-    WireNodes::over(transport, registry)
 }
 
 /// Writes `a` and `b`, which have two slots, and reads them.

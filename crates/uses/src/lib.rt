@@ -11,6 +11,7 @@ pub mod commands;
 pub mod deleting;
 pub mod node_of_key;
 pub mod pipelines;
+pub mod planning;
 pub mod redirects;
 pub mod registering;
 pub mod replies;

@@ -1,20 +1,70 @@
-//! A multi-key command over a transport of one's own.
-use cluster_map::SlotMap;
-use redis_cluster::driver::{DriveError, drive};
-use redis_cluster::routing::ReadOnlyNames;
-use resp_core::{Cmd, Value};
+//! A multi-key command over sockets of one's own.
+use cluster_map::{NodeAddress, SlotMap};
+use redis_cluster::driver::{DriveError, SendError, drive};
+use redis_cluster::routing::{ReadOnlyNames, Redirect, Registry};
+use resp_core::{Cmd, ErrorKind, RedisError, Value};
 use std::alloc::Global;
-use wire_nodes::{Meaning, Wire, WireNodes};
+use wire_nodes::{Client, Transport};
+
+/// What comes back from a node.
+#[derive(Drop)]
+pub enum Answer {
+    /// The reply to the command.
+    Reply(Value),
+    /// An error that sends the client to another node.
+    Redirect(Redirect),
+    /// Any other error.
+    Error(RedisError),
+    /// No reply came in time.
+    TimeOut(RedisError),
+}
+
+/// Sockets of the user's own. These give the answers that they hold, the last one first. Others
+/// write the command to a socket of the node, and read.
+#[derive(Drop)]
+pub struct Sockets {
+    /// What they give, the last one first.
+    pub answers: Vec<Answer>,
+}
+
+impl Sockets {
+    /// Sends a command to a node, and waits for what comes back.
+    fn ask(&mut self, _node: &NodeAddress, _cmd: &Cmd) -> Answer {
+        match self.answers.pop() {
+            Some(answer) => answer,
+            None => Answer::TimeOut(RedisError::from((ErrorKind::Client, "no reply"))),
+        }
+    }
+}
+
+/// Borrows the sockets for one command.
+#[derive(Drop)]
+pub struct Connections<'a> {
+    /// The sockets.
+    pub sockets: &'a mut Sockets,
+}
+
+impl Transport for Connections<'_> {
+    fn exchange(&mut self, node: &NodeAddress, cmd: &Cmd) -> Result<Value, SendError> {
+        match self.sockets.ask(node, cmd) {
+            Answer::Reply(value) => Ok(value),
+            Answer::Redirect(redirect) => Err(SendError::Redirected(redirect)),
+            Answer::Error(error) => Err(SendError::Refused(error)),
+            Answer::TimeOut(error) => Err(SendError::Lost(error)),
+        }
+    }
+}
 
 /// Sends the parts of a multi-key command in this order, and gives the one reply.
-pub fn send<W: Wire, M: Meaning>(
+pub fn send(
     alloc: Global,
     command: &Cmd,
     slot_map: &SlotMap,
     order: &[usize],
-    client: &mut WireNodes<W, M>,
+    sockets: &mut Sockets,
 ) -> Result<Value, DriveError> {
     let none_only_reads = ReadOnlyNames::new(alloc);
+    let mut client = Client::over(Connections { sockets }, Registry::new(alloc));
     drive(
         alloc,
         command,
@@ -23,6 +73,6 @@ pub fn send<W: Wire, M: Meaning>(
         None,
         0,
         order,
-        client,
+        &mut client,
     )
 }

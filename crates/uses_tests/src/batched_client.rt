@@ -1,32 +1,9 @@
 use redis_batches::PipelineError;
-use redis_cluster::routing::Registry;
 use resp_core::{Cmd, RedisError, Value};
 use std::alloc::{AllocError, Global};
 use std::test::Fail;
-use uses::batched_client::{BatchConnections, batch_client_over, send_pipeline};
+use uses::batched_client::{BatchConnections, send_over};
 use uses::node_of_key::two_nodes;
-use wire_batches::BatchMeaning;
-
-impl BatchMeaning for Any {
-    ghost use Rattle.std.specs.Prelude.{None, Ok, false};
-    ghost use Rattle.resp_core.specs.Reply.{nil};
-
-    ghost Cell = { Unit {0} };
-
-    ghost step = { λ registered name shared key extras cell. record { cell = None; result = record { value = nil; counts = false } } };
-
-    ghost serve = { λ args keyspace. record { keys = keyspace; reply = Ok nil } };
-
-    ghost refuses = { λ error. false };
-
-    ghost initial = { λ key. None };
-
-    ghost took = { λ number place. false };
-}
-
-/// Stands for any meaning: no code reads it.
-#[derive(Drop)]
-struct Any;
 
 /// `INCR a`, `INCR b` and `INCR a`.
 fn three_commands(alloc: Global) -> Result<Vec<Cmd>, AllocError> {
@@ -51,14 +28,14 @@ fn numbers(alloc: Global, of: &[i64]) -> Result<Vec<Result<Value, RedisError>>, 
 /// The replies to the three commands over connections that give these answers, the last batch first.
 fn replies_over(
     alloc: Global,
-    answers: Vec<Vec<Result<Value, RedisError>>>,
+    mut answers: Vec<Vec<Result<Value, RedisError>>>,
 ) -> Result<String, Fail> {
     let map = two_nodes(alloc)?;
     let commands = three_commands(alloc)?;
-    let connections = BatchConnections { answers };
-    let mut client = batch_client_over::<BatchConnections, Any>(connections, Registry::new(alloc));
-    let got = send_pipeline(alloc, &commands, &map, &[0, 1], &mut client);
-    let _ = client.into_wire().into_transport();
+    let connections = BatchConnections {
+        answers: &mut answers,
+    };
+    let got = send_over(alloc, &commands, &map, &[0, 1], connections);
     Ok(match &got {
         Ok(replies) => numbers_in(alloc, replies)?,
         Err(PipelineError::Node(stop)) => format!(in alloc; "stopped behind {}", stop.answered)?,

@@ -1,41 +1,27 @@
 use redis_cluster::driver::DriveFault;
 use redis_cluster::routing::Registry;
-use resp_core::Value;
+use resp_core::{Cmd, ErrorKind, RedisError, Value};
 use std::alloc::{AllocError, Global};
-use std::marker::Brand;
 use std::test::Fail;
-use uses::client::{ClientFault, Connections, client_over, write_and_read};
+use uses::client::{ClientFault, write_and_read};
 use uses::node_of_key::two_nodes;
-use wire_nodes::Meaning;
+use uses::sending::{Answer, Connections, Sockets, send};
+use wire_nodes::Client;
 
-impl Meaning for Any {
-    ghost use Rattle.std.specs.Prelude.{None, false};
-    ghost use Rattle.resp_core.specs.Reply.{nil};
-
-    ghost Cell = { Unit {0} };
-
-    ghost step = { λ registered name shared key extras cell. record { cell = None; result = record { value = nil; counts = false } } };
-
-    ghost initial = { λ key. None };
-
-    ghost took = { λ number. false };
-}
-
-/// Stands for any meaning: no code reads it.
-#[derive(Drop)]
-struct Any;
-
-fn list_of(alloc: Global, text: &str) -> Result<Value, AllocError> {
+fn list_of(alloc: Global, text: &str) -> Result<Answer, AllocError> {
     let item = Value::BulkString(text.as_bytes().to_vec(alloc)?);
-    Ok(Value::Array(vec![in alloc; item]?))
+    Ok(Answer::Reply(Value::Array(vec![in alloc; item]?)))
 }
 
-/// What a client reads over connections that give these replies, the last one first.
-fn read_over(alloc: Global, replies: Vec<Value>) -> Result<&'static str, Fail> {
+/// What a client reads over sockets that give these answers, the last one first.
+fn read_over(alloc: Global, answers: Vec<Answer>) -> Result<&'static str, Fail> {
     let map = two_nodes(alloc)?;
-    let mut client = client_over::<Connections, Any>(Connections { replies }, Registry::new(alloc));
+    let mut sockets = Sockets { answers };
+    let connections = Connections {
+        sockets: &mut sockets,
+    };
+    let mut client = Client::over(connections, Registry::new(alloc));
     let got = write_and_read(alloc, &map, &mut client);
-    let _ = client.into_wire().into_transport();
     Ok(match &got {
         Ok(Value::Array(values)) if values.len() == 2 => "two values",
         Ok(_) => "another value",
@@ -50,13 +36,13 @@ fn read_over(alloc: Global, replies: Vec<Value>) -> Result<&'static str, Fail> {
 #[test]
 fn a_client_reads_what_it_wrote(rt: HostRuntime) -> Result<(), Fail> {
     let alloc = rt.alloc();
-    let replies = vec![in alloc;
+    let answers = vec![in alloc;
         list_of(alloc, "1")?,
         list_of(alloc, "2")?,
-        Value::Okay,
-        Value::Okay,
+        Answer::Reply(Value::Okay),
+        Answer::Reply(Value::Okay),
     ]?;
-    assert_eq!(rt; read_over(alloc, replies)?, "two values");
+    assert_eq!(rt; read_over(alloc, answers)?, "two values");
     Ok(())
 }
 
@@ -64,10 +50,45 @@ fn a_client_reads_what_it_wrote(rt: HostRuntime) -> Result<(), Fail> {
 fn a_client_stops_at_a_lost_reply(rt: HostRuntime) -> Result<(), Fail> {
     let alloc = rt.alloc();
     assert_eq!(rt;
-        read_over(alloc, vec![in alloc; Value::Okay]?)?,
+        read_over(alloc, vec![in alloc; Answer::Reply(Value::Okay)]?)?,
         "not written"
     );
-    let replies = vec![in alloc; list_of(alloc, "2")?, Value::Okay, Value::Okay]?;
-    assert_eq!(rt; read_over(alloc, replies)?, "not read");
+    let answers = vec![in alloc;
+        list_of(alloc, "2")?,
+        Answer::Reply(Value::Okay),
+        Answer::Reply(Value::Okay),
+    ]?;
+    assert_eq!(rt; read_over(alloc, answers)?, "not read");
+    Ok(())
+}
+
+/// `DEL foo bar`, whose keys have two slots.
+fn two_deletions(alloc: Global) -> Result<Cmd, AllocError> {
+    let mut command = Cmd::new(alloc);
+    command.write_arg(b"DEL")?;
+    command.write_arg(b"foo")?;
+    command.write_arg(b"bar")?;
+    Ok(command)
+}
+
+/// The count of the two deletions over sockets that give these answers, or the number of parts that
+/// were answered.
+fn deleted_over(alloc: Global, answers: Vec<Answer>) -> Result<Result<Value, usize>, Fail> {
+    let map = two_nodes(alloc)?;
+    let mut sockets = Sockets { answers };
+    match send(alloc, &two_deletions(alloc)?, &map, &[0, 1], &mut sockets) {
+        Ok(count) => Ok(Ok(count)),
+        Err(error) => Ok(Err(error.answered)),
+    }
+}
+
+#[test]
+fn a_command_is_sent_over_borrowed_sockets(rt: HostRuntime) -> Result<(), Fail> {
+    let alloc = rt.alloc();
+    let answers = vec![in alloc; Answer::Reply(Value::Int(2)), Answer::Reply(Value::Int(1))]?;
+    assert!(rt; deleted_over(alloc, answers)? == Ok(Value::Int(3)));
+    let refused = Answer::Error(RedisError::from((ErrorKind::Client, "READONLY")));
+    let answers = vec![in alloc; refused, Answer::Reply(Value::Int(1))]?;
+    assert!(rt; deleted_over(alloc, answers)? == Err(1));
     Ok(())
 }
