@@ -8,6 +8,7 @@ use uses::node_of_key::two_nodes;
 
 const BATCH_OF_FOO: &str =
     "10.0.0.2:6379 MSET foo 1\n10.0.0.2:6379 INCR foo\n10.0.0.2:6379 MGET foo\n";
+
 const BATCH_OF_BAR: &str = "10.0.0.1:6379 MSET bar 2\n10.0.0.1:6379 MGET bar\n";
 
 /// The command of these words, which are parted by single spaces.
@@ -60,7 +61,9 @@ fn sent_in(alloc: Global, order: &[usize]) -> Result<Vec<u8>, Fail> {
         let node = format!(in alloc; "{}", entry.node)?;
         push_sent(&mut text, node.as_str(), &entry.command)?;
     }
-    if let Ok(replies) = &sent && let Some(last) = replies.last() {
+    if let Ok(replies) = &sent
+        && let Some(last) = replies.last()
+    {
         push_list(&mut text, last)?;
     }
     Ok(text)

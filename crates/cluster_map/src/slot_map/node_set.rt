@@ -49,8 +49,8 @@ impl<'a, 'c> Model for NodeSet<'a, 'c> {
 }
 
 impl<'a, 'c> NodeSet<'a, 'c> {
-    /// An empty set, with room for the nodes of `count` ranges. `misses` counts the nodes that one look-up
-    /// compares in vain.
+    /// An empty set, with room for the nodes of `count` ranges. `misses` counts the nodes that one
+    /// look-up compares in vain.
     pub(crate) fn for_ranges(
         alloc: Global,
         count: usize,

@@ -10,14 +10,6 @@ use Rattle.slotroute_serve.specs.Direction.{send_order}
 use Rattle.slotroute_serve.proofs.RunningCommands.{driven_by, plan_order, order_with, why_not_run, good_order, unsent}
 use Rattle.slotroute_serve.proofs.command.drive_command.Goals as goal
 
-pub drive_plan-requires : goal.drive_plan-requires
-drive_plan-requires g c =
-    let order = c.deref.result.now in
-    let plan = c.in_ok-plan.plan in
-    let asked : Registrations → Request = λ known. request (map Some c.args.command.now) (names_of c.args.read_only.now known) c.args.slot_map.now order in
-    let ready = subst (λ known. (command : MultiKey) × IsPlanFor (asked known) order known plan command) c.registry.ensures (c.in_ok-plan.ensures.ready order) in
-    record { command = (ready.0, ready.1.0.plan_is); untold = c.in_ok-plan.ensures.untold }
-
 pub command_fault-requires : goal.command_fault-requires
 command_fault-requires g c =
     let names = c.args.read_only.now in
