@@ -1,6 +1,5 @@
 -- One command more of a batch.
 use Rattle.std.proofs.Common.{◌≡◌, ℕ, ◌+◌, zero, suc, List, [], ◌∷◌, ◌++◌, Option, Some, Err, refl, sym, ap, ◌∙◌, subst, length, map, arith, append_assoc, append-nil}
-use Rattle.std.specs.Prelude.{slice_get}
 use Rattle.std.specs.List.{zip}
 use Rattle.std.proofs.lemmas.List.{map-append, length-append, length-map}
 use Rattle.std.proofs.lemmas.Option.{same_Some}

@@ -1,6 +1,6 @@
 -- What the commands of one slot do to the keys of the slot.
 use Rattle.std.proofs.Common.{◌≡◌, ℕ, ℤ, List, [], true, false, cond, map, length, None, Ok, Err, Some, ap, sym, subst, ◌∙◌, arith}
-use Rattle.std.specs.Prelude.{nat_eq, codes}
+use Rattle.std.specs.Prelude.{◌+ℤ◌, nat_eq, codes, pos}
 use Rattle.std.specs.Fmt.{signed_decimal}
 use Rattle.std.proofs.lemmas.Bool.Decides.{nat_tests}
 use Rattle.resp_core.proofs.Cases.{by_test}
@@ -15,7 +15,7 @@ use Rattle.redis_batches.specs.Served.{in_shelf, shelf, with_shelf}
 use Rattle.memory_nodes.specs.Cells.{Cell, value_at}
 use Rattle.memory_nodes.specs.Steps.{alone, written}
 use Rattle.memory_batches.specs.Meaning.{IsDone}
-use Rattle.memory_batches.specs.Strings.{arguments_of, by_verb, counted, cross_slot, fails, length_at, length_of, list_length, lpush, number_at, one_more, own_error, pushed, raised, rename, rename_in_slot, renamed, serve, string_at, verb_in, with_length, with_string}
+use Rattle.memory_batches.specs.Strings.{arguments_of, by_verb, counted, cross_slot, fails, in_64_bits, length_at, length_of, list_length, lpush, number_at, one_more, own_error, pushed, raised, raised_from, rename, rename_in_slot, renamed, serve, string_at, verb_in, with_length, with_string}
 use Rattle.memory_batches.specs.declared.verb.Verb.{Verb}
 use Rattle.memory_batches.proofs.Shelves.{put_elsewhere, put_here, put_more, shelf_back}
 use Rattle.memory_batches.proofs.Verbs.{wrong_number}
@@ -67,21 +67,14 @@ module _ (slot : ℕ) (ks : Keyspace Cell) where
       (fails_done (codes "ERR unknown command") error is)
 
   -- a number that is one more
-  pub incr_done : (key text : List ℕ) (n m : ℤ) (new : Keyspace Cell) → one_more (number_at (string_at (shelf slot ks) key)) ≡ Some n → text ≡ signed_decimal n → m ≡ n
+  pub incr_done : (key text : List ℕ) (old n m : ℤ) (new : Keyspace Cell) → number_at (string_at (shelf slot ks) key) ≡ Some old → in_64_bits (old +ℤ pos 1) ≡ Some n → text ≡ signed_decimal n → m ≡ n
       → new ≡ with_shelf slot (with_string key text (shelf slot ks)) ks → IsDone (in_shelf slot (raised key)) ks new (Ok (value.Int m))
-  incr_done key text n m new is text_is same written =
-      let effect = ap (λ o. counted key o (shelf slot ks)) is in
+  incr_done key text old n m new there is text_is same written =
+      let effect = ap (λ o. raised_from key o (shelf slot ks)) there ∙ ap (λ o. counted key o (shelf slot ks)) is in
       record {
         keyspace = written ∙ ap (λ t. with_shelf slot (with_string key t (shelf slot ks)) ks) text_is ∙ sym (ap (λ s. with_shelf slot s.keys ks) effect);
         reply = ap Ok (view-Int m ∙ ap int same) ∙ sym (ap (λ s. s.reply) effect);
       }
-
-  -- no number, or one at the end of 64 bits
-  pub incr_fails : (key : List ℕ) (error : ErrorParts) → one_more (number_at (string_at (shelf slot ks) key)) ≡ None → error ≡ own_error (codes "ERR value is not an integer or out of range")
-      → IsDone (in_shelf slot (raised key)) ks ks (Err error)
-  incr_fails key error is error_is =
-      let effect = ap (λ o. counted key o (shelf slot ks)) is in
-      record { keyspace = sym (ap (λ s. with_shelf slot s.keys ks) effect ∙ shelf_back slot ks); reply = ap Err error_is ∙ sym (ap (λ s. s.reply) effect) }
 
   -- a key with a string is of the slot
   pub own_key : (key string : List ℕ) → string_at (shelf slot ks) key ≡ Some string → nat_eq (key_slot key) slot ≡ true

@@ -1,6 +1,6 @@
 -- No error that these nodes answer of themselves sends a command on.
-use Rattle.std.proofs.Common.{◌≡◌, ℕ, List, [], ◌∷◌, ◌++◌, Option, None, Some, Ok, Err, All, inl, inr, true, false, cond, ap, arith, get_or, refl, sym, subst, ◌∙◌, map}
-use Rattle.std.specs.Prelude.{codes, nat_eq}
+use Rattle.std.proofs.Common.{◌≡◌, ℕ, List, [], ◌∷◌, ◌++◌, Option, None, Some, Err, inl, inr, false, ap, arith, get_or, refl, sym, subst, ◌∙◌, map}
+use Rattle.std.specs.Prelude.{◌+ℤ◌, codes, nat_eq, pos}
 use Rattle.std.specs.Option.{option_map_or}
 use Rattle.std.proofs.lemmas.Bool.Decides.{nat_tests}
 use Rattle.resp_core.proofs.Cases.{by_test}
@@ -15,7 +15,7 @@ use Rattle.redis_batches.specs.Pipeline.{Answer, Task, in_slot, over_keys}
 use Rattle.redis_batches.specs.Rounds.{OwnErrorsStay, SendsOn, StaysHere, server_text}
 use Rattle.memory_nodes.specs.Cells.{Cell}
 use Rattle.redis_routing.specs.Command.{command_name}
-use Rattle.memory_batches.specs.Strings.{arguments_of, by_verb, counted, fails, holds_list, length_at, list_length, number_at, one_more, own_error, pushed, raised, rename, rename_in_slot, renamed, serve, string_at, verb_in}
+use Rattle.memory_batches.specs.Strings.{arguments_of, by_verb, counted, fails, holds_list, in_64_bits, length_at, list_length, number_at, one_more, own_error, pushed, raised_from, renamed, serve, string_at, verb_in}
 use Rattle.memory_batches.specs.declared.verb.Verb.{Verb}
 use Rattle.memory_batches.specs.declared.verb.Verb.TheVariants.{Get, Set, Incr, Rename, Lpush}
 
@@ -65,8 +65,12 @@ module _ (ks : Keyspace Cell) where
   unknown = fails_own (codes "ERR unknown command") (by_first _ refl refl refl)
 
   counted_own : (key : List ℕ) (number : Option _) → AnswersOwn (counted key number ks).reply
-  counted_own key None = fails_own (codes "ERR value is not an integer or out of range") (by_first _ refl refl refl)
+  counted_own key None = fails_own (codes "ERR increment or decrement would overflow") (by_first _ refl refl refl)
   counted_own key (Some n) = λ error is. absurd (cc is)
+
+  raised_own : (key : List ℕ) (number : Option _) → AnswersOwn (raised_from key number ks).reply
+  raised_own key None = fails_own (codes "ERR value is not an integer or out of range") (by_first _ refl refl refl)
+  raised_own key (Some n) = counted_own key (in_64_bits (n +ℤ pos 1))
 
   pushed_own : (key : List ℕ) (number : Option _) → AnswersOwn (pushed key number ks).reply
   pushed_own key None = wrong
@@ -88,7 +92,7 @@ module _ (ks : Keyspace Cell) where
   by_verb_own (Some Set) (key ∷ value ∷ other ∷ more) = unknown
   by_verb_own (Some Incr) [] = unknown
   by_verb_own (Some Incr) (key ∷ []) =
-      by_test (holds_list ks key) (λ list. rw list wrong) (λ other. rw other (counted_own key (one_more (number_at (string_at ks key)))))
+      by_test (holds_list ks key) (λ list. rw list wrong) (λ other. rw other (raised_own key (number_at (string_at ks key))))
   by_verb_own (Some Incr) (key ∷ other ∷ more) = unknown
   by_verb_own (Some Rename) [] = unknown
   by_verb_own (Some Rename) (key ∷ []) = unknown

@@ -91,16 +91,20 @@ number_at (Some text) = number_in text
 abbrev pub one_more : Option ℤ → Option ℤ
 one_more number = option_and_then (λ n. in_64_bits (n +ℤ pos 1)) number
 
--- INCR key: the key holds one more, and the answer is that number
+-- INCR key: the key holds one more than its number, and the answer is that, if it has 64 bits
 abbrev pub counted : List ℕ → Option ℤ → Effect Cell Answer
-counted key None = fails (codes "ERR value is not an integer or out of range")
+counted key None = fails (codes "ERR increment or decrement would overflow")
 counted key (Some n) = λ keyspace. record {
   keys = with_string key (signed_decimal n) keyspace;
   reply = Ok (int n);
 }
 
+abbrev pub raised_from : List ℕ → Option ℤ → Effect Cell Answer
+raised_from key None = fails (codes "ERR value is not an integer or out of range")
+raised_from key (Some n) = counted key (in_64_bits (n +ℤ pos 1))
+
 abbrev pub raised : List ℕ → Effect Cell Answer
-raised key = λ keyspace. counted key (one_more (number_at (string_at keyspace key))) keyspace
+raised key = λ keyspace. raised_from key (number_at (string_at keyspace key)) keyspace
 
 abbrev pub incr : List ℕ → Effect Cell Answer
 incr key = unless_list key (raised key)

@@ -144,36 +144,33 @@ fn raised(
     ensures stays { OnErr result (keyspace_in store.new ≡ keyspace_in store.old) }
     ensures registered { registered_in store.new ≡ registered_in store.old }
 {
-    let Some(number) = next_number(alloc, store, slot, key)? else {
-        let error = (
-            ErrorKind::Client,
-            "ERR value is not an integer or out of range",
-        );
-        return Ok(Err(RedisError::from(error)));
+    let Some(number) = number_at(alloc, store, slot, key)? else {
+        let text = "ERR value is not an integer or out of range";
+        return Ok(Err(RedisError::from((ErrorKind::Client, text))));
+    };
+    let Some(number) = next(number) else {
+        let text = "ERR increment or decrement would overflow";
+        return Ok(Err(RedisError::from((ErrorKind::Client, text))));
     };
     let string = decimal_of(alloc, number)?;
     put_in(alloc, store, node, slot, key, string.as_bytes())?;
     Ok(Ok(Value::Int(number)))
 }
 
-/// One more than the number at a key, or than 0 where the key is absent.
-fn next_number(
+/// The number at a key, which is 0 if the key is absent.
+fn number_at(
     alloc: Global,
     store: &MemoryNodes,
     slot: u16,
     key: &[u8],
 ) -> Result<Option<i64>, AllocError>
     ensures { IfOk result (λ number. number
-        ≡ one_more (number_at (string_at (shelf slot (keyspace_in store.now)) key.now))) }
+        ≡ number_at (string_at (shelf slot (keyspace_in store.now)) key.now)) }
 {
-    let number = match string_in(store, slot, key) {
-        Some(string) => number_in(alloc, string)?,
-        None => Some(0),
-    };
-    let Some(number) = number else {
-        return Ok(None);
-    };
-    Ok(next(number))
+    match string_in(store, slot, key) {
+        Some(string) => number_in(alloc, string),
+        None => Ok(Some(0)),
+    }
 }
 
 /// Adds an element to the list at a key, of which the length alone is kept.
