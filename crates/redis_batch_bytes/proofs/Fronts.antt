@@ -49,4 +49,4 @@ module _ {X : Type 0} (Each : X → List ℕ → Type 0) where
 
 -- a request is no empty text
 pub request_some : (words : List (List ℕ)) (form : List ℕ) → IsRequest words form → 0 < length form
-request_some words form is = omega (arith, ap (length {A = ℕ}) is.3)
+request_some words form is = omega (arith, ap (length {A = ℕ}) is.0)
