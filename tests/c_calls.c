@@ -2,6 +2,8 @@
 
    c_calls pages     random calls, each buffer ending where memory that may not be touched begins
    c_calls small     buffers that are too small: nothing is written, and told says what is needed
+   c_calls exact     what stands behind what is written stays, and so do the fields that a code does
+                     not name; what a server refuses is refused, and the code is that of the first fault
    c_calls threads   random calls by four threads at once, with the results of one thread
    c_calls once N    the call of number N, and its answer; nothing where there is no such call */
 #define _GNU_SOURCE
@@ -257,6 +259,93 @@ static int small(void) {
     return 0;
 }
 
+/* Fields that hold what no call writes. */
+static slotroute_told told_before(void) {
+    slotroute_told told;
+    memset(&told, 0xA5, sizeof told);
+    return told;
+}
+
+/* Whether told is as before, but for these fields. */
+static int is_told(slotroute_told told, const size_t *parts, const size_t *bytes, const size_t *reply,
+                   const size_t *at) {
+    slotroute_told wanted = told_before();
+    if (parts) wanted.parts = *parts;
+    if (bytes) wanted.bytes = *bytes;
+    if (reply) wanted.reply = *reply;
+    if (at) wanted.at = *at;
+    return memcmp(&told, &wanted, sizeof told) == 0;
+}
+
+/* Whether each cut of a request or of a reply is incomplete, and the whole has this length. */
+static int is_framed(const char *text, size_t len) {
+    const uint8_t *bytes = (const uint8_t *)text;
+    int is_request = text[0] == '*';
+    for (size_t cut = 0; cut <= len; cut++) {
+        slotroute_told told = told_before();
+        size_t none = 0;
+        uint32_t answer = is_request ? slotroute_request_len(bytes, cut, &told)
+                                     : slotroute_reply_len(bytes, cut, &told);
+        uint32_t cut_answer = is_request ? SLOTROUTE_REQUEST_INCOMPLETE : SLOTROUTE_REPLY_INCOMPLETE;
+        if (answer != (cut < len ? cut_answer : SLOTROUTE_DONE)) return 0;
+        if (!is_told(told, NULL, cut < len ? NULL : &len, cut < len && !is_request ? &none : NULL, NULL))
+            return 0;
+    }
+    return 1;
+}
+
+/* Whether the byte at this index is the first that stands in no request. */
+static int is_no_request(const char *text, size_t at) {
+    slotroute_told told = told_before();
+    return slotroute_request_len(BYTES(text), &told) == SLOTROUTE_REQUEST_MALFORMED
+        && is_told(told, NULL, NULL, NULL, &at);
+}
+
+static int is_reply_fault(const char *text, uint32_t wanted) {
+    slotroute_told told = told_before();
+    size_t first = 0;
+    return slotroute_reply_len(BYTES(text), &told) == wanted && is_told(told, NULL, NULL, &first, NULL);
+}
+
+static int is_routed(const char *request, uint32_t slot, uint32_t addr) {
+    slotroute_told told = told_before();
+    slotroute_routed routed = {0};
+    return slotroute_route(BYTES(request), 1, &routed, &told) == SLOTROUTE_DONE
+        && is_told(told, NULL, NULL, NULL, NULL) && routed.kind == SLOTROUTE_TO_SLOT && routed.slot == slot
+        && routed.addr == addr;
+}
+
+static int exact(void) {
+    uint16_t slots[4];
+    size_t ends[4], parts = 2, bytes = 58, whole = 4;
+    uint8_t out[64];
+    slotroute_told told = told_before();
+    memset(slots, 0xA5, sizeof slots);
+    memset(ends, 0xA5, sizeof ends);
+    memset(out, 0xA5, sizeof out);
+    if (slotroute_split(BYTES(messages[0]), slots, 4, ends, 4, out, sizeof out, &told) != SLOTROUTE_DONE
+        || !is_told(told, &parts, &bytes, NULL, NULL) || !is_untouched(slots + 2, 2 * sizeof *slots)
+        || !is_untouched(ends + 2, 2 * sizeof *ends) || !is_untouched(out + 58, sizeof out - 58))
+        return 1;
+    told = told_before();
+    memset(out, 0xA5, sizeof out);
+    if (slotroute_combine(BYTES(messages[0]), BYTES(":1\r\n:2\r\n"), out, sizeof out, &told) != SLOTROUTE_DONE
+        || !is_told(told, NULL, &whole, NULL, NULL) || !is_untouched(out + 4, sizeof out - 4))
+        return 2;
+    if (!is_framed(messages[0], strlen(messages[0])) || !is_framed("$3\r\nabc\r\n", 9)) return 3;
+    if (!is_no_request("*00\r\n", 2) || !is_no_request("*01\r\n$4\r\nPING\r\n", 2)
+        || !is_no_request("*1\r\n$04\r\nPING\r\n", 6))
+        return 4;
+    char deep[4 * 33 + 1] = "";
+    for (int level = 0; level < 33; level++) strcat(deep, "*1\r\n");
+    if (!is_reply_fault(deep, SLOTROUTE_REPLY_TOO_DEEP) || !is_reply_fault("*1\r\nx", SLOTROUTE_REPLY_MALFORMED))
+        return 5;
+    if (!is_routed("*2\r\n$3\r\nGET\r\n$3\r\nfoo\r\n", 12182, SLOTROUTE_REPLICA_OPTIONAL)
+        || !is_routed("*3\r\n$7\r\nCLUSTER\r\n$8\r\nADDSLOTS\r\n$1\r\n5\r\n", 5, SLOTROUTE_PRIMARY))
+        return 6;
+    return 0;
+}
+
 static int once(int call) {
     static uint16_t slots[SLOTROUTE_SLOTS];
     static uint8_t out[512];
@@ -301,6 +390,7 @@ int main(int count, char **words) {
     make_table();
     if (count == 2 && strcmp(words[1], "pages") == 0) return pages();
     if (count == 2 && strcmp(words[1], "small") == 0) return small();
+    if (count == 2 && strcmp(words[1], "exact") == 0) return exact();
     if (count == 2 && strcmp(words[1], "threads") == 0) return threads();
     if (count == 3 && strcmp(words[1], "once") == 0) return once(atoi(words[2]));
     return 2;

@@ -4,7 +4,7 @@ use Rattle.resp.specs.Forms.{InOrder, IsRequest}
 use Rattle.resp.specs.Requests.{RequestCause}
 use Rattle.resp.specs.declared.fault.RequestFault.{RequestFault}
 use Rattle.resp.specs.declared.fault.RequestFault.TheVariants.{Incomplete, Malformed}
-use Rattle.redis_bytes.specs.Requests.{HasNoRequest, Words}
+use Rattle.redis_bytes.specs.Requests.{Words}
 use Rattle.redis_batch_bytes.specs.declared.fault.BatchFault.{BatchFault}
 use Rattle.redis_batch_bytes.specs.declared.fault.BatchFault.TheVariants.{Memory, Request}
 
@@ -21,7 +21,6 @@ behind before (Malformed index) = Malformed (before + index)
 pub record IsNoRequest (before : ℕ) (bytes : List ℕ) (fault : RequestFault) : Type 0 where
   pub own : RequestFault
   pub cause : RequestCause bytes own
-  pub none : HasNoRequest bytes
   pub fault_is : fault ≡ behind before own
 
 -- why the request of this number is not read

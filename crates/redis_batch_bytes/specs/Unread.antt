@@ -4,7 +4,7 @@ use Rattle.std.specs.List.{concat}
 use Rattle.resp.specs.Forms.{InOrder}
 use Rattle.resp.specs.Reading.{Cause}
 use Rattle.resp.specs.declared.fault.ReadError.TheVariants as errors
-use Rattle.redis_bytes.specs.Replies.{HasNoAnswer, IsAnswer}
+use Rattle.redis_bytes.specs.Replies.{IsAnswer}
 use Rattle.redis_batch_bytes.specs.declared.fault.BatchFault.{BatchFault}
 use Rattle.redis_batch_bytes.specs.declared.fault.BatchFault.TheVariants.{AfterReplies, Memory, Reply}
 use Rattle.redis_batch_bytes.specs.Told.{WireAnswer}
@@ -13,7 +13,7 @@ use Rattle.redis_batch_bytes.specs.Told.{WireAnswer}
 abbrev pub IsNoAnswer : ℕ → ℕ → List ℕ → BatchFault → Type 0
 IsNoAnswer batch number bytes Memory = Unit {0}
 IsNoAnswer batch number bytes (Reply b n fault) =
-    (b ≡ batch) × (n ≡ number) × Cause bytes (errors.Fault fault) × HasNoAnswer bytes
+    (b ≡ batch) × (n ≡ number) × Cause bytes (errors.Fault fault)
 IsNoAnswer batch number bytes _ = ⊥
 
 -- Of so many answers to a batch some stand at the front, and the next is not read for this reason.

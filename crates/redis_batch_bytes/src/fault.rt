@@ -26,7 +26,8 @@ pub enum BatchFault {
     Reply(usize, usize, Fault),
     /// Bytes follow the last reply, which ends at this index.
     AfterReplies(usize),
-    /// The reply to the command of this number has no form: `resp::write` says when.
+    /// The reply to the command of this number has no form: `resp::write` says when. Replies that
+    /// were read have one, and no input is known that gives this.
     NoForm(usize),
 }
 

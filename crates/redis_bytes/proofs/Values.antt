@@ -2,8 +2,9 @@
 use Rattle.std.proofs.Common.{◌≡◌, ℕ, List, ◌++◌, Result, Ok, Err, sym, ap}
 use Rattle.resp_core.specs.Reply.{Reply}
 use Rattle.resp.specs.Forms.{Answer}
+use Rattle.resp.specs.Reading.{HasNoAnswer}
 use Rattle.resp.specs.declared.fault.Fault.{Fault}
-use Rattle.redis_bytes.specs.Replies.{IsAnswer, IsReply, HasNoAnswer}
+use Rattle.redis_bytes.specs.Replies.{IsAnswer, IsReply}
 
 abbrev Found : Type 0
 Found = Result (Answer × List ℕ) Fault

@@ -2,7 +2,7 @@
 use Rattle.std.specs.Prelude.{◌≡◌, ◌<◌, ◌≤◌, ◌⊎◌, ℕ, List, ◌++◌, Ok, Err, length}
 use Rattle.resp_core.specs.Reply.{Reply}
 use Rattle.resp.specs.Forms.{Answer, IsForm, InOrder, form, depth, HasForm}
-use Rattle.resp.specs.Reading.{Cause, answer_at}
+use Rattle.resp.specs.Reading.{Cause}
 use Rattle.resp.specs.declared.reading.TheConstants.{MAX_LEVELS}
 use Rattle.resp.specs.declared.fault.ReadError.TheVariants as errors
 use Rattle.redis_routing.specs.Names.{Names}
@@ -24,11 +24,6 @@ IsReply reply bytes = IsAnswer (Ok reply) bytes
 abbrev pub AreReplies : List Reply → List ℕ → Type 0
 AreReplies replies bytes = InOrder IsReply replies bytes
 
--- no whole answer stands at the front
-abbrev pub HasNoAnswer : List ℕ → Type 0
-HasNoAnswer bytes = (answer : Answer) (form rest : List ℕ) → IsAnswer answer form
-    → bytes ≡ form ++ rest → ⊥
-
 -- an error with this text stands at the front
 pub record BeginsError (bytes text : List ℕ) : Type 0 where
   pub form : List ℕ
@@ -40,8 +35,7 @@ pub record BeginsError (bytes text : List ℕ) : Type 0 where
 abbrev pub IsNoValue : ℕ → List ℕ → BytesFault → Type 0
 IsNoValue number bytes Memory = Unit {0}
 IsNoValue number bytes (faults.Reply n fault) =
-    (n ≡ number) × (answer_at MAX_LEVELS bytes ≡ Err fault) × Cause bytes (errors.Fault fault)
-    × HasNoAnswer bytes
+    (n ≡ number) × Cause bytes (errors.Fault fault)
 IsNoValue number bytes (Error n text) = (n ≡ number) × BeginsError bytes text.items
 IsNoValue number bytes _ = ⊥
 

@@ -16,11 +16,6 @@ use Rattle.redis_bytes.specs.declared.splitting.Parts.{Parts}
 abbrev pub Words : Type 0
 Words = List (List ℕ)
 
--- no whole request stands at the front
-abbrev pub HasNoRequest : List ℕ → Type 0
-HasNoRequest bytes = (words : Words) (form rest : List ℕ) → IsRequest words form
-    → bytes ≡ form ++ rest → ⊥
-
 -- a request stands at the front, which ends at this index, and something after it
 pub record IsFollowed (bytes : List ℕ) (end : ℕ) : Type 0 where
   pub words : Words
@@ -34,7 +29,7 @@ pub record IsFollowed (bytes : List ℕ) (end : ℕ) : Type 0 where
 -- why the bytes are not one request
 abbrev pub IsUnread : List ℕ → BytesFault → Type 0
 IsUnread bytes Memory = Unit {0}
-IsUnread bytes (Request fault) = RequestCause bytes fault × HasNoRequest bytes
+IsUnread bytes (Request fault) = RequestCause bytes fault
 IsUnread bytes (AfterRequest end) = IsFollowed bytes end
 IsUnread bytes _ = ⊥
 

@@ -27,7 +27,8 @@ pub enum BytesFault {
     AfterReplies(usize),
     /// The replies make no one reply: they are not what the parts answer with.
     Unfit(ErrorKind),
-    /// The one reply has no form: `resp::write` says when.
+    /// The one reply has no form: `resp::write` says when. Replies that were read have one, and no
+    /// input is known that gives this.
     NoForm,
     /// A host has a line feed, so that no line of a table tells it.
     LineFeedInHost,

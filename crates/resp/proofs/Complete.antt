@@ -9,7 +9,7 @@ use Rattle.resp_core.specs.Reply.{nil, int, bulk}
 use Rattle.resp.specs.declared.fault.Fault.{Fault}
 use Rattle.resp.specs.declared.fault.Fault.TheVariants.{Incomplete, Malformed, TooDeep}
 use Rattle.resp.specs.Forms.{Answer, IsForm, answer_before, array_of_all, simple_of, number_up_to, int_in, length_in, crlf}
-use Rattle.resp.specs.Reading.{◌>>=◌, or_malformed, Items, ended, text_until_line_end, after_text, is_before_digits, is_before_length, int_at, length_at, bytes_at, flat_at, times_at, array_items_at, array_at, front_at, answer_at, CanBeCompleted, BeginsNone}
+use Rattle.resp.specs.Reading.{◌>>=◌, or_malformed, Items, ended, text_until_line_end, after_text, is_before_digits, is_before_length, int_at, length_at, bytes_at, flat_at, times_at, array_items_at, array_at, front_at, answer_at, CanBeCompleted, HasNoAnswer, BeginsNone}
 use Rattle.resp_core.proofs.Cases.{by_test}
 use Rattle.resp.proofs.Steps.{chosen, done, failed, both}
 use Rattle.resp.proofs.Lines.{ended_longer, open_longer, ended_takes}
@@ -324,8 +324,11 @@ incomplete bytes e =
 no_answer : {A : Type 0} (x : A) (f : Fault) → done x ≡ failed f → ⊥
 no_answer x f e = absurd cc
 
+pub none_stands : (bytes : List ℕ) (fault : Fault) → answer_at 32 bytes ≡ Err fault → HasNoAnswer bytes
+none_stands bytes fault fails = λ a form rest is e. no_answer (a, rest) fault (sym (answer_again 32 a form rest is) ∙ ap (answer_at 32) (sym e) ∙ fails)
+
 begins_none : (bytes : List ℕ) (fault : Fault) → ((more : List ℕ) → answer_at 32 (bytes ++ more) ≡ Err fault) → BeginsNone bytes
-begins_none bytes fault stays = λ more a form rest is e. no_answer (a, rest) fault (sym (answer_again 32 a form rest is) ∙ ap (answer_at 32) (sym e) ∙ stays more)
+begins_none bytes fault stays = λ more. none_stands (bytes ++ more) fault (stays more)
 
 pub malformed : (bytes : List ℕ) → answer_at 32 bytes ≡ Err Malformed → BeginsNone bytes
 malformed bytes e = begins_none bytes Malformed (λ more. subst (λ (r : Result (Answer × List ℕ) Fault). Continues r more (answer_at 32 (bytes ++ more))) e (answer_continues 32 bytes more))

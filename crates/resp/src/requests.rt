@@ -14,8 +14,8 @@ use std::alloc::Global;
 /// so are numbers with a sign or a leading zero.
 ///
 /// Memory is taken for what was read alone, never for a length that is only announced, which tests
-/// show and no clause says. The cost is linear in the bytes. A caller that reads anew each time more bytes have come pays for all bytes
-/// so far each time.
+/// show and no clause says. The cost is O(bytes). A caller that reads anew each time more bytes have
+/// come pays for all bytes so far each time.
 ///
 /// # Errors
 ///
@@ -29,8 +29,8 @@ pub fn read_request(alloc: Global, bytes: &[u8]) -> Result<(Cmd, &[u8]), Request
     ensures only { (args : List (List ℕ)) (form rest : List ℕ) → IsRequest args form
         → bytes.now ≡ form ++ rest
         → MatchResult result (λ x. (x.0 ≡ args) × (x.1.now ≡ rest)) (λ e. e ≡ RequestError.Memory) }
-    // Incomplete bytes can be completed, and the byte that is told is the first that can't stand
-    // there.
+    // Incomplete bytes hold no whole request, and can be completed. The byte that is reported is the
+    // first that can't stand there.
     ensures cause { IfErr result (λ e. RequestErrorCause bytes.now e) }
 {
     match command_at(alloc, bytes) {

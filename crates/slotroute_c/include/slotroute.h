@@ -16,8 +16,9 @@
  * Threads: each function may be called by any thread at any time, also at once. A call writes
  * nothing that another sees, but for the buffers that it is passed.
  *
- * A call that does not answer SLOTROUTE_DONE writes to no buffer. Where it answers
- * SLOTROUTE_TOO_SMALL, `told` says which sizes are needed.
+ * A call that does not answer SLOTROUTE_DONE writes to no buffer. What follows the written items in
+ * a buffer stays as it was. If a call answers SLOTROUTE_TOO_SMALL, `told` has the sizes that are
+ * needed.
  */
 #ifndef SLOTROUTE_H
 #define SLOTROUTE_H
@@ -45,7 +46,7 @@ enum {
     SLOTROUTE_REPLY_IS_ERROR = 10,    /* it is an error, or holds one */
     SLOTROUTE_AFTER_REPLIES = 11,     /* bytes follow the last reply, which ends at told.at */
     SLOTROUTE_UNFIT = 12,             /* the replies are not what the parts answer with */
-    SLOTROUTE_NO_FORM = 13,           /* the one reply would stand too deep */
+    SLOTROUTE_NO_FORM = 13,           /* the one reply has no form; no input is known to give it */
     SLOTROUTE_NOT_TEXT = 14,          /* a text or a host is not UTF-8 */
     SLOTROUTE_NO_REDIRECT = 15,       /* the text is no redirect */
     SLOTROUTE_LINE_FEED_IN_HOST = 16, /* the host of a slot's node has a line feed */
@@ -54,7 +55,8 @@ enum {
     SLOTROUTE_NOT_COVERED = 18        /* a slot of that request has no node */
 };
 
-/* Sizes that an answer needs, or where a fault is. A call writes the fields that its answer names. */
+/* Sizes that an answer needs, or where a fault is. A call changes the fields that its answer names,
+ * and no others. */
 typedef struct slotroute_told {
     size_t parts; /* how many parts there are */
     size_t bytes; /* how many bytes there are */
@@ -70,10 +72,12 @@ size_t slotroute_message(uint32_t answer, uint8_t *text, size_t text_len);
 /* The slot of a key, 0 to 16383. */
 uint16_t slotroute_slot(const uint8_t *key, size_t key_len);
 
-/* How many bytes the first request has: told->bytes. It takes no memory. */
+/* How many bytes the first request has: told->bytes. It takes no memory. A number with a leading
+ * zero is malformed: a server closes the connection there. */
 uint32_t slotroute_request_len(const uint8_t *bytes, size_t bytes_len, slotroute_told *told);
 
-/* How many bytes the first reply has, which may be an error: told->bytes. */
+/* How many bytes the first reply has, which may be an error: told->bytes. If it is at fault,
+ * told->reply is 0. */
 uint32_t slotroute_reply_len(const uint8_t *bytes, size_t bytes_len, slotroute_told *told);
 
 /* Where a request goes. */
@@ -112,8 +116,9 @@ typedef struct slotroute_routed {
     uint32_t policy;
 } slotroute_routed;
 
-/* Where a request goes. only_reads is not 0 where its command only reads, so that a replica may
- * serve it; a caller knows its commands. */
+/* Where a request goes. only_reads is not 0 if its command only reads, so that a replica may serve
+ * it; a caller knows its commands. A command that names a slot by its number, as
+ * CLUSTER ADDSLOTS 5, goes to the primary either way. */
 uint32_t slotroute_route(const uint8_t *request, size_t request_len, uint32_t only_reads,
                          slotroute_routed *routed, slotroute_told *told);
 

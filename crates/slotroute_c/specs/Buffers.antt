@@ -1,6 +1,6 @@
--- What is written to the front of a buffer.
-use Rattle.std.specs.Prelude.{◌≡◌, List, length, take}
+-- What is written to a buffer.
+use Rattle.std.specs.Prelude.{◌≡◌, List, ◌++◌, length, drop}
 
--- the buffer begins with these items
-abbrev pub Begins : {T : Type 0} → List T → List T → Type 0
-Begins items buffer = take (length items) buffer ≡ items
+-- the items are written to the front, and what stands after them stays
+abbrev pub IsWritten : {T : Type 0} → List T → List T → List T → Type 0
+IsWritten items old new = new ≡ items ++ drop (length items) old

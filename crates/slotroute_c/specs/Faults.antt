@@ -1,5 +1,7 @@
 -- The answer to each fault, and what is told of it.
-use Rattle.std.specs.Prelude.{◌≡◌, ◌≢◌, ℕ}
+use Rattle.std.specs.Prelude.{◌≢◌, ℕ}
+use Rattle.resp.specs.declared.fault.ReadError.{ReadError}
+use Rattle.resp.specs.declared.fault.ReadError.TheVariants as read
 use Rattle.resp.specs.declared.fault.RequestFault.{RequestFault}
 use Rattle.resp.specs.declared.fault.RequestFault.TheVariants as request
 use Rattle.redis_bytes.specs.declared.fault.BytesFault.{BytesFault}
@@ -7,6 +9,7 @@ use Rattle.redis_bytes.specs.declared.fault.BytesFault.TheVariants as faults
 use Rattle.slotroute_c.specs.declared.outcomes.Outcome.{Outcome}
 use Rattle.slotroute_c.specs.declared.outcomes.Outcome.TheVariants.{Done, TooSmall, NotText, NoMemory, RequestIncomplete, RequestMalformed, AfterRequest, NotMultiKey, ReplyIsError, AfterReplies, Unfit, NoForm, LineFeedInHost}
 use Rattle.slotroute_c.specs.declared.told.Told.{Told}
+use Rattle.slotroute_c.specs.Fields.{with_at, with_reply}
 use Rattle.slotroute_c.specs.Outcomes.{code, of_reply}
 
 -- the answer to the fault of a request
@@ -31,16 +34,25 @@ outcome_of faults.LineFeedInHost = LineFeedInHost
 abbrev pub IsOther : ℕ → Type 0
 IsOther number = (number ≢ code Done) × (number ≢ code TooSmall) × (number ≢ code NotText)
 
--- where the fault of a request is: the index of the byte
-abbrev pub IsRequestFaultTold : RequestFault → Told → Type 0
-IsRequestFaultTold request.Incomplete told = Unit {0}
-IsRequestFaultTold (request.Malformed at) told = told.at ≡ at
+-- the fault of a request is told by the index of the byte
+abbrev pub with_request_fault : RequestFault → Told → Told
+with_request_fault request.Incomplete told = told
+with_request_fault (request.Malformed at) told = with_at at told
 
--- where a fault is: the index of the byte, or the number of the reply
-abbrev pub IsFaultTold : BytesFault → Told → Type 0
-IsFaultTold (faults.Request fault) told = IsRequestFaultTold fault told
-IsFaultTold (faults.AfterRequest end) told = told.at ≡ end
-IsFaultTold (faults.Reply number fault) told = told.reply ≡ number
-IsFaultTold (faults.Error number text) told = told.reply ≡ number
-IsFaultTold (faults.AfterReplies end) told = told.at ≡ end
-IsFaultTold _ told = Unit {0}
+-- a fault is told by the index of the byte, or by the number of the reply
+abbrev pub with_fault : BytesFault → Told → Told
+with_fault (faults.Request fault) told = with_request_fault fault told
+with_fault (faults.AfterRequest end) told = with_at end told
+with_fault (faults.Reply number fault) told = with_reply number told
+with_fault (faults.Error number text) told = with_reply number told
+with_fault (faults.AfterReplies end) told = with_at end told
+with_fault _ told = told
+
+-- the answer to the fault of the first reply
+abbrev pub of_read : ReadError → Outcome
+of_read read.Memory = NoMemory
+of_read (read.Fault fault) = of_reply fault
+
+abbrev pub with_read_fault : ReadError → Told → Told
+with_read_fault read.Memory told = told
+with_read_fault (read.Fault fault) told = with_reply 0 told

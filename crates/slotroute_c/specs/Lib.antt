@@ -3,6 +3,7 @@ pub mod Buffers
 pub mod Redirected
 pub mod Routed
 pub mod Faults
+pub mod Fields
 pub mod Parts
 pub mod Tables
 pub mod Pipelines

@@ -13,8 +13,8 @@ use Rattle.redis_batch_bytes.specs.Replies.{AreCombined, IsUncombined}
 use Rattle.slotroute_c.specs.declared.outcomes.Outcome.{Outcome}
 use Rattle.slotroute_c.specs.declared.outcomes.Outcome.TheVariants.{AfterReplies, NoForm, NoMemory, NotCovered, NotRoutable}
 use Rattle.slotroute_c.specs.declared.told.Told.{Told}
-use Rattle.slotroute_c.specs.Buffers.{Begins}
-use Rattle.slotroute_c.specs.Faults.{IsRequestFaultTold, of_request}
+use Rattle.slotroute_c.specs.Fields.{with_at, with_batch, with_reply, with_request, with_sizes}
+use Rattle.slotroute_c.specs.Faults.{of_request, with_request_fault}
 use Rattle.slotroute_c.specs.Outcomes.{of_reply}
 
 -- The bytes are requests, and these are the batches of a plan of their commands, by the map of a
@@ -27,21 +27,13 @@ pub record AreBatchesBy (numbers requests : List ℕ) (batches : BatchBytes) : T
   pub are : AreBatchesOf plan.batches batches
 
 -- how many batches and bytes there are, is told
-abbrev pub AreBatchesTold : BatchBytes → Told → Type 0
-AreBatchesTold batches told =
-    (told.parts ≡ length batches.nodes.items) × (told.bytes ≡ length batches.bytes.items)
+abbrev pub with_batches : BatchBytes → Told → Told
+with_batches batches told =
+    with_sizes (length batches.nodes.items) (length batches.bytes.items) told
 
 -- the number of each node, which is its port
 abbrev pub numbers_of : List Address → List ℕ
 numbers_of nodes = map (λ node. node.port) nodes
-
--- each buffer begins with what it is for: the nodes, how many commands each batch has, where it
--- ends, and the batches
-pub record AreBatchesWritten (batches : BatchBytes) (nodes counts ends out : List ℕ) : Type 0 where
-  pub nodes_begin : Begins (numbers_of batches.nodes.items) nodes
-  pub counts_begin : Begins batches.counts.items counts
-  pub ends_begin : Begins batches.ends.items ends
-  pub out_begins : Begins batches.bytes.items out
 
 -- one of the buffers, which have so many places, is too small
 abbrev pub IsOneTooSmall : BatchBytes → ℕ → ℕ → ℕ → ℕ → Type 0
@@ -79,15 +71,14 @@ outcome_of_batch (faults.Reply batch number fault) = of_reply fault
 outcome_of_batch (faults.AfterReplies end) = AfterReplies
 outcome_of_batch (faults.NoForm number) = NoForm
 
--- where the fault is: the number of the request, the index of the byte, or the numbers of the batch
+-- a fault is told by the number of the request, the index of the byte, or the numbers of the batch
 -- and of the reply to it
-abbrev pub IsBatchFaultTold : BatchFault → Told → Type 0
-IsBatchFaultTold faults.Memory told = Unit {0}
-IsBatchFaultTold (faults.Request number fault) told =
-    (told.request ≡ number) × IsRequestFaultTold fault told
-IsBatchFaultTold (faults.NotRoutable number) told = told.request ≡ number
-IsBatchFaultTold (faults.NotCovered number slot) told = told.request ≡ number
-IsBatchFaultTold (faults.Reply batch number fault) told =
-    (told.batch ≡ batch) × (told.reply ≡ number)
-IsBatchFaultTold (faults.AfterReplies end) told = told.at ≡ end
-IsBatchFaultTold (faults.NoForm number) told = told.request ≡ number
+abbrev pub with_batch_fault : BatchFault → Told → Told
+with_batch_fault faults.Memory told = told
+with_batch_fault (faults.Request number fault) told =
+    with_request number (with_request_fault fault told)
+with_batch_fault (faults.NotRoutable number) told = with_request number told
+with_batch_fault (faults.NotCovered number slot) told = with_request number told
+with_batch_fault (faults.Reply batch number fault) told = with_batch batch (with_reply number told)
+with_batch_fault (faults.AfterReplies end) told = with_at end told
+with_batch_fault (faults.NoForm number) told = with_request number told

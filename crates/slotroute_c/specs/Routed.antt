@@ -1,12 +1,15 @@
 -- A routing as four numbers, which `include/slotroute.h` names.
-use Rattle.std.specs.Prelude.{◌==◌, ℕ, zero, suc, if◌then◌else◌, [], map, Option, None, Some}
+use Rattle.std.specs.Prelude.{◌≡◌, ℕ, zero, suc, List, [], map, nat_lt, IfSome, Option, None, Some}
 use Rattle.cluster_slots.specs.declared.slot.SlotAddr.{SlotAddr}
 use Rattle.cluster_slots.specs.declared.slot.SlotAddr.TheVariants.{Master, ReplicaOptional, ReplicaRequired}
 use Rattle.redis_routing.specs.declared.policy.ResponsePolicy.{ResponsePolicy}
 use Rattle.redis_routing.specs.declared.policy.ResponsePolicy.TheVariants.{OneSucceeded, FirstSucceededNonEmptyOrAllEmpty, AllSucceeded, AggregateLogical, Aggregate, CombineArrays, Special, CombineMaps}
 use Rattle.redis_routing.specs.declared.policy.AggregateOp.TheVariants.{Min, Sum}
 use Rattle.redis_routing.specs.declared.policy.LogicalAggregateOp.TheVariants.{And, Or}
-use Rattle.redis_routing.specs.Names.{names_of}
+use Rattle.resp.specs.Forms.{IsRequest}
+use Rattle.redis_routing.specs.Command.{command_name}
+use Rattle.redis_routing.specs.Names.{Names}
+use Rattle.redis_routing.specs.ReadOnly.{is_among}
 use Rattle.redis_routing.specs.Routing.{routing}
 use Rattle.redis_bytes.specs.Requests.{Words}
 use Rattle.redis_routing.specs.RoutingInfo.{Routing, SingleNodeRouting, MultipleNodeRouting, single_node, multi_node, random, random_primary, specific_node, by_address, all_nodes, all_masters, multi_slot}
@@ -54,16 +57,18 @@ routed_of None = numbers 0 0 0 0
 routed_of (Some (single_node single)) = to_one single
 routed_of (Some (multi_node multiple policy)) = to_several multiple policy
 
--- Where a request goes by the words of its command. One that only reads, as the flag says by not
--- being 0, may go to any node of its slot.
-abbrev pub with_reads : ℕ → Routed → Routed
-with_reads only_reads routed =
-    if only_reads == 0 then routed
-    else (if routed.kind == 3 then numbers 3 routed.slot 1 0 else routed)
+-- the command only reads if the number is not 0
+abbrev pub names_for : ℕ → Names
+names_for only_reads = record { only_reads = λ name. nat_lt 0 only_reads; registered = [] }
 
+-- the list has the name of the request's command if and only if the command only reads
+abbrev pub AreNamesFor : ℕ → List ℕ → List (List ℕ) → Type 0
+AreNamesFor only_reads request names = (words : Words) → IsRequest words request
+    → IfSome (command_name (map Some words)) (λ name. is_among names name ≡ nat_lt 0 only_reads)
+
+-- where a request goes by the words of its command
 abbrev pub routed_by : ℕ → Words → Routed
-routed_by only_reads words =
-    with_reads only_reads (routed_of (routing (names_of [] []) (map Some words)))
+routed_by only_reads words = routed_of (routing (names_for only_reads) (map Some words))
 
 -- the node that a number asks for: the primary, or a replica where there is one
 abbrev pub addr_of : ℕ → SlotAddr

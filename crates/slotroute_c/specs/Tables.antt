@@ -6,13 +6,13 @@ use Rattle.redis_bytes.specs.Replies.{IsReply}
 use Rattle.redis_bytes.specs.Table.{IsTable}
 use Rattle.redis_bytes.specs.declared.tables.Table.{Table}
 use Rattle.slotroute_c.specs.declared.told.Told.{Told}
+use Rattle.slotroute_c.specs.Fields.{with_sizes}
 use Rattle.slotroute_c.specs.Routed.{addr_of}
 
 -- The bytes are one reply, and this is its table; how many numbers and bytes there are is told.
-pub record IsTableOf (reply answering : List ℕ) (addr pick : ℕ) (told : Told) (table : Table)
-    : Type 0 where
+pub record IsTableOf (reply answering : List ℕ) (addr pick : ℕ) (old new : Told)
+    (table : Table) : Type 0 where
   pub said : Reply
   pub is : IsReply said reply
   pub is_table : IsTable (entries_in answering said) (addr_of addr) pick table
-  pub count : told.parts ≡ length table.numbers.items
-  pub bytes : told.bytes ≡ length table.nodes.items
+  pub told : new ≡ with_sizes (length table.numbers.items) (length table.nodes.items) old

@@ -1,10 +1,10 @@
 ghost use Rattle.std.specs.Prelude.{◌≡◌, ◌≤◌, length};
-ghost use Rattle.slotroute_c.specs.Buffers.{Begins};
+ghost use Rattle.slotroute_c.specs.Buffers.{IsWritten};
 
 /// Writes items to the front of a buffer.
 pub(super) fn put<T: Copy>(buffer: &mut [T], items: &[T])
     requires { length items.now ≤ length buffer.old }
-    ensures { Begins items.now buffer.new }
+    ensures { IsWritten items.now buffer.old buffer.new }
 {
     let (front, _) = buffer.split_at_mut(items.len());
     front.copy_from_slice(items);
@@ -13,7 +13,7 @@ pub(super) fn put<T: Copy>(buffer: &mut [T], items: &[T])
 /// The same of a vector's items.
 pub(super) fn put_all<T: Copy>(buffer: &mut [T], items: &Vec<T>)
     requires { length items.now.items ≤ length buffer.old }
-    ensures { Begins items.now.items buffer.new }
+    ensures { IsWritten items.now.items buffer.old buffer.new }
 {
     put(buffer, items.as_slice());
 }

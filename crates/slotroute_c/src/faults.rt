@@ -1,6 +1,6 @@
 ghost use Rattle.std.specs.Prelude.{◌≡◌};
 ghost use Rattle.slotroute_c.specs.Outcomes.{code, of_reply};
-ghost use Rattle.slotroute_c.specs.Faults.{of_request, outcome_of, IsOther, IsRequestFaultTold, IsFaultTold};
+ghost use Rattle.slotroute_c.specs.Faults.{of_request, outcome_of, with_fault, with_request_fault, IsOther};
 
 use crate::outcomes::Outcome;
 use crate::told::Told;
@@ -10,7 +10,7 @@ use resp::{Fault, RequestFault};
 /// The code of a fault, whose place is told.
 pub(super) fn code_of(fault: &BytesFault, told: &mut Told) -> u32
     ensures code { result ≡ code (outcome_of fault.now) }
-    ensures told { IsFaultTold fault.now told.new }
+    ensures told { told.new ≡ with_fault fault.now told.old }
     ensures other { IsOther result }
 {
     match fault {
@@ -42,7 +42,7 @@ pub(super) fn code_of(fault: &BytesFault, told: &mut Told) -> u32
 /// The same for the fault of a request.
 pub(super) fn code_of_request(fault: RequestFault, told: &mut Told) -> u32
     ensures code { result ≡ code (of_request fault) }
-    ensures told { IsRequestFaultTold fault told.new }
+    ensures told { told.new ≡ with_request_fault fault told.old }
     ensures other { IsOther result }
 {
     match fault {

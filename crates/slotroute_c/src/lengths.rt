@@ -1,11 +1,13 @@
-ghost use Rattle.std.specs.Prelude.{◌≡◌, ◌≢◌, ◌++◌, ◌∷◌, [], ℕ, List, IsTrue, length};
+ghost use Rattle.std.specs.Prelude.{◌≡◌, ◌≢◌, ◌++◌, ℕ, List, length};
 ghost use Rattle.resp.specs.Forms.{Answer, IsForm, IsRequest};
 ghost use Rattle.resp.specs.Requests.{RequestCause};
+ghost use Rattle.resp.specs.declared.fault.ReadError as replies;
 ghost use Rattle.resp.specs.declared.fault.RequestFault as requests;
-ghost use Rattle.resp.specs.Reading.{CanBeCompleted, BeginsNone};
+ghost use Rattle.resp.specs.Reading.{Cause};
 ghost use Rattle.slotroute_c.specs.declared.outcomes.Outcome.TheVariants as outcome;
-ghost use Rattle.slotroute_c.specs.Faults.{of_request, IsRequestFaultTold};
-ghost use Rattle.slotroute_c.specs.Outcomes.{code, is_one_of};
+ghost use Rattle.slotroute_c.specs.Fields.{with_bytes};
+ghost use Rattle.slotroute_c.specs.Faults.{of_read, of_request, with_read_fault, with_request_fault};
+ghost use Rattle.slotroute_c.specs.Outcomes.{code};
 
 use crate::faults::{code_of_reply, code_of_request};
 use crate::outcomes::Outcome;
@@ -17,17 +19,16 @@ use std::alloc::Global;
 ///
 /// # Errors
 ///
-/// `ReplyIncomplete` where more bytes can complete it, `ReplyMalformed` and `ReplyTooDeep` where none
-/// can; `NoMemory`.
+/// `ReplyIncomplete` if more bytes can complete it, `ReplyMalformed` and `ReplyTooDeep` if none can.
+/// Each has the number 0 in `told.reply`. `NoMemory` if memory runs out.
 #[unsafe(no_mangle)]
 pub extern "C" fn slotroute_reply_len(alloc: Global, bytes: &[u8], told: &mut Told) -> u32
     ensures done { result ≡ code outcome.Done → (a : Answer) × (form : List ℕ) × (rest : List ℕ)
-        × (bytes.now ≡ form ++ rest) × IsForm 32 a form × (told.new.bytes ≡ length form) }
-    ensures incomplete { result ≡ code outcome.ReplyIncomplete → CanBeCompleted bytes.now }
-    ensures malformed { result ≡ code outcome.ReplyMalformed → BeginsNone bytes.now }
-    ensures too_deep { result ≡ code outcome.ReplyTooDeep → BeginsNone bytes.now }
-    ensures no_other { IsTrue (is_one_of result (outcome.Done ∷ outcome.NoMemory
-        ∷ outcome.ReplyIncomplete ∷ outcome.ReplyMalformed ∷ outcome.ReplyTooDeep ∷ [])) }
+        × (bytes.now ≡ form ++ rest) × IsForm 32 a form
+        × (told.new ≡ with_bytes (length form) told.old) }
+    ensures fault { result ≢ code outcome.Done → (error : replies.ReadError)
+        × (result ≡ code (of_read error)) × Cause bytes.now error
+        × (told.new ≡ with_read_fault error told.old) }
 {
     match read(alloc, bytes) {
         Ok((_, rest)) => {
@@ -52,10 +53,10 @@ pub extern "C" fn slotroute_reply_len(alloc: Global, bytes: &[u8], told: &mut To
 pub extern "C" fn slotroute_request_len(bytes: &[u8], told: &mut Told) -> u32
     ensures done { result ≡ code outcome.Done → (args : List (List ℕ)) × (form : List ℕ)
         × (rest : List ℕ) × (bytes.now ≡ form ++ rest) × IsRequest args form
-        × (told.new.bytes ≡ length form) }
+        × (told.new ≡ with_bytes (length form) told.old) }
     ensures fault { result ≢ code outcome.Done → (fault : requests.RequestFault)
         × (result ≡ code (of_request fault)) × RequestCause bytes.now fault
-        × IsRequestFaultTold fault told.new }
+        × (told.new ≡ with_request_fault fault told.old) }
 {
     match request_len(bytes) {
         Ok(len) => {

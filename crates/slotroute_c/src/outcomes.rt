@@ -1,6 +1,6 @@
 ghost use Rattle.std.specs.Prelude.{◌≡◌, ◌<◌, ◌≤◌, length};
 ghost use Rattle.slotroute_c.specs.Outcomes.{code, message};
-ghost use Rattle.slotroute_c.specs.Buffers.{Begins};
+ghost use Rattle.slotroute_c.specs.Buffers.{IsWritten};
 
 use crate::buffers::put;
 
@@ -109,7 +109,8 @@ pub extern "C" fn slotroute_message(answer: u32, buffer: &mut [u8]) -> usize
     // It has the length of the text,
     ensures len { result ≡ length (message answer) }
     // which is written,
-    ensures text { length (message answer) ≤ length buffer.old → Begins (message answer) buffer.new }
+    ensures text { length (message answer) ≤ length buffer.old
+        → IsWritten (message answer) buffer.old buffer.new }
     // or nothing is.
     ensures too_small { length buffer.old < length (message answer) → buffer.new ≡ buffer.old }
 {

@@ -1,4 +1,4 @@
-ghost use Rattle.std.specs.Prelude.{◌≡◌, ◌≢◌, ◌<◌, [], ℕ, List, IfOk, length};
+ghost use Rattle.std.specs.Prelude.{◌≡◌, ◌≢◌, ◌<◌, [], ℕ, List, IfOk, IfErr, length};
 ghost use Rattle.redis_routing.specs.Names.{names_of};
 ghost use Rattle.redis_routing.specs.Split.{Split};
 ghost use Rattle.redis_bytes.specs.declared.fault.BytesFault as faults;
@@ -6,16 +6,17 @@ ghost use Rattle.redis_bytes.specs.declared.splitting.Parts as declared;
 ghost use Rattle.redis_bytes.specs.Requests.{IsSplitRequest, IsUnsplit};
 ghost use Rattle.redis_bytes.specs.Replies.{AreCombined, IsUncombined};
 ghost use Rattle.slotroute_c.specs.Outcomes.{code};
-ghost use Rattle.slotroute_c.specs.Buffers.{Begins};
-ghost use Rattle.slotroute_c.specs.Faults.{outcome_of, IsFaultTold};
-ghost use Rattle.slotroute_c.specs.Parts.{slots_of, ArePartsOf, AreWritten, IsTooSmall};
+ghost use Rattle.slotroute_c.specs.Buffers.{IsWritten};
+ghost use Rattle.slotroute_c.specs.Fields.{with_bytes};
+ghost use Rattle.slotroute_c.specs.Faults.{outcome_of, with_fault};
+ghost use Rattle.slotroute_c.specs.Parts.{slots_of, with_parts, ArePartsOf, IsTooSmall};
 
 use crate::buffers::put_all;
 use crate::faults::code_of;
 use crate::outcomes::Outcome;
 use crate::told::Told;
 use cluster_slots::Route;
-use redis_bytes::BytesFault;
+use redis_bytes::{BytesFault, Parts};
 use redis_routing::{Names, ReadOnlyNames, Registry};
 use std::alloc::{AllocError, Global};
 
@@ -38,22 +39,21 @@ pub extern "C" fn slotroute_split(
     told: &mut Told,
 ) -> u32
     ensures done { result ≡ code Outcome.Done → (parts : declared.Parts)
-        × ArePartsOf request.now told.new parts × AreWritten parts slots.new ends.new out.new }
+        × ArePartsOf request.now parts × (told.new ≡ with_parts parts told.old)
+        × IsWritten (slots_of parts.routes.items) slots.old slots.new
+        × IsWritten parts.ends.items ends.old ends.new
+        × IsWritten parts.bytes.items out.old out.new }
     ensures too_small { result ≡ code Outcome.TooSmall → (parts : declared.Parts)
-        × ArePartsOf request.now told.new parts × IsTooSmall parts (length slots.old)
-        (length ends.old) (length out.old) }
+        × ArePartsOf request.now parts × (told.new ≡ with_parts parts told.old)
+        × IsTooSmall parts (length slots.old) (length ends.old) (length out.old) }
     ensures fault { result ≢ code Outcome.Done → result ≢ code Outcome.TooSmall
         → (fault : faults.BytesFault) × (result ≡ code (outcome_of fault))
-        × IsUnsplit (names_of [] []) request.now fault × IsFaultTold fault told.new }
+        × IsUnsplit (names_of [] []) request.now fault
+        × (told.new ≡ with_fault fault told.old) }
     ensures unwritten { result ≢ code Outcome.Done → (slots.new ≡ slots.old)
         × (ends.new ≡ ends.old) × (out.new ≡ out.old) }
 {
-    let (read_only, registry) = (ReadOnlyNames::new(alloc), Registry::new(alloc));
-    let no_names = Names {
-        read_only: &read_only,
-        registry: &registry,
-    };
-    let parts = match redis_bytes::split(alloc, request, no_names) {
+    let parts = match parts_of(alloc, request) {
         Ok(parts) => parts,
         Err(fault) => return code_of(&fault, told),
     };
@@ -75,6 +75,19 @@ pub extern "C" fn slotroute_split(
     put_all(ends, &parts.ends);
     put_all(out, &parts.bytes);
     Outcome::Done.code()
+}
+
+/// The parts of a request.
+fn parts_of(alloc: Global, request: &[u8]) -> Result<Parts, BytesFault>
+    ensures parts { IfOk result (λ parts. ArePartsOf request.now parts) }
+    ensures fault { IfErr result (λ fault. IsUnsplit (names_of [] []) request.now fault) }
+{
+    let (read_only, registry) = (ReadOnlyNames::new(alloc), Registry::new(alloc));
+    let no_names = Names {
+        read_only: &read_only,
+        registry: &registry,
+    };
+    redis_bytes::split(alloc, request, no_names)
 }
 
 /// The slot of each route.
@@ -109,23 +122,19 @@ pub extern "C" fn slotroute_combine(
 ) -> u32
     ensures done { result ≡ code Outcome.Done → (split : Split)
         × IsSplitRequest (names_of [] []) request.now split × (combined : List ℕ)
-        × AreCombined split replies.now combined × Begins combined out.new
-        × (told.new.bytes ≡ length combined) }
+        × AreCombined split replies.now combined × IsWritten combined out.old out.new
+        × (told.new ≡ with_bytes (length combined) told.old) }
     ensures too_small { result ≡ code Outcome.TooSmall → (split : Split)
         × IsSplitRequest (names_of [] []) request.now split × (combined : List ℕ)
         × AreCombined split replies.now combined × (length out.old < length combined)
-        × (told.new.bytes ≡ length combined) }
+        × (told.new ≡ with_bytes (length combined) told.old) }
     ensures fault { result ≢ code Outcome.Done → result ≢ code Outcome.TooSmall
         → (fault : faults.BytesFault) × (result ≡ code (outcome_of fault))
-        × IsUncombined (names_of [] []) request.now replies.now fault × IsFaultTold fault told.new }
+        × IsUncombined (names_of [] []) request.now replies.now fault
+        × (told.new ≡ with_fault fault told.old) }
     ensures unwritten { result ≢ code Outcome.Done → out.new ≡ out.old }
 {
-    let (read_only, registry) = (ReadOnlyNames::new(alloc), Registry::new(alloc));
-    let no_names = Names {
-        read_only: &read_only,
-        registry: &registry,
-    };
-    let reply = match redis_bytes::combine(alloc, request, no_names, replies) {
+    let reply = match one_reply(alloc, request, replies) {
         Ok(reply) => reply,
         Err(fault) => return code_of(&fault, told),
     };
@@ -135,4 +144,20 @@ pub extern "C" fn slotroute_combine(
     }
     put_all(out, &reply);
     Outcome::Done.code()
+}
+
+/// The one reply to a request, by the replies to its parts.
+fn one_reply(alloc: Global, request: &[u8], replies: &[u8]) -> Result<Vec<u8>, BytesFault>
+    ensures combined { IfOk result (λ combined. (split : Split)
+        × IsSplitRequest (names_of [] []) request.now split
+        × AreCombined split replies.now combined.items) }
+    ensures fault { IfErr result (λ fault.
+        IsUncombined (names_of [] []) request.now replies.now fault) }
+{
+    let (read_only, registry) = (ReadOnlyNames::new(alloc), Registry::new(alloc));
+    let no_names = Names {
+        read_only: &read_only,
+        registry: &registry,
+    };
+    redis_bytes::combine(alloc, request, no_names, replies)
 }

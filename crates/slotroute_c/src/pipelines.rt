@@ -2,9 +2,10 @@ ghost use Rattle.std.specs.Prelude.{◌≡◌, ◌≢◌, ◌<◌, ℕ, List, If
 ghost use Rattle.redis_batch_bytes.specs.declared.fault.BatchFault as faults;
 ghost use Rattle.redis_batch_bytes.specs.declared.splitting.BatchBytes as declared;
 ghost use Rattle.slotroute_c.specs.Outcomes.{code};
-ghost use Rattle.slotroute_c.specs.Buffers.{Begins};
+ghost use Rattle.slotroute_c.specs.Buffers.{IsWritten};
+ghost use Rattle.slotroute_c.specs.Fields.{with_bytes};
 ghost use Rattle.slotroute_c.specs.Faults.{IsOther};
-ghost use Rattle.slotroute_c.specs.Pipelines.{AreBatchesBy, AreBatchesTold, AreBatchesWritten, AreCombinedBy, IsBatchFaultTold, IsOneTooSmall, IsUncombinedBy, IsUnplannedBy, numbers_of, outcome_of_batch};
+ghost use Rattle.slotroute_c.specs.Pipelines.{AreBatchesBy, AreCombinedBy, IsOneTooSmall, IsUncombinedBy, IsUnplannedBy, numbers_of, outcome_of_batch, with_batch_fault, with_batches};
 
 use crate::buffers::put_all;
 use crate::faults::{code_of_reply, code_of_request};
@@ -38,15 +39,21 @@ pub extern "C" fn slotroute_split_pipeline(
     told: &mut Told,
 ) -> u32
     ensures done { result ≡ code Outcome.Done → (batches : declared.BatchBytes)
-        × AreBatchesBy numbers.now requests.now batches × AreBatchesTold batches told.new
-        × AreBatchesWritten batches nodes.new counts.new ends.new out.new }
+        × AreBatchesBy numbers.now requests.now batches
+        × (told.new ≡ with_batches batches told.old)
+        × IsWritten (numbers_of batches.nodes.items) nodes.old nodes.new
+        × IsWritten batches.counts.items counts.old counts.new
+        × IsWritten batches.ends.items ends.old ends.new
+        × IsWritten batches.bytes.items out.old out.new }
     ensures too_small { result ≡ code Outcome.TooSmall → (batches : declared.BatchBytes)
-        × AreBatchesBy numbers.now requests.now batches × AreBatchesTold batches told.new
+        × AreBatchesBy numbers.now requests.now batches
+        × (told.new ≡ with_batches batches told.old)
         × IsOneTooSmall batches (length nodes.old) (length counts.old) (length ends.old)
         (length out.old) }
     ensures fault { result ≢ code Outcome.Done → result ≢ code Outcome.TooSmall
         → (fault : faults.BatchFault) × (result ≡ code (outcome_of_batch fault))
-        × IsUnplannedBy numbers.now requests.now fault × IsBatchFaultTold fault told.new }
+        × IsUnplannedBy numbers.now requests.now fault
+        × (told.new ≡ with_batch_fault fault told.old) }
     ensures unwritten { result ≢ code Outcome.Done → (nodes.new ≡ nodes.old)
         × (counts.new ≡ counts.old) × (ends.new ≡ ends.old) × (out.new ≡ out.old) }
 {
@@ -99,15 +106,17 @@ pub extern "C" fn slotroute_combine_pipeline(
     told: &mut Told,
 ) -> u32
     ensures done { result ≡ code Outcome.Done → (combined : List ℕ)
-        × AreCombinedBy numbers.now requests.now replies.now combined × Begins combined out.new
-        × (told.new.bytes ≡ length combined) }
+        × AreCombinedBy numbers.now requests.now replies.now combined
+        × IsWritten combined out.old out.new
+        × (told.new ≡ with_bytes (length combined) told.old) }
     ensures too_small { result ≡ code Outcome.TooSmall → (combined : List ℕ)
         × AreCombinedBy numbers.now requests.now replies.now combined
-        × (length out.old < length combined) × (told.new.bytes ≡ length combined) }
+        × (length out.old < length combined)
+        × (told.new ≡ with_bytes (length combined) told.old) }
     ensures fault { result ≢ code Outcome.Done → result ≢ code Outcome.TooSmall
         → (fault : faults.BatchFault) × (result ≡ code (outcome_of_batch fault))
         × IsUncombinedBy numbers.now requests.now replies.now fault
-        × IsBatchFaultTold fault told.new }
+        × (told.new ≡ with_batch_fault fault told.old) }
     ensures unwritten { result ≢ code Outcome.Done → out.new ≡ out.old }
 {
     let combined = match combined_by(alloc, requests, numbers, replies) {
@@ -164,7 +173,7 @@ fn numbers_of(alloc: Global, nodes: &[NodeAddress]) -> Result<Vec<u16>, AllocErr
 /// The code of a pipeline's fault, whose place is told.
 fn code_of_batch(fault: &BatchFault, told: &mut Told) -> u32
     ensures code { result ≡ code (outcome_of_batch fault.now) }
-    ensures told { IsBatchFaultTold fault.now told.new }
+    ensures told { told.new ≡ with_batch_fault fault.now told.old }
     ensures other { IsOther result }
 {
     match fault {

@@ -3,7 +3,7 @@ ghost use Rattle.std.specs.Str.{IsUtf8};
 ghost use Rattle.redis_routing.specs.RedirectText.{IsRedirectText, IsNoRedirect, redirect_address};
 ghost use Rattle.redis_routing.specs.declared.info.Redirect as declared;
 ghost use Rattle.slotroute_c.specs.Outcomes.{code, is_one_of};
-ghost use Rattle.slotroute_c.specs.Buffers.{Begins};
+ghost use Rattle.slotroute_c.specs.Buffers.{IsWritten};
 ghost use Rattle.slotroute_c.specs.Redirected.{numbers_of};
 
 use crate::buffers::put;
@@ -45,7 +45,7 @@ pub extern "C" fn slotroute_redirect(
     ensures done { result ≡ code Outcome.Done → (slot : ℕ) × (redirect : declared.Redirect)
         × IsRedirectText answering.now text.now slot redirect
         × (told.new ≡ numbers_of slot redirect)
-        × Begins (redirect_address redirect).host host.new }
+        × IsWritten (redirect_address redirect).host host.old host.new }
     ensures too_small { result ≡ code Outcome.TooSmall → (slot : ℕ) × (redirect : declared.Redirect)
         × IsRedirectText answering.now text.now slot redirect
         × (told.new ≡ numbers_of slot redirect)
@@ -56,6 +56,8 @@ pub extern "C" fn slotroute_redirect(
     ensures no_other { IsTrue (is_one_of result (Outcome.Done ∷ Outcome.NoMemory ∷ Outcome.TooSmall
         ∷ Outcome.NotText ∷ Outcome.NoRedirect ∷ [])) }
     ensures unwritten { result ≢ code Outcome.Done → host.new ≡ host.old }
+    ensures untold { result ≢ code Outcome.Done → result ≢ code Outcome.TooSmall
+        → told.new ≡ told.old }
 {
     let Ok(text) = str::from_utf8(text) else {
         return Outcome::NotText.code();
@@ -74,7 +76,7 @@ pub extern "C" fn slotroute_redirect(
 fn tell(slot: Slot, redirect: &Redirect, host: &mut [u8], told: &mut RedirectNumbers) -> Outcome
     ensures told { told.new ≡ numbers_of slot redirect.now }
     ensures done { result ≡ Outcome.Done
-        → Begins (redirect_address redirect.now).host host.new }
+        → IsWritten (redirect_address redirect.now).host host.old host.new }
     ensures too_small { result ≢ Outcome.Done → (result ≡ Outcome.TooSmall)
         × (length host.old < length (redirect_address redirect.now).host)
         × (host.new ≡ host.old) }

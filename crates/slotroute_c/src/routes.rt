@@ -1,21 +1,24 @@
-ghost use Rattle.std.specs.Prelude.{◌≡◌, ◌≢◌, Option, option_map};
+ghost use Rattle.std.specs.Prelude.{◌≡◌, ◌≢◌, Option, Some, map, option_map, IfOk, IfErr};
 ghost use Rattle.resp.specs.Forms.{IsRequest};
 ghost use Rattle.redis_bytes.specs.declared.fault.BytesFault as faults;
 ghost use Rattle.redis_bytes.specs.Requests.{Words, IsUnread};
 ghost use Rattle.slotroute_c.specs.Outcomes.{code};
-ghost use Rattle.slotroute_c.specs.Faults.{outcome_of, IsFaultTold};
+ghost use Rattle.slotroute_c.specs.Faults.{outcome_of, with_fault};
 ghost use Rattle.redis_routing.specs.declared.policy.ResponsePolicy as declared;
+ghost use Rattle.redis_routing.specs.Routing.{routing};
 ghost use Rattle.redis_routing.specs.RoutingInfo.{as_routing, as_single_node, as_multiple_nodes};
-ghost use Rattle.slotroute_c.specs.Routed.{numbers, routed_of, routed_by, with_reads, to_one, to_several, addr_number, policy_number, addr_of};
+ghost use Rattle.slotroute_c.specs.Routed.{AreNamesFor, names_for, numbers, routed_of, routed_by, to_one, to_several, addr_number, policy_number, addr_of};
 
 use crate::faults::code_of;
 use crate::outcomes::Outcome;
 use crate::told::Told;
 use cluster_slots::SlotAddr;
+use redis_bytes::BytesFault;
 use redis_routing::{
     AggregateOp, LogicalAggregateOp, MultipleNodeRoutingInfo, Names, ReadOnlyNames, Registry,
-    ResponsePolicy, RoutingInfo, SingleNodeRoutingInfo,
+    ResponsePolicy, Routable, RoutingInfo, SingleNodeRoutingInfo,
 };
+use resp::{RequestError, read_request};
 use std::alloc::Global;
 
 /// Where a request goes, as numbers that `include/slotroute.h` names.
@@ -32,8 +35,9 @@ pub struct Routed {
     pub policy: u32,
 }
 
-/// Where a request goes. `only_reads` is not 0 where its command only reads, so that any node of the
-/// slot may serve it.
+/// Where a request goes. `only_reads` is not 0 if its command only reads, so that any node of a key's
+/// slot may serve it. A command that names a slot by its number, as `CLUSTER ADDSLOTS 5`, goes to the
+/// primary either way.
 ///
 /// # Errors
 ///
@@ -48,38 +52,59 @@ pub extern "C" fn slotroute_route(
     told: &mut Told,
 ) -> u32
     ensures done { result ≡ code Outcome.Done → (words : Words) × IsRequest words request.now
-        × (routed.new ≡ routed_by only_reads words) }
+        × (routed.new ≡ routed_by only_reads words) × (told.new ≡ told.old) }
     ensures fault { result ≢ code Outcome.Done → (fault : faults.BytesFault)
         × (result ≡ code (outcome_of fault)) × IsUnread request.now fault
-        × IsFaultTold fault told.new }
+        × (told.new ≡ with_fault fault told.old) }
     ensures unwritten { result ≢ code Outcome.Done → routed.new ≡ routed.old }
 {
-    let (read_only, registry) = (ReadOnlyNames::new(alloc), Registry::new(alloc));
-    let no_names = Names {
-        read_only: &read_only,
-        registry: &registry,
-    };
-    match redis_bytes::route(alloc, request, no_names) {
+    match routing_of(alloc, request, only_reads) {
         Ok(info) => {
-            *routed = with_reads(only_reads, routed_of(&info));
+            *routed = routed_of(&info);
             Outcome::Done.code()
         }
         Err(fault) => code_of(&fault, told),
     }
 }
 
-/// The same, where a request that only reads may go to any node of its slot.
-fn with_reads(only_reads: u32, routed: Routed) -> Routed
-    ensures { result ≡ with_reads only_reads routed }
+/// Where a request goes. `only_reads` is not 0 if its command only reads.
+fn routing_of(
+    alloc: Global,
+    request: &[u8],
+    only_reads: u32,
+) -> Result<Option<RoutingInfo>, BytesFault>
+    ensures routed { IfOk result (λ info. (words : Words) × IsRequest words request.now
+        × (option_map as_routing info ≡ routing (names_for only_reads) (map Some words))) }
+    ensures fault { IfErr result (λ fault. IsUnread request.now fault) }
 {
+    let registry = Registry::new(alloc);
+    let read_only = names_for(alloc, request, only_reads)?;
+    let names = Names {
+        read_only: &read_only,
+        registry: &registry,
+    };
+    redis_bytes::route(alloc, request, names)
+}
+
+/// The names that only read: that of a request's command, if it does.
+fn names_for(alloc: Global, request: &[u8], only_reads: u32) -> Result<ReadOnlyNames, BytesFault>
+    ensures names { IfOk result (λ names. AreNamesFor only_reads request.now names) }
+    ensures memory { IfErr result (λ fault. fault ≡ BytesFault.Memory) }
+{
+    let mut names = ReadOnlyNames::new(alloc);
     if only_reads == 0 {
-        return routed;
+        return Ok(names);
     }
-    if routed.kind == 3 {
-        numbers(3, routed.slot, 1, 0)
-    } else {
-        routed
-    }
+    let command = match read_request(alloc, request) {
+        Ok((command, _)) => command,
+        Err(RequestError::Memory) => return Err(BytesFault::Memory),
+        Err(RequestError::Fault(_)) => return Ok(names),
+    };
+    let Some(name) = command.command(alloc)? else {
+        return Ok(names);
+    };
+    names.insert(alloc, &name)?;
+    Ok(names)
 }
 
 /// The node that a number asks for: 0 for the primary, else a replica where there is one.

@@ -4,8 +4,8 @@ ghost use Rattle.redis_bytes.specs.declared.fault.BytesFault as faults;
 ghost use Rattle.redis_bytes.specs.declared.tables.Table as declared;
 ghost use Rattle.redis_bytes.specs.Table.{IsNoTable};
 ghost use Rattle.slotroute_c.specs.Outcomes.{code};
-ghost use Rattle.slotroute_c.specs.Buffers.{Begins};
-ghost use Rattle.slotroute_c.specs.Faults.{outcome_of, IsFaultTold};
+ghost use Rattle.slotroute_c.specs.Buffers.{IsWritten};
+ghost use Rattle.slotroute_c.specs.Faults.{outcome_of, with_fault};
 ghost use Rattle.slotroute_c.specs.Routed.{addr_of};
 ghost use Rattle.slotroute_c.specs.Tables.{IsTableOf};
 
@@ -40,17 +40,20 @@ pub extern "C" fn slotroute_table(
     told: &mut Told,
 ) -> u32
     ensures done { result ≡ code Outcome.Done → (table : declared.Table)
-        × IsTableOf reply.now answering.now addr pick told.new table
-        × Begins table.numbers.items numbers.new × Begins table.nodes.items nodes.new }
+        × IsTableOf reply.now answering.now addr pick told.old told.new table
+        × IsWritten table.numbers.items numbers.old numbers.new
+        × IsWritten table.nodes.items nodes.old nodes.new }
     ensures too_small { result ≡ code Outcome.TooSmall → (table : declared.Table)
-        × IsTableOf reply.now answering.now addr pick told.new table
+        × IsTableOf reply.now answering.now addr pick told.old told.new table
         × ((length numbers.old < length table.numbers.items)
         ⊎ (length nodes.old < length table.nodes.items)) }
-    ensures not_text { result ≡ code Outcome.NotText → ¬ (IsUtf8 answering.now) }
+    ensures not_text { result ≡ code Outcome.NotText
+        → ¬ (IsUtf8 answering.now) × (told.new ≡ told.old) }
     ensures fault { result ≢ code Outcome.Done → result ≢ code Outcome.TooSmall
         → result ≢ code Outcome.NotText → (fault : faults.BytesFault)
         × (result ≡ code (outcome_of fault))
-        × IsNoTable answering.now reply.now (addr_of addr) pick fault × IsFaultTold fault told.new }
+        × IsNoTable answering.now reply.now (addr_of addr) pick fault
+        × (told.new ≡ with_fault fault told.old) }
     ensures unwritten { result ≢ code Outcome.Done
         → (numbers.new ≡ numbers.old) × (nodes.new ≡ nodes.old) }
 {

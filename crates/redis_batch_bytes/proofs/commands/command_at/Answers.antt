@@ -9,9 +9,6 @@ use Rattle.redis_batch_bytes.proofs.commands.command_at.Goals as goal
 abbrev of_fault : RequestFault → RequestError
 of_fault fault = errors.Fault fault
 
-no_memory : (fault : RequestFault) → of_fault fault ≡ errors.Memory → ⊥
-no_memory fault e = absurd cc
-
 pub returns-in-Err-Fault-Incomplete-clause-fault : goal.returns-in-Err-Fault-Incomplete-clause-fault
 returns-in-Err-Fault-Incomplete-clause-fault c =
     let arm = c.in-Err-Fault-Incomplete in
@@ -20,7 +17,6 @@ returns-in-Err-Fault-Incomplete-clause-fault c =
       record {
         own = Incomplete;
         cause = subst (RequestErrorCause c.args.bytes.now) is arm.ensures.cause;
-        none = λ words form rest of e. no_memory Incomplete (sym is ∙ arm.ensures.only words form rest of e);
         fault_is = refl;
       },
     )
@@ -33,7 +29,6 @@ returns-in-Err-Fault-Malformed-clause-fault c =
       record {
         own = Malformed arm.index;
         cause = subst (RequestErrorCause c.args.bytes.now) is arm.ensures.cause;
-        none = λ words form rest of e. no_memory (Malformed arm.index) (sym is ∙ arm.ensures.only words form rest of e);
         fault_is = refl;
       },
     )

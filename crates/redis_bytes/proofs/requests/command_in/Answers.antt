@@ -19,9 +19,7 @@ returns-in-Err-Fault-clause-only c = λ words is.
     absurd (no_memory c.in-Err-Fault.fault (only words request [] is (sym (append-nil request))))
 
 pub returns-in-Err-Fault-clause-fault : goal.returns-in-Err-Fault-clause-fault
-returns-in-Err-Fault-clause-fault c =
-    let only = rw c.in-Err-Fault.field-0-is at c.in-Err-Fault.ensures.only in
-    (rw c.in-Err-Fault.field-0-is at c.in-Err-Fault.ensures.cause, λ words form rest is e. no_memory c.in-Err-Fault.fault (only words form rest is e))
+returns-in-Err-Fault-clause-fault c = rw c.in-Err-Fault.field-0-is at c.in-Err-Fault.ensures.cause
 
 pub returns-then-not-is_empty-clause-only : goal.returns-then-not-is_empty-clause-only
 returns-then-not-is_empty-clause-only c = λ words is.

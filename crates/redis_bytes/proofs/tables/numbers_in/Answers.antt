@@ -1,7 +1,7 @@
 use Rattle.std.proofs.Common.{ℕ, ◌<◌, get_or, subst, arith}
 use Rattle.cluster_slots.specs.SlotRoute.{SlotRoute}
 use Rattle.redis_bytes.specs.Table.{IsNumbered, addresses}
-use Rattle.redis_bytes.proofs.Numbers.{stays_numbered, grows_by_one, numbers_more, used_more, none_placed, distinct}
+use Rattle.redis_bytes.proofs.Numbers.{stays_numbered, grows_by_one, numbers_more, used_more, distinct}
 use Rattle.redis_bytes.proofs.tables.numbers_in.Goals as goal
 
 pub loop-slot-preserved : goal.loop-slot-preserved

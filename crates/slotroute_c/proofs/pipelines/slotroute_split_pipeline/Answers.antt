@@ -1,5 +1,5 @@
-use Rattle.std.proofs.Common.{◌≡◌, ℕ, List, length, subst, ap, ◌∙◌, rules}
-use Rattle.slotroute_c.specs.Buffers.{Begins}
+use Rattle.std.proofs.Common.{◌≡◌, ℕ, List, length, refl, subst, ap, ◌∙◌, rules}
+use Rattle.slotroute_c.specs.Buffers.{IsWritten}
 use Rattle.slotroute_c.specs.Pipelines.{IsOneTooSmall, numbers_of}
 use Rattle.slotroute_c.proofs.pipelines.slotroute_split_pipeline.Goals as goal
 
@@ -9,7 +9,7 @@ returns-then-nodes-len-clause-too_small c =
     let count : c.len-told.result ≡ length batches.nodes.items = search rules in
     let bytes : c.len-told-2.result ≡ length batches.bytes.items = search rules in
     let small : IsOneTooSmall batches (length c.args.nodes.now) (length c.args.counts.now) (length c.args.ends.now) (length c.args.out.now) = search rules in
-    λ answer. (batches, c.in-Ok.ensures.batches, (count, bytes), small)
+    λ answer. (batches, c.in-Ok.ensures.batches, rw (count, bytes) refl, small)
 
 pub returns-then-counts-len-clause-too_small : goal.returns-then-counts-len-clause-too_small
 returns-then-counts-len-clause-too_small c =
@@ -17,7 +17,7 @@ returns-then-counts-len-clause-too_small c =
     let count : c.len-told.result ≡ length batches.nodes.items = search rules in
     let bytes : c.len-told-2.result ≡ length batches.bytes.items = search rules in
     let small : IsOneTooSmall batches (length c.args.nodes.now) (length c.args.counts.now) (length c.args.ends.now) (length c.args.out.now) = search rules in
-    λ answer. (batches, c.in-Ok.ensures.batches, (count, bytes), small)
+    λ answer. (batches, c.in-Ok.ensures.batches, rw (count, bytes) refl, small)
 
 pub returns-then-ends-len-clause-too_small : goal.returns-then-ends-len-clause-too_small
 returns-then-ends-len-clause-too_small c =
@@ -25,7 +25,7 @@ returns-then-ends-len-clause-too_small c =
     let count : c.len-told.result ≡ length batches.nodes.items = search rules in
     let bytes : c.len-told-2.result ≡ length batches.bytes.items = search rules in
     let small : IsOneTooSmall batches (length c.args.nodes.now) (length c.args.counts.now) (length c.args.ends.now) (length c.args.out.now) = search rules in
-    λ answer. (batches, c.in-Ok.ensures.batches, (count, bytes), small)
+    λ answer. (batches, c.in-Ok.ensures.batches, rw (count, bytes) refl, small)
 
 pub returns-then-out-len-clause-too_small : goal.returns-then-out-len-clause-too_small
 returns-then-out-len-clause-too_small c =
@@ -33,7 +33,7 @@ returns-then-out-len-clause-too_small c =
     let count : c.len-told.result ≡ length batches.nodes.items = search rules in
     let bytes : c.len-told-2.result ≡ length batches.bytes.items = search rules in
     let small : IsOneTooSmall batches (length c.args.nodes.now) (length c.args.counts.now) (length c.args.ends.now) (length c.args.out.now) = search rules in
-    λ answer. (batches, c.in-Ok.ensures.batches, (count, bytes), small)
+    λ answer. (batches, c.in-Ok.ensures.batches, rw (count, bytes) refl, small)
 
 pub returns-clause-done : goal.returns-clause-done
 returns-clause-done c =
@@ -41,5 +41,5 @@ returns-clause-done c =
     let count : c.len-told.result ≡ length batches.nodes.items = search rules in
     let bytes : c.len-told-2.result ≡ length batches.bytes.items = search rules in
     let found : c.in-Ok-numbers_of.found.items ≡ numbers_of batches.nodes.items = c.in-Ok-numbers_of.ensures.numbers ∙ ap numbers_of c.deref.ensures.value in
-    let nodes : Begins (numbers_of batches.nodes.items) c.put_all.new.buffer = subst (λ (xs : List ℕ). Begins xs c.put_all.new.buffer) found c.put_all.ensures in
-    λ answer. (batches, c.in-Ok.ensures.batches, (count, bytes), record { nodes_begin = nodes; counts_begin = c.put_all-2.ensures; ends_begin = c.put_all-3.ensures; out_begins = c.put_all-4.ensures })
+    let nodes : IsWritten (numbers_of batches.nodes.items) c.args.nodes.now c.put_all.new.buffer = subst (λ (xs : List ℕ). IsWritten xs c.args.nodes.now c.put_all.new.buffer) found c.put_all.ensures in
+    λ answer. (batches, c.in-Ok.ensures.batches, rw (count, bytes) refl, nodes, c.put_all-2.ensures, c.put_all-3.ensures, c.put_all-4.ensures)

@@ -1,0 +1,66 @@
+-- The name of a command among those that only read.
+use Rattle.std.proofs.Common.{◌≡◌, ℕ, ◌<◌, List, [], ◌∷◌, ◌++◌, Bool, true, ◌||◌, Option, Some, None, IfSome, Result, Ok, Err, IfOk, map, option_map, bytes_eq, refl, sym, ap, ◌∙◌}
+use Rattle.std.specs.Char.{to_ascii_uppercase}
+use Rattle.std.proofs.lemmas.Slice.Eq.{bytes_eq-Decides}
+use Rattle.std.proofs.lemmas.Str.Ascii.{uppercase-uppercase}
+use Rattle.std.proofs.lemmas.List.{map-append}
+use Rattle.redis_routing.specs.Command.{Arguments, argument, command_name, in_upper_case, name_by, name_from, with_second}
+use Rattle.redis_routing.specs.Names.{Names, names_of}
+use Rattle.redis_routing.specs.ReadOnly.{is_among}
+use Rattle.redis_routing.specs.Routing.{routing, routing_by_name}
+use Rattle.redis_routing.specs.TwoWords.{takes_second}
+use Rattle.redis_routing.specs.Upper.{upper}
+use Rattle.resp_core.proofs.Cases.{by_test}
+use Rattle.redis_routing.specs.Registry.{Registrations}
+use Rattle.redis_routing.specs.RoutingInfo.{as_routing}
+use Rattle.redis_routing.specs.declared.info.RoutingInfo.{RoutingInfo}
+use Rattle.redis_bytes.specs.Requests.{Words}
+use Rattle.redis_bytes.specs.declared.fault.BytesFault.{BytesFault}
+use Rattle.resp.specs.Forms.{IsRequest}
+use Rattle.slotroute_c.specs.Routed.{AreNamesFor, names_for}
+
+upper-upper : (text : List ℕ) → upper (upper text) ≡ upper text
+upper-upper [] = refl
+upper-upper (c ∷ text) = rw (uppercase-uppercase c, upper-upper text) refl
+
+joined_upper : (first : List ℕ) (second : Option (List ℕ)) → upper (with_second (upper first) (in_upper_case second)) ≡ with_second (upper first) (in_upper_case second)
+joined_upper first None = upper-upper first
+joined_upper first (Some second) = map-append to_ascii_uppercase (upper first) (32 ∷ upper second) ∙ rw (upper-upper first, upper-upper second) refl
+
+name_upper : (first : List ℕ) (second : Option (List ℕ)) → upper (name_by (upper first) (in_upper_case second)) ≡ name_by (upper first) (in_upper_case second)
+name_upper first second = by_test (takes_second (upper first))
+    (λ t. rw t (joined_upper first second))
+    (λ f. rw f (upper-upper first))
+
+same_some : (x y : List ℕ) → Some x ≡ Some y → x ≡ y
+same_some x y e = cc
+
+from_upper : (args : Arguments) (first : Option (List ℕ)) (name : List ℕ) → Some name ≡ name_from args first → upper name ≡ name
+from_upper args None name e = absurd cc
+from_upper args (Some first) name e =
+    let is : name ≡ name_by (upper first) (in_upper_case (argument args 1)) = same_some _ _ e in
+    ap upper is ∙ name_upper first (argument args 1) ∙ sym is
+
+-- a name that was put in is there
+pub is_put : (args : Arguments) (name : List ℕ) (old new : List (List ℕ)) (reads : Bool) → reads ≡ true → Some name ≡ command_name args → is_among new name ≡ (bytes_eq name (upper name) || is_among old name) → IfSome (command_name args) (λ n. is_among new n ≡ reads)
+is_put args name old new reads read e put =
+    let same : bytes_eq name (upper name) ≡ true = (bytes_eq-Decides name (upper name)).1 (sym (from_upper args (argument args 0) name e)) in
+    let there : is_among new name ≡ true = rw same at put in
+    rw (sym e) (there ∙ sym read)
+
+pub no_name : (args : Arguments) (Is : List ℕ → Type 0) → None ≡ command_name args → IfSome (command_name args) Is
+no_name args Is e = rw (sym e) tt
+
+by_name : (n : ℕ) (read : List (List ℕ)) (args : Arguments) (name : Option (List ℕ)) → IfSome name (λ x. is_among read x ≡ (names_for n).only_reads x) → routing_by_name (names_of read []) args name ≡ routing_by_name (names_for n) args name
+by_name n read args None same = refl
+by_name n read args (Some name) same = rw same refl
+
+routed_as : (n : ℕ) (read : List (List ℕ)) (args : Arguments) → IfSome (command_name args) (λ x. is_among read x ≡ (names_for n).only_reads x) → routing (names_of read []) args ≡ routing (names_for n) args
+routed_as n read args same = by_name n read args (command_name args) same
+
+pub routed_for : (n : ℕ) (request : List ℕ) (read : List (List ℕ)) (registered : Registrations) → registered ≡ [] → AreNamesFor n request read → (r : Result (Option RoutingInfo) BytesFault) → IfOk r (λ info. (words : Words) × IsRequest words request × (option_map as_routing info ≡ routing (names_of read registered) (map Some words)))
+    → IfOk r (λ info. (words : Words) × IsRequest words request × (option_map as_routing info ≡ routing (names_for n) (map Some words)))
+routed_for n request read registered none names (Err fault) is = tt
+routed_for n request read registered none names (Ok info) is =
+    let args = map Some is.0 in
+    (is.0, is.1, is.2 ∙ ap (λ (by : Registrations). routing (names_of read by) args) none ∙ routed_as n read args (names is.0 is.1))
