@@ -1,10 +1,10 @@
 //! A multi-key command over sockets of one's own.
 use cluster_map::{NodeAddress, SlotMap};
-use redis_cluster::driver::{DriveError, SendError, drive};
+use redis_cluster::driver::{DriveError, SendError};
 use redis_cluster::routing::{ReadOnlyNames, Redirect, Registry};
 use resp_core::{Cmd, ErrorKind, RedisError, Value};
 use std::alloc::Global;
-use wire_nodes::{Client, Transport};
+use wire_nodes::{Client, Transport, drive_over};
 
 /// What comes back from a node.
 #[derive(Drop)]
@@ -65,7 +65,7 @@ pub fn send(
 ) -> Result<Value, DriveError> {
     let none_only_reads = ReadOnlyNames::new(alloc);
     let mut client = Client::over(Connections { sockets }, Registry::new(alloc));
-    drive(
+    drive_over(
         alloc,
         command,
         &none_only_reads,
