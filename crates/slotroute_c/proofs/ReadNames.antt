@@ -1,11 +1,11 @@
 -- The name of a command among those that only read.
-use Rattle.std.proofs.Common.{◌≡◌, ℕ, ◌<◌, List, [], ◌∷◌, ◌++◌, Bool, true, ◌||◌, Option, Some, None, IfSome, Result, Ok, Err, IfOk, map, option_map, bytes_eq, refl, sym, ap, ◌∙◌}
+use Rattle.std.proofs.Common.{◌≡◌, ℕ, List, [], ◌∷◌, Bool, true, ◌||◌, Option, Some, None, IfSome, Result, Ok, Err, IfOk, map, option_map, bytes_eq, refl, sym, ap, ◌∙◌}
 use Rattle.std.specs.Char.{to_ascii_uppercase}
 use Rattle.std.proofs.lemmas.Slice.Eq.{bytes_eq-Decides}
 use Rattle.std.proofs.lemmas.Str.Ascii.{uppercase-uppercase}
 use Rattle.std.proofs.lemmas.List.{map-append}
 use Rattle.redis_routing.specs.Command.{Arguments, argument, command_name, in_upper_case, name_by, name_from, with_second}
-use Rattle.redis_routing.specs.Names.{Names, names_of}
+use Rattle.redis_routing.specs.Names.{names_of}
 use Rattle.redis_routing.specs.ReadOnly.{is_among}
 use Rattle.redis_routing.specs.Routing.{routing, routing_by_name}
 use Rattle.redis_routing.specs.TwoWords.{takes_second}

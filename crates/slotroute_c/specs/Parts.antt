@@ -1,5 +1,5 @@
 -- The parts of a request, and what is told of them.
-use Rattle.std.specs.Prelude.{◌≡◌, ◌<◌, ◌⊎◌, ℕ, List, [], map, length}
+use Rattle.std.specs.Prelude.{◌<◌, ◌⊎◌, ℕ, List, [], map, length}
 use Rattle.cluster_slots.specs.SlotRoute.{SlotRoute}
 use Rattle.redis_routing.specs.Names.{names_of}
 use Rattle.redis_routing.specs.Split.{Split}

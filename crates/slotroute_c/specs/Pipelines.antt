@@ -1,5 +1,5 @@
 -- The batches of a pipeline by a table of nodes' numbers, its replies, and what is told of them.
-use Rattle.std.specs.Prelude.{◌≡◌, ◌<◌, ◌⊎◌, ℕ, List, [], map, length}
+use Rattle.std.specs.Prelude.{◌<◌, ◌⊎◌, ℕ, List, [], map, length}
 use Rattle.cluster_slots.specs.Address.{Address}
 use Rattle.redis_batches.specs.Placed.{Ranges}
 use Rattle.redis_batches.specs.PipelinePlan.{PipelineBatches}

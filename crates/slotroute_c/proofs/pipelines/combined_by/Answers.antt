@@ -1,4 +1,4 @@
-use Rattle.std.proofs.Common.{◌≡◌, ℕ, List, [], subst}
+use Rattle.std.proofs.Common.{ℕ, List, [], subst}
 use Rattle.redis_routing.specs.Registry.{Registrations}
 use Rattle.redis_batches.specs.Placed.{Ranges}
 use Rattle.redis_batch_bytes.specs.declared.fault.BatchFault.{BatchFault}

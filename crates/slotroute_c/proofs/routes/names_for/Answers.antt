@@ -1,11 +1,10 @@
-use Rattle.std.proofs.Common.{◌≡◌, ℕ, List, [], true, ltb, Option, Some, None, IfSome, Vec, Global, map, option_map, sym, ap, subst, ◌∙◌, arith}
+use Rattle.std.proofs.Common.{◌≡◌, ℕ, List, [], true, ltb, Some, None, Vec, Global, map, option_map, sym, ap, ◌∙◌, arith}
 use Rattle.std.proofs.lemmas.Bool.Decides.{nat_tests}
 use Rattle.std.proofs.lemmas.List.{append-nil}
 use Rattle.resp.specs.declared.fault.RequestFault.{RequestFault}
 use Rattle.resp.specs.declared.fault.RequestError.{RequestError}
 use Rattle.resp.specs.declared.fault.RequestError.TheVariants as errors
 use Rattle.redis_routing.specs.Command.{command_name}
-use Rattle.redis_routing.specs.ReadOnly.{is_among}
 use Rattle.slotroute_c.proofs.ReadNames.{is_put, no_name}
 use Rattle.slotroute_c.proofs.routes.names_for.Goals as goal
 
