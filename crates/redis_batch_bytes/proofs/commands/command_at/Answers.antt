@@ -1,4 +1,4 @@
-use Rattle.std.proofs.Common.{◌≡◌, refl, sym, ap, subst, ◌∙◌}
+use Rattle.std.proofs.Common.{◌≡◌, refl, ap, subst, ◌∙◌}
 use Rattle.resp.specs.Requests.{RequestErrorCause}
 use Rattle.resp.specs.declared.fault.RequestFault.{RequestFault}
 use Rattle.resp.specs.declared.fault.RequestFault.TheVariants.{Incomplete, Malformed}
