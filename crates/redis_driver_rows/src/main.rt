@@ -1,7 +1,6 @@
 //! Answers rows of calls that drive commands: over nodes in memory, and over connections.
 #![tactic(auto)]
 
-mod client;
 mod cluster;
 mod lent;
 mod nodes;

@@ -1,5 +1,4 @@
 //! Commands that are driven over connections, which give what a row says.
-use crate::client::drive_over;
 use crate::cluster::Cluster;
 use crate::nodes::{cut, order};
 use crate::script::Script;
@@ -9,7 +8,7 @@ use fixtures::{cmd, values};
 use redis_cluster::routing::Registry;
 use resp_core::{RedisResult, Value};
 use std::alloc::Global;
-use wire_nodes::{Any, Client, Logged, Wire, WireNodes};
+use wire_nodes::{Any, Logged, Wire, WireNodes, drive_over};
 
 /// The outcomes of a text, the last one first.
 fn outcomes(alloc: Global, text: &str) -> RedisResult<Vec<Value>> {
@@ -38,6 +37,8 @@ fn driven<W: Wire>(
         &command,
         &cluster.read_only,
         &cluster.map,
+        None,
+        0,
         &order,
         nodes,
     );
@@ -52,8 +53,12 @@ pub fn over(alloc: Global, cluster: &Cluster, words: &str) -> RedisResult<String
         outcomes: outcomes(alloc, script)?,
         sent: String::new(alloc),
     };
-    let mut nodes = Client::over(&mut transport, Registry::new(alloc));
+    let mut nodes = WireNodes::<Logged<&mut Script>, Any>::over(
+        &mut transport,
+        Registry::new(alloc),
+    );
     let driven = driven(alloc, cluster, words, &mut nodes);
+    let _ = nodes.into_wire().into_transport();
     Ok(format!(in alloc; "{};{}", driven?, transport.sent)?)
 }
 
