@@ -1,12 +1,17 @@
-ghost use Rattle.std.specs.Prelude.{◌≡◌, IfOk};
+ghost use Rattle.std.specs.Prelude.{◌≡◌, map, IfOk, IfErr, ⊤};
 ghost use Rattle.resp_core.specs.View.{view};
+ghost use Rattle.cluster_map.specs.RouteNode.{IsRouteNode};
+ghost use Rattle.redis_routing.specs.Names.{names_of};
+ghost use Rattle.redis_cluster.specs.Driven.{request, IsDelivered};
+ghost use Rattle.redis_cluster.specs.Faults.{IsCut, unseen};
 ghost use Rattle.wire_nodes.specs.Amid.{IsServedAt};
 ghost use Rattle.wire_nodes.specs.Held.{registry_in, wire_in};
+ghost use Rattle.wire_nodes.specs.Said.{entry_by};
 
 use crate::nodes::{Meaning, WireNodes};
 use crate::wire::Wire;
 use cluster_map::{ReadRoutingStrategy, SlotMap};
-use redis_cluster::driver::{DriveError, drive};
+use redis_cluster::driver::{DriveError, Nodes, drive};
 use redis_routing::{ReadOnlyNames, Routable};
 use resp_core::Value;
 use std::alloc::Global;
@@ -32,6 +37,22 @@ pub fn drive_over<R: Routable, W: Wire, M: Meaning>(
     order: &[usize],
     client: &mut WireNodes<W, M>,
 ) -> Result<Value, DriveError>
+    // Each part went once, in the order given, to a node of its route, whatever came back.
+    ensures delivered { IfOk result (λ value.
+        IsDelivered (IsRouteNode strategy.entry (λ s. picks s.now) slot_map.now pick)
+        (request (R.args command.now) (names_of read_only.now (registry_in client.old))
+        slot_map.now order.now)
+        (map entry_by (W.log (wire_in client.old))) (map entry_by (W.log (wire_in client.new)))) }
+    // On error, exactly the first `answered` parts were answered, and the error has its cause.
+    ensures cut { IfErr result (λ e.
+        IsCut (IsRouteNode strategy.entry (λ s. picks s.now) slot_map.now pick)
+        (request (R.args command.now) (names_of read_only.now (registry_in client.old))
+        slot_map.now order.now)
+        (unseen (⟦<WireNodes<W, M> as Nodes>⟧.state client.old))
+        (unseen (⟦<WireNodes<W, M> as Nodes>⟧.state client.new))
+        (λ count ending. ⊤) e.fault e.answered) }
+    // Others may write the same keys meanwhile, and replicas may lag. If each node replied to its part
+    // by what it held, the reply is that of the unsplit command on that.
     ensures amid { IfOk result (λ value.
         IsServedAt M.step (registry_in client.old) (R.args command.now)
         (W.log (wire_in client.old)) (W.log (wire_in client.new)) (view value)) }
