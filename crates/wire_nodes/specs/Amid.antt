@@ -25,7 +25,7 @@ module _ (registered : Registrations) (old new : List Said) where
       → IsReplyAt registered new number part reply → Holds number part reply
 
   module _ {C : Type 0} (held : ℕ → Keyspace C) where
-    -- One keyspace has, at each key that was sent, what the key's node held at that send.
+    -- One keyspace has, at each key of a send that was answered, what the key's node held at that send.
     --
     -- `MGET a b`, and another client's `MSET a 1 b 1` comes between send 0, of `MGET a`, and send 1,
     --     of `MGET b`: the keyspace has the old `a` and the new `b`. No server ever held it.
@@ -37,15 +37,16 @@ module _ (registered : Registrations) (old new : List Said) where
     abbrev pub AreRepliesBy : Step C → Type 0
     AreRepliesBy step = OfEachReply (λ number part reply. reply ≡ reply_to step part (held number))
 
-    -- The keyspace has, at each key that was sent, what the part leaves of what its node held.
+    -- The keyspace has, at each key of a send that was answered, what the part leaves of what its node
+    -- held.
     abbrev pub IsLeftAfter : Step C → Keyspace C → Type 0
     IsLeftAfter step one = OfEachReply (λ number part reply.
         All (λ t. one t.key ≡ keyspace_after step part (held number) t.key) part.tuples)
 
--- A command was driven while the log grew from the old to the new one. Take any keyspace that is
--- assembled of what the nodes held. If each node replied by what it held, then the value is the reply
--- of the unsplit command on that keyspace. What the unsplit command leaves there is, at each key, what
--- the key's node holds right after the send.
+-- The command is complete. Take any keyspace that is assembled of what the nodes held at the sends by
+-- which the log grew. If each node replied by what it held, the value is the reply of the unsplit
+-- command on that keyspace. What the unsplit command leaves there is, at each key, what the key's node
+-- holds right after the send. What was sent, and where, is not said here.
 pub record IsServedAt {C : Type 0} (step : Step C) (registered : Registrations) (args : Arguments)
     (old new : List Said) (value : Reply) : Type 0 where
   pub command : MultiKey
