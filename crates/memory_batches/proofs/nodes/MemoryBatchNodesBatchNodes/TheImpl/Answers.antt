@@ -33,6 +33,7 @@ send_batch-tells c = record {
   stays_kept = grind arith;
   stays_kept_answered = grind arith;
   kept_untaken = grind arith;
+  went = tt;
   may_refuse = c.ensures.may_refuse;
   registered = c.ensures.registered;
 }
