@@ -1,5 +1,5 @@
 -- Requests as bytes, one after the other.
-use Rattle.std.specs.Prelude.{◌≡◌, ◌+◌, ℕ, List, ◌++◌, length}
+use Rattle.std.specs.Prelude.{◌≡◌, ◌<◌, ◌+◌, ℕ, List, ◌++◌, length}
 use Rattle.resp.specs.Forms.{InOrder, IsRequest}
 use Rattle.resp.specs.Requests.{RequestCause}
 use Rattle.resp.specs.declared.fault.RequestFault.{RequestFault}
@@ -29,13 +29,14 @@ IsUnreadAt number before bytes Memory = Unit {0}
 IsUnreadAt number before bytes (Request n fault) = (n ≡ number) × IsNoRequest before bytes fault
 IsUnreadAt number before bytes _ = ⊥
 
--- Requests stand at the front, and where the next one would begin, there is no whole one.
+-- Requests stand at the front, and then bytes that are no whole request.
 pub record IsFirstUnread (bytes : List ℕ) (fault : BatchFault) : Type 0 where
   pub commands : List Words
   pub front : List ℕ
   pub rest : List ℕ
   pub bytes_are : bytes ≡ front ++ rest
   pub are : AreRequests commands front
+  pub some : 0 < length rest
   pub next : IsUnreadAt (length commands) (length front) rest fault
 
 -- why the bytes are not requests

@@ -13,8 +13,8 @@ use std::fmt;
 pub enum BatchFault {
     /// Memory ran out.
     Memory,
-    /// Where the request of this number begins, no whole request stands. The index of a malformed one
-    /// counts from the first byte of all.
+    /// At least one byte follows the requests before this number, and no whole request begins there.
+    /// The index of a malformed byte counts from the first byte of all.
     Request(usize, RequestFault),
     /// The command of this number goes to no single slot, and is not one that is split by slot. It is
     /// the first such command.
