@@ -126,6 +126,12 @@ module _ (numbers slots : List ℕ) (ranges : Ranges) (entries : List Entry) (ru
         (λ other. grind (arith, nat_tests));
   }
 
+  -- what answers for a slot is the node of its number
+  own : (slot : ℕ) (nodes : SlotNodes) → IsAnswerAt ranges slot nodes → (number_at slots slot ≢ 65535) × (nodes.primary ≡ numbered (number_at slots slot))
+  own slot nodes answer =
+      let e : Entry = (answer.start, answer.end, nodes) in
+      runs.right e slot ((kept e).0 answer.there) (answer.after_start, answer.before_end)
+
   pub is_numbered : IsNumberedMap numbers ranges
   is_numbered = record {
     node = λ slot small some.
@@ -136,9 +142,8 @@ module _ (numbers slots : List ℕ) (ranges : Ranges) (entries : List Entry) (ru
         let found = runs.all slot (grind (arith, nat_tests)) there in
         (value_of found.0, answers found.0 slot found.1 found.2, ap numbered (sym one) ∙ sym (runs.right found.0 slot found.1 found.2).1))
         (λ past. absurd (there (get_or_past slots slot 65535 (grind (arith, nat_tests)))));
-    none = λ slot small none value answer.
-        let e : Entry = (answer.start, answer.end, value) in
-        (runs.right e slot ((kept e).0 answer.there) (answer.after_start, answer.before_end)).0 (same slot small ∙ none);
+    only = λ slot address small primary. primary.2 ∙ (own slot primary.0 primary.1).1 ∙ ap numbered (same slot small);
+    none = λ slot small none nodes answer. (own slot nodes answer).0 (same slot small ∙ none);
   }
 
 -- ---- the loop

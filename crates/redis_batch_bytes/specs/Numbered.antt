@@ -13,10 +13,12 @@ numbered number = record { host = []; port = number }
 abbrev pub number_at : List ℕ → ℕ → ℕ
 number_at numbers slot = get_or numbers slot 65535
 
--- The primary of a slot is the address of its number, and a slot with none is not covered.
+-- The one primary of a slot is the address of its number, and a slot with none is not covered.
 pub record IsNumberedMap (numbers : List ℕ) (ranges : Ranges) : Type 0 where
   pub node : (slot : ℕ) → slot < 16384 → number_at numbers slot ≢ 65535
       → IsPrimaryOf ranges slot (numbered (number_at numbers slot))
+  pub only : (slot : ℕ) (address : Address) → slot < 16384 → IsPrimaryOf ranges slot address
+      → address ≡ numbered (number_at numbers slot)
   pub none : (slot : ℕ) → slot < 16384 → number_at numbers slot ≡ 65535
       → IsUncovered ranges slot
 
