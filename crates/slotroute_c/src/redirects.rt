@@ -53,6 +53,8 @@ pub extern "C" fn slotroute_redirect(
     ensures no_redirect { result ≡ code Outcome.NoRedirect → IsNoRedirect answering.now text.now }
     ensures not_text { result ≡ code Outcome.NotText
         → ¬ (IsUtf8 text.now) ⊎ ¬ (IsUtf8 answering.now) }
+    ensures utf8 { ¬ (IsUtf8 text.now) ⊎ ¬ (IsUtf8 answering.now)
+        → result ≡ code Outcome.NotText }
     ensures no_other { IsTrue (is_one_of result (Outcome.Done ∷ Outcome.NoMemory ∷ Outcome.TooSmall
         ∷ Outcome.NotText ∷ Outcome.NoRedirect ∷ [])) }
     ensures unwritten { result ≢ code Outcome.Done → host.new ≡ host.old }

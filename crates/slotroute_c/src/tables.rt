@@ -49,6 +49,7 @@ pub extern "C" fn slotroute_table(
         ⊎ (length nodes.old < length table.nodes.items)) }
     ensures not_text { result ≡ code Outcome.NotText
         → ¬ (IsUtf8 answering.now) × (told.new ≡ told.old) }
+    ensures utf8 { ¬ (IsUtf8 answering.now) → result ≡ code Outcome.NotText }
     ensures fault { result ≢ code Outcome.Done → result ≢ code Outcome.TooSmall
         → result ≢ code Outcome.NotText → (fault : faults.BytesFault)
         × (result ≡ code (outcome_of fault))
