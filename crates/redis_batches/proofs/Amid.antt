@@ -8,7 +8,7 @@ use Rattle.redis_routing.specs.Split.{Split}
 use Rattle.redis_cluster.specs.Amid.{Moments, IsAssembled, replies_by}
 use Rattle.redis_cluster.specs.MultiKey.{MultiKey, slots_in}
 use Rattle.redis_cluster.specs.Unsplit.{Step, Keyspace, reply_to}
-use Rattle.redis_cluster.proofs.Amid.{joined_amid}
+use Rattle.redis_cluster.proofs.Amid.{acts_by_slot, joined_amid}
 use Rattle.redis_batches.specs.Amid.{AreServedAmid, own_answers}
 use Rattle.redis_batches.specs.Pipeline.{Answer, Task, over_keys, parts_of}
 use Rattle.redis_batches.specs.PipelinePlan.{pieces_of}
@@ -48,7 +48,9 @@ module _ {C : Type 0} (step : Step C) (registered : Registrations) where
       amid_at before later command splits (drop (part_count s) given) replies are.1 made.1 held one assembled
       (ap (take (length (slots_in command))) (drop-drop n (part_count s) given ∙ ap (λ k. drop k given) first) ∙ own)
 
-  -- The replies of a pipeline are so served.
-  pub served_amid : (splits : List (Option Split)) (tasks : List Task) (given replies : List Answer) → AreSplitsOf registered splits tasks → AreRepliesTo splits given replies → AreServedAmid step tasks given replies
-  served_amid splits tasks given replies are made = λ before later command is held one assembled own.
-      amid_at before later command splits given replies (subst (AreSplitsOf registered splits) is are) made held one assembled own
+-- The replies of a pipeline are so served.
+pub served_amid : (C : Type 0) (registered : Registrations) (splits : List (Option Split)) (tasks : List Task) (given replies : List Answer) → AreSplitsOf registered splits tasks → AreRepliesTo splits given replies → AreServedAmid C tasks given replies
+served_amid C registered splits tasks given replies are made = λ before later command is. (
+  λ step held one assembled own. amid_at step registered before later command splits given replies (subst (AreSplitsOf registered splits) is are) made held one assembled own,
+  acts_by_slot C command,
+)

@@ -228,7 +228,7 @@ module _ {C : Type 0} (step : Step C) (serve : Serve C) (may : ℕ → Ending �
             answers = map answer_of after;
             latest = again.latest ∙ ap (λ l. latest_answers l again.rounds) (sym given_are);
             replies_are = made;
-            amid = served_amid step registered plan.splits sendable.of_commands.tasks (map answer_of after) replies sendable.of_commands.splits_are made;
+            amid = served_amid C registered plan.splits sendable.of_commands.tasks (map answer_of after) replies sendable.of_commands.splits_are made;
             as_one = as_one;
             untouched = λ keep own. replies_untouched step serve registered last plan.splits sendable.of_commands.tasks sendable.of_commands.splits_are (slots_of_all sendable.of_commands.tasks) old.keyspace replies
                 (subst (λ l. AreRepliesTo plan.splits l replies) (as_one keep own).answers_are made);

@@ -1,7 +1,7 @@
 -- What the commands of a pipeline over many keys reply on a real cluster. Other clients write the same
 -- keys meanwhile, and replicas lag. Each node runs its part at one moment, on what it holds then.
 use Rattle.std.specs.Prelude.{◌≡◌, ◌++◌, ◌∷◌, List, Some, Ok, map, length, take, drop, slice_get}
-use Rattle.redis_cluster.specs.Amid.{Moments, IsAssembled, replies_by}
+use Rattle.redis_cluster.specs.Amid.{ActsBySlot, Moments, IsAssembled, replies_by}
 use Rattle.redis_cluster.specs.MultiKey.{MultiKey, slots_in}
 use Rattle.redis_cluster.specs.Unsplit.{Step, Keyspace, reply_to}
 use Rattle.redis_batches.specs.Pipeline.{Answer, Task, over_keys}
@@ -12,15 +12,17 @@ abbrev pub own_answers : List Task → MultiKey → List Answer → List Answer
 own_answers before command given =
     take (length (slots_in command)) (drop (length (pieces_of before)) given)
 
--- Take any keyspace that has, at each key of a command, what the key's node held when it ran the key's
--- part. If each node answered by what it held, the reply is that of the unsplit command on this
--- keyspace. Each command has moments and a keyspace of its own.
+-- Take any meaning of commands, and any keyspace that has, at each key of a command, what the key's
+-- node held when it ran the key's part. If each node answered by what it held, the reply is that of the
+-- unsplit command on this keyspace. What the unsplit command leaves there is, at each key, what the
+-- part left. Each command has moments and a keyspace of its own.
 --
--- `MGET a b`, `MGET a b`, and another client's `SET a 1` comes between the two batches of `a`: the
---     first reply has the old `a`, the second one the new `a`.
-abbrev pub AreServedAmid : {C : Type 0} → Step C → List Task → (given replies : List Answer) → Type 0
-AreServedAmid {C} step tasks given replies =
+-- `MGET a b`, `MGET a b`, and another client's `SET a 1` comes between the two parts of `a`, within
+--     one batch: the first reply has the old `a`, the second one the new `a`.
+abbrev pub AreServedAmid : Type 0 → List Task → (given replies : List Answer) → Type 0
+AreServedAmid C tasks given replies =
     (before later : List Task) (command : MultiKey) → tasks ≡ before ++ over_keys command ∷ later
-    → (held : Moments C) (one : Keyspace C) → IsAssembled command held one
-    → own_answers before command given ≡ map Ok (replies_by step command held)
-    → slice_get replies (length before) ≡ Some (Ok (reply_to step command one))
+    → ((step : Step C) (held : Moments C) (one : Keyspace C) → IsAssembled command held one
+      → own_answers before command given ≡ map Ok (replies_by step command held)
+      → slice_get replies (length before) ≡ Some (Ok (reply_to step command one)))
+    × ActsBySlot C command

@@ -104,7 +104,7 @@ module _ {C : Type 0} (step : Step C) (serve : Serve C) (kept : Type 0)
     pub answers : List Answer
     pub latest : answers ≡ latest_answers sent.so_far.given sent.so_far.rounds
     pub replies_are : AreRepliesTo sent.so_far.taken.plan.splits answers replies
-    pub amid : AreServedAmid step (tasks_sent sent.so_far) answers replies
+    pub amid : AreServedAmid C (tasks_sent sent.so_far) answers replies
     pub as_one : kept → OwnErrorsStay serve (tasks_sent sent.so_far)
         → IsAsOne step serve (map with_slots (tasks_sent sent.so_far)) (refused_at_last sent.so_far)
         old.keyspace new.keyspace answers

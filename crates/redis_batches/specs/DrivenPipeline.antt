@@ -122,11 +122,11 @@ module _ (registered : Registrations) (is_node : ℕ → Address → Type 0)
 
   -- The replies are made of these. Others may write the same keys meanwhile: a command over many keys
   -- has the reply of the unsplit command on what the nodes held when they ran its parts.
-  pub record AreMade {C : Type 0} (step : Step C) (replies : List Answer) : Type 0 where
+  pub record AreMade (C : Type 0) (replies : List Answer) : Type 0 where
     pub given : List Answer
     pub all : AreAllGiven given
     pub replies_are : AreRepliesTo all.plan.splits given replies
-    pub amid : AreServedAmid step all.sendable.of_commands.tasks given replies
+    pub amid : AreServedAmid C all.sendable.of_commands.tasks given replies
 
   -- What the nodes gave where there are no replies: the answers to the batches before the one that was
   -- not taken, or to all.

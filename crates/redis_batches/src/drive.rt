@@ -66,7 +66,7 @@ pub fn drive_pipeline<N: BatchNodes>(
         (IsSlotNode strategy.entry (λ s. picks s.now) slot_map.now
         (names_of read_only.now (N.registered nodes.old)) commands.now)
         commands.now order.now (N.asked nodes.old) (N.asked nodes.new)
-        (N.gave nodes.old) (N.gave nodes.new) N.step (map answer_of replies.items)) }
+        (N.gave nodes.old) (N.gave nodes.new) N.Cell (map answer_of replies.items)) }
     // Where no part was refused and the nodes keep to the meaning, keyspace and replies are those of
     // one server that takes the commands.
     ensures one_server { IfOk result (λ replies.

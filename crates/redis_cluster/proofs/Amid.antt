@@ -13,7 +13,7 @@ use Rattle.resp_core.specs.Reply.{Reply}
 use Rattle.redis_routing.specs.Command.{Arguments}
 use Rattle.redis_routing.specs.Registry.{Registrations}
 use Rattle.redis_routing.specs.Split.{Split, IsSplit}
-use Rattle.redis_cluster.specs.Amid.{Moments, IsAssembled, replies_by, after_parts, IsServedAmid, ArePartsOf}
+use Rattle.redis_cluster.specs.Amid.{Moments, IsAssembled, IsReplyAmid, replies_by, after_parts, IsServedAmid, ActsBySlot, AreItsParts}
 use Rattle.redis_cluster.specs.Joined.{joined}
 use Rattle.redis_cluster.specs.MultiKey.{KeyTuple, MultiKey, multi_key, part_by_slot, part_of, form_by_policy, slots_in, tuples_of_slot}
 use Rattle.redis_cluster.specs.Orders.{NamesOnce, in_order, times}
@@ -99,29 +99,39 @@ module _ {C : Type 0} (step : Step C) (command : MultiKey) where
       parts_skip slots (keyspace_after step (part_of command slot) first) key (omega (arith, none, times_there (key_slot key) slot slots there))
       ∙ part_skips (act_of step command) slot command.tuples first key (λ same. cc (same, there, same_number slot)))
 
-  -- What the parts of a command are.
-  pub are_parts_of : (registered : Registrations) (args : Arguments) → multi_key registered args ≡ Some command → ArePartsOf step registered args command
-  are_parts_of registered args is =
-      let act = act_of step command in
-      record {
-        meant = All-weaker (λ slot. list_any (λ (t : KeyTuple). nat_eq (key_slot t.key) slot) command.tuples ≡ true) (λ slot. multi_key registered (part_by_slot registered args slot) ≡ Some (part_of command slot))
-            (λ slot has. ap (multi_key registered) (sym (part_by_command registered args command slot is)) ∙ part_means registered args command slot is has)
-            (slots_in command) (slots_have_keys command);
-        left = λ held one assembled k d within.
-            let key : List ℕ = (get_or command.tuples k d).key in
-            sym (part_leaves act (key_slot key) command.tuples (held (key_slot key)) one key refl (assembled k d within));
-        apart = λ slot before key other. part_skips act slot command.tuples before key other;
-        undisturbed = λ first before apart k d within.
-            let key : List ℕ = (get_or command.tuples k d).key in
-            sym (parts_skip (before (key_slot key)) first key (apart (key_slot key)));
-      }
+-- Each part acts on its slot as the whole command does.
+pub acts_by_slot : (C : Type 0) (command : MultiKey) → ActsBySlot C command
+acts_by_slot C command = record {
+  left = λ step slot held one key own same. part_leaves (act_of step command) slot command.tuples held one key own same;
+  apart = λ step slot held key other. part_skips (act_of step command) slot command.tuples held key other;
+  undisturbed = λ step first before apart k d within.
+      let key : List ℕ = (get_or command.tuples k d).key in
+      sym (parts_skip step command (before (key_slot key)) first key (apart (key_slot key)));
+}
+
+-- What the parts of a command are.
+pub are_its_parts : (C : Type 0) (command : MultiKey) (registered : Registrations) (args : Arguments) → multi_key registered args ≡ Some command → AreItsParts C registered args command
+are_its_parts C command registered args is =
+    record {
+      meant = All-weaker (λ slot. list_any (λ (t : KeyTuple). nat_eq (key_slot t.key) slot) command.tuples ≡ true) (λ slot. multi_key registered (part_by_slot registered args slot) ≡ Some (part_of command slot))
+          (λ slot has. ap (multi_key registered) (sym (part_by_command registered args command slot is)) ∙ part_means registered args command slot is has)
+          (slots_in command) (slots_have_keys command);
+      acts = acts_by_slot C command;
+    }
+
+-- What a split's policy makes of the replies to the parts of a plan is the reply amid what others write.
+pub reply_amid : (C : Type 0) (registered : Registrations) (plan : Plan) (command : MultiKey) (value : Reply) (replies : List Reply) → IsPlanOf registered command plan → IsSplit plan.split → joined plan.split replies ≡ Ok value → IsReplyAmid C command replies value
+reply_amid C registered plan command value replies is split made = λ step held one assembled said.
+    let same : Ok value ≡ Ok (reply_to step command one) =
+    sym made ∙ ap (joined plan.split) said ∙ joined_amid step command plan.split split is.form is.tuples held one assembled in
+    cc
 
 -- A value that was made of the replies to the parts of a plan is so served.
-pub served_amid : {C : Type 0} (step : Step C) (registered : Registrations) (plan : Plan) (command : MultiKey) (order : List ℕ) (old new : List Reply → Type 0) (value : Reply) (replies : List Reply)
+pub served_amid : (C : Type 0) (registered : Registrations) (plan : Plan) (command : MultiKey) (order : List ℕ) (old new : List Reply → Type 0) (value : Reply) (replies : List Reply)
     → IsPlanOf registered command plan → IsSplit plan.split → NamesOnce (length plan.split.routes) order → length replies ≡ length plan.split.routes
     → ((before : List Reply) → old before → new (before ++ in_order replies order)) → joined plan.split replies ≡ Ok value
-    → IsServedAmid step registered plan.split.arguments order old new value
-served_amid step registered plan command order old new value replies is split names each gave made =
+    → IsServedAmid C registered plan.split.arguments order old new value
+served_amid C registered plan command order old new value replies is split names each gave made =
     let many : length plan.split.routes ≡ length (slots_in command) = sym (length-map plan.split.routes (λ r. r.0.slot)) ∙ ap length (slots_of_split plan.split split command is.tuples) in
     record {
       command = command;
@@ -130,8 +140,5 @@ served_amid step registered plan command order old new value replies is split na
       replies = replies;
       each = each ∙ many;
       gave = gave;
-      reply = λ held one assembled said.
-          let same : Ok value ≡ Ok (reply_to step command one) =
-          sym made ∙ ap (joined plan.split) said ∙ joined_amid step command plan.split split is.form is.tuples held one assembled in
-          cc;
+      reply = reply_amid C registered plan command value replies is split made;
     }

@@ -24,27 +24,28 @@ Moments C = ℕ → Keyspace C
 abbrev pub IsAssembled : {C : Type 0} → MultiKey → Moments C → Keyspace C → Type 0
 IsAssembled command held one = All (λ t. one t.key ≡ held (key_slot t.key) t.key) command.tuples
 
-module _ {C : Type 0} (step : Step C) (command : MultiKey) (held : Moments C) where
-  -- the reply to the part of each slot, by what the slot's node held
-  --
-  -- `MGET a b`, if the node of `a` has 1 there and the node of `b` has nothing there:
-  --     the replies [1] and [nil]
-  abbrev pub replies_by : List Reply
-  replies_by = map (λ slot. reply_to step (part_of command slot) (held slot)) (slots_in command)
+-- the replies to the parts of a command, one for each slot, by what the slot's node held
+--
+-- `MGET a b`, if the node of `a` has 1 there and the node of `b` has nothing there:
+--     the replies [1] and [nil]
+abbrev pub replies_by : {C : Type 0} → Step C → MultiKey → Moments C → List Reply
+replies_by step command held =
+    map (λ slot. reply_to step (part_of command slot) (held slot)) (slots_in command)
 
-  -- what the node of each slot holds right after the slot's part
-  --
-  -- `MSET a 1 b 2`: the node of `a` holds what it held, but 1 at `a`
-  abbrev pub held_after : Moments C
-  held_after = λ slot. keyspace_after step (part_of command slot) (held slot)
-
--- The nodes gave one reply to each part. If each is that of the part on what its node held, then the
--- value is the reply of the unsplit command on each keyspace that is assembled of that.
+-- These are the replies to the parts of a command, and this is the reply to the command. Take any
+-- meaning of commands. If each reply is that of the part on what its node held, then the reply to the
+-- command is that of the unsplit command, on each keyspace that is assembled of that.
 --
 -- `MGET a b` as above replies the old `a` and the new `b`.
 -- `DEL a b`, and another client deletes `b` between the parts: the keyspace has no `b`, so the reply
 --     counts `a` alone.
-pub record IsServedAmid {C : Type 0} (step : Step C) (registered : Registrations) (args : Arguments)
+abbrev pub IsReplyAmid : (C : Type 0) → MultiKey → List Reply → Reply → Type 0
+IsReplyAmid C command replies value =
+    (step : Step C) (held : Moments C) (one : Keyspace C) → IsAssembled command held one
+    → replies ≡ replies_by step command held → value ≡ reply_to step command one
+
+-- The nodes gave one reply to each part, and the value is made of these.
+pub record IsServedAmid (C : Type 0) (registered : Registrations) (args : Arguments)
     (order : List ℕ) (old new : List Reply → Type 0) (value : Reply) : Type 0 where
   pub command : MultiKey
   pub command_is : multi_key registered args ≡ Some command
@@ -52,8 +53,7 @@ pub record IsServedAmid {C : Type 0} (step : Step C) (registered : Registrations
   pub replies : List Reply
   pub each : length replies ≡ length (slots_in command)
   pub gave : (before : List Reply) → old before → new (before ++ in_order replies order)
-  pub reply : (held : Moments C) (one : Keyspace C) → IsAssembled command held one
-      → replies ≡ replies_by step command held → value ≡ reply_to step command one
+  pub reply : IsReplyAmid C command replies value
 
 -- the keyspace after the parts of these slots, one after the other
 abbrev pub after_parts : {C : Type 0} → Step C → MultiKey → List ℕ → Keyspace C → Keyspace C
@@ -61,22 +61,28 @@ after_parts step command [] keyspace = keyspace
 after_parts step command (slot ∷ slots) keyspace =
     after_parts step command slots (keyspace_after step (part_of command slot) keyspace)
 
--- What is sent for a slot means the slot's part. What the unsplit command leaves in an assembled
--- keyspace is, at each key, what the key's node holds right after the key's part. A part leaves the
--- keys of other slots as they were. So if nobody else writes these keys, the keyspace at first is
--- assembled: the node of each slot holds what parts of other slots left of it.
+-- The part of a slot leaves at each key of the slot what the unsplit command leaves there, whatever
+-- stands at other keys. It leaves the keys of other slots as they were. So if nobody else writes these
+-- keys, the keyspace at first is assembled: the node of each slot holds what parts of other slots left
+-- of it.
 --
 -- `MSET a 1 b 2`, and another client deletes `a` after the part of `a`: 1 is what the node of `a` held
 --     right after the part, and what the unsplit command leaves. It need not be there at the return.
+-- `MSET a 1 b 2`, and the node of `b` refuses: the node of `a` held 1 right after the part of `a`.
 -- `MGET a b`, and nobody else writes: the reply is that on the keyspace that stood at the call.
-pub record ArePartsOf {C : Type 0} (step : Step C) (registered : Registrations) (args : Arguments)
+pub record ActsBySlot (C : Type 0) (command : MultiKey) : Type 0 where
+  pub left : (step : Step C) (slot : ℕ) (held one : Keyspace C) (key : List ℕ) → key_slot key ≡ slot
+      → one key ≡ held key
+      → keyspace_after step (part_of command slot) held key ≡ keyspace_after step command one key
+  pub apart : (step : Step C) (slot : ℕ) (held : Keyspace C) (key : List ℕ) → key_slot key ≢ slot
+      → keyspace_after step (part_of command slot) held key ≡ held key
+  pub undisturbed : (step : Step C) (first : Keyspace C) (before : ℕ → List ℕ)
+      → ((slot : ℕ) → times slot (before slot) ≡ 0)
+      → IsAssembled command (λ slot. after_parts step command (before slot) first) first
+
+-- What is sent for a slot means the slot's part, and the command acts slot by slot.
+pub record AreItsParts (C : Type 0) (registered : Registrations) (args : Arguments)
     (command : MultiKey) : Type 0 where
   pub meant : All (λ slot. multi_key registered (part_by_slot registered args slot)
       ≡ Some (part_of command slot)) (slots_in command)
-  pub left : (held : Moments C) (one : Keyspace C) → IsAssembled command held one
-      → IsAssembled command (held_after step command held) (keyspace_after step command one)
-  pub apart : (slot : ℕ) (before : Keyspace C) (key : List ℕ) → key_slot key ≢ slot
-      → keyspace_after step (part_of command slot) before key ≡ before key
-  pub undisturbed : (first : Keyspace C) (before : ℕ → List ℕ)
-      → ((slot : ℕ) → times slot (before slot) ≡ 0)
-      → IsAssembled command (λ slot. after_parts step command (before slot) first) first
+  pub acts : ActsBySlot C command

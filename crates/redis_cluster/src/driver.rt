@@ -7,7 +7,7 @@ ghost use Rattle.resp_core.specs.View.{view};
 ghost use Rattle.cluster_slots.specs.SlotRoute.{SlotRoute};
 ghost use Rattle.cluster_map.specs.RouteNode.{IsRouteNode};
 ghost use Rattle.redis_routing.specs.Names.{names_of};
-ghost use Rattle.redis_cluster.specs.Amid.{ArePartsOf, IsServedAmid};
+ghost use Rattle.redis_cluster.specs.Amid.{AreItsParts, IsServedAmid};
 ghost use Rattle.redis_cluster.specs.Attempts.{AreAllowed};
 ghost use Rattle.redis_cluster.specs.Front.{IsSameCommand, front};
 ghost use Rattle.redis_cluster.specs.MultiKey.{MultiKey, multi_key};
@@ -109,7 +109,7 @@ pub fn drive<R: Routable, N: Nodes>(
     // each key of the command, what the key's node held when it ran the key's part. If each node
     // replied by what it held, the reply is that of the unsplit command on this keyspace.
     ensures amid { IfOk result (λ value.
-        IsServedAmid N.step (N.registered nodes.old) (R.args command.now) order.now
+        IsServedAmid N.Cell (N.registered nodes.old) (R.args command.now) order.now
         (N.gave nodes.old) (N.gave nodes.new) (view value)) }
     // The headline: where the nodes keep to one meaning over one keyspace, each part went once, in
     // the order given, to a node of its route, and the keyspace and the reply are those of the
@@ -154,10 +154,10 @@ pub fn drive<R: Routable, N: Nodes>(
     ensures untouched { IfErr result (λ e. IsBefore e.fault → nodes.new ≡ nodes.old) }
     // Nodes that kept to it now did so before.
     ensures kept { N.kept nodes.new → N.kept nodes.old }
-    // What the unsplit command leaves there is, at each key, what the key's node holds right after the
-    // key's part, whatever becomes of the other parts.
+    // So does the keyspace: each part that `delivered` or `cut` says was answered left at its keys what
+    // the unsplit command leaves there, whatever became of the other parts.
     ensures parts { (c : MultiKey) → multi_key (N.registered nodes.old) (R.args command.now) ≡ Some c
-        → ArePartsOf N.step (N.registered nodes.old) (R.args command.now) c }
+        → AreItsParts N.Cell (N.registered nodes.old) (R.args command.now) c }
     // A command with gaps and its front have the same tuples, routes and parts.
     ensures gaps { IsSameCommand (R.args command.now) (front (R.args command.now)) }
     // The same names stay registered.
@@ -261,7 +261,7 @@ pub fn drive_plan<R: Routable, N: Nodes>(
         × (joined plan.entry.split replies ≡ Err error.kind)) }
     // The reply where others write the same keys meanwhile, as `drive` has it.
     ensures amid { IfOk result (λ value.
-        IsServedAmid N.step (N.registered nodes.old) plan.entry.split.arguments order.now
+        IsServedAmid N.Cell (N.registered nodes.old) plan.entry.split.arguments order.now
         (N.gave nodes.old) (N.gave nodes.new) (view value)) }
     ensures driven { IfOk result (λ value.
         (asked : Request) (c : MultiKey) → IsPlanFor asked order.now (N.registered nodes.old) plan.entry c → N.kept nodes.new
@@ -292,7 +292,7 @@ pub fn drive_plan<R: Routable, N: Nodes>(
     ensures untouched { IfErr result (λ e. IsBefore e.fault → nodes.new ≡ nodes.old) }
     ensures kept { N.kept nodes.new → N.kept nodes.old }
     ensures parts { (c : MultiKey) → multi_key (N.registered nodes.old) plan.entry.split.arguments ≡ Some c
-        → ArePartsOf N.step (N.registered nodes.old) plan.entry.split.arguments c }
+        → AreItsParts N.Cell (N.registered nodes.old) plan.entry.split.arguments c }
     ensures registered { N.registered nodes.new ≡ N.registered nodes.old }
     ensures may_refuse { (count : ℕ) (ending : Ending) → N.may_refuse nodes.new count ending
         ↔ N.may_refuse nodes.old count ending }
@@ -343,7 +343,7 @@ pub(super) fn drive_tries<R: Routable, N: Nodes>(
         → N.gave nodes.new (before ++ in_order replies order.now))
         × (joined plan.entry.split replies ≡ Err error.kind)) }
     ensures amid { IfOk result (λ value.
-        IsServedAmid N.step (N.registered nodes.old) plan.entry.split.arguments order.now
+        IsServedAmid N.Cell (N.registered nodes.old) plan.entry.split.arguments order.now
         (N.gave nodes.old) (N.gave nodes.new) (view value)) }
     ensures given { IfErr result
         (λ e. HaveGiven (N.gave nodes.old) (N.gave nodes.new) e.answered) }

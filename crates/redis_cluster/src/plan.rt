@@ -13,6 +13,7 @@ ghost use Rattle.redis_routing.specs.Registry.{Registrations};
 ghost use Rattle.redis_routing.specs.Complete.{multi_slot_routes, pattern_by_name};
 ghost use Rattle.redis_routing.specs.Split.{policy_by_name, split_part, slots_of};
 ghost use Rattle.redis_routing.specs.RoutingInfo.{route_lists};
+ghost use Rattle.redis_cluster.specs.Amid.{IsReplyAmid};
 ghost use Rattle.redis_cluster.specs.MultiKey.{MultiKey, ReplyForm, list, part_by_slot};
 ghost use Rattle.redis_cluster.specs.Unsplit.{reply_by, TupleResult};
 ghost use Rattle.redis_cluster.specs.Driven.{request, command_routes_by, IsFirstUncovered};
@@ -232,6 +233,11 @@ impl<'a, R: Routable> SplitPlan<'a, R> {
             (λ error. ((error ≡ out_of_memory)
             × (self.entry.split.policy ≡ ResponsePolicy.CombineArrays))
             ⊎ (joined self.entry.split (map view replies) ≡ Err error.kind)) }
+        // Others may write the same keys meanwhile, as for `drive`. Each key holds bytes here, such as
+        // `DUMP` gives.
+        ensures amid { (registered : Registrations) (c : MultiKey) (replies : List Value)
+            → IsPlanOf registered c self.entry → self.entry.replies ≡ map Some replies
+            → IfOk result (λ value. IsReplyAmid (List ℕ) c (map view replies) (view value)) }
         ensures untold { list_any is_none self.entry.replies ≡ true
             → IsErrAnd result (λ error. error.kind ≡ Client) }
     {

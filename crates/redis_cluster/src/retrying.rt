@@ -8,7 +8,7 @@ ghost use Rattle.redis_routing.specs.Names.{names_of};
 ghost use Rattle.redis_cluster.specs.Front.{IsSameCommand, front};
 ghost use Rattle.redis_cluster.specs.MultiKey.{MultiKey, multi_key};
 ghost use Rattle.redis_cluster.specs.Trace.{Ending};
-ghost use Rattle.redis_cluster.specs.Amid.{ArePartsOf, IsServedAmid};
+ghost use Rattle.redis_cluster.specs.Amid.{AreItsParts, IsServedAmid};
 ghost use Rattle.redis_cluster.specs.Attempts.{AreAllowed, HaveOneAnswer};
 ghost use Rattle.redis_cluster.specs.Driven.{request, AreAllAnswered, IsDelivered, IsDrivable, IsUnhindered};
 ghost use Rattle.redis_cluster.specs.Faults.{IsBefore, unseen};
@@ -104,7 +104,7 @@ pub fn drive_retrying<R: Routable, N: Nodes>(
     // each key of the command, what the key's node held when it ran the key's part. If each node that
     // gave a reply gave it by what it held, the reply is that of the unsplit command on this keyspace.
     ensures amid { IfOk result (λ value.
-        IsServedAmid N.step (N.registered nodes.old) (R.args command.now) order.now
+        IsServedAmid N.Cell (N.registered nodes.old) (R.args command.now) order.now
         (N.gave nodes.old) (N.gave nodes.new) (view value)) }
     // Where the nodes keep to one meaning over one keyspace, the keyspace and the reply are those of
     // the unsplit command, whatever was refused or redirected.
@@ -145,10 +145,10 @@ pub fn drive_retrying<R: Routable, N: Nodes>(
     ensures untouched { IfErr result (λ e. IsBefore e.fault → nodes.new ≡ nodes.old) }
     // Nodes that kept to it now did so before.
     ensures kept { N.kept nodes.new → N.kept nodes.old }
-    // What the unsplit command leaves there is, at each key, what the key's node holds right after the
-    // key's part, whatever becomes of the other parts.
+    // So does the keyspace: each part that `delivered` or `cut` says was answered left at its keys what
+    // the unsplit command leaves there, whatever became of the other parts.
     ensures parts { (c : MultiKey) → multi_key (N.registered nodes.old) (R.args command.now) ≡ Some c
-        → ArePartsOf N.step (N.registered nodes.old) (R.args command.now) c }
+        → AreItsParts N.Cell (N.registered nodes.old) (R.args command.now) c }
     // A command with gaps and its front have the same tuples, routes and parts.
     ensures gaps { IsSameCommand (R.args command.now) (front (R.args command.now)) }
     // The same names stay registered.

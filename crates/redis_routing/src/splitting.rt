@@ -22,9 +22,9 @@ use std::hash::BuildHasherDefault;
 /// Up to this many tuples, the list of a slot is found by a search and not by a set.
 const FEW: usize = 40;
 
-/// A set has room for this many slots for each tuple, and at most for all slots. So picked slots cost
-/// at most twice as much as others.
-const ROOM_PER_TUPLE: usize = 10;
+/// A set has room for this many slots for each tuple, and at most for all slots: a group of the set for
+/// each tuple. So picked slots cost at most twice as much as others.
+const ROOM_PER_TUPLE: usize = 9;
 
 /// The number of arguments that a command's name takes. A name longer than the first argument takes
 /// two.

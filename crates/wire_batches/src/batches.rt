@@ -43,10 +43,11 @@ pub trait BatchMeaning {
 }
 
 impl BatchMeaning for Any {
-    ghost use Rattle.std.specs.Prelude.{None, Ok, false};
+    ghost use Rattle.std.specs.Prelude.{ℕ, List, None, Ok, false};
     ghost use Rattle.resp_core.specs.Reply.{nil};
 
-    ghost Cell = { Unit {0} };
+    // bytes, such as `DUMP` gives of any value
+    ghost Cell = { List ℕ };
 
     ghost step = { λ registered name shared key extras cell. record { cell = None; result = record { value = nil; counts = false } } };
 

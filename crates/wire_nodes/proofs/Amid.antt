@@ -21,7 +21,7 @@ use Rattle.redis_cluster.specs.MultiKey.{KeyTuple, MultiKey, multi_key, part_by_
 use Rattle.redis_cluster.specs.Orders.{in_order, times}
 use Rattle.redis_cluster.specs.Trace.{Entry, Ending, answered, refused, redirected, lost}
 use Rattle.redis_cluster.specs.Unsplit.{Step, Keyspace, act_of, keyspace_after, reply_to}
-use Rattle.redis_cluster.proofs.Amid.{are_parts_of, part_leaves}
+use Rattle.redis_cluster.proofs.Amid.{are_its_parts, part_leaves}
 use Rattle.redis_cluster.proofs.Constructors.{same_some}
 use Rattle.redis_cluster.proofs.Counts.{same_number, times_here, times_there}
 use Rattle.redis_cluster.proofs.Headline.{not_refused, not_redirected, not_lost}
@@ -159,8 +159,8 @@ module _ (registered : Registrations) (args : Arguments) where
   slot_said (slot ∷ slots) (x ∷ ss) sent (suc k) s there = slot_said slots ss sent.1 k s there
 
 -- A command that was driven over a log is served at the moments of its sends.
-module _ {C : Type 0} (step : Step C) (r : Request) (IsNode : SlotRoute → Address → Type 0) (old new : List Said) (value : Reply)
-    (d : IsDelivered IsNode r (map entry_by old) (map entry_by new)) (s : IsServedAmid step r.names.registered r.arguments r.order (λ rs. rs ≡ replies_in old) (λ rs. rs ≡ replies_in new) value) where
+module _ (C : Type 0) (r : Request) (IsNode : SlotRoute → Address → Type 0) (old new : List Said) (value : Reply)
+    (d : IsDelivered IsNode r (map entry_by old) (map entry_by new)) (s : IsServedAmid C r.names.registered r.arguments r.order (λ rs. rs ≡ replies_in old) (λ rs. rs ≡ replies_in new) value) where
   abbrev registered : Registrations
   registered = r.names.registered
 
@@ -206,7 +206,7 @@ module _ {C : Type 0} (step : Step C) (r : Request) (IsNode : SlotRoute → Addr
   meant : (i slot : ℕ) → slice_get slots i ≡ Some slot → multi_key registered (part_by_slot registered r.arguments slot) ≡ Some (part_of s.command slot)
   meant i slot at =
       at_place (λ slot. multi_key registered (part_by_slot registered r.arguments slot) ≡ Some (part_of s.command slot)) slots i slot
-      (are_parts_of step s.command registered r.arguments s.command_is).meant at
+      (are_its_parts C s.command registered r.arguments s.command_is).meant at
 
   -- the number of the send for a slot
   abbrev number_of : ℕ → ℕ
@@ -244,8 +244,8 @@ module _ {C : Type 0} (step : Step C) (r : Request) (IsNode : SlotRoute → Addr
       let own = reply_for_key k d within in
       kept_by (λ (u : KeyTuple). one u.key ≡ held (number_of slot) u.key) (λ u. nat_eq (key_slot u.key) slot) s.command.tuples (each (number_of slot) (part_of s.command slot) own.0 (omega arith) own.1) k d within (same_number slot)
 
-  replies_from : (held : ℕ → Keyspace C) → AreRepliesBy registered old new held step → s.replies ≡ replies_by step s.command (by_slot held)
-  replies_from held each =
+  replies_from : (step : Step C) (held : ℕ → Keyspace C) → AreRepliesBy registered old new held step → s.replies ≡ replies_by step s.command (by_slot held)
+  replies_from step held each =
       map_from (λ slot. reply_to step (part_of s.command slot) (by_slot held slot)) slots s.replies s.each
       (λ i slot reply at said. each (number_of slot) (part_of s.command slot) reply (omega arith) (reply_at i slot reply at said))
 
@@ -260,8 +260,8 @@ module _ {C : Type 0} (step : Step C) (r : Request) (IsNode : SlotRoute → Addr
       let i = stands_at slot slots some in
       (slot, same_some part (part_of s.command slot) (sym is.part_is ∙ ap (multi_key registered) own.2 ∙ meant i.0 slot i.1))
 
-  left_from : (held : ℕ → Keyspace C) (one : Keyspace C) → IsAssembledAt registered old new held one → IsLeftAfter registered old new held step (keyspace_after step s.command one)
-  left_from held one each number part reply since is =
+  left_from : (step : Step C) (held : ℕ → Keyspace C) (one : Keyspace C) → IsAssembledAt registered old new held one → IsLeftAfter registered old new held step (keyspace_after step s.command one)
+  left_from step held one each number part reply since is =
       let own = part_at number part reply since is in
       let slot : ℕ = own.0 in
       let all : All (λ (t : KeyTuple). one t.key ≡ held number t.key) (tuples_of_slot slot s.command.tuples) = subst (λ (p : MultiKey). All (λ t. one t.key ≡ held number t.key) p.tuples) own.1 (each number part reply since is) in
@@ -272,10 +272,10 @@ module _ {C : Type 0} (step : Step C) (r : Request) (IsNode : SlotRoute → Addr
       (eqb-true (key_slot key) slot (filter_passes (λ (t : KeyTuple). nat_eq (key_slot t.key) slot) s.command.tuples k d within))
       (all k d within)))
 
-  pub served_at : IsServedAt step registered r.arguments old new value
+  pub served_at : IsServedAt C registered r.arguments old new value
   served_at = record {
     command = s.command;
     command_is = s.command_is;
-    reply = λ held one all each. s.reply (by_slot held) one (assembled_from held one all) (replies_from held each);
+    reply = λ step held one all each. s.reply step (by_slot held) one (assembled_from held one all) (replies_from step held each);
     left = left_from;
   }

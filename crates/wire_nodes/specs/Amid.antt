@@ -43,15 +43,17 @@ module _ (registered : Registrations) (old new : List Said) where
     IsLeftAfter step one = OfEachReply (λ number part reply.
         All (λ t. one t.key ≡ keyspace_after step part (held number) t.key) part.tuples)
 
--- The command is complete. Take any keyspace that is assembled of what the nodes held at the sends by
--- which the log grew. If each node replied by what it held, the value is the reply of the unsplit
--- command on that keyspace. What the unsplit command leaves there is, at each key, what the key's node
--- holds right after the send. What was sent, and where, is not said here.
-pub record IsServedAt {C : Type 0} (step : Step C) (registered : Registrations) (args : Arguments)
+-- The command is complete. Take any meaning of commands, and any keyspace that is assembled of what
+-- the nodes held at the sends by which the log grew. If each node replied by what it held, the value is
+-- the reply of the unsplit command on that keyspace. What the unsplit command leaves there is, at each
+-- key, what the key's node holds right after the send. What was sent, and where, is not said here.
+pub record IsServedAt (C : Type 0) (registered : Registrations) (args : Arguments)
     (old new : List Said) (value : Reply) : Type 0 where
   pub command : MultiKey
   pub command_is : multi_key registered args ≡ Some command
-  pub reply : (held : ℕ → Keyspace C) (one : Keyspace C) → IsAssembledAt registered old new held one
-      → AreRepliesBy registered old new held step → value ≡ reply_to step command one
-  pub left : (held : ℕ → Keyspace C) (one : Keyspace C) → IsAssembledAt registered old new held one
+  pub reply : (step : Step C) (held : ℕ → Keyspace C) (one : Keyspace C)
+      → IsAssembledAt registered old new held one → AreRepliesBy registered old new held step
+      → value ≡ reply_to step command one
+  pub left : (step : Step C) (held : ℕ → Keyspace C) (one : Keyspace C)
+      → IsAssembledAt registered old new held one
       → IsLeftAfter registered old new held step (keyspace_after step command one)

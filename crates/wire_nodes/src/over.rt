@@ -54,7 +54,7 @@ pub fn drive_over<R: Routable, W: Wire, M: Meaning>(
     // Others may write the same keys meanwhile, and replicas may lag. If each node replied to its part
     // by what it held, the reply is that of the unsplit command on that.
     ensures amid { IfOk result (λ value.
-        IsServedAt M.step (registry_in client.old) (R.args command.now)
+        IsServedAt M.Cell (registry_in client.old) (R.args command.now)
         (W.log (wire_in client.old)) (W.log (wire_in client.new)) (view value)) }
     ensures registered { registry_in client.new ≡ registry_in client.old }
 {

@@ -78,7 +78,7 @@ returns-in-Ok-replies_of-clause-made g c =
         gave = subst (λ b. Grew (nodes.gave c.args.nodes.now) (nodes.gave c.send_batches.new.nodes) (answers_in b given c.args.order.now)) c.into_parts-tasks.ensures.batches c.in_default.ensures.gave;
       };
       replies_are = replies_are;
-      amid = served_amid nodes.step (nodes.registered c.args.nodes.now) c.in-Ok.plan.splits sendable.of_commands.tasks given replies sendable.of_commands.splits_are replies_are;
+      amid = served_amid nodes.Cell (nodes.registered c.args.nodes.now) c.in-Ok.plan.splits sendable.of_commands.tasks given replies sendable.of_commands.splits_are replies_are;
     }
 
 pub returns-clause-given : goal.returns-clause-given

@@ -13,7 +13,7 @@ use Rattle.redis_cluster.specs.Faults.{fault_of_plan, unseen, IsCauseBeforeSendi
 use Rattle.redis_cluster.specs.declared.fault.DriveFault.{DriveFault}
 use Rattle.redis_routing.specs.Command.{Arguments}
 use Rattle.redis_cluster.specs.Amid.{IsServedAmid}
-use Rattle.redis_cluster.proofs.Amid.{are_parts_of}
+use Rattle.redis_cluster.proofs.Amid.{are_its_parts}
 use Rattle.redis_cluster.proofs.Gaps.{same_command}
 use Rattle.redis_cluster.proofs.TriedOnce.{early_fault, early_cut, early_plan}
 use Rattle.redis_cluster.specs.Ready.{IsPlanFor, IsPlanNode}
@@ -158,11 +158,11 @@ pub returns-in-Ok-clause-amid : goal.returns-in-Ok-clause-amid
 returns-in-Ok-clause-amid g c =
     let nodes = g.N.Nodes in
     IfOk-weaker c.drive_plan.result _ _
-    (λ value. subst (λ (args : Arguments). IsServedAmid nodes.step (nodes.registered c.args.nodes.now) args c.args.order.now (nodes.gave c.args.nodes.now) (nodes.gave c.drive_plan.new.nodes) (view value)) c.in-Ok.ensures.arguments)
+    (λ value. subst (λ (args : Arguments). IsServedAmid nodes.Cell (nodes.registered c.args.nodes.now) args c.args.order.now (nodes.gave c.args.nodes.now) (nodes.gave c.drive_plan.new.nodes) (view value)) c.in-Ok.ensures.arguments)
     c.drive_plan.ensures.amid
 
 pub returns-in-Ok-clause-parts : goal.returns-in-Ok-clause-parts
-returns-in-Ok-clause-parts g c = λ command is. are_parts_of g.N.Nodes.step command (g.N.Nodes.registered c.args.nodes.now) (g.R.Routable.args c.args.command.now) is
+returns-in-Ok-clause-parts g c = λ command is. are_its_parts g.N.Nodes.Cell command (g.N.Nodes.registered c.args.nodes.now) (g.R.Routable.args c.args.command.now) is
 
 pub returns-in-Err-clause-parts : goal.returns-in-Err-clause-parts
-returns-in-Err-clause-parts g c = λ command is. are_parts_of g.N.Nodes.step command (g.N.Nodes.registered c.args.nodes.now) (g.R.Routable.args c.args.command.now) is
+returns-in-Err-clause-parts g c = λ command is. are_its_parts g.N.Nodes.Cell command (g.N.Nodes.registered c.args.nodes.now) (g.R.Routable.args c.args.command.now) is

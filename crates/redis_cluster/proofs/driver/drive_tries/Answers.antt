@@ -101,7 +101,7 @@ returns-in-Ok-clause-amid g c =
     let told = c.in_default.ensures.told in
     let made = c.in-Ok.ensures.joined told.values told.all_told in
     let plan : Plan = c.args.plan in
-    served_amid g.N.Nodes.step (g.N.Nodes.registered c.args.nodes.now) plan c.requires.command.0 c.args.order.now (g.N.Nodes.gave c.args.nodes.now) (g.N.Nodes.gave c.send_all.new.nodes) (view c.in-Ok.reply) (map view told.values)
+    served_amid g.N.Nodes.Cell (g.N.Nodes.registered c.args.nodes.now) plan c.requires.command.0 c.args.order.now (g.N.Nodes.gave c.args.nodes.now) (g.N.Nodes.gave c.send_all.new.nodes) (view c.in-Ok.reply) (map view told.values)
     c.requires.command.1
     (subst IsSplit c.in_default.ensures.plan c.len-answered.ensures.plan.split)
     c.requires.order

@@ -15,7 +15,7 @@ use Rattle.redis_cluster.specs.declared.fault.DriveFault.{DriveFault}
 use Rattle.redis_cluster.specs.declared.fault.DriveFault.TheVariants.{Memory}
 use Rattle.redis_routing.specs.Command.{Arguments}
 use Rattle.redis_cluster.specs.Amid.{IsServedAmid}
-use Rattle.redis_cluster.proofs.Amid.{are_parts_of}
+use Rattle.redis_cluster.proofs.Amid.{are_its_parts}
 use Rattle.redis_cluster.proofs.Gaps.{same_command}
 use Rattle.redis_cluster.proofs.EachTry.{each_try, each_named}
 use Rattle.redis_cluster.proofs.Allowed.{allowed_none}
@@ -247,14 +247,14 @@ pub returns-in-Ok-retries_of-clause-amid : goal.returns-in-Ok-retries_of-clause-
 returns-in-Ok-retries_of-clause-amid g c =
     let nodes = g.N.Nodes in
     IfOk-weaker c.drive_tries.result _ _
-    (λ value. subst (λ (args : Arguments). IsServedAmid nodes.step (nodes.registered c.args.nodes.now) args c.args.order.now (nodes.gave c.args.nodes.now) (nodes.gave c.drive_tries.new.nodes) (view value)) c.in-Ok.ensures.split.arguments)
+    (λ value. subst (λ (args : Arguments). IsServedAmid nodes.Cell (nodes.registered c.args.nodes.now) args c.args.order.now (nodes.gave c.args.nodes.now) (nodes.gave c.drive_tries.new.nodes) (view value)) c.in-Ok.ensures.split.arguments)
     c.drive_tries.ensures.amid
 
 pub returns-in-Ok-retries_of-clause-parts : goal.returns-in-Ok-retries_of-clause-parts
-returns-in-Ok-retries_of-clause-parts g c = λ command is. are_parts_of g.N.Nodes.step command (g.N.Nodes.registered c.args.nodes.now) (g.R.Routable.args c.args.command.now) is
+returns-in-Ok-retries_of-clause-parts g c = λ command is. are_its_parts g.N.Nodes.Cell command (g.N.Nodes.registered c.args.nodes.now) (g.R.Routable.args c.args.command.now) is
 
 pub returns-in-Err-clause-parts : goal.returns-in-Err-clause-parts
-returns-in-Err-clause-parts g c = λ command is. are_parts_of g.N.Nodes.step command (g.N.Nodes.registered c.args.nodes.now) (g.R.Routable.args c.args.command.now) is
+returns-in-Err-clause-parts g c = λ command is. are_its_parts g.N.Nodes.Cell command (g.N.Nodes.registered c.args.nodes.now) (g.R.Routable.args c.args.command.now) is
 
 pub returns-in-Err-retries_of-clause-parts : goal.returns-in-Err-retries_of-clause-parts
-returns-in-Err-retries_of-clause-parts g c = λ command is. are_parts_of g.N.Nodes.step command (g.N.Nodes.registered c.args.nodes.now) (g.R.Routable.args c.args.command.now) is
+returns-in-Err-retries_of-clause-parts g c = λ command is. are_its_parts g.N.Nodes.Cell command (g.N.Nodes.registered c.args.nodes.now) (g.R.Routable.args c.args.command.now) is

@@ -13,5 +13,5 @@ pub returns-clause-amid : goal.returns-clause-amid
 returns-clause-amid g c =
     let asked = request (g.R.Routable.args c.args.command.now) (names_of c.args.read_only.now c.args.client.now.registry) c.args.slot_map.now c.args.order.now in
     both _ _ _ c.drive.result
-    (λ value delivered amid. served_at g.M.Meaning.step asked _ (g.W.Wire.log c.args.client.now.wire) (g.W.Wire.log c.drive.new.nodes.wire) (view value) delivered amid)
+    (λ value delivered amid. served_at g.M.Meaning.Cell asked _ (g.W.Wire.log c.args.client.now.wire) (g.W.Wire.log c.drive.new.nodes.wire) (view value) delivered amid)
     c.drive.ensures.delivered c.drive.ensures.amid

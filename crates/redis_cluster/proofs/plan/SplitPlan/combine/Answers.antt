@@ -1,4 +1,4 @@
-use Rattle.std.proofs.Common.{◌≡◌, true, false, Some, Ok, Err, map, sym, ap, ◌∙◌, subst, arith, inl, inr, ⊎_elim}
+use Rattle.std.proofs.Common.{◌≡◌, ℕ, List, Result, true, false, Some, Ok, Err, IfOk, MatchResult, map, sym, ap, ◌∙◌, subst, arith, inl, inr, ⊎_elim}
 use Rattle.std.specs.Prelude.{is_none}
 use Rattle.std.specs.List.{list_any}
 use Rattle.std.proofs.lemmas.Result.{MatchResult-weaker}
@@ -7,6 +7,7 @@ use Rattle.redis_routing.specs.Split.{Split, IsSplit}
 use Rattle.redis_cluster.specs.Unsplit.{reply_by}
 use Rattle.redis_cluster.specs.Joined.{joined}
 use Rattle.redis_cluster.specs.Plan.{Plan, told}
+use Rattle.redis_cluster.proofs.Amid.{reply_amid}
 use Rattle.redis_cluster.proofs.Joined.{arrays_make_lists, joined_is_unsplit}
 use Rattle.redis_cluster.proofs.SplitTuples.{is_split_to}
 use Rattle.redis_cluster.proofs.Told.{all_known, all_set, length-told, none_untold, not_all_told}
@@ -47,6 +48,17 @@ returns-clause-unsplit g c = λ form results are.
     MatchResult-weaker c.join.result (returns-clause-joined g c are.replies are.all_told)
     (λ value e. let same : Ok (view value) ≡ Ok (reply_by form results) = sym e ∙ right in cc)
     (λ error. ⊎_elim (λ memory. (memory.0, arrays_make_lists c.args.self.split form are.answered.form_is memory.1)) (λ refused. absurd (let no_refusal : Ok (reply_by form results) ≡ Err error.kind = sym right ∙ refused in cc)))
+
+if_ok : {T E : Type 0} (A P : T → Type 0) (B : E → Type 0) (r : Result T E) → ((x : T) → A x → P x) → MatchResult r A B → IfOk r P
+if_ok A P B (Ok x) f is = f x is
+if_ok A P B (Err e) f is = tt
+
+pub returns-clause-amid : goal.returns-clause-amid
+returns-clause-amid g c = λ registered command replies is all.
+    let split : c.self.inside.split ≡ c.args.self.split = ap (λ (p : Plan). p.split) c.self.view_is in
+    if_ok _ _ _ c.join.result
+    (λ value made. reply_amid (List ℕ) registered c.args.self command (view value) (map view replies) is (subst IsSplit split c.self.invariant.0.split) made)
+    (returns-clause-joined g c replies all)
 
 pub returns-clause-untold : goal.returns-clause-untold
 returns-clause-untold g c = λ missing.

@@ -15,6 +15,6 @@ pub returns-clause-amid : goal.returns-clause-amid
 returns-clause-amid g c =
     λ asked before value same delivered amid.
     let log = g.W.Wire.log c.args.self.wire in
-    subst (λ (registered : Registrations). IsServedAmid g.M.Meaning.step registered asked.arguments asked.order (λ replies. replies ≡ replies_in before) (λ replies. replies ≡ replies_in log) value
-    → IsServedAt g.M.Meaning.step registered asked.arguments before log value) same
-    (served_at g.M.Meaning.step asked _ before log value delivered) amid
+    subst (λ (registered : Registrations). IsServedAmid g.M.Meaning.Cell registered asked.arguments asked.order (λ replies. replies ≡ replies_in before) (λ replies. replies ≡ replies_in log) value
+    → IsServedAt g.M.Meaning.Cell registered asked.arguments before log value) same
+    (served_at g.M.Meaning.Cell asked _ before log value delivered) amid
