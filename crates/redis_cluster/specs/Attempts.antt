@@ -21,7 +21,7 @@ is_refused _ = false
 abbrev pub refusals : List Entry → ℕ
 refusals attempts = count_by (λ e. is_refused e.ending) attempts
 
--- how the last of them ended, or the given ending where there is none
+-- how the last of them ended, or the given ending if there are none
 abbrev pub last_or : Option Ending → List Entry → Option Ending
 last_or ending [] = ending
 last_or ending (e ∷ attempts) = last_or (Some e.ending) attempts
@@ -29,8 +29,8 @@ last_or ending (e ∷ attempts) = last_or (Some e.ending) attempts
 abbrev pub last_ending : List Entry → Option Ending
 last_ending attempts = last_or None attempts
 
--- Where the next attempt goes, after so many refusals: behind a redirect to the address that it
--- names, else to the place of that number. Behind an answer or a lost reply there is none.
+-- Where the next attempt goes, after this many refusals. After a redirect it goes to the address of
+-- the redirect, else to the place of that number. After an answer or a lost reply there is none.
 abbrev pub next_place : List Address → ℕ → Option Ending → Option Address
 next_place places count None = slice_get places count
 next_place places count (Some answered) = None
@@ -41,8 +41,8 @@ next_place places count (Some (lost error)) = None
 abbrev pub next_address : List Address → List Entry → Option Address
 next_address places attempts = next_place places (refusals attempts) (last_ending attempts)
 
--- the first attempts of a route: each has its part, and goes where the next one goes after those
--- before it; there is at most one more than it has retries
+-- The first attempts of a route. Each has its part, and goes where the attempts before it lead.
+-- There is at most one more than the route has retries.
 pub record AreBegun (try : Try) (attempts : List Entry) : Type 0 where
   pub part : All (λ e. e.args ≡ try.part) attempts
   pub address : (number : ℕ) (e : Entry) → slice_get attempts number ≡ Some e
@@ -54,13 +54,13 @@ pub record AreAttempts (try : Try) (attempts : List Entry) : Type 0 where
   pub begun : AreBegun try attempts
   pub done : (next_address try.places attempts ≡ None) ⊎ (length attempts ≡ try.retries + 1)
 
--- the first of them, behind which one more may come
+-- the first of them, after which one more may come
 pub record AreUnfinished (try : Try) (attempts : List Entry) : Type 0 where
   pub begun : AreBegun try attempts
   pub next : IsSome (next_address try.places attempts)
   pub fewer : length attempts ≤ try.retries
 
--- attempts of which the last ended so, or where nothing was sent for want of memory, the first ones
+-- attempts of which the last ended so, or the first ones if memory ran out before a send
 abbrev pub AreEndedSo : Try → Option Ending → List Entry → Type 0
 AreEndedSo try None attempts = AreUnfinished try attempts
 AreEndedSo try (Some ending) attempts =
@@ -72,7 +72,7 @@ pub record IsTried (try : Try) (ending : Option Ending) (old new : List Entry) :
   pub grew : new ≡ old ++ attempts
   pub ended : AreEndedSo try ending attempts
 
--- the last send was allowed to end so; where there was none for want of memory, the mark tells it
+-- the last send was allowed to end so; if memory ran out before a send, the mark says so
 abbrev pub IsCause : (ℕ → Ending → Type 0) → ℕ → Bool → Option Ending → Type 0
 IsCause may_refuse entries mark (Some ending) =
     (before : ℕ) → entries ≡ before + 1 → may_refuse before ending

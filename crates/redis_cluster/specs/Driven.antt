@@ -110,14 +110,14 @@ abbrev pub AreAllAnswered : List Entry → List Entry → Type 0
 AreAllAnswered old new =
     (entries : List Entry) × (new ≡ old ++ entries) × All (λ e. e.ending ≡ answered) entries
 
--- no send of those after so many entries may end but with an answer: none may be refused or
--- redirected, or lose its reply
+-- Each of the next sends, after these entries, must be answered: none may be refused or redirected,
+-- or lose its reply.
 abbrev pub AreWilling : (ℕ → Ending → Type 0) → ℕ → ℕ → Type 0
 AreWilling may_refuse entries sends =
     (number : ℕ) → entries ≤ number → number < entries + sends → (ending : Ending)
     → may_refuse number ending → ending ≡ answered
 
--- what is needed beside memory, so that a command is driven to its end: it can be driven, no node
+-- what is needed besides memory, so that a command is driven to its end: it can be driven, no node
 -- refuses or redirects, and no reply is lost
 pub record IsUnhindered (may_refuse : ℕ → Ending → Type 0) (r : Request) (trace : List Entry)
     : Type 0 where

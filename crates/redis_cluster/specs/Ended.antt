@@ -17,9 +17,9 @@ use Rattle.redis_cluster.specs.Tries.{AllTried}
 use Rattle.redis_cluster.specs.declared.fault.DriveFault.{DriveFault}
 use Rattle.redis_cluster.specs.declared.fault.DriveFault.TheVariants.{Memory, Reply}
 
--- the sends stopped after so many answers: the trace has the attempts of each of these routes, and
--- those of the next one; the keyspace is that of the slots that were answered, or after a lost reply
--- that of the next one, too
+-- The sends stopped after `count` answers. The trace has the attempts of each of these routes, and
+-- those of the next one. The keyspace is that of the slots that were answered; after a lost reply
+-- it may be that of the next one, too.
 pub record AreStopped {C : Type 0} (kept : Type 0) (step : Step C) (may_refuse : ℕ → Ending → Type 0)
     (command : MultiKey) (plan : Plan) (tries : List Try) (order : List ℕ) (count : ℕ)
     (old_keys new_keys : Keyspace C) (old new : List Entry) (mark : Bool)

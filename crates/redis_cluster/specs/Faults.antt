@@ -32,7 +32,7 @@ fault_of_send (sent.Redirected redirect) = Redirected redirect
 fault_of_send (sent.Lost error) = Lost error
 fault_of_send sent.Memory = Memory
 
--- why a command has no plan, but for memory
+-- why a command has no plan, except for memory
 abbrev pub IsPlanFault : List (ranges.RangeEntry SlotNodes) → Names → Arguments → PlanFault
     → Type 0
 IsPlanFault entries names args plan.NotMultiKey = command_routes_by names args ≡ None
@@ -54,7 +54,7 @@ IsCauseBeforeSending r (Redirected redirect) = ⊥
 IsCauseBeforeSending r (Lost error) = ⊥
 IsCauseBeforeSending r (Reply error) = ⊥
 
--- the fault is told before the first send, and not because memory ran out
+-- the fault comes before the first send, and not because memory ran out
 abbrev pub IsBefore : DriveFault → Type 0
 IsBefore NotMultiKey = Unit {0}
 IsBefore (NotCovered slot) = Unit {0}
@@ -73,7 +73,7 @@ module _ {C : Type 0} (IsNode : SlotRoute → Address → Type 0) (step : Step C
     pub keyspace : new.keyspace ≡ old.keyspace
     pub trace : new.trace ≡ old.trace
 
-  -- the parts of the first routes of the order, so many, were answered, and no other
+  -- the first `count` parts of the order were answered, and no other
   pub record IsStopped (routes : List SlotRoute) (command : MultiKey) (count : ℕ)
       (trace : List Entry) : Type 0 where
     pub drivable : IsDrivable r routes command
@@ -113,8 +113,8 @@ module _ {C : Type 0} (IsNode : SlotRoute → Address → Type 0) (step : Step C
     pub keyspace : IsLeftBy step old new command (take count (in_order routes r.order))
         ⊎ IsLeftBy step old new command (take (count + 1) (in_order routes r.order))
 
-  -- memory ran out after an answer: at a node, which the mark tells, or in combining all replies to
-  -- a list
+  -- memory ran out after an answer: at a node, as the mark says, or in combining all replies to a
+  -- list
   pub record IsLateMemory (count : ℕ) : Type 0 where
     pub routes : List SlotRoute
     pub command : MultiKey
@@ -122,7 +122,7 @@ module _ {C : Type 0} (IsNode : SlotRoute → Address → Type 0) (step : Step C
     pub stopped : IsStopped routes command count new.trace
     pub cause : (new.mark ≡ true) ⊎ ((command.form ≡ list) × (count ≡ length routes))
 
-  -- the fault has its cause, and so many parts took effect
+  -- the fault has its cause, and exactly the first `count` parts took effect
   abbrev pub IsFault : (may_refuse : ℕ → Ending → Type 0) → DriveFault → ℕ → Type 0
   IsFault may_refuse NotMultiKey count =
       IsCauseBeforeSending r NotMultiKey × IsUntouched count × (new.mark ≡ old.mark)
@@ -156,7 +156,8 @@ module _ (IsNode : SlotRoute → Address → Type 0) (r : Request) (old new : St
     pub stopped : IsStopped IsNode unseen_step r old new routes command count new.trace
     pub all : count ≡ length routes
 
-  -- the fault has its cause, and so many parts were answered, whatever the answers are
+  -- the fault has its cause, and exactly the first `count` parts were answered, whatever the
+  -- answers are
   abbrev pub IsCut : (may_refuse : ℕ → Ending → Type 0) → DriveFault → ℕ → Type 0
   IsCut may_refuse (Reply error) count = IsMisfit count
   IsCut may_refuse fault count = IsFault IsNode unseen_step r old new may_refuse fault count

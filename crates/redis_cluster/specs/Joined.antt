@@ -14,7 +14,7 @@ use Rattle.redis_cluster.specs.Orders.{in_order}
 use Rattle.redis_routing.specs.Complete.{multi_slot_routes, pattern_by_name}
 use Rattle.redis_routing.specs.Split.{Split, policy_by_name}
 
--- the reply, or a refusal of this kind where there is none
+-- the reply, or a refusal of this kind if there is no reply
 abbrev pub or_refused : ErrorKind → Option Reply → Result Reply ErrorKind
 or_refused kind None = Err kind
 or_refused kind (Some reply) = Ok reply

@@ -31,8 +31,8 @@ pub data ReplyForm : Type 0 where
   count : ReplyForm
   okay : ReplyForm
 
--- the name in upper case, what it is registered with, where it is no name of the tables, the last
--- argument where all keys share it, the tuples in order, and the form of the reply
+-- the name in upper case, what it is registered with if the tables do not have it, the last
+-- argument if all keys share it, the tuples in order, and the form of the reply
 pub record MultiKey : Type 0 where
   pub name : List ℕ
   pub registered : Option Registered
@@ -58,7 +58,7 @@ shape_of KeyValuePairs = record { width = 2; shared = 0 }
 shape_of KeysAndLastArg = record { width = 1; shared = 1 }
 shape_of KeyWithTwoArgTriples = record { width = 3; shared = 0 }
 
--- whether so many arguments are complete: without the shared ones they make whole tuples, and at
+-- whether this many arguments are complete: without the shared ones they make whole tuples, and at
 -- least one
 abbrev pub is_whole : Shape → ℕ → Bool
 is_whole shape len =
@@ -97,9 +97,9 @@ abbrev pub form_of_policy : Option ResponsePolicy → Option ReplyForm
 form_of_policy None = None
 form_of_policy (Some policy) = form_by_policy policy
 
--- A complete multi-key command. There is none where the name is not one of those that split by
--- slot, by the tables or as it is registered, where the arguments after it, up to the first gap,
--- make no whole tuples, or where the argument that all keys share is missing.
+-- A complete multi-key command. There is none if the name is not split by slot, by the tables or as
+-- it is registered. Nor is there one if the arguments after it, up to the first gap, make no whole
+-- tuples, or if the argument that all keys share is missing.
 abbrev pub multi_key : Registrations → Arguments → Option MultiKey
 multi_key registered args =
     command_with registered (command_name args) (present_arguments args)
@@ -125,7 +125,7 @@ part_of command slot =
 abbrev pub slots_in : MultiKey → List ℕ
 slots_in command = first_appearances (map (λ t. key_slot t.key) command.tuples)
 
--- one route for each of its slots, to a replica too where the name only reads
+-- one route for each of its slots, to a replica too if the name only reads
 abbrev pub command_routes : (List ℕ → Bool) → MultiKey → List SlotRoute
 command_routes only_reads command =
     map (λ slot. record { slot = slot; addr = nodes_for (only_reads command.name) })
@@ -146,7 +146,7 @@ abbrev pub part_args_in : Arguments → Option MultiKey → ℕ → Arguments
 part_args_in args None slot = []
 part_args_in args (Some command) slot = part_args args command slot
 
--- the arguments of a slot's part of these arguments, where they are a multi-key command
+-- the arguments of a slot's part of these arguments, if they are a multi-key command
 abbrev pub part_by_slot : Registrations → Arguments → ℕ → Arguments
 part_by_slot registered args slot = part_args_in args (multi_key registered args) slot
 

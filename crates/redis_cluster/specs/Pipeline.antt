@@ -27,7 +27,7 @@ is_ignored pipeline index = slice_index_or (map (λ c. c.1) pipeline) index fals
 abbrev pub command_named : List ℕ → CommandWords × Bool
 command_named name = (name ∷ [], false)
 
--- the list with its last item changed, where it has one
+-- the list with its last item changed, if it has one
 abbrev pub on_last : {A : Type 0} → (A → A) → List A → List A
 on_last change [] = []
 on_last change (x ∷ []) = change x ∷ []

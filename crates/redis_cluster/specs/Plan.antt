@@ -15,8 +15,8 @@ use Rattle.redis_cluster.specs.Orders.{in_order}
 use Rattle.redis_cluster.specs.SlotResults.{results_of_slot}
 use Rattle.redis_cluster.specs.Unsplit.{TupleResult, reply_by}
 
--- the command with its routes, and for each route its node, its part, and its reply, if that was
--- told
+-- the command with its routes, and for each route its node, its part, and its reply, if the plan
+-- has it
 pub record Plan : Type 0 where
   pub split : Split
   pub nodes : List Address
@@ -30,7 +30,7 @@ pub record IsPlan (plan : Plan) : Type 0 where
   pub parts : map (map Some) plan.parts ≡ map (split_part plan.split) (slots_of plan.split.routes)
   pub replies : length plan.replies ≡ length plan.split.routes
 
--- the replies that were told
+-- the replies that a plan has
 abbrev pub told : List Bool → List Value → List (Option Value)
 told are_told replies = map (λ p. cond p.0 (Some p.1) None) (zip are_told replies)
 
@@ -39,7 +39,7 @@ abbrev pub tuples_in_split : Split → List KeyTuple
 tuples_in_split split =
     tuples_of split.pattern (present_arguments split.arguments)
 
--- These are the replies to the parts, where the tuples of the unsplit command have these results.
+-- These are the replies to the parts, if the tuples of the unsplit command have these results.
 pub record ArePartsAnswered (split : Split) (form : ReplyForm) (results : List TupleResult)
     (replies : List Reply) : Type 0 where
   pub form_is : form_by_policy split.policy ≡ Some form
@@ -48,15 +48,15 @@ pub record ArePartsAnswered (split : Split) (form : ReplyForm) (results : List T
       (λ slot. reply_by form (results_of_slot slot (tuples_in_split split) results))
       (slots_of split.routes)
 
--- All replies of the plan were told, and these are they.
+-- The plan has all replies, and these are they.
 pub record ArePartReplies (plan : Plan) (form : ReplyForm) (results : List TupleResult)
     : Type 0 where
   pub replies : List Value
   pub all_told : plan.replies ≡ map Some replies
   pub answered : ArePartsAnswered plan.split form results (map view replies)
 
--- All replies of the plan were told; in the order in which they came, these may be what the nodes
--- gave after what they gave before.
+-- The plan has all replies. In the order in which they came, these may be what the nodes gave after
+-- what they gave before.
 pub record AreGiven (old new : List Reply → Type 0) (routes : List (SlotRoute × List ℕ))
     (replies : List (Option Value)) (order : List ℕ) : Type 0 where
   pub values : List Value
@@ -64,8 +64,8 @@ pub record AreGiven (old new : List Reply → Type 0) (routes : List (SlotRoute 
   pub each : length values ≡ length routes
   pub gave : (before : List Reply) → old before → new (before ++ in_order (map view values) order)
 
--- The nodes gave so many replies after what they gave before: these may be they, in the order in
--- which they came.
+-- The nodes gave `count` replies after what they gave before. In the order in which they came,
+-- these may be they.
 pub record HaveGiven (old new : List Reply → Type 0) (count : ℕ) : Type 0 where
   pub replies : List Reply
   pub each : length replies ≡ count

@@ -1,5 +1,5 @@
--- What a multi-key command leaves at the nodes, and answers, when its parts were sent, and sent
--- again where a node refused or redirected them.
+-- What a multi-key command leaves at the nodes, and answers, if its parts were sent, and sent again
+-- after a node refused or redirected them.
 use Rattle.std.specs.Prelude.{◌≡◌, ℕ, ◌+◌, ◌⊎◌, List, [], ◌∷◌, Option, None, Some, map, length, take, slice_get}
 use Rattle.resp_core.specs.Reply.{Reply}
 use Rattle.cluster_slots.specs.Address.{Address}
@@ -16,7 +16,7 @@ use Rattle.redis_cluster.specs.Faults.{IsCauseBeforeSending, unseen_step}
 use Rattle.redis_cluster.specs.declared.fault.DriveFault.{DriveFault}
 use Rattle.redis_cluster.specs.declared.fault.DriveFault.TheVariants as drive
 
--- What is tried for a route: its own part, at a node of the route, and behind it the addresses that
+-- What is tried for a route: its own part, at a node of the route, and then at the addresses that
 -- the map has to fall back on.
 pub record IsTryOf (IsNode : SlotRoute → Address → Type 0) (r : Request) (retries : ℕ)
     (route : SlotRoute) (try : Try) : Type 0 where
@@ -55,7 +55,7 @@ module _ (IsTry : SlotRoute → Try → Type 0) where
       pub keyspace : new.keyspace ≡ keyspace_after step command old.keyspace
       pub reply : value ≡ reply_to step command old.keyspace
 
-    -- the keyspace is that of the first routes; where a reply was lost, it may be that of one more
+    -- the keyspace is that of the first routes; if a reply was lost, it may be that of one more
     abbrev pub IsLeftSo : Option Ending → MultiKey → (routes more : List SlotRoute) → Type 0
     IsLeftSo None command routes more = IsLeftBy step old new command routes
     IsLeftSo (Some answered) command routes more = IsLeftBy step old new command routes
@@ -64,8 +64,8 @@ module _ (IsTry : SlotRoute → Try → Type 0) where
     IsLeftSo (Some (lost error)) command routes more =
         IsLeftBy step old new command routes ⊎ IsLeftBy step old new command more
 
-    -- The parts of the first routes of the order, so many, were answered, and the attempts of the
-    -- next route ended so, or were cut short by want of memory. No later part was sent.
+    -- The first `count` parts of the order were answered. The attempts of the next route ended so,
+    -- or were cut short by want of memory. No later part was sent.
     pub record IsStoppedAt (may_refuse : ℕ → Ending → Type 0) (ending : Option Ending)
         (count : ℕ) : Type 0 where
       pub routes : List SlotRoute
@@ -98,7 +98,7 @@ module _ (IsTry : SlotRoute → Try → Type 0) where
     abbrev pub IsAsBefore : ℕ → Type 0
     IsAsBefore count = (count ≡ 0) × (new ≡ old)
 
-    -- the fault has its cause, and so many parts took effect
+    -- the fault has its cause, and exactly the first `count` parts took effect
     abbrev pub IsRetryFault : (may_refuse : ℕ → Ending → Type 0) → DriveFault → ℕ → Type 0
     IsRetryFault may_refuse drive.NotMultiKey count = IsCauseBeforeSending r drive.NotMultiKey × IsAsBefore count
     IsRetryFault may_refuse (drive.NotCovered slot) count =
@@ -114,7 +114,8 @@ module _ (IsTry : SlotRoute → Try → Type 0) where
     -- the replies to the parts of a command always fit
     IsRetryFault may_refuse (drive.Reply error) count = ⊥
 
-  -- the fault has its cause, and so many parts were answered, whatever the answers are
+  -- the fault has its cause, and exactly the first `count` parts were answered, whatever the
+  -- answers are
   abbrev pub IsRetryCut : (r : Request) (old new : State (Unit {0}))
       → (may_refuse : ℕ → Ending → Type 0) → DriveFault → ℕ → Type 0
   IsRetryCut r old new may_refuse (drive.Reply error) count =

@@ -16,8 +16,8 @@ pub record Attempt : Type 0 where
   pub fallback : List Address
   pub left : ℕ
 
--- a retry of a route that begins at a node: behind it come the addresses that the map has to fall
--- back on
+-- A retry of a route begins at a node. After it come the addresses that the map has to fall back
+-- on.
 pub record IsRetryOf (map : List (ranges.RangeEntry SlotNodes)) (retries : ℕ) (at : SlotRoute × Address)
     (retry : Attempt) : Type 0 where
   pub target : retry.target ≡ Some at.1

@@ -4,8 +4,8 @@ use Rattle.resp_core.specs.ErrorParts.{ErrorParts}
 use Rattle.cluster_slots.specs.Address.{Address}
 use Rattle.redis_routing.specs.declared.info.Redirect.{Redirect}
 
--- how a send ended: with an answer, refused with an error, sent on by a redirect, or with no reply
--- but an error that tells why, where nobody knows whether it took effect
+-- How a send ended: with an answer, refused with an error, sent on by a redirect, or with no reply
+-- but an error. Nobody knows whether a send without a reply took effect.
 pub data Ending : Type 0 where
   answered : Ending
   refused : ErrorParts → Ending

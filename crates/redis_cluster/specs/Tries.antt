@@ -20,7 +20,7 @@ try_by part retry =
 abbrev pub try_once : Address → List (List ℕ) → Try
 try_once node part = record { part = part; places = node ∷ []; retries = 0 }
 
--- a part goes where its retry says, or once to its node where it has none
+-- a part goes where its retry says, or once to its node if it has none
 abbrev pub try_with : Target → Option Attempt → Try
 try_with target None = try_once target.0 target.1
 try_with target (Some retry) = try_by target.1 retry

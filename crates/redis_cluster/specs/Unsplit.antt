@@ -1,5 +1,5 @@
--- What a multi-key command does to a keyspace and answers where one server runs it whole: its
--- tuples one after the other, each on the cell of its own key.
+-- What a multi-key command does to a keyspace and answers if one server runs it whole: its tuples
+-- one after the other, each on the cell of its own key.
 use Rattle.std.specs.Prelude.{ℕ, pos, List, [], ◌∷◌, map, cond, Bool, Option, count_by}
 use Rattle.std.specs.Str.{bytes_eq}
 use Rattle.resp_core.specs.Reply.{Reply, int, array, replies_of}

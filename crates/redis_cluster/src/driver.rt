@@ -51,34 +51,32 @@ use std::alloc::Global;
 /// )
 /// ```
 ///
-/// The command is split by slot. There is one route for each slot of a key, numbered by the first
-/// key of each, and one part for each route, which has the tuples of the slot in their order. The
-/// parts go out in `order`, a list that names each route number once. Each goes to the primary of
-/// its slot or, where the name only reads and a strategy is lent, to the node that the strategy
-/// picks. `pick` decides nothing here, since no route of a split requires a replica.
-/// `DEL foo bar baz {bar}vaz` goes out as `DEL foo`, `DEL bar {bar}vaz` and `DEL baz`, and the
-/// counts are added up.
+/// The command is split by slot. Each slot of a key has one route, numbered by the first key of
+/// each. Each route has one part, with the tuples of the slot in their order. The parts go out in
+/// `order`, a list that has each route number once. Each goes to the primary of its slot. If the
+/// name only reads and a strategy is passed, it goes to the node that the strategy picks. `pick`
+/// decides nothing here, since no route of a split requires a replica. `DEL foo bar baz {bar}vaz`
+/// goes out as `DEL foo`, `DEL bar {bar}vaz` and `DEL baz`, and the counts are added up.
 ///
-/// If it returns a reply, each part went once, and the reply is built from the replies that the nodes
-/// gave. Other clients may write the same keys meanwhile, and replicas may lag. Each node runs its
-/// part at one moment, on what it holds then. The reply is that of the unsplit command on a server
-/// that has, at each key, what the key's node held at that moment. What the command leaves there is,
-/// at each key, what the node held right after the part.
+/// If it returns a reply, each part went once, and the reply is built from the replies that the
+/// nodes gave. Other clients may write the same keys meanwhile, and replicas may lag. Each node
+/// runs its part at one moment, on what it holds then. The reply is that of the unsplit command on
+/// a server that has, at each key, what the key's node held at that moment. What the command leaves
+/// there is, at each key, what the node held right after the part.
 ///
-/// If nobody else writes these keys meanwhile, that is what stood at the call. So keyspace and reply
-/// are those of the unsplit command, whatever it does to a single key, whatever the order. Arguments
-/// from the first gap on are not sent.
+/// If nobody else writes these keys meanwhile, that is what stood at the call. So keyspace and
+/// reply are those of the unsplit command, whatever it does to a single key, whatever the order.
+/// Arguments from the first gap on are not sent.
 ///
 /// # Errors
 ///
-/// In this order: `NotMultiKey` where the command is not complete, `NotCovered` where a slot of a
-/// key has no node, `BadOrder` where the order does not name each route once. Nothing was sent
-/// then. `Node` is what a node refused: the parts of the order before it were answered, and no later
-/// one is sent. `Redirected` is where a node sent the client on, as by `MOVED`, and says the same as
-/// `Node`. `Lost` is a part whose reply did not come: those before it were answered, it may
-/// have taken effect, and no later one is sent. `Memory` is told after any number of answers. What
-/// was answered took effect where the nodes kept to one meaning. `Reply` does not come from such
-/// nodes.
+/// In this order: `NotMultiKey` if the command is not complete, `NotCovered` if a slot of a key has
+/// no node, `BadOrder` if the order does not have each route once. Nothing was sent then. `Node` is
+/// an error that a node refused a part with. `Redirected` is a node that sent the client on, as by
+/// `MOVED`. The parts before it in the order were answered, and no later one is sent. After `Lost`,
+/// whose reply did not come, the part may have taken effect, too. `Memory` may come after any
+/// number of answers. If the nodes kept to one meaning, what was answered took effect, and `Reply`
+/// does not come.
 pub fn drive<R: Routable, N: Nodes>(
     alloc: Global,
     command: &R,
@@ -111,51 +109,50 @@ pub fn drive<R: Routable, N: Nodes>(
     ensures amid { IfOk result (λ value.
         IsServedAmid N.Cell (N.registered nodes.old) (R.args command.now) order.now
         (N.gave nodes.old) (N.gave nodes.new) (view value)) }
-    // The headline: where the nodes keep to one meaning over one keyspace, each part went once, in
-    // the order given, to a node of its route, and the keyspace and the reply are those of the
-    // unsplit command.
+    // The headline: if the nodes keep to one meaning over one keyspace, each part went once, in the
+    // order given, to a node of its route. The keyspace and the reply are those of the unsplit
+    // command.
     ensures driven { IfOk result (λ value. N.kept nodes.new →
         IsDriven (IsRouteNode strategy.entry (λ s. picks s.now) slot_map.now pick) N.step
         (request (R.args command.now) (names_of read_only.now (N.registered nodes.old))
         slot_map.now order.now)
         (N.state nodes.old) (N.state nodes.new)
         (view value)) }
-    // There is a reply where the command can be driven, no node may refuse or redirect and no reply
-    // may be lost, unless memory runs out. Of connections nobody knows that: see `carried`.
+    // There is a reply if the command can be driven, no node may refuse or redirect, and no reply
+    // may be lost, unless memory runs out. Nobody knows that of connections: see `carried`.
     ensures headline { IsUnhindered (N.may_refuse nodes.old)
         (request (R.args command.now) (names_of read_only.now (N.registered nodes.old))
         slot_map.now order.now)
         (N.state nodes.old).trace → IfErr result (λ e. N.kept nodes.new → e.fault ≡ DriveFault.Memory) }
-    // And where each send was answered, whatever nodes may refuse.
+    // And if each send was answered, whatever nodes may refuse.
     ensures carried { (routes : List SlotRoute) (c : MultiKey) → IsDrivable
         (request (R.args command.now) (names_of read_only.now (N.registered nodes.old))
         slot_map.now order.now) routes c
         → AreAllAnswered (N.state nodes.old).trace (N.state nodes.new).trace
         → IfErr result (λ e. N.kept nodes.new → e.fault ≡ DriveFault.Memory) }
-    // So many parts were answered, and no other, whatever the answers are.
+    // On error, exactly the first `answered` parts were answered, whatever the answers are.
     ensures cut { IfErr result (λ e.
         IsCut (IsRouteNode strategy.entry (λ s. picks s.now) slot_map.now pick)
         (request (R.args command.now) (names_of read_only.now (N.registered nodes.old))
         slot_map.now order.now)
         (unseen (N.state nodes.old)) (unseen (N.state nodes.new))
         (N.may_refuse nodes.old) e.fault e.answered) }
-    // Each fault but out of memory before any answer has its cause, and what was answered
-    // stands.
+    // Each fault has its cause, except out of memory before any answer. What was answered stands.
     ensures fault { IfErr result (λ e. N.kept nodes.new →
         IsFault (IsRouteNode strategy.entry (λ s. picks s.now) slot_map.now pick) N.step
         (request (R.args command.now) (names_of read_only.now (N.registered nodes.old))
         slot_map.now order.now)
         (N.state nodes.old) (N.state nodes.new)
         (N.may_refuse nodes.old) e.fault e.answered) }
-    // These may be the replies that the nodes gave: one to each part that was answered.
+    // These may be the replies that the nodes gave, one to each part that was answered.
     ensures given { IfErr result
         (λ e. HaveGiven (N.gave nodes.old) (N.gave nodes.new) e.answered) }
-    // The nodes are as they were where the command, the map or the order is at fault.
+    // The nodes are as they were if the command, the map or the order is at fault.
     ensures untouched { IfErr result (λ e. IsBefore e.fault → nodes.new ≡ nodes.old) }
     // Nodes that kept to it now did so before.
     ensures kept { N.kept nodes.new → N.kept nodes.old }
-    // So does the keyspace: each part that `delivered` or `cut` says was answered left at its keys what
-    // the unsplit command leaves there, whatever became of the other parts.
+    // Each part that was answered, as `delivered` or `cut` says, left at its keys what the unsplit
+    // command leaves there, whatever became of the other parts.
     ensures parts { (c : MultiKey) → multi_key (N.registered nodes.old) (R.args command.now) ≡ Some c
         → AreItsParts N.Cell (N.registered nodes.old) (R.args command.now) c }
     // A command with gaps and its front have the same tuples, routes and parts.
@@ -179,7 +176,7 @@ pub fn drive<R: Routable, N: Nodes>(
     }
 }
 
-/// The plan of a command, where the order names its routes.
+/// The plan of a command, if the order has its routes.
 pub(super) fn plan_in_order<'a, R: Routable, N: Nodes>(
     alloc: Global,
     command: &'a R,
@@ -220,9 +217,9 @@ pub(super) fn plan_in_order<'a, R: Routable, N: Nodes>(
     }
 }
 
-/// Sends the parts of a plan in an order, each once, and gives what `drive` gives for the command
-/// that the plan is of: `drive` makes a plan and calls this. A client whose order depends on the
-/// number of routes makes the plan first, by the names that the nodes have registered:
+/// Sends the parts of a plan in an order, each once, and returns what `drive` returns for the
+/// command of the plan. `drive` makes a plan and calls this. If your order depends on the number of
+/// routes, make the plan first, by the names that the nodes have registered:
 ///
 /// ```
 /// let plan = SplitPlan::new(alloc, command, names, slot_map, None, 0)?;
@@ -232,7 +229,7 @@ pub(super) fn plan_in_order<'a, R: Routable, N: Nodes>(
 ///
 /// # Errors
 ///
-/// `BadOrder` where the order does not name each route once: nothing was sent. The other faults are
+/// `BadOrder` if the order does not have each route once: nothing was sent. The other faults are
 /// those of `drive`, and what stands then is what it says.
 pub fn drive_plan<R: Routable, N: Nodes>(
     alloc: Global,
@@ -242,7 +239,7 @@ pub fn drive_plan<R: Routable, N: Nodes>(
 ) -> Result<Value, DriveError>
     // It is of a complete command, as each plan that `SplitPlan::new` made,
     requires command { (c : MultiKey) × IsPlanOf (N.registered nodes.old) c plan }
-    // and no reply was told yet.
+    // and no reply was given to it yet.
     requires untold { plan.replies ≡ map (λ route. None) plan.split.routes }
     // For each request that the plan is of, each part goes to the plan's own node of its route.
     ensures delivered { IfOk result (λ value.
@@ -259,7 +256,7 @@ pub fn drive_plan<R: Routable, N: Nodes>(
         × ((before : List Reply) → N.gave nodes.old before
         → N.gave nodes.new (before ++ in_order replies order.now))
         × (joined plan.entry.split replies ≡ Err error.kind)) }
-    // The reply where others write the same keys meanwhile, as `drive` has it.
+    // The reply if others write the same keys meanwhile, as `drive` has it.
     ensures amid { IfOk result (λ value.
         IsServedAmid N.Cell (N.registered nodes.old) plan.entry.split.arguments order.now
         (N.gave nodes.old) (N.gave nodes.new) (view value)) }

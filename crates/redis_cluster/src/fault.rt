@@ -78,9 +78,9 @@ pub enum DriveFault {
     Reply(RedisError),
 }
 
-/// Why a command was not driven to its end, and how many of its parts were answered: the first ones
-/// of the order, and no other. These took effect where the nodes kept to their meaning. After
-/// `Lost` the next one may have taken effect, too.
+/// Why a command was not driven to its end, and how many of its parts were answered: exactly the
+/// first ones of the order. These took effect if the nodes kept to their meaning. After `Lost` the
+/// next one may have taken effect, too.
 #[derive(Debug, Drop)]
 pub struct DriveError {
     /// Why it was not driven to its end.

@@ -25,8 +25,8 @@ pub enum SendError {
     /// The node sent the client on to another address, as by `MOVED` or `ASK`. Nodes that keep to
     /// their meaning did nothing then.
     Redirected(Redirect),
-    /// No reply came, as where time ran out after the command was written. Whether it took effect is
-    /// not known.
+    /// No reply came, as if time ran out after the command was written. Nobody knows whether it
+    /// took effect.
     Lost(RedisError),
     /// Memory ran out before anything was sent.
     Memory,
@@ -56,9 +56,9 @@ impl Error for SendError {}
 
 /// Nodes of one cluster, to which multi-key commands are sent.
 ///
-/// `send` is all that a client writes. The rest is named by contracts alone: what commands mean,
-/// and what the nodes hold, have been sent and may refuse. Where they keep to their meaning, all
-/// nodes share one keyspace: a command has the same effect and reply whichever node is named.
+/// `send` is all that a client writes. Contracts alone name the rest: what commands mean, what the
+/// nodes hold, what was sent, and what nodes may refuse. If nodes keep to their meaning, all share
+/// one keyspace. A command then has the same effect and reply at each node.
 pub trait Nodes {
     /// What stands at a key.
     ghost Cell: { Type 0 };
@@ -66,31 +66,31 @@ pub trait Nodes {
     /// What one key of a command does to its cell and adds to the reply.
     ghost step: { Step Cell };
 
-    /// Which names are registered, beside those of the tables. No send changes them.
+    /// Which names are registered, besides those of the tables. No send changes them.
     ghost registered: { Self → Registrations };
 
     /// What the nodes hold, what was sent so far, and whether the last send ran out of memory.
     ghost state: { Self → State Cell };
 
-    /// Whether the send that finds so many entries in the trace may end so, without an answer: by
-    /// this refusal, this redirect, or this loss.
+    /// Whether a send may end without an answer, by this refusal, redirect or loss. The number is
+    /// how many entries the trace has before it.
     ghost may_refuse: { Self → ℕ → Ending → Type 0 };
 
     /// So far the nodes answered by that meaning, over one keyspace, and what they refused did
-    /// nothing. What a connection gives nobody can prove, so for a real client this is a premise;
-    /// where an `impl` does not write it, its `send` ensures it always. It holds before the first
-    /// send, and ends only with a value of another meaning, or a refusal or redirect that changed
-    /// the keyspace.
+    /// nothing. Nobody can prove that of a connection, so for a real client it is a premise. If an
+    /// `impl` does not write it, its `send` ensures it always. It holds before the first send. It
+    /// ends only with a value of another meaning, or with a refusal or redirect that changed the
+    /// keyspace.
     ghost kept: { Self → Type 0 } = { λ _. Unit {0} };
 
     /// Whether these may be the replies so far, in the order in which they came.
     ghost gave: { Self → List Reply → Type 0 } = { λ _ _. Unit {0} };
 
-    /// What one send may do: the nodes before, the address, the command, what came back, and the
-    /// nodes after. No nodes have to say it.
+    /// What one send may do: the nodes before, the address, the command, the outcome, and the nodes
+    /// after. No nodes have to say it.
     ghost went: { Self → Address → List (List ℕ) → Result Held Unsent → Self → Type 0 } = { λ _ _ _ _ _. Unit {0} };
 
-    /// The registered names: a command of one of them is split and sent too.
+    /// The registered names. A command of such a name is split and sent, too.
     fn registry(&self) -> &Registry
         ensures { result.now ≡ registered self.now };
 
@@ -99,9 +99,9 @@ pub trait Nodes {
     ///
     /// # Errors
     ///
-    /// `Refused` where the node refused the command, and `Redirected` where it sent the client on:
-    /// the keyspace stays. `Lost` where no reply came: the keyspace is as it was, or as the command
-    /// leaves it. `Memory` where memory ran out: nothing was sent.
+    /// `Refused` if the node refused the command, and `Redirected` if it sent the client on: the
+    /// keyspace stays. `Lost` if no reply came: the keyspace is as it was, or as the command leaves
+    /// it. `Memory` if memory ran out: nothing was sent.
     fn send(&mut self, node: &NodeAddress, cmd: &Cmd) -> Result<Value, SendError>
         requires part { IsPart (registered self.old) (map Some cmd.now) }
         ensures reply { IfOk result
@@ -118,10 +118,10 @@ pub trait Nodes {
             IfSome (multi_key (registered self.old) (map Some cmd.now))
             (λ command. kept self.old → view value ≡ reply_to step command (state self.old).keyspace
             → kept self.new)) }
-        // and where no value came, unless a refused or redirected command did something.
+        // and if no value came, unless a refused or redirected command did something.
         ensures kept_unanswered { IfErr result (λ error. kept self.old
             → IsIdleIfRefused (state self.old).keyspace (state self.new).keyspace error → kept self.new) }
-        // Where nothing was sent, it may be that no reply came.
+        // If nothing was sent, it may be that no reply came.
         ensures gave_at_first { (state self.old).trace ≡ [] → gave self.old [] }
         ensures gave { IfOk result (λ value. (replies : List Reply) → gave self.old replies
             → gave self.new (replies ++ view value ∷ [])) }

@@ -9,7 +9,7 @@ use std::alloc::{AllocError, Global};
 ///
 /// # Errors
 ///
-/// Out of memory, where the order has `count` numbers: it takes a byte for each.
+/// Out of memory, if the order has `count` numbers: it takes a byte for each.
 pub fn names_once(alloc: Global, count: usize, order: &[usize]) -> Result<bool, AllocError>
     ensures { IfOk result (λ names. IsTrue names ↔ NamesOnce count order.now) }
 {

@@ -62,7 +62,7 @@ impl ClusterPipeline {
         }
     }
 
-    /// A pipeline with room for so many commands.
+    /// A pipeline with room for `capacity` commands.
     ///
     /// # Errors
     ///
@@ -119,8 +119,8 @@ impl ClusterPipeline {
     ///
     /// # Errors
     ///
-    /// Of kind `Client` where there is no command yet, and else if memory runs out. The
-    /// pipeline stays as it was: this is `write_arg`, which says so.
+    /// Of kind `Client` if there is no command yet, and else if memory runs out. The pipeline stays
+    /// as it was: this is `write_arg`, which says so.
     pub fn arg(&mut self, arg: &[u8]) -> RedisResult<&mut Self>
         ensures same_reference { IfOk result (λ pipeline. pipeline.ghost_name
             ≡ self.entry.ghost_name) }
@@ -136,8 +136,8 @@ impl ClusterPipeline {
     ///
     /// # Errors
     ///
-    /// Of kind `Client` where there is no command yet, and else if memory runs out. The
-    /// pipeline stays as it was.
+    /// Of kind `Client` if there is no command yet, and else if memory runs out. The pipeline stays as
+    /// it was.
     pub fn write_arg(&mut self, arg: &[u8]) -> RedisResult<()>
         ensures not_empty { OnOk result (0 < length self.old) }
         ensures added { OnOk result (self.new ≡ with_argument self.old arg.now) }
@@ -156,7 +156,7 @@ impl ClusterPipeline {
     ///
     /// # Errors
     ///
-    /// Of kind `Client` where there is no command yet. The pipeline stays as it was: this is
+    /// Of kind `Client` if there is no command yet. The pipeline stays as it was: this is
     /// `mark_ignored`, which says so.
     pub fn ignore(&mut self) -> RedisResult<&mut Self>
         ensures same_reference { IfOk result (λ pipeline. pipeline.ghost_name
@@ -173,7 +173,7 @@ impl ClusterPipeline {
     ///
     /// # Errors
     ///
-    /// Of kind `Client` where there is no command yet. The pipeline stays as it was.
+    /// Of kind `Client` if there is no command yet. The pipeline stays as it was.
     pub fn mark_ignored(&mut self) -> RedisResult<()>
         ensures not_empty { OnOk result (0 < length self.old) }
         ensures marked { OnOk result (self.new ≡ with_last_ignored self.old) }
@@ -201,13 +201,13 @@ impl ClusterPipeline {
     /// Whether the pipeline can be sent: it has a command, and none whose name is refused.
     ///
     /// The name is a command's first argument alone, without the Unicode white space round it, in
-    /// ASCII upper case; where that argument is missing or no UTF-8, the name is empty.
+    /// ASCII upper case. If that argument is missing or no UTF-8, the name is empty.
     ///
     /// # Errors
     ///
-    /// Of kind `Client`: `UNROUTABLE_ERROR`, whose detail tells the first refused name, and where
-    /// no name is refused, `empty command` for a pipeline without commands. Memory is taken only to
-    /// tell of a refused name.
+    /// Of kind `Client`: `UNROUTABLE_ERROR`, whose detail has the first refused name. If no name is
+    /// refused, `empty command` for a pipeline without commands. Memory is taken only to report a
+    /// refused name.
     pub fn check(&self, alloc: Global) -> RedisResult<()>
         ensures passed { OnOk result
             ((first_refused (commands_of self.now) ≡ None) × (0 < length self.now)) }

@@ -32,12 +32,12 @@ use resp_core::{Cmd, ErrorKind, RedisError, RedisResult, Value};
 use std::alloc::{AllocError, Global};
 use std::marker::Model;
 
-/// A multi-key command, ready to be sent part by part: for each of its routes the node and the
-/// part, and room for the reply. Once each reply is told it gives the one reply of the command.
+/// A multi-key command, ready to be sent part by part. For each of its routes it has the node, the
+/// part, and room for the reply. Once it has each reply, it makes the one reply of the command.
 ///
 /// `drive` is a loop over it. A client with connections of its own sends the parts itself, at once
-/// or in any order, and tells each reply as it comes. Never tell an error as a reply: where parts
-/// answer `OK`, the reply of route 0 is the whole reply, whatever the others are.
+/// or in any order, and gives the plan each reply as it comes. Never give it an error as a reply:
+/// if parts answer `OK`, the reply of route 0 is the whole reply, whatever the others are.
 ///
 /// ```
 /// for (number, reply) in replies.into_iter().enumerate() {
@@ -83,14 +83,14 @@ impl<'a, R: Routable> Model for SplitPlan<'a, R> {
 }
 
 impl<'a, R: Routable> SplitPlan<'a, R> {
-    /// Plans a command: its routes, in order of first appearance of their slots, the node of each
-    /// by the map, and where reads may go to replicas by the strategy, and the part of each. `pick`
-    /// decides nothing here, since no route of a split requires a replica.
+    /// Plans a command: its routes, in order of first appearance of their slots, and the node and
+    /// the part of each. The map names the node, and the strategy if reads may go to replicas.
+    /// `pick` decides nothing here, since no route of a split requires a replica.
     ///
     /// # Errors
     ///
-    /// In this order: `NotMultiKey` where the command is not complete, `NotCovered` where a slot of
-    /// a key has no node, the first in the order of routes. `Memory` where memory ran out.
+    /// In this order: `NotMultiKey` if the command is not complete, `NotCovered` if a slot of a key
+    /// has no node, the first in the order of routes. `Memory` if memory ran out.
     pub fn new(
         alloc: Global,
         command: &'a R,
@@ -173,7 +173,7 @@ impl<'a, R: Routable> SplitPlan<'a, R> {
         self.split.len()
     }
 
-    /// The node that the part of this route goes to, where there is such a route.
+    /// The node that the part of this route goes to, if there is such a route.
     pub fn node(&self, number: usize) -> Option<&'a NodeAddress>
         ensures { option_map (λ node. node.now) result ≡ slice_get self.now.nodes number }
     {
@@ -181,18 +181,18 @@ impl<'a, R: Routable> SplitPlan<'a, R> {
         Some(*node)
     }
 
-    /// The part of this route, as a command of its own, where there is such a route.
+    /// The part of this route, as a command of its own, if there is such a route.
     pub fn part(&self, number: usize) -> Option<&Cmd>
         ensures { option_map (λ part. part.now) result ≡ slice_get self.now.parts number }
     {
         self.parts.get(number)
     }
 
-    /// Tells the reply to the part of this route. No memory is taken.
+    /// Takes the reply to the part of this route. No memory is taken.
     ///
     /// # Errors
     ///
-    /// Gives the reply back where there is no such route, or its reply was told before.
+    /// Gives the reply back if there is no such route, or if it has a reply.
     pub fn tell(&mut self, number: usize, reply: Value) -> Result<(), Value>
         ensures told { OnOk result ((slice_get self.old.replies number ≡ Some None)
             × (self.new ≡ record {
@@ -213,15 +213,15 @@ impl<'a, R: Routable> SplitPlan<'a, R> {
         Ok(())
     }
 
-    /// The one reply of the command, once each reply was told. Counts are added up, lists are put
-    /// in the order of the command's keys, and of commands that only succeed it is the reply of
+    /// The one reply of the command, once the plan has each reply. Counts are added up, and lists
+    /// are put in the order of the command's keys. Of commands that only succeed it is the reply of
     /// route 0.
     ///
     /// # Errors
     ///
-    /// `Client` where a reply was not told. Else what the combiners refuse; where the replies are
-    /// those to parts of one command they refuse nothing, and memory runs out for lists alone. The
-    /// plan is used up then too, with the replies that it was told.
+    /// `Client` if a reply is missing. Else what the combiners refuse. They refuse nothing if the
+    /// replies are those to parts of one command, and memory runs out for lists alone. The plan and
+    /// its replies are used up then, too.
     pub fn combine(self, alloc: Global) -> RedisResult<Value>
         ensures unsplit { (form : ReplyForm) (results : List TupleResult)
             → ArePartReplies self.entry form results → MatchResult result
@@ -284,15 +284,15 @@ fn join<R: Routable>(
 }
 
 /// The one reply to a split command, by those to its parts, one for each route in the order of the
-/// routes. `SplitPlan::combine` is the same of the replies that a plan was told.
+/// routes. `SplitPlan::combine` does the same with the replies of a plan.
 ///
-/// Never give an error as a reply: where parts answer `OK`, the reply of route 0 is the whole reply,
+/// Never give an error as a reply: if parts answer `OK`, the reply of route 0 is the whole reply,
 /// whatever the others are.
 ///
 /// # Errors
 ///
-/// `Client` where there is not a reply for each route. Else what the combiners refuse; where the
-/// replies are those to the parts they refuse nothing, and memory runs out for lists alone.
+/// `Client` if there is not a reply for each route. Else what the combiners refuse. They refuse
+/// nothing if the replies are those to the parts, and memory runs out for lists alone.
 pub fn join_replies<R: Routable>(
     alloc: Global,
     split: &SplitCommand<'_, R>,
@@ -367,7 +367,7 @@ fn parts_of<R: Routable>(alloc: Global, split: &SplitCommand<'_, R>) -> Result<V
     Ok(parts)
 }
 
-/// Room for so many replies.
+/// Room for `count` replies.
 fn no_replies(alloc: Global, count: usize) -> Result<Vec<Value>, AllocError>
     ensures { IfOk result (λ replies. length replies.items ≡ count) }
 {

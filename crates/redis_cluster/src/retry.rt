@@ -11,12 +11,11 @@ use redis_routing::Redirect;
 use std::alloc::{AllocError, Global};
 use std::marker::Model;
 
-/// Where a command of one route goes, and where it goes next when a node redirects it or refuses
-/// it. It sends nothing: a client with connections of its own sends to `target`, and tells what
-/// came of it.
+/// Where a command of one route goes, and where it goes next if a node redirects or refuses it. It
+/// sends nothing: a client with connections of its own sends to `target`, and reports the outcome.
 ///
-/// Each call that names a new target counts as one retry. After an answer, or where an answer was
-/// lost, nothing is told and nothing is sent again: the command may have taken effect.
+/// Each call that names a new target counts as one retry. After an answer or a lost reply report
+/// nothing, and send nothing again: the command may have taken effect.
 ///
 /// ```
 /// Retry::new(alloc, map, route, None, 0, 3)
@@ -45,9 +44,8 @@ impl Model for Retry {
 }
 
 impl Retry {
-    /// Begins at the node of the route, with so many retries; `None` where no range of the map
-    /// holds for its slot. The strategy is asked once. Where nodes refuse, the retries go through
-    /// `SlotMap::shard_fallback_addrs`.
+    /// Begins at the node of the route. `None` if no range of the map has its slot. The strategy is
+    /// asked once. If nodes refuse, the retries go through `SlotMap::shard_fallback_addrs`.
     ///
     /// # Errors
     ///
@@ -108,13 +106,13 @@ impl Retry {
         self.left
     }
 
-    /// The node at the target redirected: the address that it names is the next target. The
+    /// The node at the target redirected. The address that it names is the next target. The
     /// addresses to fall back on stay for refusals. After an `Ask`, `ASKING` goes before the
     /// command.
     ///
     /// # Errors
     ///
-    /// The redirect, where no retry is left. This has then ended.
+    /// The redirect, if no retry is left. This has then ended.
     pub fn on_redirect(&mut self, redirect: Redirect) -> Result<(), Redirect>
         ensures named { OnOk result (FollowsRedirect self.old self.new redirect) }
         ensures ended { IfErr result
@@ -129,9 +127,9 @@ impl Retry {
         Ok(())
     }
 
-    /// The node at the target refused, or can't be reached, and the command took no effect there:
-    /// the next of the addresses to fall back on is the next target, and is taken. `false` where no
-    /// retry is left, or no address: this has then ended.
+    /// The node at the target refused or can't be reached, and the command took no effect there.
+    /// The next of the addresses to fall back on is the next target, and is used up. `false` if no
+    /// retry or no address is left: this has then ended.
     pub fn on_failure(&mut self) -> bool
         ensures named { result ≡ true → FallsBack self.old self.new }
         ensures ended { result ≡ false → ((self.old.left ≡ 0) ⊎ (self.old.fallback ≡ []))
@@ -150,10 +148,10 @@ impl Retry {
     }
 
     /// The node at the target answered `TRYAGAIN`: some keys of the command have moved to another
-    /// node and others not, so that nothing took effect. The same address is to be asked once more.
-    /// This counts as a retry, since a slot may stay between two nodes for long; how long to wait
-    /// before the next send is the client's choice. `false` where no retry is left: this has then
-    /// ended. `drive_retrying` never calls it.
+    /// node and others not, so nothing took effect. The next target is the same address. This
+    /// counts as a retry, since a slot may stay between two nodes for long. How long to wait before
+    /// the next send is the client's choice. `false` if no retry is left: this has then ended.
+    /// `drive_retrying` never calls it.
     pub fn on_try_again(&mut self) -> bool
         ensures named { result ≡ true → AsksAgain self.old self.new }
         ensures ended { result ≡ false → (self.old.left ≡ 0) × HasEnded self.new }

@@ -27,9 +27,9 @@ use redis_routing::{ReadOnlyNames, Routable};
 use resp_core::Value;
 use std::alloc::{AllocError, Global};
 
-/// Sends a multi-key command as `drive` does. Where a node redirects or refuses a part, it is sent
-/// again elsewhere: to the address that a redirect names, and after a refusal to the next of
-/// `SlotMap::shard_fallback_addrs`. Each route has so many retries of its own, as `Retry` counts
+/// Sends a multi-key command as `drive` does. If a node redirects or refuses a part, it is sent
+/// again elsewhere: to the address of a redirect, and after a refusal to the next of
+/// `SlotMap::shard_fallback_addrs`. Each route has `retries` retries of its own, as `Retry` counts
 /// them.
 ///
 /// ```
@@ -46,23 +46,22 @@ use std::alloc::{AllocError, Global};
 /// )
 /// ```
 ///
-/// Where it gives a reply, each part was answered once, whatever was refused or redirected on the
-/// way, and no route was sent more than `retries + 1` times, or more than once where no send may end
-/// but with an answer. The reply is that of the unsplit command amid what others write, as for
-/// `drive`. If the nodes kept to one meaning, part of which is that what they refused did nothing,
-/// each part took effect once. A part that was answered, or whose reply was lost, is never sent
-/// again: it may have taken effect.
+/// If it returns a reply, each part was answered once, whatever was refused or redirected on the
+/// way. No route was sent more than `retries + 1` times. The reply is that of the unsplit command
+/// amid what others write, as for `drive`. If the nodes kept to one meaning, each part took effect
+/// once: what they refused did nothing. A part that was answered, or whose reply was lost, is never
+/// sent again, since it may have taken effect.
 ///
-/// An `Ask` is followed as a `Moved` is: that `ASKING` goes before the command is the connection's
+/// An `Ask` is followed as a `Moved` is. That `ASKING` goes before the command is the connection's
 /// matter, as is what a `Moved` changes in the map. A refusal with the code `TRYAGAIN` is a refusal
-/// as any other. With 0 retries this is `drive`.
+/// as any other. With 0 retries each part is sent once, as by `drive`.
 ///
 /// # Errors
 ///
-/// `NotMultiKey`, `NotCovered` and `BadOrder` as `drive` has them: nothing was sent. `Node` and
-/// `Redirected` are how the attempts of a route ended: no retry was left, or no address to fall
+/// `NotMultiKey`, `NotCovered` and `BadOrder` as for `drive`: nothing was sent. `Node` and
+/// `Redirected` are how the attempts of a route ended, with no retry left, or no address to fall
 /// back on. `Lost` is a lost reply, which ends them at once. The parts of the order before it were
-/// answered, and no later one is sent. `Memory` is told after any number of sends. `Reply` does
+/// answered, and no later one is sent. `Memory` may come after any number of sends. `Reply` does
 /// not come from nodes that keep to one meaning.
 pub fn drive_retrying<R: Routable, N: Nodes>(
     alloc: Global,
@@ -85,7 +84,7 @@ pub fn drive_retrying<R: Routable, N: Nodes>(
     ensures one_answer { HaveOneAnswer }
     // Each send was answered, or allowed to end otherwise, whether there is a reply or not.
     ensures allowed { AreAllowed (N.may_refuse nodes.old) (N.state nodes.old).trace (N.state nodes.new).trace }
-    // So where no send may end but with an answer, each part went once, as `drive` sends it.
+    // So if each send must be answered, each part went once, as `drive` sends it.
     ensures once { IsUnhindered (N.may_refuse nodes.old)
         (request (R.args command.now) (names_of read_only.now (N.registered nodes.old)) slot_map.now order.now)
         (N.state nodes.old).trace → IfOk result (λ value.
@@ -106,7 +105,7 @@ pub fn drive_retrying<R: Routable, N: Nodes>(
     ensures amid { IfOk result (λ value.
         IsServedAmid N.Cell (N.registered nodes.old) (R.args command.now) order.now
         (N.gave nodes.old) (N.gave nodes.new) (view value)) }
-    // Where the nodes keep to one meaning over one keyspace, the keyspace and the reply are those of
+    // If the nodes keep to one meaning over one keyspace, the keyspace and the reply are those of
     // the unsplit command, whatever was refused or redirected.
     ensures driven { IfOk result (λ value. N.kept nodes.new → IsRetried
         (IsTryOf (IsRouteNode strategy.entry (λ s. picks s.now) slot_map.now pick)
@@ -114,39 +113,39 @@ pub fn drive_retrying<R: Routable, N: Nodes>(
         N.step (request (R.args command.now) (names_of read_only.now (N.registered nodes.old)) slot_map.now order.now)
         (N.state nodes.old) (N.state nodes.new)
         (view value)) }
-    // There is a reply where the command can be driven, no node may refuse or redirect and no reply
-    // may be lost, unless memory runs out. Of connections nobody knows that: see `carried`.
+    // There is a reply if the command can be driven, no node may refuse or redirect, and no reply
+    // may be lost, unless memory runs out. Nobody knows that of connections: see `carried`.
     ensures headline { IsUnhindered (N.may_refuse nodes.old)
         (request (R.args command.now) (names_of read_only.now (N.registered nodes.old)) slot_map.now order.now)
         (N.state nodes.old).trace → IfErr result (λ e. N.kept nodes.new → e.fault ≡ DriveFault.Memory) }
-    // And where each send was answered, whatever nodes may refuse.
+    // And if each send was answered, whatever nodes may refuse.
     ensures carried { (routes : List SlotRoute) (c : MultiKey) → IsDrivable
         (request (R.args command.now) (names_of read_only.now (N.registered nodes.old)) slot_map.now order.now)
         routes c → AreAllAnswered (N.state nodes.old).trace (N.state nodes.new).trace
         → IfErr result (λ e. N.kept nodes.new → e.fault ≡ DriveFault.Memory) }
-    // So many parts were answered, and no other, whatever the answers are.
+    // On error, exactly the first `answered` parts were answered, whatever the answers are.
     ensures cut { IfErr result (λ e. IsRetryCut
         (IsTryOf (IsRouteNode strategy.entry (λ s. picks s.now) slot_map.now pick)
         (request (R.args command.now) (names_of read_only.now (N.registered nodes.old)) slot_map.now order.now) retries)
         (request (R.args command.now) (names_of read_only.now (N.registered nodes.old)) slot_map.now order.now)
         (unseen (N.state nodes.old)) (unseen (N.state nodes.new))
         (N.may_refuse nodes.old) e.fault e.answered) }
-    // Each fault but out of memory before any send has its cause, and what was answered stands.
+    // Each fault has its cause, except out of memory before any send. What was answered stands.
     ensures fault { IfErr result (λ e. N.kept nodes.new → IsRetryFault
         (IsTryOf (IsRouteNode strategy.entry (λ s. picks s.now) slot_map.now pick)
         (request (R.args command.now) (names_of read_only.now (N.registered nodes.old)) slot_map.now order.now) retries)
         N.step (request (R.args command.now) (names_of read_only.now (N.registered nodes.old)) slot_map.now order.now)
         (N.state nodes.old) (N.state nodes.new)
         (N.may_refuse nodes.old) e.fault e.answered) }
-    // These may be the replies that the nodes gave: one to each part that was answered.
+    // These may be the replies that the nodes gave, one to each part that was answered.
     ensures given { IfErr result
         (λ e. HaveGiven (N.gave nodes.old) (N.gave nodes.new) e.answered) }
-    // The nodes are as they were where the command, the map or the order is at fault.
+    // The nodes are as they were if the command, the map or the order is at fault.
     ensures untouched { IfErr result (λ e. IsBefore e.fault → nodes.new ≡ nodes.old) }
     // Nodes that kept to it now did so before.
     ensures kept { N.kept nodes.new → N.kept nodes.old }
-    // So does the keyspace: each part that `delivered` or `cut` says was answered left at its keys what
-    // the unsplit command leaves there, whatever became of the other parts.
+    // Each part that was answered left at its keys what the unsplit command leaves there, whatever
+    // became of the other parts.
     ensures parts { (c : MultiKey) → multi_key (N.registered nodes.old) (R.args command.now) ≡ Some c
         → AreItsParts N.Cell (N.registered nodes.old) (R.args command.now) c }
     // A command with gaps and its front have the same tuples, routes and parts.

@@ -79,7 +79,7 @@ pub(super) fn send_all<R: Routable, N: Nodes>(
     Ok(())
 }
 
-/// Sends the part of one route, by its retry, or once where it has none.
+/// Sends the part of one route, by its retry, or once if it has none.
 fn send_part<R: Routable, N: Nodes>(
     plan: &SplitPlan<'_, R>,
     retries: &mut [Retry],
