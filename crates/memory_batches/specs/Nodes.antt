@@ -63,7 +63,7 @@ AreAsPlanned old new =
     (place : ℕ) (e : Entry) → length (trace_in old) ≤ place → slice_get (trace_in new) place ≡ Some e
     → e.ending ≡ ending_by (refusal_in old place)
 
--- The first commands of a batch were served, but for those that were refused as they may be, and the
+-- The first commands of a batch were served, except those that were refused as they may be, and the
 -- trace grew by their entries. The one behind them was begun at most.
 pub record IsBegun (node : Address) (batch : List (List (List ℕ))) (old new : MemoryBatchNodes)
     : Type 0 where

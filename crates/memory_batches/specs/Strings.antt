@@ -57,7 +57,7 @@ wrong_type = fails (codes "WRONGTYPE Operation against a key holding the wrong k
 abbrev pub unless_list : List ℕ → Effect Cell Answer → Effect Cell Answer
 unless_list key effect = λ keyspace. cond (holds_list keyspace key) wrong_type effect keyspace
 
--- GET key: the string, or nil where the key is absent
+-- GET key: the string, or nil if the key is absent
 abbrev pub got : List ℕ → Effect Cell Answer
 got key = λ keyspace. record { keys = keyspace; reply = Ok (shown (string_at keyspace key)) }
 
@@ -83,7 +83,7 @@ number_in text =
     cond (bytes_eq (signed_decimal (signed_digits_value 10 text)) text)
     (in_64_bits (signed_digits_value 10 text)) None
 
--- the number at a key, which is 0 where the key is absent
+-- the number at a key, which is 0 if the key is absent
 abbrev pub number_at : Option (List ℕ) → Option ℤ
 number_at None = Some (pos 0)
 number_at (Some text) = number_in text
@@ -109,7 +109,7 @@ raised key = λ keyspace. raised_from key (number_at (string_at keyspace key)) k
 abbrev pub incr : List ℕ → Effect Cell Answer
 incr key = unless_list key (raised key)
 
--- how long the list at a key is, which is 0 where the key is absent; no number at a string
+-- how long the list at a key is, which is 0 if the key is absent; no number at a string
 abbrev pub list_length : (string length : Option (List ℕ)) → Option ℤ
 list_length (Some string) length = None
 list_length None length = number_at length

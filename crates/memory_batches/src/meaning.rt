@@ -21,7 +21,7 @@ pub(super) enum Meaning {
 }
 
 impl Meaning {
-    /// What a command means, where these names are registered.
+    /// What a command means, if these names are registered.
     pub(super) fn of(alloc: Global, cmd: &Cmd, registry: &Registry) -> Result<Meaning, AllocError>
         ensures { IfOk result (λ meaning. Means registry.now cmd.now meaning) }
     {
@@ -44,7 +44,7 @@ impl Meaning {
     }
 }
 
-/// The slot that a command goes to, where it goes to a node of one slot.
+/// The slot that a command goes to, if it goes to a node of one slot.
 fn slot_routed(info: &RoutingInfo) -> Option<u16>
     ensures { result ≡ slot_routed (Some (as_routing info.now)) }
 {

@@ -77,7 +77,7 @@ impl MemoryBatchNodes {
 
 impl MemoryBatchNodes {
     /// From now on each command does what its entry of this plan says, the next command the first
-    /// one's: with an error it is refused, and else answered, as are those behind the last. An
+    /// one's: with an error it is refused, and else answered, as are those after the last. An
     /// earlier plan is gone. `[None, Some(error)]` refuses the second of the commands that come.
     pub fn plan(&mut self, plan: Vec<Option<RedisError>>)
         ensures registered { registered_in self.new ≡ registered_in self.old }

@@ -10,7 +10,7 @@ use redis_cluster::driver::Nodes;
 use resp_core::Cmd;
 use std::alloc::{AllocError, Global};
 
-/// The string at a key, where the keys of a slot alone are seen.
+/// The string at a key, if the keys of a slot alone are seen.
 pub(super) fn string_in<'a>(store: &'a MemoryNodes, slot: u16, key: &[u8]) -> Option<&'a [u8]>
     ensures { option_copied result ≡ string_at (shelf slot (keyspace_in store.now)) key.now }
 {
@@ -20,7 +20,7 @@ pub(super) fn string_in<'a>(store: &'a MemoryNodes, slot: u16, key: &[u8]) -> Op
     store.get(key, b"")
 }
 
-/// The length of the list at a key, in decimal digits, where the keys of a slot alone are seen.
+/// The length of the list at a key, in decimal digits, if the keys of a slot alone are seen.
 pub(super) fn length_in<'a>(store: &'a MemoryNodes, slot: u16, key: &[u8]) -> Option<&'a [u8]>
     ensures { option_copied result ≡ length_at (shelf slot (keyspace_in store.now)) key.now }
 {
@@ -30,7 +30,7 @@ pub(super) fn length_in<'a>(store: &'a MemoryNodes, slot: u16, key: &[u8]) -> Op
     store.get(key, b"length")
 }
 
-/// Whether a key holds a list, where the keys of a slot alone are seen.
+/// Whether a key holds a list, if the keys of a slot alone are seen.
 pub(super) fn holds_list(store: &MemoryNodes, slot: u16, key: &[u8]) -> bool
     ensures { result ≡ holds_list (shelf slot (keyspace_in store.now)) key.now }
 {
@@ -107,7 +107,7 @@ pub(super) fn remove(
     }
 }
 
-/// Puts a string at a key, where the keys of a slot alone are seen and kept.
+/// Puts a string at a key, if the keys of a slot alone are seen and kept.
 pub(super) fn put_in(
     alloc: Global,
     store: &mut MemoryNodes,
@@ -128,7 +128,7 @@ pub(super) fn put_in(
     write(alloc, store, node, key, string)
 }
 
-/// Puts the length of its list at a key, where the keys of a slot alone are seen and kept.
+/// Puts the length of its list at a key, if the keys of a slot alone are seen and kept.
 pub(super) fn put_length_in(
     alloc: Global,
     store: &mut MemoryNodes,

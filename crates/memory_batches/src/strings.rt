@@ -194,7 +194,7 @@ fn lpush(
     Ok(Ok(Value::Int(number)))
 }
 
-/// One more than the length of the list at a key, or than 0 where the key is absent.
+/// One more than the length of the list at a key, or than 0 if the key is absent.
 fn next_length(
     alloc: Global,
     store: &MemoryNodes,

@@ -11,7 +11,7 @@ use Rattle.redis_cluster.specs.Unsplit.{Keyspace}
 abbrev pub Cell : Type 0
 Cell = List ℕ → Option (List ℕ)
 
--- the value at a path, where the key is there
+-- the value at a path, if the key is there
 abbrev pub value_at : Option Cell → List ℕ → Option (List ℕ)
 value_at None path = None
 value_at (Some cell) path = cell path

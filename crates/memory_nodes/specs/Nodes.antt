@@ -25,7 +25,7 @@ IsFused None count = ⊥
 IsFused (Some limit) count = limit ≤ count + 1
 
 -- what is planned for the send that finds so many entries in the trace, where the plan was made
--- when there were `base`: its items one after the other, and answers behind the last
+-- when there were `base`: its items one after the other, and answers after the last
 abbrev pub or_answer : Option Planned → Planned
 or_answer None = planned.Answer
 or_answer (Some item) = item

@@ -42,7 +42,7 @@ registered_action KeyValuePairs AllSucceeded = Write
 registered_action KeyWithTwoArgTriples AllSucceeded = WriteAtPath
 registered_action pattern policy = Leave
 
--- by what the name is registered with, or where it is not, by the name
+-- by what the name is registered with, or if it is not, by the name
 abbrev pub action_by : Option Registered → List ℕ → Action
 action_by None name = action_of name
 action_by (Some registered) name = registered_action registered.0 registered.1

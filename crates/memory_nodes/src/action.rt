@@ -10,9 +10,9 @@ pub(super) enum Action {
     Read,
     /// Reads the value at the path that all keys share.
     ReadAtShared,
-    /// Counts the key where it is there.
+    /// Counts the key if it is there.
     Count,
-    /// Removes the key, and counts it where it was there.
+    /// Removes the key, and counts it if it was there.
     Remove,
     /// Does nothing.
     Leave,
@@ -43,7 +43,7 @@ impl Action {
         look_up(&ACTIONS, name).unwrap_or(Action::Leave)
     }
 
-    /// What a command does by what its name is registered with, or where it is not, by the name.
+    /// What a command does by what its name is registered with, or if it is not, by the name.
     pub(super) fn by(
         registered: Option<(MultiSlotArgPattern, ResponsePolicy)>,
         name: &[u8],

@@ -30,7 +30,7 @@ pub(super) fn is_there(cells: &Cells, key: &[u8]) -> bool
     cells.contains_key(key)
 }
 
-/// Removes a key, and tells whether it was there. Takes no memory.
+/// Removes a key, and returns whether it was there. Takes no memory.
 pub(super) fn remove(cells: &mut Cells, key: &[u8]) -> bool
     ensures cells { keyspace_of cells.new ≡ put key.now None (keyspace_of cells.old) }
     ensures there { result ≡ is_some (keyspace_of cells.old key.now) }

@@ -17,7 +17,7 @@ pub(super) struct Change<'a> {
 /// What stood at a key before a write.
 #[derive(Drop)]
 pub(super) enum Before<'a> {
-    /// All its values, or none where the key was not there.
+    /// All its values, or none if the key was not there.
     AtKey(Option<Values>),
     /// The value at a path, or none. The write kept those at other paths.
     AtPath(&'a [u8], Option<Vec<u8>>),

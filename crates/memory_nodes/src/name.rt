@@ -17,7 +17,7 @@ pub(super) enum Name<'a> {
 }
 
 impl<'a> Name<'a> {
-    /// The name of a command. Takes no memory where it is one word in upper case.
+    /// The name of a command. Takes no memory if it is one word in upper case.
     pub(super) fn of(alloc: Global, cmd: &'a Cmd) -> Result<Self, AllocError>
         requires named { IsSome (command_name (map Some cmd.now)) }
         ensures name { IfOk result (λ name. command_name (map Some cmd.now) ≡ Some (bytes_of name)) }

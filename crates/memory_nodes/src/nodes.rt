@@ -92,7 +92,7 @@ impl MemoryNodes {
     }
 
     /// From now on each send does what its entry of this plan says, the next send the first one's,
-    /// and answers behind the last: `[Refuse, Answer]` refuses one send. An earlier plan is gone. The
+    /// and answers after the last: `[Refuse, Answer]` refuses one send. An earlier plan is gone. The
     /// fuse goes before the plan.
     pub fn plan(&mut self, plan: Vec<Planned>)
         ensures registered { registered_in self.new ≡ registered_in self.old }

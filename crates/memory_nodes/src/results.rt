@@ -12,9 +12,9 @@ use std::alloc::{AllocError, Global};
 /// What a tuple adds to the reply.
 #[derive(Drop)]
 pub(super) struct KeyResult {
-    /// Its value, where the reply is a list.
+    /// Its value, if the reply is a list.
     pub(super) value: Value,
-    /// Whether it counts, where the reply is a count.
+    /// Whether it counts, if the reply is a count.
     pub(super) counts: bool,
 }
 
@@ -43,9 +43,9 @@ impl KeyResult {
 /// What tuples add to the reply.
 #[derive(Drop)]
 pub(super) enum Results {
-    /// The value of each, in order, where the reply is a list.
+    /// The value of each, in order, if the reply is a list.
     Values(Vec<Value>),
-    /// How many count, where the reply is no list.
+    /// How many count, if the reply is no list.
     Count(usize),
 }
 

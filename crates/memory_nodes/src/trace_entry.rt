@@ -40,7 +40,7 @@ impl TraceEntry {
         })
     }
 
-    /// The entry of a send of a command to a node that sent the client on, or where there is no
+    /// The entry of a send of a command to a node that sent the client on, or if there is no
     /// redirect, refused the command.
     pub(super) fn without_answer(
         alloc: Global,

@@ -9,7 +9,7 @@ use Rattle.redis_batches.specs.Placed.{IsPrimaryOf, Ranges}
 abbrev pub numbered : ℕ → Address
 numbered number = record { host = []; port = number }
 
--- the number of a slot, which is 65535 where there is none
+-- the number of a slot, which is 65535 if there is none
 abbrev pub number_at : List ℕ → ℕ → ℕ
 number_at numbers slot = get_or numbers slot 65535
 

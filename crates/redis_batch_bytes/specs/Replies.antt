@@ -18,7 +18,7 @@ use Rattle.redis_batch_bytes.specs.Plans.{IsPlanOfRequests, IsUnplanned}
 use Rattle.redis_batch_bytes.specs.Told.{WireAnswer, answer_form, told}
 use Rattle.redis_batch_bytes.specs.Unread.{AreUnreadAnswers}
 
--- Answers stand at the front, with this behind them, and these are told of them.
+-- Answers stand at the front, with this after them, and a plan takes these of them.
 pub record StandAsTold (bytes rest : List ℕ) (given : List Answer) : Type 0 where
   pub said : List WireAnswer
   pub front : List ℕ
@@ -67,14 +67,14 @@ IsUncombined registered ranges requests bytes fault = IsUnplanned registered ran
 
 -- ---- telling a plan
 
--- the plan is the same but for the answers
+-- the plan is the same except for the answers
 abbrev pub IsSameBut : PipelineBatches → PipelineBatches → Type 0
 IsSameBut old new = (new.splits ≡ old.splits) × (new.batches.nodes ≡ old.batches.nodes)
     × (new.batches.places ≡ old.batches.places) × (new.batches.parts ≡ old.batches.parts)
     × (length new.batches.answers ≡ length old.batches.answers)
 
--- The bytes begin with the answers to a batch, which the plan was told. So where they are those of
--- a list, it has the list's answer at each place of the batch, and keeps those that it had.
+-- The bytes begin with the answers to a batch, and the plan took these. So if they are those of a
+-- list, the plan has the list's answer at each place of the batch, and keeps those that it had.
 pub record IsToldBatch (old new : PipelineBatches) (number : ℕ) (bytes rest : List ℕ) : Type 0 where
   pub given : List Answer
   pub stand : StandAsTold bytes rest given
@@ -88,8 +88,8 @@ pub record IsToldBatch (old new : PipelineBatches) (number : ℕ) (bytes rest : 
       → given ≡ in_order all places → (place : ℕ) → IsRight old.batches.answers all place
       → IsRight new.batches.answers all place
 
--- The bytes are the answers to all batches. So where they are those of a list, batch after batch,
--- the plan has the list's answer at each place of each batch.
+-- The bytes are the answers to all batches. So if they are those of a list, batch after batch, the
+-- plan has the list's answer at each place of each batch.
 pub record AreTold (old new : PipelineBatches) (bytes : List ℕ) : Type 0 where
   pub given : List Answer
   pub stand : StandAsTold bytes [] given

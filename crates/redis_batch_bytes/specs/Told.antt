@@ -1,4 +1,4 @@
--- What a plan is told of the answers in bytes, and how the replies to commands are written.
+-- What a plan takes of the answers in bytes, and how the replies to commands are written.
 use Rattle.std.specs.Prelude.{ℕ, List, [], Option, Some, Ok, Err, codes}
 use Rattle.std.specs.Str.Lossy.{utf8_lossy}
 use Rattle.resp.specs.Forms as resp
@@ -15,7 +15,7 @@ WireAnswer = resp.Answer
 abbrev pub error_of : List ℕ → ErrorParts
 error_of text = record { kind = Client; desc = []; detail = Some (utf8_lossy text) }
 
--- what a plan is told of it
+-- what a plan takes of it
 abbrev pub told : WireAnswer → Answer
 told (Ok reply) = Ok reply
 told (Err text) = Err (error_of text)

@@ -25,7 +25,7 @@ use std::alloc::Global;
 /// # Errors
 ///
 /// In this order. For the requests as `split_pipeline`. `Reply` for the first reply that cannot be
-/// read, and where there are too few. `AfterReplies` where bytes follow the last one. `NoForm` for
+/// read, and if there are too few. `AfterReplies` if bytes follow the last one. `NoForm` for
 /// the first reply that has no form. `Memory` if memory runs out.
 pub fn combine_pipeline(
     alloc: Global,

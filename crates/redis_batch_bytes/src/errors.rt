@@ -7,7 +7,7 @@ use resp::Response;
 use resp_core::{ErrorKind, RedisError, Value};
 use std::alloc::{AllocError, Global};
 
-/// What a plan is told of an answer. The text of an error is its detail, and there is no other text.
+/// What a plan takes of an answer. The text of an error is its detail, and there is no other text.
 pub(super) fn told(
     alloc: Global,
     response: Response,

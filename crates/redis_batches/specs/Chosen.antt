@@ -36,7 +36,7 @@ abbrev pub chosen_for : List (ℕ × Bor Address) → ℕ → Option Address
 chosen_for chosen slot =
     option_map (λ node. node.now) (lookup (λ other. is_eq (nat_cmp slot other)) chosen)
 
--- the node of a slot: its primary, or where a strategy is lent the one that was chosen for it
+-- the node of a slot: its primary, or where a strategy is passed the one that was chosen for it
 abbrev pub IsChosen : {S : Type 0} → Option S → Ranges → List (ℕ × Bor Address) → ℕ → Address
     → Type 0
 IsChosen strategy ranges chosen slot address =

@@ -10,7 +10,7 @@ use Rattle.redis_batches.specs.Tasks.{IsSplitOfTask, part_arguments}
 use Rattle.redis_batches.specs.declared.task.CommandTask.{CommandTask}
 use Rattle.redis_batches.specs.declared.task.CommandTask.TheVariants.{InSlot, OverKeys}
 
--- its split, where it is over many keys
+-- its split, if it is over many keys
 abbrev pub split_in : CommandTask → Option Split
 split_in (InSlot slot command) = None
 split_in (OverKeys split) = Some split

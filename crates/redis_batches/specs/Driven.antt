@@ -39,7 +39,7 @@ module _ {C : Type 0} (step : Step C) (serve : Serve C) (kept : Type 0)
 
   -- All were taken, and what was refused is answered by its error. Where nodes keep to the meaning,
   -- keyspace and answers are those of one server that takes the parts in the order of the pipeline,
-  -- but for those that were refused, which do nothing.
+  -- except those that were refused, which do nothing.
   pub record IsServed (given : List Answer) : Type 0 where
     pub refusals : Refusals
     pub trace : new.trace ≡ old.trace
@@ -96,7 +96,7 @@ pub record HaveAnswered (old new : List (List Answer) → Type 0) (these : List 
   pub each : length more ≡ count
   pub gave : Grew old new (these ++ more)
 
--- These were sent, and then this one, but where memory ran out before.
+-- These were sent, and then this one, unless memory ran out before.
 abbrev pub WereAskedUntil : (old new : List Batch → Type 0) → List Batch → Batch → SendError → Type 0
 WereAskedUntil old new sent last error =
     ((error ≡ Memory → ⊥) × WereAsked old new (sent ++ last ∷ []))

@@ -1,4 +1,4 @@
--- What is sent behind a first round, and what it makes of the answers.
+-- What is sent after a first round, and what it makes of the answers.
 use Rattle.std.specs.Prelude.{◌≡◌, ◌≤◌, ◌<◌, ◌⊎◌, ◌+◌, ◌++◌, ℕ, List, Result, length, map}
 use Rattle.std.specs.List.{All, flat_map}
 use Rattle.resp_core.specs.ErrorParts.{ErrorParts}
@@ -36,7 +36,7 @@ module _ {C : Type 0} (step : Step C) (serve : Serve C) (kept : Type 0)
     (may_refuse : ℕ → Ending → Type 0) (registered : Registrations)
     (arguments : List (List (List ℕ))) (ps : List Planned) (round : Round) (retries : ℕ)
     (old new : State C) where
-  -- Rounds were sent behind this one until no part went out again, or as many as retries.
+  -- Rounds were sent after this one until no part went out again, or as many as retries.
   pub record AreSentAgain (asked_old asked_new : List Batch → Type 0)
       (gave_old gave_new : List (List Answer) → Type 0)
       (before after : List (Result Value ErrorParts)) : Type 0 where

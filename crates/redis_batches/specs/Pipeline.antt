@@ -25,7 +25,7 @@ pub data Task : Type 0 where
   in_slot : ℕ → List (List ℕ) → Task
 
 module _ {C : Type 0} (step : Step C) (serve : Serve C) where
-  -- what a command does where one server runs it whole
+  -- what a command does if one server runs it whole
   abbrev pub run : Task → Effect C Answer
   run (over_keys command) = λ keyspace. record {
     keys = keyspace_after step command keyspace;
@@ -68,13 +68,13 @@ pieces [] = []
 pieces (p ∷ ps) = parts_of p ++ pieces ps
 
 module _ {C : Type 0} (step : Step C) (serve : Serve C) where
-  -- what the part of a slot answers, where the whole command is run on this keyspace
+  -- what the part of a slot answers, if the whole command is run on this keyspace
   abbrev pub part_answer : Task → Keyspace C → ℕ → Answer
   part_answer (over_keys command) keyspace slot =
       Ok (reply_by command.form (results_of_slot slot command.tuples (results_of step command keyspace)))
   part_answer (in_slot own args) keyspace slot = (run step serve (in_slot own args) keyspace).reply
 
-  -- what the parts answer, where one server runs the commands one after the other
+  -- what the parts answer, if one server runs the commands one after the other
   abbrev pub piece_answers : List Planned → Keyspace C → List Answer
   piece_answers [] keyspace = []
   piece_answers (p ∷ ps) keyspace =
@@ -92,7 +92,7 @@ Numbered = ℕ × Part
 abbrev pub numbered : List Planned → List Numbered
 numbered ps = enumerate_from 0 (pieces ps)
 
--- the parts of a command behind others, beside their numbers in the pipeline
+-- the parts of a command after others, beside their numbers in the pipeline
 abbrev pub numbered_behind : List Planned → Planned → List Numbered
 numbered_behind before p = enumerate_from (length (pieces before)) (parts_of p)
 

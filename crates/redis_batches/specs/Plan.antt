@@ -7,8 +7,8 @@ use Rattle.cluster_slots.specs.Address.{Address}
 use Rattle.cluster_map.specs.EachOnce.{each_once}
 use Rattle.redis_batches.specs.Grouped.{AreNumbered, places_in}
 
--- the node of each batch, the numbers of its parts and whether it was told; the parts, and the
--- answer to each, which is nil until its batch is told
+-- the node of each batch, the numbers of its parts, and whether it has its answers; the parts, and
+-- the answer to each, which is nil until its batch has its answers
 pub record Batches : Type 0 where
   pub nodes : List Address
   pub places : List (List ℕ)

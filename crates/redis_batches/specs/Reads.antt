@@ -22,7 +22,7 @@ only_reads reads args = option_map_or reads (command_name (map Some args)) false
 abbrev pub slots_of_command : Registrations → List (List ℕ) → List ℕ
 slots_of_command registered args = option_map_or slots_of_task (task_of registered args) []
 
--- the slots that a command may write to: none where it only reads
+-- the slots that a command may write to: none if it only reads
 abbrev pub slots_written : Names → List (List ℕ) → List ℕ
 slots_written names args =
     cond (only_reads names.only_reads args) [] (slots_of_command names.registered args)

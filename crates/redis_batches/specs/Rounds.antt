@@ -18,7 +18,7 @@ use Rattle.redis_batches.specs.Driven.{IsServed, WasStopped, answers_in, batch_a
 use Rattle.redis_batches.specs.Taken.{Batch}
 use Rattle.redis_batches.specs.declared.send.Stopped.{Stopped}
 
--- what a server wrote of an error: the detail where there is one, and else the text
+-- what a server wrote of an error: the detail if there is one, and else the text
 abbrev pub server_text : ErrorParts → List ℕ
 server_text error = option_map_or (λ detail. detail) error.detail error.desc
 
@@ -133,7 +133,7 @@ module _ {C : Type 0} (step : Step C) (serve : Serve C) (kept : Type 0)
     pub refusals_are : map round.refusals round.sent
         ≡ map served.refusals (numbered (alone round.sent))
 
-  -- these rounds were served behind a first one, one after the other
+  -- these rounds were served after a first one, one after the other
   abbrev pub AreRounds : Round → List Round → (old new : State C) → Type 0
   AreRounds round [] old new = new ≡ old
   AreRounds round (next ∷ rounds) old new =
@@ -172,7 +172,7 @@ latest_answers all [] = all
 latest_answers all (round ∷ rounds) =
     latest_answers (put_at all (map (λ x. x.0) round.sent) round.given) rounds
 
--- the last of some rounds behind a first one
+-- the last of some rounds after a first one
 abbrev pub last_round : Round → List Round → Round
 last_round round [] = round
 last_round round (next ∷ rounds) = last_round next rounds
@@ -192,7 +192,7 @@ after_rounds refusals [] = refusals
 after_rounds refusals (round ∷ rounds) = after_rounds (after_round refusals round) rounds
 
 -- Keyspace and answers are those of one server that takes the parts in the order of the pipeline,
--- but for those that were refused.
+-- except those that were refused.
 pub record IsAsOne {C : Type 0} (step : Step C) (serve : Serve C) (ps : List Planned)
     (refusals : Refusals) (old new : Keyspace C) (given : List Answer) : Type 0 where
   pub keyspace : new ≡ all_after (ended step serve refusals) (numbered ps) old

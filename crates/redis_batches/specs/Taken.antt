@@ -29,7 +29,7 @@ answer_of (Err error) = Err error
 abbrev pub Came : Type 0
 Came = Result (Vec (Result Value ErrorParts)) SendError
 
--- the slot that a command goes to, where it goes to a node of one slot
+-- the slot that a command goes to, if it goes to a node of one slot
 abbrev pub slot_routed : Option Routing → Option ℕ
 slot_routed (Some (single_node (specific_node route))) = Some route.slot
 slot_routed _ = None
@@ -76,7 +76,7 @@ AnswersRefusals ends given =
     → slice_get given i ≡ Some (Err error)
 
 module _ {C : Type 0} (step : Step C) (serve : Serve C) where
-  -- One server took these commands one after the other, but for those that were refused: keyspace
+  -- One server took these commands one after the other, except those that were refused: keyspace
   -- and answers are its own.
   pub record AreServed (tasks : List Task) (ends : List (Option ErrorParts)) (old new : Keyspace C)
       (given : List Answer) : Type 0 where

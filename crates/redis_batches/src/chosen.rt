@@ -11,7 +11,7 @@ use std::collections::{BTreeMap, BTreeSet};
 
 /// The node of a slot, if a range holds for the slot. Without a strategy it is the primary. Else it
 /// is chosen once and kept, so that each part of the slot goes to one node: the primary where a
-/// command may write to the slot, and the node that the strategy picks where all only read.
+/// command may write to the slot, and the node that the strategy picks if all only read.
 pub(super) fn node_of<'a>(
     chosen: &mut BTreeMap<u16, &'a NodeAddress>,
     written: &BTreeSet<u16>,

@@ -68,9 +68,9 @@ pub trait BatchNodes {
     ///
     /// # Errors
     ///
-    /// `Refused` and `Redirected` where the node took none of them: the trace stays, and so does the
-    /// keyspace of nodes that keep to their meaning. `Memory` where nothing was sent: keyspace and
-    /// trace stay. `Lost` where answers are missing: which commands took effect is not known, and the
+    /// `Refused` and `Redirected` if the node took none of them: the trace stays, and so does the
+    /// keyspace of nodes that keep to their meaning. `Memory` if nothing was sent: keyspace and
+    /// trace stay. `Lost` if answers are missing: which commands took effect is not known, and the
     /// trace has an entry for each that tells so. Where memory ran out before all were taken, the mark
     /// tells so, and the trace has those that were. The next one, unless it is over many keys, may
     /// have changed keys of its slot.
@@ -97,7 +97,7 @@ pub trait BatchNodes {
         // The batch was sent once,
         ensures asked { OnOk result (WereAsked (asked self.old) (asked self.new)
             (batch_for node.now (map (λ cmd. cmd.now) batch.now) ∷ [])) }
-        // also where it was not taken, unless memory ran out before.
+        // also if it was not taken, unless memory ran out before.
         ensures asked_untaken { IfErr result (λ error. WereAskedUntil (asked self.old) (asked self.new)
             [] (batch_for node.now (map (λ cmd. cmd.now) batch.now)) error) }
         // There are batches that may be those that were sent so far.
@@ -114,7 +114,7 @@ pub trait BatchNodes {
         ensures kept { kept self.new → kept self.old }
         // Nodes to which nothing was sent kept to the meaning,
         ensures kept_at_first { (state self.old).trace ≡ [] → asked self.old [] → kept self.old }
-        // and they still do after answers that are those by it, also where some were refused,
+        // and they still do after answers that are those by it, also if some were refused,
         ensures stays_kept { IfOk result (λ answers. kept self.old
             → (ends : List (Option ErrorParts)) → length ends ≡ length batch.now
             → (state self.new).trace ≡ (state self.old).trace
@@ -123,14 +123,14 @@ pub trait BatchNodes {
             AreServed step serve tasks ends (state self.old).keyspace (state self.new).keyspace
             (map answer_of answers.items))
             → kept self.new) }
-        // where all were answered whatever is said of the keys,
+        // if all were answered whatever is said of the keys,
         ensures stays_kept_answered { IfOk result (λ answers. kept self.old
             → (state self.new).trace ≡ (state self.old).trace
             ++ batch_entries node.now (map (λ cmd. cmd.now) batch.now) (map (λ cmd. None) batch.now)
             → AreTasks (registered self.old) (map (λ cmd. cmd.now) batch.now) (λ tasks.
             AreAnswered step serve tasks (state self.old).keyspace (map answer_of answers.items))
             → kept self.new) }
-        // and where no answers came, unless a batch did something that was refused or sent on.
+        // and if no answers came, unless a batch did something that was refused or sent on.
         ensures kept_untaken { IfErr result (λ error. kept self.old
             → IsIdleIfRefused (state self.old).keyspace (state self.new).keyspace error
             → kept self.new) }

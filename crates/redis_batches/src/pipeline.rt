@@ -68,17 +68,17 @@ impl<'a> Model for PipelinePlan<'a> {
 }
 
 impl<'a> PipelinePlan<'a> {
-    /// Plans commands, by the names that are registered beside those of the tables. The node of a
-    /// slot is its primary. Where a strategy is lent and each command of the pipeline with a key in
+    /// Plans commands, by the names that are registered besides those of the tables. The node of a
+    /// slot is its primary. If a strategy is passed and each command of the pipeline with a key in
     /// the slot only reads, by its name, it is the node that the strategy picks, asked once for the
-    /// slot. Of `SET a 1`, `SET b 2`, `MGET b a`, where n2 serves the slot of `a` and n1 that of `b`,
+    /// slot. Of `SET a 1`, `SET b 2`, `MGET b a`, if n2 serves the slot of `a` and n1 that of `b`,
     /// the batches are `SET a 1`, `MGET a` for n2, and `SET b 2`, `MGET b` for n1.
     ///
     /// # Errors
     ///
     /// In this order: `NotRoutable` for the first command that goes to no single slot and is not
     /// split by slot, as `PING` and `DBSIZE`. `NotCovered` for the first slot, in the order of the
-    /// commands and of the routes of each, that has no node. `Memory` where memory ran out.
+    /// commands and of the routes of each, that has no node. `Memory` if memory ran out.
     pub fn new(
         alloc: Global,
         commands: &'a [Cmd],
@@ -122,7 +122,7 @@ impl<'a> PipelinePlan<'a> {
         self.batches.len()
     }
 
-    /// The node that a batch goes to, where there is such a batch.
+    /// The node that a batch goes to, if there is such a batch.
     pub fn node(&self, number: usize) -> Option<&'a NodeAddress>
         ensures node { option_map (λ node. node.now) result
             ≡ slice_get self.now.batches.nodes number }
@@ -131,7 +131,7 @@ impl<'a> PipelinePlan<'a> {
         self.batches.node(number)
     }
 
-    /// The commands of a batch, in the order in which its node is to take them, where there is such a
+    /// The commands of a batch, in the order in which its node is to take them, if there is such a
     /// batch.
     ///
     /// # Errors
@@ -150,7 +150,7 @@ impl<'a> PipelinePlan<'a> {
     ///
     /// # Errors
     ///
-    /// Gives the answers back where there is no such batch, its answers were told before, or there
+    /// Gives the answers back if there is no such batch, it has its answers, or there
     /// are not as many as commands.
     pub fn tell(
         &mut self,
@@ -186,13 +186,13 @@ impl<'a> PipelinePlan<'a> {
         self.batches.tell(number, answers)
     }
 
-    /// The reply to each command, in the order of the commands, once each batch was told: its own
-    /// answer, or the one reply that those to its parts make, or the error of its first part that has
-    /// one.
+    /// The reply to each command, in the order of the commands, once each batch has its answers. It
+    /// is the command's own answer, or the one reply that those to its parts make, or the error of
+    /// its first part that has one.
     ///
     /// # Errors
     ///
-    /// Of kind `Client` where a batch was not told, and `OutOfMemory`.
+    /// Of kind `Client` if a batch has no answers, and `OutOfMemory`.
     pub fn combine(self, alloc: Global) -> RedisResult<Vec<Result<Value, RedisError>>>
         ensures replies { IfOk result (λ replies. AreRepliesTo self.entry.splits
             (map answer_of self.entry.batches.answers) (map answer_of replies.items)) }

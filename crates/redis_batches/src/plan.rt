@@ -88,7 +88,7 @@ impl<'a> BatchPlan<'a> {
         })
     }
 
-    /// The parts of a batch, in the order in which its node is to take them, where there is such a
+    /// The parts of a batch, in the order in which its node is to take them, if there is such a
     /// batch.
     ///
     /// # Errors
@@ -113,7 +113,7 @@ impl<'a> BatchPlan<'a> {
         self.places.len()
     }
 
-    /// The node that a batch goes to, where there is such a batch.
+    /// The node that a batch goes to, if there is such a batch.
     pub fn node(&self, number: usize) -> Option<&'a NodeAddress>
         ensures node { option_map (λ node. node.now) result ≡ slice_get self.now.nodes number }
         ensures plan { IsPlan self.now }
@@ -126,7 +126,7 @@ impl<'a> BatchPlan<'a> {
     ///
     /// # Errors
     ///
-    /// Gives the answers back where there is no such batch, its answers were told before, or there
+    /// Gives the answers back if there is no such batch, it has its answers, or there
     /// are not as many as parts.
     pub fn tell(
         &mut self,
@@ -163,11 +163,11 @@ impl<'a> BatchPlan<'a> {
         Ok(())
     }
 
-    /// The answer to each part, in the order of the parts, once each batch was told.
+    /// The answer to each part, in the order of the parts, once each batch has its answers.
     ///
     /// # Errors
     ///
-    /// Of kind `Client` where a batch was not told.
+    /// Of kind `Client` if a batch has no answers.
     pub fn finish(self) -> RedisResult<Vec<Result<Value, RedisError>>>
         ensures all { OnOk result (list_all (λ told. told) self.entry.told ≡ true) }
         ensures answers { IfOk result (λ answers. answers.items ≡ self.entry.answers) }
@@ -190,7 +190,7 @@ impl<'a> BatchPlan<'a> {
         Ok(answers)
     }
 
-    /// The parts, and the answer to each, nil where none was told.
+    /// The parts, and the answer to each, nil if none came.
     pub(super) fn into_rest(self) -> (Vec<PartCommand<'a>>, Vec<Result<Value, RedisError>>)
         ensures parts { map sent_args result.0.items ≡ self.entry.parts }
         ensures answers { result.1.items ≡ self.entry.answers }
@@ -199,7 +199,7 @@ impl<'a> BatchPlan<'a> {
         (self.parts, self.answers)
     }
 
-    /// The answer to each part, and nil where none was told.
+    /// The answer to each part, and nil if none came.
     pub(super) fn into_answers(self) -> Vec<Result<Value, RedisError>>
         ensures answers { result.items ≡ self.entry.answers }
     {

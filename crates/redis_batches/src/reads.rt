@@ -14,8 +14,8 @@ use resp_core::Cmd;
 use std::alloc::{AllocError, Global};
 use std::collections::BTreeSet;
 
-/// The slots that a command of a pipeline may write to. Only a strategy asks for them: without one
-/// none is told.
+/// The slots that a command of a pipeline may write to, or none without a strategy, which alone
+/// asks for them.
 pub(super) fn written_slots(
     alloc: Global,
     commands: &[Cmd],

@@ -48,7 +48,7 @@ impl Error for Stopped {}
 
 /// Sends the batches of a plan in an order, a list that names each once, and tells the plan their
 /// answers. Whatever the order, keyspace and answers are those of one server that takes the parts in
-/// the order of the pipeline, but for those that a node refused.
+/// the order of the pipeline, except those that a node refused.
 ///
 /// # Errors
 ///

@@ -72,7 +72,7 @@ fn task_of<'a>(
     }
 }
 
-/// The slot that a command goes to, where it goes to a node of one slot.
+/// The slot that a command goes to, if it goes to a node of one slot.
 fn slot_routed(info: &RoutingInfo) -> Option<u16>
     ensures { result ≡ slot_routed (Some (as_routing info.now)) }
 {

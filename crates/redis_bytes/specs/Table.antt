@@ -60,7 +60,7 @@ IsUnprinted nodes fault = (fault ≡ Memory) ⊎ ((fault ≡ LineFeedInHost) × 
 abbrev pub node_line : Address → List ℕ
 node_line node = display_text node ++ line_feed ∷ []
 
--- 65535 where no entry answers for the route's slot; else the number, among the nodes, of the one
+-- 65535 if no entry answers for the route's slot; else the number, among the nodes, of the one
 -- that the route asks for
 abbrev pub IsNumbered : List (RangeEntry SlotNodes) → List Address → SlotRoute → ℕ → ℕ → Type 0
 IsNumbered entries nodes route pick number =

@@ -23,13 +23,13 @@ use std::alloc::Global;
 /// order of the parts, whatever the order is in which they came. Where the parts of
 /// `DEL foo bar baz` answered `:1`, `:0` and `:1`, it is `:2`.
 ///
-/// An error among the replies is never combined: it is told with its number and its text.
+/// An error among the replies is never combined: it is reported with its number and its text.
 ///
 /// # Errors
 ///
 /// In this order. For the request as `split`. `Reply` or `Error` for the first reply that cannot be
-/// read or is an error. `AfterReplies` where bytes follow the last one. `Unfit` where they are not
-/// what the parts answer with. `NoForm` where the one reply has no form. `Memory` if memory runs
+/// read or is an error. `AfterReplies` if bytes follow the last one. `Unfit` if they are not
+/// what the parts answer with. `NoForm` if the one reply has no form. `Memory` if memory runs
 /// out.
 pub fn combine(
     alloc: Global,

@@ -8,7 +8,7 @@ use resp::{ReadError, Response, read};
 use resp_core::Value;
 use std::alloc::Global;
 
-/// The reply of this number, which the bytes begin with, where it is a value, and what follows it.
+/// The reply of this number, which the bytes begin with, if it is a value, and what follows it.
 fn value_at(alloc: Global, number: usize, bytes: &[u8]) -> Result<(Value, &[u8]), BytesFault>
     ensures found { IfOk result (λ x. (form : List ℕ)
         × (bytes.now ≡ form ++ x.1.now) × IsReply (view x.0) form) }

@@ -16,7 +16,7 @@ use std::alloc::Global;
 ///
 /// # Errors
 ///
-/// `Request` where the bytes begin no whole request, `AfterRequest` where bytes follow it. `Memory`
+/// `Request` if the bytes begin no whole request, `AfterRequest` if bytes follow it. `Memory`
 /// if memory runs out.
 pub fn route(
     alloc: Global,

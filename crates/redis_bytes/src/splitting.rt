@@ -32,8 +32,8 @@ pub struct Parts {
 ///
 /// # Errors
 ///
-/// In this order: `Request` where the bytes begin no whole request, `AfterRequest` where bytes follow
-/// it, `NotMultiKey` where it is not one of those that are split by slot, or is not complete.
+/// In this order: `Request` if the bytes begin no whole request, `AfterRequest` if bytes follow
+/// it, `NotMultiKey` if it is not one of those that are split by slot, or is not complete.
 /// `Memory` if memory runs out.
 pub fn split(alloc: Global, request: &[u8], names: Names<'_>) -> Result<Parts, BytesFault>
     // The bytes are one request, and the parts are those of its split.

@@ -33,8 +33,8 @@ pub struct Table {
 ///
 /// # Errors
 ///
-/// `Reply` with 0 where the reply cannot be read, `Error` with 0 where it is an error, `AfterReplies`
-/// where bytes follow it. `Memory` if memory runs out.
+/// `Reply` with 0 if the reply cannot be read, `Error` with 0 if it is an error, `AfterReplies`
+/// if bytes follow it. `Memory` if memory runs out.
 pub fn slot_map(alloc: Global, reply: &[u8], answering: &str) -> Result<SlotMap, BytesFault>
     ensures entries { IfOk result (λ map. (said : Reply) × IsReply said reply.now
         × (map ≡ entries_in answering.now said)) }
@@ -53,12 +53,12 @@ pub fn slot_map(alloc: Global, reply: &[u8], answering: &str) -> Result<SlotMap,
 }
 
 /// The table of the bytes of a reply to `CLUSTER SLOTS`: for each slot the number of the node that a
-/// route there asks for, by `addr` and `pick`, or `NO_NODE` where no range holds for it. Each node
+/// route there asks for, by `addr` and `pick`, or `NO_NODE` if no range holds for it. Each node
 /// stands in it once.
 ///
 /// # Errors
 ///
-/// As `slot_map`, and `LineFeedInHost` where a slot's node has a line feed in its host.
+/// As `slot_map`, and `LineFeedInHost` if a slot's node has a line feed in its host.
 pub fn slot_table(
     alloc: Global,
     reply: &[u8],
@@ -123,7 +123,7 @@ fn number_at<'a>(
     }
 }
 
-/// The number of a node, which is put last where it is not among the others.
+/// The number of a node, which is put last if it is not among the others.
 fn number_of<'a>(
     nodes: &mut Vec<&'a NodeAddress>,
     places: &mut BTreeMap<&'a NodeAddress, u16>,

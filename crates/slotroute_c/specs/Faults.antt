@@ -1,4 +1,4 @@
--- The answer to each fault, and what is told of it.
+-- The answer to each fault, and what is reported of it.
 use Rattle.std.specs.Prelude.{◌≢◌, ℕ}
 use Rattle.resp.specs.declared.fault.ReadError.{ReadError}
 use Rattle.resp.specs.declared.fault.ReadError.TheVariants as read
@@ -34,12 +34,12 @@ outcome_of faults.LineFeedInHost = LineFeedInHost
 abbrev pub IsOther : ℕ → Type 0
 IsOther number = (number ≢ code Done) × (number ≢ code TooSmall) × (number ≢ code NotText)
 
--- the fault of a request is told by the index of the byte
+-- the fault of a request is reported by the index of the byte
 abbrev pub with_request_fault : RequestFault → Told → Told
 with_request_fault request.Incomplete told = told
 with_request_fault (request.Malformed at) told = with_at at told
 
--- a fault is told by the index of the byte, or by the number of the reply
+-- a fault is reported by the index of the byte, or by the number of the reply
 abbrev pub with_fault : BytesFault → Told → Told
 with_fault (faults.Request fault) told = with_request_fault fault told
 with_fault (faults.AfterRequest end) told = with_at end told

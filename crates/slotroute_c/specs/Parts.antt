@@ -1,4 +1,4 @@
--- The parts of a request, and what is told of them.
+-- The parts of a request, and what is reported of them.
 use Rattle.std.specs.Prelude.{◌<◌, ◌⊎◌, ℕ, List, [], map, length}
 use Rattle.cluster_slots.specs.SlotRoute.{SlotRoute}
 use Rattle.redis_routing.specs.Names.{names_of}
@@ -17,7 +17,7 @@ abbrev pub ArePartsOf : List ℕ → Parts → Type 0
 ArePartsOf request parts =
     (split : Split) × IsSplitRequest (names_of [] []) request split × AreParts split parts
 
--- how many parts and bytes there are, is told
+-- how many parts and bytes there are, is reported
 abbrev pub with_parts : Parts → Told → Told
 with_parts parts told =
     with_sizes (length parts.routes.items) (length parts.bytes.items) told

@@ -1,4 +1,5 @@
--- The batches of a pipeline by a table of nodes' numbers, its replies, and what is told of them.
+-- The batches of a pipeline by a table of nodes' numbers, its replies, and what is reported of
+-- them.
 use Rattle.std.specs.Prelude.{◌<◌, ◌⊎◌, ℕ, List, [], map, length}
 use Rattle.cluster_slots.specs.Address.{Address}
 use Rattle.redis_batches.specs.Placed.{Ranges}
@@ -26,7 +27,7 @@ pub record AreBatchesBy (numbers requests : List ℕ) (batches : BatchBytes) : T
   pub plan_is : IsPlanOfRequests [] ranges requests plan
   pub are : AreBatchesOf plan.batches batches
 
--- how many batches and bytes there are, is told
+-- how many batches and bytes there are, is reported
 abbrev pub with_batches : BatchBytes → Told → Told
 with_batches batches told =
     with_sizes (length batches.nodes.items) (length batches.bytes.items) told
@@ -71,8 +72,8 @@ outcome_of_batch (faults.Reply batch number fault) = of_reply fault
 outcome_of_batch (faults.AfterReplies end) = AfterReplies
 outcome_of_batch (faults.NoForm number) = NoForm
 
--- a fault is told by the number of the request, the index of the byte, or the numbers of the batch
--- and of the reply to it
+-- a fault is reported by the number of the request, the index of the byte, or the numbers of the
+-- batch and of the reply to it
 abbrev pub with_batch_fault : BatchFault → Told → Told
 with_batch_fault faults.Memory told = told
 with_batch_fault (faults.Request number fault) told =

@@ -70,7 +70,7 @@ AreNamesFor only_reads request names = (words : Words) → IsRequest words reque
 abbrev pub routed_by : ℕ → Words → Routed
 routed_by only_reads words = routed_of (routing (names_for only_reads) (map Some words))
 
--- the node that a number asks for: the primary, or a replica where there is one
+-- the node that a number asks for: the primary, or a replica if there is one
 abbrev pub addr_of : ℕ → SlotAddr
 addr_of zero = Master
 addr_of (suc n) = ReplicaRequired

@@ -1,4 +1,4 @@
--- The table of a reply to CLUSTER SLOTS, and what is told of it.
+-- The table of a reply to CLUSTER SLOTS, and what is reported of it.
 use Rattle.std.specs.Prelude.{◌≡◌, ℕ, List, length}
 use Rattle.resp_core.specs.Reply.{Reply}
 use Rattle.cluster_map.specs.ReplyNode.{entries_in}
@@ -9,7 +9,7 @@ use Rattle.slotroute_c.specs.declared.told.Told.{Told}
 use Rattle.slotroute_c.specs.Fields.{with_sizes}
 use Rattle.slotroute_c.specs.Routed.{addr_of}
 
--- The bytes are one reply, and this is its table; how many numbers and bytes there are is told.
+-- The bytes are one reply, and this is its table; how many numbers and bytes there are is reported.
 pub record IsTableOf (reply answering : List ℕ) (addr pick : ℕ) (old new : Told)
     (table : Table) : Type 0 where
   pub said : Reply

@@ -7,7 +7,7 @@ use crate::told::Told;
 use redis_bytes::BytesFault;
 use resp::{Fault, RequestFault};
 
-/// The code of a fault, whose place is told.
+/// The code of a fault, whose place is reported.
 pub(super) fn code_of(fault: &BytesFault, told: &mut Told) -> u32
     ensures code { result ≡ code (outcome_of fault.now) }
     ensures told { told.new ≡ with_fault fault.now told.old }

@@ -47,7 +47,7 @@ pub extern "C" fn slotroute_reply_len(alloc: Global, bytes: &[u8], told: &mut To
 ///
 /// # Errors
 ///
-/// `RequestIncomplete` where more bytes can complete it; `RequestMalformed` where none can, with the
+/// `RequestIncomplete` if more bytes can complete it; `RequestMalformed` if none can, with the
 /// index of the first byte that stands in no request there.
 #[unsafe(no_mangle)]
 pub extern "C" fn slotroute_request_len(bytes: &[u8], told: &mut Told) -> u32

@@ -26,8 +26,8 @@ use std::alloc::{AllocError, Global};
 ///
 /// # Errors
 ///
-/// In this order: `RequestIncomplete`, `RequestMalformed` and `AfterRequest` where the bytes are not
-/// one request; `NotMultiKey` where it is not split by slot; `TooSmall` where a buffer is too small
+/// In this order: `RequestIncomplete`, `RequestMalformed` and `AfterRequest` if the bytes are not
+/// one request; `NotMultiKey` if it is not split by slot; `TooSmall` if a buffer is too small
 /// for what `told` says. `NoMemory` if memory runs out.
 #[unsafe(no_mangle)]
 pub extern "C" fn slotroute_split(
@@ -108,9 +108,9 @@ fn slots_in(alloc: Global, routes: &[Route]) -> Result<Vec<u16>, AllocError>
 /// # Errors
 ///
 /// In this order. For the request as `slotroute_split`. `ReplyIncomplete`, `ReplyMalformed`,
-/// `ReplyTooDeep` or `ReplyIsError` for the first reply that is no value, whose number is told.
-/// `AfterReplies` where bytes follow the last one. `Unfit` where they are not what the parts answer
-/// with. `NoForm` where the one reply has no form. `TooSmall` where it does not fit. `NoMemory` if
+/// `ReplyTooDeep` or `ReplyIsError` for the first reply that is no value, whose number is reported.
+/// `AfterReplies` if bytes follow the last one. `Unfit` if they are not what the parts answer
+/// with. `NoForm` if the one reply has no form. `TooSmall` if it does not fit. `NoMemory` if
 /// memory runs out.
 #[unsafe(no_mangle)]
 pub extern "C" fn slotroute_combine(

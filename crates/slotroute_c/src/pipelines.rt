@@ -25,8 +25,8 @@ use std::alloc::{AllocError, Global};
 ///
 /// In this order: `RequestIncomplete` and `RequestMalformed` for the first request that cannot be
 /// read, `NotRoutable` for the first command that goes to no single slot and is not split,
-/// `NotCovered` for the first slot that has no node. The number of the request is told. `TooSmall`
-/// where a buffer is too small for what `told` says. `NoMemory` if memory runs out.
+/// `NotCovered` for the first slot that has no node. `told` has the number of the request.
+/// `TooSmall` if a buffer is too small for what `told` says. `NoMemory` if memory runs out.
 #[unsafe(no_mangle)]
 pub extern "C" fn slotroute_split_pipeline(
     alloc: Global,
@@ -93,8 +93,8 @@ pub extern "C" fn slotroute_split_pipeline(
 ///
 /// In this order. For the requests as `slotroute_split_pipeline`. `ReplyIncomplete`,
 /// `ReplyMalformed` or `ReplyTooDeep` for the first reply that cannot be read, whose batch and
-/// number are told. `AfterReplies` where bytes follow the last one. `NoForm` where the reply to a
-/// request has no form, whose number is told. `TooSmall` where they do not fit. `NoMemory` if memory
+/// number are reported. `AfterReplies` if bytes follow the last one. `NoForm` if the reply to a
+/// request has no form, whose number is reported. `TooSmall` if they do not fit. `NoMemory` if memory
 /// runs out.
 #[unsafe(no_mangle)]
 pub extern "C" fn slotroute_combine_pipeline(
@@ -170,7 +170,7 @@ fn numbers_of(alloc: Global, nodes: &[NodeAddress]) -> Result<Vec<u16>, AllocErr
     Ok(numbers)
 }
 
-/// The code of a pipeline's fault, whose place is told.
+/// The code of a pipeline's fault, whose place is reported.
 fn code_of_batch(fault: &BatchFault, told: &mut Told) -> u32
     ensures code { result ≡ code (outcome_of_batch fault.now) }
     ensures told { told.new ≡ with_batch_fault fault.now told.old }

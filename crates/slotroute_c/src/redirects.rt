@@ -12,7 +12,7 @@ use cluster_slots::Slot;
 use redis_routing::Redirect;
 use std::alloc::Global;
 
-/// A redirect, but for its host.
+/// A redirect without its host.
 #[repr(C)]
 #[derive(Clone, Copy)]
 pub struct RedirectNumbers {
@@ -32,8 +32,8 @@ pub struct RedirectNumbers {
 ///
 /// # Errors
 ///
-/// `NotText` where the text or `answering` is not UTF-8, `NoRedirect` where the text is another one,
-/// `TooSmall` where the host does not fit, which has `told.host_len` bytes; `NoMemory`.
+/// `NotText` if the text or `answering` is not UTF-8, `NoRedirect` if the text is another one,
+/// `TooSmall` if the host does not fit, which has `told.host_len` bytes; `NoMemory`.
 #[unsafe(no_mangle)]
 pub extern "C" fn slotroute_redirect(
     alloc: Global,

@@ -41,7 +41,7 @@ pub struct Routed {
 ///
 /// # Errors
 ///
-/// `RequestIncomplete`, `RequestMalformed` and `AfterRequest` where the bytes are not one request.
+/// `RequestIncomplete`, `RequestMalformed` and `AfterRequest` if the bytes are not one request.
 /// `NoMemory` if memory runs out.
 #[unsafe(no_mangle)]
 pub extern "C" fn slotroute_route(
@@ -107,7 +107,7 @@ fn names_for(alloc: Global, request: &[u8], only_reads: u32) -> Result<ReadOnlyN
     Ok(names)
 }
 
-/// The node that a number asks for: 0 for the primary, else a replica where there is one.
+/// The node that a number asks for: 0 for the primary, else a replica if there is one.
 pub(super) fn addr_of(number: u32) -> SlotAddr
     ensures { result ≡ addr_of number }
 {

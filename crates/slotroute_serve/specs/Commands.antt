@@ -33,11 +33,11 @@ use Rattle.slotroute_serve.specs.declared.refusal.Refusal.TheVariants.{NotMultiK
 abbrev pub only_reads : List ℕ → Bool
 only_reads = is_among (codes "MGET" ∷ codes "JSON.MGET" ∷ codes "EXISTS" ∷ [])
 
--- what is told of names, where these are registered
+-- what is reported of names, where these are registered
 abbrev pub names_with : Registrations → Names
 names_with registered = record { only_reads = only_reads; registered = registered }
 
--- the node of a route: the primary, or where a strategy is handed in, for a read any candidate
+-- the node of a route: the primary, or where a strategy is passed, for a read any candidate
 abbrev pub IsRunNode : Bool → List (RangeEntry SlotNodes) → SlotRoute → Address → Type 0
 IsRunNode false entries route address = IsNodeOfRoute entries route 0 address
 IsRunNode true entries route address = IsPickedNode IsCandidate entries route address
@@ -70,13 +70,13 @@ IsRefused registered entries words NodeRefused = ⊥
 IsRefused registered entries words ReplyLost = ⊥
 IsRefused registered entries words BadReply = ⊥
 
--- why a command is not run, but for memory
+-- why a command is not run, except for memory
 abbrev pub WhyNotRun : Registrations → List (RangeEntry SlotNodes) → List (List ℕ) → CommandFault
     → Type 0
 WhyNotRun registered entries words (Refused refusal) = IsRefused registered entries words refusal
 WhyNotRun registered entries words Memory = ⊤
 
--- what is told of a command that has no plan
+-- what is reported of a command that has no plan
 abbrev pub fault_of_plan : PlanFault → CommandFault
 fault_of_plan unplanned.NotMultiKey = Refused NotMultiKey
 fault_of_plan (unplanned.NotCovered slot) = Refused (NotCovered slot)

@@ -77,7 +77,7 @@ abbrev pub WhyNoMap : List (List (List ℕ)) → MapFault → Type 0
 WhyNoMap lines (map.BadLine number) = IsFirstBadLine lines number
 WhyNoMap lines trouble = ⊤
 
--- what is left of the input where there is no map
+-- what is left of the input if there is no map
 abbrev pub IsInputLeft : List ℕ → List ℕ → MapFault → Type 0
 IsInputLeft input left (map.BadLine number) = left ≡ after_lines number input
 IsInputLeft input left trouble = StopsInMap input left

@@ -113,7 +113,7 @@ abbrev pub first_after_map : List ℕ → ℕ
 first_after_map input = length (leading_lines input) + 2
 
 -- what is left of the input, what goes to the output and to the error stream, and the status, where
--- a strategy is handed in or not
+-- a strategy is passed or not
 pub data Output (handed : Bool)
     : List (List ℕ) → List ℕ → List ℕ → List ℕ → List ℕ → ℕ → Type 0 where
   usage : (words : List (List ℕ)) (input : List ℕ) → ¬ (IsRequest words)

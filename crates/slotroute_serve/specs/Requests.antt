@@ -21,7 +21,7 @@ abbrev pub AsksFor : List (List ℕ) → Request → Type 0
 AsksFor words (Answer question) = Asks words question
 AsksFor words (Run direction) = IsRunWords direction words
 
--- why a question has no answer on a map, where these names are registered
+-- why a question has no answer on a map, if these names are registered
 abbrev pub WhyNoAnswer : Registrations → Question → AnswerFault → Type 0
 WhyNoAnswer registered (Node key) fault = fault ≡ Memory
 WhyNoAnswer registered (Split command) fault =

@@ -105,7 +105,7 @@ Explains handed words input left out_old out_new trouble =
     × IsUnfinished handed words input left outs
 
 -- memory was refused or a stream failed, where calls that read, write or tell may fail: what was
--- read and written till then, and what was told of it
+-- read and written till then, and what was reported of it
 pub record HasFault (reads writes tells : Type 0) (handed : Bool) (words : List (List ℕ))
     (input left out_old out_new err_old err_new : Option (List ℕ)) (status : ℕ) : Type 0 where
   pub fault : Fault
@@ -123,8 +123,8 @@ Serves reads writes tells handed words input left out_old out_new err_old err_ne
     HasOutput handed words input left out_old out_new err_old err_new status
     ⊎ HasFault reads writes tells handed words input left out_old out_new err_old err_new status
 
--- memory was refused, of which the whole line was told; the commands of a run before that printed
--- what they print, and nothing else was written
+-- Memory was refused, and the whole line of that was written. The commands of a run before that
+-- printed what they print, and nothing else was written.
 pub record RanOutOfMemory (handed : Bool) (words : List (List ℕ))
     (input left out_old out_new err_old err_new : Option (List ℕ)) (status : ℕ) : Type 0 where
   pub outs : List ℕ

@@ -35,14 +35,14 @@ part_line part =
     ++ flat_map (λ word. space ∷ word) part.words ++ line_feed ∷ []
 
 -- the part of a command that a route is for, by the parts of slots, and the node of the route,
--- which is none where no range answers for its slot
+-- which is none if no range answers for its slot
 pub record IsRoutedPart (entries : List (RangeEntry SlotNodes)) (parts_by_slot : ℕ → Arguments)
     (route : SlotRoute) (part : RoutedPart) : Type 0 where
   pub slot : part.slot ≡ route.slot
   pub node : MatchOption part.node (IsUncovered entries route.slot) (IsNodeOfRoute entries route 0)
   pub words : map Some part.words ≡ parts_by_slot route.slot
 
--- 1 where a part has no node
+-- 1 if a part has no node
 abbrev pub split_status : List RoutedPart → ℕ
 split_status parts = if list_any (λ part. is_none part.node) parts then 1 else 0
 

@@ -35,8 +35,8 @@ pub fn read_only_names(alloc: Global) -> Result<ReadOnlyNames, AllocError>
 ///
 /// # Errors
 ///
-/// `Refused` where it is no multi-key command, is not complete, or has a key whose slot
-/// has no node. Nothing was sent then. `Memory` where memory ran out, after any number of parts.
+/// `Refused` if it is no multi-key command, is not complete, or has a key whose slot
+/// has no node. Nothing was sent then. `Memory` if memory ran out, after any number of parts.
 pub fn run_command(
     alloc: Global,
     direction: &Direction,

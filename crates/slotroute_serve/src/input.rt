@@ -100,7 +100,7 @@ pub(super) fn fields_in(alloc: Global, line: &[u8]) -> Result<Vec<&[u8]>, AllocE
         .collect(alloc)
 }
 
-/// Adds what a line with these fields makes, and tells whether it is a map line.
+/// Adds what a line with these fields makes, and returns whether it is a map line.
 fn add_line(alloc: Global, fields: &[&[u8]], made: &mut LeadingLines) -> Result<bool, AllocError>
     ensures good { IfOk result (λ good. good ≡ true
         → IsMapLine (map (λ field. field.now) fields.now) (made_in made.old) (made_in made.new)) }

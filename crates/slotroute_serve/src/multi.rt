@@ -8,7 +8,7 @@ use redis_cluster::routing::{
 };
 use std::alloc::{AllocError, Global};
 
-/// Registers the name of a line with these fields, and tells whether it could.
+/// Registers the name of a line with these fields, and returns whether it could.
 pub(super) fn register_line(
     alloc: Global,
     fields: &[&[u8]],

@@ -29,9 +29,9 @@ pub const USAGE: &str =
 ///
 /// What was asked for goes to `out`, and a fault goes to `err` as one line. The status is 0, 1 or
 /// 2, as for a fault. Streams may tell contracts nothing of their bytes, as standard input and
-/// output do: the status is bounded and other words are refused there too. A strategy that is
-/// handed in picks the nodes that the reads of `run` go to, whatever its last word is; it is told
-/// the shards of the map once, before the first command.
+/// output do. The status is bounded then, too, and other words are refused. A strategy that is
+/// passed picks the nodes that the reads of `run` go to, whatever its last word is. It gets the
+/// shards of the map once, before the first command.
 pub fn serve<R: BufRead, O: Write, E: Write>(
     alloc: Global,
     words: &[String],

@@ -10,7 +10,7 @@ use Rattle.redis_batches.specs.Pipeline.{Answer}
 use Rattle.redis_batches.specs.Taken.{Batch, batch_for, batch_entries, lost_entries}
 
 -- what came back: an answer to each command, whatever it is, a refusal of the batch, a redirect, or
--- nothing but an error that tells why
+-- nothing but an error
 pub data Outcome : Type 0 where
   given : List Answer → Outcome
   refusal : ErrorParts → Outcome

@@ -21,9 +21,9 @@ pub trait BatchTransport {
     ///
     /// # Errors
     ///
-    /// `Refused` where nothing was written, as to a node that can't be reached. `Redirected` where
-    /// nothing was written and the client is to go elsewhere. `Lost` where answers are missing, as
-    /// where time ran out: any of the commands may have run. `Memory` where nothing was sent.
+    /// `Refused` if nothing was written, as to a node that can't be reached. `Redirected` where
+    /// nothing was written and the client is to go elsewhere. `Lost` if answers are missing, as
+    /// if time ran out: any of the commands may have run. `Memory` if nothing was sent.
     fn exchange(
         &mut self,
         node: &NodeAddress,
@@ -98,7 +98,7 @@ fn with_length(
 impl<T: BatchTransport> BatchWire for LoggedBatches<T> {
     ghost log = { λ wire. map said_by wire.sends.items };
 
-    // each exchange is one of the transport, whose outcome it gives, but for a wrong number of answers
+    // each exchange is one of the transport, whose outcome it gives, except for a wrong number
     ghost went = { λ old node commands outcome new. (came : Came)
         × T.went old.transport node commands came new.transport
         × (outcome ≡ in_length (length commands) came) };

@@ -21,8 +21,8 @@ pub trait BatchWire {
     ///
     /// # Errors
     ///
-    /// `Refused` where the node refused the batch. `Redirected` where it sent the client on. `Lost`
-    /// where answers are missing. `Memory` where memory ran out before anything was sent.
+    /// `Refused` if the node refused the batch. `Redirected` if it sent the client on. `Lost`
+    /// if answers are missing. `Memory` if memory ran out before anything was sent.
     fn exchange(
         &mut self,
         node: &NodeAddress,
