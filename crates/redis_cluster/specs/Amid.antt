@@ -14,9 +14,10 @@ use Rattle.redis_cluster.specs.Unsplit.{Step, Keyspace, keyspace_after, reply_to
 abbrev pub Moments : Type 0 → Type 0
 Moments C = ℕ → Keyspace C
 
--- One keyspace has, at each key of the command, what the key's node held when it ran the key's part.
+-- One keyspace has, at each key of the command, what the key's node held when it ran the key's
+-- part.
 --
--- `MGET a b`, and another client's `MSET a 1 b 1` comes between the two parts:
+-- `MGET a b` runs at `a` first, and another client's `MSET a 1 b 1` comes between the two parts:
 --     the keyspace has the old `a` and the new `b`. No server ever held it.
 -- The part of `a` goes to a replica that lags: the keyspace has the `a` of the replica.
 -- `b` expires between the parts, and its part is the second: the keyspace has no `b`.
@@ -37,8 +38,8 @@ replies_by step command held =
 -- command is that of the unsplit command, on each keyspace that is assembled of that.
 --
 -- `MGET a b` as above replies the old `a` and the new `b`.
--- `DEL a b`, and another client deletes `b` between the parts: the keyspace has no `b`, so the reply
---     counts `a` alone.
+-- `DEL a b` runs at `a` first, which is there, and another client deletes `b` between the parts:
+--     the keyspace has no `b`, so the reply counts `a` alone.
 abbrev pub IsReplyAmid : (C : Type 0) → MultiKey → List Reply → Reply → Type 0
 IsReplyAmid C command replies value =
     (step : Step C) (held : Moments C) (one : Keyspace C) → IsAssembled command held one
@@ -62,14 +63,13 @@ after_parts step command (slot ∷ slots) keyspace =
     after_parts step command slots (keyspace_after step (part_of command slot) keyspace)
 
 -- The part of a slot leaves at each key of the slot what the unsplit command leaves there, whatever
--- stands at other keys. It leaves the keys of other slots as they were. So if nobody else writes these
--- keys, the keyspace at first is assembled: the node of each slot holds what parts of other slots left
--- of it.
+-- stands at other keys. It leaves the keys of other slots as they were. So if no key of the command
+-- changes but by these parts, the keyspace at first is assembled: the node of each slot holds what
+-- parts of other slots left of it.
 --
--- `MSET a 1 b 2`, and another client deletes `a` after the part of `a`: 1 is what the node of `a` held
---     right after the part, and what the unsplit command leaves. It need not be there at the return.
--- `MSET a 1 b 2`, and the node of `b` refuses: the node of `a` held 1 right after the part of `a`.
--- `MGET a b`, and nobody else writes: the reply is that on the keyspace that stood at the call.
+-- `MSET a 1 b 2`, and another client deletes `a` after the part of `a`: 1 is what the part left, and
+--     what the unsplit command leaves. It need not be there at the return.
+-- `MSET a 1 b 2`, and the node of `b` refuses: the part of `a` left 1, as the unsplit command does.
 pub record ActsBySlot (C : Type 0) (command : MultiKey) : Type 0 where
   pub left : (step : Step C) (slot : ℕ) (held one : Keyspace C) (key : List ℕ) → key_slot key ≡ slot
       → one key ≡ held key

@@ -64,9 +64,9 @@ use std::alloc::Global;
 /// a server that has, at each key, what the key's node held at that moment. What the command leaves
 /// there is, at each key, what the node held right after the part.
 ///
-/// If nobody else writes these keys meanwhile, that is what stood at the call. So keyspace and
-/// reply are those of the unsplit command, whatever it does to a single key, whatever the order.
-/// Arguments from the first gap on are not sent.
+/// If during the call nobody else changes these keys, none expires and no replica lags, that is
+/// what stood at the call. So keyspace and reply are those of the unsplit command, whatever it does
+/// to a single key, whatever the order. Arguments from the first gap on are not sent.
 ///
 /// # Errors
 ///
@@ -118,8 +118,9 @@ pub fn drive<R: Routable, N: Nodes>(
         slot_map.now order.now)
         (N.state nodes.old) (N.state nodes.new)
         (view value)) }
-    // There is a reply if the command can be driven, no node may refuse or redirect, and no reply
-    // may be lost, unless memory runs out. Nobody knows that of connections: see `carried`.
+    // There is a reply if the command can be driven, no node may refuse or redirect, no reply may
+    // be lost and the nodes keep to one meaning, unless memory runs out. Nobody knows that of
+    // connections: see `carried`.
     ensures headline { IsUnhindered (N.may_refuse nodes.old)
         (request (R.args command.now) (names_of read_only.now (N.registered nodes.old))
         slot_map.now order.now)

@@ -113,8 +113,9 @@ pub fn drive_retrying<R: Routable, N: Nodes>(
         N.step (request (R.args command.now) (names_of read_only.now (N.registered nodes.old)) slot_map.now order.now)
         (N.state nodes.old) (N.state nodes.new)
         (view value)) }
-    // There is a reply if the command can be driven, no node may refuse or redirect, and no reply
-    // may be lost, unless memory runs out. Nobody knows that of connections: see `carried`.
+    // There is a reply if the command can be driven, no node may refuse or redirect, no reply may
+    // be lost and the nodes keep to one meaning, unless memory runs out. Nobody knows that of
+    // connections: see `carried`.
     ensures headline { IsUnhindered (N.may_refuse nodes.old)
         (request (R.args command.now) (names_of read_only.now (N.registered nodes.old)) slot_map.now order.now)
         (N.state nodes.old).trace → IfErr result (λ e. N.kept nodes.new → e.fault ≡ DriveFault.Memory) }

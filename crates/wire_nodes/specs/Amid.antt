@@ -44,9 +44,10 @@ module _ (registered : Registrations) (old new : List Said) where
         All (λ t. one t.key ≡ keyspace_after step part (held number) t.key) part.tuples)
 
 -- The command is complete. Take any meaning of commands, and any keyspace that is assembled of what
--- the nodes held at the sends by which the log grew. If each node replied by what it held, the value is
--- the reply of the unsplit command on that keyspace. What the unsplit command leaves there is, at each
--- key, what the key's node holds right after the send. What was sent, and where, is not said here.
+-- the nodes held at the sends by which the log grew. If each node replied by what it held, the
+-- value is the reply of the unsplit command on that keyspace. What the unsplit command leaves there
+-- is, at each key, what the part leaves of what its node held. What was sent, and where, is not
+-- said here.
 pub record IsServedAt (C : Type 0) (registered : Registrations) (args : Arguments)
     (old new : List Said) (value : Reply) : Type 0 where
   pub command : MultiKey

@@ -1,12 +1,15 @@
-ghost use Rattle.std.specs.Prelude.{◌≡◌, map, IfOk, IfErr, ⊤};
+ghost use Rattle.std.specs.Prelude.{◌≡◌, map, Ok, Err, IfOk, IfErr, ⊤};
+ghost use Rattle.resp_core.specs.ErrorParts.{ErrorParts};
 ghost use Rattle.resp_core.specs.View.{view};
 ghost use Rattle.cluster_map.specs.RouteNode.{IsRouteNode};
 ghost use Rattle.redis_routing.specs.Names.{names_of};
 ghost use Rattle.redis_cluster.specs.Driven.{request, IsDelivered};
 ghost use Rattle.redis_cluster.specs.Faults.{IsCut, unseen};
+ghost use Rattle.redis_cluster.specs.Joined.{IsJoined};
+ghost use Rattle.redis_cluster.specs.declared.fault.DriveFault.TheVariants.{Reply};
 ghost use Rattle.wire_nodes.specs.Amid.{IsServedAt};
 ghost use Rattle.wire_nodes.specs.Held.{registry_in, wire_in};
-ghost use Rattle.wire_nodes.specs.Said.{entry_by};
+ghost use Rattle.wire_nodes.specs.Said.{entry_by, replies_in};
 
 use crate::nodes::{Meaning, WireNodes};
 use crate::wire::Wire;
@@ -18,11 +21,11 @@ use std::alloc::Global;
 
 /// Sends a multi-key command part by part over connections, as `drive` does.
 ///
-/// Other clients may write the same keys meanwhile, and replicas may lag. Each node runs its part at
-/// one moment, on what it holds then. The reply is that of the unsplit command on a server that has,
-/// at each key, what the key's node held at that moment. What the command leaves there is, at each
-/// key, what the node held right after the part. The one premise is that each node replied to its
-/// part by what it held.
+/// Other clients may write the same keys meanwhile, and replicas may lag. Each node runs its part
+/// at one moment, on what it holds then. The reply is that of the unsplit command on a server that
+/// has, at each key, what the key's node held at that moment. What the command leaves there is, at
+/// each key, what the node held right after the part. The one premise is that each node runs its
+/// part, and replies to it, by what it holds.
 ///
 /// # Errors
 ///
@@ -51,6 +54,16 @@ pub fn drive_over<R: Routable, W: Wire, M: Meaning>(
         (unseen (⟦<WireNodes<W, M> as Nodes>⟧.state client.old))
         (unseen (⟦<WireNodes<W, M> as Nodes>⟧.state client.new))
         (λ count ending. ⊤) e.fault e.answered) }
+    // The reply is made of the values that came, as the command's policy says.
+    ensures joined { IfOk result (λ value.
+        IsJoined (names_of read_only.now (registry_in client.old)) (R.args command.now) order.now
+        (λ replies. replies ≡ replies_in (W.log (wire_in client.old)))
+        (λ replies. replies ≡ replies_in (W.log (wire_in client.new))) (Ok (view value))) }
+    // Or the policy refuses them, with an error of this kind.
+    ensures unjoined { IfErr result (λ e. (error : ErrorParts) → e.fault ≡ Reply error →
+        IsJoined (names_of read_only.now (registry_in client.old)) (R.args command.now) order.now
+        (λ replies. replies ≡ replies_in (W.log (wire_in client.old)))
+        (λ replies. replies ≡ replies_in (W.log (wire_in client.new))) (Err error.kind)) }
     // Others may write the same keys meanwhile, and replicas may lag. If each node replied to its part
     // by what it held, the reply is that of the unsplit command on that.
     ensures amid { IfOk result (λ value.
