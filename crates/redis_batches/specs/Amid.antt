@@ -23,6 +23,6 @@ abbrev pub AreServedAmid : Type 0 → List Task → (given replies : List Answer
 AreServedAmid C tasks given replies =
     (before later : List Task) (command : MultiKey) → tasks ≡ before ++ over_keys command ∷ later
     → ((step : Step C) (held : Moments C) (one : Keyspace C) → IsAssembled command held one
-      → own_answers before command given ≡ map Ok (replies_by step command held)
-      → slice_get replies (length before) ≡ Some (Ok (reply_to step command one)))
+    → own_answers before command given ≡ map Ok (replies_by step command held)
+    → slice_get replies (length before) ≡ Some (Ok (reply_to step command one)))
     × ActsBySlot C command

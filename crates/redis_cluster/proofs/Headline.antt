@@ -1,8 +1,7 @@
--- Where a command can be driven and no node may refuse, only memory is left as a fault.
-use Rattle.std.proofs.Common.{◌≡◌, ◌⊎◌, inl, inr, ◌<◌, ℕ, ◌+◌, List, [], ◌∷◌, ◌++◌, Some, None, All, refl, sym, ap, ◌∙◌, arith, subst, take, length}
-use Rattle.std.proofs.lemmas.List.{length-append, length-take-le, append_assoc, append_cancel_left}
+-- If a command can be driven and no node may refuse, only memory is left as a fault.
+use Rattle.std.proofs.Common.{◌≡◌, inl, inr, ◌<◌, ℕ, ◌+◌, List, [], ◌∷◌, ◌++◌, Option, Some, None, All, refl, sym, ap, ◌∙◌, arith, subst, take, length}
+use Rattle.std.proofs.lemmas.List.{length-append, length-take-le, length_push, append_assoc, append_cancel_left}
 use Rattle.std.proofs.lemmas.List.Elements.{All-head, All-tail}
-use Rattle.std.specs.Prelude.{slice_get}
 use Rattle.std.proofs.lemmas.Option.{slice_get_within}
 use Rattle.resp_core.specs.ErrorParts.{ErrorParts}
 use Rattle.cluster_slots.specs.Address.{Address}
@@ -18,7 +17,8 @@ use Rattle.std.proofs.lemmas.Slice.Zip.{AllZip-long}
 use Rattle.redis_cluster.specs.Unsplit.{Step}
 use Rattle.redis_cluster.specs.Driven.{Request, command_routes_by, IsDrivable, IsEntryOf, AreSent, AreAllAnswered, IsUnhindered}
 use Rattle.redis_cluster.specs.State.{State}
-use Rattle.redis_cluster.specs.Faults.{IsCauseBeforeSending, IsFault, IsNodeFault, IsLostFault}
+use Rattle.redis_cluster.specs.Attempts.{IsCause}
+use Rattle.redis_cluster.specs.Faults.{IsCauseBeforeSending, EndsOnce, IsAllowed, IsFault, IsFaultBy, WentOut, WereCutShort, up_to}
 use Rattle.redis_cluster.specs.declared.fault.DriveFault.{DriveFault}
 use Rattle.redis_cluster.specs.declared.fault.DriveFault.TheVariants.{NotMultiKey, NotCovered, BadOrder, Memory, Node, Redirected, Lost, Reply}
 use Rattle.redis_cluster.proofs.Constructors.{same_some}
@@ -57,52 +57,68 @@ module _ (r : Request) (asked : List SlotRoute) (command : MultiKey) (can : IsDr
   begins (Lost error) f = absurd f
   begins (Reply error) f = absurd f
 
--- It ends early only where a send is not answered.
-module _ {C : Type 0} (IsNode : SlotRoute → Address → Type 0) (step : Step C) (r : Request) (old new : State C) (may_refuse : ℕ → Ending → Type 0) (asked : List SlotRoute) (command : MultiKey) (can : IsDrivable r asked command) where
-  -- a send ended so, without an answer
-  abbrev pub IsUnended : Ending → ℕ → Type 0
-  IsUnended ending count = (ending ≡ answered → ⊥) × (IsNodeFault IsNode step r old new may_refuse ending count ⊎ (error : ErrorParts) × (ending ≡ lost error) × IsLostFault IsNode step r old new may_refuse error count)
+-- It has another fault only if a send was not answered.
+module _ (Answered : List SlotRoute → List Entry → List Entry → Type 0) (Ends : SlotRoute → Option Ending → List Entry → List Entry → Type 0) (r : Request) {C : Type 0} (old new : State C) (may_refuse : ℕ → Ending → Type 0) (count : ℕ) where
+  -- the sends reached up to a route, whose sends ended so
+  pub record ReachedUpTo (ending : Ending) : Type 0 where
+    pub routes : List SlotRoute
+    pub command : MultiKey
+    pub drivable : IsDrivable r routes command
+    pub went : WentOut Answered Ends r routes count (up_to (Some ending)) old.trace new.trace
+    pub allowed : IsCause may_refuse (length new.trace) new.mark (Some ending)
 
-  pub drivable_fault : (fault : DriveFault) (count : ℕ) → IsFault IsNode step r old new may_refuse fault count
-      → ((ending : Ending) → IsUnended ending count → ⊥) → fault ≡ Memory
-  drivable_fault NotMultiKey count f none = begins r asked command can NotMultiKey f.0
-  drivable_fault (NotCovered slot) count f none = begins r asked command can (NotCovered slot) f.0
-  drivable_fault BadOrder count f none = begins r asked command can BadOrder f.0
-  drivable_fault Memory count f none = refl
-  drivable_fault (Node error) count f none = absurd (none (refused error) (not_refused error, inl f))
-  drivable_fault (Redirected redirect) count f none = absurd (none (redirected redirect) (not_redirected redirect, inl f))
-  drivable_fault (Lost error) count f none = absurd (none (lost error) (not_lost error, inr (error, refl, f)))
-  drivable_fault (Reply error) count f none = absurd f
+  pub reached : (fault : DriveFault) (ending : Ending) (cut : WereCutShort Answered Ends r old new may_refuse fault count) → cut.reach ≡ up_to (Some ending) → ReachedUpTo ending
+  reached fault ending cut is = record {
+    routes = cut.routes;
+    command = cut.command;
+    drivable = cut.drivable;
+    went = subst (λ reach. WentOut Answered Ends r cut.routes count reach old.trace new.trace) is cut.went;
+    allowed = subst (IsAllowed Answered Ends r old new may_refuse) is cut.allowed;
+  }
 
-  -- where each entry that was added was answered, so was the last one
+  pub only_memory : (asked : List SlotRoute) (command : MultiKey) → IsDrivable r asked command → (step : Step C) (fault : DriveFault) → IsFaultBy Answered Ends r old new may_refuse step fault count
+      → ((ending : Ending) → ReachedUpTo ending → ending ≡ answered) → fault ≡ Memory
+  only_memory asked command can step fault (inl early) each = begins r asked command can fault early.0
+  only_memory asked command can step NotMultiKey (inr f) each = absurd f.0.reach_is
+  only_memory asked command can step (NotCovered slot) (inr f) each = absurd f.0.reach_is
+  only_memory asked command can step BadOrder (inr f) each = absurd f.0.reach_is
+  only_memory asked command can step Memory (inr f) each = refl
+  only_memory asked command can step (Node error) (inr f) each = absurd (not_refused error (each (refused error) (reached (Node error) (refused error) f.0 f.0.reach_is)))
+  only_memory asked command can step (Redirected redirect) (inr f) each = absurd (not_redirected redirect (each (redirected redirect) (reached (Redirected redirect) (redirected redirect) f.0 f.0.reach_is)))
+  only_memory asked command can step (Lost error) (inr f) each = absurd (not_lost error (each (lost error) (reached (Lost error) (lost error) f.0 f.0.reach_is)))
+  only_memory asked command can step (Reply error) (inr f) each = absurd (f.2 error refl)
+
+module _ {C : Type 0} (IsNode : SlotRoute → Address → Type 0) (step : Step C) (r : Request) (old new : State C) (may_refuse : ℕ → Ending → Type 0) where
+  -- the last send was allowed to end so
+  pub last_allowed : (fault : DriveFault) (count : ℕ) (ending : Ending) (cut : WereCutShort (AreSent IsNode r) (EndsOnce IsNode r) r old new may_refuse fault count) → cut.reach ≡ up_to (Some ending) → (number : ℕ) × may_refuse number ending
+  last_allowed fault count ending cut is =
+      let up = reached (AreSent IsNode r) (EndsOnce IsNode r) r old new may_refuse count fault ending cut is in
+      let (route, before, next, sent, (last, of_route, grew)) = up.went in
+      (length before, up.allowed (length before) (ap length grew ∙ length_push before last))
+
+  -- if each entry that was added was answered, so was the last one
   last_answered : AreAllAnswered old.trace new.trace → (routes : List SlotRoute) (before : List Entry) → AreSent IsNode r routes old.trace before → (last : Entry) → new.trace ≡ before ++ last ∷ [] → last.ending ≡ answered
   last_answered (entries, grew, all) routes before sent last is =
       let same : entries ≡ sent.entries ++ last ∷ [] = append_cancel_left old.trace entries (sent.entries ++ last ∷ []) (sym grew ∙ is ∙ ap (λ (b : List Entry). b ++ last ∷ []) sent.grew ∙ append_assoc old.trace sent.entries (last ∷ [])) in
       middle (λ (e : Entry). e.ending ≡ answered) sent.entries last [] (subst (All (λ (e : Entry). e.ending ≡ answered)) same all)
 
-  no_end : AreAllAnswered old.trace new.trace → (count : ℕ) (ending : Ending) → IsUnended ending count → ⊥
-  no_end all count ending (unlike, inl f) = unlike (sym f.refusal.2 ∙ last_answered all (take count (in_order f.routes r.order)) f.before f.stopped.answered.sent f.last f.trace)
-  no_end all count ending (unlike, inr (error, is, f)) = not_lost error (sym f.loss.2 ∙ last_answered all (take count (in_order f.routes r.order)) f.before f.sent f.last f.trace)
+  pub carried_fault : (asked : List SlotRoute) (command : MultiKey) → IsDrivable r asked command → AreAllAnswered old.trace new.trace → (fault : DriveFault) (count : ℕ) → IsFault IsNode step r old new may_refuse fault count → fault ≡ Memory
+  carried_fault asked command can all fault count f =
+      only_memory (AreSent IsNode r) (EndsOnce IsNode r) r old new may_refuse count asked command can step fault f
+      (λ ending up. let (route, before, next, sent, (last, of_route, grew)) = up.went in sym of_route.2 ∙ last_answered all (take count (in_order up.routes r.order)) before sent last grew)
 
-  pub carried_fault : AreAllAnswered old.trace new.trace → (fault : DriveFault) (count : ℕ) → IsFault IsNode step r old new may_refuse fault count → fault ≡ Memory
-  carried_fault all fault count f = drivable_fault fault count f (no_end all count)
+  module _ (h : IsUnhindered may_refuse r old.trace) where
+    must_answer : (count : ℕ) (ending : Ending) → ReachedUpTo (AreSent IsNode r) (EndsOnce IsNode r) r old new may_refuse count ending → ending ≡ answered
+    must_answer count ending up =
+        let (route, before, next, sent, (last, of_route, is)) = up.went in
+        let order = up.drivable.order in
+        let in_all : length (in_order up.routes r.order) ≡ length up.routes = length-in_order up.routes r.order order.below ∙ length-names_once (length up.routes) r.order order in
+        let within : count < length (in_order up.routes r.order) = slice_get_within (in_order up.routes r.order) count route next in
+        let taken : length (take count (in_order up.routes r.order)) ≡ count = length-take-le count (in_order up.routes r.order) (omega (arith, within)) in
+        let many : length sent.entries ≡ length (take count (in_order up.routes r.order)) = AllZip-long (IsEntryOf IsNode r answered) (take count (in_order up.routes r.order)) sent.entries sent.each in
+        let grew : length before ≡ length old.trace + length sent.entries = ap length sent.grew ∙ length-append old.trace sent.entries in
+        let same : length up.routes ≡ length h.routes = ap length (routes_same r h.routes h.command h.drivable up.routes up.drivable.is_covered.routes_are) in
+        h.willing (length before) (omega (arith, grew)) (omega (arith, grew, many, taken, within, in_all, same)) ending (up.allowed (length before) (ap length is ∙ length_push before last))
 
-module _ {C : Type 0} (IsNode : SlotRoute → Address → Type 0) (step : Step C) (r : Request) (old new : State C) (may_refuse : ℕ → Ending → Type 0) (h : IsUnhindered may_refuse r old.trace) where
-  no_ending : (ending : Ending) (count : ℕ) (routes : List SlotRoute) (command : MultiKey) → IsDrivable r routes command → (before : List Entry) → AreSent IsNode r (take count (in_order routes r.order)) old.trace before
-      → (route : SlotRoute) → slice_get (in_order routes r.order) count ≡ Some route → may_refuse (length before) ending → ending ≡ answered
-  no_ending ending count routes command drivable before sent route next allowed =
-      let order = drivable.order in
-      let in_all : length (in_order routes r.order) ≡ length routes = length-in_order routes r.order order.below ∙ length-names_once (length routes) r.order order in
-      let within : count < length (in_order routes r.order) = slice_get_within (in_order routes r.order) count route next in
-      let taken : length (take count (in_order routes r.order)) ≡ count = length-take-le count (in_order routes r.order) (omega (arith, within)) in
-      let many : length sent.entries ≡ length (take count (in_order routes r.order)) = AllZip-long (IsEntryOf IsNode r answered) (take count (in_order routes r.order)) sent.entries sent.each in
-      let grew : length before ≡ length old.trace + length sent.entries = ap length sent.grew ∙ length-append old.trace sent.entries in
-      let same : length routes ≡ length h.routes = ap length (routes_same r h.routes h.command h.drivable routes drivable.is_covered.routes_are) in
-      h.willing (length before) (omega (arith, grew)) (omega (arith, grew, many, taken, within, in_all, same)) ending allowed
-
-  unended : (count : ℕ) (ending : Ending) → IsUnended IsNode step r old new may_refuse h.routes h.command h.drivable ending count → ⊥
-  unended count ending (unlike, inl f) = unlike (no_ending ending count f.routes f.command f.stopped.drivable f.before f.stopped.answered.sent f.route f.next f.allowed)
-  unended count ending (unlike, inr (error, is, f)) = not_lost error (no_ending (lost error) count f.routes f.command f.drivable f.before f.sent f.route f.next f.allowed)
-
-  pub headline_fault : (fault : DriveFault) (count : ℕ) → IsFault IsNode step r old new may_refuse fault count → fault ≡ Memory
-  headline_fault fault count f = drivable_fault IsNode step r old new may_refuse h.routes h.command h.drivable fault count f (unended count)
+    pub headline_fault : (fault : DriveFault) (count : ℕ) → IsFault IsNode step r old new may_refuse fault count → fault ≡ Memory
+    headline_fault fault count f = only_memory (AreSent IsNode r) (EndsOnce IsNode r) r old new may_refuse count h.routes h.command h.drivable step fault f (must_answer count)

@@ -35,7 +35,7 @@ pub mod Allowed
 pub mod Trying
 pub mod Tries
 pub mod Laws
+pub mod Wider
 pub mod TriedOnce
 pub mod EachTry
-pub mod Wider
 pub mod Unhindered

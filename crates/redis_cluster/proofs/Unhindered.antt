@@ -8,20 +8,20 @@ use Rattle.cluster_slots.specs.Address.{Address}
 use Rattle.cluster_slots.specs.SlotRoute.{SlotRoute}
 use Rattle.redis_cluster.specs.MultiKey.{MultiKey}
 use Rattle.redis_cluster.specs.Orders.{in_order}
-use Rattle.redis_cluster.specs.Trace.{Entry, Ending, answered, refused, redirected, lost}
+use Rattle.redis_cluster.specs.Trace.{Entry, Ending, answered}
 use Rattle.redis_cluster.specs.Unsplit.{Step}
 use Rattle.redis_cluster.specs.Attempts.{Try, refusals, last_ending, next_place, next_address, AreBegun, AreAllowed, IsTried}
 use Rattle.redis_cluster.specs.Driven.{Request, IsDrivable, IsEntryOf, IsDelivered, AreAllAnswered, AreWilling, IsUnhindered}
 use Rattle.redis_cluster.specs.State.{State}
-use Rattle.redis_cluster.specs.Retried.{IsTryOf, AreTried, AreAllTried, IsStoppedAt, IsRetryFault}
+use Rattle.redis_cluster.specs.Retried.{IsTryOf, AreTried, AreAllTried, EndsTried, IsRetryFault}
 use Rattle.redis_cluster.specs.declared.fault.DriveFault.{DriveFault}
-use Rattle.redis_cluster.specs.declared.fault.DriveFault.TheVariants.{NotMultiKey, NotCovered, BadOrder, Memory, Node, Redirected, Lost, Reply}
+use Rattle.redis_cluster.specs.declared.fault.DriveFault.TheVariants.{Memory}
 use Rattle.redis_cluster.proofs.Constructors.{same_some, none_apart}
 use Rattle.redis_cluster.proofs.Once.{length-names_once}
 use Rattle.redis_cluster.proofs.Orders.{length-in_order}
 use Rattle.redis_cluster.proofs.Tries.{all_at}
 use Rattle.redis_cluster.proofs.Allowed.{at_front}
-use Rattle.redis_cluster.proofs.Headline.{routes_same, begins, not_refused, not_redirected, not_lost}
+use Rattle.redis_cluster.proofs.Headline.{routes_same, only_memory, ReachedUpTo}
 
 -- the first entries, so many, were answered
 abbrev pub AreFirstAnswered : ℕ → List Entry → Type 0
@@ -97,36 +97,29 @@ were_willing : (may_refuse : ℕ → Ending → Type 0) (old new : List Entry) (
 were_willing may_refuse old new many are willing number e below at =
     ⊎_elim (λ is. is) (λ may. willing (length old + number) (omega arith) (omega (arith, below)) e.ending may) (are.each number e at)
 
-module _ {C : Type 0} (IsTry : SlotRoute → Try → Type 0) (step : Step C) (r : Request) (old new : State C) (may_refuse : ℕ → Ending → Type 0) (asked : List SlotRoute) (command : MultiKey) (can : IsDrivable r asked command) (entries : List Entry) (grew : new.trace ≡ old.trace ++ entries)
-    (were : AreFirstAnswered (length asked) entries) where
-  no_stop : (ending : Ending) (count : ℕ) → IsStoppedAt IsTry step r old new may_refuse (Some ending) count → ending ≡ answered
-  no_stop ending count s =
-      let order = s.drivable.order in
-      let first = take count (in_order s.routes r.order) in
-      let same : length s.routes ≡ length asked = ap length (routes_same r asked command can s.routes s.drivable.is_covered.routes_are) in
-      let in_all : length (in_order s.routes r.order) ≡ length s.routes = length-in_order s.routes r.order order.below ∙ length-names_once (length s.routes) r.order order in
-      let within : count < length (in_order s.routes r.order) = slice_get_within (in_order s.routes r.order) count s.route s.next in
-      let taken : length first ≡ count = length-take-le count (in_order s.routes r.order) (omega (arith, within)) in
-      let last : AreFirstAnswered 1 s.tried.attempts = behind IsTry first old.trace s.before s.tried.attempts entries 1 s.answered (sym s.tried.grew ∙ grew)
-      (λ number e below at. were number e (omega (arith, below, taken, within, in_all, same)) at) in
-      (one_alone s.try ending s.tried.attempts s.tried.ended.0.begun s.tried.ended.1 last).2
-
-  only_memory : (fault : DriveFault) (count : ℕ) → IsRetryFault IsTry step r old new may_refuse fault count → fault ≡ Memory
-  only_memory NotMultiKey count f = begins r asked command can NotMultiKey f.0
-  only_memory (NotCovered slot) count f = begins r asked command can (NotCovered slot) f.0
-  only_memory BadOrder count f = begins r asked command can BadOrder f.0
-  only_memory Memory count f = refl
-  only_memory (Node error) count f = absurd (not_refused error (no_stop (refused error) count f))
-  only_memory (Redirected redirect) count f = absurd (not_redirected redirect (no_stop (redirected redirect) count f))
-  only_memory (Lost error) count f = absurd (not_lost error (no_stop (lost error) count f))
-  only_memory (Reply error) count f = absurd f
-
 module _ {C : Type 0} (IsTry : SlotRoute → Try → Type 0) (step : Step C) (r : Request) (old new : State C) (may_refuse : ℕ → Ending → Type 0) where
+  module _ (asked : List SlotRoute) (command : MultiKey) (can : IsDrivable r asked command) (entries : List Entry) (grew : new.trace ≡ old.trace ++ entries) (were : AreFirstAnswered (length asked) entries) (count : ℕ) where
+    must_answer : (ending : Ending) → ReachedUpTo (AreTried IsTry) (EndsTried IsTry) r old new may_refuse count ending → ending ≡ answered
+    must_answer ending up =
+        let (route, before, next, first_tried, (try, is_try, tried)) = up.went in
+        let order = up.drivable.order in
+        let first = take count (in_order up.routes r.order) in
+        let same : length up.routes ≡ length asked = ap length (routes_same r asked command can up.routes up.drivable.is_covered.routes_are) in
+        let in_all : length (in_order up.routes r.order) ≡ length up.routes = length-in_order up.routes r.order order.below ∙ length-names_once (length up.routes) r.order order in
+        let within : count < length (in_order up.routes r.order) = slice_get_within (in_order up.routes r.order) count route next in
+        let taken : length first ≡ count = length-take-le count (in_order up.routes r.order) (omega (arith, within)) in
+        let last : AreFirstAnswered 1 tried.attempts = behind IsTry first old.trace before tried.attempts entries 1 first_tried (sym tried.grew ∙ grew)
+        (λ number e below at. were number e (omega (arith, below, taken, within, in_all, same)) at) in
+        (one_alone try ending tried.attempts tried.ended.0.begun tried.ended.1 last).2
+
+    memory_alone : (fault : DriveFault) → IsRetryFault IsTry step r old new may_refuse fault count → fault ≡ Memory
+    memory_alone fault f = only_memory (AreTried IsTry) (EndsTried IsTry) r old new may_refuse count asked command can step fault f must_answer
+
   pub headline_retried : IsUnhindered may_refuse r old.trace → AreAllowed may_refuse old.trace new.trace → (fault : DriveFault) (count : ℕ) → IsRetryFault IsTry step r old new may_refuse fault count → fault ≡ Memory
-  headline_retried h are = only_memory IsTry step r old new may_refuse h.routes h.command h.drivable are.entries are.grew (were_willing may_refuse old.trace new.trace (length h.routes) are h.willing)
+  headline_retried h are fault count = memory_alone h.routes h.command h.drivable are.entries are.grew (were_willing may_refuse old.trace new.trace (length h.routes) are h.willing) count fault
 
   pub carried_retried : (asked : List SlotRoute) (command : MultiKey) → IsDrivable r asked command → AreAllAnswered old.trace new.trace → (fault : DriveFault) (count : ℕ) → IsRetryFault IsTry step r old new may_refuse fault count → fault ≡ Memory
-  carried_retried asked command can (entries, grew, all) = only_memory IsTry step r old new may_refuse asked command can entries grew (λ number e below at. all_at (λ (x : Entry). x.ending ≡ answered) entries number e all at)
+  carried_retried asked command can (entries, grew, all) fault count = memory_alone asked command can entries grew (λ number e below at. all_at (λ (x : Entry). x.ending ≡ answered) entries number e all at) count fault
 
 -- what was tried where no node may refuse was delivered
 pub delivered_alone : (IsNode : SlotRoute → Address → Type 0) (r : Request) (retries : ℕ) (old new : List Entry) (may_refuse : ℕ → Ending → Type 0) → IsUnhindered may_refuse r old → AreAllowed may_refuse old new → AreAllTried (IsTryOf IsNode r retries) r old new → IsDelivered IsNode r old new

@@ -1,20 +1,19 @@
 -- What holds at nodes of one kind holds at those of a wider kind.
-use Rattle.std.proofs.Common.{◌≡◌, ℕ, zero, suc, List, [], ◌∷◌, Some, inl, inr, refl, sym, arith, length}
+use Rattle.std.proofs.Common.{◌≡◌, ℕ, zero, suc, List, [], ◌∷◌, Option, None, Some, inl, inr, refl, sym, arith, length, take}
 use Rattle.std.specs.Prelude.{slice_get}
 use Rattle.std.specs.List.{AllZip}
 use Rattle.resp_core.specs.Reply.{Reply}
 use Rattle.cluster_slots.specs.Address.{Address}
 use Rattle.cluster_slots.specs.SlotRoute.{SlotRoute}
-use Rattle.redis_cluster.specs.MultiKey.{MultiKey}
+use Rattle.redis_cluster.specs.Orders.{in_order}
 use Rattle.redis_cluster.specs.Trace.{Entry, Ending, answered}
 use Rattle.redis_cluster.specs.Unsplit.{Step}
 use Rattle.redis_cluster.specs.Driven.{Request, IsEntryOf, AreSent, IsDelivered, IsDriven}
 use Rattle.redis_cluster.specs.State.{State}
-use Rattle.redis_cluster.specs.Faults.{IsUntouched, IsStopped, IsNodeFault, IsFault, IsCut, unseen_step}
+use Rattle.redis_cluster.specs.Faults.{EndsOnce, IsFault, IsCut, Reach, WentOut, WereCutShort, whole, up_to}
 use Rattle.redis_cluster.specs.Plan.{Plan}
 use Rattle.redis_cluster.specs.Ready.{IsPlanNode}
 use Rattle.redis_cluster.specs.declared.fault.DriveFault.{DriveFault}
-use Rattle.redis_cluster.specs.declared.fault.DriveFault.TheVariants as early
 use Rattle.redis_cluster.proofs.Constructors.{none_apart, same_some}
 
 each_own : (P : SlotRoute → Address → Type 0) (routes : List (SlotRoute × List ℕ)) (nodes : List Address) → length nodes ≡ length routes
@@ -39,6 +38,24 @@ each_at R (u ∷ xs) (v ∷ ys) (suc k) x y each a b = each_at R xs ys k x y eac
 pub plan_node : (P : SlotRoute → Address → Type 0) (plan : Plan) → AllZip (λ (t : SlotRoute × List ℕ) address. P t.0 address) plan.split.routes plan.nodes → (route : SlotRoute) (address : Address) → IsPlanNode plan route address → P route address
 plan_node P plan each route address own = each_at (λ (t : SlotRoute × List ℕ) a. P t.0 a) plan.split.routes plan.nodes own.0 (route, own.1) address each own.2 own.3
 
+-- What was cut short with entries of one kind was so with entries of a wider kind.
+module _ (A B : List SlotRoute → List Entry → List Entry → Type 0) (E F : SlotRoute → Option Ending → List Entry → List Entry → Type 0) (answered_at : (routes : List SlotRoute) (old new : List Entry) → A routes old new → B routes old new)
+    (ended_at : (route : SlotRoute) (ending : Option Ending) (old new : List Entry) → E route ending old new → F route ending old new) (r : Request) where
+  pub went_by : (routes : List SlotRoute) (count : ℕ) (reach : Reach) (old new : List Entry) → WentOut A E r routes count reach old new → WentOut B F r routes count reach old new
+  went_by routes count whole old new (all, sent) = (all, answered_at (in_order routes r.order) old new sent)
+  went_by routes count (up_to ending) old new (route, before, next, sent, last) = (route, before, next, answered_at (take count (in_order routes r.order)) old before sent, ended_at route ending before new last)
+
+  abbrev pub cut_by : {C : Type 0} (old new : State C) (may_refuse : ℕ → Ending → Type 0) (fault : DriveFault) (count : ℕ) → WereCutShort A E r old new may_refuse fault count → WereCutShort B F r old new may_refuse fault count
+  cut_by old new may_refuse fault count cut = record {
+    routes = cut.routes;
+    command = cut.command;
+    drivable = cut.drivable;
+    reach = cut.reach;
+    reach_is = cut.reach_is;
+    went = went_by cut.routes count cut.reach old.trace new.trace cut.went;
+    allowed = cut.allowed;
+  }
+
 module _ (P Q : SlotRoute → Address → Type 0) (wider : (route : SlotRoute) (address : Address) → P route address → Q route address) where
   entries_at : (asked : Request) (ending : Ending) (routes : List SlotRoute) (entries : List Entry) → AllZip (IsEntryOf P asked ending) routes entries → AllZip (IsEntryOf Q asked ending) routes entries
   entries_at asked ending [] [] h = tt
@@ -56,56 +73,15 @@ module _ (P Q : SlotRoute → Address → Type 0) (wider : (route : SlotRoute) (
     pub driven_at : (value : Reply) → IsDriven P step r old new value → IsDriven Q step r old new value
     driven_at value d = record { routes = d.routes; command = d.command; drivable = d.drivable; trace = sent_at r _ old.trace new.trace d.trace; keyspace = d.keyspace; reply = d.reply }
 
-    untouched_at : (count : ℕ) → IsUntouched P step r old new count → IsUntouched Q step r old new count
-    untouched_at count u = record { answered = u.answered; keyspace = u.keyspace; trace = u.trace }
+  ends_at : (r : Request) (route : SlotRoute) (ending : Option Ending) (old new : List Entry) → EndsOnce P r route ending old new → EndsOnce Q r route ending old new
+  ends_at r route None old new same = same
+  ends_at r route (Some ending) old new (e, (is_node, of_part, ended), grew) = (e, (wider route e.node is_node, of_part, ended), grew)
 
-    stopped_at : (routes : List SlotRoute) (command : MultiKey) (count : ℕ) (trace : List Entry) → IsStopped P step r old new routes command count trace → IsStopped Q step r old new routes command count trace
-    stopped_at routes command count trace s = record { drivable = s.drivable; within = s.within; answered = record { sent = sent_at r _ old.trace trace s.answered.sent; keyspace = s.answered.keyspace } }
+  module _ {C : Type 0} (r : Request) (old new : State C) (may_refuse : ℕ → Ending → Type 0) (fault : DriveFault) (count : ℕ) where
+    pub cut_at : IsCut P r old new may_refuse fault count → IsCut Q r old new may_refuse fault count
+    cut_at (inl early) = inl early
+    cut_at (inr cut) = inr (cut_by (AreSent P r) (AreSent Q r) (EndsOnce P r) (EndsOnce Q r) (sent_at r) (ends_at r) r old new may_refuse fault count cut)
 
-    node_at : (may_refuse : ℕ → Ending → Type 0) (ending : Ending) (count : ℕ) → IsNodeFault P step r old new may_refuse ending count → IsNodeFault Q step r old new may_refuse ending count
-    node_at may_refuse ending count f = record {
-      routes = f.routes;
-      command = f.command;
-      before = f.before;
-      stopped = stopped_at f.routes f.command count f.before f.stopped;
-      route = f.route;
-      next = f.next;
-      last = f.last;
-      refusal = (wider f.route f.last.node f.refusal.0, f.refusal.1, f.refusal.2);
-      trace = f.trace;
-      allowed = f.allowed;
-    }
-
-    pub fault_at : (may_refuse : ℕ → Ending → Type 0) (fault : DriveFault) (count : ℕ) → IsFault P step r old new may_refuse fault count → IsFault Q step r old new may_refuse fault count
-    fault_at may_refuse early.NotMultiKey count f = (f.0, untouched_at count f.1, f.2)
-    fault_at may_refuse (early.NotCovered slot) count f = (f.0, untouched_at count f.1, f.2)
-    fault_at may_refuse early.BadOrder count f = (f.0, untouched_at count f.1, f.2)
-    fault_at may_refuse early.Memory count (inl u) = inl (untouched_at count u)
-    fault_at may_refuse early.Memory count (inr l) = inr (record { routes = l.routes; command = l.command; some = l.some; stopped = stopped_at l.routes l.command count new.trace l.stopped; cause = l.cause })
-    fault_at may_refuse (early.Node error) count f = node_at may_refuse _ count f
-    fault_at may_refuse (early.Redirected redirect) count f = node_at may_refuse _ count f
-    fault_at may_refuse (early.Lost error) count f = record {
-      routes = f.routes;
-      command = f.command;
-      drivable = f.drivable;
-      before = f.before;
-      sent = sent_at r _ old.trace f.before f.sent;
-      route = f.route;
-      next = f.next;
-      last = f.last;
-      loss = (wider f.route f.last.node f.loss.0, f.loss.1, f.loss.2);
-      trace = f.trace;
-      allowed = f.allowed;
-      keyspace = f.keyspace;
-    }
-    fault_at may_refuse (early.Reply error) count f = absurd f
-
-  pub cut_at : (r : Request) (old new : State (Unit {0})) (may_refuse : ℕ → Ending → Type 0) (fault : DriveFault) (count : ℕ) → IsCut P r old new may_refuse fault count → IsCut Q r old new may_refuse fault count
-  cut_at r old new may_refuse early.NotMultiKey count f = fault_at unseen_step r old new may_refuse early.NotMultiKey count f
-  cut_at r old new may_refuse (early.NotCovered slot) count f = fault_at unseen_step r old new may_refuse (early.NotCovered slot) count f
-  cut_at r old new may_refuse early.BadOrder count f = fault_at unseen_step r old new may_refuse early.BadOrder count f
-  cut_at r old new may_refuse early.Memory count f = fault_at unseen_step r old new may_refuse early.Memory count f
-  cut_at r old new may_refuse (early.Node error) count f = fault_at unseen_step r old new may_refuse (early.Node error) count f
-  cut_at r old new may_refuse (early.Redirected redirect) count f = fault_at unseen_step r old new may_refuse (early.Redirected redirect) count f
-  cut_at r old new may_refuse (early.Lost error) count f = fault_at unseen_step r old new may_refuse (early.Lost error) count f
-  cut_at r old new may_refuse (early.Reply error) count f = record { routes = f.routes; command = f.command; stopped = stopped_at unseen_step r old new f.routes f.command count new.trace f.stopped; all = f.all }
+    pub fault_at : (step : Step C) → IsFault P step r old new may_refuse fault count → IsFault Q step r old new may_refuse fault count
+    fault_at step (inl early) = inl early
+    fault_at step (inr (cut, effect, fits)) = inr (cut_by (AreSent P r) (AreSent Q r) (EndsOnce P r) (EndsOnce Q r) (sent_at r) (ends_at r) r old new may_refuse fault count cut, effect, fits)

@@ -98,13 +98,6 @@ module _ {C : Type 0} (IsNode : SlotRoute → Address → Type 0) (step : Step C
     pub keyspace : new.keyspace ≡ keyspace_after step command old.keyspace
     pub reply : value ≡ reply_to step command old.keyspace
 
-  -- These routes of it, and no other, were answered: the trace has their entries, and the keyspace
-  -- is that of the tuples of their slots, in the order of the arguments.
-  pub record AreAnswered (command : MultiKey) (routes : List SlotRoute) (trace : List Entry)
-      : Type 0 where
-    pub sent : AreSent IsNode r routes old.trace trace
-    pub keyspace : IsLeftBy step old new command routes
-
 -- each entry that the trace grew by was answered
 abbrev pub AreAllAnswered : List Entry → List Entry → Type 0
 AreAllAnswered old new =

@@ -1,21 +1,21 @@
 -- Why a command was not driven to its end, and what stands then.
-use Rattle.std.specs.Prelude.{◌≡◌, ◌<◌, ◌≤◌, ◌⊎◌, ℕ, ◌+◌, true, false, List, [], ◌∷◌, ◌++◌, None, Some, length, take, slice_get}
+use Rattle.std.specs.Prelude.{◌≡◌, ◌⊎◌, ℕ, ◌+◌, List, [], ◌∷◌, ◌++◌, Option, None, Some, length, take, slice_get}
 use Rattle.resp_core.specs.ErrorParts.{ErrorParts}
 use Rattle.cluster_slots.specs.Address.{Address}
 use Rattle.cluster_slots.specs.SlotRoute.{SlotRoute}
-use Rattle.redis_cluster.specs.MultiKey.{MultiKey, list}
+use Rattle.redis_cluster.specs.Attempts.{IsCause}
+use Rattle.redis_cluster.specs.MultiKey.{MultiKey, ReplyForm, list}
 use Rattle.redis_cluster.specs.Orders.{NamesOnce, in_order}
 use Rattle.redis_cluster.specs.Trace.{Entry, Ending, refused, redirected, lost}
-use Rattle.resp_core.specs.Reply.{nil}
-use Rattle.redis_cluster.specs.Unsplit.{Step, Keyspace}
+use Rattle.redis_cluster.specs.Unsplit.{Step, keyspace_after}
 use Rattle.redis_cluster.specs.declared.nodes.SendError.{SendError}
 use Rattle.redis_cluster.specs.declared.nodes.SendError.TheVariants as sent
 use Rattle.cluster_map.specs.SlotNodes.{SlotNodes}
 use Rattle.cluster_map.specs.RangeMap as ranges
 use Rattle.redis_routing.specs.Command.{Arguments}
 use Rattle.redis_routing.specs.Names.{Names}
-use Rattle.redis_cluster.specs.Driven.{Request, command_routes_by, IsFirstUncovered, IsCoveredCommand, IsDrivable, IsEntryOf, AreSent, IsLeftBy, AreAnswered}
-use Rattle.redis_cluster.specs.State.{State, state}
+use Rattle.redis_cluster.specs.Driven.{Request, command_routes_by, IsFirstUncovered, IsCoveredCommand, IsDrivable, IsEntryOf, AreSent, IsLeftBy}
+use Rattle.redis_cluster.specs.State.{State}
 use Rattle.redis_cluster.specs.declared.fault.DriveFault.{DriveFault}
 use Rattle.redis_cluster.specs.declared.fault.DriveFault.TheVariants.{NotMultiKey, NotCovered, BadOrder, Memory, Node, Redirected, Lost, Reply}
 use Rattle.redis_cluster.specs.declared.fault.PlanFault.{PlanFault}
@@ -65,99 +65,95 @@ IsBefore (Redirected redirect) = ⊥
 IsBefore (Lost error) = ⊥
 IsBefore (Reply error) = ⊥
 
-module _ {C : Type 0} (IsNode : SlotRoute → Address → Type 0) (step : Step C) (r : Request)
-    (old new : State C) where
-  -- nothing was sent
-  pub record IsUntouched (count : ℕ) : Type 0 where
-    pub answered : count ≡ 0
-    pub keyspace : new.keyspace ≡ old.keyspace
-    pub trace : new.trace ≡ old.trace
+-- How far the sends of the parts reached: past all routes, or up to a route whose sends ended so. There
+-- is no ending if memory ran out there.
+pub data Reach : Type 0 where
+  whole : Reach
+  up_to : Option Ending → Reach
 
-  -- the first `count` parts of the order were answered, and no other
-  pub record IsStopped (routes : List SlotRoute) (command : MultiKey) (count : ℕ)
-      (trace : List Entry) : Type 0 where
-    pub drivable : IsDrivable r routes command
-    pub within : count ≤ length routes
-    pub answered : AreAnswered IsNode step r old new command (take count (in_order routes r.order))
-        trace
+-- how far they reached by a fault, of a command with this form of its reply
+--
+-- `MSET a 1 b 2`, and the node of `b` refuses: the fault is `Node`, up to the route of `b`
+-- `MGET a b`, and memory runs out for the list of both replies: the fault is `Memory`, past all routes
+abbrev pub IsReachOf : DriveFault → ReplyForm → Reach → Type 0
+IsReachOf Memory form reach = (reach ≡ up_to None) ⊎ ((reach ≡ whole) × (form ≡ list))
+IsReachOf (Node error) form reach = reach ≡ up_to (Some (refused error))
+IsReachOf (Redirected redirect) form reach = reach ≡ up_to (Some (redirected redirect))
+IsReachOf (Lost error) form reach = reach ≡ up_to (Some (lost error))
+IsReachOf (Reply error) form reach = reach ≡ whole
+IsReachOf fault form reach = ⊥
 
-  -- the node of the next route did not run its part, but refused it or redirected it, so
-  pub record IsNodeFault (may_refuse : ℕ → Ending → Type 0) (ending : Ending) (count : ℕ)
-      : Type 0 where
-    pub routes : List SlotRoute
-    pub command : MultiKey
-    pub before : List Entry
-    pub stopped : IsStopped routes command count before
-    pub route : SlotRoute
-    pub next : slice_get (in_order routes r.order) count ≡ Some route
-    pub last : Entry
-    pub refusal : IsEntryOf IsNode r ending route last
-    pub trace : new.trace ≡ before ++ last ∷ []
-    pub allowed : may_refuse (length before) ending
+module _ {C : Type 0} (r : Request) (old new : State C) where
+  -- nothing was sent, and this is why
+  abbrev pub IsEarly : DriveFault → ℕ → Type 0
+  IsEarly fault count = IsCauseBeforeSending r fault × (count ≡ 0) × (new ≡ old)
 
-  -- no reply came to the part of the next route: the parts before it took effect, it may have taken
-  -- effect, and no later one was sent
-  pub record IsLostFault (may_refuse : ℕ → Ending → Type 0) (error : ErrorParts) (count : ℕ)
-      : Type 0 where
-    pub routes : List SlotRoute
-    pub command : MultiKey
-    pub drivable : IsDrivable r routes command
-    pub before : List Entry
-    pub sent : AreSent IsNode r (take count (in_order routes r.order)) old.trace before
-    pub route : SlotRoute
-    pub next : slice_get (in_order routes r.order) count ≡ Some route
-    pub last : Entry
-    pub loss : IsEntryOf IsNode r (lost error) route last
-    pub trace : new.trace ≡ before ++ last ∷ []
-    pub allowed : may_refuse (length before) (lost error)
-    pub keyspace : IsLeftBy step old new command (take count (in_order routes r.order))
-        ⊎ IsLeftBy step old new command (take (count + 1) (in_order routes r.order))
+  -- What the sends left: the first `count` parts took effect. If the last reply was lost, the next part
+  -- may have taken effect, too.
+  abbrev pub TookEffect : Step C → List SlotRoute → MultiKey → ℕ → Reach → Type 0
+  TookEffect step routes command count whole =
+      new.keyspace ≡ keyspace_after step command old.keyspace
+  TookEffect step routes command count (up_to (Some (lost error))) =
+      IsLeftBy step old new command (take count (in_order routes r.order))
+      ⊎ IsLeftBy step old new command (take (count + 1) (in_order routes r.order))
+  TookEffect step routes command count (up_to ending) =
+      IsLeftBy step old new command (take count (in_order routes r.order))
 
-  -- memory ran out after an answer: at a node, as the mark says, or in combining all replies to a
-  -- list
-  pub record IsLateMemory (count : ℕ) : Type 0 where
-    pub routes : List SlotRoute
-    pub command : MultiKey
-    pub some : 0 < count
-    pub stopped : IsStopped routes command count new.trace
-    pub cause : (new.mark ≡ true) ⊎ ((command.form ≡ list) × (count ≡ length routes))
+-- `Answered` says of routes that the trace grew by an answer to each, and `Ends` of a route that it
+-- grew by its sends, which ended so.
+module _ (Answered : List SlotRoute → (old new : List Entry) → Type 0)
+    (Ends : SlotRoute → Option Ending → (old new : List Entry) → Type 0) (r : Request) where
+  -- What went out: exactly the first `count` routes of the order were answered. The sends of the next
+  -- one, if they reached only up to it, are the last.
+  abbrev pub WentOut : List SlotRoute → ℕ → Reach → (old new : List Entry) → Type 0
+  WentOut routes count whole old new =
+      (count ≡ length routes) × Answered (in_order routes r.order) old new
+  WentOut routes count (up_to ending) old new =
+      (route : SlotRoute) × (before : List Entry)
+      × (slice_get (in_order routes r.order) count ≡ Some route)
+      × Answered (take count (in_order routes r.order)) old before × Ends route ending before new
 
-  -- the fault has its cause, and exactly the first `count` parts took effect
-  abbrev pub IsFault : (may_refuse : ℕ → Ending → Type 0) → DriveFault → ℕ → Type 0
-  IsFault may_refuse NotMultiKey count =
-      IsCauseBeforeSending r NotMultiKey × IsUntouched count × (new.mark ≡ old.mark)
-  IsFault may_refuse (NotCovered slot) count =
-      IsCauseBeforeSending r (NotCovered slot) × IsUntouched count × (new.mark ≡ old.mark)
-  IsFault may_refuse BadOrder count = IsCauseBeforeSending r BadOrder × IsUntouched count × (new.mark ≡ old.mark)
-  IsFault may_refuse Memory count = IsUntouched count ⊎ IsLateMemory count
-  IsFault may_refuse (Node error) count = IsNodeFault may_refuse (refused error) count
-  IsFault may_refuse (Redirected redirect) count =
-      IsNodeFault may_refuse (redirected redirect) count
-  IsFault may_refuse (Lost error) count = IsLostFault may_refuse error count
-  -- the replies to the parts of a command always fit
-  IsFault may_refuse (Reply error) count = ⊥
+  module _ {C : Type 0} (old new : State C) (may_refuse : ℕ → Ending → Type 0) where
+    -- the last send was allowed to end so
+    abbrev pub IsAllowed : Reach → Type 0
+    IsAllowed whole = Unit {0}
+    IsAllowed (up_to ending) = IsCause may_refuse (length new.trace) new.mark ending
 
--- no key is seen: the meaning under which nodes hold nothing
-abbrev pub unseen_step : Step (Unit {0})
-unseen_step registered name shared key extras cell =
-    record { cell = None; result = record { value = nil; counts = false } }
+    -- the sends were cut short, and the fault says where
+    pub record WereCutShort (fault : DriveFault) (count : ℕ) : Type 0 where
+      pub routes : List SlotRoute
+      pub command : MultiKey
+      pub drivable : IsDrivable r routes command
+      pub reach : Reach
+      pub reach_is : IsReachOf fault command.form reach
+      pub went : WentOut routes count reach old.trace new.trace
+      pub allowed : IsAllowed reach
 
-abbrev pub nothing : Keyspace (Unit {0})
-nothing = λ key. None
+    -- whatever servers do: the fault has its cause, and exactly the first `count` parts were answered
+    abbrev pub IsCutBy : DriveFault → ℕ → Type 0
+    IsCutBy fault count = IsEarly r old new fault count ⊎ WereCutShort fault count
 
-abbrev pub unseen : {C : Type 0} → State C → State (Unit {0})
-unseen nodes = state nothing nodes.trace nodes.mark
+    -- if nodes keep to one meaning: so it is, these parts took effect, and their replies fit
+    abbrev pub IsFaultBy : Step C → DriveFault → ℕ → Type 0
+    IsFaultBy step fault count = IsEarly r old new fault count
+        ⊎ ((cut : WereCutShort fault count)
+        × TookEffect r old new step cut.routes cut.command count cut.reach
+        × ((error : ErrorParts) → fault ≡ Reply error → ⊥))
 
-module _ (IsNode : SlotRoute → Address → Type 0) (r : Request) (old new : State (Unit {0})) where
-  -- all parts were sent and answered, and the replies do not fit
-  pub record IsMisfit (count : ℕ) : Type 0 where
-    pub routes : List SlotRoute
-    pub command : MultiKey
-    pub stopped : IsStopped IsNode unseen_step r old new routes command count new.trace
-    pub all : count ≡ length routes
+-- a part that goes once: one entry for its route, or none if memory ran out
+abbrev pub EndsOnce : (SlotRoute → Address → Type 0) → Request → SlotRoute → Option Ending
+    → (old new : List Entry) → Type 0
+EndsOnce IsNode r route None old new = new ≡ old
+EndsOnce IsNode r route (Some ending) old new =
+    (e : Entry) × IsEntryOf IsNode r ending route e × (new ≡ old ++ e ∷ [])
 
-  -- the fault has its cause, and exactly the first `count` parts were answered, whatever the
-  -- answers are
-  abbrev pub IsCut : (may_refuse : ℕ → Ending → Type 0) → DriveFault → ℕ → Type 0
-  IsCut may_refuse (Reply error) count = IsMisfit count
-  IsCut may_refuse fault count = IsFault IsNode unseen_step r old new may_refuse fault count
+-- these of parts that go once each
+abbrev pub IsCut : {C : Type 0} → (SlotRoute → Address → Type 0) → Request → (old new : State C)
+    → (ℕ → Ending → Type 0) → DriveFault → ℕ → Type 0
+IsCut IsNode r old new may_refuse fault count =
+    IsCutBy (AreSent IsNode r) (EndsOnce IsNode r) r old new may_refuse fault count
+
+abbrev pub IsFault : {C : Type 0} → (SlotRoute → Address → Type 0) → Step C → Request
+    → (old new : State C) → (ℕ → Ending → Type 0) → DriveFault → ℕ → Type 0
+IsFault IsNode step r old new may_refuse fault count =
+    IsFaultBy (AreSent IsNode r) (EndsOnce IsNode r) r old new may_refuse step fault count

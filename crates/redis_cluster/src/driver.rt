@@ -15,7 +15,7 @@ ghost use Rattle.redis_cluster.specs.Orders.{NamesOnce, in_order};
 ghost use Rattle.redis_cluster.specs.Trace.{Ending};
 ghost use Rattle.redis_cluster.specs.Unsplit.{keyspace_after, reply_to};
 ghost use Rattle.redis_cluster.specs.Driven.{Request, request, AreAllAnswered, IsDelivered, IsDrivable, IsDriven, IsUnhindered};
-ghost use Rattle.redis_cluster.specs.Faults.{IsBefore, IsCauseBeforeSending, IsFault, IsCut, unseen};
+ghost use Rattle.redis_cluster.specs.Faults.{IsBefore, IsCauseBeforeSending, IsFault, IsCut};
 ghost use Rattle.redis_cluster.specs.Joined.{joined, IsJoined, IsSplitOf};
 ghost use Rattle.redis_cluster.specs.Plan.{HaveGiven};
 ghost use Rattle.redis_cluster.specs.Ready.{IsPlanFor, IsPlanNode, IsReady};
@@ -136,7 +136,7 @@ pub fn drive<R: Routable, N: Nodes>(
         IsCut (IsRouteNode strategy.entry (λ s. picks s.now) slot_map.now pick)
         (request (R.args command.now) (names_of read_only.now (N.registered nodes.old))
         slot_map.now order.now)
-        (unseen (N.state nodes.old)) (unseen (N.state nodes.new))
+        (N.state nodes.old) (N.state nodes.new)
         (N.may_refuse nodes.old) e.fault e.answered) }
     // Each fault has its cause, except out of memory before any answer. What was answered stands.
     ensures fault { IfErr result (λ e. N.kept nodes.new →
@@ -278,7 +278,7 @@ pub fn drive_plan<R: Routable, N: Nodes>(
     ensures cut { IfErr result (λ e.
         (asked : Request) (c : MultiKey) → IsPlanFor asked order.now (N.registered nodes.old) plan.entry c
         → IsCut (IsPlanNode plan.entry) asked
-        (unseen (N.state nodes.old)) (unseen (N.state nodes.new))
+        (N.state nodes.old) (N.state nodes.new)
         (N.may_refuse nodes.old) e.fault e.answered) }
     ensures fault { IfErr result (λ e.
         (asked : Request) (c : MultiKey) → IsPlanFor asked order.now (N.registered nodes.old) plan.entry c → N.kept nodes.new

@@ -11,7 +11,7 @@ ghost use Rattle.redis_cluster.specs.Trace.{Ending};
 ghost use Rattle.redis_cluster.specs.Amid.{AreItsParts, IsServedAmid};
 ghost use Rattle.redis_cluster.specs.Attempts.{AreAllowed, HaveOneAnswer};
 ghost use Rattle.redis_cluster.specs.Driven.{request, AreAllAnswered, IsDelivered, IsDrivable, IsUnhindered};
-ghost use Rattle.redis_cluster.specs.Faults.{IsBefore, unseen};
+ghost use Rattle.redis_cluster.specs.Faults.{IsBefore};
 ghost use Rattle.redis_cluster.specs.Joined.{IsJoined};
 ghost use Rattle.redis_cluster.specs.Plan.{HaveGiven};
 ghost use Rattle.redis_cluster.specs.Retried.{IsTryOf, AreAllTried, IsRetried, IsRetryFault, IsRetryCut};
@@ -129,7 +129,7 @@ pub fn drive_retrying<R: Routable, N: Nodes>(
         (IsTryOf (IsRouteNode strategy.entry (λ s. picks s.now) slot_map.now pick)
         (request (R.args command.now) (names_of read_only.now (N.registered nodes.old)) slot_map.now order.now) retries)
         (request (R.args command.now) (names_of read_only.now (N.registered nodes.old)) slot_map.now order.now)
-        (unseen (N.state nodes.old)) (unseen (N.state nodes.new))
+        (N.state nodes.old) (N.state nodes.new)
         (N.may_refuse nodes.old) e.fault e.answered) }
     // Each fault has its cause, except out of memory before any send. What was answered stands.
     ensures fault { IfErr result (λ e. N.kept nodes.new → IsRetryFault

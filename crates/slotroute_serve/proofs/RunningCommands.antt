@@ -1,5 +1,5 @@
 -- What the driver says of a command, in the words of the program.
-use Rattle.std.proofs.Common.{◌≡◌, ℕ, ◌-◌, ◌≤◌, Bool, List, ◌++◌, arith, length-append, Option, None, Some, IfSome, MatchOption, refl, sym, ap, ◌∙◌, subst, take, drop, length, map, is_some}
+use Rattle.std.proofs.Common.{◌≡◌, inl, inr, ℕ, ◌-◌, ◌≤◌, Bool, List, ◌++◌, arith, length-append, Option, None, Some, IfSome, MatchOption, refl, sym, ap, ◌∙◌, subst, take, drop, length, map, is_some}
 use Rattle.std.proofs.Math.Path.{fun_ext}
 use Rattle.std.proofs.Math.Seq.{drop-append_seam}
 use Rattle.std.proofs.lemmas.List.{drop-map, take_rest, length-map}
@@ -14,9 +14,9 @@ use Rattle.cluster_slots.specs.declared.slot.SlotAddr.{SlotAddr}
 use Rattle.cluster_slots.specs.declared.slot.SlotAddr.TheVariants.{Master, ReplicaOptional, ReplicaRequired}
 use Rattle.memory_nodes.specs.Cells.{Cell}
 use Rattle.memory_nodes.specs.Steps.{step}
-use Rattle.redis_cluster.specs.Driven.{request, command_routes_by, IsDriven}
+use Rattle.redis_cluster.specs.Driven.{Request, request, command_routes_by, AreSent, IsDriven}
 use Rattle.redis_cluster.specs.State.{State}
-use Rattle.redis_cluster.specs.Faults.{IsFault}
+use Rattle.redis_cluster.specs.Faults.{EndsOnce, IsFault, WereCutShort, up_to}
 use Rattle.redis_cluster.specs.Orders.{NamesOnce}
 use Rattle.redis_cluster.specs.Names.{Names, names_of}
 use Rattle.redis_cluster.specs.Plan.{Plan}
@@ -25,6 +25,7 @@ use Rattle.redis_cluster.specs.Registry.{Registrations}
 use Rattle.redis_cluster.specs.Trace.{Entry, Ending, refused, redirected, lost}
 use Rattle.redis_cluster.specs.declared.fault.DriveFault.{DriveFault}
 use Rattle.redis_cluster.specs.declared.fault.DriveFault.TheVariants as drive
+use Rattle.redis_cluster.proofs.Headline.{last_allowed}
 use Rattle.redis_cluster.proofs.Wider.{driven_at, plan_node}
 use Rattle.resp_core.specs.Reply.{Reply}
 use Rattle.slotroute_serve.specs.Commands.{names_with, AreReadOnly, IsRunNode, IsCommandRun, IsUnsent, WhyNotRun}
@@ -70,38 +71,61 @@ pub order_with : (direction : Direction) (names : List (List ℕ)) (registered :
 order_with direction names registered words order are is = subst (λ (ns : Names). IsOrderOf direction ns words order) (same_names names registered are) is
 
 module _ (IsNode : SlotRoute → Address → Type 0) (names : List (List ℕ)) (registered : Registrations) (words : List (List ℕ)) (entries : List (ranges.RangeEntry SlotNodes)) (order : List ℕ) (old new : State Cell) (may_refuse : ℕ → Ending → Type 0) where
+  abbrev asked : Request
+  asked = request (map Some words) (names_of names registered) entries order
+
+  -- no send ends but with an answer
+  no_end : ((count : ℕ) (ending : Ending) → ¬ (may_refuse count ending)) → (fault : DriveFault) (count : ℕ) (ending : Ending) (cut : WereCutShort (AreSent IsNode asked) (EndsOnce IsNode asked) asked old new may_refuse fault count) → ¬ (cut.reach ≡ up_to (Some ending))
+  no_end willing fault count ending cut is = let last = last_allowed IsNode step asked old new may_refuse fault count ending cut is in willing last.0 ending last.1
+
   -- the driver's fault, by the read-only names of the program
   pub why_not_run : AreReadOnly names → ((count : ℕ) (ending : Ending) → ¬ (may_refuse count ending)) → (fault : DriveFault) (count : ℕ) → ¬ (fault ≡ drive.BadOrder)
       → IsFault IsNode step (request (map Some words) (names_of names registered) entries order) old new may_refuse fault count → WhyNotRun registered entries words (fault_of_drive fault)
-  why_not_run are willing drive.NotMultiKey count other f = subst (λ (ns : Names). command_routes_by ns (map Some words) ≡ None) (same_names names registered are) f.0
-  why_not_run are willing (drive.NotCovered slot) count other f = (f.0.0, subst (λ (ns : Names). command_routes_by ns (map Some words) ≡ Some f.0.0) (same_names names registered are) f.0.1, f.0.2)
+  why_not_run are willing drive.NotMultiKey count other (inl f) = subst (λ (ns : Names). command_routes_by ns (map Some words) ≡ None) (same_names names registered are) f.0
+  why_not_run are willing (drive.NotCovered slot) count other (inl f) = (f.0.0, subst (λ (ns : Names). command_routes_by ns (map Some words) ≡ Some f.0.0) (same_names names registered are) f.0.1, f.0.2)
   why_not_run are willing drive.BadOrder count other f = absurd (other refl)
   why_not_run are willing drive.Memory count other f = tt
-  why_not_run are willing (drive.Node error) count other f = absurd (willing (length f.before) (refused error) f.allowed)
-  why_not_run are willing (drive.Redirected redirect) count other f = absurd (willing (length f.before) (redirected redirect) f.allowed)
-  why_not_run are willing (drive.Lost error) count other f = absurd (willing (length f.before) (lost error) f.allowed)
-  why_not_run are willing (drive.Reply error) count other f = absurd f
+  why_not_run are willing (drive.Node error) count other (inl f) = absurd f.0
+  why_not_run are willing (drive.Redirected redirect) count other (inl f) = absurd f.0
+  why_not_run are willing (drive.Lost error) count other (inl f) = absurd f.0
+  why_not_run are willing (drive.Reply error) count other (inl f) = absurd f.0
+  why_not_run are willing drive.NotMultiKey count other (inr f) = absurd f.0.reach_is
+  why_not_run are willing (drive.NotCovered slot) count other (inr f) = absurd f.0.reach_is
+  why_not_run are willing (drive.Node error) count other (inr f) = absurd (no_end willing (drive.Node error) count (refused error) f.0 f.0.reach_is)
+  why_not_run are willing (drive.Redirected redirect) count other (inr f) = absurd (no_end willing (drive.Redirected redirect) count (redirected redirect) f.0 f.0.reach_is)
+  why_not_run are willing (drive.Lost error) count other (inr f) = absurd (no_end willing (drive.Lost error) count (lost error) f.0 f.0.reach_is)
+  why_not_run are willing (drive.Reply error) count other (inr f) = absurd (f.2 error refl)
 
   -- what the driver refuses before it sends leaves keys and trace, and no node refuses
   pub unsent : ((count : ℕ) (ending : Ending) → ¬ (may_refuse count ending)) → (fault : DriveFault) (count : ℕ)
       → IsFault IsNode step (request (map Some words) (names_of names registered) entries order) old new may_refuse fault count → IsUnsent (fault_of_drive fault) old.keyspace new.keyspace old.trace new.trace
-  unsent willing drive.NotMultiKey count f = (f.1.keyspace, f.1.trace)
-  unsent willing (drive.NotCovered slot) count f = (f.1.keyspace, f.1.trace)
-  unsent willing drive.BadOrder count f = (f.1.keyspace, f.1.trace)
+  unsent willing drive.NotMultiKey count (inl f) = (ap (λ (n : State Cell). n.keyspace) f.2, ap (λ (n : State Cell). n.trace) f.2)
+  unsent willing (drive.NotCovered slot) count (inl f) = (ap (λ (n : State Cell). n.keyspace) f.2, ap (λ (n : State Cell). n.trace) f.2)
+  unsent willing drive.BadOrder count (inl f) = (ap (λ (n : State Cell). n.keyspace) f.2, ap (λ (n : State Cell). n.trace) f.2)
   unsent willing drive.Memory count f = tt
-  unsent willing (drive.Node error) count f = absurd (willing (length f.before) (refused error) f.allowed)
-  unsent willing (drive.Redirected redirect) count f = absurd (willing (length f.before) (redirected redirect) f.allowed)
-  unsent willing (drive.Lost error) count f = absurd (willing (length f.before) (lost error) f.allowed)
-  unsent willing (drive.Reply error) count f = absurd f
+  unsent willing (drive.Node error) count (inl f) = absurd f.0
+  unsent willing (drive.Redirected redirect) count (inl f) = absurd f.0
+  unsent willing (drive.Lost error) count (inl f) = absurd f.0
+  unsent willing (drive.Reply error) count (inl f) = absurd f.0
+  unsent willing drive.NotMultiKey count (inr f) = absurd f.0.reach_is
+  unsent willing (drive.NotCovered slot) count (inr f) = absurd f.0.reach_is
+  unsent willing drive.BadOrder count (inr f) = absurd f.0.reach_is
+  unsent willing (drive.Node error) count (inr f) = absurd (no_end willing (drive.Node error) count (refused error) f.0 f.0.reach_is)
+  unsent willing (drive.Redirected redirect) count (inr f) = absurd (no_end willing (drive.Redirected redirect) count (redirected redirect) f.0 f.0.reach_is)
+  unsent willing (drive.Lost error) count (inr f) = absurd (no_end willing (drive.Lost error) count (lost error) f.0 f.0.reach_is)
+  unsent willing (drive.Reply error) count (inr f) = absurd (f.2 error refl)
 
   -- an order of the direction is not refused
   pub good_order : (direction : Direction) (fault : DriveFault) (count : ℕ) → IsOrderOf direction (names_of names registered) words order
       → IsFault IsNode step (request (map Some words) (names_of names registered) entries order) old new may_refuse fault count → ¬ (fault ≡ drive.BadOrder)
-  good_order direction fault count is f bad =
-      let early = (subst (λ (x : DriveFault). IsFault IsNode step (request (map Some words) (names_of names registered) entries order) old new may_refuse x count) bad f).0 in
-      let routes : List SlotRoute = early.0 in
-      let ordered : order ≡ send_order direction (length routes) = subst (λ (found : Option (List SlotRoute)). IfSome found (λ rs. order ≡ send_order direction (length rs))) early.2.routes_are is in
-      early.3 (subst (λ (o : List ℕ). NamesOnce (length routes) o) (sym ordered) (names_once direction (length routes)))
+  good_order direction fault count is f bad = by_cut (subst (λ (x : DriveFault). IsFault IsNode step asked old new may_refuse x count) bad f)
+    where
+      by_cut : IsFault IsNode step asked old new may_refuse drive.BadOrder count → ⊥
+      by_cut (inr cut) = cut.0.reach_is
+      by_cut (inl early) =
+          let routes : List SlotRoute = early.0.0 in
+          let ordered : order ≡ send_order direction (length routes) = subst (λ (found : Option (List SlotRoute)). IfSome found (λ rs. order ≡ send_order direction (length rs))) early.0.2.routes_are is in
+          early.0.3 (subst (λ (o : List ℕ). NamesOnce (length routes) o) (sym ordered) (names_once direction (length routes)))
 
 -- the routes of a driven command are those that its order was made for
 order_is : (direction : Direction) (registered : Registrations) (words : List (List ℕ)) (order : List ℕ) (routes : List SlotRoute) → IsOrderOf direction (names_with registered) words order → command_routes_by (names_with registered) (map Some words) ≡ Some routes → order ≡ send_order direction (length routes)

@@ -2,8 +2,8 @@
 ghost use Rattle.std.specs.Prelude.{◌≡◌, [], ◌∷◌, List, Bool, Ok, Some, map, IfOk, IfErr, IfSome, ⊤};
 ghost use Rattle.resp_core.specs.Reply.{Reply};
 ghost use Rattle.resp_core.specs.View.{view};
-ghost use Rattle.redis_cluster.specs.State.{state};
-ghost use Rattle.redis_cluster.specs.Faults.{IsCut, IsFault, nothing, unseen};
+ghost use Rattle.redis_cluster.specs.State.{State, state};
+ghost use Rattle.redis_cluster.specs.Faults.{IsCut, IsFault};
 ghost use Rattle.redis_cluster.specs.Joined.{IsJoined};
 ghost use Rattle.redis_cluster.specs.MultiKey.{multi_key};
 ghost use Rattle.redis_cluster.specs.Names.{names_of};
@@ -72,21 +72,21 @@ pub fn write_and_read<W: Wire, M: Meaning>(
         (⟦<WireNodes<W, M> as Nodes>⟧.state client.old).keyspace)))) }
     // Memory that ran out before the first send leaves the client as it was.
     ensures unsent { IfErr result (λ fault. fault ≡ ClientFault.Memory → client.new ≡ client.old) }
-    // Of a write that failed, so many parts were answered, and no later one was sent.
+    // Of a write that failed, exactly the first `answered` parts were answered.
     ensures not_written { IfErr result (λ fault. (error : DriveError)
         → fault ≡ ClientFault.Write error
         → IsCut (IsPrimary slot_map.now) (asked slot_map.now (registry_in client.old) write (0 ∷ 1 ∷ []))
-        (unseen (⟦<WireNodes<W, M> as Nodes>⟧.state client.old))
-        (unseen (⟦<WireNodes<W, M> as Nodes>⟧.state client.new))
+        (⟦<WireNodes<W, M> as Nodes>⟧.state client.old)
+        (⟦<WireNodes<W, M> as Nodes>⟧.state client.new)
         (λ count ending. ⊤) error.fault error.answered) }
     // So it is with a read that failed, and each part of the write was answered.
     ensures not_read { IfErr result (λ fault. (error : DriveError)
-        → fault ≡ ClientFault.Read error → (between : List Entry) × (mark : Bool)
+        → fault ≡ ClientFault.Read error → (between : State M.Cell)
         × AreSentOnce slot_map.now (registry_in client.old) write (0 ∷ 1 ∷ [])
-        (⟦<WireNodes<W, M> as Nodes>⟧.state client.old).trace between
+        (⟦<WireNodes<W, M> as Nodes>⟧.state client.old).trace between.trace
         × IsCut (IsPrimary slot_map.now) (asked slot_map.now (registry_in client.old) read (1 ∷ 0 ∷ []))
-        (state nothing between mark)
-        (unseen (⟦<WireNodes<W, M> as Nodes>⟧.state client.new))
+        between
+        (⟦<WireNodes<W, M> as Nodes>⟧.state client.new)
         (λ count ending. ⊤) error.fault error.answered) }
     // Where the servers answered as one would, the keys hold what the answered parts wrote,
     ensures written_so_far { IfErr result (λ fault. (error : DriveError)
@@ -139,8 +139,8 @@ fn drive_over<W: Wire, M: Meaning>(
         (⟦<WireNodes<W, M> as Nodes>⟧.state client.old).keyspace))) }
     ensures cut { IfErr result (λ error.
         IsCut (IsPrimary slot_map.now) (asked slot_map.now (registry_in client.old) command.now order.now)
-        (unseen (⟦<WireNodes<W, M> as Nodes>⟧.state client.old))
-        (unseen (⟦<WireNodes<W, M> as Nodes>⟧.state client.new))
+        (⟦<WireNodes<W, M> as Nodes>⟧.state client.old)
+        (⟦<WireNodes<W, M> as Nodes>⟧.state client.new)
         (λ count ending. ⊤) error.fault error.answered) }
     ensures fault { IfErr result (λ error. ⟦<WireNodes<W, M> as Nodes>⟧.kept client.new
         → IsFault (IsPrimary slot_map.now) M.step (asked slot_map.now (registry_in client.old) command.now order.now)

@@ -4,7 +4,7 @@ ghost use Rattle.resp_core.specs.View.{view};
 ghost use Rattle.cluster_map.specs.RouteNode.{IsRouteNode};
 ghost use Rattle.redis_routing.specs.Names.{names_of};
 ghost use Rattle.redis_cluster.specs.Driven.{request, IsDelivered};
-ghost use Rattle.redis_cluster.specs.Faults.{IsCut, unseen};
+ghost use Rattle.redis_cluster.specs.Faults.{IsCut};
 ghost use Rattle.redis_cluster.specs.Joined.{IsJoined};
 ghost use Rattle.redis_cluster.specs.declared.fault.DriveFault.TheVariants.{Reply};
 ghost use Rattle.wire_nodes.specs.Amid.{IsServedAt};
@@ -51,8 +51,8 @@ pub fn drive_over<R: Routable, W: Wire, M: Meaning>(
         IsCut (IsRouteNode strategy.entry (λ s. picks s.now) slot_map.now pick)
         (request (R.args command.now) (names_of read_only.now (registry_in client.old))
         slot_map.now order.now)
-        (unseen (⟦<WireNodes<W, M> as Nodes>⟧.state client.old))
-        (unseen (⟦<WireNodes<W, M> as Nodes>⟧.state client.new))
+        (⟦<WireNodes<W, M> as Nodes>⟧.state client.old)
+        (⟦<WireNodes<W, M> as Nodes>⟧.state client.new)
         (λ count ending. ⊤) e.fault e.answered) }
     // The reply is made of the values that came, as the command's policy says.
     ensures joined { IfOk result (λ value.

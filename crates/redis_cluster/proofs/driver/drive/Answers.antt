@@ -1,4 +1,4 @@
-use Rattle.std.proofs.Common.{[], refl, sym, subst}
+use Rattle.std.proofs.Common.{[], inl, refl, sym, subst}
 use Rattle.std.proofs.lemmas.List.{append-nil}
 use Rattle.std.proofs.lemmas.Result.{IfErr-weaker, IfOk-weaker}
 use Rattle.cluster_slots.specs.Address.{Address}
@@ -9,13 +9,13 @@ use Rattle.redis_routing.specs.Registry.{Registrations}
 use Rattle.redis_cluster.specs.MultiKey.{MultiKey}
 use Rattle.redis_cluster.specs.Driven.{Request, request}
 use Rattle.redis_cluster.specs.Joined.{IsSplitOf}
-use Rattle.redis_cluster.specs.Faults.{fault_of_plan, unseen, IsCauseBeforeSending}
+use Rattle.redis_cluster.specs.Faults.{fault_of_plan, IsCauseBeforeSending}
 use Rattle.redis_cluster.specs.declared.fault.DriveFault.{DriveFault}
 use Rattle.redis_routing.specs.Command.{Arguments}
 use Rattle.redis_cluster.specs.Amid.{IsServedAmid}
 use Rattle.redis_cluster.proofs.Amid.{are_its_parts}
 use Rattle.redis_cluster.proofs.Gaps.{same_command}
-use Rattle.redis_cluster.proofs.TriedOnce.{early_fault, early_cut, early_plan}
+use Rattle.redis_cluster.proofs.TriedOnce.{early_plan}
 use Rattle.redis_cluster.specs.Ready.{IsPlanFor, IsPlanNode}
 use Rattle.redis_cluster.proofs.Wider.{plan_node, delivered_at, driven_at, cut_at, fault_at}
 use Rattle.redis_cluster.proofs.Headline.{headline_fault, carried_fault}
@@ -48,7 +48,7 @@ returns-in-Ok-clause-cut g c =
     let asked = request (g.R.Routable.args c.args.command.now) (names_of c.args.read_only.now (g.N.Nodes.registered c.args.nodes.now)) c.args.slot_map.now c.args.order.now in
     let nodes = g.N.Nodes in
     IfErr-weaker c.drive_plan.result _ _
-    (λ e said. cut_at (IsPlanNode c.in-Ok.plan) _ (plan_node _ c.in-Ok.plan c.in-Ok.ensures.nodes) asked (unseen (nodes.state c.args.nodes.now)) (unseen (nodes.state c.drive_plan.new.nodes)) (nodes.may_refuse c.args.nodes.now) e.fault e.answered (said asked ready.0 ready.1))
+    (λ e said. cut_at (IsPlanNode c.in-Ok.plan) _ (plan_node _ c.in-Ok.plan c.in-Ok.ensures.nodes) asked (nodes.state c.args.nodes.now) (nodes.state c.drive_plan.new.nodes) (nodes.may_refuse c.args.nodes.now) e.fault e.answered (said asked ready.0 ready.1))
     c.drive_plan.ensures.cut
 
 pub returns-in-Ok-clause-fault : goal.returns-in-Ok-clause-fault
@@ -59,7 +59,7 @@ returns-in-Ok-clause-fault g c =
     let old = g.N.Nodes.state c.args.nodes.now in
     let new = g.N.Nodes.state c.drive_plan.new.nodes in
     IfErr-weaker c.drive_plan.result _ _
-    (λ e said now. fault_at (IsPlanNode c.in-Ok.plan) _ (plan_node _ c.in-Ok.plan c.in-Ok.ensures.nodes) g.N.Nodes.step asked old new (g.N.Nodes.may_refuse c.args.nodes.now) e.fault e.answered (said asked ready.0 ready.1 now))
+    (λ e said now. fault_at (IsPlanNode c.in-Ok.plan) _ (plan_node _ c.in-Ok.plan c.in-Ok.ensures.nodes) asked old new (g.N.Nodes.may_refuse c.args.nodes.now) e.fault e.answered g.N.Nodes.step (said asked ready.0 ready.1 now))
     c.drive_plan.ensures.fault
 
 pub returns-in-Ok-clause-joined : goal.returns-in-Ok-clause-joined
@@ -114,14 +114,14 @@ returns-in-Err-clause-fault g c =
     let old = g.N.Nodes.state c.args.nodes.now in
     let is_early : IsCauseBeforeSending asked c.from.result = subst (λ (f : DriveFault). IsCauseBeforeSending asked f) (sym c.from.ensures) (subst (λ registered. IsCauseBeforeSending (request (g.R.Routable.args c.args.command.now) (names_of c.args.read_only.now registered) c.args.slot_map.now c.args.order.now) (fault_of_plan c.in-Err.fault)) c.registry.ensures
     (early_plan (request (g.R.Routable.args c.args.command.now) (names_of c.args.read_only.now c.registry.result.now) c.args.slot_map.now c.args.order.now) c.in-Err.fault c.in-Err.ensures.fault)) in
-    λ now. early_fault _ g.N.Nodes.step asked old (g.N.Nodes.may_refuse c.args.nodes.now) c.from.result is_early
+    λ now. inl (is_early, refl, refl)
 
 pub returns-in-Err-clause-cut : goal.returns-in-Err-clause-cut
 returns-in-Err-clause-cut g c =
     let asked = request (g.R.Routable.args c.args.command.now) (names_of c.args.read_only.now (g.N.Nodes.registered c.args.nodes.now)) c.args.slot_map.now c.args.order.now in
     let is_early : IsCauseBeforeSending asked c.from.result = subst (λ (f : DriveFault). IsCauseBeforeSending asked f) (sym c.from.ensures) (subst (λ registered. IsCauseBeforeSending (request (g.R.Routable.args c.args.command.now) (names_of c.args.read_only.now registered) c.args.slot_map.now c.args.order.now) (fault_of_plan c.in-Err.fault)) c.registry.ensures
     (early_plan (request (g.R.Routable.args c.args.command.now) (names_of c.args.read_only.now c.registry.result.now) c.args.slot_map.now c.args.order.now) c.in-Err.fault c.in-Err.ensures.fault)) in
-    early_cut _ asked (unseen (g.N.Nodes.state c.args.nodes.now)) (g.N.Nodes.may_refuse c.args.nodes.now) c.from.result is_early
+    inl (is_early, refl, refl)
 
 pub returns-in-Err-clause-headline : goal.returns-in-Err-clause-headline
 returns-in-Err-clause-headline g c =
@@ -131,7 +131,7 @@ returns-in-Err-clause-headline g c =
     (early_plan (request (g.R.Routable.args c.args.command.now) (names_of c.args.read_only.now c.registry.result.now) c.args.slot_map.now c.args.order.now) c.in-Err.fault c.in-Err.ensures.fault)) in
     let IsNode : SlotRoute → Address → Type 0 = λ route address. Unit {0} in
     λ headline now. headline_fault IsNode g.N.Nodes.step asked old old (g.N.Nodes.may_refuse c.args.nodes.now) headline c.from.result 0
-    (early_fault IsNode g.N.Nodes.step asked old (g.N.Nodes.may_refuse c.args.nodes.now) c.from.result is_early)
+    (inl (is_early, refl, refl))
 
 pub returns-in-Err-clause-carried : goal.returns-in-Err-clause-carried
 returns-in-Err-clause-carried g c =
@@ -141,7 +141,7 @@ returns-in-Err-clause-carried g c =
     (early_plan (request (g.R.Routable.args c.args.command.now) (names_of c.args.read_only.now c.registry.result.now) c.args.slot_map.now c.args.order.now) c.in-Err.fault c.in-Err.ensures.fault)) in
     let IsNode : SlotRoute → Address → Type 0 = λ route address. Unit {0} in
     λ routes command can all now. carried_fault IsNode g.N.Nodes.step asked old old (g.N.Nodes.may_refuse c.args.nodes.now) routes command can all c.from.result 0
-    (early_fault IsNode g.N.Nodes.step asked old (g.N.Nodes.may_refuse c.args.nodes.now) c.from.result is_early)
+    (inl (is_early, refl, refl))
 
 pub returns-in-Err-clause-unjoined : goal.returns-in-Err-clause-unjoined
 returns-in-Err-clause-unjoined g c = λ error is.

@@ -1,4 +1,4 @@
-use Rattle.std.proofs.Common.{◌≡◌, ◌<◌, [], true, refl, sym, subst, arith, length}
+use Rattle.std.proofs.Common.{◌≡◌, [], true, inl, inr, refl, sym, subst, length}
 use Rattle.std.specs.Prelude.{OnOk, IsSome}
 use Rattle.std.proofs.Common.{Result, Ok, Err, IfOk}
 use Rattle.std.proofs.lemmas.List.{append-nil}
@@ -7,14 +7,13 @@ use Rattle.std.proofs.lemmas.Result.{IfErr-weaker}
 use Rattle.redis_routing.specs.Registry.{Registrations}
 use Rattle.redis_cluster.specs.Sends.{IsPlanOf}
 use Rattle.redis_cluster.specs.Orders.{NamesOnce}
-use Rattle.redis_cluster.specs.Faults.{unseen}
 use Rattle.redis_cluster.specs.Retry.{Attempt}
 use Rattle.redis_cluster.proofs.Amid.{are_its_parts}
 use Rattle.redis_cluster.proofs.Ended.{ended_late, memory_is_no_reply}
 use Rattle.redis_cluster.specs.Ready.{IsPlanNode}
-use Rattle.redis_cluster.specs.declared.fault.DriveFault.TheVariants.{BadOrder, Memory}
+use Rattle.redis_cluster.specs.declared.fault.DriveFault.TheVariants.{BadOrder}
 use Rattle.redis_cluster.proofs.Headline.{begins, headline_fault, carried_fault}
-use Rattle.redis_cluster.proofs.TriedOnce.{delivered_once, plan_tried, plan_driven, plan_fault, plan_cut, early_fault, early_cut, bad_order, bad_order_is_no_reply}
+use Rattle.redis_cluster.proofs.TriedOnce.{delivered_once, plan_tried, plan_driven, plan_cut, bad_order, bad_order_is_no_reply}
 use Rattle.redis_cluster.proofs.driver.drive_plan.Goals as goal
 
 all_three : {T E : Type 0} {A B : Type 0} (P Q : T → Type 0) (r : Result T E) → ((x : T) → A → B → P x → Q x) → OnOk r A → OnOk r B → IfOk r P → IfOk r Q
@@ -48,21 +47,21 @@ returns-in-Ok-true-clause-driven g c =
 pub returns-in-Ok-true-clause-cut : goal.returns-in-Ok-true-clause-cut
 returns-in-Ok-true-clause-cut g c =
     let names : NamesOnce (length c.args.plan.split.routes) c.args.order.now = subst (λ n. NamesOnce n c.args.order.now) c.len.ensures.len (c.in-Ok-true.ensures.0 c.in-Ok-true.field-0-test) in
-    let some : 0 < length c.args.plan.split.routes = omega (arith, c.len.ensures.some, c.len.ensures.len) in
     let nodes = g.N.Nodes in
     IfErr-weaker c.drive_tries.result _ _
-    (λ e ended asked command is. plan_cut nodes.step asked c.args.order.now (g.N.Nodes.registered c.args.nodes.now) (nodes.kept c.drive_tries.new.nodes) (nodes.state c.args.nodes.now).keyspace (nodes.state c.drive_tries.new.nodes).keyspace (nodes.state c.args.nodes.now).trace (nodes.state c.drive_tries.new.nodes).trace (nodes.state c.args.nodes.now).mark (nodes.state c.drive_tries.new.nodes).mark
-    c.args.plan command is names (nodes.may_refuse c.args.nodes.now) e.fault e.answered some ended)
+    (λ e ended asked command is. inr (plan_cut nodes.step asked c.args.order.now (nodes.registered c.args.nodes.now) (nodes.state c.args.nodes.now) (nodes.state c.drive_tries.new.nodes)
+    c.args.plan command is names (nodes.kept c.drive_tries.new.nodes) (nodes.may_refuse c.args.nodes.now) e.fault e.answered ended).0)
     c.drive_tries.ensures.stopped
 
 pub returns-in-Ok-true-clause-fault : goal.returns-in-Ok-true-clause-fault
 returns-in-Ok-true-clause-fault g c =
     let names : NamesOnce (length c.args.plan.split.routes) c.args.order.now = subst (λ n. NamesOnce n c.args.order.now) c.len.ensures.len (c.in-Ok-true.ensures.0 c.in-Ok-true.field-0-test) in
-    let some : 0 < length c.args.plan.split.routes = omega (arith, c.len.ensures.some, c.len.ensures.len) in
     let nodes = g.N.Nodes in
     IfErr-weaker c.drive_tries.result _ _
-    (λ e ended asked command is now. plan_fault nodes.step asked c.args.order.now (g.N.Nodes.registered c.args.nodes.now) (g.N.Nodes.state c.args.nodes.now) (g.N.Nodes.state c.drive_tries.new.nodes)
-    c.args.plan command is names (nodes.kept c.drive_tries.new.nodes) now (nodes.may_refuse c.args.nodes.now) e.fault e.answered some ended)
+    (λ e ended asked command is now.
+    let cut = plan_cut nodes.step asked c.args.order.now (nodes.registered c.args.nodes.now) (nodes.state c.args.nodes.now) (nodes.state c.drive_tries.new.nodes)
+    c.args.plan command is names (nodes.kept c.drive_tries.new.nodes) (nodes.may_refuse c.args.nodes.now) e.fault e.answered ended in
+    inr (cut.0, (cut.1 now).0, (cut.1 now).1))
     c.drive_tries.ensures.stopped
 
 pub returns-in-Ok-true-clause-untouched : goal.returns-in-Ok-true-clause-untouched
@@ -73,13 +72,11 @@ returns-in-Ok-true-clause-untouched g c =
 
 pub returns-in-Ok-false-clause-fault : goal.returns-in-Ok-false-clause-fault
 returns-in-Ok-false-clause-fault g c = λ asked command is now.
-    early_fault (IsPlanNode c.args.plan) g.N.Nodes.step asked (g.N.Nodes.state c.args.nodes.now) (g.N.Nodes.may_refuse c.args.nodes.now) BadOrder
-    (bad_order asked c.args.order.now (g.N.Nodes.registered c.args.nodes.now) c.args.plan command is (λ named. absurd (let is : c.in-Ok-false.field-0 ≡ true = c.in-Ok-false.ensures.1 (subst (λ n. NamesOnce n c.args.order.now) (sym c.len.ensures.len) named) in cc (is, c.in-Ok-false.field-0-test))))
+    inl (bad_order asked c.args.order.now (g.N.Nodes.registered c.args.nodes.now) c.args.plan command is (λ named. absurd (let is : c.in-Ok-false.field-0 ≡ true = c.in-Ok-false.ensures.1 (subst (λ n. NamesOnce n c.args.order.now) (sym c.len.ensures.len) named) in cc (is, c.in-Ok-false.field-0-test))), refl, refl)
 
 pub returns-in-Ok-false-clause-cut : goal.returns-in-Ok-false-clause-cut
 returns-in-Ok-false-clause-cut g c = λ asked command is.
-    early_cut (IsPlanNode c.args.plan) asked (unseen (g.N.Nodes.state c.args.nodes.now)) (g.N.Nodes.may_refuse c.args.nodes.now) BadOrder
-    (bad_order asked c.args.order.now (g.N.Nodes.registered c.args.nodes.now) c.args.plan command is (λ named. absurd (let is : c.in-Ok-false.field-0 ≡ true = c.in-Ok-false.ensures.1 (subst (λ n. NamesOnce n c.args.order.now) (sym c.len.ensures.len) named) in cc (is, c.in-Ok-false.field-0-test))))
+    inl (bad_order asked c.args.order.now (g.N.Nodes.registered c.args.nodes.now) c.args.plan command is (λ named. absurd (let is : c.in-Ok-false.field-0 ≡ true = c.in-Ok-false.ensures.1 (subst (λ n. NamesOnce n c.args.order.now) (sym c.len.ensures.len) named) in cc (is, c.in-Ok-false.field-0-test))), refl, refl)
 
 pub returns-in-Ok-false-clause-unjoined : goal.returns-in-Ok-false-clause-unjoined
 returns-in-Ok-false-clause-unjoined g c = λ error is. absurd (bad_order_is_no_reply error is)
@@ -89,12 +86,10 @@ returns-in-Ok-false-clause-given g c =
     record { replies = []; each = refl; gave = λ before was. subst (g.N.Nodes.gave c.args.nodes.now) (sym (append-nil before)) was }
 
 pub returns-in-Err-clause-fault : goal.returns-in-Err-clause-fault
-returns-in-Err-clause-fault g c = λ asked command is now.
-    early_fault (IsPlanNode c.args.plan) g.N.Nodes.step asked (g.N.Nodes.state c.args.nodes.now) (g.N.Nodes.may_refuse c.args.nodes.now) Memory tt
+returns-in-Err-clause-fault g c = λ asked command is now. inl (tt, refl, refl)
 
 pub returns-in-Err-clause-cut : goal.returns-in-Err-clause-cut
-returns-in-Err-clause-cut g c = λ asked command is.
-    early_cut (IsPlanNode c.args.plan) asked (unseen (g.N.Nodes.state c.args.nodes.now)) (g.N.Nodes.may_refuse c.args.nodes.now) Memory tt
+returns-in-Err-clause-cut g c = λ asked command is. inl (tt, refl, refl)
 
 pub returns-in-Err-clause-unjoined : goal.returns-in-Err-clause-unjoined
 returns-in-Err-clause-unjoined g c = λ error is. absurd (memory_is_no_reply error is)

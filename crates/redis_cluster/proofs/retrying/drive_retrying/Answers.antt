@@ -1,4 +1,4 @@
-use Rattle.std.proofs.Common.{List, [], map, refl, sym, subst}
+use Rattle.std.proofs.Common.{List, [], map, inl, inr, refl, sym, subst}
 use Rattle.std.specs.List.{AllZip, zip}
 use Rattle.redis_cluster.specs.Retry.{Attempt, IsRetryOf}
 use Rattle.std.specs.Prelude.{OnOk}
@@ -8,11 +8,10 @@ use Rattle.std.proofs.lemmas.Result.{IfErr-weaker, IfOk-weaker}
 use Rattle.resp_core.specs.View.{view}
 use Rattle.redis_routing.specs.Names.{names_of}
 use Rattle.redis_cluster.specs.Driven.{request}
-use Rattle.redis_cluster.specs.Faults.{unseen, IsCauseBeforeSending}
+use Rattle.redis_cluster.specs.Faults.{IsCauseBeforeSending}
 use Rattle.redis_cluster.specs.Sends.{targets}
 use Rattle.redis_cluster.specs.Tries.{tries_with}
 use Rattle.redis_cluster.specs.declared.fault.DriveFault.{DriveFault}
-use Rattle.redis_cluster.specs.declared.fault.DriveFault.TheVariants.{Memory}
 use Rattle.redis_routing.specs.Command.{Arguments}
 use Rattle.redis_cluster.specs.Amid.{IsServedAmid}
 use Rattle.redis_cluster.proofs.Amid.{are_its_parts}
@@ -22,7 +21,7 @@ use Rattle.redis_cluster.proofs.Allowed.{allowed_none}
 use Rattle.redis_cluster.proofs.Headline.{begins}
 use Rattle.redis_cluster.proofs.Laws.{one_answer}
 use Rattle.redis_cluster.proofs.Unhindered.{headline_retried, carried_retried, delivered_alone}
-use Rattle.redis_cluster.proofs.Ended.{drivable, tried_whole, retry_fault, retry_cut, early_retried, early_retried_cut, ended_late, memory_is_no_reply}
+use Rattle.redis_cluster.proofs.Ended.{drivable, tried_whole, cut_short, ended_late, memory_is_no_reply}
 use Rattle.redis_cluster.proofs.retrying.drive_retrying.Goals as goal
 
 all_three : {T E : Type 0} {A B : Type 0} (P Q : T → Type 0) (r : Result T E) → ((x : T) → A → B → P x → Q x) → OnOk r A → OnOk r B → IfOk r P → IfOk r Q
@@ -96,8 +95,7 @@ returns-in-Ok-retries_of-clause-cut g c =
     let new = nodes.state c.drive_tries.new.nodes in
     let are = each_try _ asked c.args.retries (map (λ t. t.0) plan.split.routes) plan.nodes plan.parts own is.targets_are (subst (λ (o : List Attempt). AllZip (IsRetryOf c.args.slot_map.now c.args.retries) (zip (map (λ t. t.0) c.in-Ok.plan.split.routes) c.in-Ok.plan.nodes) o) (sym c.deref_mut.ensures.value) c.in-Ok-retries_of.ensures.each) in
     IfErr-weaker c.drive_tries.result _ _
-    (λ e ended. retry_cut _ nodes.step asked (nodes.kept c.drive_tries.new.nodes) (nodes.state c.args.nodes.now).keyspace (nodes.state c.drive_tries.new.nodes).keyspace (nodes.state c.args.nodes.now).trace (nodes.state c.drive_tries.new.nodes).trace (nodes.state c.args.nodes.now).mark (nodes.state c.drive_tries.new.nodes).mark
-    plan command is c.in-Ok.ensures.order _ (tries_with (targets plan) own) are (nodes.may_refuse c.args.nodes.now) e.fault e.answered ended)
+    (λ e ended. inr (cut_short _ nodes.step asked old new plan command is c.in-Ok.ensures.order _ (tries_with (targets plan) own) are (nodes.kept c.drive_tries.new.nodes) (nodes.may_refuse c.args.nodes.now) e.answered e.fault ended).0)
     c.drive_tries.ensures.stopped
 
 pub returns-in-Ok-retries_of-clause-fault : goal.returns-in-Ok-retries_of-clause-fault
@@ -112,7 +110,9 @@ returns-in-Ok-retries_of-clause-fault g c =
     let new = nodes.state c.drive_tries.new.nodes in
     let are = each_try _ asked c.args.retries (map (λ t. t.0) plan.split.routes) plan.nodes plan.parts own is.targets_are (subst (λ (o : List Attempt). AllZip (IsRetryOf c.args.slot_map.now c.args.retries) (zip (map (λ t. t.0) c.in-Ok.plan.split.routes) c.in-Ok.plan.nodes) o) (sym c.deref_mut.ensures.value) c.in-Ok-retries_of.ensures.each) in
     IfErr-weaker c.drive_tries.result _ _
-    (λ e ended now. retry_fault _ nodes.step asked old new plan command is c.in-Ok.ensures.order _ (tries_with (targets plan) own) are (nodes.kept c.drive_tries.new.nodes) now (nodes.may_refuse c.args.nodes.now) e.fault e.answered ended)
+    (λ e ended now.
+    let cut = cut_short _ nodes.step asked old new plan command is c.in-Ok.ensures.order _ (tries_with (targets plan) own) are (nodes.kept c.drive_tries.new.nodes) (nodes.may_refuse c.args.nodes.now) e.answered e.fault ended in
+    inr (cut.0, (cut.1 now).0, (cut.1 now).1))
     c.drive_tries.ensures.stopped
 
 pub returns-in-Ok-retries_of-clause-joined : goal.returns-in-Ok-retries_of-clause-joined
@@ -140,16 +140,10 @@ pub returns-in-Err-clause-gaps : goal.returns-in-Err-clause-gaps
 returns-in-Err-clause-gaps g c = same_command (g.R.Routable.args c.args.command.now)
 
 pub returns-in-Err-clause-fault : goal.returns-in-Err-clause-fault
-returns-in-Err-clause-fault g c =
-    let asked = request (g.R.Routable.args c.args.command.now) (names_of c.args.read_only.now (g.N.Nodes.registered c.args.nodes.now)) c.args.slot_map.now c.args.order.now in
-    let old = g.N.Nodes.state c.args.nodes.now in
-    λ now. early_retried _ g.N.Nodes.step asked old (g.N.Nodes.may_refuse c.args.nodes.now) c.in-Err.fault c.in-Err.ensures.early
+returns-in-Err-clause-fault g c = λ now. inl (c.in-Err.ensures.early, refl, refl)
 
 pub returns-in-Err-clause-cut : goal.returns-in-Err-clause-cut
-returns-in-Err-clause-cut g c =
-    let asked = request (g.R.Routable.args c.args.command.now) (names_of c.args.read_only.now (g.N.Nodes.registered c.args.nodes.now)) c.args.slot_map.now c.args.order.now in
-    let old = g.N.Nodes.state c.args.nodes.now in
-    early_retried_cut _ asked (unseen (g.N.Nodes.state c.args.nodes.now)) (g.N.Nodes.may_refuse c.args.nodes.now) c.in-Err.fault c.in-Err.ensures.early
+returns-in-Err-clause-cut g c = inl (c.in-Err.ensures.early, refl, refl)
 
 pub returns-in-Err-clause-unjoined : goal.returns-in-Err-clause-unjoined
 returns-in-Err-clause-unjoined g c = λ error is.
@@ -165,16 +159,10 @@ pub returns-in-Err-retries_of-clause-gaps : goal.returns-in-Err-retries_of-claus
 returns-in-Err-retries_of-clause-gaps g c = same_command (g.R.Routable.args c.args.command.now)
 
 pub returns-in-Err-retries_of-clause-fault : goal.returns-in-Err-retries_of-clause-fault
-returns-in-Err-retries_of-clause-fault g c =
-    let asked = request (g.R.Routable.args c.args.command.now) (names_of c.args.read_only.now (g.N.Nodes.registered c.args.nodes.now)) c.args.slot_map.now c.args.order.now in
-    let old = g.N.Nodes.state c.args.nodes.now in
-    λ now. early_retried _ g.N.Nodes.step asked old (g.N.Nodes.may_refuse c.args.nodes.now) Memory tt
+returns-in-Err-retries_of-clause-fault g c = λ now. inl (tt, refl, refl)
 
 pub returns-in-Err-retries_of-clause-cut : goal.returns-in-Err-retries_of-clause-cut
-returns-in-Err-retries_of-clause-cut g c =
-    let asked = request (g.R.Routable.args c.args.command.now) (names_of c.args.read_only.now (g.N.Nodes.registered c.args.nodes.now)) c.args.slot_map.now c.args.order.now in
-    let old = g.N.Nodes.state c.args.nodes.now in
-    early_retried_cut _ asked (unseen (g.N.Nodes.state c.args.nodes.now)) (g.N.Nodes.may_refuse c.args.nodes.now) Memory tt
+returns-in-Err-retries_of-clause-cut g c = inl (tt, refl, refl)
 
 pub returns-in-Err-retries_of-clause-unjoined : goal.returns-in-Err-retries_of-clause-unjoined
 returns-in-Err-retries_of-clause-unjoined g c = λ error is.

@@ -1,8 +1,8 @@
 use Rattle.std.proofs.Common.{◌≡◌, [], ◌∷◌, List, ℕ, Bool, Ok, Option, None, Some, ap, map, subst}
 use Rattle.std.specs.Prelude.{IfSome, ⊤}
 use Rattle.resp_core.specs.View.{view}
-use Rattle.redis_cluster.specs.State.{state}
-use Rattle.redis_cluster.specs.Faults.{IsCut, IsFault, nothing}
+use Rattle.redis_cluster.specs.State.{State, state}
+use Rattle.redis_cluster.specs.Faults.{IsCut, IsFault}
 use Rattle.redis_cluster.specs.Joined.{IsJoined}
 use Rattle.redis_cluster.specs.MultiKey.{MultiKey, multi_key}
 use Rattle.redis_cluster.specs.Names.{names_of}
@@ -45,23 +45,35 @@ if_some : {X : Type 0} (found : Option X) (P Q : X → Type 0) → ((x : X) → 
 if_some None P Q so known = tt
 if_some (Some x) P Q so known = so x known
 
+pub returns-in-Err-clause-written_so_far : goal.returns-in-Err-clause-written_so_far
+returns-in-Err-clause-written_so_far g c =
+    λ error is kept.
+    let slots = c.args.slot_map.now in
+    let step = g.M.Meaning.step in
+    let state_of : Registrations → List Said → Bool → State g.M.Meaning.Cell = λ registered log mark. state (replay registered step g.M.Meaning.took log g.M.Meaning.initial) (map entry_by log) mark in
+    let old = state_of c.args.client.now.registry (g.W.Wire.log c.args.client.now.wire) c.args.client.now.mark in
+    let new = state_of c.drive_over.new.client.registry (g.W.Wire.log c.drive_over.new.client.wire) c.drive_over.new.client.mark in
+    let stop = c.in-Err.error in
+    let same : stop ≡ error = ap (λ fault. error_of fault error) is in
+    subst (λ (e : DriveError). IsFault (IsPrimary slots) step (asked slots c.args.client.now.registry write (0 ∷ 1 ∷ [])) old new (λ count ending. ⊤) e.fault e.answered) same
+    (subst (λ (words : List (List ℕ)). IsFault (IsPrimary slots) step (asked slots c.args.client.now.registry words (0 ∷ 1 ∷ [])) old new (λ count ending. ⊤) stop.fault stop.answered) c.in_ok-write.ensures (c.in-Err.ensures.fault kept))
+
 pub returns-clause-not_read : goal.returns-clause-not_read
 returns-clause-not_read g c =
     λ error is.
     let slots = c.args.slot_map.now in
-    let between = map entry_by (g.W.Wire.log c.drive_over.new.client.wire) in
-    let mark = c.drive_over.new.client.mark in
-    let last = map entry_by (g.W.Wire.log c.drive_over-2.new.client.wire) in
+    let state_of : Registrations → List Said → Bool → State g.M.Meaning.Cell = λ registered log mark. state (replay registered g.M.Meaning.step g.M.Meaning.took log g.M.Meaning.initial) (map entry_by log) mark in
+    let between = state_of c.drive_over.new.client.registry (g.W.Wire.log c.drive_over.new.client.wire) c.drive_over.new.client.mark in
+    let last = state_of c.drive_over-2.new.client.registry (g.W.Wire.log c.drive_over-2.new.client.wire) c.drive_over-2.new.client.mark in
     let stop = c.in-Err-drive_over.error in
     let same : stop ≡ error = ap (λ fault. error_of fault error) is in
     let cut =
-    subst (λ (registered : Registrations). IsCut (IsPrimary slots) (asked slots registered read (1 ∷ 0 ∷ [])) (state nothing between mark) (state nothing last c.drive_over-2.new.client.mark) (λ count ending. ⊤) stop.fault stop.answered) c.drive_over.ensures.registered
-    (subst (λ (words : List (List ℕ)). IsCut (IsPrimary slots) (asked slots c.drive_over.new.client.registry words (1 ∷ 0 ∷ [])) (state nothing between mark) (state nothing last c.drive_over-2.new.client.mark) (λ count ending. ⊤) stop.fault stop.answered)
+    subst (λ (registered : Registrations). IsCut (IsPrimary slots) (asked slots registered read (1 ∷ 0 ∷ [])) between last (λ count ending. ⊤) stop.fault stop.answered) c.drive_over.ensures.registered
+    (subst (λ (words : List (List ℕ)). IsCut (IsPrimary slots) (asked slots c.drive_over.new.client.registry words (1 ∷ 0 ∷ [])) between last (λ count ending. ⊤) stop.fault stop.answered)
     c.in_ok-read.ensures c.in-Err-drive_over.ensures.cut) in (
       between,
-      mark,
-      subst (λ (words : List (List ℕ)). AreSentOnce slots c.args.client.now.registry words (0 ∷ 1 ∷ []) (map entry_by (g.W.Wire.log c.args.client.now.wire)) between) c.in_ok-write.ensures c.in_default.ensures.once,
-      subst (λ (e : DriveError). IsCut (IsPrimary slots) (asked slots c.args.client.now.registry read (1 ∷ 0 ∷ [])) (state nothing between mark) (state nothing last c.drive_over-2.new.client.mark) (λ count ending. ⊤) e.fault e.answered) same cut,
+      subst (λ (words : List (List ℕ)). AreSentOnce slots c.args.client.now.registry words (0 ∷ 1 ∷ []) (map entry_by (g.W.Wire.log c.args.client.now.wire)) between.trace) c.in_ok-write.ensures c.in_default.ensures.once,
+      subst (λ (e : DriveError). IsCut (IsPrimary slots) (asked slots c.args.client.now.registry read (1 ∷ 0 ∷ [])) between last (λ count ending. ⊤) e.fault e.answered) same cut,
     )
 
 pub returns-clause-written : goal.returns-clause-written
