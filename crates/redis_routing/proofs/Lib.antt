@@ -11,6 +11,7 @@ pub mod Rows
 pub mod SameRows
 pub mod Search
 pub mod TableRows
+pub mod NineNames
 pub mod Cover
 pub mod Grouping
 pub mod Picks

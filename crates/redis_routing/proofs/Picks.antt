@@ -9,20 +9,17 @@ use Rattle.redis_routing.specs.Command.{Arguments, HasWords, argument, command_n
 use Rattle.redis_routing.specs.Laws.{ArePartsPicked}
 use Rattle.redis_routing.specs.Names.{Names}
 use Rattle.redis_routing.specs.NameWords.{name_words_of}
-use Rattle.redis_routing.specs.Registry.{tables_with}
 use Rattle.redis_routing.specs.Parts.{first_appearances, slot_of, places_in_slot, arguments_in_slot, part_of_slot}
 use Rattle.redis_routing.specs.Routing.{routes_of, route_of_slot}
 use Rattle.redis_routing.specs.Lists.{all_some}
 use Rattle.redis_routing.specs.PresentArguments.{present_arguments, present_arguments_after}
 use Rattle.redis_routing.specs.SubCommand.{sub_command_after}
 use Rattle.redis_routing.specs.Tuples.{fits, tuples_in, is_complete}
-use Rattle.redis_routing.specs.Complete.{pattern_of, pattern_by_name, routes_by, routes_by_name, multi_slot_routes, AreSubCommands}
+use Rattle.redis_routing.specs.Complete.{pattern_by_name, routes_by, routes_by_name, multi_slot_routes, AreSubCommands}
 use Rattle.redis_routing.specs.Split.{Split, IsSplit, route_part, split_part}
 use Rattle.redis_routing.specs.RoutingInfo.{route_list, route_lists}
 use Rattle.redis_routing.specs.declared.route_by.MultiSlotArgPattern.{MultiSlotArgPattern}
 use Rattle.redis_routing.specs.declared.route_by.MultiSlotArgPattern.TheVariants.{KeysOnly, KeyValuePairs, KeysAndLastArg, KeyWithTwoArgTriples}
-use Rattle.redis_routing.specs.declared.route_by.RouteBy.{RouteBy}
-use Rattle.redis_routing.specs.declared.route_by.RouteBy.TheVariants as route_by
 use Rattle.std.proofs.lemmas.Bool.Decides.{nat_tests}
 use Rattle.redis_routing.proofs.CommandNames.{has_words}
 use Rattle.redis_routing.proofs.Cover.{Between, bounds, part_in_present, arguments_at_places}
@@ -85,29 +82,21 @@ complete_fits KeyWithTwoArgTriples m h = h
 pub complete_sub_commands : (names : Names) (args : Arguments) (routes : List (SlotRoute × List ℕ)) → multi_slot_routes names args ≡ Some routes → AreSubCommands names.registered args routes
 complete_sub_commands names args routes = by_name (command_name args) refl
   where
-    by_length : (name : List ℕ) (pattern : MultiSlotArgPattern) → command_name args ≡ Some name → (tables_with names.registered).route_by name ≡ Some (route_by.MultiSlot pattern) → (whole : Bool) → is_complete pattern (length (present_arguments args)) ≡ whole
+    by_length : (name : List ℕ) (pattern : MultiSlotArgPattern) → command_name args ≡ Some name → pattern_by_name names.registered (Some name) ≡ Some pattern → (whole : Bool) → is_complete pattern (length (present_arguments args)) ≡ whole
         → cond whole (Some (routes_of (names.only_reads name) pattern (present_arguments args))) None ≡ Some routes → AreSubCommands names.registered args routes
-    by_length name pattern named is true whole split =
-        let same : pattern_by_name names.registered (command_name args) ≡ Some pattern = ap (pattern_by_name names.registered) named ∙ ap pattern_of is in
-        let routes-are : routes ≡ routes_of (names.only_reads name) pattern (present_arguments args) = cc split in
+    by_length name pattern named is true whole made =
+        let same : pattern_by_name names.registered (command_name args) ≡ Some pattern = ap (pattern_by_name names.registered) named ∙ is in
+        let routes-are : routes ≡ routes_of (names.only_reads name) pattern (present_arguments args) = cc made in
         rw (same, routes-are) (parts_picked args (names.only_reads name) pattern (has_words args name (sym named)) (complete_fits pattern (length (present_arguments args)) whole))
-    by_length name pattern named is false whole split = absurd (cc split)
+    by_length name pattern named is false whole made = absurd (cc made)
 
-    by_route_by : (name : List ℕ) → command_name args ≡ Some name → (w : Option RouteBy) → (tables_with names.registered).route_by name ≡ w → routes_by (names.only_reads name) args w ≡ Some routes → AreSubCommands names.registered args routes
-    by_route_by name named None is split = absurd (cc split)
-    by_route_by name named (Some route_by.AllNodes) is split = absurd (cc split)
-    by_route_by name named (Some route_by.AllMasters) is split = absurd (cc split)
-    by_route_by name named (Some (route_by.MultiSlot pattern)) is split = by_length name pattern named is (is_complete pattern (length (present_arguments args))) refl split
-    by_route_by name named (Some route_by.Undefined) is split = absurd (cc split)
-    by_route_by name named (Some (route_by.CountAt n)) is split = absurd (cc split)
-    by_route_by name named (Some (route_by.KeyAt n)) is split = absurd (cc split)
-    by_route_by name named (Some route_by.KeyAfterStreams) is split = absurd (cc split)
-    by_route_by name named (Some route_by.Random) is split = absurd (cc split)
-    by_route_by name named (Some (route_by.SlotAt n)) is split = absurd (cc split)
+    by_pattern : (name : List ℕ) → command_name args ≡ Some name → (found : Option MultiSlotArgPattern) → pattern_by_name names.registered (Some name) ≡ found → routes_by (names.only_reads name) args found ≡ Some routes → AreSubCommands names.registered args routes
+    by_pattern name named None is made = absurd (cc made)
+    by_pattern name named (Some pattern) is made = by_length name pattern named is (is_complete pattern (length (present_arguments args))) refl made
 
     by_name : (name : Option (List ℕ)) → command_name args ≡ name → routes_by_name names args name ≡ Some routes → AreSubCommands names.registered args routes
-    by_name None named split = absurd (cc split)
-    by_name (Some name) named split = by_route_by name named ((tables_with names.registered).route_by name) refl split
+    by_name None named made = absurd (cc made)
+    by_name (Some name) named made = by_pattern name named (pattern_by_name names.registered (Some name)) refl made
 
 -- a sub-command that is a part, as texts
 sub_command_texts : (made : Option (List (List ℕ))) (part : Arguments) → option_map (map Some) made ≡ Some part → (words : List (List ℕ)) × (made ≡ Some words) × (map Some words ≡ part)

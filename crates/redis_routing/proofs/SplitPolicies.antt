@@ -3,13 +3,12 @@ use Rattle.std.proofs.Common.{◌≡◌, ℕ, List, Bool, true, false, ◌&&◌,
 use Rattle.std.specs.Prelude.{IfSome, is_none, not}
 use Rattle.redis_routing.specs.Policies.{joins_parts, policy_of}
 use Rattle.redis_routing.specs.Registry.{Registered, is_bad_name, is_registrable, registered_policy, registered_routing}
-use Rattle.redis_routing.specs.RouteBy.{base_routings, base_routing}
+use Rattle.redis_routing.specs.RouteBy.{base_routings, base_routing, pattern_of}
 use Rattle.redis_routing.specs.declared.policy.ResponsePolicy.{ResponsePolicy}
 use Rattle.redis_routing.specs.declared.route_by.MultiSlotArgPattern.{MultiSlotArgPattern}
 use Rattle.redis_routing.specs.declared.route_by.RouteBy.{RouteBy}
 use Rattle.redis_routing.specs.declared.route_by.RouteBy.TheVariants as route_by
 use Rattle.redis_routing.proofs.Rows.{each_row}
-use Rattle.redis_routing.specs.Complete.{pattern_of}
 use Rattle.resp_core.proofs.Cases.{and_second}
 
 abbrev is_joining : Option ResponsePolicy → Bool

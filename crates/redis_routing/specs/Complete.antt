@@ -4,25 +4,19 @@ use Rattle.cluster_slots.specs.SlotRoute.{SlotRoute}
 use Rattle.redis_routing.specs.Command.{Arguments, command_name}
 use Rattle.redis_routing.specs.Names.{Names}
 use Rattle.redis_routing.specs.NameWords.{name_words_of}
-use Rattle.redis_routing.specs.Registry.{Registrations, tables_with}
+use Rattle.redis_routing.specs.Registry.{Registrations}
+use Rattle.redis_routing.specs.MultiKeyNames.{split_of}
 use Rattle.redis_routing.specs.Parts.{part_of_slot}
 use Rattle.redis_routing.specs.Routing.{routes_of}
 use Rattle.redis_routing.specs.PresentArguments.{present_arguments}
 use Rattle.redis_routing.specs.SubCommand.{sub_command_after}
 use Rattle.redis_routing.specs.Tuples.{is_complete}
 use Rattle.redis_routing.specs.declared.route_by.MultiSlotArgPattern.{MultiSlotArgPattern}
-use Rattle.redis_routing.specs.declared.route_by.RouteBy.{RouteBy}
-use Rattle.redis_routing.specs.declared.route_by.RouteBy.TheVariants as route_by
 
--- the pattern of a name that is split by slot, if it is routed so
-abbrev pub pattern_of : Option RouteBy → Option MultiSlotArgPattern
-pattern_of (Some (route_by.MultiSlot pattern)) = Some pattern
-pattern_of _ = None
-
--- the pattern of a command's name: by the tables, or as it is registered
+-- the pattern of a command's name, if commands of that name are split
 abbrev pub pattern_by_name : Registrations → Option (List ℕ) → Option MultiSlotArgPattern
 pattern_by_name registered None = None
-pattern_by_name registered (Some name) = pattern_of ((tables_with registered).route_by name)
+pattern_by_name registered (Some name) = option_map (λ split. split.0) (split_of registered name)
 
 -- the part of a slot by a pattern, if there is one
 abbrev pub part_by_pattern : Option MultiSlotArgPattern → Arguments → ℕ → Arguments
@@ -34,19 +28,19 @@ abbrev pub part_by_name : Registrations → Arguments → ℕ → Arguments
 part_by_name registered args slot =
     part_by_pattern (pattern_by_name registered (command_name args)) args slot
 
--- the routes of a complete command whose name is routed so, if it is split by slot
-abbrev pub routes_by : Bool → Arguments → Option RouteBy → Option (List (SlotRoute × List ℕ))
+-- the routes of a complete command by the pattern of its name, if there is one
+abbrev pub routes_by : Bool → Arguments → Option MultiSlotArgPattern
+    → Option (List (SlotRoute × List ℕ))
 routes_by reads args None = None
-routes_by reads args (Some (route_by.MultiSlot pattern)) =
+routes_by reads args (Some pattern) =
     cond (is_complete pattern (length (present_arguments args)))
     (Some (routes_of reads pattern (present_arguments args))) None
-routes_by reads args (Some _) = None
 
 abbrev pub routes_by_name : Names → Arguments → Option (List ℕ)
     → Option (List (SlotRoute × List ℕ))
 routes_by_name names args None = None
 routes_by_name names args (Some name) =
-    routes_by (names.only_reads name) args ((tables_with names.registered).route_by name)
+    routes_by (names.only_reads name) args (pattern_by_name names.registered (Some name))
 
 -- the routes of a complete command, with the places of their parts
 abbrev pub multi_slot_routes : Names → Arguments → Option (List (SlotRoute × List ℕ))

@@ -4,6 +4,7 @@ pub use Rattle.resp_core.specs.ErrorParts
 pub mod Command
 pub mod Lists
 pub mod Names
+pub mod MultiKeyNames
 pub mod NameTables
 pub mod NameWords
 pub mod Places

@@ -1,6 +1,6 @@
 -- Registered names: commands over many keys that the tables don't have, as those of a module. Each
 -- name stands with how its arguments make tuples, and how the replies to its parts make one.
-use Rattle.std.specs.Prelude.{ℕ, List, length, Bool, ◌&&◌, ◌||◌, not, if◌then◌else◌, cond, nat_eq, Option, None, Some, is_some, is_none, option_map}
+use Rattle.std.specs.Prelude.{ℕ, List, length, Bool, ◌&&◌, ◌||◌, not, if◌then◌else◌, nat_eq, Option, None, Some, is_some, is_none, option_map}
 use Rattle.std.specs.List.{list_any, before_first, after_first}
 use Rattle.redis_routing.specs.Lookup.{lookup_name}
 use Rattle.redis_routing.specs.NameTables.{NameTables}
@@ -46,10 +46,6 @@ is_bad_name name =
 -- whether the tables have the name, as `MGET`, or it is registered
 abbrev pub is_taken : Registrations → List ℕ → Bool
 is_taken registry name = is_some (base_routing name) || is_some (lookup_name registry name)
-
--- what a name is registered with, where the tables don't have it
-abbrev pub registered_as : Registrations → List ℕ → Option Registered
-registered_as registry name = cond (is_some (base_routing name)) None (lookup_name registry name)
 
 -- whether the replies to the parts of a command can't make one by this policy
 abbrev pub is_bad_policy : ResponsePolicy → Bool

@@ -1,6 +1,7 @@
 -- How names are routed: where a command of the name goes (the project's table of routings).
-use Rattle.std.specs.Prelude.{ℕ, List, [], ◌∷◌, ◌++◌, Option, codes}
+use Rattle.std.specs.Prelude.{ℕ, List, [], ◌∷◌, ◌++◌, Option, None, Some, codes}
 use Rattle.redis_routing.specs.Lookup.{lookup_name, rows_with}
+use Rattle.redis_routing.specs.declared.route_by.MultiSlotArgPattern.{MultiSlotArgPattern}
 use Rattle.redis_routing.specs.declared.route_by.MultiSlotArgPattern.TheVariants.{KeysOnly, KeyValuePairs, KeysAndLastArg, KeyWithTwoArgTriples}
 use Rattle.redis_routing.specs.declared.route_by.RouteBy.{RouteBy}
 use Rattle.redis_routing.specs.declared.route_by.RouteBy.TheVariants.{AllNodes, AllMasters, MultiSlot, Undefined, CountAt, KeyAt, KeyAfterStreams, Random, SlotAt}
@@ -122,3 +123,8 @@ base_routings =
 -- how a name is routed, if the table has it
 unfoldable pub base_routing : List ℕ → Option RouteBy
 base_routing name = lookup_name base_routings name
+
+-- the pattern of a name, if its commands are split by slot
+abbrev pub pattern_of : Option RouteBy → Option MultiSlotArgPattern
+pattern_of (Some (MultiSlot pattern)) = Some pattern
+pattern_of _ = None

@@ -4,7 +4,8 @@ use Rattle.cluster_slots.specs.SlotRoute.{SlotRoute}
 use Rattle.redis_routing.specs.Command.{Arguments, HasWords, command_name}
 use Rattle.redis_routing.specs.Tuples.{is_complete}
 use Rattle.redis_routing.specs.NameWords.{name_words_of}
-use Rattle.redis_routing.specs.Registry.{Registrations, tables_with}
+use Rattle.redis_routing.specs.Registry.{Registrations}
+use Rattle.redis_routing.specs.MultiKeyNames.{split_of}
 use Rattle.redis_routing.specs.Parts.{part_of_slot}
 use Rattle.redis_routing.specs.Routing.{routes_of}
 use Rattle.redis_routing.specs.PresentArguments.{present_arguments}
@@ -33,10 +34,10 @@ abbrev pub route_part : Split → ℕ → Option Arguments
 route_part split number =
     option_map (λ r. split_part split r.0.slot) (slice_get split.routes number)
 
--- the policy of a command's name: by the tables, or as it is registered
+-- the policy of a command's name, if commands of that name are split
 abbrev pub policy_by_name : Registrations → Option (List ℕ) → Option ResponsePolicy
 policy_by_name registered None = None
-policy_by_name registered (Some name) = (tables_with registered).policy name
+policy_by_name registered (Some name) = option_map (λ split. split.1) (split_of registered name)
 
 -- The command's name has a policy, which joins the replies to parts.
 abbrev pub HasJoiningPolicy : Registrations → Arguments → Type 0

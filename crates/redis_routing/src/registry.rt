@@ -1,11 +1,14 @@
-ghost use Rattle.std.specs.Prelude.{◌≡◌, ◌↔◌, IsTrue, ◌⊎◌, ◌+◌, ◌++◌, ℕ, List, [], ◌∷◌, Some, None, IfErr, IfSome, OnOk, OnErr, MatchOption, Contains, cond, ◌&&◌, ◌||◌, length, true};
+ghost use Rattle.std.specs.Prelude.{◌≡◌, ◌↔◌, IsTrue, ◌⊎◌, ◌+◌, ◌++◌, ℕ, List, [], ◌∷◌, Some, None, IfErr, IfSome, OnOk, OnErr, MatchOption, Contains, cond, option_map, ◌&&◌, ◌||◌, length, true};
 ghost use Rattle.std.specs.Str.{bytes_eq};
 ghost use Rattle.std.specs.Cmp.Rules.{comparing};
 ghost use Rattle.std.proofs.Common.{rules};
 ghost use Rattle.redis_routing.specs.Lookup.{lookup_name};
+ghost use Rattle.redis_routing.specs.MultiKeyNames.{split_of};
 ghost use Rattle.redis_routing.specs.NameTables.{default_tables};
+ghost use Rattle.redis_routing.specs.Policies.{joins_parts};
 ghost use Rattle.redis_routing.specs.Refusal.{register_error};
 ghost use Rattle.redis_routing.specs.Registry.{is_bad_name, is_empty, is_one_word, is_bad_policy, is_registrable, tables_with};
+ghost use Rattle.redis_routing.specs.RouteBy.{pattern_of};
 ghost use Rattle.redis_routing.specs.SameRegistrations.{same_registrations};
 ghost use Rattle.redis_routing.specs.TwoWords.{takes_second};
 ghost use Rattle.redis_routing.specs.Upper.{upper};
@@ -165,6 +168,30 @@ impl Registry {
         ensures registrable { IfSome result (λ row. is_registrable name.now row.1 ≡ true) }
     {
         self.rows.get(name).copied()
+    }
+
+    /// How commands of this name make tuples and how the replies to their parts make one, if they
+    /// are split by slot.
+    pub fn pattern_and_policy(&self, name: &[u8]) -> Option<(MultiSlotArgPattern, ResponsePolicy)>
+        ensures found { result ≡ split_of self.now name.now }
+        // The nine rows agree with the tables of all names.
+        ensures pattern { option_map (λ found. found.0) result
+            ≡ pattern_of ((tables_with self.now).route_by name.now) }
+        ensures policy { IfSome result (λ found. Some found.1
+            ≡ (tables_with self.now).policy name.now) }
+        ensures joins { IfSome result (λ found. joins_parts found.1 ≡ true) }
+    {
+        // The invariant: no name of the tables is registered.
+        let _rows = &self.rows;
+        let (route_by, policy) = routing_and_policy(name);
+        let Some(route_by) = route_by else {
+            return self.get(name);
+        };
+        let RouteBy::MultiSlot(pattern) = route_by else {
+            return None;
+        };
+        let Some(policy) = policy else { unreachable!() };
+        Some((pattern, policy))
     }
 
     /// How commands of a name are routed, and how the replies to them make one: by the tables, or

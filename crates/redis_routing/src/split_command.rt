@@ -1,8 +1,7 @@
 ghost use Rattle.std.specs.Prelude.{◌≡◌, ◌<◌, Some, true, length, map, option_map, IfOk, IfSome};
 ghost use Rattle.redis_routing.specs.Command.{command_name};
-ghost use Rattle.redis_routing.specs.Complete.{multi_slot_routes, pattern_of, pattern_by_name, AreSubCommands};
+ghost use Rattle.redis_routing.specs.Complete.{multi_slot_routes, pattern_by_name, AreSubCommands};
 ghost use Rattle.redis_routing.specs.Names.{names_in};
-ghost use Rattle.redis_routing.specs.Registry.{tables_with};
 ghost use Rattle.redis_routing.specs.Policies.{joins_parts};
 ghost use Rattle.redis_routing.specs.Split.{Split, IsSplit, route_part, policy_by_name};
 ghost use Rattle.redis_routing.specs.RoutingInfo.{route_lists};
@@ -11,9 +10,8 @@ use super::splitting::{present_len, routes_by_slot, words_of};
 use super::sub_commands::sub_command;
 use crate::names::Names;
 use crate::policy::ResponsePolicy;
-use crate::registry::Registry;
 use crate::routable::Routable;
-use crate::route_by::{MultiSlotArgPattern, RouteBy, routing_and_policy};
+use crate::route_by::MultiSlotArgPattern;
 use crate::words::{ROOM, short_name};
 use cluster_slots::Route;
 use resp_core::Cmd;
@@ -103,7 +101,7 @@ impl<'a, R: Routable> SplitCommand<'a, R> {
         ensures policy { IfOk result (λ split. IfSome split (λ s. Some s.policy
             ≡ policy_by_name names.entry.registry.now (command_name (R.args command.now)))) }
     {
-        let Some((pattern, policy)) = pattern_and_policy(names.registry, name) else {
+        let Some((pattern, policy)) = names.registry.pattern_and_policy(name) else {
             return Ok(None);
         };
         let words = words_of(command, name);
@@ -171,29 +169,6 @@ impl<'a, R: Routable> SplitCommand<'a, R> {
         };
         Ok(part)
     }
-}
-
-/// How commands of this name make tuples and how the replies to their parts make one, where they
-/// split by slot.
-fn pattern_and_policy(
-    registry: &Registry,
-    name: &[u8],
-) -> Option<(MultiSlotArgPattern, ResponsePolicy)>
-    ensures pattern { option_map (λ found. found.0) result
-        ≡ pattern_of ((tables_with registry.now).route_by name.now) }
-    ensures policy { IfSome result (λ found. Some found.1
-        ≡ (tables_with registry.now).policy name.now) }
-    ensures joins { IfSome result (λ found. joins_parts found.1 ≡ true) }
-{
-    let (route_by, policy) = routing_and_policy(name);
-    let Some(route_by) = route_by else {
-        return registry.get(name);
-    };
-    let RouteBy::MultiSlot(pattern) = route_by else {
-        return None;
-    };
-    let Some(policy) = policy else { unreachable!() };
-    Some((pattern, policy))
 }
 
 /// The routes of a multi-key command: one for each slot of a key, by the first key of each slot.
