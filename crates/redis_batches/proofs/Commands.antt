@@ -13,7 +13,7 @@ use Rattle.redis_routing.specs.Command.{Arguments, command_name}
 use Rattle.redis_routing.specs.Names.{Names, names_of}
 use Rattle.redis_routing.specs.PresentArguments.{present_arguments}
 use Rattle.redis_routing.specs.Registry.{Registrations}
-use Rattle.redis_routing.specs.Complete.{multi_slot_routes, pattern_by_name, pattern_of}
+use Rattle.redis_routing.specs.Complete.{multi_slot_routes, pattern_by_name}
 use Rattle.redis_routing.specs.Routing.{routing}
 use Rattle.redis_routing.specs.Split.{Split, IsSplit, split_part, policy_by_name, slots_of}
 use Rattle.redis_cluster.specs.MultiKey.{MultiKey, form_of_policy, multi_key, part_by_slot, part_of, slots_in}
@@ -43,7 +43,7 @@ module _ (names : Names) (args : Arguments) (split : Split) (arguments : split.a
       let found = command_of_routes names args split.routes (joining names args split policy held) (sym routes) in
       let command : MultiKey = found.0 in
       let made = is_made registry args command found.1 in
-      let pattern_is : split.pattern ≡ made.0 = same_some split.pattern made.0 (pattern ∙ ap (pattern_by_name registry) made.1.name ∙ ap pattern_of made.1.split) in
+      let pattern_is : split.pattern ≡ made.0 = same_some split.pattern made.0 (pattern ∙ ap (pattern_by_name registry) made.1.name ∙ made.1.split) in
       let Meant : ℕ → Type 0 = λ slot. multi_key registry (split_part split slot) ≡ Some (part_of command slot) in
       let Has : ℕ → Type 0 = λ slot. list_any (λ t. nat_eq (key_slot t.key) slot) command.tuples ≡ true in
       let meant : All Meant (slots_of split.routes) =

@@ -16,7 +16,7 @@ use Rattle.redis_routing.specs.Registry.{Registrations}
 use Rattle.redis_routing.specs.Tuples.{Tuple, arguments_of, tuple_args_count, shared_in, tuples_in}
 use Rattle.redis_routing.specs.declared.route_by.MultiSlotArgPattern.{MultiSlotArgPattern}
 use Rattle.redis_routing.specs.declared.route_by.MultiSlotArgPattern.TheVariants.{KeysOnly, KeyValuePairs, KeysAndLastArg, KeyWithTwoArgTriples}
-use Rattle.redis_routing.specs.Complete.{multi_slot_routes, part_by_name, part_by_pattern, pattern_by_name, pattern_of}
+use Rattle.redis_routing.specs.Complete.{multi_slot_routes, part_by_name, part_by_pattern, pattern_by_name}
 use Rattle.redis_routing.specs.Split.{HasJoiningPolicy}
 use Rattle.redis_routing.specs.Parts.{first_appearances, slot_of, tuples_in_slot}
 use Rattle.redis_routing.specs.Routing.{nodes_for, route_of_slot, routes_of}
@@ -77,7 +77,7 @@ part_by_command registry args command slot is =
     let shared : shared_in made.0 present ≡ option_to_list command.shared =
     at_most_one (shared_in made.0 present) (one_shared made.0 present) ∙ ap option_to_list (sym made.1.whole.shared) in
     ap (λ n. part_by_pattern (pattern_by_name registry n) args slot) made.1.name
-    ∙ ap (λ w. part_by_pattern (pattern_of w) args slot) made.1.split
+    ∙ ap (λ w. part_by_pattern w args slot) made.1.split
     ∙ ap (λ texts. words ++ map Some (texts ++ shared_in made.0 present)) tuples
     ∙ ap (λ last. words ++ map Some (flat_map tuple_args (tuples_of_slot slot command.tuples) ++ last)) shared
     ∙ sym (ap (λ c. part_args_in args c slot) is)

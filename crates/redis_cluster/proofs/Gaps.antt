@@ -5,14 +5,13 @@ use Rattle.std.specs.Option.{option_to_list}
 use Rattle.redis_routing.specs.Command.{Arguments, command_name}
 use Rattle.redis_routing.specs.Names.{Names}
 use Rattle.redis_routing.specs.NameWords.{name_words_of}
-use Rattle.redis_routing.specs.Registry.{Registrations, tables_with}
+use Rattle.redis_routing.specs.Registry.{Registrations}
 use Rattle.redis_routing.specs.TwoWords.{takes_second}
 use Rattle.redis_routing.specs.Upper.{upper}
 use Rattle.resp_core.proofs.Cases.{by_test}
 use Rattle.redis_routing.specs.PresentArguments.{arguments_before_gap, present_arguments, present_arguments_after}
 use Rattle.redis_routing.specs.Tuples.{is_complete}
-use Rattle.redis_routing.specs.declared.route_by.RouteBy.{RouteBy}
-use Rattle.redis_routing.specs.declared.route_by.RouteBy.TheVariants as route_by
+use Rattle.redis_routing.specs.declared.route_by.MultiSlotArgPattern.{MultiSlotArgPattern}
 use Rattle.redis_routing.specs.Complete.{pattern_by_name, routes_by, routes_by_name}
 use Rattle.redis_routing.specs.Routing.{routes_of}
 use Rattle.redis_routing.specs.Split.{policy_by_name}
@@ -67,21 +66,13 @@ module _ (args : Arguments) where
   same : IsFront args
   same = is_front args
 
-  routed_same : (reads : Bool) (way : Option RouteBy) → routes_by reads (front args) way ≡ routes_by reads args way
+  routed_same : (reads : Bool) (found : Option MultiSlotArgPattern) → routes_by reads (front args) found ≡ routes_by reads args found
   routed_same reads None = refl
-  routed_same reads (Some route_by.AllNodes) = refl
-  routed_same reads (Some route_by.AllMasters) = refl
-  routed_same reads (Some (route_by.MultiSlot pattern)) = ap (λ present. cond (is_complete pattern (length present)) (Some (routes_of reads pattern present)) None) same.present
-  routed_same reads (Some route_by.Undefined) = refl
-  routed_same reads (Some (route_by.CountAt n)) = refl
-  routed_same reads (Some (route_by.KeyAt n)) = refl
-  routed_same reads (Some route_by.KeyAfterStreams) = refl
-  routed_same reads (Some route_by.Random) = refl
-  routed_same reads (Some (route_by.SlotAt n)) = refl
+  routed_same reads (Some pattern) = ap (λ present. cond (is_complete pattern (length present)) (Some (routes_of reads pattern present)) None) same.present
 
   named_same : (names : Names) (name : Option (List ℕ)) → routes_by_name names (front args) name ≡ routes_by_name names args name
   named_same names None = refl
-  named_same names (Some name) = routed_same (names.only_reads name) ((tables_with names.registered).route_by name)
+  named_same names (Some name) = routed_same (names.only_reads name) (pattern_by_name names.registered (Some name))
 
   part_same : (slot : ℕ) (command : Option MultiKey) → part_args_in (front args) command slot ≡ part_args_in args command slot
   part_same slot None = refl

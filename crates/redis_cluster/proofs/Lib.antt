@@ -15,7 +15,6 @@ pub mod Totals
 pub mod Places
 pub mod Placed
 pub mod Gaps
-pub mod ReplyForms
 pub mod Constructors
 pub mod Sending
 pub mod SplitTuples

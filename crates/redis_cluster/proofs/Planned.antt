@@ -11,7 +11,7 @@ use Rattle.redis_routing.specs.Command.{Arguments, command_name}
 use Rattle.redis_routing.specs.Names.{Names}
 use Rattle.redis_routing.specs.PresentArguments.{present_arguments}
 use Rattle.redis_routing.specs.Registry.{Registrations}
-use Rattle.redis_routing.specs.Complete.{multi_slot_routes, part_by_name, part_by_pattern, pattern_by_name, pattern_of}
+use Rattle.redis_routing.specs.Complete.{multi_slot_routes, part_by_name, part_by_pattern, pattern_by_name}
 use Rattle.redis_routing.specs.Parts.{part_of_slot}
 use Rattle.redis_routing.specs.Split.{Split, IsSplit, HasJoiningPolicy, split_part, policy_by_name, slots_of}
 use Rattle.redis_cluster.specs.MultiKey.{MultiKey, form_of_policy, multi_key, part_by_slot, part_of}
@@ -60,7 +60,7 @@ module _ (names : Names) (args : Arguments) (plan : Plan) (arguments : plan.spli
       let found = command_of_routes names args plan.split.routes (joining names args plan.split policy whole.split) (sym routes) in
       let command : MultiKey = found.0 in
       let made = is_made registry args command found.1 in
-      let pattern_is : plan.split.pattern ≡ made.0 = same_some plan.split.pattern made.0 (pattern ∙ ap (pattern_by_name registry) made.1.name ∙ ap pattern_of made.1.split) in
+      let pattern_is : plan.split.pattern ≡ made.0 = same_some plan.split.pattern made.0 (pattern ∙ ap (pattern_by_name registry) made.1.name ∙ made.1.split) in
       let Meant : ℕ → Type 0 = λ slot. multi_key registry (split_part plan.split slot) ≡ Some (part_of command slot) in
       let Has : ℕ → Type 0 = λ slot. list_any (λ t. nat_eq (key_slot t.key) slot) command.tuples ≡ true in
       let meant : All Meant (slots_of plan.split.routes) =

@@ -10,20 +10,18 @@ use Rattle.std.proofs.lemmas.Simd.{map-map}
 use Rattle.cluster_slots.specs.KeySlot.{key_slot}
 use Rattle.cluster_slots.specs.SlotRoute.{SlotRoute}
 use Rattle.redis_routing.specs.Command.{Arguments, command_name}
-use Rattle.redis_routing.specs.NameTables.{NameTables}
 use Rattle.redis_routing.specs.Names.{Names}
 use Rattle.redis_routing.specs.Policies.{joins_parts}
 use Rattle.redis_routing.specs.PresentArguments.{present_arguments}
-use Rattle.redis_routing.specs.Registry.{Registrations, registered_as, tables_with}
+use Rattle.redis_routing.specs.Registry.{Registrations}
+use Rattle.redis_routing.specs.MultiKeyNames.{registered_as}
 use Rattle.redis_routing.specs.Tuples.{is_complete, shared_in, tuples_in}
 use Rattle.redis_routing.specs.declared.route_by.MultiSlotArgPattern.{MultiSlotArgPattern}
-use Rattle.redis_routing.specs.declared.route_by.RouteBy.{RouteBy}
-use Rattle.redis_routing.specs.declared.route_by.RouteBy.TheVariants as route_by
 use Rattle.redis_routing.specs.declared.policy.AggregateOp.TheVariants.{Min, Sum}
 use Rattle.redis_routing.specs.declared.policy.ResponsePolicy.{ResponsePolicy}
 use Rattle.redis_routing.specs.declared.policy.ResponsePolicy.TheVariants.{OneSucceeded, FirstSucceededNonEmptyOrAllEmpty, AllSucceeded, AggregateLogical, Aggregate, CombineArrays, Special, CombineMaps}
 use Rattle.redis_routing.proofs.CommandNames.{has_words, words_again}
-use Rattle.redis_routing.specs.Complete.{pattern_of, pattern_by_name, part_by_pattern, part_by_name, routes_by, routes_by_name, multi_slot_routes}
+use Rattle.redis_routing.specs.Complete.{pattern_by_name, part_by_pattern, part_by_name, routes_by, routes_by_name, multi_slot_routes}
 use Rattle.redis_routing.specs.Parts.{first_appearances, part_of_slot, slot_of, tuples_in_slot, arguments_in_slot}
 use Rattle.redis_routing.specs.Routing.{route_of_slot, routes_of}
 use Rattle.redis_routing.specs.Split.{HasJoiningPolicy, policy_by_name, slots_of}
@@ -52,18 +50,15 @@ pub record HasTuples (pattern : MultiSlotArgPattern) (present : List (List ℕ))
   pub shared : command.shared ≡ slice_get (shared_in pattern present) 0
   pub tuples : command.tuples ≡ tuples_of pattern present
 
--- what makes a multi-key command: the name has a way that splits it by slot, its policy a form of the reply, and the arguments after it are complete
+-- what makes a multi-key command: the name has a pattern and a policy that has a form of the reply, and the arguments after it are complete
 pub record IsMade (registry : Registrations) (args : Arguments) (pattern : MultiSlotArgPattern) (command : MultiKey) : Type 0 where
   pub name : command_name args ≡ Some command.name
   pub registered : command.registered ≡ registered_as registry command.name
-  pub split : (tables_with registry).route_by command.name ≡ Some (route_by.MultiSlot pattern)
-  pub form : form_of_policy ((tables_with registry).policy command.name) ≡ Some command.form
+  pub split : pattern_by_name registry (Some command.name) ≡ Some pattern
+  pub form : form_of_policy (policy_by_name registry (Some command.name)) ≡ Some command.form
   pub whole : HasTuples pattern (present_arguments args) command
 
 module _ (registry : Registrations) (args : Arguments) where
-  abbrev tables : NameTables
-  tables = tables_with registry
-
   abbrev present : List (List ℕ)
   present = present_arguments args
 
@@ -71,7 +66,7 @@ module _ (registry : Registrations) (args : Arguments) where
   by_parts name pattern form = record { name = name; registered = registered_as registry name; shared = shared_by (shape_of pattern) present; tuples = tuples_by (shape_of pattern) present; form = form }
 
   of_length : (command : MultiKey) (name : List ℕ) (pattern : MultiSlotArgPattern) (form : ReplyForm)
-      → command_name args ≡ Some name → tables.route_by name ≡ Some (route_by.MultiSlot pattern) → form_of_policy (tables.policy name) ≡ Some form
+      → command_name args ≡ Some name → pattern_by_name registry (Some name) ≡ Some pattern → form_of_policy (policy_by_name registry (Some name)) ≡ Some form
       → (complete : Bool) → is_whole (shape_of pattern) (length present) ≡ complete → cond complete (Some (by_parts name pattern form)) None ≡ Some command → (pattern : MultiSlotArgPattern) × IsMade registry args pattern command
   of_length command name pattern form named split formed true complete is =
       let same : by_parts name pattern form ≡ command = cc is in
@@ -79,28 +74,20 @@ module _ (registry : Registrations) (args : Arguments) where
       (pattern, subst (IsMade registry args pattern) same (record { name = named; registered = refl; split = split; form = formed; whole = record { complete = whole; shared = shared_is pattern present whole; tuples = tuples_are_placed pattern present whole } }))
   of_length command name pattern form named split formed false complete is = absurd (cc is)
 
-  of_form : (command : MultiKey) (name : List ℕ) (pattern : MultiSlotArgPattern) → command_name args ≡ Some name → tables.route_by name ≡ Some (route_by.MultiSlot pattern)
-      → (form : Option ReplyForm) → form_of_policy (tables.policy name) ≡ form → command_with registry (Some name) present (Some pattern) form ≡ Some command → (pattern : MultiSlotArgPattern) × IsMade registry args pattern command
+  of_form : (command : MultiKey) (name : List ℕ) (pattern : MultiSlotArgPattern) → command_name args ≡ Some name → pattern_by_name registry (Some name) ≡ Some pattern
+      → (form : Option ReplyForm) → form_of_policy (policy_by_name registry (Some name)) ≡ form → command_with registry (Some name) present (Some pattern) form ≡ Some command → (pattern : MultiSlotArgPattern) × IsMade registry args pattern command
   of_form command name pattern named split None formed is = absurd (cc is)
   of_form command name pattern named split (Some form) formed is = of_length command name pattern form named split formed (is_whole (shape_of pattern) (length present)) refl is
 
-  of_route_by : (command : MultiKey) (name : List ℕ) → command_name args ≡ Some name
-      → (w : Option RouteBy) → tables.route_by name ≡ w → command_with registry (Some name) present (pattern_of w) (form_of_policy (tables.policy name)) ≡ Some command → (pattern : MultiSlotArgPattern) × IsMade registry args pattern command
-  of_route_by command name named None split is = absurd (cc is)
-  of_route_by command name named (Some route_by.AllNodes) split is = absurd (cc is)
-  of_route_by command name named (Some route_by.AllMasters) split is = absurd (cc is)
-  of_route_by command name named (Some (route_by.MultiSlot pattern)) split is = of_form command name pattern named split (form_of_policy (tables.policy name)) refl is
-  of_route_by command name named (Some route_by.Undefined) split is = absurd (cc is)
-  of_route_by command name named (Some (route_by.CountAt n)) split is = absurd (cc is)
-  of_route_by command name named (Some (route_by.KeyAt n)) split is = absurd (cc is)
-  of_route_by command name named (Some route_by.KeyAfterStreams) split is = absurd (cc is)
-  of_route_by command name named (Some route_by.Random) split is = absurd (cc is)
-  of_route_by command name named (Some (route_by.SlotAt n)) split is = absurd (cc is)
+  of_pattern : (command : MultiKey) (name : List ℕ) → command_name args ≡ Some name
+      → (w : Option MultiSlotArgPattern) → pattern_by_name registry (Some name) ≡ w → command_with registry (Some name) present w (form_of_policy (policy_by_name registry (Some name))) ≡ Some command → (pattern : MultiSlotArgPattern) × IsMade registry args pattern command
+  of_pattern command name named None split is = absurd (cc is)
+  of_pattern command name named (Some pattern) split is = of_form command name pattern named split (form_of_policy (policy_by_name registry (Some name))) refl is
 
   of_name : (command : MultiKey) (name : Option (List ℕ)) → command_name args ≡ name
       → command_with registry name present (pattern_by_name registry name) (form_of_policy (policy_by_name registry name)) ≡ Some command → (pattern : MultiSlotArgPattern) × IsMade registry args pattern command
   of_name command None named is = absurd (cc is)
-  of_name command (Some name) named is = of_route_by command name named (tables.route_by name) refl is
+  of_name command (Some name) named is = of_pattern command name named (pattern_by_name registry (Some name)) refl is
 
   -- a command is made of its name and its arguments
   pub is_made : (command : MultiKey) → multi_key registry args ≡ Some command → (pattern : MultiSlotArgPattern) × IsMade registry args pattern command
@@ -111,7 +98,7 @@ module _ (registry : Registrations) (args : Arguments) where
   made_is pattern command made =
       let whole = made.whole in
       ap (λ n. command_with registry n present (pattern_by_name registry n) (form_of_policy (policy_by_name registry n))) made.name
-      ∙ ap (λ w. command_with registry (Some command.name) present (pattern_of w) (form_of_policy (tables.policy command.name))) made.split
+      ∙ ap (λ w. command_with registry (Some command.name) present w (form_of_policy (policy_by_name registry (Some command.name)))) made.split
       ∙ ap (command_with registry (Some command.name) present (Some pattern)) made.form
       ∙ ap (λ complete. cond complete (Some (by_parts command.name pattern command.form)) None) (whole_is pattern (length present) ∙ whole.complete)
       ∙ ap (λ r. Some (record { name = command.name; registered = r; shared = shared_by (shape_of pattern) present; tuples = tuples_by (shape_of pattern) present; form = command.form })) (sym made.registered)
@@ -128,7 +115,7 @@ module _ (registry : Registrations) (args : Arguments) (pattern : MultiSlotArgPa
   texts = arguments_in_slot pattern (present_arguments args) slot
 
   part_is : part_by_name registry args slot ≡ part
-  part_is = ap (λ n. part_by_pattern (pattern_by_name registry n) args slot) made.name ∙ ap (λ w. part_by_pattern (pattern_of w) args slot) made.split
+  part_is = ap (λ n. part_by_pattern (pattern_by_name registry n) args slot) made.name ∙ ap (λ w. part_by_pattern w args slot) made.split
 
   placed : list_any (λ t. nat_eq (slot_of t) slot) (tuples_in pattern (present_arguments args)) ≡ true
   placed = sym (list_any-map (λ t. nat_eq (key_slot t.key) slot) unplaced (tuples_in pattern (present_arguments args))) ∙ ap (list_any (λ t. nat_eq (key_slot t.key) slot)) (sym made.whole.tuples) ∙ there
@@ -270,30 +257,22 @@ module _ (names : Names) (args : Arguments) (routes : List (SlotRoute × List �
   abbrev Found : Type 0
   Found = (command : MultiKey) × (multi_key names.registered args ≡ Some command)
 
-  with_length : (name : List ℕ) (pattern : MultiSlotArgPattern) → command_name args ≡ Some name → (tables_with names.registered).route_by name ≡ Some (route_by.MultiSlot pattern) → (complete : Bool) → is_complete pattern (length (present_arguments args)) ≡ complete
+  with_length : (name : List ℕ) (pattern : MultiSlotArgPattern) → command_name args ≡ Some name → pattern_by_name names.registered (Some name) ≡ Some pattern → (complete : Bool) → is_complete pattern (length (present_arguments args)) ≡ complete
       → cond complete (Some (routes_of (names.only_reads name) pattern (present_arguments args))) None ≡ Some routes → Found
   with_length name pattern named split true complete is =
       let form = form_of_joining policy joins in
-      let formed : form_of_policy ((tables_with names.registered).policy name) ≡ Some form.0 = ap (λ n. form_of_policy (policy_by_name names.registered n)) (sym named) ∙ ap form_of_policy policy_is ∙ form.1 in
+      let formed : form_of_policy (policy_by_name names.registered (Some name)) ≡ Some form.0 = ap (λ n. form_of_policy (policy_by_name names.registered n)) (sym named) ∙ ap form_of_policy policy_is ∙ form.1 in
       let command : MultiKey = record { name = name; registered = registered_as names.registered name; shared = slice_get (shared_in pattern (present_arguments args)) 0; tuples = tuples_of pattern (present_arguments args); form = form.0 } in
       (command, made_is names.registered args pattern command (record { name = named; registered = refl; split = split; form = formed; whole = record { complete = complete; shared = refl; tuples = refl } }))
   with_length name pattern named split false complete is = absurd (cc is)
 
-  with_route_by : (name : List ℕ) → command_name args ≡ Some name → (w : Option RouteBy) → (tables_with names.registered).route_by name ≡ w → routes_by (names.only_reads name) args w ≡ Some routes → Found
-  with_route_by name named None split is = absurd (cc is)
-  with_route_by name named (Some route_by.AllNodes) split is = absurd (cc is)
-  with_route_by name named (Some route_by.AllMasters) split is = absurd (cc is)
-  with_route_by name named (Some (route_by.MultiSlot pattern)) split is = with_length name pattern named split (is_complete pattern (length (present_arguments args))) refl is
-  with_route_by name named (Some route_by.Undefined) split is = absurd (cc is)
-  with_route_by name named (Some (route_by.CountAt n)) split is = absurd (cc is)
-  with_route_by name named (Some (route_by.KeyAt n)) split is = absurd (cc is)
-  with_route_by name named (Some route_by.KeyAfterStreams) split is = absurd (cc is)
-  with_route_by name named (Some route_by.Random) split is = absurd (cc is)
-  with_route_by name named (Some (route_by.SlotAt n)) split is = absurd (cc is)
+  with_pattern : (name : List ℕ) → command_name args ≡ Some name → (w : Option MultiSlotArgPattern) → pattern_by_name names.registered (Some name) ≡ w → routes_by (names.only_reads name) args w ≡ Some routes → Found
+  with_pattern name named None split is = absurd (cc is)
+  with_pattern name named (Some pattern) split is = with_length name pattern named split (is_complete pattern (length (present_arguments args))) refl is
 
   with_name : (name : Option (List ℕ)) → command_name args ≡ name → routes_by_name names args name ≡ Some routes → Found
   with_name None named is = absurd (cc is)
-  with_name (Some name) named is = with_route_by name named ((tables_with names.registered).route_by name) refl is
+  with_name (Some name) named is = with_pattern name named (pattern_by_name names.registered (Some name)) refl is
 
   -- is one over many keys
   routed_is_command : multi_slot_routes names args ≡ Some routes → Found

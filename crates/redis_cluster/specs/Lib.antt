@@ -15,6 +15,7 @@ pub use Rattle.redis_routing.specs.Command
 pub use Rattle.redis_routing.specs.Lists
 pub use Rattle.redis_routing.specs.Names
 pub use Rattle.redis_routing.specs.NameTables
+pub use Rattle.redis_routing.specs.MultiKeyNames
 pub use Rattle.redis_routing.specs.NameWords
 pub use Rattle.redis_routing.specs.Policies
 pub use Rattle.redis_routing.specs.ReadOnly

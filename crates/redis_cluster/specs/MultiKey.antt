@@ -9,7 +9,8 @@ use Rattle.cluster_slots.specs.SlotRoute.{SlotRoute}
 use Rattle.redis_routing.specs.Command.{Arguments, command_name}
 use Rattle.redis_routing.specs.NameWords.{name_words_of}
 use Rattle.redis_routing.specs.PresentArguments.{present_arguments}
-use Rattle.redis_routing.specs.Registry.{Registered, Registrations, registered_as}
+use Rattle.redis_routing.specs.Registry.{Registered, Registrations}
+use Rattle.redis_routing.specs.MultiKeyNames.{registered_as}
 use Rattle.redis_routing.specs.declared.policy.AggregateOp.TheVariants.{Sum}
 use Rattle.redis_routing.specs.declared.policy.ResponsePolicy.{ResponsePolicy}
 use Rattle.redis_routing.specs.declared.policy.ResponsePolicy.TheVariants.{AllSucceeded, Aggregate, CombineArrays}
@@ -31,8 +32,8 @@ pub data ReplyForm : Type 0 where
   count : ReplyForm
   okay : ReplyForm
 
--- the name in upper case, what it is registered with if the tables do not have it, the last
--- argument if all keys share it, the tuples in order, and the form of the reply
+-- the name in upper case, what it is registered with, unless it is one of the nine, the last argument
+-- if all keys share it, the tuples in order, and the form of the reply
 pub record MultiKey : Type 0 where
   pub name : List ℕ
   pub registered : Option Registered
@@ -97,9 +98,8 @@ abbrev pub form_of_policy : Option ResponsePolicy → Option ReplyForm
 form_of_policy None = None
 form_of_policy (Some policy) = form_by_policy policy
 
--- A complete multi-key command. There is none if the name is not split by slot, by the tables or as
--- it is registered. Nor is there one if the arguments after it, up to the first gap, make no whole
--- tuples, or if the argument that all keys share is missing.
+-- A complete multi-key command. Its name is one of the nine or registered. The arguments after it,
+-- up to the first gap, make whole tuples. If all keys share an argument, it is there.
 abbrev pub multi_key : Registrations → Arguments → Option MultiKey
 multi_key registered args =
     command_with registered (command_name args) (present_arguments args)
