@@ -1,9 +1,8 @@
 -- What commands that the nodes make leave in the store.
 use Rattle.std.proofs.Common.{◌≡◌, List, [], ◌∷◌, ℕ, Some, None, map, refl, subst}
 use Rattle.std.specs.Prelude.{codes, IfSome}
-use Rattle.redis_routing.specs.RouteBy.{base_routing}
 use Rattle.redis_routing.specs.TwoWords.{takes_second}
-use Rattle.redis_routing.specs.Policies.{policy_of}
+use Rattle.redis_routing.specs.MultiKeyNames.{registered_as, split_of}
 use Rattle.redis_routing.specs.Registry.{Registrations}
 use Rattle.redis_cluster.specs.MultiKey.{MultiKey, multi_key, count, okay}
 use Rattle.redis_cluster.specs.Unsplit.{Keyspace, keyspace_after}
@@ -18,7 +17,7 @@ abbrev pub mset : List ℕ → List ℕ → MultiKey
 mset key string = record { name = codes "MSET"; registered = None; shared = None; tuples = (record { key = key; extras = string ∷ [] }) ∷ []; form = okay }
 
 pub mset_is : (registered : Registrations) (key string : List ℕ) → multi_key registered (map Some (mset_args key string)) ≡ Some (mset key string)
-unfolding base_routing takes_second policy_of
+unfolding takes_second split_of registered_as
 mset_is registered key string = refl
 
 -- JSON.MSET of the length of one key
@@ -29,7 +28,7 @@ abbrev pub json_mset : List ℕ → List ℕ → MultiKey
 json_mset key length = record { name = codes "JSON.MSET"; registered = None; shared = None; tuples = (record { key = key; extras = codes "length" ∷ length ∷ [] }) ∷ []; form = okay }
 
 pub json_mset_is : (registered : Registrations) (key length : List ℕ) → multi_key registered (map Some (length_args key length)) ≡ Some (json_mset key length)
-unfolding base_routing takes_second policy_of
+unfolding takes_second split_of registered_as
 json_mset_is registered key length = refl
 
 -- DEL of one key
@@ -40,7 +39,7 @@ abbrev pub del : List ℕ → MultiKey
 del key = record { name = codes "DEL"; registered = None; shared = None; tuples = (record { key = key; extras = [] }) ∷ []; form = count }
 
 pub del_is : (registered : Registrations) (key : List ℕ) → multi_key registered (map Some (del_args key)) ≡ Some (del key)
-unfolding base_routing takes_second policy_of
+unfolding takes_second split_of registered_as
 del_is registered key = refl
 
 -- what is left by a command that is known

@@ -7,11 +7,12 @@ use Rattle.std.specs.declared.alloc.Global.{Global}
 use Rattle.redis_routing.specs.Command.{command_name}
 use Rattle.redis_routing.specs.NameWords.{name_words_of}
 use Rattle.redis_routing.specs.PresentArguments.{arguments_before_gap, present_arguments_after, present_arguments}
-use Rattle.redis_routing.specs.Registry.{Registrations, Registered, registered_as, tables_with}
+use Rattle.redis_routing.specs.Registry.{Registrations, Registered}
+use Rattle.redis_routing.specs.MultiKeyNames.{registered_as, split_of}
 use Rattle.redis_routing.specs.Tuples.{is_complete, tuple_args_count, shared_in}
 use Rattle.redis_routing.specs.declared.policy.ResponsePolicy.{ResponsePolicy}
 use Rattle.redis_routing.specs.declared.route_by.MultiSlotArgPattern.{MultiSlotArgPattern}
-use Rattle.redis_routing.specs.Complete.{pattern_of, pattern_by_name}
+use Rattle.redis_routing.specs.Complete.{pattern_by_name}
 use Rattle.redis_routing.specs.Split.{policy_by_name}
 use Rattle.redis_cluster.specs.MultiKey.{MultiKey, ReplyForm, multi_key, command_with, form_of_policy, form_by_policy, is_whole, shape_of, shared_by, tuples_by}
 use Rattle.redis_cluster.proofs.Shapes.{shared_is, tuples_are_placed, whole_is}
@@ -76,21 +77,21 @@ module _ (known : Registrations) where
   abbrev made_of : Option Registered → List ℕ → MultiSlotArgPattern → List (List ℕ) → List (List ℕ) → ReplyForm → MultiKey
   made_of registered name pattern tuples shared form = record { name = name; registered = registered; shared = slice_get shared 0; tuples = key_tuples pattern tuples; form = form }
 
-  by_run : (cmd : List (List ℕ)) (name : List ℕ) (pattern : MultiSlotArgPattern) (policy : ResponsePolicy) → command_name (map Some cmd) ≡ Some name → Some pattern ≡ pattern_of ((tables_with known).route_by name) → Some policy ≡ (tables_with known).policy name → IsSome (multi_key known (map Some cmd)) → multi_key known (map Some cmd) ≡ option_map (shaped name (present_arguments (map Some cmd)) pattern) (form_by_policy policy)
-  by_run cmd name pattern policy e f g h =
-      by_shape (present_arguments (map Some cmd)) name pattern policy (command_name (map Some cmd)) (pattern_by_name known (command_name (map Some cmd))) (policy_by_name known (command_name (map Some cmd))) e (f ∙ ap (pattern_by_name known) (sym e)) (g ∙ ap (policy_by_name known) (sym e)) h
+  by_run : (cmd : List (List ℕ)) (name : List ℕ) (pattern : MultiSlotArgPattern) (policy : ResponsePolicy) → command_name (map Some cmd) ≡ Some name → Some (pattern, policy) ≡ split_of known name → IsSome (multi_key known (map Some cmd)) → multi_key known (map Some cmd) ≡ option_map (shaped name (present_arguments (map Some cmd)) pattern) (form_by_policy policy)
+  by_run cmd name pattern policy e split h =
+      by_shape (present_arguments (map Some cmd)) name pattern policy (command_name (map Some cmd)) (pattern_by_name known (command_name (map Some cmd))) (policy_by_name known (command_name (map Some cmd))) e (ap (option_map (λ s. s.0)) split ∙ ap (pattern_by_name known) (sym e)) (ap (option_map (λ s. s.1)) split ∙ ap (policy_by_name known) (sym e)) h
 
   by_lists : (run tuples shared : List (List ℕ)) (name : List ℕ) (pattern : MultiSlotArgPattern) (form : Option ReplyForm) → tuples ≡ take (tuple_args_count pattern (length run)) run → shared ≡ shared_in pattern run → option_map (shaped name run pattern) form ≡ option_map (made_of (registered_as known name) name pattern tuples shared) form
   by_lists run tuples shared name pattern form t s =
       sym (ap (λ ts. option_map (made_of (registered_as known name) name pattern ts shared) form) t ∙ ap (λ xs. option_map (made_of (registered_as known name) name pattern (take (tuple_args_count pattern (length run)) run) xs) form) s)
 
   -- the command by the lists that its arguments are cut into
-  pub taken_apart : (count : ℕ) (args run tuples shared : List (Vec ℕ Global)) (cmd : List (List ℕ)) (own : ℕ) (name : List ℕ) (registered : Option Registered) (pattern : MultiSlotArgPattern) (policy : ResponsePolicy) → registered ≡ registered_as known name → count ≡ name_words_of (map Some cmd) → words args ≡ cmd → run ≡ drop count args → own ≡ tuple_args_count pattern (length run) → tuples ≡ take own run → shared ≡ drop own run → command_name (map Some cmd) ≡ Some name → Some pattern ≡ pattern_of ((tables_with known).route_by name) → Some policy ≡ (tables_with known).policy name → IsSome (multi_key known (map Some cmd)) → multi_key known (map Some cmd) ≡ option_map (made_of registered name pattern (words tuples) (words shared)) (form_by_policy policy)
-  taken_apart count args run tuples shared cmd own name registered pattern policy given n a r o t s e f g h =
+  pub taken_apart : (count : ℕ) (args run tuples shared : List (Vec ℕ Global)) (cmd : List (List ℕ)) (own : ℕ) (name : List ℕ) (registered : Option Registered) (pattern : MultiSlotArgPattern) (policy : ResponsePolicy) → registered ≡ registered_as known name → count ≡ name_words_of (map Some cmd) → words args ≡ cmd → run ≡ drop count args → own ≡ tuple_args_count pattern (length run) → tuples ≡ take own run → shared ≡ drop own run → command_name (map Some cmd) ≡ Some name → Some (pattern, policy) ≡ split_of known name → IsSome (multi_key known (map Some cmd)) → multi_key known (map Some cmd) ≡ option_map (made_of registered name pattern (words tuples) (words shared)) (form_by_policy policy)
+  taken_apart count args run tuples shared cmd own name registered pattern policy given n a r o t s e split h =
       let present : present_arguments (map Some cmd) ≡ drop count cmd = ap (λ w. present_arguments_after w (map Some cmd)) (sym n) ∙ run_all count cmd in
       let all = ap (λ xs. option_map (shaped name xs pattern) (form_by_policy policy)) present in
       let lists = by_lists (drop count cmd) (words tuples) (words shared) name pattern (form_by_policy policy) (words_tuples count args run tuples shared cmd own pattern a r o t) (words_shared count args run tuples shared cmd own pattern a r o s) in
-      by_run cmd name pattern policy e f g h ∙ all ∙ lists ∙ ap (λ known_as. option_map (made_of known_as name pattern (words tuples) (words shared)) (form_by_policy policy)) (sym given)
+      by_run cmd name pattern policy e split h ∙ all ∙ lists ∙ ap (λ known_as. option_map (made_of known_as name pattern (words tuples) (words shared)) (form_by_policy policy)) (sym given)
 
 -- a command with a name has as many arguments as the name has words
 pub words_there : (args : List (Vec ℕ Global)) (cmd : List (List ℕ)) (name : List ℕ) (count : ℕ) → words args ≡ cmd → command_name (map Some cmd) ≡ Some name → count ≡ name_words_of (map Some cmd) → count ≤ length args

@@ -1,11 +1,10 @@
 ghost use Rattle.std.specs.Prelude.{◌≡◌, ◌<◌, Some, IsSome, map};
 ghost use Rattle.redis_routing.specs.Command.{command_name};
 ghost use Rattle.redis_cluster.specs.MultiKey.{multi_key};
-ghost use Rattle.redis_routing.specs.Registry.{registered_as, tables_with};
-ghost use Rattle.redis_routing.specs.Complete.{pattern_of};
+ghost use Rattle.redis_routing.specs.MultiKeyNames.{registered_as, split_of};
 ghost use Rattle.memory_nodes.specs.Parts.{command_by, words};
 
-use redis_routing::{MultiSlotArgPattern, Registry, ResponsePolicy, RouteBy, name_words};
+use redis_routing::{MultiSlotArgPattern, Registry, ResponsePolicy, name_words};
 use resp_core::Cmd;
 
 /// A multi-key command, taken apart.
@@ -13,7 +12,7 @@ use resp_core::Cmd;
 pub(super) struct WholeCommand<'a> {
     /// The name in upper case.
     pub(super) name: &'a [u8],
-    /// What the name is registered with, unless the tables have it.
+    /// What the name is registered with, unless it is one of the nine.
     pub(super) registered: Option<(MultiSlotArgPattern, ResponsePolicy)>,
     /// How its arguments make tuples of a key and what goes with it.
     pub(super) pattern: MultiSlotArgPattern,
@@ -50,20 +49,16 @@ impl<'a> WholeCommand<'a> {
 
 /// How commands of this name make tuples, and how what those add makes the reply.
 fn shape_of(registry: &Registry, name: &[u8]) -> (MultiSlotArgPattern, ResponsePolicy)
-    requires pattern { IsSome (pattern_of ((tables_with registry.now).route_by name.now)) }
-    requires policy { IsSome ((tables_with registry.now).policy name.now) }
-    ensures pattern { Some result.0 ≡ pattern_of ((tables_with registry.now).route_by name.now) }
-    ensures policy { Some result.1 ≡ (tables_with registry.now).policy name.now }
+    requires { IsSome (split_of registry.now name.now) }
+    ensures { Some result ≡ split_of registry.now name.now }
 {
-    let (routing, policy) = registry.routing_and_policy(name);
-    let Some(RouteBy::MultiSlot(pattern)) = routing else {
+    let Some(split) = registry.pattern_and_policy(name) else {
         unreachable!()
     };
-    let Some(policy) = policy else { unreachable!() };
-    (pattern, policy)
+    split
 }
 
-/// What a name is registered with. No name of the tables is.
+/// What a name is registered with. None of the nine is.
 fn registered_as(registry: &Registry, name: &[u8]) -> Option<(MultiSlotArgPattern, ResponsePolicy)>
     ensures { result ≡ registered_as registry.now name.now }
 {
