@@ -49,21 +49,14 @@ IsCauseBeforeSending r BadOrder =
     (routes : List SlotRoute) × (command : MultiKey)
     × IsCoveredCommand r routes command × (NamesOnce (length routes) r.order → ⊥)
 IsCauseBeforeSending r Memory = Unit {0}
-IsCauseBeforeSending r (Node error) = ⊥
-IsCauseBeforeSending r (Redirected redirect) = ⊥
-IsCauseBeforeSending r (Lost error) = ⊥
-IsCauseBeforeSending r (Reply error) = ⊥
+IsCauseBeforeSending r fault = ⊥
 
 -- the fault comes before the first send, and not because memory ran out
 abbrev pub IsBefore : DriveFault → Type 0
 IsBefore NotMultiKey = Unit {0}
 IsBefore (NotCovered slot) = Unit {0}
 IsBefore BadOrder = Unit {0}
-IsBefore Memory = ⊥
-IsBefore (Node error) = ⊥
-IsBefore (Redirected redirect) = ⊥
-IsBefore (Lost error) = ⊥
-IsBefore (Reply error) = ⊥
+IsBefore fault = ⊥
 
 -- How far the sends of the parts reached: past all routes, or up to a route whose sends ended so. There
 -- is no ending if memory ran out there.
