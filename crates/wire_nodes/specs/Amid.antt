@@ -6,7 +6,7 @@ use Rattle.std.specs.List.{All}
 use Rattle.resp_core.specs.Reply.{Reply}
 use Rattle.redis_routing.specs.Command.{Arguments}
 use Rattle.redis_routing.specs.Registry.{Registrations}
-use Rattle.redis_cluster.specs.MultiKey.{MultiKey, multi_key}
+use Rattle.redis_cluster.specs.MultiKey.{MultiKey, multi_key, part_of}
 use Rattle.redis_cluster.specs.Unsplit.{Step, Keyspace, keyspace_after, reply_to}
 use Rattle.wire_nodes.specs.Said.{Said, answer}
 
@@ -58,3 +58,14 @@ pub record IsServedAt (C : Type 0) (registered : Registrations) (args : Argument
   pub left : (step : Step C) (held : ℕ → Keyspace C) (one : Keyspace C)
       → IsAssembledAt registered old new held one
       → IsLeftAfter registered old new held step (keyspace_after step command one)
+
+-- A part leaves at each of its keys what the unsplit command leaves there, on any keyspace that has
+-- at the key what the part's node held. So it does if another part is refused or lost.
+--
+-- `MSET a 1 b 2`, and the node of `b` refuses: the part of `a` left 1, as the unsplit command does.
+-- `DEL a b`, and the reply to `DEL b` is lost: `DEL a` left nothing at `a`, as `DEL a b` does.
+pub record LeavesAsUnsplit (C : Type 0) (command part : MultiKey) : Type 0 where
+  pub slot : ℕ
+  pub part_is : part ≡ part_of command slot
+  pub left : (step : Step C) (held one : Keyspace C) → All (λ t. one t.key ≡ held t.key
+      → keyspace_after step command one t.key ≡ keyspace_after step part held t.key) part.tuples

@@ -1,4 +1,4 @@
-ghost use Rattle.std.specs.Prelude.{◌≡◌, map, Ok, Err, IfOk, IfErr, ⊤};
+ghost use Rattle.std.specs.Prelude.{◌≡◌, Some, map, Ok, Err, IfOk, IfErr, ⊤};
 ghost use Rattle.resp_core.specs.ErrorParts.{ErrorParts};
 ghost use Rattle.resp_core.specs.View.{view};
 ghost use Rattle.cluster_map.specs.RouteNode.{IsRouteNode};
@@ -6,8 +6,9 @@ ghost use Rattle.redis_routing.specs.Names.{names_of};
 ghost use Rattle.redis_cluster.specs.Driven.{request, IsDelivered};
 ghost use Rattle.redis_cluster.specs.Faults.{IsCut};
 ghost use Rattle.redis_cluster.specs.Joined.{IsJoined};
+ghost use Rattle.redis_cluster.specs.MultiKey.{MultiKey, multi_key};
 ghost use Rattle.redis_cluster.specs.declared.fault.DriveFault.TheVariants.{Reply};
-ghost use Rattle.wire_nodes.specs.Amid.{IsServedAt};
+ghost use Rattle.wire_nodes.specs.Amid.{IsServedAt, OfEachReply, LeavesAsUnsplit};
 ghost use Rattle.wire_nodes.specs.Held.{registry_in, wire_in};
 ghost use Rattle.wire_nodes.specs.Said.{entry_by, replies_in};
 
@@ -69,6 +70,11 @@ pub fn drive_over<R: Routable, W: Wire, M: Meaning>(
     ensures amid { IfOk result (λ value.
         IsServedAt M.Cell (registry_in client.old) (R.args command.now)
         (W.log (wire_in client.old)) (W.log (wire_in client.new)) (view value)) }
+    // For a reply and an error alike: each send that was answered was of a part. It left at its keys
+    // what the unsplit command leaves there, whatever became of the other parts.
+    ensures left { (c : MultiKey) → multi_key (registry_in client.old) (R.args command.now) ≡ Some c
+        → OfEachReply (registry_in client.old) (W.log (wire_in client.old)) (W.log (wire_in client.new))
+        (λ number part reply. LeavesAsUnsplit M.Cell c part) }
     ensures registered { registry_in client.new ≡ registry_in client.old }
 {
     drive(
