@@ -60,8 +60,15 @@ not_any : (n : ℕ) (ys : List Numbered) → All (λ y. nat_eq y.0 n ≡ false) 
 not_any n [] other = refl
 not_any n (y ∷ ys) other = rw (All-head (λ z. nat_eq z.0 n ≡ false) y ys other) (not_any n ys (All-tail (λ z. nat_eq z.0 n ≡ false) y ys other))
 
+-- parts of a slot in front of others are not among these
+pub none_among : (s : ℕ) (before xs all : List Numbered) → of_slot slot_of s all ≡ before ++ of_slot slot_of s xs → AreApart (of_slot slot_of s all) → All (λ x. is_among xs x ≡ false) before
+none_among s before xs all is apart =
+    let front = apart_front before (of_slot slot_of s xs) (subst AreApart is apart) in
+    let slots : All (λ x. slot_of x ≡ s) before = all_left (λ x. slot_of x ≡ s) before (of_slot slot_of s xs) (subst (All (λ x. slot_of x ≡ s)) is (own_slot s all)) in
+    λ k d inside. ap (λ n. list_any (λ (y : Numbered). nat_eq y.0 (get_or before k d).0) (of_slot slot_of n xs)) (slots k d inside) ∙ not_any (get_or before k d).0 (of_slot slot_of s xs) (front k d inside)
+
 -- each part is among its own
-among_own : (xs : List Numbered) → All (λ x. is_among xs x ≡ true) xs
+pub among_own : (xs : List Numbered) → All (λ x. is_among xs x ≡ true) xs
 among_own xs = all_by_slot slot_of (λ x. is_among xs x ≡ true) xs
     (λ s k d inside. ap (λ n. list_any (λ (y : Numbered). nat_eq y.0 (get_or (of_slot slot_of s xs) k d).0) (of_slot slot_of n xs)) (own_slot s xs k d inside) ∙ all_there (λ (x : Numbered). x.0) (of_slot slot_of s xs) k d inside)
 
@@ -105,11 +112,7 @@ module _ {C : Type 0} (step : Step C) (serve : Serve C) where
     local_sent refusals = from_all (λ x. IsLocal (slot_of x) (ended step serve refusals x)) xs all last (local_all refusals)
 
     not_among : (s : ℕ) → All (λ x. is_among xs x ≡ false) (before s)
-    not_among s =
-        let apart : AreApart (before s ++ of_slot slot_of s xs) = subst AreApart (last s).1 (numbers_apart (λ x. nat_eq (slot_of x) s) 0 (pieces ps)) in
-        let front = apart_front (before s) (of_slot slot_of s xs) apart in
-        let slots : All (λ x. slot_of x ≡ s) (before s) = all_left (λ x. slot_of x ≡ s) (before s) (of_slot slot_of s xs) (subst (All (λ x. slot_of x ≡ s)) (last s).1 (own_slot s all)) in
-        λ k d inside. ap (λ n. list_any (λ (y : Numbered). nat_eq y.0 (get_or (before s) k d).0) (of_slot slot_of n xs)) (slots k d inside) ∙ not_any (get_or (before s) k d).0 (of_slot slot_of s xs) (front k d inside)
+    not_among s = none_among s (before s) xs all (last s).1 (numbers_apart (λ x. nat_eq (slot_of x) s) 0 (pieces ps))
 
     same_before : (s : ℕ) → All (λ x. earlier x ≡ after x) (before s)
     same_before s k d inside = sym (ap (λ b. cond b (round.refusals (get_or (before s) k d)) (earlier (get_or (before s) k d))) (not_among s k d inside))

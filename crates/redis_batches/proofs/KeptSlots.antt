@@ -75,14 +75,18 @@ all_numbered P n [] all = All-nil (λ (x : ℕ × _). P x.1)
 all_numbered P n (x ∷ xs) all = All-cons (λ (y : ℕ × _). P y.1) (n, x) (enumerate_from (n + 1) xs) (All-head P x xs all) (all_numbered P (n + 1) xs (All-tail P x xs all))
 
 -- Batches in an order that names each once keep the order of each slot.
+pub all_keep_slots : (batch : ℕ → ℕ) (count : ℕ) (order : List ℕ) → NamesOnce count order → (xs : List Numbered) → All (λ x. batch (slot_of x) < count) xs
+    → (s : ℕ) → of_slot slot_of s xs ≡ of_slot slot_of s (batch_by_batch (λ x. batch (slot_of x)) order xs)
+all_keep_slots batch count order names xs below s =
+    elim (cases_lt (batch s) count) as (λ _. of_slot slot_of s xs ≡ of_slot slot_of s (batch_by_batch (λ x. batch (slot_of x)) order xs)) [
+      | inl small ↦ sym (batches_keep slot_of batch s order xs (names.once (batch s) small))
+      | inr large ↦ none_of_slot slot_of batch count s large xs below ∙ sym (none_in_batches slot_of batch count s large order xs below)
+    ]
+
 pub batches_keep_slots : (batch : ℕ → ℕ) (count : ℕ) (order : List ℕ) → NamesOnce count order → (ps : List Planned) → All (λ q. batch q.slot < count) (pieces ps)
     → KeepsSlots ps (batch_by_batch (λ x. batch (slot_of x)) order (numbered ps))
-batches_keep_slots batch count order names ps below = λ s.
-    let each : All (λ (x : Numbered). batch (slot_of x) < count) (numbered ps) = all_numbered (λ q. batch q.slot < count) 0 (pieces ps) below in
-    elim (cases_lt (batch s) count) as (λ _. of_slot slot_of s (numbered ps) ≡ of_slot slot_of s (batch_by_batch (λ x. batch (slot_of x)) order (numbered ps))) [
-      | inl small ↦ sym (batches_keep slot_of batch s order (numbered ps) (names.once (batch s) small))
-      | inr large ↦ none_of_slot slot_of batch count s large (numbered ps) each ∙ sym (none_in_batches slot_of batch count s large order (numbered ps) each)
-    ]
+batches_keep_slots batch count order names ps below =
+    all_keep_slots batch count order names (numbered ps) (all_numbered (λ q. batch q.slot < count) 0 (pieces ps) below)
 
 -- So does any interleaving of the batches, each in its order.
 pub interleaved_keeps_slots : (batch : ℕ → ℕ) (ps : List Planned) (sent : List Numbered) → IsInterleaved batch ps sent → KeepsSlots ps sent

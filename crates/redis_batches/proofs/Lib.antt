@@ -36,6 +36,7 @@ pub mod StayHere
 pub mod Following
 pub mod Chain
 pub mod Walking
+pub mod InTurn
 pub mod Retried
 pub mod Ascending
 pub mod RoundSteps

@@ -1,5 +1,5 @@
 -- Filters inside filters, and facts that hold of a list slot by slot.
-use Rattle.std.proofs.Common.{◌≡◌, ℕ, List, [], ◌∷◌, Bool, true, false, cond, All, refl, ap, filter}
+use Rattle.std.proofs.Common.{◌≡◌, ℕ, List, [], ◌∷◌, Bool, true, false, cond, All, refl, sym, ap, ◌∙◌, filter}
 use Rattle.std.specs.Prelude.{nat_eq}
 use Rattle.std.proofs.lemmas.List.Elements.{All-nil, All-cons, All-head, All-tail}
 use Rattle.resp_core.proofs.Cases.{by_test}
@@ -27,6 +27,35 @@ filter_apart p q apart (x ∷ xs) =
     by_test (q x)
     (λ here. rw (here, filter, apart x here) rest)
     (λ there. rw there rest)
+
+-- a filter keeps what passes, and drops what does not
+pub filter_kept : {X : Type 0} (p : X → Bool) (xs : List X) → All (λ x. p x ≡ true) xs → filter p xs ≡ xs
+filter_kept p [] all = refl
+filter_kept p (x ∷ xs) all = rw (All-head (λ y. p y ≡ true) x xs all) (ap (λ l. x ∷ l) (filter_kept p xs (All-tail (λ y. p y ≡ true) x xs all)))
+
+pub filter_dropped : {X : Type 0} (p : X → Bool) (xs : List X) → All (λ x. p x ≡ false) xs → filter p xs ≡ []
+filter_dropped p [] all = refl
+filter_dropped p (x ∷ xs) all = rw (All-head (λ y. p y ≡ false) x xs all) (filter_dropped p xs (All-tail (λ y. p y ≡ false) x xs all))
+
+-- the first element of a list passes a filter, or does not
+pub filter_first : {X : Type 0} (p : X → Bool) (x : X) (xs : List X) → p x ≡ true → filter p (x ∷ xs) ≡ x ∷ filter p xs
+filter_first p x xs here = rw here refl
+
+pub filter_later : {X : Type 0} (p : X → Bool) (x : X) (xs : List X) → p x ≡ false → filter p (x ∷ xs) ≡ filter p xs
+filter_later p x xs there = rw there refl
+
+-- two filters may change places
+pub filter_swap : {X : Type 0} (p q : X → Bool) (xs : List X) → filter p (filter q xs) ≡ filter q (filter p xs)
+filter_swap p q [] = refl
+filter_swap p q (x ∷ xs) =
+    let rest = filter_swap p q xs in
+    by_test (p x)
+    (λ one. by_test (q x)
+    (λ two. ap (filter p) (filter_first q x xs two) ∙ filter_first p x (filter q xs) one ∙ ap (λ l. x ∷ l) rest ∙ sym (ap (filter q) (filter_first p x xs one) ∙ filter_first q x (filter p xs) two))
+    (λ two. ap (filter p) (filter_later q x xs two) ∙ rest ∙ sym (ap (filter q) (filter_first p x xs one) ∙ filter_later q x (filter p xs) two)))
+    (λ one. by_test (q x)
+    (λ two. ap (filter p) (filter_first q x xs two) ∙ filter_later p x (filter q xs) one ∙ rest ∙ sym (ap (filter q) (filter_later p x xs one)))
+    (λ two. ap (filter p) (filter_later q x xs two) ∙ rest ∙ sym (ap (filter q) (filter_later p x xs one))))
 
 -- what holds of each element of each slot holds of each element
 pub all_by_slot : {Y : Type 0} (slot : Y → ℕ) (P : Y → Type 0) (ys : List Y) → ((s : ℕ) → All P (of_slot slot s ys)) → All P ys

@@ -10,7 +10,7 @@ use Rattle.redis_routing.specs.Registry.{Registrations}
 use Rattle.redis_cluster.specs.State.{State}
 use Rattle.redis_cluster.specs.Trace.{Ending}
 use Rattle.redis_cluster.specs.Unsplit.{Step}
-use Rattle.redis_batches.specs.Driven.{Grew, IsServed, WereAsked, WereAskedUntil, answers_in, batch_at}
+use Rattle.redis_batches.specs.Driven.{Grew, IsServed, WereAsked, WereAskedUntil, answers_in, batch_at, parts_by_batch}
 use Rattle.redis_batches.specs.DrivenInRounds.{AreServedInRounds, IsRoundsFault, SentSoFar, WereSent, all_at_once}
 use Rattle.redis_batches.specs.DrivenPipeline.{AreAllTaken, IsOneServer, IsSendable}
 use Rattle.redis_batches.specs.InRounds.{AreSentAgain, IsAgainFault, Stands}
@@ -19,10 +19,11 @@ use Rattle.redis_batches.specs.Pipeline.{Answer, Numbered, Part, Planned, Refusa
 use Rattle.redis_batches.specs.PipelinePlan.{PipelineBatches}
 use Rattle.redis_batches.specs.Plan.{Batches}
 use Rattle.redis_batches.specs.Replies.{AreRepliesTo}
-use Rattle.redis_batches.specs.Rounds.{AreRounds, IsAsOne, IsSentOn, OwnErrorsStay, Round, after_rounds, batch_after, batches_before, go_on, goes_to, latest_answers, round_answers, round_batches}
+use Rattle.redis_batches.specs.Rounds.{AreRounds, IsAsOne, IsSentOn, OwnErrorsStay, Round, after_rounds, batch_after, batches_before, by_last_answer, go_on, goes_to, latest_answers, round_answers, round_batches}
 use Rattle.redis_batches.specs.Sent.{AreApart}
 use Rattle.redis_batches.specs.Taken.{Batch, answer_of, task_of}
 use Rattle.redis_batches.specs.Tasks.{with_slots}
+use Rattle.redis_batches.specs.Turns.{of_slot}
 use Rattle.redis_batches.specs.declared.fault.PipelineError.{PipelineError}
 use Rattle.redis_batches.specs.declared.fault.PipelineError.TheVariants as driven
 use Rattle.redis_batches.specs.declared.going.Outgoing.{Outgoing}
@@ -33,6 +34,7 @@ use Rattle.redis_batches.proofs.Asked.{answered_more, asked_more, asked_until_mo
 use Rattle.redis_batches.proofs.Driving.{ServesAll}
 use Rattle.redis_batches.proofs.Ends.{after_agree, answers_agree, numbers_apart}
 use Rattle.redis_batches.proofs.GoOn.{go_by, goes_by}
+use Rattle.redis_batches.proofs.InTurn.{last_in_turn, pipeline_in_turn}
 use Rattle.redis_batches.proofs.KeptSlots.{numbered_after, numbered_list}
 use Rattle.redis_batches.proofs.Planning.{slots_of_all}
 use Rattle.redis_batches.proofs.ServerReplies.{server_replies}
@@ -219,6 +221,12 @@ module _ {C : Type 0} (step : Step C) (serve : Serve C) (may : ℕ → Ending �
                     ∙ numbered_list step serve 0 (pieces ps) old.keyspace ∙ pieces_answer step serve ps are old.keyspace) made),
               )
 
+          -- of each slot the last answers come in the order of the pipeline
+          in_turn : (s : ℕ) → of_slot slot_of s (numbered ps) ≡ of_slot slot_of s (by_last_answer (parts_by_batch plan.batches (numbered ps) order) again.rounds)
+          in_turn =
+              last_in_turn step serve kept may registered plan.batches.parts first again.rounds (parts_by_batch plan.batches (numbered ps) order) between new again.again
+              (ap length given_are ∙ answers_many before many ∙ sym (length-enumerate_from 0 (pieces ps))) (all_apart (pieces ps)) (pipeline_in_turn registered ps plan.batches order sendable.batches sendable.order_is)
+
           -- The pipeline was served in rounds.
           pub served_in_rounds : AreServedInRounds step serve kept may registered is_node commands order retries asked_old asked_new gave_old gave_new old new replies
           unfolding taken so_far were_sent
@@ -229,6 +237,7 @@ module _ {C : Type 0} (step : Step C) (serve : Serve C) (may : ℕ → Ending �
             latest = again.latest ∙ ap (λ l. latest_answers l again.rounds) (sym given_are);
             replies_are = made;
             amid = served_amid C registered plan.splits sendable.of_commands.tasks (map answer_of after) replies sendable.of_commands.splits_are made;
+            in_turn = in_turn;
             as_one = as_one;
             untouched = λ keep own. replies_untouched step serve registered last plan.splits sendable.of_commands.tasks sendable.of_commands.splits_are (slots_of_all sendable.of_commands.tasks) old.keyspace replies
                 (subst (λ l. AreRepliesTo plan.splits l replies) (as_one keep own).answers_are made);

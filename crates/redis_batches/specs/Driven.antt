@@ -1,5 +1,6 @@
 -- How the batches of a pipeline were sent, and what they leave and answer.
 use Rattle.std.specs.Prelude.{◌≡◌, ◌≤◌, ◌⊎◌, ◌++◌, ◌∷◌, ℕ, List, [], Some, map, length, get_or, slice_get, take}
+use Rattle.std.specs.List.{flat_map}
 use Rattle.resp_core.specs.ErrorParts.{ErrorParts}
 use Rattle.cluster_slots.specs.Address.{Address}
 use Rattle.redis_routing.specs.Registry.{Registrations}
@@ -8,7 +9,7 @@ use Rattle.redis_cluster.specs.Trace.{Ending, answered, refused}
 use Rattle.redis_cluster.specs.Unsplit.{Step}
 use Rattle.redis_cluster.specs.State.{State}
 use Rattle.redis_batches.specs.Turns.{all_after, answers, batch_by_batch}
-use Rattle.redis_batches.specs.Pipeline.{Answer, Serve, Planned, Numbered, numbered, slot_of, Refusals, ended}
+use Rattle.redis_batches.specs.Pipeline.{Answer, KeepsSlots, Serve, Planned, Numbered, numbered, slot_of, Refusals, ended}
 use Rattle.redis_batches.specs.Batched.{numbers_in, part_entry}
 use Rattle.redis_cluster.specs.declared.nodes.SendError.{SendError}
 use Rattle.redis_cluster.specs.declared.nodes.SendError.TheVariants.{Memory}
@@ -26,9 +27,9 @@ in_batches batch order ps = batch_by_batch (λ x. batch (slot_of x)) order (numb
 module _ {C : Type 0} (step : Step C) (serve : Serve C) (kept : Type 0)
     (may_refuse : ℕ → Ending → Type 0) (ps : List Planned) (parts : List (List (List ℕ)))
     (nodes : List Address) (batch : ℕ → ℕ) (order : List ℕ) (old new : State C) where
-  -- Batches of these numbers were taken, one after the other, and nothing else was: the trace grew
-  -- by an entry for each part, at the node of its batch, answered or refused, as it may be. Where
-  -- nodes keep to the meaning, the keyspace is that of the parts that were not refused.
+  -- Batches of these numbers were taken, one after the other, and nothing else was. The trace grew by
+  -- an entry for each part, at the node of its batch: answered, or refused as it may be. If nodes keep
+  -- to the meaning, the keyspace is that of the parts that were not refused.
   pub record AreTaken : Type 0 where
     pub refusals : Refusals
     pub trace : new.trace ≡ old.trace
@@ -37,9 +38,9 @@ module _ {C : Type 0} (step : Step C) (serve : Serve C) (kept : Type 0)
     pub keyspace : kept
         → new.keyspace ≡ all_after (ended step serve refusals) (in_batches batch order ps) old.keyspace
 
-  -- All were taken, and what was refused is answered by its error. Where nodes keep to the meaning,
-  -- keyspace and answers are those of one server that takes the parts in the order of the pipeline,
-  -- except those that were refused, which do nothing.
+  -- All were taken, and what was refused is answered by its error. If nodes keep to the meaning,
+  -- keyspace and answers are those of one server. It takes the parts in the order of the pipeline, and
+  -- refused parts do nothing.
   pub record IsServed (given : List Answer) : Type 0 where
     pub refusals : Refusals
     pub trace : new.trace ≡ old.trace
@@ -60,8 +61,8 @@ abbrev pub AlwaysAnswers : (ℕ → Ending → Type 0) → ℕ → Type 0
 AlwaysAnswers may_refuse from =
     (place : ℕ) (ending : Ending) → from ≤ place → may_refuse place ending → ending ≡ answered
 
--- The first batches of the order were taken, so many, and then the next one was not: as its node
--- may, or for want of memory.
+-- The first `many` batches of the order were taken, and the next one was not: as its node may, or
+-- since memory ran out.
 pub record WasStopped {C : Type 0} (step : Step C) (serve : Serve C) (registered : Registrations)
     (kept : Type 0) (may_refuse : ℕ → Ending → Type 0) (ps : List Planned)
     (parts : List (List (List ℕ))) (nodes : List Address) (batch : ℕ → ℕ) (order : List ℕ)
@@ -85,11 +86,23 @@ Grew {X} old new more = (before : List X) → old before → new (before ++ more
 abbrev pub WereAsked : (old new : List Batch → Type 0) → List Batch → Type 0
 WereAsked old new sent = Grew old new sent
 
+-- the parts in the order in which they go out, batch after batch
+abbrev pub parts_by_batch : Batches → List Numbered → List ℕ → List Numbered
+parts_by_batch plan parts order = flat_map (λ k. in_order parts (get_or plan.places k [])) order
+
+-- Per slot, the parts go out in the order of the pipeline, each once. They are all in one batch, since
+-- a slot has one node.
+--
+-- `SET a 1`, `GET b`, `GET a`: `SET a 1` stands before `GET a` in their batch.
+-- `MGET a b`, `SET a 1`: the part `MGET a` stands before `SET a 1` in their batch.
+abbrev pub AreInTurn : Batches → List Planned → List ℕ → Type 0
+AreInTurn plan ps order = KeepsSlots ps (parts_by_batch plan (numbered ps) order)
+
 -- the answers to these batches, batch after batch, by the answers to all parts
 abbrev pub answers_in : Batches → List Answer → List ℕ → List (List Answer)
 answers_in plan given order = map (λ k. in_order given (get_or plan.places k [])) order
 
--- The nodes gave these answers, batch after batch, and then those to so many batches more.
+-- The nodes gave these answers, batch after batch, and then those to `count` further batches.
 pub record HaveAnswered (old new : List (List Answer) → Type 0) (these : List (List Answer))
     (count : ℕ) : Type 0 where
   pub more : List (List Answer)

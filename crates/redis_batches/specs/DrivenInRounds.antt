@@ -7,13 +7,13 @@ use Rattle.redis_cluster.specs.Trace.{Ending}
 use Rattle.redis_cluster.specs.Unsplit.{Step}
 use Rattle.redis_cluster.specs.State.{State}
 use Rattle.redis_batches.specs.Amid.{AreServedAmid}
-use Rattle.redis_batches.specs.Pipeline.{Answer, Refusals, Serve, Task, numbered}
-use Rattle.redis_batches.specs.Driven.{Grew, HaveAnswered, WereAsked, WereAskedUntil, answers_in, batch_at}
+use Rattle.redis_batches.specs.Pipeline.{Answer, KeepsSlots, Numbered, Refusals, Serve, Task, numbered}
+use Rattle.redis_batches.specs.Driven.{Grew, HaveAnswered, WereAsked, WereAskedUntil, answers_in, batch_at, parts_by_batch}
 use Rattle.redis_batches.specs.DrivenPipeline.{AreAllTaken, AreAskedUntil, IsEarlyFault, IsLateFault, IsOneServer}
 use Rattle.redis_batches.specs.Placed.{Ranges}
 use Rattle.redis_batches.specs.Plan.{Batches}
 use Rattle.redis_batches.specs.Replies.{AreRepliesTo, AreUntouched}
-use Rattle.redis_batches.specs.Rounds.{AreRounds, Follows, IsAsOne, IsLast, IsRoundStopped, OwnErrorsStay, Round, after_rounds, batch_after, batches_before, last_round, latest_answers, round_answers, round_batches}
+use Rattle.redis_batches.specs.Rounds.{AreRounds, Follows, IsAsOne, IsLast, IsRoundStopped, OwnErrorsStay, Round, after_rounds, batch_after, batches_before, by_last_answer, last_round, latest_answers, round_answers, round_batches}
 use Rattle.redis_batches.specs.Taken.{Batch}
 use Rattle.redis_batches.specs.Tasks.{with_slots}
 use Rattle.redis_batches.specs.declared.fault.PipelineError.{PipelineError}
@@ -67,6 +67,13 @@ module _ {C : Type 0} {step : Step C} {serve : Serve C} {kept : Type 0}
   answers_sent sent =
       answers_in sent.taken.plan.batches sent.given order ++ flat_map round_answers sent.rounds
 
+  -- the parts, in the order of their last answers
+  abbrev pub parts_at_last : SentSoFar step serve kept may_refuse registered is_node commands order old now
+      → List Numbered
+  parts_at_last sent =
+      by_last_answer (parts_by_batch sent.taken.plan.batches
+      (numbered (map with_slots (tasks_sent sent))) order) sent.rounds
+
   -- the last round
   abbrev pub last_sent : SentSoFar step serve kept may_refuse registered is_node commands order old now
       → Round
@@ -95,9 +102,10 @@ module _ {C : Type 0} (step : Step C) (serve : Serve C) (kept : Type 0)
 
   -- Rounds were sent until no part went out again, or as many as retries. The replies are made of the
   -- last answer to each part. Others may write the same keys meanwhile: a command over many keys has
-  -- the reply of the unsplit command on what the nodes held when they gave these answers. Where nodes
-  -- keep to the meaning, and errors of a command's own send it nowhere, all is as on one server that
-  -- takes the parts in the order of the pipeline, but for those refused at last.
+  -- the reply of the unsplit command on what the nodes held when they gave these answers. Per slot, the
+  -- last answers come in the order of the pipeline. If nodes keep to the meaning, and errors of a
+  -- command's own send it nowhere, all is as on one server. It takes the parts in the order of the
+  -- pipeline, except those refused at last.
   pub record AreServedInRounds (replies : List Answer) : Type 0 where
     pub sent : WereSent
     pub done : (length sent.so_far.rounds ≡ retries) ⊎ IsLast (last_sent sent.so_far)
@@ -105,6 +113,7 @@ module _ {C : Type 0} (step : Step C) (serve : Serve C) (kept : Type 0)
     pub latest : answers ≡ latest_answers sent.so_far.given sent.so_far.rounds
     pub replies_are : AreRepliesTo sent.so_far.taken.plan.splits answers replies
     pub amid : AreServedAmid C (tasks_sent sent.so_far) answers replies
+    pub in_turn : KeepsSlots (map with_slots (tasks_sent sent.so_far)) (parts_at_last sent.so_far)
     pub as_one : kept → OwnErrorsStay serve (tasks_sent sent.so_far)
         → IsAsOne step serve (map with_slots (tasks_sent sent.so_far)) (refused_at_last sent.so_far)
         old.keyspace new.keyspace answers

@@ -12,7 +12,7 @@ use Rattle.redis_batches.specs.Turns.{all_after}
 use Rattle.redis_batches.specs.Pipeline.{Answer, Serve, Task, one_server_answers, run}
 use Rattle.redis_batches.specs.Tasks.{AreTasksOf, with_slots}
 use Rattle.redis_batches.specs.Batched.{AreBatches}
-use Rattle.redis_batches.specs.Driven.{Grew, HaveAnswered, IsServed, WasStopped, WereAsked, WereAskedUntil, answers_in, batch_at, node_at}
+use Rattle.redis_batches.specs.Driven.{AreInTurn, Grew, HaveAnswered, IsServed, WasStopped, WereAsked, WereAskedUntil, answers_in, batch_at, node_at}
 use Rattle.redis_batches.specs.Placed.{Ranges}
 use Rattle.redis_batches.specs.PipelinePlan.{IsPlanFault, IsPlanOfCommands, PipelineBatches, pieces_of}
 use Rattle.redis_batches.specs.Replies.{AreRepliesTo, AreUntouched}
@@ -63,8 +63,8 @@ module _ {C : Type 0} (step : Step C) (serve : Serve C) (kept : Type 0)
     pub served : IsServed step serve kept may_refuse (map with_slots sendable.of_commands.tasks)
         plan.batches.parts plan.batches.nodes sendable.batches.batch order old new given
 
-  -- And these are the replies to the commands. Where nodes keep to the meaning, a command with no
-  -- refused part has the reply of one server that takes the parts that were not refused.
+  -- And these are the replies to the commands. If nodes keep to the meaning, a command with no refused
+  -- part has the reply of one server. It takes the parts that were not refused.
   pub record IsPipelineServed (replies : List Answer) : Type 0 where
     pub given : List Answer
     pub taken : AreAllTaken given
@@ -72,7 +72,7 @@ module _ {C : Type 0} (step : Step C) (serve : Serve C) (kept : Type 0)
     pub untouched : kept → AreUntouched step serve taken.served.refusals
         taken.sendable.of_commands.tasks old.keyspace replies
 
-  -- the batches before the one that was not taken were, or all of them
+  -- all batches before the one that was not taken were taken, or all batches were
   abbrev pub IsLateFault : PipelineError → Type 0
   IsLateFault (Plan fault) = ⊥
   IsLateFault BadOrder = ⊥
@@ -98,7 +98,7 @@ module _ (registered : Registrations) (is_node : ℕ → Address → Type 0)
   AreAllAsked = (plan : PipelineBatches) × IsSendable registered is_node commands order plan
       × WereAsked old new (map (batch_at plan.batches) order)
 
-  -- So were those up to the one that was not taken.
+  -- So were the batches up to the one that was not taken.
   abbrev pub AreAskedUntil : PipelineError → Type 0
   AreAskedUntil (Plan fault) = Unit {0}
   AreAskedUntil BadOrder = Unit {0}
@@ -111,32 +111,35 @@ module _ (registered : Registrations) (is_node : ℕ → Address → Type 0)
 module _ (registered : Registrations) (is_node : ℕ → Address → Type 0)
     (commands : List (List (List ℕ))) (order : List ℕ) (asked_old asked_new : List Batch → Type 0)
     (gave_old gave_new : List (List Answer) → Type 0) where
-  -- Each batch of a plan of the commands was sent once, and no other was. The nodes gave these answers:
-  -- to each batch those that stand at the places of its parts.
+  -- Each batch of a plan of the commands was sent once, and no other was. Per slot, the parts went out
+  -- in the order of the pipeline. The nodes gave these answers: to each batch those that stand at the
+  -- places of its parts.
   pub record AreAllGiven (given : List Answer) : Type 0 where
     pub plan : PipelineBatches
     pub sendable : IsSendable registered is_node commands order plan
     pub asked : WereAsked asked_old asked_new (map (batch_at plan.batches) order)
+    pub in_turn : AreInTurn plan.batches (map with_slots sendable.of_commands.tasks) order
     pub long : length given ≡ length plan.batches.parts
     pub gave : Grew gave_old gave_new (answers_in plan.batches given order)
 
   -- The replies are made of these. Others may write the same keys meanwhile: a command over many keys
-  -- has the reply of the unsplit command on what the nodes held when they ran its parts.
+  -- has the reply of the unsplit command on what the nodes held when they ran its parts. Per slot, the
+  -- parts ran in the order of the pipeline, since they went out so: field `in_turn` of `all`.
   pub record AreMade (C : Type 0) (replies : List Answer) : Type 0 where
     pub given : List Answer
     pub all : AreAllGiven given
     pub replies_are : AreRepliesTo all.plan.splits given replies
     pub amid : AreServedAmid C all.sendable.of_commands.tasks given replies
 
-  -- What the nodes gave where there are no replies: the answers to the batches before the one that was
-  -- not taken, or to all.
+  -- What the nodes gave if there are no replies: the answers to the batches before the one that was not
+  -- taken, or to all.
   abbrev pub AreGivenUntil : PipelineError → Type 0
   AreGivenUntil (Plan fault) = Unit {0}
   AreGivenUntil BadOrder = Unit {0}
   AreGivenUntil (Node stop) = HaveAnswered gave_old gave_new [] stop.answered
   AreGivenUntil Memory = (given : List Answer) × AreAllGiven given
 
--- memory ran out: at the nodes, as the mark tells, or here
+-- memory ran out: at the nodes, as the mark says, or here
 abbrev pub IsWantOfMemory : Bool → PipelineError → Type 0
 IsWantOfMemory mark (Plan fault) = ⊥
 IsWantOfMemory mark BadOrder = ⊥

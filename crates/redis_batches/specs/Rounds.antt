@@ -1,5 +1,5 @@
 -- Parts that nodes sent on are sent again, in rounds, as long as the order of each slot stays.
-use Rattle.std.specs.Prelude.{◌≡◌, ◌⊎◌, ◌++◌, ◌∷◌, ◌&&◌, ℕ, Bool, not, cond, List, [], Option, None, Some, MatchOption, Ok, Err, codes, is_none, is_some, length, map, get_or, nat_eq, take}
+use Rattle.std.specs.Prelude.{◌≡◌, ◌⊎◌, ◌++◌, ◌∷◌, ◌&&◌, ℕ, Bool, not, cond, List, [], Option, None, Some, MatchOption, Ok, Err, codes, filter, is_none, is_some, length, map, get_or, nat_eq, take}
 use Rattle.std.specs.List.{All, AllZip, list_any, range_with_len, zip}
 use Rattle.std.specs.Option.{option_map_or, option_or}
 use Rattle.resp_core.specs.ErrorParts.{ErrorParts}
@@ -14,7 +14,7 @@ use Rattle.redis_batches.specs.Turns.{all_after, of_slot}
 use Rattle.redis_batches.specs.Pipeline.{Answer, Numbered, Planned, Refusals, Serve, Task, over_keys, in_slot, ended, ended_answers, numbered, pieces, slot_of}
 use Rattle.redis_batches.specs.Batched.{AreBatches, put_at}
 use Rattle.redis_batches.specs.Plan.{Batches, IsByNode}
-use Rattle.redis_batches.specs.Driven.{IsServed, WasStopped, answers_in, batch_at, node_at}
+use Rattle.redis_batches.specs.Driven.{IsServed, WasStopped, answers_in, batch_at, node_at, parts_by_batch}
 use Rattle.redis_batches.specs.Taken.{Batch}
 use Rattle.redis_batches.specs.declared.send.Stopped.{Stopped}
 
@@ -26,8 +26,8 @@ server_text error = option_map_or (λ detail. detail) error.detail error.desc
 abbrev pub IsTryAgain : List ℕ → Type 0
 IsTryAgain text = (rest : List ℕ) × (text ≡ codes "TRYAGAIN " ++ rest)
 
--- The text of a node's error sends a command on to this address: the one that `MOVED` or `ASK`
--- names, and by `TRYAGAIN` that of the node itself.
+-- The text of a node's error sends a command on to this address. `MOVED` and `ASK` name the address.
+-- By `TRYAGAIN` it is the address of the node itself.
 abbrev pub SendsOn : Address → List ℕ → Address → Type 0
 SendsOn node text target =
     ((slot : ℕ) × (redirect : Redirect)
@@ -66,13 +66,13 @@ module _ {X : Type 0} (slot : X → ℕ) where
   go_on (x ∷ later) =
       cond (is_some x.1 && not (is_settled (slot x.0) later)) (x.0 ∷ go_on later) (go_on later)
 
-  -- where the parts of a slot go then: where the last one of them was sent on to
+  -- where the parts of a slot go then: the address that the last of them was sent on to
   abbrev pub goes_to : ℕ → List (X × Option Address) → Option Address
   goes_to s [] = None
   goes_to s (x ∷ later) = option_or (goes_to s later) (cond (nat_eq (slot x.0) s) x.1 None)
 
--- A round: the parts that go out, in the order of the pipeline, the node of each slot, one batch for
--- each node, what each part is answered, and which were refused.
+-- A round: the parts that go out, in the order of the pipeline. Beside them the node of each slot, one
+-- batch for each node, the answer to each part, and which parts were refused.
 pub record Round : Type 0 where
   pub sent : List Numbered
   pub node_of : ℕ → Address
@@ -86,8 +86,8 @@ AreSentOn round on =
     AllZip (λ row target. IsSentOn row.0 row.1 target)
     (zip (map (λ x. round.node_of (slot_of x)) round.sent) round.given) on
 
--- The next round has the parts of this one that go out again, those of a slot to the node that the
--- last one of them was sent on to.
+-- The next round has the parts of this one that go out again. The parts of a slot go to the node that
+-- the last of them was sent on to.
 pub record Follows (round next : Round) : Type 0 where
   pub on : List (Option Address)
   pub on_are : AreSentOn round on
@@ -105,7 +105,7 @@ IsLast round =
 abbrev pub alone : List Numbered → List Planned
 alone parts = map (λ x. record { task = x.1.task; slots = slot_of x ∷ [] }) parts
 
--- the numbers of so many batches, in ascending order
+-- the numbers of `count` batches, in ascending order
 abbrev pub ascending : ℕ → List ℕ
 ascending count = range_with_len 0 count
 
@@ -157,6 +157,11 @@ abbrev pub round_answers : Round → List (List Answer)
 round_answers round =
     answers_in round.batches round.given (ascending (length round.batches.places))
 
+-- the parts of a round, batch after batch
+abbrev pub round_parts : Round → List Numbered
+round_parts round =
+    parts_by_batch round.batches round.sent (ascending (length round.batches.places))
+
 -- the batches of a round before the one of this number, and that one
 abbrev pub batches_before : Round → ℕ → List Batch
 batches_before round many =
@@ -180,6 +185,14 @@ last_round round (next ∷ rounds) = last_round next rounds
 -- whether this part is among those
 abbrev pub is_among : List Numbered → Numbered → Bool
 is_among parts x = list_any (λ y. nat_eq y.0 x.0) (of_slot slot_of (slot_of x) parts)
+
+-- The parts in the order of their last answers: of each round the parts that do not go out again.
+--
+-- `SET a 1`, `GET a`, and the node sends `GET a` on: `SET a 1` of this round, `GET a` of the next one.
+abbrev pub by_last_answer : List Numbered → List Round → List Numbered
+by_last_answer parts [] = parts
+by_last_answer parts (next ∷ rounds) =
+    filter (λ x. not (is_among next.sent x)) parts ++ by_last_answer (round_parts next) rounds
 
 -- which parts are refused after one more round: of its own parts those that it refused, and others
 -- as before

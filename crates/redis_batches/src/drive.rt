@@ -26,7 +26,8 @@ use std::alloc::Global;
 ///
 /// Other clients may write the same keys meanwhile, and replicas may lag. A command over many keys
 /// then has the reply of the unsplit command on a server that has, at each key, what the key's node
-/// held when it ran the key's part.
+/// held when it ran the key's part. Per slot, the parts go out in the order of the pipeline. So a
+/// node runs them in this order, with commands of other clients between them.
 ///
 /// Where the nodes keep to one meaning and refuse nothing, keyspace and replies are those of one
 /// server that takes the commands one after the other, whatever the order and whatever a command
@@ -61,7 +62,8 @@ pub fn drive_pipeline<N: BatchNodes>(
         (map answer_of replies.items)) }
     // The replies are made of the answers that the nodes gave, whatever they mean. Others may write the
     // same keys meanwhile, and replicas may lag. Field `amid`: a command over many keys has the reply
-    // of the unsplit command on what the nodes held when they ran its parts.
+    // of the unsplit command on what the nodes held when they ran its parts. Field `in_turn` of `all`:
+    // per slot, the parts went out in the order of the pipeline.
     ensures made { IfOk result (λ replies. AreMade (N.registered nodes.old)
         (IsSlotNode strategy.entry (λ s. picks s.now) slot_map.now
         (names_of read_only.now (N.registered nodes.old)) commands.now)

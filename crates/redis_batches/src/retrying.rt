@@ -44,6 +44,11 @@ use std::alloc::{AllocError, Global};
 /// The parts of a slot go where the last of them was sent on to, so that they stay in their order.
 /// There are at most `retries` rounds behind the first; with 0 retries no part goes out again.
 ///
+/// Other clients may write the same keys meanwhile, and replicas may lag. A command over many keys
+/// then has the reply of the unsplit command on a server that has, at each key, what the key's node
+/// held when it gave the last answer to the key's part. Per slot, the last answers come in the order
+/// of the pipeline.
+///
 /// Where nodes keep to one meaning, keyspace and replies are those of one server that takes the parts
 /// that were not refused at last, in the order of the pipeline. This has one more premise: no command
 /// of the pipeline answers an error of its own that reads as one of those three, as a script may.
@@ -68,7 +73,9 @@ pub fn drive_pipeline_retrying<N: BatchNodes>(
 ) -> Result<Vec<Result<Value, RedisError>>, PipelineError>
     // The pipeline was sent, and after it no more rounds than retries, each of just the parts that go
     // out again, to where they were sent on. There is no further round only where no part goes out
-    // again, or no retry is left. The replies are made of what the nodes gave. Where the nodes keep to
+    // again, or no retry is left. The replies are made of what the nodes gave. Field `amid`: a command
+    // over many keys has the reply of the unsplit command on what the nodes held when they gave these
+    // answers. Field `in_turn`: per slot, these come in the order of the pipeline. If the nodes keep to
     // the meaning, and no command of the pipeline answers an error of its own that reads as one of the
     // three, keyspace and answers are those of the parts in the order of the pipeline.
     ensures served { IfOk result (λ replies.

@@ -12,6 +12,7 @@ use Rattle.redis_batches.specs.Taken.{answer_of}
 use Rattle.redis_batches.specs.Tasks.{with_slots}
 use Rattle.redis_batches.proofs.Amid.{served_amid}
 use Rattle.redis_batches.proofs.Driving.{all_taken, pipeline_answered, pipeline_as_one, pipeline_served, pipeline_stopped, pipeline_unhindered}
+use Rattle.redis_batches.proofs.InTurn.{pipeline_in_turn}
 use Rattle.redis_batches.proofs.Planning.{slots_of_all}
 use Rattle.redis_batches.proofs.drive.drive_pipeline.Goals as goal
 
@@ -74,6 +75,7 @@ returns-in-Ok-replies_of-clause-made g c =
         plan = c.in-Ok.plan;
         sendable = sendable;
         asked = subst (λ b. WereAsked (nodes.asked c.args.nodes.now) (nodes.asked c.send_batches.new.nodes) (map (batch_at b) c.args.order.now)) c.into_parts-tasks.ensures.batches c.in_default.ensures.asked;
+        in_turn = pipeline_in_turn (nodes.registered c.args.nodes.now) (map with_slots sendable.of_commands.tasks) c.in-Ok.plan.batches c.args.order.now sendable.batches sendable.order_is;
         long = length-map answers answer_of ∙ c.send_batches.ensures.room ∙ ap (λ (b : Batches). length b.parts) c.into_parts-tasks.ensures.batches;
         gave = subst (λ b. Grew (nodes.gave c.args.nodes.now) (nodes.gave c.send_batches.new.nodes) (answers_in b given c.args.order.now)) c.into_parts-tasks.ensures.batches c.in_default.ensures.gave;
       };
@@ -85,12 +87,14 @@ pub returns-clause-given : goal.returns-clause-given
 returns-clause-given g c =
     let nodes = g.N.BatchNodes in
     let answers = c.send_batches.new.plan.answers in
-    let given = map answer_of answers in (
+    let given = map answer_of answers in
+    let sendable = c.in-Ok.ensures.sendable in (
       given,
       record {
         plan = c.in-Ok.plan;
-        sendable = c.in-Ok.ensures.sendable;
+        sendable = sendable;
         asked = subst (λ b. WereAsked (nodes.asked c.args.nodes.now) (nodes.asked c.send_batches.new.nodes) (map (batch_at b) c.args.order.now)) c.into_parts-tasks.ensures.batches c.in_default.ensures.asked;
+        in_turn = pipeline_in_turn (nodes.registered c.args.nodes.now) (map with_slots sendable.of_commands.tasks) c.in-Ok.plan.batches c.args.order.now sendable.batches sendable.order_is;
         long = length-map answers answer_of ∙ c.send_batches.ensures.room ∙ ap (λ (b : Batches). length b.parts) c.into_parts-tasks.ensures.batches;
         gave = subst (λ b. Grew (nodes.gave c.args.nodes.now) (nodes.gave c.send_batches.new.nodes) (answers_in b given c.args.order.now)) c.into_parts-tasks.ensures.batches c.in_default.ensures.gave;
       },
