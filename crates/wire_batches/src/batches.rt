@@ -118,6 +118,8 @@ impl<W: BatchWire, M: BatchMeaning> WireBatches<W, M> {
             ≡ replay (registry_in self) M.refuses M.step M.serve M.took (W.log result) M.initial }
         ensures kept { AreKept (registry_in self) M.refuses M.step M.serve M.took (W.log result) M.initial
             ↔ ⟦<WireBatches<W, M> as BatchNodes>⟧.kept self }
+        // So clause `made` of `drive_pipeline` speaks of this log: it grew by the batches of the
+        // pipeline, and its answers grew by those that the replies are made of.
         ensures asked { (batches : List Batch) → ⟦<WireBatches<W, M> as BatchNodes>⟧.asked self batches
             ↔ (batches ≡ map batch_by (W.log result)) }
         ensures gave { (answers : List (List Answer)) → ⟦<WireBatches<W, M> as BatchNodes>⟧.gave self answers
