@@ -1,5 +1,5 @@
 -- Why a client has one reply to the parts of a command, or none.
-use Rattle.std.proofs.Common.{◌≡◌, ◌⊎◌, inl, inr, List, Some, Result, Ok, Err, map, sym, ◌∙◌, ap, true, false, MatchResult, IfOk, IfErr, subst}
+use Rattle.std.proofs.Common.{◌≡◌, ◌⊎◌, ℕ, inl, inr, List, Some, Result, Ok, Err, map, sym, ◌∙◌, ap, true, false, MatchResult, IfOk, IfErr, subst}
 use Rattle.std.specs.Prelude.{is_none}
 use Rattle.std.specs.List.{list_any}
 use Rattle.std.specs.Result.{IsErrAnd}
@@ -8,8 +8,12 @@ use Rattle.resp_core.specs.View.{view}
 use Rattle.resp_core.specs.declared.error.ErrorKind.TheVariants.{Client}
 use Rattle.resp_core.specs.declared.value.Value.{Value}
 use Rattle.redis_routing.specs.declared.policy.ResponsePolicy.TheVariants.{CombineArrays}
+use Rattle.redis_routing.specs.Registry.{Registrations}
+use Rattle.redis_cluster.specs.Amid.{IsReplyAmid}
 use Rattle.redis_cluster.specs.Joined.{joined}
+use Rattle.redis_cluster.specs.MultiKey.{MultiKey}
 use Rattle.redis_cluster.specs.Plan.{Plan}
+use Rattle.redis_cluster.specs.Sends.{IsPlanOf}
 use Rattle.uses.specs.Batch.{Answers, IsGathered, IsNotCombined, IsUngathered, IsClientRefusal, IsUntold}
 use Rattle.uses.specs.declared.batcher.BatchError.{BatchError}
 use Rattle.uses.specs.declared.batcher.BatchError.TheVariants.{NotPlanned, NotAnswered, NotCombined, Memory}
@@ -32,24 +36,53 @@ Joins final r = (replies : List Value) → final.replies ≡ map Some replies
     (λ error. ((error ≡ out_of_memory) × (final.split.policy ≡ CombineArrays))
     ⊎ (joined final.split (map view replies) ≡ Err error.kind))
 
-module _ (plan final : Plan) (answers : Answers) (values : List Value)
-    (each : answers ≡ map Ok values) (split_is : final.split ≡ plan.split)
-    (replies_are : final.replies ≡ after_telling plan.replies values) where
-  all_of : IsUntold plan → list_any is_none final.replies ≡ false → final.replies ≡ map Some values
-  all_of none_before all = told_each plan.split.routes plan.replies final.replies values none_before replies_are all
+-- what it says of them amid what others write
+abbrev pub JoinsAmid : Plan → Result Value ErrorParts → Type 0
+JoinsAmid final r = (registered : Registrations) (command : MultiKey) (replies : List Value)
+    → IsPlanOf registered command final → final.replies ≡ map Some replies
+    → IfOk r (λ value. IsReplyAmid (List ℕ) command (map view replies) (view value))
 
-  pub ended : (r : Result Value ErrorParts) → Joins final r
+-- a plan after these replies were told to its first routes
+abbrev pub with_told : Plan → List Value → Plan
+with_told plan told = record plan { replies = after_telling plan.replies told }
+
+-- it is of the same command
+still_of : (registered : Registrations) (command : MultiKey) (plan : Plan) (told : List Value)
+    → IsPlanOf registered command plan → IsPlanOf registered command (with_told plan told)
+still_of registered command plan told is = record {
+  command_is = is.command_is;
+  form = is.form;
+  tuples = is.tuples;
+  at_most_once = is.at_most_once;
+  once = is.once;
+  nodes = is.nodes;
+  parts = is.parts;
+}
+
+module _ (plan final : Plan) (answers : Answers) (values : List Value)
+    (each : answers ≡ map Ok values) (final_is : final ≡ with_told plan values) where
+  all_of : IsUntold plan → list_any is_none final.replies ≡ false → final.replies ≡ map Some values
+  all_of none_before all = told_each plan.split.routes plan.replies final.replies values none_before (ap (λ (p : Plan). p.replies) final_is) all
+
+  split_is : final.split ≡ plan.split
+  split_is = ap (λ (p : Plan). p.split) final_is
+
+  pub ended : (r : Result Value ErrorParts) → Joins final r → JoinsAmid final r
       → (list_any is_none final.replies ≡ true → IsErrAnd r (λ (error : ErrorParts). error.kind ≡ Client))
       → MatchResult r (λ value. IsGathered plan answers (view value)) (λ error. IsNotCombined plan answers error)
-  ended (Ok value) joins untold = record {
+  ended (Ok value) joins amid untold = record {
     replies = values;
     each = each;
     joined_is = λ none_before.
         by_test (list_any is_none final.replies)
         (λ some. absurd (untold some))
         (λ all. ap (λ s. joined s (map view values)) (sym split_is) ∙ joins values (all_of none_before all));
+    amid = λ registered command is none_before.
+        by_test (list_any is_none final.replies)
+        (λ some. absurd (untold some))
+        (λ all. amid registered command values (subst (IsPlanOf registered command) (sym final_is) (still_of registered command plan values is)) (all_of none_before all));
   }
-  ended (Err error) joins untold = record {
+  ended (Err error) joins amid untold = record {
     replies = values;
     each = each;
     cause = λ none_before.

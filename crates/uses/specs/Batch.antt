@@ -1,5 +1,5 @@
 -- What a client that sends the parts of a command side by side makes of the answers to them.
-use Rattle.std.specs.Prelude.{◌≡◌, ◌⊎◌, ℕ, List, [], ◌∷◌, ◌++◌, Option, Some, None, Result, Ok, Err, map, length}
+use Rattle.std.specs.Prelude.{◌≡◌, ◌⊎◌, ℕ, List, [], ◌∷◌, ◌++◌, Some, None, Result, Ok, Err, map, length}
 use Rattle.resp_core.specs.ErrorParts.{ErrorParts, out_of_memory}
 use Rattle.resp_core.specs.Reply.{Reply}
 use Rattle.resp_core.specs.View.{view}
@@ -8,13 +8,15 @@ use Rattle.resp_core.specs.declared.value.Value.{Value}
 use Rattle.cluster_map.specs.RangeMap as ranges
 use Rattle.cluster_map.specs.SlotNodes.{SlotNodes}
 use Rattle.redis_routing.specs.Command.{Arguments}
+use Rattle.redis_routing.specs.Registry.{Registrations}
+use Rattle.redis_cluster.specs.Amid.{IsReplyAmid}
 use Rattle.redis_cluster.specs.Names.{names_of}
 use Rattle.redis_cluster.specs.Faults.{IsPlanFault}
 use Rattle.redis_cluster.specs.Joined.{joined}
 use Rattle.redis_cluster.specs.Plan.{Plan}
 use Rattle.redis_cluster.specs.Driven.{command_routes_by}
-use Rattle.redis_cluster.specs.MultiKey.{part_by_slot}
-use Rattle.redis_cluster.specs.Sends.{Target}
+use Rattle.redis_cluster.specs.MultiKey.{MultiKey, multi_key, part_by_slot}
+use Rattle.redis_cluster.specs.Sends.{IsPlanOf, Target}
 use Rattle.cluster_map.specs.RouteNode.{IsNodeOfRoute}
 use Rattle.cluster_map.specs.SlotRoute.{SlotRoute}
 use Rattle.std.specs.List.{AllZip}
@@ -31,11 +33,26 @@ abbrev pub IsUntold : Plan → Type 0
 IsUntold plan = plan.replies ≡ map (λ route. None) plan.split.routes
 
 -- Each answer is a reply, and to a plan that was told none before, the one reply is that which the
--- command's policy makes of them.
+-- command's policy makes of them. It is the reply to the command, amid what others write.
 pub record IsGathered (plan : Plan) (answers : Answers) (reply : Reply) : Type 0 where
   pub replies : List Value
   pub each : answers ≡ map Ok replies
   pub joined_is : IsUntold plan → joined plan.split (map view replies) ≡ Ok reply
+  pub amid : (registered : Registrations) (command : MultiKey) → IsPlanOf registered command plan
+      → IsUntold plan → IsReplyAmid (List ℕ) command (map view replies) reply
+
+-- The last call gave a reply to each part of the command. The one reply is that to the command, amid
+-- what others write.
+--
+-- `MGET a b`, and another client's `MSET a 1 b 1` comes between the two parts:
+--     the old `a` and the new `b`
+pub record IsBatchedAmid (args : Arguments) (old new : List Answers → Type 0) (reply : Reply)
+    : Type 0 where
+  pub command : MultiKey
+  pub command_is : multi_key [] args ≡ Some command
+  pub replies : List Value
+  pub gave : (before : List Answers) → old before → new (before ++ map Ok replies ∷ [])
+  pub amid : IsReplyAmid (List ℕ) command (map view replies) reply
 
 -- the part of this number has no reply, for this cause, and each part before it has one
 pub record IsNotAnswered (answers : Answers) (number : ℕ) (cause : NoReply) : Type 0 where

@@ -2,7 +2,7 @@
 ghost use Rattle.std.specs.Prelude.{◌≡◌, ◌++◌, ◌∷◌, [], List, Some, Ok, map, option_map, slice_get, IfOk, OnOk, OnErr, IfErr, ◌⊎◌};
 ghost use Rattle.resp_core.specs.View.{view};
 ghost use Rattle.redis_cluster.specs.Sends.{Target, targets};
-ghost use Rattle.uses.specs.Batch.{AreAdded, AreHanded, AreHandedOrNone, IsSame, IsClientRefusal, IsGathered, IsUngathered, IsUnread, IsUnplanned};
+ghost use Rattle.uses.specs.Batch.{Answers, AreAdded, AreHanded, AreHandedOrNone, IsBatchedAmid, IsSame, IsClientRefusal, IsGathered, IsUngathered, IsUnread, IsUnplanned};
 
 use cluster_map::{NodeAddress, SlotMap};
 use redis_cluster::driver::{PlanFault, SplitPlan};
@@ -30,11 +30,16 @@ pub trait Connections {
     /// each call.
     ghost handed: { Self → List (List Target) → Type 0 } = { λ _ _. Unit {0} };
 
+    /// Whether these may be the answers so far: a list for each call.
+    ghost gave: { Self → List Answers → Type 0 } = { λ _ _. Unit {0} };
+
     /// Sends each part to its node, waits for none in between, and gives an answer for each, in
     /// their order.
     fn exchange(&mut self, parts: &[(&NodeAddress, &Cmd)]) -> Result<Vec<Answer>, AllocError>
         ensures handed { (before : List (List Target)) → handed self.old before
-            → handed self.new (before ++ map (λ part. (part.0.now, part.1.now)) parts.now ∷ []) };
+            → handed self.new (before ++ map (λ part. (part.0.now, part.1.now)) parts.now ∷ []) }
+        ensures gave { IfOk result (λ answers. (before : List Answers) → gave self.old before
+            → gave self.new (before ++ answers.items ∷ [])) };
 }
 
 /// Why there is no reply to a command.
@@ -108,6 +113,10 @@ pub fn batch<C: Connections>(
         (C.handed connections.old) (C.handed connections.new) error) }
     ensures unplanned { IfErr result (λ error.
         IsUnplanned slot_map.now (map Some command.now) (connections.new ≡ connections.old) error) }
+    // Others may write the same keys meanwhile. If each node replied by what it held, the reply is that
+    // of the unsplit command on each keyspace that has, at each key, what the key's node held.
+    ensures amid { IfOk result (λ reply. IsBatchedAmid (map Some command.now)
+        (C.gave connections.old) (C.gave connections.new) (view reply)) }
 {
     let (none_only_reads, none_registered) = (ReadOnlyNames::new(alloc), Registry::new(alloc));
     let names = Names {
@@ -133,6 +142,8 @@ fn send_parts<C: Connections>(
     ensures handed_or_none { OnErr result
         (IsSame (C.handed connections.old) (C.handed connections.new)
         ⊎ AreAdded (C.handed connections.old) (C.handed connections.new) (targets plan.now)) }
+    ensures gave { IfOk result (λ answers. (before : List Answers) → C.gave connections.old before
+        → C.gave connections.new (before ++ answers.items ∷ [])) }
 {
     let mut parts = Vec::with_capacity(alloc, plan.len())?;
     for number in 0..plan.len() {
@@ -155,8 +166,9 @@ fn target_of<'a>(plan: &'a SplitPlan<'_, Cmd>, number: usize) -> Option<(&'a Nod
 
 /// The one reply to a command, by the answers to its parts, in the order of the routes.
 ///
-/// Where there is one, each answer is a reply: no error is told as one. To a plan that was told none
-/// before, it is the one that the command's policy makes of them.
+/// If there is one, each answer is a reply: no error is told as one. If the plan had no reply before,
+/// it is the one that the command's policy makes of them. So it is the reply of the unsplit command,
+/// amid what others write.
 pub fn gather(
     alloc: Global,
     mut plan: SplitPlan<'_, Cmd>,

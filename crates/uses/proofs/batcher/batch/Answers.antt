@@ -1,6 +1,6 @@
-use Rattle.std.proofs.Common.{◌≡◌, ◌⊎◌, ◌∷◌, [], ◌++◌, ℕ, List, Result, Ok, Err, IsErrAnd, IfErr, inl, inr, OnOk, map, Some, subst, ap, sym, ◌∙◌}
+use Rattle.std.proofs.Common.{◌≡◌, ◌∷◌, [], ◌++◌, ℕ, List, Result, Ok, Err, IsErrAnd, IfErr, inl, inr, OnOk, map, Some, subst, ap, sym, ◌∙◌}
 use Rattle.std.specs.List.{AllZip}
-use Rattle.std.proofs.lemmas.Result.{IfErr-weaker}
+use Rattle.std.proofs.lemmas.Result.{IfErr-weaker, IfOk-weaker}
 use Rattle.cluster_map.specs.RangeMap as ranges
 use Rattle.cluster_map.specs.RouteNode.{IsNodeOfRoute}
 use Rattle.cluster_map.specs.SlotNodes.{SlotNodes}
@@ -8,9 +8,9 @@ use Rattle.redis_routing.specs.Command.{Arguments}
 use Rattle.redis_cluster.specs.Names.{names_of}
 use Rattle.redis_cluster.specs.Registry.{Registrations}
 use Rattle.redis_cluster.specs.Driven.{command_routes_by}
-use Rattle.redis_cluster.specs.MultiKey.{part_by_slot}
+use Rattle.redis_cluster.specs.MultiKey.{multi_key, part_by_slot}
 use Rattle.redis_cluster.specs.Plan.{Plan}
-use Rattle.redis_cluster.specs.Sends.{Target, targets}
+use Rattle.redis_cluster.specs.Sends.{targets}
 use Rattle.uses.specs.Batch.{AreAdded, AreHanded, AreHandedOrNone, Answers, Handed, IsUngathered}
 use Rattle.uses.specs.declared.batcher.BatchError.{BatchError}
 use Rattle.uses.specs.declared.batcher.BatchError.TheVariants.{NotPlanned, NotAnswered, NotCombined, Memory}
@@ -76,3 +76,17 @@ returns-clause-handed_once g c =
     IfErr-weaker c.gather.result _ _
     (λ error cause. once c.args.slot_map.now (map Some c.args.command.now) c.in-Ok.plan _ _ _ handed error cause)
     c.gather.ensures.cause
+
+pub returns-clause-amid : goal.returns-clause-amid
+returns-clause-amid g c =
+    let new = c.in-Ok.ensures in
+    let made = new.command [] c.new-none_registered.ensures.empty in
+    IfOk-weaker c.gather.result _ _
+    (λ reply gathered. record {
+      command = made.0;
+      command_is = ap (multi_key []) (sym new.arguments) ∙ made.1.command_is;
+      replies = gathered.replies;
+      gave = λ before was. subst (λ (given : Answers). g.C.Connections.gave c.send_parts.new.connections (before ++ given ∷ [])) gathered.each (c.in_ok-answers.ensures.gave before was);
+      amid = gathered.amid [] made.0 made.1 new.untold;
+    })
+    c.gather.ensures.gathered

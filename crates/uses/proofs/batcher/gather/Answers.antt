@@ -1,11 +1,11 @@
-use Rattle.std.proofs.Common.{◌≡◌, Some, None, map, length, sym, ◌∙◌, ap, arith, slice_get, slice_set}
+use Rattle.std.proofs.Common.{◌≡◌, Some, None, map, length, refl, sym, ◌∙◌, ap, arith, slice_get, slice_set}
 use Rattle.std.proofs.lemmas.Grind.{common_steps}
 use Rattle.redis_cluster.specs.Plan.{Plan}
 use Rattle.resp_core.specs.View.{view}
 use Rattle.uses.specs.Batch.{IsGathered, IsNotCombined, IsUngathered}
 use Rattle.uses.specs.declared.batcher.BatchError.TheVariants.{NotCombined}
-use Rattle.uses.proofs.Ended.{ended, refused_so, if_ok, if_err}
-use Rattle.uses.proofs.Telling.{after_telling, on_ok, tell_one}
+use Rattle.uses.proofs.Ended.{ended, refused_so, with_told, if_ok, if_err}
+use Rattle.uses.proofs.Telling.{on_ok, tell_one}
 use Rattle.uses.proofs.batcher.gather.Goals as goal
 
 pub loop-number-preserved : goal.loop-number-preserved
@@ -18,10 +18,11 @@ loop-number-preserved c =
       replies = slice_set c.loop-number.plan.replies c.in-Some.number (Some c.in-Some.reply);
     } in
     let told : (slice_get c.loop-number.plan.replies c.in-Some.number ≡ Some None) × (c.tell.new.self ≡ after) =
-    on_ok ((slice_get c.loop-number.plan.replies c.in-Some.number ≡ Some None) × (c.tell.new.self ≡ after)) c.tell.result c.tell.ensures.told (sym c.is_err.ensures.value ∙ c.if-is_err.false) in (
+    on_ok ((slice_get c.loop-number.plan.replies c.in-Some.number ≡ Some None) × (c.tell.new.self ≡ after)) c.tell.result c.tell.ensures.told (sym c.is_err.ensures.value ∙ c.if-is_err.false) in
+    let there = ap (λ (p : Plan). slice_get p.replies c.in-Some.number) (sym c.loop-number.invariant.1) ∙ told.0 in (
       grind (arith, common_steps),
-      ap (λ (p : Plan). p.split) told.1 ∙ c.loop-number.invariant.1,
-      tell_one c.args.plan.replies c.loop-number.plan.replies c.tell.new.self.replies c.loop-number.yielded c.in-Some.number c.in-Some.reply number_is c.loop-number.invariant.2 (told.0, ap (λ (p : Plan). p.replies) told.1),
+      told.1 ∙ ap (λ (p : Plan). record p { replies = slice_set p.replies c.in-Some.number (Some c.in-Some.reply) }) c.loop-number.invariant.1
+          ∙ ap (λ replies. record (c.args.plan) { replies = replies }) (tell_one c.args.plan.replies _ _ c.loop-number.yielded c.in-Some.number c.in-Some.reply number_is refl (there, refl)),
       grind (arith, common_steps),
     )
 
@@ -32,15 +33,13 @@ returns-then-is_err-clause-cause c =
 pub returns-clause-gathered : goal.returns-clause-gathered
 returns-clause-gathered c =
     let all : map (λ p. p.1) c.loop-number.yielded ≡ c.in_ok-replies.replies.items = grind (arith, common_steps) in
-    let are : c.loop-number.plan.replies ≡ after_telling c.args.plan.replies c.in_ok-replies.replies.items =
-    c.loop-number.invariant.2 ∙ ap (λ told. after_telling c.args.plan.replies told) all in
-    let outcome = ended c.args.plan c.loop-number.plan c.args.answers.items c.in_ok-replies.replies.items c.in_ok-replies.ensures.replies c.loop-number.invariant.1 are c.combine.result c.combine.ensures.joined c.combine.ensures.untold in
+    let are : c.loop-number.plan ≡ with_told c.args.plan c.in_ok-replies.replies.items = c.loop-number.invariant.1 ∙ ap (with_told c.args.plan) all in
+    let outcome = ended c.args.plan c.loop-number.plan c.args.answers.items c.in_ok-replies.replies.items c.in_ok-replies.ensures.replies are c.combine.result c.combine.ensures.joined c.combine.ensures.amid c.combine.ensures.untold in
     if_ok _ (λ reply. IsGathered c.args.plan c.args.answers.items (view reply)) (λ error. IsNotCombined c.args.plan c.args.answers.items error) c.combine.result c.map_err.result outcome c.map_err.ensures.cases
 
 pub returns-clause-cause : goal.returns-clause-cause
 returns-clause-cause c =
     let all : map (λ p. p.1) c.loop-number.yielded ≡ c.in_ok-replies.replies.items = grind (arith, common_steps) in
-    let are : c.loop-number.plan.replies ≡ after_telling c.args.plan.replies c.in_ok-replies.replies.items =
-    c.loop-number.invariant.2 ∙ ap (λ told. after_telling c.args.plan.replies told) all in
-    let outcome = ended c.args.plan c.loop-number.plan c.args.answers.items c.in_ok-replies.replies.items c.in_ok-replies.ensures.replies c.loop-number.invariant.1 are c.combine.result c.combine.ensures.joined c.combine.ensures.untold in
+    let are : c.loop-number.plan ≡ with_told c.args.plan c.in_ok-replies.replies.items = c.loop-number.invariant.1 ∙ ap (with_told c.args.plan) all in
+    let outcome = ended c.args.plan c.loop-number.plan c.args.answers.items c.in_ok-replies.replies.items c.in_ok-replies.ensures.replies are c.combine.result c.combine.ensures.joined c.combine.ensures.amid c.combine.ensures.untold in
     if_err (λ error. IsUngathered c.args.plan c.args.answers.items error) NotCombined (λ reply. IsGathered c.args.plan c.args.answers.items (view reply)) (λ error. IsNotCombined c.args.plan c.args.answers.items error) c.combine.result c.map_err.result (λ e is. is) outcome c.map_err.ensures.cases
