@@ -5,7 +5,7 @@ use Rattle.std.proofs.lemmas.List.{drop-drop, length-map}
 use Rattle.resp_core.specs.Reply.{Reply}
 use Rattle.redis_routing.specs.Registry.{Registrations}
 use Rattle.redis_routing.specs.Split.{Split}
-use Rattle.redis_cluster.specs.Amid.{Moments, IsAssembled, replies_by}
+use Rattle.redis_cluster.specs.Amid.{HeldBySlot, IsAssembled, replies_by}
 use Rattle.redis_cluster.specs.MultiKey.{MultiKey, slots_in}
 use Rattle.redis_cluster.specs.Unsplit.{Step, Keyspace, reply_to}
 use Rattle.redis_cluster.proofs.Amid.{acts_by_slot, joined_amid}
@@ -23,14 +23,14 @@ all_given (reply ∷ replies) = ap (with_reply reply) (all_given replies)
 
 module _ {C : Type 0} (step : Step C) (registered : Registrations) where
   -- the reply of a command over many keys
-  keys_reply : (command : MultiKey) (split : Split) → IsSplitOfTask registered command split → (held : Moments C) (one : Keyspace C) → IsAssembled command held one → (reply : Answer)
+  keys_reply : (command : MultiKey) (split : Split) → IsSplitOfTask registered command split → (held : HeldBySlot C) (one : Keyspace C) → IsAssembled command held one → (reply : Answer)
       → IsSplitReply split (all_replies (map Ok (replies_by step command held))) reply → reply ≡ Ok (reply_to step command one)
   keys_reply command split is held one assembled reply made =
       joined_once split (replies_by step command held) (reply_to step command one) reply (joined_amid step command split is.split_is is.form is.tuples held one assembled)
       (subst (λ found. IsSplitReply split found reply) (all_given (replies_by step command held)) made)
 
   amid_at : (before later : List Task) (command : MultiKey) (splits : List (Option Split)) (given replies : List Answer) → AreSplitsOf registered splits (before ++ over_keys command ∷ later) → AreRepliesTo splits given replies
-      → (held : Moments C) (one : Keyspace C) → IsAssembled command held one → own_answers before command given ≡ map Ok (replies_by step command held)
+      → (held : HeldBySlot C) (one : Keyspace C) → IsAssembled command held one → own_answers before command given ≡ map Ok (replies_by step command held)
       → slice_get replies (length before) ≡ Some (Ok (reply_to step command one))
   amid_at [] later command [] given replies are made held one assembled own = absurd are
   amid_at [] later command (None ∷ splits) given replies are made held one assembled own = absurd are.0

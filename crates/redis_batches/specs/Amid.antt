@@ -1,7 +1,7 @@
 -- What the commands of a pipeline over many keys reply on a real cluster. Other clients write the same
 -- keys meanwhile, and replicas lag. Each node runs its part at one moment, on what it holds then.
 use Rattle.std.specs.Prelude.{◌≡◌, ◌++◌, ◌∷◌, List, Some, Ok, map, length, take, drop, slice_get}
-use Rattle.redis_cluster.specs.Amid.{ActsBySlot, Moments, IsAssembled, replies_by}
+use Rattle.redis_cluster.specs.Amid.{ActsBySlot, HeldBySlot, IsAssembled, replies_by}
 use Rattle.redis_cluster.specs.MultiKey.{MultiKey, slots_in}
 use Rattle.redis_cluster.specs.Unsplit.{Step, Keyspace, reply_to}
 use Rattle.redis_batches.specs.Pipeline.{Answer, Task, over_keys}
@@ -22,7 +22,7 @@ own_answers before command given =
 abbrev pub AreServedAmid : Type 0 → List Task → (given replies : List Answer) → Type 0
 AreServedAmid C tasks given replies =
     (before later : List Task) (command : MultiKey) → tasks ≡ before ++ over_keys command ∷ later
-    → ((step : Step C) (held : Moments C) (one : Keyspace C) → IsAssembled command held one
+    → ((step : Step C) (held : HeldBySlot C) (one : Keyspace C) → IsAssembled command held one
     → own_answers before command given ≡ map Ok (replies_by step command held)
     → slice_get replies (length before) ≡ Some (Ok (reply_to step command one)))
     × ActsBySlot C command

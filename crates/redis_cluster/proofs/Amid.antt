@@ -13,7 +13,7 @@ use Rattle.resp_core.specs.Reply.{Reply}
 use Rattle.redis_routing.specs.Command.{Arguments}
 use Rattle.redis_routing.specs.Registry.{Registrations}
 use Rattle.redis_routing.specs.Split.{Split, IsSplit}
-use Rattle.redis_cluster.specs.Amid.{Moments, IsAssembled, IsReplyAmid, replies_by, after_parts, IsServedAmid, ActsBySlot, AreItsParts}
+use Rattle.redis_cluster.specs.Amid.{HeldBySlot, IsAssembled, IsReplyAmid, replies_by, after_parts, IsServedAmid, ActsBySlot, PartsActBySlot}
 use Rattle.redis_cluster.specs.Joined.{joined}
 use Rattle.redis_cluster.specs.MultiKey.{KeyTuple, MultiKey, multi_key, part_by_slot, part_of, form_by_policy, slots_in, tuples_of_slot}
 use Rattle.redis_cluster.specs.Orders.{NamesOnce, in_order, times}
@@ -40,11 +40,11 @@ module _ {C : Type 0} (act : Act C) where
       (λ key own. ap (cond (bytes_eq t.key key) (act t (b t.key)).cell) (same key own)))
 
   -- the keyspace that has, at each key, what the node of the key's slot held
-  abbrev assembled : Moments C → Keyspace C
+  abbrev assembled : HeldBySlot C → Keyspace C
   assembled held = λ key. held (key_slot key) key
 
   -- A part adds to the reply what its tuples add to that of the whole command.
-  part_adds : (slot : ℕ) (ts : List KeyTuple) (held : Moments C) (one : Keyspace C) → All (λ (t : KeyTuple). one t.key ≡ held (key_slot t.key) t.key) ts
+  part_adds : (slot : ℕ) (ts : List KeyTuple) (held : HeldBySlot C) (one : Keyspace C) → All (λ (t : KeyTuple). one t.key ≡ held (key_slot t.key) t.key) ts
       → results act (tuples_of_slot slot ts) (held slot) ≡ results_of_slot slot ts (results act ts one)
   part_adds slot ts held one is =
       results-part act slot ts (assembled held) (held slot) (λ key own. ap (λ s. held s key) (sym (eqb-true (key_slot key) slot own)))
@@ -81,7 +81,7 @@ joined_parts split command is form tuples rs each =
 module _ {C : Type 0} (step : Step C) (command : MultiKey) where
   -- So it is where the parts are served at moments of their own.
   pub joined_amid : (split : Split) → IsSplit split → form_by_policy split.policy ≡ Some command.form → command.tuples ≡ tuples_in_split split
-      → (held : Moments C) (one : Keyspace C) → IsAssembled command held one → joined split (replies_by step command held) ≡ Ok (reply_to step command one)
+      → (held : HeldBySlot C) (one : Keyspace C) → IsAssembled command held one → joined split (replies_by step command held) ≡ Ok (reply_to step command one)
   joined_amid split is form tuples held one assembled =
       let act = act_of step command in
       let rs : List TupleResult = results act command.tuples one in
@@ -110,8 +110,8 @@ acts_by_slot C command = record {
 }
 
 -- What the parts of a command are.
-pub are_its_parts : (C : Type 0) (command : MultiKey) (registered : Registrations) (args : Arguments) → multi_key registered args ≡ Some command → AreItsParts C registered args command
-are_its_parts C command registered args is =
+pub parts_act_by_slot : (C : Type 0) (command : MultiKey) (registered : Registrations) (args : Arguments) → multi_key registered args ≡ Some command → PartsActBySlot C registered args command
+parts_act_by_slot C command registered args is =
     record {
       meant = All-weaker (λ slot. list_any (λ (t : KeyTuple). nat_eq (key_slot t.key) slot) command.tuples ≡ true) (λ slot. multi_key registered (part_by_slot registered args slot) ≡ Some (part_of command slot))
           (λ slot has. ap (multi_key registered) (sym (part_by_command registered args command slot is)) ∙ part_means registered args command slot is has)

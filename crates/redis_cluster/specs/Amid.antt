@@ -11,8 +11,8 @@ use Rattle.redis_cluster.specs.Orders.{NamesOnce, in_order, times}
 use Rattle.redis_cluster.specs.Unsplit.{Step, Keyspace, keyspace_after, reply_to}
 
 -- What the node of each slot holds, at a moment of the slot's own.
-abbrev pub Moments : Type 0 → Type 0
-Moments C = ℕ → Keyspace C
+abbrev pub HeldBySlot : Type 0 → Type 0
+HeldBySlot C = ℕ → Keyspace C
 
 -- One keyspace has, at each key of the command, what the key's node held when it ran the key's
 -- part.
@@ -22,14 +22,14 @@ Moments C = ℕ → Keyspace C
 -- The part of `a` goes to a replica that lags: the keyspace has the `a` of the replica.
 -- `b` expires between the parts, and its part is the second: the keyspace has no `b`.
 -- An importing node runs the part of `a` after `ASK`: the keyspace has the `a` of that node.
-abbrev pub IsAssembled : {C : Type 0} → MultiKey → Moments C → Keyspace C → Type 0
+abbrev pub IsAssembled : {C : Type 0} → MultiKey → HeldBySlot C → Keyspace C → Type 0
 IsAssembled command held one = All (λ t. one t.key ≡ held (key_slot t.key) t.key) command.tuples
 
 -- the replies to the parts of a command, one for each slot, by what the slot's node held
 --
 -- `MGET a b`, if the node of `a` has 1 there and the node of `b` has nothing there:
 --     the replies [1] and [nil]
-abbrev pub replies_by : {C : Type 0} → Step C → MultiKey → Moments C → List Reply
+abbrev pub replies_by : {C : Type 0} → Step C → MultiKey → HeldBySlot C → List Reply
 replies_by step command held =
     map (λ slot. reply_to step (part_of command slot) (held slot)) (slots_in command)
 
@@ -42,7 +42,7 @@ replies_by step command held =
 --     the keyspace has no `b`, so the reply counts `a` alone.
 abbrev pub IsReplyAmid : (C : Type 0) → MultiKey → List Reply → Reply → Type 0
 IsReplyAmid C command replies value =
-    (step : Step C) (held : Moments C) (one : Keyspace C) → IsAssembled command held one
+    (step : Step C) (held : HeldBySlot C) (one : Keyspace C) → IsAssembled command held one
     → replies ≡ replies_by step command held → value ≡ reply_to step command one
 
 -- The nodes gave one reply to each part, and the value is made of these.
@@ -81,7 +81,7 @@ pub record ActsBySlot (C : Type 0) (command : MultiKey) : Type 0 where
       → IsAssembled command (λ slot. after_parts step command (before slot) first) first
 
 -- What is sent for a slot means the slot's part, and the command acts slot by slot.
-pub record AreItsParts (C : Type 0) (registered : Registrations) (args : Arguments)
+pub record PartsActBySlot (C : Type 0) (registered : Registrations) (args : Arguments)
     (command : MultiKey) : Type 0 where
   pub meant : All (λ slot. multi_key registered (part_by_slot registered args slot)
       ≡ Some (part_of command slot)) (slots_in command)

@@ -7,7 +7,7 @@ ghost use Rattle.resp_core.specs.View.{view};
 ghost use Rattle.cluster_slots.specs.SlotRoute.{SlotRoute};
 ghost use Rattle.cluster_map.specs.RouteNode.{IsRouteNode};
 ghost use Rattle.redis_routing.specs.Names.{names_of};
-ghost use Rattle.redis_cluster.specs.Amid.{AreItsParts, IsServedAmid};
+ghost use Rattle.redis_cluster.specs.Amid.{PartsActBySlot, IsServedAmid};
 ghost use Rattle.redis_cluster.specs.Attempts.{AreAllowed};
 ghost use Rattle.redis_cluster.specs.Front.{IsSameCommand, front};
 ghost use Rattle.redis_cluster.specs.MultiKey.{MultiKey, multi_key};
@@ -155,7 +155,7 @@ pub fn drive<R: Routable, N: Nodes>(
     // Each part that was answered, as `delivered` or `cut` says, left at its keys what the unsplit
     // command leaves there, whatever became of the other parts.
     ensures parts { (c : MultiKey) → multi_key (N.registered nodes.old) (R.args command.now) ≡ Some c
-        → AreItsParts N.Cell (N.registered nodes.old) (R.args command.now) c }
+        → PartsActBySlot N.Cell (N.registered nodes.old) (R.args command.now) c }
     // A command with gaps and its front have the same tuples, routes and parts.
     ensures gaps { IsSameCommand (R.args command.now) (front (R.args command.now)) }
     // The same names stay registered.
@@ -290,7 +290,7 @@ pub fn drive_plan<R: Routable, N: Nodes>(
     ensures untouched { IfErr result (λ e. IsBefore e.fault → nodes.new ≡ nodes.old) }
     ensures kept { N.kept nodes.new → N.kept nodes.old }
     ensures parts { (c : MultiKey) → multi_key (N.registered nodes.old) plan.entry.split.arguments ≡ Some c
-        → AreItsParts N.Cell (N.registered nodes.old) plan.entry.split.arguments c }
+        → PartsActBySlot N.Cell (N.registered nodes.old) plan.entry.split.arguments c }
     ensures registered { N.registered nodes.new ≡ N.registered nodes.old }
     ensures may_refuse { (count : ℕ) (ending : Ending) → N.may_refuse nodes.new count ending
         ↔ N.may_refuse nodes.old count ending }

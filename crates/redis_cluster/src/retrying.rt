@@ -8,7 +8,7 @@ ghost use Rattle.redis_routing.specs.Names.{names_of};
 ghost use Rattle.redis_cluster.specs.Front.{IsSameCommand, front};
 ghost use Rattle.redis_cluster.specs.MultiKey.{MultiKey, multi_key};
 ghost use Rattle.redis_cluster.specs.Trace.{Ending};
-ghost use Rattle.redis_cluster.specs.Amid.{AreItsParts, IsServedAmid};
+ghost use Rattle.redis_cluster.specs.Amid.{PartsActBySlot, IsServedAmid};
 ghost use Rattle.redis_cluster.specs.Attempts.{AreAllowed, HaveOneAnswer};
 ghost use Rattle.redis_cluster.specs.Driven.{request, AreAllAnswered, IsDelivered, IsDrivable, IsUnhindered};
 ghost use Rattle.redis_cluster.specs.Faults.{IsBefore};
@@ -148,7 +148,7 @@ pub fn drive_retrying<R: Routable, N: Nodes>(
     // Each part that was answered left at its keys what the unsplit command leaves there, whatever
     // became of the other parts.
     ensures parts { (c : MultiKey) → multi_key (N.registered nodes.old) (R.args command.now) ≡ Some c
-        → AreItsParts N.Cell (N.registered nodes.old) (R.args command.now) c }
+        → PartsActBySlot N.Cell (N.registered nodes.old) (R.args command.now) c }
     // A command with gaps and its front have the same tuples, routes and parts.
     ensures gaps { IsSameCommand (R.args command.now) (front (R.args command.now)) }
     // The same names stay registered.

@@ -14,14 +14,14 @@ use Rattle.cluster_slots.specs.declared.slot.SlotAddr.{SlotAddr}
 use Rattle.redis_routing.specs.Command.{Arguments}
 use Rattle.redis_routing.specs.Registry.{Registrations}
 use Rattle.redis_routing.specs.Routing.{nodes_for}
-use Rattle.redis_cluster.specs.Amid.{Moments, IsAssembled, IsReplyAmid, IsServedAmid, AreItsParts, replies_by}
+use Rattle.redis_cluster.specs.Amid.{HeldBySlot, IsAssembled, IsReplyAmid, IsServedAmid, PartsActBySlot, replies_by}
 use Rattle.redis_cluster.specs.Attempts.{is_answered}
 use Rattle.redis_cluster.specs.Driven.{Request, IsDelivered}
 use Rattle.redis_cluster.specs.MultiKey.{KeyTuple, MultiKey, multi_key, part_by_slot, part_of, slots_in, tuples_of_slot, command_routes}
 use Rattle.redis_cluster.specs.Orders.{NamesOnce, in_order, times}
 use Rattle.redis_cluster.specs.Trace.{Entry, Ending, answered, refused, redirected, lost}
 use Rattle.redis_cluster.specs.Unsplit.{Step, Keyspace, keyspace_after, reply_to}
-use Rattle.redis_cluster.proofs.Amid.{are_its_parts}
+use Rattle.redis_cluster.proofs.Amid.{parts_act_by_slot}
 use Rattle.redis_cluster.proofs.Constructors.{same_some}
 use Rattle.redis_cluster.proofs.Counts.{same_number, times_here, times_there}
 use Rattle.redis_cluster.proofs.Orders.{get-in_order, map-in_order, times-in_order}
@@ -205,8 +205,8 @@ module _ (C : Type 0) (r : Request) (old new : List Said) (d : AreSentInOrder r 
       subst (λ xs. AreOfSlots registered r.arguments xs (map entry_by tail)) (map-in_order (λ (route : SlotRoute). route.slot) d.routes r.order ∙ ap (λ xs. in_order xs r.order) slots_are)
       (subst (λ es. AreOfSlots registered r.arguments (slots_in_routes (in_order d.routes r.order)) es) (sym tail_is) d.each)
 
-  parts : AreItsParts C registered r.arguments command
-  parts = are_its_parts C command registered r.arguments command_is
+  parts : PartsActBySlot C registered r.arguments command
+  parts = parts_act_by_slot C command registered r.arguments command_is
 
   -- what is sent for a slot means the slot's part
   meant : (i slot : ℕ) → slice_get slots i ≡ Some slot → multi_key registered (part_by_slot registered r.arguments slot) ≡ Some (part_of command slot)
@@ -279,7 +279,7 @@ module _ (C : Type 0) (r : Request) (old new : List Said) (d : AreSentInOrder r 
         (reply, reply_at i.0 slot reply i.1 (slice_get-get_or replies i.0 value (omega (arith, slice_get_within slots i.0 slot i.1, many))))
 
     -- what the node of a slot held at the send of its part
-    abbrev by_slot : (ℕ → Keyspace C) → Moments C
+    abbrev by_slot : (ℕ → Keyspace C) → HeldBySlot C
     by_slot held slot = held (number_of slot)
 
     assembled_from : (held : ℕ → Keyspace C) (one : Keyspace C) → IsAssembledAt registered old new held one → IsAssembled command (by_slot held) one

@@ -13,7 +13,7 @@ use Rattle.redis_cluster.specs.Faults.{fault_of_plan, IsCauseBeforeSending}
 use Rattle.redis_cluster.specs.declared.fault.DriveFault.{DriveFault}
 use Rattle.redis_routing.specs.Command.{Arguments}
 use Rattle.redis_cluster.specs.Amid.{IsServedAmid}
-use Rattle.redis_cluster.proofs.Amid.{are_its_parts}
+use Rattle.redis_cluster.proofs.Amid.{parts_act_by_slot}
 use Rattle.redis_cluster.proofs.Gaps.{same_command}
 use Rattle.redis_cluster.proofs.TriedOnce.{early_plan}
 use Rattle.redis_cluster.specs.Ready.{IsPlanFor, IsPlanNode}
@@ -162,7 +162,7 @@ returns-in-Ok-clause-amid g c =
     c.drive_plan.ensures.amid
 
 pub returns-in-Ok-clause-parts : goal.returns-in-Ok-clause-parts
-returns-in-Ok-clause-parts g c = λ command is. are_its_parts g.N.Nodes.Cell command (g.N.Nodes.registered c.args.nodes.now) (g.R.Routable.args c.args.command.now) is
+returns-in-Ok-clause-parts g c = λ command is. parts_act_by_slot g.N.Nodes.Cell command (g.N.Nodes.registered c.args.nodes.now) (g.R.Routable.args c.args.command.now) is
 
 pub returns-in-Err-clause-parts : goal.returns-in-Err-clause-parts
-returns-in-Err-clause-parts g c = λ command is. are_its_parts g.N.Nodes.Cell command (g.N.Nodes.registered c.args.nodes.now) (g.R.Routable.args c.args.command.now) is
+returns-in-Err-clause-parts g c = λ command is. parts_act_by_slot g.N.Nodes.Cell command (g.N.Nodes.registered c.args.nodes.now) (g.R.Routable.args c.args.command.now) is

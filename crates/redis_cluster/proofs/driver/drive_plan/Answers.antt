@@ -8,7 +8,7 @@ use Rattle.redis_routing.specs.Registry.{Registrations}
 use Rattle.redis_cluster.specs.Sends.{IsPlanOf}
 use Rattle.redis_cluster.specs.Orders.{NamesOnce}
 use Rattle.redis_cluster.specs.Retry.{Attempt}
-use Rattle.redis_cluster.proofs.Amid.{are_its_parts}
+use Rattle.redis_cluster.proofs.Amid.{parts_act_by_slot}
 use Rattle.redis_cluster.proofs.Ended.{ended_late, memory_is_no_reply}
 use Rattle.redis_cluster.specs.Ready.{IsPlanNode}
 use Rattle.redis_cluster.specs.declared.fault.DriveFault.TheVariants.{BadOrder}
@@ -131,10 +131,10 @@ pub returns-in-Err-clause-carried : goal.returns-in-Err-clause-carried
 returns-in-Err-clause-carried g c = λ asked command is routes can all now. refl
 
 pub returns-in-Ok-true-clause-parts : goal.returns-in-Ok-true-clause-parts
-returns-in-Ok-true-clause-parts g c = λ command is. are_its_parts g.N.Nodes.Cell command (g.N.Nodes.registered c.args.nodes.now) c.args.plan.split.arguments is
+returns-in-Ok-true-clause-parts g c = λ command is. parts_act_by_slot g.N.Nodes.Cell command (g.N.Nodes.registered c.args.nodes.now) c.args.plan.split.arguments is
 
 pub returns-in-Ok-false-clause-parts : goal.returns-in-Ok-false-clause-parts
-returns-in-Ok-false-clause-parts g c = λ command is. are_its_parts g.N.Nodes.Cell command (g.N.Nodes.registered c.args.nodes.now) c.args.plan.split.arguments is
+returns-in-Ok-false-clause-parts g c = λ command is. parts_act_by_slot g.N.Nodes.Cell command (g.N.Nodes.registered c.args.nodes.now) c.args.plan.split.arguments is
 
 pub returns-in-Err-clause-parts : goal.returns-in-Err-clause-parts
-returns-in-Err-clause-parts g c = λ command is. are_its_parts g.N.Nodes.Cell command (g.N.Nodes.registered c.args.nodes.now) c.args.plan.split.arguments is
+returns-in-Err-clause-parts g c = λ command is. parts_act_by_slot g.N.Nodes.Cell command (g.N.Nodes.registered c.args.nodes.now) c.args.plan.split.arguments is

@@ -14,7 +14,7 @@ use Rattle.redis_cluster.specs.Tries.{tries_with}
 use Rattle.redis_cluster.specs.declared.fault.DriveFault.{DriveFault}
 use Rattle.redis_routing.specs.Command.{Arguments}
 use Rattle.redis_cluster.specs.Amid.{IsServedAmid}
-use Rattle.redis_cluster.proofs.Amid.{are_its_parts}
+use Rattle.redis_cluster.proofs.Amid.{parts_act_by_slot}
 use Rattle.redis_cluster.proofs.Gaps.{same_command}
 use Rattle.redis_cluster.proofs.EachTry.{each_try, each_named}
 use Rattle.redis_cluster.proofs.Allowed.{allowed_none}
@@ -239,10 +239,10 @@ returns-in-Ok-retries_of-clause-amid g c =
     c.drive_tries.ensures.amid
 
 pub returns-in-Ok-retries_of-clause-parts : goal.returns-in-Ok-retries_of-clause-parts
-returns-in-Ok-retries_of-clause-parts g c = λ command is. are_its_parts g.N.Nodes.Cell command (g.N.Nodes.registered c.args.nodes.now) (g.R.Routable.args c.args.command.now) is
+returns-in-Ok-retries_of-clause-parts g c = λ command is. parts_act_by_slot g.N.Nodes.Cell command (g.N.Nodes.registered c.args.nodes.now) (g.R.Routable.args c.args.command.now) is
 
 pub returns-in-Err-clause-parts : goal.returns-in-Err-clause-parts
-returns-in-Err-clause-parts g c = λ command is. are_its_parts g.N.Nodes.Cell command (g.N.Nodes.registered c.args.nodes.now) (g.R.Routable.args c.args.command.now) is
+returns-in-Err-clause-parts g c = λ command is. parts_act_by_slot g.N.Nodes.Cell command (g.N.Nodes.registered c.args.nodes.now) (g.R.Routable.args c.args.command.now) is
 
 pub returns-in-Err-retries_of-clause-parts : goal.returns-in-Err-retries_of-clause-parts
-returns-in-Err-retries_of-clause-parts g c = λ command is. are_its_parts g.N.Nodes.Cell command (g.N.Nodes.registered c.args.nodes.now) (g.R.Routable.args c.args.command.now) is
+returns-in-Err-retries_of-clause-parts g c = λ command is. parts_act_by_slot g.N.Nodes.Cell command (g.N.Nodes.registered c.args.nodes.now) (g.R.Routable.args c.args.command.now) is
