@@ -15,8 +15,9 @@ use Rattle.redis_routing.specs.Command.{Arguments}
 use Rattle.redis_routing.specs.Registry.{Registrations}
 use Rattle.redis_routing.specs.Routing.{nodes_for}
 use Rattle.redis_cluster.specs.Amid.{HeldBySlot, IsAssembled, IsReplyAmid, IsServedAmid, PartsActBySlot, replies_by}
-use Rattle.redis_cluster.specs.Attempts.{is_answered}
+use Rattle.redis_cluster.specs.Attempts.{Try, is_answered}
 use Rattle.redis_cluster.specs.Driven.{Request, IsDelivered}
+use Rattle.redis_cluster.specs.Retried.{AreAllTried}
 use Rattle.redis_cluster.specs.MultiKey.{KeyTuple, MultiKey, multi_key, part_by_slot, part_of, slots_in, tuples_of_slot, command_routes}
 use Rattle.redis_cluster.specs.Orders.{NamesOnce, in_order, times}
 use Rattle.redis_cluster.specs.Trace.{Entry, Ending, answered, refused, redirected, lost}
@@ -29,7 +30,7 @@ use Rattle.redis_cluster.proofs.Placed.{stands_at}
 use Rattle.redis_cluster.proofs.SplitParts.{slots_once, keys_once}
 use Rattle.wire_nodes.specs.Amid.{IsReplyAt, OfEachReply, IsAssembledAt, AreRepliesBy, IsServedAt, LeavesAsUnsplit}
 use Rattle.wire_nodes.specs.Said.{Said, Outcome, said as said_by, answer, refusal, redirection, loss, ending_by, entry_by, reply_in, replies_in}
-use Rattle.wire_nodes.proofs.AnsweredSends.{IsOfNext, AreOfSlots, AreSentInOrder, slots_in_routes, by_delivered}
+use Rattle.wire_nodes.proofs.AnsweredSends.{IsOfNext, IsOwnTry, AreOfSlots, AreSentInOrder, slots_in_routes, by_delivered, by_tried}
 
 -- a list whose elements are those of another one mapped
 map_from : {A B : Type 0} (f : A → B) (xs : List A) (ys : List B) → length ys ≡ length xs → ((k : ℕ) (x : A) (y : B) → slice_get xs k ≡ Some x → slice_get ys k ≡ Some y → y ≡ f x) → ys ≡ map f xs
@@ -319,3 +320,8 @@ module _ (C : Type 0) (r : Request) (IsNode : SlotRoute → Address → Type 0) 
   pub served_at : (value : Reply) → IsDelivered IsNode r (map entry_by old) (map entry_by new)
       → IsServedAmid C r.names.registered r.arguments r.order (λ rs. rs ≡ replies_in old) (λ rs. rs ≡ replies_in new) value → IsServedAt C r.names.registered r.arguments old new value
   served_at value d = served_in_order C r old new value (by_delivered IsNode r (map entry_by old) (map entry_by new) d)
+
+-- And one that was tried until each part was answered.
+pub served_at_retries : (C : Type 0) (r : Request) (IsTry : SlotRoute → Try → Type 0) → ((route : SlotRoute) (try : Try) → IsTry route try → IsOwnTry r route try) → (old new : List Said) (value : Reply) → AreAllTried IsTry r (map entry_by old) (map entry_by new)
+    → IsServedAmid C r.names.registered r.arguments r.order (λ rs. rs ≡ replies_in old) (λ rs. rs ≡ replies_in new) value → IsServedAt C r.names.registered r.arguments old new value
+served_at_retries C r IsTry own old new value d = served_in_order C r old new value (by_tried IsTry r own (map entry_by old) (map entry_by new) d)

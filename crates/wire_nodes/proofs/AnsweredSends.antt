@@ -1,13 +1,14 @@
 -- What was sent for the slots of a command, as far as it was answered: each part once, or the first parts before a fault.
-use Rattle.std.proofs.Common.{◌≡◌, ◌⊎◌, inl, inr, ℕ, zero, suc, List, [], ◌∷◌, ◌++◌, Bool, true, false, None, Some, refl, sym, ap, ◌∙◌, subst, arith, map, take, length, append_assoc}
+use Rattle.std.proofs.Common.{◌≡◌, ◌<◌, ◌⊎◌, All, Option, inl, inr, ℕ, zero, suc, List, [], ◌∷◌, ◌++◌, Bool, true, false, None, Some, refl, sym, ap, ◌∙◌, subst, arith, map, take, length, append_assoc}
 use Rattle.std.specs.Prelude.{slice_get, ⊤}
 use Rattle.std.specs.List.{AllZip}
 use Rattle.std.proofs.lemmas.List.{append-nil, take_all}
+use Rattle.std.proofs.lemmas.List.Elements.{All-tail, All-weaker}
 use Rattle.cluster_slots.specs.Address.{Address}
 use Rattle.cluster_slots.specs.SlotRoute.{SlotRoute}
 use Rattle.redis_routing.specs.Command.{Arguments}
 use Rattle.redis_routing.specs.Registry.{Registrations}
-use Rattle.redis_cluster.specs.Attempts.{is_answered}
+use Rattle.redis_cluster.specs.Attempts.{Try, AreEndedSo, is_answered, last_or}
 use Rattle.redis_cluster.specs.Driven.{Request, IsDelivered, IsDrivable, IsEntryOf, AreSent}
 use Rattle.redis_cluster.specs.Faults.{Reach, whole, up_to, WentOut, EndsOnce, IsCut}
 use Rattle.redis_cluster.specs.MultiKey.{MultiKey, part_by_slot}
@@ -15,7 +16,9 @@ use Rattle.redis_cluster.specs.Orders.{in_order}
 use Rattle.redis_cluster.specs.State.{State}
 use Rattle.redis_cluster.specs.Trace.{Entry, Ending, answered}
 use Rattle.redis_cluster.specs.declared.fault.DriveFault.{DriveFault}
+use Rattle.redis_cluster.specs.Retried.{AreTried, AreAllTried}
 use Rattle.redis_cluster.proofs.Constructors.{same_some, none_apart}
+use Rattle.redis_cluster.proofs.Laws.{answer_is_last}
 
 -- An entry that was answered is of the next slot.
 abbrev pub IsOfNext : (ℕ → Type 0) → (List ℕ → Type 0) → Bool → List ℕ → Type 0
@@ -99,3 +102,39 @@ module _ (IsNode : SlotRoute → Address → Type 0) (r : Request) where
   pub by_cut : {C : Type 0} (old new : State C) (may_refuse : ℕ → Ending → Type 0) (fault : DriveFault) (count : ℕ) → IsCut IsNode r old new may_refuse fault count → (new.trace ≡ old.trace) ⊎ AreSentInOrder r old.trace new.trace
   by_cut old new may_refuse fault count (inl early) = inl (ap (λ (s : State _). s.trace) early.2)
   by_cut old new may_refuse fault count (inr cut) = inr (by_reach cut.routes cut.command count cut.reach old.trace new.trace cut.drivable cut.went)
+
+-- what is tried for a route has the part of its slot
+abbrev pub IsOwnTry : Request → SlotRoute → Try → Type 0
+IsOwnTry r route try = map Some try.part ≡ part_by_slot r.names.registered r.arguments route.slot
+
+module _ (registered : Registrations) (args : Arguments) (slot : ℕ) (slots : List ℕ) (more : List Entry) (rest : AreOfSlots registered args slots more) where
+  -- of some attempts of a part the last one alone was answered
+  by_attempts : (was : Option Ending) (es : List Entry) → All (λ e. map Some e.args ≡ part_by_slot registered args slot) es → ((k : ℕ) (e : Entry) → slice_get es k ≡ Some e → suc k < length es → is_answered e.ending ≡ false) → 0 < length es → last_or was es ≡ Some answered
+      → AreOfSlots registered args (slot ∷ slots) (es ++ more)
+  by_attempts was [] own others some last = absurd (omega (arith, some))
+  by_attempts was (e ∷ []) own others some last = one_answered registered args e more slot slots (own 0 e (omega arith)) (same_some e.ending answered last) rest
+  by_attempts was (e ∷ f ∷ es) own others some last =
+      subst (λ b. IsOfNext (λ s. map Some e.args ≡ part_by_slot registered args s) (λ left. AreOfSlots registered args left (f ∷ es ++ more)) b (slot ∷ slots)) (sym (others 0 e refl (omega arith)))
+      (by_attempts (Some e.ending) (f ∷ es) (All-tail (λ (x : Entry). map Some x.args ≡ part_by_slot registered args slot) e (f ∷ es) own) (λ k x at before. others (suc k) x at (omega (arith, before))) (omega arith) last)
+
+  by_ended : (try : Try) (es : List Entry) → map Some try.part ≡ part_by_slot registered args slot → AreEndedSo try (Some answered) es → AreOfSlots registered args (slot ∷ slots) (es ++ more)
+  by_ended try [] own ended = absurd (none_apart answered ended.1)
+  by_ended try (e ∷ es) own ended =
+      by_attempts None (e ∷ es) (All-weaker (λ (x : Entry). x.args ≡ try.part) (λ x. map Some x.args ≡ part_by_slot registered args slot) (λ x is. ap (map Some) is ∙ own) (e ∷ es) ended.0.begun.part)
+      (answer_is_last try (e ∷ es) ended.0.begun) (omega arith) ended.1
+
+module _ (IsTry : SlotRoute → Try → Type 0) (r : Request) (own : (route : SlotRoute) (try : Try) → IsTry route try → IsOwnTry r route try) where
+  of_tried : (routes : List SlotRoute) (old new : List Entry) → AreTried IsTry routes old new → (entries : List Entry) × (new ≡ old ++ entries) × AreOfSlots r.names.registered r.arguments (slots_in_routes routes) entries
+  of_tried [] old new same = ([], same ∙ sym (append-nil old), tt)
+  of_tried (route ∷ routes) old new (try, mid, is, first, later) =
+      let rest = of_tried routes mid new later in (
+        first.attempts ++ rest.0,
+        rest.1 ∙ ap (λ es. es ++ rest.0) first.grew ∙ append_assoc old first.attempts rest.0,
+        by_ended r.names.registered r.arguments route.slot (slots_in_routes routes) rest.0 rest.2 try first.attempts (own route try is) first.ended,
+      )
+
+  -- each part was tried until it was answered
+  pub by_tried : (old new : List Entry) → AreAllTried IsTry r old new → AreSentInOrder r old new
+  by_tried old new d =
+      let sent = of_tried (in_order d.routes r.order) old new d.trace in
+      record { routes = d.routes; command = d.command; drivable = d.drivable; entries = sent.0; grew = sent.1; each = sent.2 }

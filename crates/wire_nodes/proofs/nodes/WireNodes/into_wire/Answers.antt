@@ -3,7 +3,7 @@ use Rattle.redis_cluster.specs.Amid.{IsServedAmid}
 use Rattle.redis_routing.specs.Registry.{Registrations}
 use Rattle.wire_nodes.specs.Amid.{IsServedAt}
 use Rattle.wire_nodes.specs.Said.{replies_in}
-use Rattle.wire_nodes.proofs.Amid.{served_at}
+use Rattle.wire_nodes.proofs.Amid.{served_at, served_at_retries}
 use Rattle.wire_nodes.proofs.Beside.{kept_beside}
 use Rattle.wire_nodes.proofs.nodes.WireNodes.into_wire.Goals as goal
 
@@ -18,3 +18,11 @@ returns-clause-amid g c =
     subst (λ (registered : Registrations). IsServedAmid g.M.Meaning.Cell registered asked.arguments asked.order (λ replies. replies ≡ replies_in before) (λ replies. replies ≡ replies_in log) value
     → IsServedAt g.M.Meaning.Cell registered asked.arguments before log value) same
     (served_at g.M.Meaning.Cell asked _ before log value delivered) amid
+
+pub returns-clause-amid_retried : goal.returns-clause-amid_retried
+returns-clause-amid_retried g c =
+    λ asked retries before value same tried amid.
+    let log = g.W.Wire.log c.args.self.wire in
+    subst (λ (registered : Registrations). IsServedAmid g.M.Meaning.Cell registered asked.arguments asked.order (λ replies. replies ≡ replies_in before) (λ replies. replies ≡ replies_in log) value
+    → IsServedAt g.M.Meaning.Cell registered asked.arguments before log value) same
+    (served_at_retries g.M.Meaning.Cell asked _ (λ route try is. is.part) before log value tried) amid
