@@ -9,6 +9,7 @@ pub mod bytes;
 pub mod client;
 pub mod commands;
 pub mod deleting;
+pub mod interleaved;
 pub mod node_of_key;
 pub mod pipelines;
 pub mod planning;

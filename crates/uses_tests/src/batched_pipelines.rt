@@ -12,7 +12,7 @@ const BATCH_OF_FOO: &str =
 const BATCH_OF_BAR: &str = "10.0.0.1:6379 MSET bar 2\n10.0.0.1:6379 MGET bar\n";
 
 /// The command of these words, which are parted by single spaces.
-fn command_of(alloc: Global, words: &str) -> Result<Cmd, AllocError> {
+pub(super) fn command_of(alloc: Global, words: &str) -> Result<Cmd, AllocError> {
     let mut command = Cmd::new(alloc);
     for word in words.split(' ') {
         command.write_arg(word.as_bytes())?;
@@ -32,7 +32,10 @@ fn push_sent(text: &mut Vec<u8>, node: &str, command: &Cmd) -> Result<(), AllocE
 }
 
 /// Adds a line with the items of a list.
-fn push_list(text: &mut Vec<u8>, reply: &Result<Value, RedisError>) -> Result<(), AllocError> {
+pub(super) fn push_list(
+    text: &mut Vec<u8>,
+    reply: &Result<Value, RedisError>,
+) -> Result<(), AllocError> {
     if let Ok(Value::Array(items)) = reply {
         for item in items {
             if let Value::BulkString(bytes) = item {

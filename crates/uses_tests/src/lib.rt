@@ -9,3 +9,5 @@ mod batched_pipelines;
 mod client;
 #[cfg(test)]
 mod examples;
+#[cfg(test)]
+mod interleaved;

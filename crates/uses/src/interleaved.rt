@@ -1,0 +1,54 @@
+//! A read of two keys, and another client's write between its two parts.
+use cluster_map::SlotMap;
+use redis_cluster::driver::{Nodes, SplitPlan, drive};
+use redis_cluster::routing::{Names, ReadOnlyNames, Registry};
+use resp_core::{Cmd, Value};
+use std::alloc::Global;
+
+/// Sends part 0 of a read, then another client's write, then part 1 of the read. Gives the reply to the
+/// read, if there is one.
+pub fn read_around<N: Nodes>(
+    alloc: Global,
+    read: &Cmd,
+    write: &Cmd,
+    slot_map: &SlotMap,
+    nodes: &mut N,
+) -> Option<Value> {
+    let (none_only_reads, none_registered) = (ReadOnlyNames::new(alloc), Registry::new(alloc));
+    let names = Names {
+        read_only: &none_only_reads,
+        registry: &none_registered,
+    };
+    let Ok(mut plan) = SplitPlan::new(alloc, read, names, slot_map, None, 0) else {
+        return None;
+    };
+    send_part(alloc, &mut plan, 0, slot_map, nodes)?;
+    send(alloc, write, &[0, 1], slot_map, nodes)?;
+    send_part(alloc, &mut plan, 1, slot_map, nodes)?;
+    plan.combine(alloc).ok()
+}
+
+/// Sends one part of a plan, and tells the plan its reply.
+fn send_part<N: Nodes>(
+    alloc: Global,
+    plan: &mut SplitPlan<'_, Cmd>,
+    number: usize,
+    slot_map: &SlotMap,
+    nodes: &mut N,
+) -> Option<()> {
+    let part = plan.part(number)?;
+    let reply = send(alloc, part, &[0], slot_map, nodes)?;
+    plan.tell(number, reply).ok()
+}
+
+/// Sends a command whose parts have these numbers, and gives its reply, if there is one.
+pub fn send<N: Nodes>(
+    alloc: Global,
+    command: &Cmd,
+    order: &[usize],
+    slot_map: &SlotMap,
+    nodes: &mut N,
+) -> Option<Value> {
+    let only_reads = ReadOnlyNames::new(alloc);
+    drive(alloc, command, &only_reads, slot_map, None, 0, order, nodes).ok()
+}
