@@ -33,9 +33,9 @@ abbrev pub replies_by : {C : Type 0} → Step C → MultiKey → HeldBySlot C �
 replies_by step command held =
     map (λ slot. reply_to step (part_of command slot) (held slot)) (slots_in command)
 
--- These are the replies to the parts of a command, and this is the reply to the command. Take any
--- meaning of commands. If each reply is that of the part on what its node held, then the reply to the
--- command is that of the unsplit command, on each keyspace that is assembled of that.
+-- If each of the replies is what its part replies on what its node held, the value is the reply of
+-- the unsplit command on each keyspace that is assembled of that. So it is by any meaning of
+-- commands over these cells.
 --
 -- `MGET a b` as above replies the old `a` and the new `b`.
 -- `DEL a b` runs at `a` first, which is there, and another client deletes `b` between the parts:
@@ -64,8 +64,8 @@ after_parts step command (slot ∷ slots) keyspace =
 
 -- The part of a slot leaves at each key of the slot what the unsplit command leaves there, whatever
 -- stands at other keys. It leaves the keys of other slots as they were. So if no key of the command
--- changes but by these parts, the keyspace at first is assembled: the node of each slot holds what
--- parts of other slots left of it.
+-- changes but by these parts, the keyspace at first is assembled: when a part runs, each of its
+-- keys still has what stood there at first.
 --
 -- `MSET a 1 b 2`, and another client deletes `a` after the part of `a`: 1 is what the part left, and
 --     what the unsplit command leaves. It need not be there at the return.

@@ -58,8 +58,8 @@ IsBefore (NotCovered slot) = Unit {0}
 IsBefore BadOrder = Unit {0}
 IsBefore fault = ⊥
 
--- How far the sends of the parts reached: past all routes, or up to a route whose sends ended so. There
--- is no ending if memory ran out there.
+-- How far the sends of the parts reached: past all routes, or up to a route that was not answered.
+-- The last send of that route ended so, or memory ran out before it (`None`).
 pub data Reach : Type 0 where
   whole : Reach
   up_to : Option Ending → Reach
@@ -81,8 +81,8 @@ module _ {C : Type 0} (r : Request) (old new : State C) where
   abbrev pub IsEarly : DriveFault → ℕ → Type 0
   IsEarly fault count = IsCauseBeforeSending r fault × (count ≡ 0) × (new ≡ old)
 
-  -- What the sends left: the first `count` parts took effect. If the last reply was lost, the next part
-  -- may have taken effect, too.
+  -- What the sends left: the first `count` parts took effect. If the reply to the next part was
+  -- lost, that part may have taken effect, too.
   abbrev pub TookEffect : Step C → List SlotRoute → MultiKey → ℕ → Reach → Type 0
   TookEffect step routes command count whole =
       new.keyspace ≡ keyspace_after step command old.keyspace
@@ -122,11 +122,13 @@ module _ (Answered : List SlotRoute → (old new : List Entry) → Type 0)
       pub went : WentOut routes count reach old.trace new.trace
       pub allowed : IsAllowed reach
 
-    -- whatever servers do: the fault has its cause, and exactly the first `count` parts were answered
+    -- whatever servers do: the fault has its cause, and exactly the first `count` parts were
+    -- answered
     abbrev pub IsCutBy : DriveFault → ℕ → Type 0
     IsCutBy fault count = IsEarly r old new fault count ⊎ WereCutShort fault count
 
-    -- if nodes keep to one meaning: so it is, these parts took effect, and their replies fit
+    -- if nodes keep to one meaning: the sends were so cut short, these parts took effect, and their
+    -- replies fit
     abbrev pub IsFaultBy : Step C → DriveFault → ℕ → Type 0
     IsFaultBy step fault count = IsEarly r old new fault count
         ⊎ ((cut : WereCutShort fault count)
@@ -140,7 +142,7 @@ EndsOnce IsNode r route None old new = new ≡ old
 EndsOnce IsNode r route (Some ending) old new =
     (e : Entry) × IsEntryOf IsNode r ending route e × (new ≡ old ++ e ∷ [])
 
--- these of parts that go once each
+-- `IsCutBy` and `IsFaultBy` of parts that go once each
 abbrev pub IsCut : {C : Type 0} → (SlotRoute → Address → Type 0) → Request → (old new : State C)
     → (ℕ → Ending → Type 0) → DriveFault → ℕ → Type 0
 IsCut IsNode r old new may_refuse fault count =

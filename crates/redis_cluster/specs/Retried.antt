@@ -58,7 +58,7 @@ module _ (IsTry : SlotRoute → Try → Type 0) where
   abbrev pub EndsTried : SlotRoute → Option Ending → (old new : List Entry) → Type 0
   EndsTried route ending old new = (try : Try) × IsTry route try × IsTried try ending old new
 
-  -- why there is no reply, and what stands, if parts are tried again
+  -- `IsCutBy` and `IsFaultBy` of parts that are tried again
   abbrev pub IsRetryCut : {C : Type 0} → Request → (old new : State C) → (ℕ → Ending → Type 0)
       → DriveFault → ℕ → Type 0
   IsRetryCut r old new may_refuse fault count =
