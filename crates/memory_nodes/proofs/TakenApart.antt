@@ -1,6 +1,6 @@
 -- A multi-key command, taken apart.
 use Rattle.std.proofs.Common.{◌≡◌, ℕ, List, [], ◌∷◌, Bool, true, false, cond, Option, Some, None, map, option_map, length, take, drop, refl, sym, ap, ◌∙◌, subst, ◌≤◌, arith}
-use Rattle.std.specs.Prelude.{IsSome, slice_get}
+use Rattle.std.specs.Prelude.{IsSome, option_and_then, slice_get}
 use Rattle.std.proofs.lemmas.List.{take-map, drop-map, length-map, length-take}
 use Rattle.std.specs.declared.vec.Vec.{Vec}
 use Rattle.std.specs.declared.alloc.Global.{Global}
@@ -12,9 +12,7 @@ use Rattle.redis_routing.specs.MultiKeyNames.{registered_as, split_of}
 use Rattle.redis_routing.specs.Tuples.{is_complete, tuple_args_count, shared_in}
 use Rattle.redis_routing.specs.declared.policy.ResponsePolicy.{ResponsePolicy}
 use Rattle.redis_routing.specs.declared.route_by.MultiSlotArgPattern.{MultiSlotArgPattern}
-use Rattle.redis_routing.specs.Complete.{pattern_by_name}
-use Rattle.redis_routing.specs.Split.{policy_by_name}
-use Rattle.redis_cluster.specs.MultiKey.{MultiKey, ReplyForm, multi_key, command_with, form_of_policy, form_by_policy, is_whole, shape_of, shared_by, tuples_by}
+use Rattle.redis_cluster.specs.MultiKey.{MultiKey, ReplyForm, multi_key, command_with, form_by_policy, is_whole, shape_of, shared_by, tuples_by}
 use Rattle.redis_cluster.proofs.Shapes.{shared_is, tuples_are_placed, whole_is}
 use Rattle.redis_cluster.specs.PlacedTuples.{tuples_of}
 use Rattle.redis_routing.proofs.CommandNames.{has_words}
@@ -48,7 +46,7 @@ module _ (known : Registrations) where
   shaped name run pattern form = record { name = name; registered = registered_as known name; shared = slice_get (shared_in pattern run) 0; tuples = tuples_of pattern run; form = form }
 
   -- where there is a command, it has the form
-  with_shape : (name : List ℕ) (run : List (List ℕ)) (pattern : MultiSlotArgPattern) (form : Option ReplyForm) → IsSome (command_with known (Some name) run (Some pattern) form) → command_with known (Some name) run (Some pattern) form ≡ option_map (shaped name run pattern) form
+  with_shape : (name : List ℕ) (run : List (List ℕ)) (pattern : MultiSlotArgPattern) (form : Option ReplyForm) → IsSome (command_with known name run pattern form) → command_with known name run pattern form ≡ option_map (shaped name run pattern) form
   with_shape name run pattern None h = refl
   with_shape name run pattern (Some form) h = complete (is_whole (shape_of pattern) (length run)) refl h
     where
@@ -64,22 +62,17 @@ module _ (known : Registrations) where
       complete true whole s = ap Some (same (sym (whole_is pattern (length run)) ∙ whole))
       complete false whole s = absurd (cc s)
 
-  -- the command by its name, how its arguments make tuples, and its policy
-  by_shape : (run : List (List ℕ)) (name : List ℕ) (pattern : MultiSlotArgPattern) (policy : ResponsePolicy) (found : Option (List ℕ)) (way : Option MultiSlotArgPattern) (joined : Option ResponsePolicy) → found ≡ Some name → Some pattern ≡ way → Some policy ≡ joined → IsSome (command_with known found run way (form_of_policy joined)) → command_with known found run way (form_of_policy joined) ≡ option_map (shaped name run pattern) (form_by_policy policy)
-  by_shape run name pattern policy found way joined e f g h =
-      let all : command_with known found run way (form_of_policy joined) ≡ command_with known (Some name) run (Some pattern) (form_by_policy policy) =
-      ap (λ n. command_with known n run way (form_of_policy joined)) e
-      ∙ ap (λ w. command_with known (Some name) run w (form_of_policy joined)) (sym f)
-      ∙ ap (λ p. command_with known (Some name) run (Some pattern) (form_of_policy p)) (sym g) in
-      all ∙ with_shape name run pattern (form_by_policy policy) (subst IsSome all h)
-
   -- the command by its name, with its tuples and what they share
   abbrev made_of : Option Registered → List ℕ → MultiSlotArgPattern → List (List ℕ) → List (List ℕ) → ReplyForm → MultiKey
   made_of registered name pattern tuples shared form = record { name = name; registered = registered; shared = slice_get shared 0; tuples = key_tuples pattern tuples; form = form }
 
   by_run : (cmd : List (List ℕ)) (name : List ℕ) (pattern : MultiSlotArgPattern) (policy : ResponsePolicy) → command_name (map Some cmd) ≡ Some name → Some (pattern, policy) ≡ split_of known name → IsSome (multi_key known (map Some cmd)) → multi_key known (map Some cmd) ≡ option_map (shaped name (present_arguments (map Some cmd)) pattern) (form_by_policy policy)
   by_run cmd name pattern policy e split h =
-      by_shape (present_arguments (map Some cmd)) name pattern policy (command_name (map Some cmd)) (pattern_by_name known (command_name (map Some cmd))) (policy_by_name known (command_name (map Some cmd))) e (ap (option_map (λ s. s.0)) split ∙ ap (pattern_by_name known) (sym e)) (ap (option_map (λ s. s.1)) split ∙ ap (policy_by_name known) (sym e)) h
+      let run : List (List ℕ) = present_arguments (map Some cmd) in
+      let all : multi_key known (map Some cmd) ≡ command_with known name run pattern (form_by_policy policy) =
+      ap (option_and_then (λ n. option_and_then (λ s. command_with known n run s.0 (form_by_policy s.1)) (split_of known n))) e
+      ∙ ap (option_and_then (λ s. command_with known name run s.0 (form_by_policy s.1))) (sym split) in
+      all ∙ with_shape name run pattern (form_by_policy policy) (subst IsSome all h)
 
   by_lists : (run tuples shared : List (List ℕ)) (name : List ℕ) (pattern : MultiSlotArgPattern) (form : Option ReplyForm) → tuples ≡ take (tuple_args_count pattern (length run)) run → shared ≡ shared_in pattern run → option_map (shaped name run pattern) form ≡ option_map (made_of (registered_as known name) name pattern tuples shared) form
   by_lists run tuples shared name pattern form t s =

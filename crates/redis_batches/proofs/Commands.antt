@@ -16,12 +16,12 @@ use Rattle.redis_routing.specs.Registry.{Registrations}
 use Rattle.redis_routing.specs.Complete.{multi_slot_routes, pattern_by_name}
 use Rattle.redis_routing.specs.Routing.{routing}
 use Rattle.redis_routing.specs.Split.{Split, IsSplit, split_part, policy_by_name, slots_of}
-use Rattle.redis_cluster.specs.MultiKey.{MultiKey, form_of_policy, multi_key, part_by_slot, part_of, slots_in}
+use Rattle.redis_cluster.specs.MultiKey.{MultiKey, form_by_policy, multi_key, part_by_slot, part_of, slots_in}
 use Rattle.redis_cluster.specs.PlacedTuples.{tuples_of}
 use Rattle.redis_cluster.proofs.CommandParts.{part_by_command}
 use Rattle.redis_cluster.proofs.Constructors.{same_some}
 use Rattle.redis_cluster.proofs.Planned.{joining, part_is}
-use Rattle.redis_cluster.proofs.SplitParts.{command_of_routes, is_made, part_means}
+use Rattle.redis_cluster.proofs.SplitParts.{command_of_routes, is_made, part_means, pattern_made, policy_made}
 use Rattle.redis_batches.specs.Pipeline.{Task, over_keys}
 use Rattle.redis_batches.specs.Taken.{slot_routed, task_of, task_with}
 use Rattle.redis_batches.specs.Tasks.{AreTasksOf, IsSplitOfTask, all_arguments, part_arguments}
@@ -43,7 +43,8 @@ module _ (names : Names) (args : Arguments) (split : Split) (arguments : split.a
       let found = command_of_routes names args split.routes (joining names args split policy held) (sym routes) in
       let command : MultiKey = found.0 in
       let made = is_made registry args command found.1 in
-      let pattern_is : split.pattern ≡ made.0 = same_some split.pattern made.0 (pattern ∙ ap (pattern_by_name registry) made.1.name ∙ made.1.split) in
+      let pattern_is : split.pattern ≡ made.0 = same_some split.pattern made.0 (pattern ∙ ap (pattern_by_name registry) made.1.name ∙ pattern_made registry args made.0 command made.1) in
+      let policy_is : split.policy ≡ made.1.policy = same_some split.policy made.1.policy (policy ∙ ap (policy_by_name registry) made.1.name ∙ policy_made registry args made.0 command made.1) in
       let Meant : ℕ → Type 0 = λ slot. multi_key registry (split_part split slot) ≡ Some (part_of command slot) in
       let Has : ℕ → Type 0 = λ slot. list_any (λ t. nat_eq (key_slot t.key) slot) command.tuples ≡ true in
       let meant : All Meant (slots_of split.routes) =
@@ -54,7 +55,7 @@ module _ (names : Names) (args : Arguments) (split : Split) (arguments : split.a
         record {
           split_is = held;
           command_is = ap (multi_key registry) arguments ∙ found.1;
-          form = ap form_of_policy (policy ∙ ap (policy_by_name registry) made.1.name) ∙ made.1.form;
+          form = ap form_by_policy policy_is ∙ made.1.form;
           tuples = made.1.whole.tuples ∙ ap (λ p. tuples_of p (present_arguments args)) (sym pattern_is)
               ∙ ap (λ a. tuples_of split.pattern (present_arguments a)) (sym arguments);
           slots = found.2.slots;

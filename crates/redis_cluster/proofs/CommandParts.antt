@@ -22,7 +22,7 @@ use Rattle.redis_routing.specs.Parts.{first_appearances, slot_of, tuples_in_slot
 use Rattle.redis_routing.specs.Routing.{nodes_for, route_of_slot, routes_of}
 use Rattle.redis_cluster.specs.MultiKey.{MultiKey, command_routes, multi_key, part_args_in, part_by_slot, tuple_args, tuples_of_slot}
 use Rattle.redis_cluster.specs.PlacedTuples.{unplaced}
-use Rattle.redis_cluster.proofs.SplitParts.{command_of_routes, filter-map, is_made, no_command, routes_made, same_slots}
+use Rattle.redis_cluster.proofs.SplitParts.{command_of_routes, filter-map, is_made, no_command, pattern_made, routes_made, same_slots}
 
 -- the routes by the command's slots
 pub routes_by_command : (names : Names) (args : Arguments) (command : MultiKey) (routes : List (SlotRoute × List ℕ)) → multi_key names.registered args ≡ Some command → multi_slot_routes names args ≡ Some routes
@@ -77,7 +77,7 @@ part_by_command registry args command slot is =
     let shared : shared_in made.0 present ≡ option_to_list command.shared =
     at_most_one (shared_in made.0 present) (one_shared made.0 present) ∙ ap option_to_list (sym made.1.whole.shared) in
     ap (λ n. part_by_pattern (pattern_by_name registry n) args slot) made.1.name
-    ∙ ap (λ w. part_by_pattern w args slot) made.1.split
+    ∙ ap (λ w. part_by_pattern w args slot) (pattern_made registry args made.0 command made.1)
     ∙ ap (λ texts. words ++ map Some (texts ++ shared_in made.0 present)) tuples
     ∙ ap (λ last. words ++ map Some (flat_map tuple_args (tuples_of_slot slot command.tuples) ++ last)) shared
     ∙ sym (ap (λ c. part_args_in args c slot) is)

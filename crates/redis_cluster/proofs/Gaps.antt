@@ -1,6 +1,7 @@
 -- A command with gaps is the same command as its front.
 use Rattle.std.proofs.Common.{◌≡◌, ℕ, List, [], ◌∷◌, ◌++◌, Bool, cond, Option, None, Some, refl, sym, ap, ◌∙◌, map, take, length}
 use Rattle.std.specs.List.{flat_map}
+use Rattle.std.specs.Prelude.{option_and_then}
 use Rattle.std.specs.Option.{option_to_list}
 use Rattle.redis_routing.specs.Command.{Arguments, command_name}
 use Rattle.redis_routing.specs.Names.{Names}
@@ -14,10 +15,10 @@ use Rattle.redis_routing.specs.Tuples.{is_complete}
 use Rattle.redis_routing.specs.declared.route_by.MultiSlotArgPattern.{MultiSlotArgPattern}
 use Rattle.redis_routing.specs.Complete.{pattern_by_name, routes_by, routes_by_name}
 use Rattle.redis_routing.specs.Routing.{routes_of}
-use Rattle.redis_routing.specs.Split.{policy_by_name}
+use Rattle.redis_routing.specs.MultiKeyNames.{split_of}
 use Rattle.redis_routing.proofs.SelfRouting.{arguments_before_gap-map}
 use Rattle.redis_cluster.specs.Front.{front, IsSameCommand}
-use Rattle.redis_cluster.specs.MultiKey.{MultiKey, command_with, form_of_policy, multi_key, part_args_in, tuple_args, tuples_of_slot}
+use Rattle.redis_cluster.specs.MultiKey.{MultiKey, command_with, form_by_policy, multi_key, part_args_in, tuple_args, tuples_of_slot}
 
 -- the front has the words of the name, and what is present after them
 record IsFront (args : Arguments) : Type 0 where
@@ -82,8 +83,8 @@ module _ (args : Arguments) where
 
   command_same : (registered : Registrations) → multi_key registered (front args) ≡ multi_key registered args
   command_same registered =
-      ap (λ name. command_with registered name (present_arguments (front args)) (pattern_by_name registered name) (form_of_policy (policy_by_name registered name))) same.name
-      ∙ ap (λ present. command_with registered (command_name args) present (pattern_by_name registered (command_name args)) (form_of_policy (policy_by_name registered (command_name args)))) same.present
+      ap (option_and_then (λ name. option_and_then (λ split. command_with registered name (present_arguments (front args)) split.0 (form_by_policy split.1)) (split_of registered name))) same.name
+      ∙ ap (λ present. option_and_then (λ name. option_and_then (λ split. command_with registered name present split.0 (form_by_policy split.1)) (split_of registered name)) (command_name args)) same.present
 
   pub same_command : IsSameCommand args (front args)
   same_command =

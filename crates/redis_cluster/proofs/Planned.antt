@@ -14,10 +14,10 @@ use Rattle.redis_routing.specs.Registry.{Registrations}
 use Rattle.redis_routing.specs.Complete.{multi_slot_routes, part_by_name, part_by_pattern, pattern_by_name}
 use Rattle.redis_routing.specs.Parts.{part_of_slot}
 use Rattle.redis_routing.specs.Split.{Split, IsSplit, HasJoiningPolicy, split_part, policy_by_name, slots_of}
-use Rattle.redis_cluster.specs.MultiKey.{MultiKey, form_of_policy, multi_key, part_by_slot, part_of}
+use Rattle.redis_cluster.specs.MultiKey.{MultiKey, form_by_policy, multi_key, part_by_slot, part_of}
 use Rattle.redis_cluster.specs.PlacedTuples.{tuples_of}
 use Rattle.redis_cluster.proofs.CommandParts.{part_by_command, routes_are}
-use Rattle.redis_cluster.proofs.SplitParts.{command_of_routes, is_made, part_means}
+use Rattle.redis_cluster.proofs.SplitParts.{command_of_routes, is_made, part_means, pattern_made, policy_made}
 use Rattle.redis_cluster.specs.Driven.{Request}
 use Rattle.redis_cluster.specs.Plan.{Plan, IsPlan}
 use Rattle.redis_cluster.specs.Sends.{IsPlanOf}
@@ -60,7 +60,8 @@ module _ (names : Names) (args : Arguments) (plan : Plan) (arguments : plan.spli
       let found = command_of_routes names args plan.split.routes (joining names args plan.split policy whole.split) (sym routes) in
       let command : MultiKey = found.0 in
       let made = is_made registry args command found.1 in
-      let pattern_is : plan.split.pattern ≡ made.0 = same_some plan.split.pattern made.0 (pattern ∙ ap (pattern_by_name registry) made.1.name ∙ made.1.split) in
+      let pattern_is : plan.split.pattern ≡ made.0 = same_some plan.split.pattern made.0 (pattern ∙ ap (pattern_by_name registry) made.1.name ∙ pattern_made registry args made.0 command made.1) in
+      let policy_is : plan.split.policy ≡ made.1.policy = same_some plan.split.policy made.1.policy (policy ∙ ap (policy_by_name registry) made.1.name ∙ policy_made registry args made.0 command made.1) in
       let Meant : ℕ → Type 0 = λ slot. multi_key registry (split_part plan.split slot) ≡ Some (part_of command slot) in
       let Has : ℕ → Type 0 = λ slot. list_any (λ t. nat_eq (key_slot t.key) slot) command.tuples ≡ true in
       let meant : All Meant (slots_of plan.split.routes) =
@@ -70,7 +71,7 @@ module _ (names : Names) (args : Arguments) (plan : Plan) (arguments : plan.spli
         found.1,
         record {
           command_is = ap (multi_key registry) arguments ∙ found.1;
-          form = ap form_of_policy (policy ∙ ap (policy_by_name registry) made.1.name) ∙ made.1.form;
+          form = ap form_by_policy policy_is ∙ made.1.form;
           tuples = made.1.whole.tuples ∙ ap (λ p. tuples_of p (present_arguments args)) (sym pattern_is)
               ∙ ap (λ a. tuples_of plan.split.pattern (present_arguments a)) (sym arguments);
           at_most_once = found.2.at_most_once;

@@ -1,6 +1,6 @@
 -- The parts of a multi-key command: the part of a slot means the command with that slot's tuples alone, and each slot of a key has one route.
 use Rattle.std.proofs.Common.{◌≡◌, ℕ, ◌<◌, ◌≤◌, List, [], ◌∷◌, ◌++◌, Bool, true, false, cond, ◌||◌, Option, None, Some, map, length, get_or, refl, sym, ap, ◌∙◌, subst, arith}
-use Rattle.std.specs.Prelude.{nat_eq, count_by, slice_get, All}
+use Rattle.std.specs.Prelude.{nat_eq, count_by, option_and_then, option_map, slice_get, All}
 use Rattle.std.specs.List.{filter, list_any}
 use Rattle.std.proofs.Math.Path.{fun_ext}
 use Rattle.std.proofs.lemmas.Bool.Decides.{nat_tests}
@@ -13,8 +13,8 @@ use Rattle.redis_routing.specs.Command.{Arguments, command_name}
 use Rattle.redis_routing.specs.Names.{Names}
 use Rattle.redis_routing.specs.Policies.{joins_parts}
 use Rattle.redis_routing.specs.PresentArguments.{present_arguments}
-use Rattle.redis_routing.specs.Registry.{Registrations}
-use Rattle.redis_routing.specs.MultiKeyNames.{registered_as}
+use Rattle.redis_routing.specs.Registry.{Registered, Registrations}
+use Rattle.redis_routing.specs.MultiKeyNames.{registered_as, split_of}
 use Rattle.redis_routing.specs.Tuples.{is_complete, shared_in, tuples_in}
 use Rattle.redis_routing.specs.declared.route_by.MultiSlotArgPattern.{MultiSlotArgPattern}
 use Rattle.redis_routing.specs.declared.policy.AggregateOp.TheVariants.{Min, Sum}
@@ -30,8 +30,9 @@ use Rattle.redis_routing.proofs.Picks.{complete_fits}
 use Rattle.redis_routing.proofs.Patterns.{fits_some}
 use Rattle.redis_routing.proofs.SelfRouting.{All-first_appearances, all_there, complete_again, present_arguments-part, same_contents, shared_again, tuples_again}
 use Rattle.redis_routing.proofs.SomeRoutes.{some_route}
-use Rattle.redis_cluster.specs.MultiKey.{KeyTuple, MultiKey, ReplyForm, list, count, okay, command_with, form_by_policy, form_of_policy, is_whole, multi_key, part_of, shape_of, shared_by, slots_in, tuples_by, tuples_of_slot}
+use Rattle.redis_cluster.specs.MultiKey.{KeyTuple, MultiKey, ReplyForm, list, count, okay, command_with, form_by_policy, is_whole, multi_key, part_of, shape_of, shared_by, slots_in, tuples_by, tuples_of_slot}
 use Rattle.redis_cluster.specs.PlacedTuples.{tuples_of, unplaced}
+use Rattle.redis_cluster.proofs.Constructors.{same_some}
 use Rattle.redis_cluster.proofs.Shapes.{whole_is, tuples_are_placed, shared_is}
 use Rattle.resp_core.proofs.Cases.{by_test}
 
@@ -54,9 +55,17 @@ pub record HasTuples (pattern : MultiSlotArgPattern) (present : List (List ℕ))
 pub record IsMade (registry : Registrations) (args : Arguments) (pattern : MultiSlotArgPattern) (command : MultiKey) : Type 0 where
   pub name : command_name args ≡ Some command.name
   pub registered : command.registered ≡ registered_as registry command.name
-  pub split : pattern_by_name registry (Some command.name) ≡ Some pattern
-  pub form : form_of_policy (policy_by_name registry (Some command.name)) ≡ Some command.form
+  pub policy : ResponsePolicy
+  pub split : split_of registry command.name ≡ Some (pattern, policy)
+  pub form : form_by_policy policy ≡ Some command.form
   pub whole : HasTuples pattern (present_arguments args) command
+
+-- the pattern and the policy of its name
+pub pattern_made : (registry : Registrations) (args : Arguments) (pattern : MultiSlotArgPattern) (command : MultiKey) → IsMade registry args pattern command → pattern_by_name registry (Some command.name) ≡ Some pattern
+pattern_made registry args pattern command made = ap (option_map (λ split. split.0)) made.split
+
+pub policy_made : (registry : Registrations) (args : Arguments) (pattern : MultiSlotArgPattern) (command : MultiKey) (made : IsMade registry args pattern command) → policy_by_name registry (Some command.name) ≡ Some made.policy
+policy_made registry args pattern command made = ap (option_map (λ split. split.1)) made.split
 
 module _ (registry : Registrations) (args : Arguments) where
   abbrev present : List (List ℕ)
@@ -65,29 +74,32 @@ module _ (registry : Registrations) (args : Arguments) where
   abbrev by_parts : List ℕ → MultiSlotArgPattern → ReplyForm → MultiKey
   by_parts name pattern form = record { name = name; registered = registered_as registry name; shared = shared_by (shape_of pattern) present; tuples = tuples_by (shape_of pattern) present; form = form }
 
-  of_length : (command : MultiKey) (name : List ℕ) (pattern : MultiSlotArgPattern) (form : ReplyForm)
-      → command_name args ≡ Some name → pattern_by_name registry (Some name) ≡ Some pattern → form_of_policy (policy_by_name registry (Some name)) ≡ Some form
+  of_length : (command : MultiKey) (name : List ℕ) (pattern : MultiSlotArgPattern) (policy : ResponsePolicy) (form : ReplyForm)
+      → command_name args ≡ Some name → split_of registry name ≡ Some (pattern, policy) → form_by_policy policy ≡ Some form
       → (complete : Bool) → is_whole (shape_of pattern) (length present) ≡ complete → cond complete (Some (by_parts name pattern form)) None ≡ Some command → (pattern : MultiSlotArgPattern) × IsMade registry args pattern command
-  of_length command name pattern form named split formed true complete is =
+  of_length command name pattern policy form named split formed true complete is =
       let same : by_parts name pattern form ≡ command = cc is in
       let whole : is_complete pattern (length present) ≡ true = sym (whole_is pattern (length present)) ∙ complete in
-      (pattern, subst (IsMade registry args pattern) same (record { name = named; registered = refl; split = split; form = formed; whole = record { complete = whole; shared = shared_is pattern present whole; tuples = tuples_are_placed pattern present whole } }))
-  of_length command name pattern form named split formed false complete is = absurd (cc is)
+      (pattern, subst (IsMade registry args pattern) same (record { name = named; registered = refl; policy = policy; split = split; form = formed; whole = record { complete = whole; shared = shared_is pattern present whole; tuples = tuples_are_placed pattern present whole } }))
+  of_length command name pattern policy form named split formed false complete is = absurd (cc is)
 
-  of_form : (command : MultiKey) (name : List ℕ) (pattern : MultiSlotArgPattern) → command_name args ≡ Some name → pattern_by_name registry (Some name) ≡ Some pattern
-      → (form : Option ReplyForm) → form_of_policy (policy_by_name registry (Some name)) ≡ form → command_with registry (Some name) present (Some pattern) form ≡ Some command → (pattern : MultiSlotArgPattern) × IsMade registry args pattern command
-  of_form command name pattern named split None formed is = absurd (cc is)
-  of_form command name pattern named split (Some form) formed is = of_length command name pattern form named split formed (is_whole (shape_of pattern) (length present)) refl is
+  of_form : (command : MultiKey) (name : List ℕ) (pattern : MultiSlotArgPattern) (policy : ResponsePolicy) → command_name args ≡ Some name → split_of registry name ≡ Some (pattern, policy)
+      → (form : Option ReplyForm) → form_by_policy policy ≡ form → command_with registry name present pattern form ≡ Some command → (pattern : MultiSlotArgPattern) × IsMade registry args pattern command
+  of_form command name pattern policy named split None formed is = absurd (cc is)
+  of_form command name pattern policy named split (Some form) formed is = of_length command name pattern policy form named split formed (is_whole (shape_of pattern) (length present)) refl is
 
-  of_pattern : (command : MultiKey) (name : List ℕ) → command_name args ≡ Some name
-      → (w : Option MultiSlotArgPattern) → pattern_by_name registry (Some name) ≡ w → command_with registry (Some name) present w (form_of_policy (policy_by_name registry (Some name))) ≡ Some command → (pattern : MultiSlotArgPattern) × IsMade registry args pattern command
-  of_pattern command name named None split is = absurd (cc is)
-  of_pattern command name named (Some pattern) split is = of_form command name pattern named split (form_of_policy (policy_by_name registry (Some name))) refl is
+  abbrev by_split : List ℕ → Registered → Option MultiKey
+  by_split name split = command_with registry name present split.0 (form_by_policy split.1)
+
+  of_split : (command : MultiKey) (name : List ℕ) → command_name args ≡ Some name
+      → (found : Option Registered) → split_of registry name ≡ found → option_and_then (by_split name) found ≡ Some command → (pattern : MultiSlotArgPattern) × IsMade registry args pattern command
+  of_split command name named None split is = absurd (cc is)
+  of_split command name named (Some (pattern, policy)) split is = of_form command name pattern policy named split (form_by_policy policy) refl is
 
   of_name : (command : MultiKey) (name : Option (List ℕ)) → command_name args ≡ name
-      → command_with registry name present (pattern_by_name registry name) (form_of_policy (policy_by_name registry name)) ≡ Some command → (pattern : MultiSlotArgPattern) × IsMade registry args pattern command
+      → option_and_then (λ n. option_and_then (by_split n) (split_of registry n)) name ≡ Some command → (pattern : MultiSlotArgPattern) × IsMade registry args pattern command
   of_name command None named is = absurd (cc is)
-  of_name command (Some name) named is = of_pattern command name named (pattern_by_name registry (Some name)) refl is
+  of_name command (Some name) named is = of_split command name named (split_of registry name) refl is
 
   -- a command is made of its name and its arguments
   pub is_made : (command : MultiKey) → multi_key registry args ≡ Some command → (pattern : MultiSlotArgPattern) × IsMade registry args pattern command
@@ -97,9 +109,9 @@ module _ (registry : Registrations) (args : Arguments) where
   pub made_is : (pattern : MultiSlotArgPattern) (command : MultiKey) → IsMade registry args pattern command → multi_key registry args ≡ Some command
   made_is pattern command made =
       let whole = made.whole in
-      ap (λ n. command_with registry n present (pattern_by_name registry n) (form_of_policy (policy_by_name registry n))) made.name
-      ∙ ap (λ w. command_with registry (Some command.name) present w (form_of_policy (policy_by_name registry (Some command.name)))) made.split
-      ∙ ap (command_with registry (Some command.name) present (Some pattern)) made.form
+      ap (option_and_then (λ n. option_and_then (by_split n) (split_of registry n))) made.name
+      ∙ ap (option_and_then (by_split command.name)) made.split
+      ∙ ap (command_with registry command.name present pattern) made.form
       ∙ ap (λ complete. cond complete (Some (by_parts command.name pattern command.form)) None) (whole_is pattern (length present) ∙ whole.complete)
       ∙ ap (λ r. Some (record { name = command.name; registered = r; shared = shared_by (shape_of pattern) present; tuples = tuples_by (shape_of pattern) present; form = command.form })) (sym made.registered)
       ∙ ap (λ s. Some (record { name = command.name; registered = command.registered; shared = s; tuples = tuples_by (shape_of pattern) present; form = command.form })) (shared_is pattern present whole.complete ∙ sym whole.shared)
@@ -115,7 +127,7 @@ module _ (registry : Registrations) (args : Arguments) (pattern : MultiSlotArgPa
   texts = arguments_in_slot pattern (present_arguments args) slot
 
   part_is : part_by_name registry args slot ≡ part
-  part_is = ap (λ n. part_by_pattern (pattern_by_name registry n) args slot) made.name ∙ ap (λ w. part_by_pattern w args slot) made.split
+  part_is = ap (λ n. part_by_pattern (pattern_by_name registry n) args slot) made.name ∙ ap (λ w. part_by_pattern w args slot) (pattern_made registry args pattern command made)
 
   placed : list_any (λ t. nat_eq (slot_of t) slot) (tuples_in pattern (present_arguments args)) ≡ true
   placed = sym (list_any-map (λ t. nat_eq (key_slot t.key) slot) unplaced (tuples_in pattern (present_arguments args))) ∙ ap (list_any (λ t. nat_eq (key_slot t.key) slot)) (sym made.whole.tuples) ∙ there
@@ -135,6 +147,7 @@ module _ (registry : Registrations) (args : Arguments) (pattern : MultiSlotArgPa
   part_made = record {
     name = (words_again args some (map Some texts)).0 ∙ made.name;
     registered = made.registered;
+    policy = made.policy;
     split = made.split;
     form = made.form;
     whole = record {
@@ -237,7 +250,7 @@ pub routes_made : (names : Names) (args : Arguments) (pattern : MultiSlotArgPatt
 routes_made names args pattern command made =
     let routes = routes_of (names.only_reads command.name) pattern (present_arguments args) in
     ap (routes_by_name names args) made.name
-    ∙ ap (routes_by (names.only_reads command.name) args) made.split
+    ∙ ap (routes_by (names.only_reads command.name) args) (pattern_made names.registered args pattern command made)
     ∙ ap (λ complete. cond complete (Some routes) None) made.whole.complete
 
 -- a policy that joins the replies to parts has a form of the reply
@@ -257,22 +270,23 @@ module _ (names : Names) (args : Arguments) (routes : List (SlotRoute × List �
   abbrev Found : Type 0
   Found = (command : MultiKey) × (multi_key names.registered args ≡ Some command)
 
-  with_length : (name : List ℕ) (pattern : MultiSlotArgPattern) → command_name args ≡ Some name → pattern_by_name names.registered (Some name) ≡ Some pattern → (complete : Bool) → is_complete pattern (length (present_arguments args)) ≡ complete
+  with_length : (name : List ℕ) (pattern : MultiSlotArgPattern) → command_name args ≡ Some name → split_of names.registered name ≡ Some (pattern, policy) → (complete : Bool) → is_complete pattern (length (present_arguments args)) ≡ complete
       → cond complete (Some (routes_of (names.only_reads name) pattern (present_arguments args))) None ≡ Some routes → Found
   with_length name pattern named split true complete is =
       let form = form_of_joining policy joins in
-      let formed : form_of_policy (policy_by_name names.registered (Some name)) ≡ Some form.0 = ap (λ n. form_of_policy (policy_by_name names.registered n)) (sym named) ∙ ap form_of_policy policy_is ∙ form.1 in
       let command : MultiKey = record { name = name; registered = registered_as names.registered name; shared = slice_get (shared_in pattern (present_arguments args)) 0; tuples = tuples_of pattern (present_arguments args); form = form.0 } in
-      (command, made_is names.registered args pattern command (record { name = named; registered = refl; split = split; form = formed; whole = record { complete = complete; shared = refl; tuples = refl } }))
+      (command, made_is names.registered args pattern command (record { name = named; registered = refl; policy = policy; split = split; form = form.1; whole = record { complete = complete; shared = refl; tuples = refl } }))
   with_length name pattern named split false complete is = absurd (cc is)
 
-  with_pattern : (name : List ℕ) → command_name args ≡ Some name → (w : Option MultiSlotArgPattern) → pattern_by_name names.registered (Some name) ≡ w → routes_by (names.only_reads name) args w ≡ Some routes → Found
-  with_pattern name named None split is = absurd (cc is)
-  with_pattern name named (Some pattern) split is = with_length name pattern named split (is_complete pattern (length (present_arguments args))) refl is
+  with_split : (name : List ℕ) → command_name args ≡ Some name → (found : Option Registered) → split_of names.registered name ≡ found → routes_by (names.only_reads name) args (option_map (λ split. split.0) found) ≡ Some routes → Found
+  with_split name named None split is = absurd (cc is)
+  with_split name named (Some (pattern, joined)) split is =
+      let same : joined ≡ policy = same_some joined policy (sym (ap (option_map (λ found. found.1)) split) ∙ ap (policy_by_name names.registered) (sym named) ∙ policy_is) in
+      with_length name pattern named (split ∙ ap (λ p. Some (pattern, p)) same) (is_complete pattern (length (present_arguments args))) refl is
 
   with_name : (name : Option (List ℕ)) → command_name args ≡ name → routes_by_name names args name ≡ Some routes → Found
   with_name None named is = absurd (cc is)
-  with_name (Some name) named is = with_pattern name named (pattern_by_name names.registered (Some name)) refl is
+  with_name (Some name) named is = with_split name named (split_of names.registered name) refl is
 
   -- is one over many keys
   routed_is_command : multi_slot_routes names args ≡ Some routes → Found

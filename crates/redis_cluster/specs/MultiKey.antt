@@ -1,6 +1,6 @@
 -- A multi-key command as what it means: its name, its keys with what goes with each, and what
 -- they share. Its slots, its routes and the part of each slot are read off that.
-use Rattle.std.specs.Prelude.{◌≡◌, ◌-◌, ◌%◌, ◌/◌, ◌++◌, ◌∷◌, [], ℕ, Bool, ◌&&◌, List, Option, None, Some, cond, map, filter, length, nat_eq, nat_lt, slice_get, take}
+use Rattle.std.specs.Prelude.{◌≡◌, ◌-◌, ◌%◌, ◌/◌, ◌++◌, ◌∷◌, [], ℕ, Bool, ◌&&◌, List, Option, None, Some, cond, map, filter, length, nat_eq, nat_lt, option_and_then, slice_get, take}
 use Rattle.std.specs.List.{All, flat_map}
 use Rattle.std.specs.Option.{option_to_list}
 use Rattle.std.specs.Simd.{first_chunks}
@@ -10,16 +10,14 @@ use Rattle.redis_routing.specs.Command.{Arguments, command_name}
 use Rattle.redis_routing.specs.NameWords.{name_words_of}
 use Rattle.redis_routing.specs.PresentArguments.{present_arguments}
 use Rattle.redis_routing.specs.Registry.{Registered, Registrations}
-use Rattle.redis_routing.specs.MultiKeyNames.{registered_as}
+use Rattle.redis_routing.specs.MultiKeyNames.{registered_as, split_of}
 use Rattle.redis_routing.specs.declared.policy.AggregateOp.TheVariants.{Sum}
 use Rattle.redis_routing.specs.declared.policy.ResponsePolicy.{ResponsePolicy}
 use Rattle.redis_routing.specs.declared.policy.ResponsePolicy.TheVariants.{AllSucceeded, Aggregate, CombineArrays}
 use Rattle.redis_routing.specs.declared.route_by.MultiSlotArgPattern.{MultiSlotArgPattern}
 use Rattle.redis_routing.specs.declared.route_by.MultiSlotArgPattern.TheVariants.{KeysOnly, KeyValuePairs, KeysAndLastArg, KeyWithTwoArgTriples}
-use Rattle.redis_routing.specs.Complete.{pattern_by_name}
 use Rattle.redis_routing.specs.Parts.{first_appearances}
 use Rattle.redis_routing.specs.Routing.{nodes_for}
-use Rattle.redis_routing.specs.Split.{policy_by_name}
 
 -- a key, and the arguments that go with it
 pub record KeyTuple : Type 0 where
@@ -80,9 +78,10 @@ abbrev pub shared_by : Shape → List (List ℕ) → Option (List ℕ)
 shared_by shape args = slice_get args (length args - shape.shared)
 
 -- the command of a name with these arguments, if they are complete
-abbrev pub command_with : Registrations → Option (List ℕ) → List (List ℕ)
-    → Option MultiSlotArgPattern → Option ReplyForm → Option MultiKey
-command_with registered (Some name) present (Some pattern) (Some form) =
+abbrev pub command_with : Registrations → List ℕ → List (List ℕ) → MultiSlotArgPattern → Option ReplyForm
+    → Option MultiKey
+command_with registered name present pattern None = None
+command_with registered name present pattern (Some form) =
     cond (is_whole (shape_of pattern) (length present))
     (Some (record {
       name = name;
@@ -91,20 +90,14 @@ command_with registered (Some name) present (Some pattern) (Some form) =
       tuples = tuples_by (shape_of pattern) present;
       form = form;
     })) None
-command_with registered name present pattern form = None
-
--- what a policy that is there says
-abbrev pub form_of_policy : Option ResponsePolicy → Option ReplyForm
-form_of_policy None = None
-form_of_policy (Some policy) = form_by_policy policy
 
 -- A complete multi-key command. Its name is one of the nine or registered. The arguments after it,
 -- up to the first gap, make whole tuples. If all keys share an argument, it is there.
 abbrev pub multi_key : Registrations → Arguments → Option MultiKey
 multi_key registered args =
-    command_with registered (command_name args) (present_arguments args)
-    (pattern_by_name registered (command_name args))
-    (form_of_policy (policy_by_name registered (command_name args)))
+    option_and_then (λ name. option_and_then
+    (λ split. command_with registered name (present_arguments args) split.0 (form_by_policy split.1))
+    (split_of registered name)) (command_name args)
 
 -- the tuples whose key has the slot, in their order
 abbrev pub tuples_of_slot : ℕ → List KeyTuple → List KeyTuple
