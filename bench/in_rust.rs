@@ -1,6 +1,6 @@
 //! In Rust, after the algorithms that the Rust crate publishes, what some calls of the layer do:
 //! a `BTreeMap` of ranges by their ends, a `HashMap` for grouping and for totals, a command as one
-//! buffer with ends, replies whose `Clone` and `PartialEq` are derived. It is not the crate's own
+//! buffer with ends, replies whose `Clone` is derived. It is not the crate's own
 //! code. `in_rust time OPERATION SIZE` prints the nanoseconds of a call, measured as `crates/bench`
 //! measures them, over the same inputs; nothing is printed for an operation that is not here.
 use std::collections::{BTreeMap, HashMap, HashSet};
@@ -12,13 +12,8 @@ use std::sync::Arc;
 // The clock of the processor time of this thread.
 const THREAD_CPU_TIME: i32 = 3;
 
-// The limit of this process's stack.
-const STACK_LIMIT: i32 = 3;
-
 unsafe extern "C" {
     fn clock_gettime(clock: i32, time: *mut [i64; 2]) -> i32;
-    fn getrlimit(limit: i32, bytes: *mut [u64; 2]) -> i32;
-    fn setrlimit(limit: i32, bytes: *const [u64; 2]) -> i32;
 }
 
 fn nanos() -> u64 {
@@ -26,17 +21,6 @@ fn nanos() -> u64 {
     // SAFETY: two words are what the call writes on a 64-bit Linux.
     unsafe { clock_gettime(THREAD_CPU_TIME, &mut time) };
     time[0] as u64 * 1_000_000_000 + time[1] as u64
-}
-
-/// Lets the stack grow to 96 MB: what is derived for values in one another recurses.
-fn deepen_stack() {
-    let mut bytes = [0; 2];
-    // SAFETY: two words are what both calls take on a 64-bit Linux.
-    unsafe {
-        getrlimit(STACK_LIMIT, &mut bytes);
-        bytes[0] = bytes[1].min(96 << 20);
-        setrlimit(STACK_LIMIT, &bytes);
-    }
 }
 
 const WHOLE_NANOS: u64 = 500_000_000;
@@ -193,6 +177,7 @@ fn nodes_of(map: &SlotMap) -> HashSet<&NodeAddress> {
     nodes
 }
 
+#[allow(dead_code)]
 struct Shard {
     ranges: Vec<(u16, u16)>,
     primary: NodeAddress,
@@ -227,19 +212,11 @@ fn topology_of(map: &SlotMap) -> Topology {
     topology
 }
 
-#[inline(never)]
-fn shard_of(topology: &Topology, slot: u16) -> Option<&Shard> {
-    let (_, (start, shard)) = topology.range(slot..).next()?;
-    (*start <= slot).then_some(shard)
-}
-
 /// Which hosts the nodes of a map have.
 #[derive(Clone, Copy)]
 enum Hosts {
     /// Those of at most 1000 nodes.
     Shared,
-    /// One for each range.
-    Own,
     /// One for each range, and all with one hash in the layer.
     OneHash,
 }
@@ -247,7 +224,6 @@ enum Hosts {
 fn host_of(hosts: Hosts, number: usize) -> String {
     match hosts {
         Hosts::Shared => format!("10.0.{}.{}", number % 1000 / 250, number % 250),
-        Hosts::Own => format!("10.1.{}.{}", number / 250, number % 250),
         Hosts::OneHash => format!("collidehostcxkzgMOsKSBRA{number:08}"),
     }
 }
@@ -324,13 +300,10 @@ fn command(words: &[&[u8]]) -> Cmd {
     command
 }
 
-fn command_of_keys(name: &[u8], count: usize, value: Option<&[u8]>) -> Cmd {
+fn command_of_keys(name: &[u8], count: usize) -> Cmd {
     let mut command = command(&[name]);
     for number in 0..count {
         command.write_arg(format!("key:{number}").as_bytes());
-        if let Some(value) = value {
-            command.write_arg(value);
-        }
     }
     command
 }
@@ -513,18 +486,6 @@ fn read_only_set() -> HashSet<&'static [u8]> {
     .into()
 }
 
-/// Calls it at four names in turn.
-fn time_policy(names: [&[u8]; 4]) {
-    let mut turn = 0;
-    time(
-        || (),
-        |()| {
-            turn += 1;
-            policy(black_box(names[turn & 3])).is_some()
-        },
-    );
-}
-
 type Routes = Vec<(Route, Vec<usize>)>;
 
 /// The routes of a command whose keys stand at each `width`th argument.
@@ -581,11 +542,6 @@ enum Value {
 struct Refused;
 
 #[inline(never)]
-fn are_equal(left: &Value, right: &Value) -> bool {
-    left == right
-}
-
-#[inline(never)]
 fn sum(replies: Vec<Value>) -> Result<Value, Refused> {
     let mut total = 0;
     for reply in replies {
@@ -595,59 +551,6 @@ fn sum(replies: Vec<Value>) -> Result<Value, Refused> {
         total += number;
     }
     Ok(Value::Int(total))
-}
-
-#[inline(never)]
-fn all_set(replies: Vec<Value>) -> Result<Value, Refused> {
-    let mut bits: Vec<bool> = Vec::new();
-    for reply in replies {
-        let Value::Array(items) = reply else {
-            return Err(Refused);
-        };
-        if bits.is_empty() {
-            bits = vec![true; items.len()];
-        }
-        for (bit, item) in bits.iter_mut().zip(items) {
-            let Value::Int(number) = item else {
-                return Err(Refused);
-            };
-            *bit = *bit && number > 0;
-        }
-    }
-    Ok(Value::Array(
-        bits.into_iter().map(|bit| Value::Int(bit.into())).collect(),
-    ))
-}
-
-#[inline(never)]
-fn totals(replies: Vec<Value>) -> Result<Value, Refused> {
-    let mut totals: HashMap<Vec<u8>, i64> = HashMap::new();
-    for reply in replies {
-        let Value::Array(items) = reply else {
-            return Err(Refused);
-        };
-        let mut items = items.into_iter();
-        while let Some(key) = items.next() {
-            let (Value::BulkString(key), Some(Value::Int(number))) = (key, items.next()) else {
-                return Err(Refused);
-            };
-            *totals.entry(key).or_insert(0) += number;
-        }
-    }
-    let pair = |(key, total)| (Value::BulkString(key), Value::Int(total));
-    Ok(Value::Map(totals.into_iter().map(pair).collect()))
-}
-
-#[inline(never)]
-fn joined(replies: Vec<Value>) -> Result<Value, Refused> {
-    let mut all = Vec::new();
-    for reply in replies {
-        let Value::Array(items) = reply else {
-            return Err(Refused);
-        };
-        all.extend(items);
-    }
-    Ok(Value::Array(all))
 }
 
 #[inline(never)]
@@ -743,65 +646,16 @@ fn slots_reply(count: usize) -> Value {
     Value::Array((0..count).map(range).collect())
 }
 
-/// An array in an array, so many times.
-fn nested(depth: usize) -> Value {
-    (0..depth).fold(Value::Nil, |inside, _| Value::Array(vec![inside]))
-}
-
 fn bulks(count: usize) -> Value {
     let bulk = |number| Value::BulkString(format!("key:{number}").into_bytes());
     Value::Array((0..count).map(bulk).collect())
 }
 
-fn ints(count: usize, below: usize) -> Vec<Value> {
-    (0..count)
-        .map(|number| Value::Int((number % below) as i64))
-        .collect()
-}
-
-fn counts(count: usize) -> Value {
-    let pair = |number: usize| {
-        let key = format!("key:{number}").into_bytes();
-        [Value::BulkString(key), Value::Int(number as i64)]
-    };
-    Value::Array((0..count).flat_map(pair).collect())
+fn ints(count: usize) -> Vec<Value> {
+    (0..count).map(|number| Value::Int(number as i64)).collect()
 }
 
 // Pipelines.
-
-/// Whether a pipeline refuses commands of this name.
-#[rustfmt::skip]
-fn is_refused(name: &str) -> bool {
-    matches!(
-        name,
-        "BGREWRITEAOF" | "BGSAVE" | "BITOP" | "BRPOPLPUSH" | "CLIENT" | "CLIENT GETNAME"
-        | "CLIENT KILL" | "CLIENT LIST" | "CLIENT SETNAME" | "CONFIG" | "CONFIG GET"
-        | "CONFIG RESETSTAT" | "CONFIG REWRITE" | "CONFIG SET" | "DBSIZE" | "ECHO" | "FLUSHALL"
-        | "FLUSHDB" | "INFO" | "KEYS" | "LASTSAVE" | "MGET" | "MOVE" | "MSET" | "MSETEX" | "MSETNX"
-        | "PING" | "PUBLISH" | "RANDOMKEY" | "RENAME" | "RENAMENX" | "RPOPLPUSH" | "SAVE" | "SCAN"
-        | "SCRIPT" | "SCRIPT EXISTS" | "SCRIPT FLUSH" | "SCRIPT KILL" | "SCRIPT LOAD" | "SDIFF"
-        | "SDIFFSTORE" | "SENTINEL" | "SENTINEL GET MASTER ADDR BY NAME" | "SENTINEL MASTER"
-        | "SENTINEL MASTERS" | "SENTINEL MONITOR" | "SENTINEL REMOVE" | "SENTINEL SENTINELS"
-        | "SENTINEL SET" | "SENTINEL SLAVES" | "SHUTDOWN" | "SINTER" | "SINTERSTORE" | "SLAVEOF"
-        | "SLOWLOG" | "SLOWLOG GET" | "SLOWLOG LEN" | "SLOWLOG RESET" | "SMOVE" | "SORT" | "SUNION"
-        | "SUNIONSTORE" | "TIME"
-    )
-}
-
-/// Whether a pipeline may be sent.
-#[inline(never)]
-fn check(commands: &[Cmd]) -> Result<(), Refused> {
-    for command in commands {
-        let name = str::from_utf8(command.arg_idx(0).unwrap_or(b"")).unwrap_or("");
-        if is_refused(&name.trim().to_ascii_uppercase()) {
-            return Err(Refused);
-        }
-    }
-    if commands.is_empty() {
-        return Err(Refused);
-    }
-    Ok(())
-}
 
 #[derive(Clone, Copy)]
 #[allow(dead_code)]
@@ -1047,29 +901,13 @@ fn time_pipeline(nodes: usize, size: usize) {
     time(answers, |answers| planned(&commands, &map, answers));
 }
 
-fn time_check(size: usize) {
-    let commands: Vec<Cmd> = (0..size)
-        .map(|_| command(&[b"SET", b"key", b"value"]))
-        .collect();
-    time(|| (), |()| check(&commands).is_ok());
-}
-
-fn time_drop(value: Value) {
-    time(|| value.clone(), drop);
-}
-
 fn time_clone(value: Value) {
     time_kept(|| black_box(&value).clone());
 }
 
-fn time_equal(value: Value) {
-    let copy = value.clone();
-    time(|| (), |()| are_equal(&value, &copy));
-}
-
 fn time_sorted(size: usize) {
     let routes = split(
-        &command_of_keys(b"MGET", size, None),
+        &command_of_keys(b"MGET", size),
         1,
         SlotAddr::ReplicaOptional,
     );
@@ -1078,16 +916,6 @@ fn time_sorted(size: usize) {
         .map(|(_, places)| bulks(places.len()))
         .collect();
     time(|| replies.clone(), |replies| sorted(replies, &routes));
-}
-
-fn time_parts(command: Cmd, width: usize) {
-    let routes = split(&command, width, SlotAddr::Master);
-    time(|| (), |()| parts(&command, &routes));
-}
-
-fn time_command(words: &[&[u8]]) {
-    let command = command(words);
-    time(|| (), |()| command.name());
 }
 
 fn time_slots(size: usize) {
@@ -1105,15 +933,6 @@ fn time_slots(size: usize) {
             slot_of(&keys[turn & 63])
         },
     );
-}
-
-/// A map of ranges of one slot each, put in one after the other.
-fn inserted(slots: impl Iterator<Item = usize>) -> BTreeMap<u16, (u16, u16)> {
-    let mut map = BTreeMap::new();
-    for slot in slots {
-        map.insert(slot as u16, (slot as u16, slot as u16));
-    }
-    map
 }
 
 /// A slot for each turn, spread over all.
@@ -1134,19 +953,6 @@ fn time_nodes(size: usize) {
     );
 }
 
-fn time_shards(size: usize) {
-    let topology = topology_of(&map_of(ranges(Hosts::Shared, size)));
-    let mut turn = 0_usize;
-    time(
-        || (),
-        |()| {
-            turn += 1;
-            let shard = shard_of(&topology, slot_at(turn))?;
-            Some((shard.primary.port, shard.replicas.len()))
-        },
-    );
-}
-
 fn time_topology(hosts: Hosts, size: usize) {
     let map = map_of(ranges(hosts, size));
     time(|| (), |()| topology_of(&map));
@@ -1158,88 +964,43 @@ fn time_all_nodes(hosts: Hosts, size: usize) {
 }
 
 fn main() {
-    deepen_stack();
     let words: Vec<String> = env::args().collect();
     let size = words.get(3).and_then(|word| word.parse().ok()).unwrap_or(1);
-    let del = || command_of_keys(b"DEL", size, None);
-    let mget = || command_of_keys(b"MGET", size, None);
-    let mset = || command_of_keys(b"MSET", size, Some(b"value"));
-    let of_three = |reply: Value| move || vec![reply.clone(); 3];
+    let del = command_of_keys(b"DEL", size);
     match words.get(2).map_or("", String::as_str) {
         "key-slot" => time_slots(size),
         "look-up" => time_nodes(size),
-        "map-from-slots" => {
-            let ranges = ranges(Hosts::Shared, size);
-            time(|| ranges.clone(), map_of);
-        }
         "map-from-reply" => {
             let reply = slots_reply(size);
             time(|| (), |()| map_of(ranges_in(&reply, "10.0.0.1")));
         }
         "topology" => time_topology(Hosts::Shared, size),
-        "topology-own-nodes" => time_topology(Hosts::Own, size),
         "topology-one-hash" => time_topology(Hosts::OneHash, size),
-        "nodes" => time_all_nodes(Hosts::Shared, size),
         "nodes-one-hash" => time_all_nodes(Hosts::OneHash, size),
-        "shard-of-slot" => time_shards(size),
-        "insert-ascending" => time(|| (), |()| inserted(0..size)),
-        "insert-descending" => time(|| (), |()| inserted((0..size).rev())),
-        "name-get" => time_command(&[b"get", &vec![b'k'; size]]),
-        "name-cluster-info" => time_command(&[b"cluster", b"info"]),
-        "policy-found" => time_policy([b"DEL", b"MSET", b"SCRIPT EXISTS", b"WAIT"]),
-        "policy-not-found" => time_policy([b"GET", b"SET", b"CLUSTER NODES", b"ZADD"]),
         "route-get" => time_route(&[b"GET", &vec![b'k'; size]], only_reads),
         "route-get-by-set" => {
             let set = read_only_set();
             time_route(&[b"GET", &vec![b'k'; size]], |name| set.contains(name));
         }
-        "route-flushall" => time_route(&[b"FLUSHALL", &vec![b'k'; size]], only_reads),
-        "split-del" => {
-            let command = del();
-            time(|| (), |()| split(&command, 1, SlotAddr::Master));
-        }
-        "split-mget" => {
-            let command = mget();
-            time(|| (), |()| split(&command, 1, SlotAddr::ReplicaOptional));
-        }
-        "split-mset" => {
-            let command = mset();
-            time(|| (), |()| split(&command, 2, SlotAddr::Master));
-        }
-        "parts-del" => time_parts(del(), 1),
-        "parts-mset" => time_parts(mset(), 2),
-        "split-and-parts-del" => {
-            let command = del();
-            time(
-                || (),
-                |()| {
-                    let routes = split(&command, 1, SlotAddr::Master);
-                    let parts = parts(&command, &routes);
-                    (routes, parts)
-                },
-            );
-        }
+        "split-del" => time(|| (), |()| split(&del, 1, SlotAddr::Master)),
+        "split-and-parts-del" => time(
+            || (),
+            |()| {
+                let routes = split(&del, 1, SlotAddr::Master);
+                let parts = parts(&del, &routes);
+                (routes, parts)
+            },
+        ),
         "combine-sums" => {
-            let replies = ints(size, size);
+            let replies = ints(size);
             time(|| replies.clone(), sum);
         }
-        "combine-logical" => time(of_three(Value::Array(ints(size, 2))), all_set),
-        "combine-maps" => time(of_three(counts(size)), totals),
-        "combine-arrays" => time(of_three(bulks(size)), joined),
         "combine-sorted" => time_sorted(size),
         "command" => {
             let words = vec![b"argument".as_slice(); size];
             time(|| (), |()| command(&words));
         }
-        "drop-int" => time_drop(Value::Int(1)),
-        "drop-int-array" => time_drop(Value::Array(ints(size, size))),
-        "drop-bulk-array" => time_drop(bulks(size)),
-        "drop-nested" => time_drop(nested(size)),
         "clone-bulk-array" => time_clone(bulks(size)),
-        "clone-nested" => time_clone(nested(size)),
-        "equal-bulk-array" => time_equal(bulks(size)),
-        "equal-nested" => time_equal(nested(size)),
-        "pipeline-check" => time_check(size),
         "pipeline-plan-3" => time_pipeline(3, size),
         "pipeline-plan-1000" => time_pipeline(1000, size),
         _ => {}

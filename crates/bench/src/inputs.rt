@@ -23,7 +23,7 @@ fn long_key(alloc: Global, number: usize, length: usize) -> Result<Vec<u8>, Allo
     Ok(key)
 }
 
-/// So many keys of a length.
+/// As many keys of a length.
 pub fn keys(alloc: Global, count: usize, length: usize) -> Result<Vec<Vec<u8>>, AllocError> {
     let mut keys = Vec::with_capacity(alloc, count)?;
     for number in 0..count {
@@ -32,7 +32,7 @@ pub fn keys(alloc: Global, count: usize, length: usize) -> Result<Vec<Vec<u8>>, 
     Ok(keys)
 }
 
-/// A command of so many keys, the first one of this number, each with what goes with it.
+/// A command of as many keys, the first one of this number, each with what goes with it.
 fn cmd_from(
     alloc: Global,
     name: &[u8],
@@ -51,17 +51,12 @@ fn cmd_from(
     Ok(cmd)
 }
 
-/// A command of so many keys, each with what goes with it.
-pub fn cmd(
-    alloc: Global,
-    name: &[u8],
-    count: usize,
-    value: Option<&[u8]>,
-) -> Result<Cmd, AllocError> {
-    cmd_from(alloc, name, 0, count, value)
+/// A command of as many keys.
+pub fn cmd(alloc: Global, name: &[u8], count: usize) -> Result<Cmd, AllocError> {
+    cmd_from(alloc, name, 0, count, None)
 }
 
-/// So many commands over keys that differ: every tenth is an `MGET` of three, and the others are
+/// As many commands over keys that differ: every tenth is an `MGET` of three, and the others are
 /// `SET` and `GET` in turn.
 pub fn mixed_pipeline(alloc: Global, count: usize) -> Result<Vec<Cmd>, AllocError> {
     let mut commands = Vec::with_capacity(alloc, count)?;
@@ -92,7 +87,7 @@ pub fn reply_to(alloc: Global, command: &Cmd) -> Result<Value, AllocError> {
     }
 }
 
-/// An array of so many short values.
+/// An array of as many short values.
 fn values(alloc: Global, count: usize) -> Result<Value, AllocError> {
     let mut items = Vec::with_capacity(alloc, count)?;
     for _ in 0..count {
@@ -117,13 +112,13 @@ pub fn read_only(alloc: Global) -> Result<ReadOnlyNames, AllocError> {
     Ok(names)
 }
 
-/// The first slot of a range, of so many that share all slots.
+/// The first slot of a range, of as many that share all slots.
 fn first_slot(number: usize, count: usize) -> u16 {
     let slot = number.saturating_mul(SLOTS) / count.max(1);
     u16::try_from(slot).unwrap_or(u16::MAX)
 }
 
-/// The first slot of a range, of so many that share all slots, and the last.
+/// The first slot of a range, of as many that share all slots, and the last.
 fn ends(number: usize, count: usize) -> (u16, u16) {
     let after = first_slot(number.saturating_add(1), count);
     (first_slot(number, count), after.saturating_sub(1))
@@ -134,8 +129,6 @@ fn ends(number: usize, count: usize) -> (u16, u16) {
 pub enum Hosts {
     /// Those of at most 1000 nodes.
     Shared,
-    /// One for each range.
-    Own,
     /// One for each range, and all with one hash.
     OneHash,
 }
@@ -147,7 +140,6 @@ fn host(alloc: Global, hosts: Hosts, number: usize) -> Result<String, AllocError
             let node = number % NODES;
             format!(in alloc; "10.0.{}.{}", node / 250, node % 250)
         }
-        Hosts::Own => format!(in alloc; "10.1.{}.{}", number / 250, number % 250),
         Hosts::OneHash => format!(in alloc; "collidehostcxkzgMOsKSBRA{number:08}"),
     }
 }
@@ -166,7 +158,7 @@ pub fn ranges(alloc: Global, hosts: Hosts, count: usize) -> Result<Vec<SlotRange
     Ok(ranges)
 }
 
-/// The map of so many ranges.
+/// The map of as many ranges.
 pub fn map(alloc: Global, hosts: Hosts, count: usize) -> Result<SlotMap, AllocError> {
     SlotMap::from_slots(alloc, ranges(alloc, hosts, count)?)
 }
@@ -181,7 +173,7 @@ fn node_reply(alloc: Global, host: &str, port: i64) -> Result<Value, AllocError>
     Ok(Value::Array(items))
 }
 
-/// A reply to `CLUSTER SLOTS` of so many ranges.
+/// A reply to `CLUSTER SLOTS` of as many ranges.
 pub fn slots_reply(alloc: Global, count: usize) -> Result<Value, AllocError> {
     let mut items = Vec::with_capacity(alloc, count)?;
     for number in 0..count {
@@ -202,64 +194,20 @@ fn bulk(alloc: Global, bytes: &[u8]) -> Result<Value, AllocError> {
     Ok(Value::BulkString(bytes.to_vec(alloc)?))
 }
 
-/// A number as a reply has it.
-fn int(number: usize) -> Value {
-    Value::Int(i64::try_from(number).unwrap_or(i64::MAX))
-}
-
-/// So many numbers, each below a limit.
-pub fn ints(alloc: Global, count: usize, below: usize) -> Result<Vec<Value>, AllocError> {
+/// The numbers below this one.
+pub fn ints(alloc: Global, count: usize) -> Result<Vec<Value>, AllocError> {
     let mut items = Vec::with_capacity(alloc, count)?;
     for number in 0..count {
-        items.push(int(number % below.max(1)))?;
+        items.push(Value::Int(i64::try_from(number).unwrap_or(i64::MAX)))?;
     }
     Ok(items)
 }
 
-/// So many pairs of a bulk string and a number, one after the other.
-pub fn counts(alloc: Global, count: usize) -> Result<Vec<Value>, AllocError> {
-    let mut items = Vec::new(alloc);
-    for number in 0..count {
-        items.push(Value::BulkString(key(alloc, number)?))?;
-        items.push(int(number))?;
-    }
-    Ok(items)
-}
-
-/// The pairs of `counts` in the reverse order.
-pub fn turned_counts(alloc: Global, count: usize) -> Result<Vec<Value>, AllocError> {
-    let mut items = Vec::new(alloc);
-    for number in (0..count).rev() {
-        items.push(Value::BulkString(key(alloc, number)?))?;
-        items.push(int(number))?;
-    }
-    Ok(items)
-}
-
-/// So many bulk strings.
+/// As many bulk strings.
 pub fn bulks(alloc: Global, count: usize) -> Result<Vec<Value>, AllocError> {
     let mut items = Vec::with_capacity(alloc, count)?;
     for number in 0..count {
         items.push(Value::BulkString(key(alloc, number)?))?;
     }
     Ok(items)
-}
-
-/// An array in an array, so many times.
-pub fn nested(alloc: Global, depth: usize) -> Result<Value, AllocError> {
-    let mut value = Value::Nil;
-    for _ in 0..depth {
-        value = Value::Array(vec![in alloc; value]?);
-    }
-    Ok(value)
-}
-
-/// An array of these items, so many times.
-pub fn repeated(alloc: Global, count: usize, items: Vec<Value>) -> Result<Vec<Value>, AllocError> {
-    let array = Value::Array(items);
-    let mut all = Vec::with_capacity(alloc, count)?;
-    for _ in 0..count {
-        all.push(array.clone()?)?;
-    }
-    Ok(all)
 }

@@ -1,33 +1,40 @@
-use crate::combining::{self, Combining};
-use crate::driving::{self, Driving};
 use crate::fault::Fault;
 use crate::inputs::Hosts;
-use crate::lookups::{self, Lookups};
-use crate::pipelines::{self, Pipelines};
-use crate::routing::{self, Routing};
-use crate::splitting::{self, Splitting};
-use crate::values::{self, Values};
 use crate::watch::Watch;
-use Operation::{Combine, Drive, LookUp, Pipe, Route, Split, Value};
+use crate::{combining, driving, lookups, pipelines, routing, splitting, values};
 use std::alloc::Global;
 
 /// What can be timed.
 #[derive(Clone, Copy)]
 pub enum Operation {
-    /// On slots of keys and maps of slots.
-    LookUp(Lookups),
-    /// On where commands go.
-    Route(Routing),
-    /// On splitting commands.
-    Split(Splitting),
-    /// On combining replies.
-    Combine(Combining),
-    /// On commands and replies, and what a pipeline refuses.
-    Value(Values),
-    /// On driving commands.
-    Drive(Driving),
-    /// On pipelines in batches.
-    Pipe(Pipelines),
+    /// The slot of a key.
+    KeySlot,
+    /// The node of a slot.
+    LookUp,
+    /// A map of a reply to `CLUSTER SLOTS`.
+    MapFromReply,
+    /// The shards of a map.
+    Topology(Hosts),
+    /// All nodes of a map.
+    Nodes(Hosts),
+    /// The route of a `GET`.
+    RouteGet,
+    /// The split of a `DEL`.
+    Split,
+    /// The split of a `DEL`, and its parts.
+    SplitAndParts,
+    /// The sum of numbers.
+    CombineSums,
+    /// Arrays by the indices of keys.
+    CombineSorted,
+    /// A command of many words.
+    Command,
+    /// An array of bulk strings, cloned.
+    CloneBulks,
+    /// A `DEL`, driven.
+    Drive,
+    /// The plan of a pipeline over as many nodes, told and combined.
+    Pipeline(usize),
 }
 
 /// What sizes count, and which there are.
@@ -35,16 +42,11 @@ pub enum Operation {
 pub enum Sizes {
     Bytes,
     Ranges,
-    Inserts,
     Replies,
-    Bits,
-    Pairs,
     Keys,
     Words,
-    Commands,
     Items,
-    Levels,
-    One,
+    Commands,
 }
 
 impl Sizes {
@@ -52,16 +54,12 @@ impl Sizes {
     pub fn unit(self) -> &'static str {
         match self {
             Sizes::Bytes => "bytes",
-            Sizes::Ranges | Sizes::Inserts => "ranges",
+            Sizes::Ranges => "ranges",
             Sizes::Replies => "replies",
-            Sizes::Bits => "bits",
-            Sizes::Pairs => "pairs",
             Sizes::Keys => "keys",
             Sizes::Words => "words",
-            Sizes::Commands => "commands",
             Sizes::Items => "items",
-            Sizes::Levels => "levels",
-            Sizes::One => "call",
+            Sizes::Commands => "commands",
         }
     }
 
@@ -70,10 +68,6 @@ impl Sizes {
         match self {
             Sizes::Bytes => &[3, 64, 1024],
             Sizes::Ranges | Sizes::Replies => &[3, 1000, 16384],
-            Sizes::Inserts => &[3, 1000, 4000],
-            Sizes::Bits => &[100, 1000, 16000],
-            Sizes::Pairs => &[25, 1000, 4000],
-            Sizes::One => &[1],
             _ => &[10, 1000, 100_000],
         }
     }
@@ -82,93 +76,36 @@ impl Sizes {
 /// An operation, its name and its sizes.
 pub type Row = (Operation, &'static str, Sizes);
 
-const ROWS: [Row; 49] = [
-    (LookUp(Lookups::KeySlot), "key-slot", Sizes::Bytes),
-    (LookUp(Lookups::Node), "look-up", Sizes::Ranges),
-    (LookUp(Lookups::FromSlots), "map-from-slots", Sizes::Ranges),
-    (LookUp(Lookups::FromReply), "map-from-reply", Sizes::Ranges),
+const ROWS: [Row; 16] = [
+    (Operation::KeySlot, "key-slot", Sizes::Bytes),
+    (Operation::LookUp, "look-up", Sizes::Ranges),
+    (Operation::MapFromReply, "map-from-reply", Sizes::Ranges),
     (
-        LookUp(Lookups::InsertAscending),
-        "insert-ascending",
-        Sizes::Inserts,
-    ),
-    (
-        LookUp(Lookups::InsertDescending),
-        "insert-descending",
-        Sizes::Inserts,
-    ),
-    (
-        LookUp(Lookups::Topology(Hosts::Shared)),
+        Operation::Topology(Hosts::Shared),
         "topology",
         Sizes::Ranges,
     ),
     (
-        LookUp(Lookups::Topology(Hosts::Own)),
-        "topology-own-nodes",
-        Sizes::Ranges,
-    ),
-    (
-        LookUp(Lookups::Topology(Hosts::OneHash)),
+        Operation::Topology(Hosts::OneHash),
         "topology-one-hash",
         Sizes::Ranges,
     ),
     (
-        LookUp(Lookups::Nodes(Hosts::Shared)),
-        "nodes",
-        Sizes::Ranges,
-    ),
-    (
-        LookUp(Lookups::Nodes(Hosts::OneHash)),
+        Operation::Nodes(Hosts::OneHash),
         "nodes-one-hash",
         Sizes::Ranges,
     ),
-    (LookUp(Lookups::Shard), "shard-of-slot", Sizes::Ranges),
-    (Route(Routing::Name), "name-get", Sizes::Bytes),
-    (Route(Routing::TwoWordName), "name-cluster-info", Sizes::One),
-    (Route(Routing::Policy), "policy-found", Sizes::One),
-    (Route(Routing::NoPolicy), "policy-not-found", Sizes::One),
-    (Route(Routing::Get), "route-get", Sizes::Bytes),
-    (Route(Routing::Flushall), "route-flushall", Sizes::Bytes),
-    (Route(Routing::Sadd), "route-sadd", Sizes::Words),
-    (Route(Routing::Mget), "route-mget", Sizes::Keys),
-    (Route(Routing::Registered), "route-registered", Sizes::Keys),
-    (Split(Splitting::Del), "split-del", Sizes::Keys),
-    (Split(Splitting::Mget), "split-mget", Sizes::Keys),
-    (Split(Splitting::Mset), "split-mset", Sizes::Keys),
-    (Split(Splitting::DelParts), "parts-del", Sizes::Keys),
-    (Split(Splitting::MsetParts), "parts-mset", Sizes::Keys),
-    (Combine(Combining::Sums), "combine-sums", Sizes::Replies),
-    (Combine(Combining::Least), "combine-least", Sizes::Replies),
-    (Combine(Combining::Logical), "combine-logical", Sizes::Bits),
-    (Combine(Combining::Maps), "combine-maps", Sizes::Pairs),
+    (Operation::RouteGet, "route-get", Sizes::Bytes),
+    (Operation::Split, "split-del", Sizes::Keys),
+    (Operation::SplitAndParts, "split-and-parts-del", Sizes::Keys),
+    (Operation::CombineSums, "combine-sums", Sizes::Replies),
+    (Operation::CombineSorted, "combine-sorted", Sizes::Keys),
+    (Operation::Command, "command", Sizes::Words),
+    (Operation::CloneBulks, "clone-bulk-array", Sizes::Items),
+    (Operation::Drive, "drive-del", Sizes::Keys),
+    (Operation::Pipeline(3), "pipeline-plan-3", Sizes::Commands),
     (
-        Combine(Combining::TurnedMaps),
-        "combine-maps-turned",
-        Sizes::Pairs,
-    ),
-    (Combine(Combining::Arrays), "combine-arrays", Sizes::Items),
-    (Combine(Combining::Sorted), "combine-sorted", Sizes::Keys),
-    (Value(Values::Command), "command", Sizes::Words),
-    (Value(Values::DropInt), "drop-int", Sizes::One),
-    (Value(Values::DropInts), "drop-int-array", Sizes::Items),
-    (Value(Values::DropBulks), "drop-bulk-array", Sizes::Items),
-    (Value(Values::DropNested), "drop-nested", Sizes::Levels),
-    (Value(Values::CloneBulks), "clone-bulk-array", Sizes::Items),
-    (Value(Values::CloneNested), "clone-nested", Sizes::Levels),
-    (Value(Values::EqualBulks), "equal-bulk-array", Sizes::Items),
-    (Value(Values::EqualNested), "equal-nested", Sizes::Levels),
-    (Value(Values::Check), "pipeline-check", Sizes::Commands),
-    (
-        Split(Splitting::DelWithParts),
-        "split-and-parts-del",
-        Sizes::Keys,
-    ),
-    (Drive(Driving::DelPlan), "plan-del", Sizes::Keys),
-    (Drive(Driving::Del), "drive-del", Sizes::Keys),
-    (Drive(Driving::Mget), "drive-mget", Sizes::Keys),
-    (Pipe(Pipelines::OverFew), "pipeline-plan-3", Sizes::Commands),
-    (
-        Pipe(Pipelines::OverMany),
+        Operation::Pipeline(1000),
         "pipeline-plan-1000",
         Sizes::Commands,
     ),
@@ -187,12 +124,19 @@ pub fn call(
     size: usize,
 ) -> Result<(), Fault> {
     match operation {
-        LookUp(what) => lookups::call(what, watch, alloc, size),
-        Route(what) => routing::call(what, watch, alloc, size),
-        Split(what) => splitting::call(what, watch, alloc, size),
-        Combine(what) => combining::call(what, watch, alloc, size),
-        Value(what) => values::call(what, watch, alloc, size),
-        Drive(what) => driving::call(what, watch, alloc, size),
-        Pipe(what) => pipelines::call(what, watch, alloc, size),
+        Operation::KeySlot => lookups::key_slot(watch, alloc, size),
+        Operation::LookUp => lookups::node_of_slot(watch, alloc, size),
+        Operation::MapFromReply => lookups::from_reply(watch, alloc, size),
+        Operation::Topology(hosts) => lookups::topology(watch, alloc, hosts, size),
+        Operation::Nodes(hosts) => lookups::nodes(watch, alloc, hosts, size),
+        Operation::RouteGet => routing::get(watch, alloc, size),
+        Operation::Split => splitting::split(watch, alloc, size),
+        Operation::SplitAndParts => splitting::with_parts(watch, alloc, size),
+        Operation::CombineSums => combining::sums(watch, alloc, size),
+        Operation::CombineSorted => combining::sorted(watch, alloc, size),
+        Operation::Command => values::command(watch, alloc, size),
+        Operation::CloneBulks => values::cloned(watch, alloc, size),
+        Operation::Drive => driving::driven(watch, alloc, size),
+        Operation::Pipeline(nodes) => pipelines::planned(watch, alloc, nodes, size),
     }
 }

@@ -1,3 +1,4 @@
+//! A call on pipelines that go out in batches.
 use crate::fault::Fault;
 use crate::inputs::{Hosts, map, mixed_pipeline, reply_to};
 use crate::watch::Watch;
@@ -7,46 +8,24 @@ use redis_cluster::routing::{Names, ReadOnlyNames, Registry};
 use resp_core::{Cmd, RedisError, Value};
 use std::alloc::{AllocError, Global};
 
-/// Calls on pipelines that go out in batches.
-#[derive(Clone, Copy)]
-pub enum Pipelines {
-    /// The plan of a pipeline over three nodes, told and combined.
-    OverFew,
-    /// The same over a thousand nodes.
-    OverMany,
-}
-
 /// What is answered to a command: a reply, or an error of the server.
 type Answer = Result<Value, RedisError>;
 
-/// Makes the calls at a size.
-pub fn call(
-    what: Pipelines,
+/// The plan of as many commands over as many nodes, each batch of it, the answers told and combined.
+/// The answers are made outside of what is timed.
+pub fn planned(
     watch: &mut Watch<'_>,
     alloc: Global,
-    size: usize,
+    nodes: usize,
+    count: usize,
 ) -> Result<(), Fault> {
-    let nodes = match what {
-        Pipelines::OverFew => 3,
-        Pipelines::OverMany => 1000,
-    };
     let map = map(alloc, Hosts::Shared, nodes)?;
-    planned(watch, alloc, &mixed_pipeline(alloc, size)?, &map)
-}
-
-/// The plan of these commands, each batch of it, the answers told and combined. They are made
-/// outside of what is timed.
-fn planned(
-    watch: &mut Watch<'_>,
-    alloc: Global,
-    commands: &[Cmd],
-    map: &SlotMap,
-) -> Result<(), Fault> {
-    let replies = replies_by_batch(alloc, &plan_of(alloc, commands, map)?)?;
+    let commands = mixed_pipeline(alloc, count)?;
+    let replies = replies_by_batch(alloc, &plan_of(alloc, &commands, &map)?)?;
     watch.time_with(
         alloc,
         || Ok(answers_by_batch(alloc, replies.as_slice())?),
-        |answers| replies_told(alloc, commands, map, answers),
+        |answers| replies_told(alloc, &commands, &map, answers),
     )
 }
 

@@ -16,7 +16,7 @@ pub struct Watch<'a> {
 }
 
 impl<'a> Watch<'a> {
-    /// A watch for so many rounds of so many calls.
+    /// A watch for as many rounds of as many calls.
     pub fn new(clock: &'a HostRuntime, calls: usize, rounds: usize) -> Self {
         Watch {
             clock,
