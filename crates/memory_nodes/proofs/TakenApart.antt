@@ -46,7 +46,7 @@ module _ (known : Registrations) where
   shaped name run pattern form = record { name = name; registered = registered_as known name; shared = slice_get (shared_in pattern run) 0; tuples = tuples_of pattern run; form = form }
 
   -- where there is a command, it has the form
-  with_shape : (name : List ℕ) (run : List (List ℕ)) (pattern : MultiSlotArgPattern) (form : Option ReplyForm) → IsSome (command_with known name run pattern form) → command_with known name run pattern form ≡ option_map (shaped name run pattern) form
+  with_shape : (name : List ℕ) (run : List (List ℕ)) (pattern : MultiSlotArgPattern) (form : Option ReplyForm) → IsSome (option_and_then (command_with known name run pattern) form) → option_and_then (command_with known name run pattern) form ≡ option_map (shaped name run pattern) form
   with_shape name run pattern None h = refl
   with_shape name run pattern (Some form) h = complete (is_whole (shape_of pattern) (length run)) refl h
     where
@@ -69,9 +69,9 @@ module _ (known : Registrations) where
   by_run : (cmd : List (List ℕ)) (name : List ℕ) (pattern : MultiSlotArgPattern) (policy : ResponsePolicy) → command_name (map Some cmd) ≡ Some name → Some (pattern, policy) ≡ split_of known name → IsSome (multi_key known (map Some cmd)) → multi_key known (map Some cmd) ≡ option_map (shaped name (present_arguments (map Some cmd)) pattern) (form_by_policy policy)
   by_run cmd name pattern policy e split h =
       let run : List (List ℕ) = present_arguments (map Some cmd) in
-      let all : multi_key known (map Some cmd) ≡ command_with known name run pattern (form_by_policy policy) =
-      ap (option_and_then (λ n. option_and_then (λ s. command_with known n run s.0 (form_by_policy s.1)) (split_of known n))) e
-      ∙ ap (option_and_then (λ s. command_with known name run s.0 (form_by_policy s.1))) (sym split) in
+      let all : multi_key known (map Some cmd) ≡ option_and_then (command_with known name run pattern) (form_by_policy policy) =
+      ap (option_and_then (λ n. option_and_then (λ s. option_and_then (command_with known n run s.0) (form_by_policy s.1)) (split_of known n))) e
+      ∙ ap (option_and_then (λ s. option_and_then (command_with known name run s.0) (form_by_policy s.1))) (sym split) in
       all ∙ with_shape name run pattern (form_by_policy policy) (subst IsSome all h)
 
   by_lists : (run tuples shared : List (List ℕ)) (name : List ℕ) (pattern : MultiSlotArgPattern) (form : Option ReplyForm) → tuples ≡ take (tuple_args_count pattern (length run)) run → shared ≡ shared_in pattern run → option_map (shaped name run pattern) form ≡ option_map (made_of (registered_as known name) name pattern tuples shared) form

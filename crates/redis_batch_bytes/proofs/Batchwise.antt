@@ -19,7 +19,7 @@ use Rattle.redis_batches.specs.Batched.{IsRight}
 use Rattle.redis_batches.specs.Pipeline.{Answer}
 use Rattle.redis_batches.specs.Plan.{IsPlan}
 use Rattle.redis_batches.specs.PipelinePlan.{PipelineBatches}
-use Rattle.redis_batches.specs.Replies.{AreRepliesTo}
+use Rattle.redis_batches.specs.Replies.{AreRepliesFor}
 use Rattle.redis_batches.specs.Taken.{answer_of}
 use Rattle.redis_batches.proofs.Entries.{get_there}
 use Rattle.redis_batches.proofs.Putting.{set_there}
@@ -180,7 +180,7 @@ followed old now count bytes rest so_far every some = record {
 -- ---- the replies
 
 module _ (old new : PipelineBatches) (bytes : List ℕ) (told_are : AreTold old new bytes) (sent : EachIsSent old.batches) (room : length new.batches.answers ≡ length old.batches.parts)
-    (splits : new.splits ≡ old.splits) (found : List Answer) (are : AreRepliesTo new.splits (map answer_of new.batches.answers) found) where
+    (splits : new.splits ≡ old.splits) (found : List Answer) (are : AreRepliesFor new.splits (map answer_of new.batches.answers) found) where
   -- the replies that were found are those to the answers in the bytes
   pub answered : (AreSo : List Answer → Type 0) → AreSo found → AreAnswered old bytes AreSo
   answered AreSo so = record {
@@ -189,7 +189,7 @@ module _ (old new : PipelineBatches) (bytes : List ℕ) (told_are : AreTold old 
     long = told_are.long;
     replies = λ all by. (
       found,
-      subst (λ (l : List Answer). AreRepliesTo old.splits l found) (has_all old new bytes told_are sent room all by) (subst (λ (l : List (Option Split)). AreRepliesTo l (map answer_of new.batches.answers) found) splits are),
+      subst (λ (l : List Answer). AreRepliesFor old.splits l found) (has_all old new bytes told_are sent room all by) (subst (λ (l : List (Option Split)). AreRepliesFor l (map answer_of new.batches.answers) found) splits are),
       so,
     );
   }

@@ -4,6 +4,7 @@ use Rattle.redis_routing.specs.Registry.{Registrations}
 use Rattle.redis_batches.specs.Placed.{IsPrimaryOf, Ranges}
 use Rattle.redis_batches.specs.Plan.{Batches}
 use Rattle.redis_batches.specs.PipelinePlan.{IsPlanFault, IsPlanOfCommands, PipelineBatches}
+use Rattle.redis_batches.specs.Tasks.{AreSplitsFor}
 use Rattle.redis_batches.specs.declared.fault.PipelineFault.TheVariants as plan
 use Rattle.redis_bytes.specs.Requests.{Words}
 use Rattle.redis_batch_bytes.specs.declared.fault.BatchFault.{BatchFault}
@@ -16,6 +17,7 @@ pub record IsPlanOfRequests (registered : Registrations) (ranges : Ranges) (byte
   pub commands : List Words
   pub are : AreRequests commands bytes
   pub plan_is : IsPlanOfCommands registered (IsPrimaryOf ranges) commands plan
+  pub splits_are : AreSplitsFor registered commands plan.splits
 
 -- why commands have no plan
 abbrev pub HaveNoPlan : Registrations → Ranges → List Words → BatchFault → Type 0

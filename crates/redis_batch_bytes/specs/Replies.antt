@@ -11,7 +11,7 @@ use Rattle.redis_batches.specs.Pipeline.{Answer}
 use Rattle.redis_batches.specs.Placed.{Ranges}
 use Rattle.redis_batches.specs.Plan.{Batches}
 use Rattle.redis_batches.specs.PipelinePlan.{PipelineBatches}
-use Rattle.redis_batches.specs.Replies.{AreRepliesTo}
+use Rattle.redis_batches.specs.Replies.{AreRepliesFor}
 use Rattle.redis_batch_bytes.specs.declared.fault.BatchFault.{BatchFault}
 use Rattle.redis_batch_bytes.specs.declared.fault.BatchFault.TheVariants.{Memory, NoForm}
 use Rattle.redis_batch_bytes.specs.Plans.{IsPlanOfRequests, IsUnplanned}
@@ -39,7 +39,7 @@ pub record AreAnswered (plan : PipelineBatches) (bytes : List ℕ) (AreSo : List
   pub stand : StandAsTold bytes [] given
   pub long : length given ≡ length (concat plan.batches.places)
   pub replies : (all : List Answer) → AreByBatch plan.batches all given
-      → (replies : List Answer) × AreRepliesTo plan.splits all replies × AreSo replies
+      → (replies : List Answer) × AreRepliesFor plan.splits all replies × AreSo replies
 
 -- They are written one after the other.
 abbrev pub AreCombined : PipelineBatches → List ℕ → List ℕ → Type 0

@@ -2,6 +2,7 @@ ghost use Rattle.std.specs.Prelude.{◌≡◌, false, IfOk, IfErr};
 ghost use Rattle.std.specs.List.{All};
 ghost use Rattle.redis_batches.specs.Placed.{IsPrimaryOf};
 ghost use Rattle.redis_batches.specs.PipelinePlan.{IsPlanOfCommands};
+ghost use Rattle.redis_batches.specs.Tasks.{AreSplitsFor};
 ghost use Rattle.redis_batch_bytes.specs.Plans.{HaveNoPlan};
 
 use crate::fault::BatchFault;
@@ -20,6 +21,7 @@ pub(super) fn plan_of<'a>(
 ) -> Result<PipelinePlan<'a>, BatchFault>
     ensures plan { IfOk result (λ plan.
         IsPlanOfCommands registry.now (IsPrimaryOf slot_map.now) commands.now plan) }
+    ensures splits { IfOk result (λ plan. AreSplitsFor registry.now commands.now plan.splits) }
     ensures untold { IfOk result (λ plan. All (λ told. told ≡ false) plan.batches.told) }
     ensures fault { IfErr result (λ fault.
         HaveNoPlan registry.now slot_map.now commands.now fault) }

@@ -1,5 +1,6 @@
 -- A pipeline that was planned and sent: what its replies are, and what stands after a fault.
 use Rattle.std.proofs.Common.{◌≡◌, ◌<◌, ℕ, List, All, subst, map, length}
+use Rattle.std.specs.List.{AllByRecursion}
 use Rattle.cluster_slots.specs.Address.{Address}
 use Rattle.redis_routing.specs.Registry.{Registrations}
 use Rattle.redis_cluster.specs.Driven.{AreAllAnswered}
@@ -19,7 +20,7 @@ use Rattle.redis_batches.specs.declared.send.Stopped.{Stopped}
 use Rattle.redis_batches.specs.declared.fault.PipelineError.TheVariants.{Node}
 use Rattle.redis_batches.proofs.OneServer.{all_answered, as_one_server}
 use Rattle.redis_batches.proofs.Planning.{own_nodes, plan_has_batches, slots_of_all}
-use Rattle.redis_batches.proofs.ServerReplies.{server_replies}
+use Rattle.redis_batches.proofs.ServerReplies.{IsShared, server_replies}
 use Rattle.redis_batches.proofs.Untaken.{stopped_for_memory}
 use Rattle.redis_batches.proofs.Untouched.{replies_untouched}
 
@@ -51,29 +52,29 @@ module _ {C : Type 0} (step : Step C) (serve : Serve C) (kept : Type 0) (may_ref
     served = subst (ServesAll given) same serves (map with_slots sendable.of_commands.tasks) (slots_of_all sendable.of_commands.tasks) sendable.batches;
   }
 
-  pub pipeline_served : (plan : PipelineBatches) (batches : Batches) → batches ≡ plan.batches → IsSendable registered is_node commands order plan → (given replies : List Answer) → ServesAll given batches
-      → AreRepliesTo plan.splits given replies → IsPipelineServed step serve kept may_refuse registered is_node commands order old new replies
-  pipeline_served plan batches same sendable given replies serves made =
+  pub pipeline_served : (plan : PipelineBatches) (batches : Batches) → batches ≡ plan.batches → (sendable : IsSendable registered is_node commands order plan) → (given replies : List Answer) → ServesAll given batches
+      → AllByRecursion IsShared sendable.of_commands.tasks → AreRepliesTo sendable.of_commands.tasks given replies → IsPipelineServed step serve kept may_refuse registered is_node commands order old new replies
+  pipeline_served plan batches same sendable given replies serves share made =
       let tasks = sendable.of_commands.tasks in
       let served : IsServed step serve kept may_refuse (map with_slots tasks) plan.batches.parts plan.batches.nodes sendable.batches.batch order old new given = subst (ServesAll given) same serves (map with_slots tasks) (slots_of_all tasks) sendable.batches in
       record {
         given = given;
         taken = record { plan = plan; sendable = sendable; served = served };
         replies_are = made;
-        untouched = λ keep. replies_untouched step serve registered served.refusals plan.splits tasks sendable.of_commands.splits_are (slots_of_all tasks) old.keyspace replies
-            (subst (λ answers. AreRepliesTo plan.splits answers replies) (served.answers_are keep) made);
+        untouched = λ keep. replies_untouched step serve served.refusals tasks share (slots_of_all tasks) old.keyspace replies
+            (subst (λ answers. AreRepliesTo tasks answers replies) (served.answers_are keep) made);
       }
 
-  pub pipeline_as_one : (plan : PipelineBatches) (batches : Batches) → batches ≡ plan.batches → IsSendable registered is_node commands order plan → (given replies : List Answer) → ServesAll given batches
-      → AreRepliesTo plan.splits given replies → AreAllAnswered old.trace new.trace → kept → IsOneServer step serve registered commands old new replies
-  pipeline_as_one plan batches same sendable given replies serves made all keep =
+  pub pipeline_as_one : (plan : PipelineBatches) (batches : Batches) → batches ≡ plan.batches → (sendable : IsSendable registered is_node commands order plan) → (given replies : List Answer) → ServesAll given batches
+      → AllByRecursion IsShared sendable.of_commands.tasks → AreRepliesTo sendable.of_commands.tasks given replies → AreAllAnswered old.trace new.trace → kept → IsOneServer step serve registered commands old new replies
+  pipeline_as_one plan batches same sendable given replies serves share made all keep =
       let tasks = sendable.of_commands.tasks in
       let served : IsServed step serve kept may_refuse (map with_slots tasks) plan.batches.parts plan.batches.nodes sendable.batches.batch order old new given = subst (ServesAll given) same serves (map with_slots tasks) (slots_of_all tasks) sendable.batches in
       let both = as_one_server step serve registered kept may_refuse (map with_slots tasks) (slots_of_all tasks) plan.batches.parts plan.batches.places sendable.batches plan.batches.nodes order sendable.order_is old new given served all keep in (
         tasks,
         sendable.of_commands.tasks_are,
         both.0,
-        server_replies step serve registered plan.splits tasks sendable.of_commands.splits_are old.keyspace replies (subst (λ answers. AreRepliesTo plan.splits answers replies) both.1 made),
+        server_replies step serve tasks share old.keyspace replies (subst (λ answers. AreRepliesTo tasks answers replies) both.1 made),
       )
 
   -- where nodes may refuse nothing, no part was refused

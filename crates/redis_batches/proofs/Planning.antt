@@ -40,7 +40,6 @@ use Rattle.redis_batches.specs.Grouped.{index_of}
 use Rattle.redis_batches.specs.Driven.{node_at}
 use Rattle.redis_batches.proofs.ByNode.{batch_by_node, by_node_batches, node_at_index}
 use Rattle.redis_batches.proofs.Commands.{tasks_from}
-use Rattle.redis_batches.proofs.ServerReplies.{splits_of_kept}
 
 -- what is sent is the part of the pipeline
 abbrev IsPartOf : Registrations → SlotPart → Part → Type 0
@@ -235,7 +234,6 @@ is_plan_of registered chosen is_node commands kept batches nodes one may each pl
     record {
       tasks = tasks;
       tasks_are = found.1;
-      splits_are = splits_of_kept registered tasks kept found.2;
       parts_are = meant registered batches.parts (flat_map slot_parts kept) qs placed.parts_are parts;
       arguments = placed.parts_are ∙ found.3;
       node_of = node;

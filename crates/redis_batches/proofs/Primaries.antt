@@ -30,7 +30,6 @@ plan_with : (registered : Registrations) (one other : ℕ → Address → Type 0
 plan_with registered one other weaker commands plan is = record {
   tasks = is.tasks;
   tasks_are = is.tasks_are;
-  splits_are = is.splits_are;
   parts_are = is.parts_are;
   arguments = is.arguments;
   node_of = is.node_of;

@@ -1,6 +1,6 @@
 -- A pipeline that was sent in rounds: what its replies are, and what stands after a fault.
 use Rattle.std.proofs.Common.{◌≡◌, ◌≤◌, ℕ, ◌+◌, List, [], ◌∷◌, ◌++◌, true, Some, None, Result, All, inr, refl, sym, ap, subst, ◌∙◌, append_assoc, filter, map, length}
-use Rattle.std.specs.List.{AllZip, enumerate_from, flat_map, range_with_len, zip}
+use Rattle.std.specs.List.{AllByRecursion, AllZip, enumerate_from, flat_map, range_with_len, zip}
 use Rattle.std.proofs.lemmas.List.{length-map}
 use Rattle.std.proofs.lemmas.List.FromFn.{length-enumerate_from}
 use Rattle.cluster_slots.specs.Address.{Address}
@@ -37,7 +37,7 @@ use Rattle.redis_batches.proofs.GoOn.{go_by, goes_by}
 use Rattle.redis_batches.proofs.InTurn.{last_in_turn, pipeline_in_turn}
 use Rattle.redis_batches.proofs.KeptSlots.{numbered_after, numbered_list}
 use Rattle.redis_batches.proofs.Planning.{slots_of_all}
-use Rattle.redis_batches.proofs.ServerReplies.{server_replies}
+use Rattle.redis_batches.proofs.ServerReplies.{IsShared, server_replies}
 use Rattle.redis_batches.proofs.StayHere.{tasks_stay}
 use Rattle.redis_batches.proofs.Untouched.{replies_untouched}
 use Rattle.redis_batches.proofs.Whole.{pieces_answer, pieces_leave}
@@ -197,7 +197,7 @@ module _ {C : Type 0} (step : Step C) (serve : Serve C) (may : ℕ → Ending �
 
         module _ (again : AreSentAgain step serve kept may registered plan.batches.parts ps first retries between new asked_between asked_new gave_between gave_new before after) (asked : WereAsked asked_old asked_between (map (batch_at plan.batches) order))
             (many : length before ≡ length plan.batches.parts) (gave : Grew gave_old gave_between (answers_in plan.batches given order))
-            (replies : List Answer) (made : AreRepliesTo plan.splits (map answer_of after) replies) where
+            (replies : List Answer) (share : AllByRecursion IsShared sendable.of_commands.tasks) (made : AreRepliesTo sendable.of_commands.tasks (map answer_of after) replies) where
           -- which parts were refused at last
           abbrev last : Refusals
           last = after_rounds served.refusals again.rounds
@@ -215,8 +215,8 @@ module _ {C : Type 0} (step : Step C) (serve : Serve C) (may : ℕ → Ending �
                 tasks,
                 sendable.of_commands.tasks_are,
                 is.keyspace ∙ after_agree step serve last none (numbered ps) same old.keyspace ∙ numbered_after step serve 0 (pieces ps) old.keyspace ∙ pieces_leave step serve ps are old.keyspace,
-                server_replies step serve registered plan.splits tasks sendable.of_commands.splits_are old.keyspace replies
-                    (subst (λ l. AreRepliesTo plan.splits l replies)
+                server_replies step serve tasks share old.keyspace replies
+                    (subst (λ l. AreRepliesTo tasks l replies)
                     (is.answers_are ∙ ap (map (λ (a : Numbered × Answer). a.1)) (answers_agree step serve last none (numbered ps) same old.keyspace)
                     ∙ numbered_list step serve 0 (pieces ps) old.keyspace ∙ pieces_answer step serve ps are old.keyspace) made),
               )
@@ -236,10 +236,10 @@ module _ {C : Type 0} (step : Step C) (serve : Serve C) (may : ℕ → Ending �
             answers = map answer_of after;
             latest = again.latest ∙ ap (λ l. latest_answers l again.rounds) (sym given_are);
             replies_are = made;
-            amid = served_amid C registered plan.splits sendable.of_commands.tasks (map answer_of after) replies sendable.of_commands.splits_are made;
+            amid = served_amid C sendable.of_commands.tasks (map answer_of after) replies share made;
             in_turn = in_turn;
             as_one = as_one;
-            untouched = λ keep own. replies_untouched step serve registered last plan.splits sendable.of_commands.tasks sendable.of_commands.splits_are (slots_of_all sendable.of_commands.tasks) old.keyspace replies
-                (subst (λ l. AreRepliesTo plan.splits l replies) (as_one keep own).answers_are made);
+            untouched = λ keep own. replies_untouched step serve last sendable.of_commands.tasks share (slots_of_all sendable.of_commands.tasks) old.keyspace replies
+                (subst (λ l. AreRepliesTo sendable.of_commands.tasks l replies) (as_one keep own).answers_are made);
             one_server = as_one_server;
           }

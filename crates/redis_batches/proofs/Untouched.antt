@@ -1,59 +1,49 @@
 -- The reply to a command none of whose parts was refused, among others that were.
-use Rattle.std.proofs.Common.{◌≡◌, ◌≤◌, ℕ, ◌+◌, suc, List, [], ◌∷◌, ◌++◌, Option, None, Some, All, refl, sym, ap, subst, ◌∙◌, arith, length, map, take, drop, length-append, append_assoc}
+use Rattle.std.proofs.Common.{◌≡◌, ◌≤◌, ℕ, ◌+◌, suc, List, [], ◌∷◌, ◌++◌, None, Some, All, refl, sym, ap, subst, ◌∙◌, arith, length, map, take, drop, length-append, append_assoc}
 use Rattle.std.specs.Prelude.{slice_get}
-use Rattle.std.specs.List.{AllZip, enumerate_from, sum_by}
+use Rattle.std.specs.List.{AllByRecursion, enumerate_from}
 use Rattle.std.proofs.lemmas.List.{drop-append-le, length-drop, length-map, map-append, nil_from_length, take_at}
 use Rattle.std.proofs.lemmas.List.Elements.{All-head, All-tail}
-use Rattle.std.proofs.lemmas.Slice.Zip.{AllZip-long}
 use Rattle.std.proofs.lemmas.List.FromFn.{length-enumerate_from}
-use Rattle.std.proofs.lemmas.List.Sums.{sum_by-cons}
-use Rattle.redis_routing.specs.Registry.{Registrations}
-use Rattle.redis_routing.specs.Split.{Split}
 use Rattle.redis_cluster.specs.Unsplit.{Step, Keyspace}
 use Rattle.redis_batches.specs.Served.{Effect}
 use Rattle.redis_batches.specs.Turns.{all_after, answers}
 use Rattle.redis_batches.specs.Pipeline.{Answer, Serve, Task, run, AreSlotsOf, Planned, parts_of, pieces, part_answer, Numbered, numbered, numbered_behind, Refusals, ended, ended_answers, after_taken}
-use Rattle.redis_batches.specs.Tasks.{AreSplitsOf, IsSplitAs, slots_of_task, with_slots}
-use Rattle.redis_batches.specs.Replies.{AreRepliesTo, AreUntouched, IsMadeOf, IsReplyTo, part_count}
+use Rattle.redis_batches.specs.Tasks.{slots_of_task, with_slots}
+use Rattle.redis_batches.specs.Replies.{AreRepliesTo, AreUntouched, IsMadeOf, IsReplyTo}
 use Rattle.redis_batches.proofs.Ends.{answers_agree}
 use Rattle.redis_batches.proofs.KeptSlots.{numbered_list}
 use Rattle.redis_batches.proofs.Refused.{taken_alone}
-use Rattle.redis_batches.proofs.ServerReplies.{as_many_parts, server_reply}
+use Rattle.redis_batches.proofs.ServerReplies.{IsShared, server_reply}
 use Rattle.redis_batches.proofs.Whole.{answers-append, task_answers}
 
+-- one command more has its parts in front
+pub pieces_more : (task : Task) (tasks : List Task) → length (pieces (map with_slots (task ∷ tasks))) ≡ length (slots_of_task task) + length (pieces (map with_slots tasks))
+pieces_more task tasks =
+    length-append (parts_of (with_slots task)) (pieces (map with_slots tasks)) ∙ ap (λ n. n + length (pieces (map with_slots tasks))) (length-map (slots_of_task task) _)
+
 -- The reply to a command is made of the answers to its own parts, whatever others answer.
-pub own_reply : (before later : List (Option Split)) (split : Option Split) (first own rest replies : List Answer) → length first ≡ sum_by part_count before → length own ≡ part_count split
-    → AreRepliesTo (before ++ split ∷ later) (first ++ (own ++ rest)) replies → IsMadeOf replies (length before) split own
-own_reply [] later split first own rest [] as_many long made = absurd made
-own_reply [] later split first own rest (reply ∷ replies) as_many long made =
+pub own_reply : (before later : List Task) (task : Task) (first own rest replies : List Answer) → length first ≡ length (pieces (map with_slots before)) → length own ≡ length (slots_of_task task)
+    → AreRepliesTo (before ++ task ∷ later) (first ++ (own ++ rest)) replies → IsMadeOf replies (length before) task own
+own_reply [] later task first own rest [] as_many long made = absurd made
+own_reply [] later task first own rest (reply ∷ replies) as_many long made =
     let none : first ++ (own ++ rest) ≡ own ++ rest = ap (λ l. l ++ (own ++ rest)) (nil_from_length first as_many) in
-    let own_first : take (part_count split) (first ++ (own ++ rest)) ≡ own = ap (take (part_count split)) none ∙ take_at own rest (part_count split) long in
-    (reply, refl, subst (λ l. IsReplyTo split l reply) own_first made.0)
-own_reply (s ∷ before) later split first own rest [] as_many long made = absurd made
-own_reply (s ∷ before) later split first own rest (reply ∷ replies) as_many long made =
-    let counted : length first ≡ part_count s + sum_by part_count before = as_many ∙ sum_by-cons part_count s before in
-    let fits : part_count s ≤ length first = omega (arith, counted) in
-    let fewer : length (drop (part_count s) first) ≡ sum_by part_count before = omega (arith, counted, length-drop (part_count s) first) in
-    own_reply before later split (drop (part_count s) first) own rest replies fewer long
-    (subst (λ l. AreRepliesTo (before ++ split ∷ later) l replies) (drop-append-le (part_count s) first (own ++ rest) fits) made.1)
+    let count = length (slots_of_task task) in
+    let own_first : take count (first ++ (own ++ rest)) ≡ own = ap (take count) none ∙ take_at own rest count long in
+    (reply, refl, subst (λ l. IsReplyTo task l reply) own_first made.0)
+own_reply (t ∷ before) later task first own rest [] as_many long made = absurd made
+own_reply (t ∷ before) later task first own rest (reply ∷ replies) as_many long made =
+    let count = length (slots_of_task t) in
+    let counted : length first ≡ count + length (pieces (map with_slots before)) = as_many ∙ pieces_more t before in
+    let fits : count ≤ length first = omega (arith, counted) in
+    let fewer : length (drop count first) ≡ length (pieces (map with_slots before)) = omega (arith, counted, length-drop count first) in
+    own_reply before later task (drop count first) own rest replies fewer long
+    (subst (λ l. AreRepliesTo (before ++ task ∷ later) l replies) (drop-append-le count first (own ++ rest) fits) made.1)
 
--- The splits of some commands, of one, and of the commands behind it.
-record AreSplitAround {X Y : Type 0} (R : X → Y → Type 0) (xs : List X) (before : List Y) (y : Y) (later : List Y) : Type 0 where
-  firsts : List X
-  split : X
-  laters : List X
-  splits_are : xs ≡ firsts ++ split ∷ laters
-  firsts_are : AllZip R firsts before
-  split_is : R split y
-
--- what goes with some and others goes with each
-split_around : {X Y : Type 0} (R : X → Y → Type 0) (xs : List X) (before : List Y) (y : Y) (later : List Y) → AllZip R xs (before ++ y ∷ later) → AreSplitAround R xs before y later
-split_around R [] [] y later all = absurd all
-split_around R [] (z ∷ before) y later all = absurd all
-split_around R (x ∷ xs) [] y later all = record { firsts = []; split = x; laters = xs; splits_are = refl; firsts_are = tt; split_is = all.0 }
-split_around R (x ∷ xs) (z ∷ before) y later all =
-    let rest = split_around R xs before y later all.1 in
-    record { firsts = x ∷ rest.firsts; split = rest.split; laters = rest.laters; splits_are = ap (λ l. x ∷ l) rest.splits_are; firsts_are = (all.0, rest.firsts_are); split_is = rest.split_is }
+-- what is known of all commands is known of one
+shared_there : (before later : List Task) (task : Task) → AllByRecursion IsShared (before ++ task ∷ later) → IsShared task
+shared_there [] later task all = all.0
+shared_there (t ∷ before) later task all = shared_there before later task all.1
 
 -- and so do the slots of one
 slots_there : (before later : List Task) (task : Task) → All (λ p. AreSlotsOf p.task p.slots) (map with_slots (before ++ task ∷ later)) → AreSlotsOf task (slots_of_task task)
@@ -75,25 +65,7 @@ pub length-answers : {C R X : Type 0} (effect : X → Effect C R) (xs : List X) 
 length-answers effect [] keyspace = refl
 length-answers effect (x ∷ xs) keyspace = ap suc (length-answers effect xs (effect x keyspace).keys)
 
--- the parts of commands are as many as their splits have
-pub as_many_pieces : (registered : Registrations) (splits : List (Option Split)) (tasks : List Task) → AreSplitsOf registered splits tasks → length (pieces (map with_slots tasks)) ≡ sum_by part_count splits
-as_many_pieces registered [] [] are = refl
-as_many_pieces registered [] (task ∷ tasks) are = absurd are
-as_many_pieces registered (split ∷ splits) [] are = absurd are
-as_many_pieces registered (split ∷ splits) (task ∷ tasks) are =
-    omega (
-      arith,
-      length-append (parts_of (with_slots task)) (pieces (map with_slots tasks)),
-      length-parts task,
-      as_many_parts registered split task are.0,
-      as_many_pieces registered splits tasks are.1,
-      sum_by-cons part_count split splits,
-    )
-  where
-    length-parts : (task : Task) → length (parts_of (with_slots task)) ≡ length (slots_of_task task)
-    length-parts task = length-map (slots_of_task task) _
-
-module _ {C : Type 0} (step : Step C) (serve : Serve C) (registered : Registrations) (refusals : Refusals) (before later : List Task) (task : Task) (keyspace : Keyspace C) where
+module _ {C : Type 0} (step : Step C) (serve : Serve C) (refusals : Refusals) (before later : List Task) (task : Task) (keyspace : Keyspace C) where
   abbrev effect : Numbered → Effect C Answer
   effect = ended step serve refusals
 
@@ -143,31 +115,28 @@ module _ {C : Type 0} (step : Step C) (serve : Serve C) (registered : Registrati
       ∙ task_answers step serve task (slots_of_task task) slots left
 
   -- then its reply is that of one server that takes the parts that were not refused
-  one_untouched : (splits : List (Option Split)) → AreSplitAround (IsSplitAs registered) splits before task later → AreSlotsOf task (slots_of_task task)
+  one_untouched : IsShared task → AreSlotsOf task (slots_of_task task)
       → All (λ x. refusals x ≡ None) own → (replies : List Answer)
-      → AreRepliesTo splits (ended_answers step serve refusals (map with_slots (before ++ task ∷ later)) keyspace) replies
+      → AreRepliesTo (before ++ task ∷ later) (ended_answers step serve refusals (map with_slots (before ++ task ∷ later)) keyspace) replies
       → slice_get replies (length before) ≡ Some (run step serve task (after_taken step serve refusals earlier keyspace)).reply
-  one_untouched splits around slots taken replies made =
+  one_untouched share slots taken replies made =
       let first = given (numbered earlier) keyspace in
       let answered = own_answers slots taken in
-      let as_many : length first ≡ sum_by part_count around.firsts =
-      length-map (answers effect (numbered earlier) keyspace) (λ a. a.1) ∙ length-answers effect (numbered earlier) keyspace ∙ length-enumerate_from 0 (pieces earlier) ∙ as_many_pieces registered around.firsts before around.firsts_are in
-      let long : length (given own left) ≡ part_count around.split =
-      ap length answered ∙ length-map (slots_of_task task) (part_answer step serve task left) ∙ as_many_parts registered around.split task around.split_is in
-      let found = own_reply around.firsts around.laters around.split first (given own left) (given rest (all_after effect own left)) replies as_many long
-      (subst (λ l. AreRepliesTo (around.firsts ++ around.split ∷ around.laters) l replies) three_answers
-      (subst (λ l. AreRepliesTo l (ended_answers step serve refusals (map with_slots (before ++ task ∷ later)) keyspace) replies) around.splits_are made)) in
-      ap (slice_get replies) (AllZip-long (IsSplitAs registered) around.firsts before around.firsts_are)
-      ∙ found.1
-      ∙ ap Some (server_reply step serve registered around.split task around.split_is left found.0 (subst (λ l. IsReplyTo around.split l found.0) answered found.2)
+      let as_many : length first ≡ length (pieces earlier) =
+      length-map (answers effect (numbered earlier) keyspace) (λ a. a.1) ∙ length-answers effect (numbered earlier) keyspace ∙ length-enumerate_from 0 (pieces earlier) in
+      let long : length (given own left) ≡ length (slots_of_task task) = ap length answered ∙ length-map (slots_of_task task) (part_answer step serve task left) in
+      let found = own_reply before later task first (given own left) (given rest (all_after effect own left)) replies as_many long
+      (subst (λ l. AreRepliesTo (before ++ task ∷ later) l replies) three_answers made) in
+      found.1
+      ∙ ap Some (server_reply step serve task share left found.0 (subst (λ l. IsReplyTo task l found.0) answered found.2)
       ∙ ap (λ (k : Keyspace C). (run step serve task k).reply) (taken_alone step serve refusals (numbered earlier) keyspace))
 
 -- Where nodes refused some parts of a pipeline, each command none of whose parts was refused has the reply of one server that takes the others alone.
-pub replies_untouched : {C : Type 0} (step : Step C) (serve : Serve C) (registered : Registrations) (refusals : Refusals) (splits : List (Option Split)) (tasks : List Task) → AreSplitsOf registered splits tasks
+pub replies_untouched : {C : Type 0} (step : Step C) (serve : Serve C) (refusals : Refusals) (tasks : List Task) → AllByRecursion IsShared tasks
     → All (λ p. AreSlotsOf p.task p.slots) (map with_slots tasks) → (keyspace : Keyspace C) (replies : List Answer)
-    → AreRepliesTo splits (ended_answers step serve refusals (map with_slots tasks) keyspace) replies → AreUntouched step serve refusals tasks keyspace replies
-replies_untouched step serve registered refusals splits tasks are slots keyspace replies made before later task is taken =
+    → AreRepliesTo tasks (ended_answers step serve refusals (map with_slots tasks) keyspace) replies → AreUntouched step serve refusals tasks keyspace replies
+replies_untouched step serve refusals tasks share slots keyspace replies made before later task is taken =
     let there : All (λ p. AreSlotsOf p.task p.slots) (map with_slots (before ++ task ∷ later)) = subst (λ ts. All (λ p. AreSlotsOf p.task p.slots) (map with_slots ts)) is slots in
-    one_untouched step serve registered refusals before later task keyspace splits
-    (split_around (IsSplitAs registered) splits before task later (subst (AreSplitsOf registered splits) is are)) (slots_there before later task there) taken replies
-    (subst (λ ts. AreRepliesTo splits (ended_answers step serve refusals (map with_slots ts) keyspace) replies) is made)
+    one_untouched step serve refusals before later task keyspace
+    (shared_there before later task (subst (AllByRecursion IsShared) is share)) (slots_there before later task there) taken replies
+    (subst (λ ts. AreRepliesTo ts (ended_answers step serve refusals (map with_slots ts) keyspace) replies) is made)

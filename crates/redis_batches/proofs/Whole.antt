@@ -4,7 +4,7 @@ use Rattle.std.proofs.lemmas.List.{append-nil, map-append}
 use Rattle.std.proofs.lemmas.List.Elements.{All-head, All-tail, All-nil, All-cons, All-append}
 use Rattle.redis_cluster.specs.MultiKey.{MultiKey, tuples_of_slot, part_of}
 use Rattle.redis_cluster.specs.Orders.{times}
-use Rattle.redis_cluster.specs.SlotResults.{results_of_slot}
+use Rattle.redis_cluster.specs.SlotItems.{items_of_slot}
 use Rattle.redis_cluster.specs.Unsplit.{Step, Keyspace, act_of, after, reply_by, results_of}
 use Rattle.redis_cluster.proofs.Counts.{times-append, times_here, same_number}
 use Rattle.redis_cluster.proofs.Fold.{joined, joined_is_whole}
@@ -42,7 +42,7 @@ module _ {C : Type 0} (step : Step C) (serve : Serve C) where
 
     -- what the part of a slot adds to the replies
     answer_of : ℕ → Answer
-    answer_of slot = Ok (reply_by command.form (results_of_slot slot command.tuples (results_of step command ks)))
+    answer_of slot = Ok (reply_by command.form (items_of_slot slot command.tuples (results_of step command ks)))
 
     -- after the parts of other slots, each part answers what its tuples do in the whole command
     parts_answer : (before slots : List ℕ) → ((n : ℕ) → times n (before ++ slots) ≤ 1)

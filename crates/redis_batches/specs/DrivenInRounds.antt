@@ -111,7 +111,7 @@ module _ {C : Type 0} (step : Step C) (serve : Serve C) (kept : Type 0)
     pub done : (length sent.so_far.rounds ≡ retries) ⊎ IsLast (last_sent sent.so_far)
     pub answers : List Answer
     pub latest : answers ≡ latest_answers sent.so_far.given sent.so_far.rounds
-    pub replies_are : AreRepliesTo sent.so_far.taken.plan.splits answers replies
+    pub replies_are : AreRepliesTo (tasks_sent sent.so_far) answers replies
     pub amid : AreServedAmid C (tasks_sent sent.so_far) answers replies
     pub in_turn : KeepsSlots (map with_slots (tasks_sent sent.so_far)) (parts_at_last sent.so_far)
     pub as_one : kept → OwnErrorsStay serve (tasks_sent sent.so_far)

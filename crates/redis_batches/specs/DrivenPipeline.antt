@@ -68,7 +68,7 @@ module _ {C : Type 0} (step : Step C) (serve : Serve C) (kept : Type 0)
   pub record IsPipelineServed (replies : List Answer) : Type 0 where
     pub given : List Answer
     pub taken : AreAllTaken given
-    pub replies_are : AreRepliesTo taken.plan.splits given replies
+    pub replies_are : AreRepliesTo taken.sendable.of_commands.tasks given replies
     pub untouched : kept → AreUntouched step serve taken.served.refusals
         taken.sendable.of_commands.tasks old.keyspace replies
 
@@ -128,7 +128,7 @@ module _ (registered : Registrations) (is_node : ℕ → Address → Type 0)
   pub record AreMade (C : Type 0) (replies : List Answer) : Type 0 where
     pub given : List Answer
     pub all : AreAllGiven given
-    pub replies_are : AreRepliesTo all.plan.splits given replies
+    pub replies_are : AreRepliesTo all.sendable.of_commands.tasks given replies
     pub amid : AreServedAmid C all.sendable.of_commands.tasks given replies
 
   -- What the nodes gave if there are no replies: the answers to the batches before the one that was not

@@ -6,7 +6,7 @@ use Rattle.resp_core.specs.ErrorParts.{ErrorParts}
 use Rattle.resp_core.specs.Reply.{Reply}
 use Rattle.redis_cluster.specs.MultiKey.{MultiKey, part_of}
 use Rattle.redis_cluster.specs.Orders.{times}
-use Rattle.redis_cluster.specs.SlotResults.{results_of_slot}
+use Rattle.redis_cluster.specs.SlotItems.{items_of_slot}
 use Rattle.redis_cluster.specs.Unsplit.{Step, Keyspace, keyspace_after, reply_to, reply_by, results_of}
 use Rattle.redis_batches.specs.Served.{Effect, in_shelf}
 use Rattle.redis_batches.specs.Turns.{all_after, answers, of_slot}
@@ -71,7 +71,7 @@ module _ {C : Type 0} (step : Step C) (serve : Serve C) where
   -- what the part of a slot answers, if the whole command is run on this keyspace
   abbrev pub part_answer : Task → Keyspace C → ℕ → Answer
   part_answer (over_keys command) keyspace slot =
-      Ok (reply_by command.form (results_of_slot slot command.tuples (results_of step command keyspace)))
+      Ok (reply_by command.form (items_of_slot slot command.tuples (results_of step command keyspace)))
   part_answer (in_slot own args) keyspace slot = (run step serve (in_slot own args) keyspace).reply
 
   -- what the parts answer, if one server runs the commands one after the other

@@ -6,7 +6,7 @@ use Rattle.redis_routing.specs.Registry.{Registrations}
 use Rattle.redis_routing.specs.Split.{Split}
 use Rattle.redis_batches.specs.Pipeline.{Part, Task, pieces}
 use Rattle.redis_batches.specs.Taken.{task_of}
-use Rattle.redis_batches.specs.Tasks.{AreSplitsOf, AreTasksOf, all_arguments, slots_of_task, with_slots}
+use Rattle.redis_batches.specs.Tasks.{AreTasksOf, all_arguments, slots_of_task, with_slots}
 use Rattle.redis_batches.specs.Pipelined.{IsFirstMeaningless}
 use Rattle.redis_batches.specs.Placed.{IsFirstUncovered, Ranges}
 use Rattle.redis_batches.specs.Plan.{Batches, IsByNode}
@@ -37,7 +37,6 @@ pub record IsPlanOfCommands (registered : Registrations) (is_node : ℕ → Addr
     (commands : List (List (List ℕ))) (plan : PipelineBatches) : Type 0 where
   pub tasks : List Task
   pub tasks_are : AreTasksOf registered commands tasks
-  pub splits_are : AreSplitsOf registered plan.splits tasks
   pub parts_are : map (task_of registered) plan.batches.parts
       ≡ map (λ q. Some q.task) (pieces_of tasks)
   pub arguments : map (map Some) plan.batches.parts ≡ all_arguments registered commands tasks

@@ -6,13 +6,17 @@ use Rattle.std.specs.declared.vec.Vec.{Vec}
 use Rattle.resp_core.specs.ErrorParts.{ErrorParts}
 use Rattle.resp_core.specs.Reply.{Reply}
 use Rattle.resp_core.specs.View.{view}
+use Rattle.resp_core.specs.declared.error.ErrorKind.{ErrorKind}
 use Rattle.resp_core.specs.declared.value.Value.{Value}
+use Rattle.redis_routing.specs.Registry.{Registrations}
 use Rattle.redis_routing.specs.Split.{Split}
-use Rattle.redis_cluster.specs.Joined.{joined}
+use Rattle.redis_cluster.specs.Joined.{IsOutcome}
+use Rattle.redis_cluster.specs.MultiKey.{MultiKey, slots_in}
+use Rattle.redis_cluster.specs.Plan.{IsMadeOfParts}
 use Rattle.redis_cluster.specs.Unsplit.{Step, Keyspace}
-use Rattle.redis_batches.specs.Pipeline.{Answer, Refusals, Serve, Task, after_taken, numbered_behind, run}
+use Rattle.redis_batches.specs.Pipeline.{Answer, Refusals, Serve, Task, in_slot, over_keys, after_taken, numbered_behind, run}
 use Rattle.redis_batches.specs.Taken.{answer_of}
-use Rattle.redis_batches.specs.Tasks.{with_slots}
+use Rattle.redis_batches.specs.Tasks.{AreSplitsOf, IsSplitAs, slots_of_task, with_slots}
 
 -- one reply more in front, unless there was an error
 abbrev pub with_reply : Reply → Result (List Reply) ErrorParts → Result (List Reply) ErrorParts
@@ -30,47 +34,63 @@ abbrev pub values_among : Result (Vec Value Global) ErrorParts → Result (List 
 values_among (Ok values) = Ok (map view values.items)
 values_among (Err error) = Err error
 
--- how many parts a command has
+-- how many parts a command has, by its split
 abbrev pub part_count : Option Split → ℕ
 part_count None = 1
 part_count (Some split) = length split.routes
 
--- the one reply that is made of those to the parts, or an error of the kind of the refusal
-abbrev pub IsJoinedAs : Split → List Reply → Answer → Type 0
-IsJoinedAs split replies (Ok reply) = joined split replies ≡ Ok reply
-IsJoinedAs split replies (Err error) = joined split replies ≡ Err error.kind
+-- a reply, or the kind of an error
+abbrev pub as_outcome : Answer → Result Reply ErrorKind
+as_outcome (Ok reply) = Ok reply
+as_outcome (Err error) = Err error.kind
 
+-- what is made of the replies to the parts of a split, or the first error among the answers
 abbrev pub IsSplitReply : Split → Result (List Reply) ErrorParts → Answer → Type 0
-IsSplitReply split (Ok replies) answer = IsJoinedAs split replies answer
+IsSplitReply split (Ok replies) answer = IsMadeOfParts split replies (as_outcome answer)
 IsSplitReply split (Err error) answer = answer ≡ Err error
 
--- The reply to a command: its own answer; of one that is split the one reply that is made of those
--- to its parts, or the error of its first part that has one.
-abbrev pub IsReplyTo : Option Split → List Answer → Answer → Type 0
-IsReplyTo None answers answer = answers ≡ answer ∷ []
-IsReplyTo (Some split) answers answer = IsSplitReply split (all_replies answers) answer
+-- the reply to a command over many keys, by those to its parts, or the first error among the answers
+abbrev pub IsReplyByParts : MultiKey → Result (List Reply) ErrorParts → Answer → Type 0
+IsReplyByParts command (Ok replies) answer =
+    IsOutcome command.tuples (slots_in command) replies command.form (as_outcome answer)
+IsReplyByParts command (Err error) answer = answer ≡ Err error
+
+-- A command of one slot has its own answer. One over many keys has the first error of its parts, in
+-- the order of its slots. Else it has what the replies make, or an error of that kind.
+--
+-- `SET a 1`, `DEL a b`, `GET b`, whose parts answer OK, 1, 0 and nil: OK, 1 and nil
+abbrev pub IsReplyTo : Task → List Answer → Answer → Type 0
+IsReplyTo (in_slot slot args) answers answer = answers ≡ answer ∷ []
+IsReplyTo (over_keys command) answers answer = IsReplyByParts command (all_replies answers) answer
 
 -- the replies to commands, by the answers to their parts, one command after the other
-abbrev pub AreRepliesTo : List (Option Split) → List Answer → List Answer → Type 0
+abbrev pub AreRepliesTo : List Task → List Answer → List Answer → Type 0
 AreRepliesTo [] answers replies = (answers ≡ []) × (replies ≡ [])
-AreRepliesTo (split ∷ splits) answers [] = ⊥
-AreRepliesTo (split ∷ splits) answers (reply ∷ replies) =
-    IsReplyTo split (take (part_count split) answers) reply
-    × AreRepliesTo splits (drop (part_count split) answers) replies
+AreRepliesTo (task ∷ tasks) answers [] = ⊥
+AreRepliesTo (task ∷ tasks) answers (reply ∷ replies) =
+    IsReplyTo task (take (length (slots_of_task task)) answers) reply
+    × AreRepliesTo tasks (drop (length (slots_of_task task)) answers) replies
 
--- The last of some answers are those to the parts of a command, and its reply is this. The others
--- are left.
+-- The replies to any tasks that have these splits, under any registrations. If there are no such
+-- tasks, it says nothing.
+abbrev pub AreRepliesFor : List (Option Split) → List Answer → List Answer → Type 0
+AreRepliesFor splits answers replies = (registered : Registrations) (tasks : List Task)
+    → AreSplitsOf registered splits tasks → AreRepliesTo tasks answers replies
+
+-- The last of some answers are those to the parts of a command with this split, and its reply is
+-- this. The others are left.
 pub record IsTakenFor (split : Option Split) (all left : List (Result Value ErrorParts))
     (reply : Result Value ErrorParts) : Type 0 where
   pub own : List (Result Value ErrorParts)
   pub all_are : all ≡ left ++ own
   pub long : length own ≡ part_count split
-  pub reply_is : IsReplyTo split (map answer_of own) (answer_of reply)
+  pub reply_is : (registered : Registrations) (task : Task) → IsSplitAs registered split task
+      → IsReplyTo task (map answer_of own) (answer_of reply)
 
 -- the reply at this place is made of these answers
-abbrev pub IsMadeOf : List Answer → ℕ → Option Split → List Answer → Type 0
-IsMadeOf replies place split own =
-    (reply : Answer) × (slice_get replies place ≡ Some reply) × IsReplyTo split own reply
+abbrev pub IsMadeOf : List Answer → ℕ → Task → List Answer → Type 0
+IsMadeOf replies place task own =
+    (reply : Answer) × (slice_get replies place ≡ Some reply) × IsReplyTo task own reply
 
 -- Each command none of whose parts was refused has the reply of one server that takes the parts
 -- that were not refused, one after the other.

@@ -54,6 +54,11 @@ IsSplitAs registered None (in_slot slot args) = Unit {0}
 IsSplitAs registered (Some split) (in_slot slot args) = ⊥
 IsSplitAs registered None (over_keys command) = ⊥
 
--- the commands over many keys have their splits, and the others none
+-- each command over many keys has its split, and the others have none
 abbrev pub AreSplitsOf : Registrations → List (Option Split) → List Task → Type 0
 AreSplitsOf registered splits tasks = AllZip (IsSplitAs registered) splits tasks
+
+-- if the commands mean something, these are their splits
+abbrev pub AreSplitsFor : Registrations → List (List (List ℕ)) → List (Option Split) → Type 0
+AreSplitsFor registered commands splits =
+    (tasks : List Task) → AreTasksOf registered commands tasks → AreSplitsOf registered splits tasks

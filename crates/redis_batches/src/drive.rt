@@ -8,6 +8,7 @@ ghost use Rattle.redis_batches.specs.DrivenPipeline.{AreAllAsked, AreAskedUntil,
 ghost use Rattle.redis_batches.specs.Plan.{IsPlan};
 ghost use Rattle.redis_batches.specs.Reads.{IsSlotNode};
 ghost use Rattle.redis_batches.specs.Taken.{answer_of};
+ghost use Rattle.redis_batches.specs.Tasks.{AreSplitsFor};
 
 use crate::fault::{PipelineError, PipelineFault};
 use crate::nodes::BatchNodes;
@@ -143,6 +144,8 @@ pub(super) fn plan_in_order<'a, N: BatchNodes>(
         (IsSlotNode strategy.entry (λ s. picks s.now) slot_map.now
         (names_of read_only.now (N.registered nodes.now)) commands.now)
         commands.now order.now plan) }
+    ensures splits { IfOk result (λ plan.
+        AreSplitsFor (N.registered nodes.now) commands.now plan.splits) }
     ensures plan { IfOk result (λ plan. IsPlan plan.batches) }
     ensures untold { IfOk result (λ plan. All (λ told. told ≡ false) plan.batches.told) }
     ensures early { IfErr result (λ error. IsEarlyFault (N.registered nodes.now) slot_map.now

@@ -10,8 +10,9 @@ ghost use Rattle.redis_batches.specs.CommandTask.{slots_kept, split_in};
 ghost use Rattle.redis_batches.specs.PipelinePlan.{HasParts, IsPlanFault, IsPlanOfCommands};
 ghost use Rattle.redis_batches.specs.Plan.{AreFewest, IsPlan};
 ghost use Rattle.redis_batches.specs.Reads.{IsSlotNode};
-ghost use Rattle.redis_batches.specs.Replies.{AreRepliesTo};
+ghost use Rattle.redis_batches.specs.Replies.{AreRepliesFor};
 ghost use Rattle.redis_batches.specs.Taken.{answer_of};
+ghost use Rattle.redis_batches.specs.Tasks.{AreSplitsFor};
 
 use crate::fault::PipelineFault;
 use crate::parts::{Placed, parts_of};
@@ -90,6 +91,8 @@ impl<'a> PipelinePlan<'a> {
             (IsSlotNode strategy.entry (λ s. picks s.now) slot_map.now (names_in names.entry)
             commands.now)
             commands.now plan) }
+        ensures splits { IfOk result (λ plan.
+            AreSplitsFor names.entry.registry.now commands.now plan.splits) }
         // There are as many batches as different nodes of the parts.
         ensures fewest { IfOk result (λ plan. AreFewest plan.batches) }
         ensures untold { IfOk result (λ plan. All (λ told. told ≡ false) plan.batches.told) }
@@ -194,7 +197,7 @@ impl<'a> PipelinePlan<'a> {
     ///
     /// Of kind `Client` if a batch has no answers, and `OutOfMemory`.
     pub fn combine(self, alloc: Global) -> RedisResult<Vec<Result<Value, RedisError>>>
-        ensures replies { IfOk result (λ replies. AreRepliesTo self.entry.splits
+        ensures replies { IfOk result (λ replies. AreRepliesFor self.entry.splits
             (map answer_of self.entry.batches.answers) (map answer_of replies.items)) }
         ensures all { OnOk result (list_all (λ told. told) self.entry.batches.told ≡ true) }
         ensures untold { list_all (λ told. told) self.entry.batches.told ≡ false

@@ -3,8 +3,9 @@ ghost use Rattle.std.specs.List.{sum_by};
 ghost use Rattle.resp_core.specs.View.{view};
 ghost use Rattle.resp_core.specs.declared.error.ErrorKind.TheVariants.{OutOfMemory};
 ghost use Rattle.redis_batches.specs.CommandTask.{split_in};
+ghost use Rattle.redis_cluster.specs.Plan.{IsMadeOfParts};
 ghost use Rattle.redis_batches.specs.Pipeline.{Answer};
-ghost use Rattle.redis_batches.specs.Replies.{AreRepliesTo, IsJoinedAs, IsReplyTo, IsSplitReply, IsTakenFor, all_replies, part_count, values_among};
+ghost use Rattle.redis_batches.specs.Replies.{AreRepliesFor, IsSplitReply, IsTakenFor, all_replies, as_outcome, part_count, values_among};
 ghost use Rattle.redis_batches.specs.Taken.{answer_of};
 
 use crate::task::CommandTask;
@@ -59,7 +60,7 @@ fn joined_reply(
 ) -> RedisResult<Result<Value, RedisError>>
     requires len { length values.items ≡ length split.now.routes }
     ensures reply { IfOk result (λ reply.
-        IsJoinedAs split.now (map view values.items) (answer_of reply)) }
+        IsMadeOfParts split.now (map view values.items) (as_outcome (answer_of reply))) }
     ensures memory { IfErr result (λ error. error.kind ≡ OutOfMemory) }
 {
     match join_replies(alloc, split, values) {
@@ -130,7 +131,7 @@ pub(super) fn replies_of(
     mut answers: Vec<Result<Value, RedisError>>,
 ) -> RedisResult<Vec<Result<Value, RedisError>>>
     requires long { sum_by part_count (map split_in tasks.now) ≡ length answers.items }
-    ensures replies { IfOk result (λ replies. AreRepliesTo (map split_in tasks.now)
+    ensures replies { IfOk result (λ replies. AreRepliesFor (map split_in tasks.now)
         (map answer_of answers.items) (map answer_of replies.items)) }
     ensures memory { IfErr result (λ error. error.kind ≡ OutOfMemory) }
 {

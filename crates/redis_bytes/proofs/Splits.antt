@@ -6,7 +6,7 @@ use Rattle.redis_routing.specs.Names.{Names}
 use Rattle.redis_routing.specs.declared.policy.ResponsePolicy.{ResponsePolicy}
 use Rattle.redis_routing.specs.declared.route_by.MultiSlotArgPattern.{MultiSlotArgPattern}
 use Rattle.redis_routing.specs.Split.{Split}
-use Rattle.redis_cluster.specs.Joined.{IsSplitOf}
+use Rattle.redis_bytes.specs.Requests.{IsSplitOf}
 
 -- what holds of an option that is there
 pub of_some : {X : Type 0} (P : X → Type 0) (o : Option X) (x : X) → o ≡ Some x → IfSome o P → P x

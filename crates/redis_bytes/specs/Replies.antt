@@ -7,7 +7,7 @@ use Rattle.resp.specs.declared.reading.TheConstants.{MAX_LEVELS}
 use Rattle.resp.specs.declared.fault.ReadError.TheVariants as errors
 use Rattle.redis_routing.specs.Names.{Names}
 use Rattle.redis_routing.specs.Split.{Split}
-use Rattle.redis_cluster.specs.Joined.{joined}
+use Rattle.redis_cluster.specs.Plan.{IsMadeOfParts}
 use Rattle.redis_bytes.specs.declared.fault.BytesFault.{BytesFault}
 use Rattle.redis_bytes.specs.declared.fault.BytesFault.TheVariants as faults
 use Rattle.redis_bytes.specs.declared.fault.BytesFault.TheVariants.{Memory, Error, AfterReplies, Unfit, NoForm}
@@ -76,7 +76,7 @@ pub record AreCombined (split : Split) (bytes combined : List ℕ) : Type 0 wher
   pub replies : List Reply
   pub answered : AreAnswered split bytes replies
   pub one : Reply
-  pub made : joined split replies ≡ Ok one
+  pub made : IsMadeOfParts split replies (Ok one)
   pub written : combined ≡ form one
 
 -- the reply has no form, or is too deep
@@ -86,9 +86,9 @@ HasNoForm reply = HasForm reply → depth reply ≤ MAX_LEVELS → ⊥
 -- why the replies to the parts make no one reply in bytes
 abbrev pub IsUnjoined : Split → List ℕ → BytesFault → Type 0
 IsUnjoined split bytes (Unfit kind) = (replies : List Reply) × AreAnswered split bytes replies
-    × (joined split replies ≡ Err kind)
+    × IsMadeOfParts split replies (Err kind)
 IsUnjoined split bytes NoForm = (replies : List Reply) × AreAnswered split bytes replies
-    × (one : Reply) × (joined split replies ≡ Ok one) × HasNoForm one
+    × (one : Reply) × IsMadeOfParts split replies (Ok one) × HasNoForm one
 IsUnjoined split bytes fault = AreUnread (length split.routes) bytes fault
 
 -- why replies to a request are not combined: the request is not split, or they are not joined

@@ -5,9 +5,9 @@ use Rattle.resp.specs.Forms.{IsRequest, request}
 use Rattle.resp.specs.Requests.{RequestCause}
 use Rattle.resp_core.specs.ItemEnds.{item_ends}
 use Rattle.redis_routing.specs.Names.{Names}
-use Rattle.redis_routing.specs.Complete.{multi_slot_routes}
-use Rattle.redis_routing.specs.Split.{Split, slots_of, split_part}
-use Rattle.redis_cluster.specs.Joined.{IsSplitOf}
+use Rattle.redis_routing.specs.Command.{Arguments, command_name}
+use Rattle.redis_routing.specs.Complete.{multi_slot_routes, pattern_by_name}
+use Rattle.redis_routing.specs.Split.{Split, policy_by_name, slots_of, split_part}
 use Rattle.redis_bytes.specs.declared.fault.BytesFault.{BytesFault}
 use Rattle.redis_bytes.specs.declared.fault.BytesFault.TheVariants.{Memory, Request, AfterRequest, NotMultiKey}
 use Rattle.redis_bytes.specs.declared.splitting.Parts.{Parts}
@@ -32,6 +32,13 @@ IsUnread bytes Memory = Unit {0}
 IsUnread bytes (Request fault) = RequestCause bytes fault
 IsUnread bytes (AfterRequest end) = IsFollowed bytes end
 IsUnread bytes _ = ⊥
+
+-- the split of a command
+pub record IsSplitOf (names : Names) (args : Arguments) (split : Split) : Type 0 where
+  pub arguments : split.arguments ≡ args
+  pub routes : Some split.routes ≡ multi_slot_routes names args
+  pub pattern : Some split.pattern ≡ pattern_by_name names.registered (command_name args)
+  pub policy : Some split.policy ≡ policy_by_name names.registered (command_name args)
 
 -- The bytes are one request, and it is split like this.
 pub record IsSplitRequest (names : Names) (bytes : List ℕ) (split : Split) : Type 0 where

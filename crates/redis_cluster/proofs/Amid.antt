@@ -1,5 +1,5 @@
 -- Parts that are served at moments of their own do what the whole command does to a keyspace that has, at each key, what stood there at the moment of its part.
-use Rattle.std.proofs.Common.{◌≡◌, ℕ, List, [], ◌∷◌, ◌++◌, true, cond, Some, Ok, All, refl, sym, ap, ◌∙◌, subst, arith, length, map, get_or}
+use Rattle.std.proofs.Common.{◌≡◌, ℕ, List, [], ◌∷◌, ◌++◌, true, cond, Result, Some, Ok, All, refl, sym, ap, ◌∙◌, subst, arith, length, map, get_or}
 use Rattle.std.specs.Prelude.{nat_eq}
 use Rattle.std.specs.Str.{bytes_eq}
 use Rattle.std.specs.List.{list_any}
@@ -10,24 +10,26 @@ use Rattle.std.proofs.lemmas.List.Elements.{All-head, All-tail, All-weaker}
 use Rattle.cluster_slots.specs.KeySlot.{key_slot}
 use Rattle.resp_core.proofs.Cases.{by_test}
 use Rattle.resp_core.specs.Reply.{Reply}
+use Rattle.resp_core.specs.declared.error.ErrorKind.{ErrorKind}
 use Rattle.redis_routing.specs.Command.{Arguments}
 use Rattle.redis_routing.specs.Registry.{Registrations}
-use Rattle.redis_routing.specs.Split.{Split, IsSplit}
+use Rattle.redis_routing.specs.Split.{IsSplit}
 use Rattle.redis_cluster.specs.Amid.{HeldBySlot, IsAssembled, IsReplyAmid, replies_by, after_parts, IsServedAmid, ActsBySlot, PartsActBySlot}
-use Rattle.redis_cluster.specs.Joined.{joined}
-use Rattle.redis_cluster.specs.MultiKey.{KeyTuple, MultiKey, multi_key, part_by_slot, part_of, form_by_policy, slots_in, tuples_of_slot}
+use Rattle.redis_cluster.specs.Joined.{HaveReplied, IsJoined, IsOutcome}
+use Rattle.redis_cluster.specs.MultiKey.{KeyTuple, MultiKey, multi_key, part_by_slot, part_of, slots_in, tuples_of_slot}
 use Rattle.redis_cluster.specs.Orders.{NamesOnce, in_order, times}
-use Rattle.redis_cluster.specs.Plan.{Plan, tuples_in_split}
+use Rattle.redis_cluster.specs.Plan.{IsMadeOfParts, Plan}
 use Rattle.redis_cluster.specs.Sends.{IsPlanOf}
-use Rattle.redis_cluster.specs.SlotResults.{results_of_slot}
-use Rattle.redis_cluster.specs.Unsplit.{Act, Step, Keyspace, TupleResult, act_of, after, keyspace_after, put, results, reply_by, reply_to}
+use Rattle.redis_cluster.specs.SlotItems.{items_of_slot}
+use Rattle.redis_cluster.specs.Unsplit.{Act, Step, Keyspace, act_of, after, keyspace_after, put, results, results_of, reply_by, reply_to}
 use Rattle.redis_cluster.proofs.CommandParts.{part_by_command}
 use Rattle.redis_cluster.proofs.Counts.{same_number, times_here, times_there}
 use Rattle.redis_cluster.proofs.Fold.{after_is, cell_after, keeps, skips}
-use Rattle.redis_cluster.proofs.Joined.{joined_is_unsplit}
+use Rattle.redis_cluster.proofs.Joined.{outcome_is, replies_by as replies_of_parts}
+use Rattle.redis_cluster.proofs.Made.{made_of_command}
 use Rattle.redis_cluster.proofs.Parts.{length-results, results-part}
 use Rattle.redis_cluster.proofs.SplitParts.{part_means, slots_have_keys}
-use Rattle.redis_cluster.proofs.SplitTuples.{slots_of_split}
+use Rattle.redis_cluster.proofs.SplitTuples.{ShareOut, command_shares, slots_of_split}
 
 module _ {C : Type 0} (act : Act C) where
   -- the results depend on what stands at the tuples' keys alone
@@ -45,10 +47,10 @@ module _ {C : Type 0} (act : Act C) where
 
   -- A part adds to the reply what its tuples add to that of the whole command.
   part_adds : (slot : ℕ) (ts : List KeyTuple) (held : HeldBySlot C) (one : Keyspace C) → All (λ (t : KeyTuple). one t.key ≡ held (key_slot t.key) t.key) ts
-      → results act (tuples_of_slot slot ts) (held slot) ≡ results_of_slot slot ts (results act ts one)
+      → results act (tuples_of_slot slot ts) (held slot) ≡ items_of_slot slot ts (results act ts one)
   part_adds slot ts held one is =
       results-part act slot ts (assembled held) (held slot) (λ key own. ap (λ s. held s key) (sym (eqb-true (key_slot key) slot own)))
-      ∙ ap (results_of_slot slot ts) (sym (results_own (λ key. one key ≡ held (key_slot key) key) ts one (assembled held) is (λ key own. own)))
+      ∙ ap (items_of_slot slot ts) (sym (results_own (λ key. one key ≡ held (key_slot key) key) ts one (assembled held) is (λ key own. own)))
 
   -- It leaves at a key of its slot what the whole command leaves there.
   pub part_leaves : (slot : ℕ) (ts : List KeyTuple) (before one : Keyspace C) (key : List ℕ) → key_slot key ≡ slot → one key ≡ before key → after act (tuples_of_slot slot ts) before key ≡ after act ts one key
@@ -66,28 +68,19 @@ module _ {C : Type 0} (act : Act C) where
       (λ own. absurd (other (eqb-true (key_slot key) slot own)))
       (λ apart. skips act (λ n. nat_eq n slot) key apart ts (before key))
 
--- What a split's policy makes of the replies to the parts, where the tuples have these results, is the reply to the unsplit command.
-pub joined_parts : (split : Split) (command : MultiKey) → IsSplit split → form_by_policy split.policy ≡ Some command.form → command.tuples ≡ tuples_in_split split → (rs : List TupleResult) → length rs ≡ length command.tuples
-    → joined split (map (λ slot. reply_by command.form (results_of_slot slot command.tuples rs)) (slots_in command)) ≡ Ok (reply_by command.form rs)
-joined_parts split command is form tuples rs each =
-    let replies : List KeyTuple → List ℕ → List Reply = λ ts slots. map (λ slot. reply_by command.form (results_of_slot slot ts rs)) slots in
-    joined_is_unsplit split command.form rs (replies command.tuples (slots_in command)) is
-    (record {
-      form_is = form;
-      each = each ∙ ap length tuples;
-      replies_are = ap (λ ts. replies ts (slots_in command)) tuples ∙ ap (replies (tuples_in_split split)) (sym (slots_of_split split is command tuples));
-    })
-
 module _ {C : Type 0} (step : Step C) (command : MultiKey) where
-  -- So it is where the parts are served at moments of their own.
-  pub joined_amid : (split : Split) → IsSplit split → form_by_policy split.policy ≡ Some command.form → command.tuples ≡ tuples_in_split split
-      → (held : HeldBySlot C) (one : Keyspace C) → IsAssembled command held one → joined split (replies_by step command held) ≡ Ok (reply_to step command one)
-  joined_amid split is form tuples held one assembled =
-      let act = act_of step command in
-      let rs : List TupleResult = results act command.tuples one in
-      let own : (λ slot. reply_to step (part_of command slot) (held slot)) ≡ (λ slot. reply_by command.form (results_of_slot slot command.tuples rs)) =
-      fun_ext (λ slot. ap (reply_by command.form) (part_adds act slot command.tuples held one assembled)) in
-      ap (λ (f : ℕ → Reply). joined split (map f (slots_in command))) own ∙ joined_parts split command is form tuples rs (length-results act command.tuples one)
+  -- Parts that are served at moments of their own reply what their tuples add to the reply of the unsplit command.
+  said_amid : (held : HeldBySlot C) (one : Keyspace C) → IsAssembled command held one → replies_by step command held ≡ replies_of_parts command.form command.tuples (results_of step command one) (slots_in command)
+  said_amid held one assembled =
+      let own : (λ slot. reply_to step (part_of command slot) (held slot)) ≡ (λ slot. reply_by command.form (items_of_slot slot command.tuples (results_of step command one))) =
+      fun_ext (λ slot. ap (reply_by command.form) (part_adds (act_of step command) slot command.tuples held one assembled)) in
+      ap (λ (f : ℕ → Reply). map f (slots_in command)) own
+
+  -- So what is made of their replies is the reply of the unsplit command.
+  pub outcome_amid : ShareOut (slots_in command) command.tuples → (held : HeldBySlot C) (one : Keyspace C) → IsAssembled command held one → (replies : List Reply) (outcome : Result Reply ErrorKind) → replies ≡ replies_by step command held
+      → IsOutcome command.tuples (slots_in command) replies command.form outcome → outcome ≡ Ok (reply_to step command one)
+  outcome_amid share held one assembled replies outcome said made =
+      outcome_is (slots_in command) command.tuples share (results_of step command one) (length-results (act_of step command) command.tuples one) command.form replies outcome (said ∙ said_amid held one assembled) made
 
   -- The parts of other slots leave a key as it was.
   parts_skip : (slots : List ℕ) (first : Keyspace C) (key : List ℕ) → times (key_slot key) slots ≡ 0 → after_parts step command slots first key ≡ first key
@@ -119,26 +112,38 @@ parts_act_by_slot C command registered args is =
       acts = acts_by_slot C command;
     }
 
--- What a split's policy makes of the replies to the parts of a plan is the reply amid what others write.
-pub reply_amid : (C : Type 0) (registered : Registrations) (plan : Plan) (command : MultiKey) (value : Reply) (replies : List Reply) → IsPlanOf registered command plan → IsSplit plan.split → joined plan.split replies ≡ Ok value → IsReplyAmid C command replies value
+-- What is made of the replies to the parts of a plan is the reply amid what others write.
+pub reply_amid : (C : Type 0) (registered : Registrations) (plan : Plan) (command : MultiKey) (value : Reply) (replies : List Reply) → IsPlanOf registered command plan → IsSplit plan.split → IsMadeOfParts plan.split replies (Ok value) → IsReplyAmid C command replies value
 reply_amid C registered plan command value replies is split made = λ step held one assembled said.
     let same : Ok value ≡ Ok (reply_to step command one) =
-    sym made ∙ ap (joined plan.split) said ∙ joined_amid step command plan.split split is.form is.tuples held one assembled in
+    outcome_amid step command (command_shares plan.split split command is.tuples) held one assembled replies (Ok value) said (made_of_command plan.split command split is.form is.tuples replies (Ok value) made) in
     cc
 
--- A value that was made of the replies to the parts of a plan is so served.
-pub served_amid : (C : Type 0) (registered : Registrations) (plan : Plan) (command : MultiKey) (order : List ℕ) (old new : List Reply → Type 0) (value : Reply) (replies : List Reply)
+-- Replies that came in an order of a plan's routes are replies to the command's parts.
+pub have_replied : (registered : Registrations) (plan : Plan) (command : MultiKey) (order : List ℕ) (old new : List Reply → Type 0) (replies : List Reply)
     → IsPlanOf registered command plan → IsSplit plan.split → NamesOnce (length plan.split.routes) order → length replies ≡ length plan.split.routes
-    → ((before : List Reply) → old before → new (before ++ in_order replies order)) → joined plan.split replies ≡ Ok value
-    → IsServedAmid C registered plan.split.arguments order old new value
-served_amid C registered plan command order old new value replies is split names each gave made =
+    → ((before : List Reply) → old before → new (before ++ in_order replies order))
+    → HaveReplied registered plan.split.arguments order old new command replies
+have_replied registered plan command order old new replies is split names each gave =
     let many : length plan.split.routes ≡ length (slots_in command) = sym (length-map plan.split.routes (λ r. r.0.slot)) ∙ ap length (slots_of_split plan.split split command is.tuples) in
-    record {
-      command = command;
-      command_is = is.command_is;
-      order_is = subst (λ n. NamesOnce n order) many names;
-      replies = replies;
-      each = each ∙ many;
-      gave = gave;
-      reply = reply_amid C registered plan command value replies is split made;
-    }
+    record { command_is = is.command_is; order_is = subst (λ n. NamesOnce n order) many names; each = each ∙ many; gave = gave }
+
+-- What is made of such replies is joined, and served amid what others write.
+module _ (registered : Registrations) (plan : Plan) (command : MultiKey) (order : List ℕ) (old new : List Reply → Type 0) (replies : List Reply)
+    (is : IsPlanOf registered command plan) (split : IsSplit plan.split) (names : NamesOnce (length plan.split.routes) order) (each : length replies ≡ length plan.split.routes)
+    (gave : (before : List Reply) → old before → new (before ++ in_order replies order)) where
+  pub joined_by_plan : (outcome : Result Reply ErrorKind) → IsMadeOfParts plan.split replies outcome → IsJoined registered plan.split.arguments order old new outcome
+  joined_by_plan outcome made = record {
+    command = command;
+    replies = replies;
+    replied = have_replied registered plan command order old new replies is split names each gave;
+    outcome_is = made_of_command plan.split command split is.form is.tuples replies outcome made;
+  }
+
+  pub served_amid : (C : Type 0) (value : Reply) → IsMadeOfParts plan.split replies (Ok value) → IsServedAmid C registered plan.split.arguments order old new value
+  served_amid C value made = record {
+    command = command;
+    replies = replies;
+    replied = have_replied registered plan command order old new replies is split names each gave;
+    reply = reply_amid C registered plan command value replies is split made;
+  }

@@ -1,6 +1,6 @@
 -- A split command by its lists of indices is the command by its tuples: the same routes and parts.
 use Rattle.std.proofs.Common.{◌≡◌, ℕ, ◌≤◌, List, [], ◌∷◌, ◌++◌, Bool, Option, None, Some, map, option_map, length, take, refl, sym, ap, ◌∙◌, arith}
-use Rattle.std.specs.Prelude.{IfSome, nat_eq, slice_get}
+use Rattle.std.specs.Prelude.{IfSome, nat_eq, slice_get, unwrap_or}
 use Rattle.std.specs.List.{flat_map}
 use Rattle.std.specs.Option.{option_to_list}
 use Rattle.std.proofs.lemmas.Bool.Decides.{nat_tests}
@@ -20,7 +20,7 @@ use Rattle.redis_routing.specs.Complete.{multi_slot_routes, part_by_name, part_b
 use Rattle.redis_routing.specs.Split.{HasJoiningPolicy}
 use Rattle.redis_routing.specs.Parts.{first_appearances, slot_of, tuples_in_slot}
 use Rattle.redis_routing.specs.Routing.{nodes_for, route_of_slot, routes_of}
-use Rattle.redis_cluster.specs.MultiKey.{MultiKey, command_routes, multi_key, part_args_in, part_by_slot, tuple_args, tuples_of_slot}
+use Rattle.redis_cluster.specs.MultiKey.{KeyTuple, MultiKey, command_routes, multi_key, part_args, part_by_slot, tuples_of_slot}
 use Rattle.redis_cluster.specs.PlacedTuples.{unplaced}
 use Rattle.redis_cluster.proofs.SplitParts.{command_of_routes, filter-map, is_made, no_command, pattern_made, routes_made, same_slots}
 
@@ -46,6 +46,10 @@ routes_are names args = there (multi_slot_routes names args) refl
     there (Some routes) some joins =
         let found = command_of_routes names args routes joins some in
         ap Some (routes_by_command names args found.0 routes found.1 some) ∙ sym (ap (option_map (command_routes names.only_reads)) found.1)
+
+-- the arguments of a tuple
+abbrev pub tuple_args : KeyTuple → List (List ℕ)
+tuple_args t = t.key ∷ t.extras
 
 -- the arguments of tuples do not depend on where they stand
 same_arguments : (ts : List Tuple) → flat_map arguments_of ts ≡ flat_map tuple_args (map unplaced ts)
@@ -80,4 +84,4 @@ part_by_command registry args command slot is =
     ∙ ap (λ w. part_by_pattern w args slot) (pattern_made registry args made.0 command made.1)
     ∙ ap (λ texts. words ++ map Some (texts ++ shared_in made.0 present)) tuples
     ∙ ap (λ last. words ++ map Some (flat_map tuple_args (tuples_of_slot slot command.tuples) ++ last)) shared
-    ∙ sym (ap (λ c. part_args_in args c slot) is)
+    ∙ sym (ap (λ (c : Option MultiKey). unwrap_or (option_map (λ found. part_args args found slot) c) []) is)

@@ -1,24 +1,19 @@
 -- A command with gaps is the same command as its front.
-use Rattle.std.proofs.Common.{◌≡◌, ℕ, List, [], ◌∷◌, ◌++◌, Bool, cond, Option, None, Some, refl, sym, ap, ◌∙◌, map, take, length}
+use Rattle.std.proofs.Common.{◌≡◌, ℕ, List, [], ◌∷◌, ◌++◌, Option, None, Some, refl, sym, ap, ◌∙◌, map, take}
 use Rattle.std.specs.List.{flat_map}
-use Rattle.std.specs.Prelude.{option_and_then}
+use Rattle.std.specs.Prelude.{option_and_then, option_map, unwrap_or}
 use Rattle.std.specs.Option.{option_to_list}
 use Rattle.redis_routing.specs.Command.{Arguments, command_name}
-use Rattle.redis_routing.specs.Names.{Names}
 use Rattle.redis_routing.specs.NameWords.{name_words_of}
 use Rattle.redis_routing.specs.Registry.{Registrations}
 use Rattle.redis_routing.specs.TwoWords.{takes_second}
 use Rattle.redis_routing.specs.Upper.{upper}
 use Rattle.resp_core.proofs.Cases.{by_test}
 use Rattle.redis_routing.specs.PresentArguments.{arguments_before_gap, present_arguments, present_arguments_after}
-use Rattle.redis_routing.specs.Tuples.{is_complete}
-use Rattle.redis_routing.specs.declared.route_by.MultiSlotArgPattern.{MultiSlotArgPattern}
-use Rattle.redis_routing.specs.Complete.{pattern_by_name, routes_by, routes_by_name}
-use Rattle.redis_routing.specs.Routing.{routes_of}
 use Rattle.redis_routing.specs.MultiKeyNames.{split_of}
 use Rattle.redis_routing.proofs.SelfRouting.{arguments_before_gap-map}
 use Rattle.redis_cluster.specs.Front.{front, IsSameCommand}
-use Rattle.redis_cluster.specs.MultiKey.{MultiKey, command_with, form_by_policy, multi_key, part_args_in, tuple_args, tuples_of_slot}
+use Rattle.redis_cluster.specs.MultiKey.{MultiKey, command_with, form_by_policy, multi_key, part_args, tuples_of_slot}
 
 -- the front has the words of the name, and what is present after them
 record IsFront (args : Arguments) : Type 0 where
@@ -67,29 +62,23 @@ module _ (args : Arguments) where
   same : IsFront args
   same = is_front args
 
-  routed_same : (reads : Bool) (found : Option MultiSlotArgPattern) → routes_by reads (front args) found ≡ routes_by reads args found
-  routed_same reads None = refl
-  routed_same reads (Some pattern) = ap (λ present. cond (is_complete pattern (length present)) (Some (routes_of reads pattern present)) None) same.present
+  abbrev part_found : Arguments → ℕ → Option MultiKey → Arguments
+  part_found words slot found = unwrap_or (option_map (λ command. part_args words command slot) found) []
 
-  named_same : (names : Names) (name : Option (List ℕ)) → routes_by_name names (front args) name ≡ routes_by_name names args name
-  named_same names None = refl
-  named_same names (Some name) = routed_same (names.only_reads name) (pattern_by_name names.registered (Some name))
-
-  part_same : (slot : ℕ) (command : Option MultiKey) → part_args_in (front args) command slot ≡ part_args_in args command slot
+  part_same : (slot : ℕ) (command : Option MultiKey) → part_found (front args) slot command ≡ part_found args slot command
   part_same slot None = refl
   part_same slot (Some command) =
-      let rest : Arguments = map Some (flat_map tuple_args (tuples_of_slot slot command.tuples) ++ option_to_list command.shared) in
+      let rest : Arguments = map Some (flat_map (λ t. t.key ∷ t.extras) (tuples_of_slot slot command.tuples) ++ option_to_list command.shared) in
       ap (λ words. take words (front args) ++ rest) same.words ∙ ap (λ words. words ++ rest) same.first
 
   command_same : (registered : Registrations) → multi_key registered (front args) ≡ multi_key registered args
   command_same registered =
-      ap (option_and_then (λ name. option_and_then (λ split. command_with registered name (present_arguments (front args)) split.0 (form_by_policy split.1)) (split_of registered name))) same.name
-      ∙ ap (λ present. option_and_then (λ name. option_and_then (λ split. command_with registered name present split.0 (form_by_policy split.1)) (split_of registered name)) (command_name args)) same.present
+      ap (option_and_then (λ name. option_and_then (λ split. option_and_then (command_with registered name (present_arguments (front args)) split.0) (form_by_policy split.1)) (split_of registered name))) same.name
+      ∙ ap (λ present. option_and_then (λ name. option_and_then (λ split. option_and_then (command_with registered name present split.0) (form_by_policy split.1)) (split_of registered name)) (command_name args)) same.present
 
   pub same_command : IsSameCommand args (front args)
   same_command =
       record {
         command = command_same;
-        routes = λ names. ap (routes_by_name names (front args)) same.name ∙ named_same names (command_name args);
-        part = λ registered slot. ap (λ command. part_args_in (front args) command slot) (command_same registered) ∙ part_same slot (multi_key registered args);
+        part = λ registered slot. ap (part_found (front args) slot) (command_same registered) ∙ part_same slot (multi_key registered args);
       }

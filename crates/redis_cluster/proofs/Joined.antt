@@ -1,15 +1,21 @@
 -- What the policies of split commands make of the replies to the parts.
-use Rattle.std.proofs.Common.{◌≡◌, ℕ, List, [], ◌∷◌, Option, None, Some, Ok, Err, map, length, refl, sym, ap, ◌∙◌, arith, Vec, Global}
-use Rattle.std.specs.Prelude.{slice_get}
+use Rattle.std.proofs.Common.{◌≡◌, ℕ, ◌<◌, List, [], ◌∷◌, Option, None, Some, Result, Ok, Err, map, length, refl, sym, ap, ◌∙◌, subst, arith, Vec, Global}
+use Rattle.std.specs.Prelude.{ok_or, option_and_then, option_map, slice_get}
+use Rattle.std.specs.List.{AllZip}
 use Rattle.std.proofs.lemmas.List.{length-map}
 use Rattle.std.proofs.lemmas.Simd.{map-map}
 use Rattle.cluster_slots.specs.SlotRoute.{SlotRoute}
-use Rattle.resp_core.specs.Reply.{Reply}
+use Rattle.resp_core.specs.Reply.{Reply, array, array_of, int, replies_of}
 use Rattle.resp_core.specs.Reply as reply
 use Rattle.resp_core.specs.declared.error.ErrorKind.{ErrorKind}
-use Rattle.resp_core.specs.declared.error.ErrorKind.TheVariants.{Client, UnexpectedReturnType, OutOfMemory}
-use Rattle.redis_combiners.specs.Aggregate.{aggregate_of}
-use Rattle.redis_combiners.specs.SortedArrays.{sorted_arrays}
+use Rattle.resp_core.specs.declared.error.ErrorKind.TheVariants.{UnexpectedReturnType, OutOfMemory}
+use Rattle.resp_core.proofs.Views.{items_in-replies_of}
+use Rattle.redis_combiners.specs.Aggregate.{aggregate_of, sum_of}
+use Rattle.redis_combiners.specs.ByPlaces.{by_places}
+use Rattle.redis_combiners.specs.AllItems.{all_items}
+use Rattle.redis_combiners.specs.Misfits.{first_misfit}
+use Rattle.redis_combiners.specs.SortedArrays.{array_or_refusal, sorted_arrays}
+use Rattle.redis_routing.specs.Lists.{flatten}
 use Rattle.redis_routing.specs.declared.policy.AggregateOp.{AggregateOp}
 use Rattle.redis_routing.specs.declared.policy.AggregateOp.TheVariants.{Min, Sum}
 use Rattle.redis_routing.specs.declared.policy.ResponsePolicy.{ResponsePolicy}
@@ -17,109 +23,141 @@ use Rattle.redis_routing.specs.declared.policy.ResponsePolicy.TheVariants.{OneSu
 use Rattle.redis_routing.specs.declared.route_by.MultiSlotArgPattern.{MultiSlotArgPattern}
 use Rattle.redis_routing.specs.Split.{Split, IsSplit, slots_of}
 use Rattle.redis_routing.specs.RoutingInfo.{route_lists}
-use Rattle.redis_cluster.specs.MultiKey.{ReplyForm, list, count, okay, form_by_policy}
-use Rattle.redis_cluster.specs.SlotResults.{results_of_slot}
+use Rattle.redis_cluster.specs.MultiKey.{KeyTuple, ReplyForm, list, count, okay, form_by_policy, tuples_of_slot}
+use Rattle.redis_cluster.specs.SlotItems.{items_of_slot}
 use Rattle.redis_cluster.specs.Unsplit.{TupleResult, reply_by}
-use Rattle.redis_cluster.specs.Joined.{joined, joined_by, or_refused}
-use Rattle.redis_cluster.specs.Plan.{ArePartsAnswered, tuples_in_split}
-use Rattle.redis_cluster.proofs.SplitTuples.{IsSplitTo, is_split_to}
+use Rattle.redis_cluster.specs.Joined.{IsOutcome}
+use Rattle.redis_cluster.specs.Plan.{ArePartsAnswered, IsMadeOfParts, tuples_in_split}
+use Rattle.redis_cluster.proofs.Constructors.{none_apart}
+use Rattle.redis_cluster.proofs.SplitTuples.{IsSplitTo, ShareOut, share_out}
 use Rattle.redis_cluster.proofs.JoinedCounts.{counts_joined}
-use Rattle.redis_cluster.proofs.JoinedLists.{lists_joined}
+use Rattle.redis_cluster.proofs.JoinedLists.{arrays_sorted, no_misfit, sorted_is}
+use Rattle.redis_cluster.proofs.Merged.{merged, merged_once}
+use Rattle.redis_cluster.proofs.Placed.{map-items_of_slot}
+use Rattle.redis_cluster.proofs.Places.{items_of_slot_is, numbers_of_slot}
 
--- arrays are put in order by the lists of the routes
-pub arrays_are : (split : Split) (pattern : MultiSlotArgPattern) (routes : List (SlotRoute × Vec ℕ Global)) (replies : List Reply) → split.policy ≡ CombineArrays → pattern ≡ split.pattern → route_lists routes ≡ split.routes
-    → sorted_arrays pattern replies (map (λ route. route.1.items) routes) ≡ joined split replies
-arrays_are split pattern routes replies policy same listed =
-    let lists : map (λ route. route.1.items) routes ≡ map (λ r. r.1) split.routes =
-    sym (map-map (λ (r : SlotRoute × List ℕ). r.1) (λ (r : SlotRoute × Vec ℕ Global). (r.0, r.1.items)) routes) ∙ ap (map (λ r. r.1)) listed in
-    ap (sorted_arrays pattern replies) lists ∙ ap (λ p. sorted_arrays p replies (map (λ r. r.1) split.routes)) same
-    ∙ ap (λ p. joined_by p split.pattern (map (λ r. r.1) split.routes) replies) (sym policy)
+-- what replies to the parts of a split make
+abbrev pub Outcome : Split → List Reply → ReplyForm → Result Reply ErrorKind → Type 0
+Outcome split replies form outcome = IsOutcome (tuples_in_split split) (slots_of split.routes) replies form outcome
+
+module _ (split : Split) (to : IsSplitTo split) (replies : List Reply) (each : length replies ≡ length split.routes) where
+  by_misfit : (kind : Option ErrorKind) → first_misfit replies (map (λ slot. length (tuples_of_slot slot (tuples_in_split split))) (slots_of split.routes)) ≡ kind
+      → (outcome : Result Reply ErrorKind) → sorted_arrays split.pattern replies (map (λ r. r.1) split.routes) ≡ outcome → Outcome split replies list outcome
+  by_misfit (Some kind) first outcome is =
+      let refused : sorted_arrays split.pattern replies (map (λ r. r.1) split.routes) ≡ Err kind =
+      sorted_is (tuples_in_split split) split.pattern split.routes replies to.placed each
+      ∙ ap (λ k. array_or_refusal k (option_and_then (by_places (flatten (map (λ slot. numbers_of_slot slot (tuples_in_split split)) (slots_of split.routes)))) (all_items replies))) first in
+      subst (Outcome split replies list) (sym refused ∙ is) first
+  by_misfit None first outcome is =
+      let all = merged (tuples_in_split split) (slots_of split.routes) replies to.named to.apart (each ∙ sym (length-map split.routes (λ r. r.0.slot))) first in
+      let whole : sorted_arrays split.pattern replies (map (λ r. r.1) split.routes) ≡ Ok (array (replies_of all.0)) =
+      arrays_sorted (tuples_in_split split) all.0 all.1.each split.pattern split.routes replies to.named to.placed each all.1.of_slots in
+      subst (Outcome split replies list) (sym whole ∙ is) (all.0, all.1, refl)
+
+  -- arrays are put in order by the lists of the routes
+  arrays_make : (pattern : MultiSlotArgPattern) (routes : List (SlotRoute × Vec ℕ Global)) (outcome : Result Reply ErrorKind) → pattern ≡ split.pattern → route_lists routes ≡ split.routes
+      → sorted_arrays pattern replies (map (λ route. route.1.items) routes) ≡ outcome → Outcome split replies list outcome
+  arrays_make pattern routes outcome same listed is =
+      let lists : map (λ route. route.1.items) routes ≡ map (λ r. r.1) split.routes =
+      sym (map-map (λ (r : SlotRoute × List ℕ). r.1) (λ (r : SlotRoute × Vec ℕ Global). (r.0, r.1.items)) routes) ∙ ap (map (λ r. r.1)) listed in
+      by_misfit (first_misfit replies (map (λ slot. length (tuples_of_slot slot (tuples_in_split split))) (slots_of split.routes))) refl outcome
+      (sym (ap (sorted_arrays pattern replies) lists ∙ ap (λ p. sorted_arrays p replies (map (λ r. r.1) split.routes)) same) ∙ is)
+
+  -- so it is for each form of the reply that arrays make
+  pub arrays_are : (form : ReplyForm) (pattern : MultiSlotArgPattern) (routes : List (SlotRoute × Vec ℕ Global)) (outcome : Result Reply ErrorKind) → form_by_policy split.policy ≡ Some form → split.policy ≡ CombineArrays
+      → pattern ≡ split.pattern → route_lists routes ≡ split.routes → sorted_arrays pattern replies (map (λ route. route.1.items) routes) ≡ outcome → Outcome split replies form outcome
+  arrays_are form pattern routes outcome form_is policy same listed is =
+      let own : list ≡ form = let e : form_by_policy split.policy ≡ Some list = ap form_by_policy policy in cc in
+      subst (λ f. Outcome split replies f outcome) own (arrays_make pattern routes outcome same listed is)
 
 -- numbers make one
-pub number_is : (split : Split) (op : AggregateOp) (replies : List Reply) (found : Option Reply) → split.policy ≡ Aggregate op → aggregate_of op replies ≡ found
-    → joined split replies ≡ or_refused UnexpectedReturnType found
-number_is split op replies found policy is = ap (λ p. joined_by p split.pattern (map (λ r. r.1) split.routes) replies) policy ∙ ap (or_refused UnexpectedReturnType) is
+pub number_is : (split : Split) (form : ReplyForm) (op : AggregateOp) (replies : List Reply) (found : Option Reply) → form_by_policy split.policy ≡ Some form → split.policy ≡ Aggregate op → aggregate_of op replies ≡ found
+    → Outcome split replies form (ok_or found UnexpectedReturnType)
+number_is split form Min replies found form_is policy is = absurd (let e : form_by_policy split.policy ≡ None = ap form_by_policy policy in cc)
+number_is split form Sum replies found form_is policy is =
+    let own : count ≡ form = let e : form_by_policy split.policy ≡ Some count = ap form_by_policy policy in cc in
+    subst (λ f. Outcome split replies f (ok_or found UnexpectedReturnType)) own (ap (λ o. ok_or o UnexpectedReturnType) is)
 
 -- by any other policy it is the first reply
-pub first_is : (split : Split) (policy : ResponsePolicy) (replies : List Reply) (first : Reply) → split.policy ≡ policy → (policy ≡ CombineArrays → ⊥) → ((op : AggregateOp) → policy ≡ Aggregate op → ⊥)
-    → Some first ≡ slice_get replies 0 → joined split replies ≡ Ok first
-first_is split policy replies first is not_arrays not_numbers at =
-    ap (λ p. joined_by p split.pattern (map (λ r. r.1) split.routes) replies) is ∙ other policy not_arrays not_numbers ∙ ap (or_refused Client) (sym at)
+pub first_is : (split : Split) (form : ReplyForm) (policy : ResponsePolicy) (replies : List Reply) (first : Reply) → form_by_policy split.policy ≡ Some form → split.policy ≡ policy
+    → (policy ≡ CombineArrays → ⊥) → ((op : AggregateOp) → policy ≡ Aggregate op → ⊥) → Some first ≡ slice_get replies 0 → Outcome split replies form (Ok first)
+first_is split form policy replies first form_is is not_arrays not_numbers at =
+    subst (λ f. Outcome split replies f (Ok first)) (other policy not_arrays not_numbers (ap form_by_policy (sym is) ∙ form_is)) (okay_is replies at)
   where
-    other : (p : ResponsePolicy) → (p ≡ CombineArrays → ⊥) → ((op : AggregateOp) → p ≡ Aggregate op → ⊥) → joined_by p split.pattern (map (λ r. r.1) split.routes) replies ≡ or_refused Client (slice_get replies 0)
-    other OneSucceeded a n = refl
-    other FirstSucceededNonEmptyOrAllEmpty a n = refl
-    other AllSucceeded a n = refl
-    other (AggregateLogical op) a n = refl
-    other (Aggregate op) a n = absurd (n op refl)
-    other CombineArrays a n = absurd (a refl)
-    other Special a n = refl
-    other CombineMaps a n = refl
+    other : (p : ResponsePolicy) → (p ≡ CombineArrays → ⊥) → ((op : AggregateOp) → p ≡ Aggregate op → ⊥) → form_by_policy p ≡ Some form → okay ≡ form
+    other OneSucceeded a n e = absurd (cc e)
+    other FirstSucceededNonEmptyOrAllEmpty a n e = absurd (cc e)
+    other AllSucceeded a n e = cc e
+    other (AggregateLogical op) a n e = absurd (cc e)
+    other (Aggregate op) a n e = absurd (n op refl)
+    other CombineArrays a n e = absurd (a refl)
+    other Special a n e = absurd (cc e)
+    other CombineMaps a n e = absurd (cc e)
 
--- the replies to the parts, where all tuples have these results
-abbrev replies_by : Split → ReplyForm → List TupleResult → List Reply
-replies_by split form results = map (λ slot. reply_by form (results_of_slot slot (tuples_in_split split) results)) (slots_of split.routes)
+    okay_is : (replies : List Reply) → Some first ≡ slice_get replies 0 → Outcome split replies okay (Ok first)
+    okay_is [] e = absurd (cc e)
+    okay_is (r ∷ replies) e = cc e
 
--- the reply of the unsplit command, by each policy
-module _ (split : Split) (to : IsSplitTo split) (form : ReplyForm) (results : List TupleResult) (each : length results ≡ length (tuples_in_split split)) where
-  abbrev ByPolicy : ResponsePolicy → Type 0
-  ByPolicy policy = joined_by policy split.pattern (map (λ r. r.1) split.routes) (replies_by split form results) ≡ Ok (reply_by form results)
+-- the replies to the parts of these slots, if all tuples have these results
+abbrev pub replies_by : ReplyForm → List KeyTuple → List TupleResult → List ℕ → List Reply
+replies_by form ts results slots = map (λ slot. reply_by form (items_of_slot slot ts results)) slots
 
-  first_okay : okay ≡ form → (replies : List Reply) → replies ≡ replies_by split form results → or_refused Client (slice_get replies 0) ≡ Ok (reply_by form results)
-  first_okay is [] same = absurd (omega (arith, ap length same, length-map (slots_of split.routes) (λ slot. reply_by form (results_of_slot slot (tuples_in_split split) results)), length-map split.routes (λ r. r.0.slot), to.some))
-  first_okay is (r ∷ rs) same =
-      let some : map (λ slot. reply.okay) (slots_of split.routes) ≡ r ∷ rs = ap (λ f. replies_by split f results) is ∙ sym same in
-      ap Ok (okay_first (slots_of split.routes) r rs some ∙ ap (λ f. reply_by f results) is)
-    where
-      okay_first : (slots : List ℕ) (r : Reply) (rs : List Reply) → map (λ slot. reply.okay) slots ≡ r ∷ rs → r ≡ reply.okay
-      okay_first [] r rs e = absurd (cc)
-      okay_first (slot ∷ slots) r rs e = cc
+-- the reply of the unsplit command, by each form
+module _ (slots : List ℕ) (ts : List KeyTuple) (share : ShareOut slots ts) (results : List TupleResult) (each : length results ≡ length ts) where
+  abbrev values : List Reply
+  values = map (λ r. r.value) results
 
-  by_policy : (policy : ResponsePolicy) → form_by_policy policy ≡ Some form → ByPolicy policy
-  by_policy OneSucceeded is = absurd (cc)
-  by_policy FirstSucceededNonEmptyOrAllEmpty is = absurd (cc)
-  by_policy AllSucceeded is = let same : okay ≡ form = cc in first_okay same (replies_by split form results) refl
-  by_policy (AggregateLogical op) is = absurd (cc)
-  by_policy (Aggregate Min) is = absurd (cc)
-  by_policy (Aggregate Sum) is =
-      let same : count ≡ form = cc in
-      ap (λ f. or_refused UnexpectedReturnType (aggregate_of Sum (replies_by split f results))) (sym same)
-      ∙ ap (or_refused UnexpectedReturnType) (counts_joined (slots_of split.routes) (tuples_in_split split) results each to.few to.named)
-      ∙ ap (λ f. Ok (reply_by f results)) same
-  by_policy CombineArrays is =
-      let same : list ≡ form = cc in
-      ap (λ f. sorted_arrays split.pattern (replies_by split f results) (map (λ r. r.1) split.routes)) (sym same)
-      ∙ lists_joined (tuples_in_split split) results each split.pattern split.routes to.named to.placed
-      ∙ ap (λ f. Ok (reply_by f results)) same
-  by_policy Special is = absurd (cc)
-  by_policy CombineMaps is = absurd (cc)
+  long : length values ≡ length ts
+  long = length-map results (λ r. r.value) ∙ each
 
--- What is made of the replies to the parts is the reply to the unsplit command.
-pub joined_is_unsplit : (split : Split) (form : ReplyForm) (results : List TupleResult) (replies : List Reply) → IsSplit split → ArePartsAnswered split form results replies → joined split replies ≡ Ok (reply_by form results)
-joined_is_unsplit split form results replies held answered =
-    ap (joined split) answered.replies_are ∙ by_policy split (is_split_to split held) form results answered.each split.policy answered.form_is
+  arrays : (slots : List ℕ) → AllZip (λ slot reply. array_of reply ≡ Some (items_of_slot slot ts values)) slots (replies_by list ts results slots)
+  arrays [] = tt
+  arrays (slot ∷ slots) = (
+    ap Some (items_in-replies_of (map (λ r. r.value) (items_of_slot slot ts results)) ∙ map-items_of_slot (λ r. r.value) slot ts results each ∙ sym (items_of_slot_is slot ts values long)),
+    arrays slots,
+  )
+
+  first_okay : (slots : List ℕ) (outcome : Result Reply ErrorKind) → 0 < length slots → slice_get (map Ok (map (λ slot. reply.okay) slots)) 0 ≡ Some outcome → outcome ≡ Ok reply.okay
+  first_okay [] outcome some is = absurd (omega arith)
+  first_okay (slot ∷ slots) outcome some is = cc is
+
+  by_form : (form : ReplyForm) (outcome : Result Reply ErrorKind) → IsOutcome ts slots (replies_by form ts results slots) form outcome → outcome ≡ Ok (reply_by form results)
+  by_form list (Ok value) made =
+      ap Ok made.2 ∙ ap (λ vs. Ok (array (replies_of vs))) (merged_once ts slots (replies_by list ts results slots) made.0 values share.named made.1 (record { each = long; of_slots = arrays slots }))
+  by_form list (Err kind) refused = absurd (none_apart kind (sym (no_misfit ts values long slots (replies_by list ts results slots) (arrays slots)) ∙ refused))
+  by_form count outcome made = sym made ∙ ap (λ o. ok_or o UnexpectedReturnType) (counts_joined slots ts results each share.few share.named)
+  by_form okay outcome made = first_okay slots outcome share.some made
+
+  -- What is made of the replies to the parts is the reply to the unsplit command.
+  pub outcome_is : (form : ReplyForm) (replies : List Reply) (outcome : Result Reply ErrorKind) → replies ≡ replies_by form ts results slots → IsOutcome ts slots replies form outcome → outcome ≡ Ok (reply_by form results)
+  outcome_is form replies outcome are made = by_form form outcome (subst (λ rs. IsOutcome ts slots rs form outcome) are made)
+
+-- So it is of a split.
+pub outcome_is_unsplit : (split : Split) (form : ReplyForm) (results : List TupleResult) (replies : List Reply) (outcome : Result Reply ErrorKind) → IsSplit split → ArePartsAnswered split form results replies
+    → IsMadeOfParts split replies outcome → outcome ≡ Ok (reply_by form results)
+outcome_is_unsplit split form results replies outcome held answered made =
+    let same : made.form ≡ form = let e = made.form_is in let f = answered.form_is in cc (e, f) in
+    outcome_is (slots_of split.routes) (tuples_in_split split) (share_out split held) results answered.each form replies outcome answered.replies_are (subst (λ f. Outcome split replies f outcome) same made.outcome_is)
 
 -- arrays make lists
 pub arrays_make_lists : (split : Split) (form : ReplyForm) → form_by_policy split.policy ≡ Some form → split.policy ≡ CombineArrays → form ≡ list
 arrays_make_lists split form is policy = let e : form_by_policy split.policy ≡ Some list = ap form_by_policy policy in cc
 
--- a refusal is of its own kind
-refused_for : (kind other : ErrorKind) (found : Option Reply) → or_refused kind found ≡ Err other → kind ≡ other
-refused_for kind other None is = cc
-refused_for kind other (Some reply) is = absurd (cc)
-
 -- of the ways to join replies only the one to a list runs out of memory
-by_memory : (policy : ResponsePolicy) (pattern : MultiSlotArgPattern) (lists : List (List ℕ)) (form : ReplyForm) (replies : List Reply) → form_by_policy policy ≡ Some form
-    → joined_by policy pattern lists replies ≡ Err OutOfMemory → form ≡ list
-by_memory OneSucceeded pattern lists form replies is failed = absurd (cc)
-by_memory FirstSucceededNonEmptyOrAllEmpty pattern lists form replies is failed = absurd (cc)
-by_memory AllSucceeded pattern lists form replies is failed = absurd (let e : Client ≡ OutOfMemory = refused_for Client OutOfMemory (slice_get replies 0) failed in cc)
-by_memory (AggregateLogical op) pattern lists form replies is failed = absurd (cc)
-by_memory (Aggregate Min) pattern lists form replies is failed = absurd (cc)
-by_memory (Aggregate Sum) pattern lists form replies is failed = absurd (let e : UnexpectedReturnType ≡ OutOfMemory = refused_for UnexpectedReturnType OutOfMemory (aggregate_of Sum replies) failed in cc)
-by_memory CombineArrays pattern lists form replies is failed = cc
-by_memory Special pattern lists form replies is failed = absurd (cc)
-by_memory CombineMaps pattern lists form replies is failed = absurd (cc)
+pub memory_makes_lists : (split : Split) (form : ReplyForm) (replies : List Reply) → form_by_policy split.policy ≡ Some form → IsMadeOfParts split replies (Err OutOfMemory) → form ≡ list
+memory_makes_lists split form replies is made =
+    let same : made.form ≡ form = let e = made.form_is in cc (e, is) in
+    of_form form (subst (λ f. Outcome split replies f (Err OutOfMemory)) same made.outcome_is)
+  where
+    no_sum : (found : Option Reply) → ok_or found UnexpectedReturnType ≡ Err OutOfMemory → ⊥
+    no_sum None failed = let e : UnexpectedReturnType ≡ OutOfMemory = cc failed in cc e
+    no_sum (Some value) failed = cc failed
 
-pub memory_makes_lists : (split : Split) (form : ReplyForm) (replies : List Reply) → form_by_policy split.policy ≡ Some form → joined split replies ≡ Err OutOfMemory → form ≡ list
-memory_makes_lists split form replies is failed = by_memory split.policy split.pattern (map (λ r. r.1) split.routes) form replies is failed
+    no_first : (replies : List Reply) → slice_get (map Ok replies) 0 ≡ Some (Err OutOfMemory) → ⊥
+    no_first [] failed = cc failed
+    no_first (r ∷ replies) failed = cc failed
+
+    of_form : (form : ReplyForm) → Outcome split replies form (Err OutOfMemory) → form ≡ list
+    of_form list failed = refl
+    of_form count failed = absurd (no_sum (option_map int (sum_of replies)) failed)
+    of_form okay failed = absurd (no_first replies failed)

@@ -1,7 +1,7 @@
--- The lists of a command's parts, put in the order of its keys, are the list of the whole command.
+-- The arrays of a command's parts, put in the order of its keys, are one array.
 use Rattle.std.proofs.Common.{◌≡◌, ℕ, ◌<◌, List, [], ◌∷◌, ◌++◌, Bool, true, false, cond, Option, Some, None, Ok, Err, All, map, length, get_or, refl, sym, ap, ◌∙◌, subst, arith}
 use Rattle.std.specs.Prelude.{nat_eq, nat_lt, slice_get, option_map, option_and_then}
-use Rattle.std.specs.List.{cons_option, filter_map, list_all, range_with_len, zip}
+use Rattle.std.specs.List.{AllZip, cons_option, filter_map, list_all, range_with_len, zip}
 use Rattle.std.specs.Option.{option_to_list}
 use Rattle.std.proofs.lemmas.Bool.{eq-eqb}
 use Rattle.std.proofs.lemmas.Bool.Decides.{nat_tests}
@@ -14,7 +14,6 @@ use Rattle.cluster_slots.specs.SlotRoute.{SlotRoute}
 use Rattle.resp_core.specs.Reply.{Reply, array, array_of, replies_of}
 use Rattle.resp_core.specs.declared.error.ErrorKind.TheVariants.{Client}
 use Rattle.resp_core.proofs.Cases.{by_test}
-use Rattle.resp_core.proofs.Views.{items_in-replies_of}
 use Rattle.redis_combiners.specs.AllItems.{all_items}
 use Rattle.redis_combiners.specs.ByPlaces.{by_places, items_of_index, single}
 use Rattle.redis_combiners.specs.KeyPlaces.{all_places, places}
@@ -23,16 +22,15 @@ use Rattle.redis_combiners.specs.Misfits.{first_misfit, misfit, misfit_of}
 use Rattle.redis_combiners.specs.SortedArrays.{array_by_places, array_or_refusal, sorted_arrays}
 use Rattle.redis_combiners.proofs.Arranging.{items_at-cons}
 use Rattle.redis_routing.specs.declared.route_by.MultiSlotArgPattern.{MultiSlotArgPattern}
-use Rattle.redis_cluster.specs.MultiKey.{KeyTuple, list}
+use Rattle.redis_cluster.specs.MultiKey.{KeyTuple, tuples_of_slot}
 use Rattle.redis_cluster.specs.Orders.{NamesOnce, in_order, times}
-use Rattle.redis_cluster.specs.SlotResults.{results_of_slot}
-use Rattle.redis_cluster.specs.Unsplit.{TupleResult, reply_by}
+use Rattle.redis_cluster.specs.SlotItems.{items_of_slot}
 use Rattle.redis_cluster.proofs.Counts.{times_here, times_there}
 use Rattle.redis_cluster.proofs.Fold.{NamesSlots}
 use Rattle.redis_cluster.proofs.Once.{length-names_once}
-use Rattle.redis_cluster.proofs.Orders.{in_order-append, length-in_order}
-use Rattle.redis_cluster.proofs.Placed.{map-results_of_slot, numbers_share_out, numbers_within}
-use Rattle.redis_cluster.proofs.Places.{numbers_of_slot}
+use Rattle.redis_cluster.proofs.Orders.{in_order-append}
+use Rattle.redis_cluster.proofs.Placed.{numbers_share_out}
+use Rattle.redis_cluster.proofs.Places.{items_of_slot_is, length-items_of_slot, length-numbers_of_slot, numbers_of_slot}
 use Rattle.redis_cluster.proofs.SplitPlaces.{places_of_part}
 use Rattle.redis_routing.specs.Split.{slots_of}
 use Rattle.redis_cluster.proofs.PlacesOfKeys.{places_of_keys}
@@ -100,73 +98,84 @@ module _ (xs : List Reply) where
       ap (λ b. cond b (all_some (map at (range_with_len 0 (length order)))) None) (all_small (length order) order (subst (λ m. All (λ p. p < m) order) (sym n) names.below))
       ∙ ap all_some each ∙ all_are xs
 
--- the replies to the parts
-module _ (ts : List KeyTuple) (rs : List TupleResult) (l : length rs ≡ length ts) where
-  abbrev values : List Reply
-  values = map (λ r. r.value) rs
+-- as many numbers as a slot has, as many tuples
+pub counts_are : (ts : List KeyTuple) (slots : List ℕ) → map length (map (λ slot. numbers_of_slot slot ts) slots) ≡ map (λ slot. length (tuples_of_slot slot ts)) slots
+counts_are ts [] = refl
+counts_are ts (slot ∷ slots) = ap (λ n. n ∷ map length (map (λ s. numbers_of_slot s ts) slots)) (length-numbers_of_slot slot ts) ∙ ap (λ ns. length (tuples_of_slot slot ts) ∷ ns) (counts_are ts slots)
 
-  abbrev values_of : ℕ → List Reply
-  values_of slot = in_order values (numbers_of_slot slot ts)
+-- the places of the keys of the parts are the numbers of their tuples
+parts_places : (ts : List KeyTuple) (pattern : MultiSlotArgPattern) (routes : List (SlotRoute × List ℕ)) → All (λ r. r.1 ≡ places_of_part pattern ts r.0.slot) routes
+    → all_places pattern (map (λ r. r.1) routes) ≡ Some (map (λ slot. numbers_of_slot slot ts) (slots_of routes))
+parts_places ts pattern [] placed = refl
+parts_places ts pattern (r ∷ routes) placed =
+    let Placed : (SlotRoute × List ℕ) → Type 0 = λ q. q.1 ≡ places_of_part pattern ts q.0.slot in
+    ap (λ list. all_some (places pattern list ∷ map (places pattern) (map (λ q. q.1) routes))) (All-head Placed r routes placed)
+    ∙ ap (λ o. all_some (o ∷ map (places pattern) (map (λ q. q.1) routes))) (places_of_keys pattern ts r.0.slot)
+    ∙ ap (option_map (λ nss. numbers_of_slot r.0.slot ts ∷ nss)) (parts_places ts pattern routes (All-tail Placed r routes placed))
 
-  abbrev reply_of : ℕ → Reply
-  reply_of slot = reply_by list (results_of_slot slot ts rs)
+-- The replies to parts make what their misfit says, or else what the items make by the numbers of their tuples.
+pub sorted_is : (ts : List KeyTuple) (pattern : MultiSlotArgPattern) (routes : List (SlotRoute × List ℕ)) (replies : List Reply) → All (λ r. r.1 ≡ places_of_part pattern ts r.0.slot) routes → length replies ≡ length routes
+    → sorted_arrays pattern replies (map (λ r. r.1) routes)
+    ≡ array_or_refusal (first_misfit replies (map (λ slot. length (tuples_of_slot slot ts)) (slots_of routes))) (option_and_then (by_places (flatten (map (λ slot. numbers_of_slot slot ts) (slots_of routes)))) (all_items replies))
+sorted_is ts pattern routes replies placed each =
+    let slots = slots_of routes in
+    let numbers = map (λ slot. numbers_of_slot slot ts) slots in
+    let same : length replies ≡ length numbers = each ∙ sym (length-map routes (λ r. r.0.slot)) ∙ sym (length-map slots (λ slot. numbers_of_slot slot ts)) in
+    let items = option_and_then (by_places (flatten numbers)) (all_items replies) in
+    ap (λ lists. array_by_places lists replies) (parts_places ts pattern routes placed)
+    ∙ ap (λ b. cond b (array_or_refusal (first_misfit replies (map length numbers)) items) (Err Client)) (eq-eqb (length replies) (length numbers) same)
+    ∙ ap (λ counts. array_or_refusal (first_misfit replies counts) items) (counts_are ts slots)
 
-  items_are : (slot : ℕ) → array_of (reply_of slot) ≡ Some (values_of slot)
-  items_are slot = ap Some (items_in-replies_of (map (λ r. r.value) (results_of_slot slot ts rs)) ∙ map-results_of_slot (λ r. r.value) slot ts rs l)
+-- replies that are arrays of the values of their tuples
+module _ (ts : List KeyTuple) (values : List Reply) (l : length values ≡ length ts) where
+  abbrev Arrays : List ℕ → List Reply → Type 0
+  Arrays slots replies = AllZip (λ slot reply. array_of reply ≡ Some (items_of_slot slot ts values)) slots replies
 
-  long_values : length values ≡ length ts
-  long_values = length-map rs (λ r. r.value) ∙ l
+  fit : (slot : ℕ) (reply : Reply) → array_of reply ≡ Some (items_of_slot slot ts values) → misfit (reply, length (tuples_of_slot slot ts)) ≡ None
+  fit slot reply is =
+      ap (λ items. misfit_of items (length (tuples_of_slot slot ts))) is
+      ∙ ap (λ b. cond b None (Some Client)) (eq-eqb (length (items_of_slot slot ts values)) (length (tuples_of_slot slot ts)) (length-items_of_slot slot ts values l))
 
-  as_many : (slot : ℕ) → length (values_of slot) ≡ length (numbers_of_slot slot ts)
-  as_many slot = length-in_order values (numbers_of_slot slot ts) (subst (λ n. All (λ k. k < n) (numbers_of_slot slot ts)) (sym long_values) (numbers_within slot ts))
+  all_fit : (slots : List ℕ) (replies : List Reply) → Arrays slots replies → filter_map misfit (zip replies (map (λ slot. length (tuples_of_slot slot ts)) slots)) ≡ []
+  all_fit [] [] are = refl
+  all_fit [] (r ∷ replies) are = absurd are
+  all_fit (slot ∷ slots) [] are = absurd are
+  all_fit (slot ∷ slots) (r ∷ replies) are =
+      ap (λ o. cons_option o (filter_map misfit (zip replies (map (λ s. length (tuples_of_slot s ts)) slots)))) (fit slot r are.0) ∙ all_fit slots replies are.1
 
-  fit : (slot : ℕ) → misfit (reply_of slot, length (numbers_of_slot slot ts)) ≡ None
-  fit slot =
-      ap (λ items. misfit_of items (length (numbers_of_slot slot ts))) (items_are slot)
-      ∙ ap (λ b. cond b None (Some Client)) (eq-eqb (length (values_of slot)) (length (numbers_of_slot slot ts)) (as_many slot))
+  -- none of them is a misfit
+  pub no_misfit : (slots : List ℕ) (replies : List Reply) → Arrays slots replies → first_misfit replies (map (λ slot. length (tuples_of_slot slot ts)) slots) ≡ None
+  no_misfit slots replies are = ap (λ ks. slice_get ks 0) (all_fit slots replies are)
 
-  all_fit : (slots : List ℕ) → filter_map misfit (zip (map reply_of slots) (map length (map (λ slot. numbers_of_slot slot ts) slots))) ≡ []
-  all_fit [] = refl
-  all_fit (slot ∷ slots) = ap (λ o. cons_option o (filter_map misfit (zip (map reply_of slots) (map length (map (λ s. numbers_of_slot s ts) slots))))) (fit slot) ∙ all_fit slots
+  each_array : (slots : List ℕ) (replies : List Reply) → Arrays slots replies → all_some (map array_of replies) ≡ Some (map (λ slot. items_of_slot slot ts values) slots)
+  each_array [] [] are = refl
+  each_array [] (r ∷ replies) are = absurd are
+  each_array (slot ∷ slots) [] are = absurd are
+  each_array (slot ∷ slots) (r ∷ replies) are =
+      ap (λ o. all_some (o ∷ map array_of replies)) are.0 ∙ ap (option_map (λ xss. items_of_slot slot ts values ∷ xss)) (each_array slots replies are.1)
 
-  each_array : (slots : List ℕ) → all_some (map array_of (map reply_of slots)) ≡ Some (map values_of slots)
-  each_array [] = refl
-  each_array (slot ∷ slots) = ap (λ o. all_some (o ∷ map array_of (map reply_of slots))) (items_are slot) ∙ ap (option_map (λ xss. values_of slot ∷ xss)) (each_array slots)
-
-  flat : (slots : List ℕ) → flatten (map values_of slots) ≡ in_order values (flatten (map (λ slot. numbers_of_slot slot ts) slots))
+  flat : (slots : List ℕ) → flatten (map (λ slot. items_of_slot slot ts values) slots) ≡ in_order values (flatten (map (λ slot. numbers_of_slot slot ts) slots))
   flat [] = refl
   flat (slot ∷ slots) =
-      ap (λ ys. values_of slot ++ ys) (flat slots)
+      ap (λ ys. ys ++ flatten (map (λ s. items_of_slot s ts values) slots)) (items_of_slot_is slot ts values l)
+      ∙ ap (λ ys. in_order values (numbers_of_slot slot ts) ++ ys) (flat slots)
       ∙ sym (in_order-append values (numbers_of_slot slot ts) (flatten (map (λ s. numbers_of_slot s ts) slots)))
 
   -- the items of all parts, put in the order of their keys
-  sorted : (slots : List ℕ) → NamesSlots slots ts → option_and_then (by_places (flatten (map (λ slot. numbers_of_slot slot ts) slots))) (all_items (map reply_of slots)) ≡ Some values
-  sorted slots named =
+  sorted : (slots : List ℕ) (replies : List Reply) → NamesSlots slots ts → Arrays slots replies → option_and_then (by_places (flatten (map (λ slot. numbers_of_slot slot ts) slots))) (all_items replies) ≡ Some values
+  sorted slots replies named are =
       let numbers = flatten (map (λ slot. numbers_of_slot slot ts) slots) in
-      let once : NamesOnce (length values) numbers = subst (λ n. NamesOnce n numbers) (sym long_values)
+      let once : NamesOnce (length values) numbers = subst (λ n. NamesOnce n numbers) (sym l)
       (subst (NamesOnce (length ts)) (sym (flat_map-map (λ (ns : List ℕ). ns) (λ slot. numbers_of_slot slot ts) slots)) (numbers_share_out slots ts named)) in
-      ap (λ o. option_and_then (by_places numbers) (option_map flatten o)) (each_array slots)
+      ap (λ o. option_and_then (by_places numbers) (option_map flatten o)) (each_array slots replies are)
       ∙ ap (by_places numbers) (flat slots)
       ∙ put_back values numbers once
 
-  parts_places : (pattern : MultiSlotArgPattern) (routes : List (SlotRoute × List ℕ)) → All (λ r. r.1 ≡ places_of_part pattern ts r.0.slot) routes
-      → all_places pattern (map (λ r. r.1) routes) ≡ Some (map (λ slot. numbers_of_slot slot ts) (slots_of routes))
-  parts_places pattern [] placed = refl
-  parts_places pattern (r ∷ routes) placed =
-      let Placed : (SlotRoute × List ℕ) → Type 0 = λ q. q.1 ≡ places_of_part pattern ts q.0.slot in
-      ap (λ list. all_some (places pattern list ∷ map (places pattern) (map (λ q. q.1) routes))) (All-head Placed r routes placed)
-      ∙ ap (λ o. all_some (o ∷ map (places pattern) (map (λ q. q.1) routes))) (places_of_keys pattern ts r.0.slot)
-      ∙ ap (option_map (λ nss. numbers_of_slot r.0.slot ts ∷ nss)) (parts_places pattern routes (All-tail Placed r routes placed))
-
-  -- The lists of the parts are put in the order of the keys to make that of the whole command.
-  pub lists_joined : (pattern : MultiSlotArgPattern) (routes : List (SlotRoute × List ℕ)) → NamesSlots (slots_of routes) ts → All (λ r. r.1 ≡ places_of_part pattern ts r.0.slot) routes
-      → sorted_arrays pattern (map (λ slot. reply_by list (results_of_slot slot ts rs)) (slots_of routes)) (map (λ r. r.1) routes) ≡ Ok (reply_by list rs)
-  lists_joined pattern routes named placed =
+  -- The arrays of the parts are put in the order of the keys to make one.
+  pub arrays_sorted : (pattern : MultiSlotArgPattern) (routes : List (SlotRoute × List ℕ)) (replies : List Reply) → NamesSlots (slots_of routes) ts → All (λ r. r.1 ≡ places_of_part pattern ts r.0.slot) routes
+      → length replies ≡ length routes → Arrays (slots_of routes) replies → sorted_arrays pattern replies (map (λ r. r.1) routes) ≡ Ok (array (replies_of values))
+  arrays_sorted pattern routes replies named placed each are =
       let slots = slots_of routes in
-      let numbers = map (λ slot. numbers_of_slot slot ts) slots in
-      let same : length (map reply_of slots) ≡ length numbers = length-map slots reply_of ∙ sym (length-map slots (λ slot. numbers_of_slot slot ts)) in
-      ap (λ lists. array_by_places lists (map reply_of slots)) (parts_places pattern routes placed)
-      ∙ ap (λ b. cond b (array_or_refusal (first_misfit (map reply_of slots) (map length numbers)) (option_and_then (by_places (flatten numbers)) (all_items (map reply_of slots)))) (Err Client))
-      (eq-eqb (length (map reply_of slots)) (length numbers) same)
-      ∙ ap (λ ks. array_or_refusal (slice_get ks 0) (option_and_then (by_places (flatten numbers)) (all_items (map reply_of slots)))) (all_fit slots)
-      ∙ ap (array_or_refusal None) (sorted slots named)
+      sorted_is ts pattern routes replies placed each
+      ∙ ap (λ kind. array_or_refusal kind (option_and_then (by_places (flatten (map (λ slot. numbers_of_slot slot ts) slots))) (all_items replies))) (no_misfit slots replies are)
+      ∙ ap (array_or_refusal None) (sorted slots replies named are)

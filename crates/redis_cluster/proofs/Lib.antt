@@ -21,6 +21,8 @@ pub mod SplitTuples
 pub mod JoinedCounts
 pub mod PlacesOfKeys
 pub mod JoinedLists
+pub mod Made
+pub mod Merged
 pub mod Joined
 pub mod Amid
 pub mod Zips

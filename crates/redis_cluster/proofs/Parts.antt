@@ -9,7 +9,7 @@ use Rattle.resp_core.proofs.Cases.{by_test}
 use Rattle.redis_cluster.specs.MultiKey.{KeyTuple, tuples_of_slot}
 use Rattle.redis_cluster.specs.Unsplit.{Act, Keyspace, put, after, results}
 use Rattle.redis_cluster.specs.Orders.{times}
-use Rattle.redis_cluster.specs.SlotResults.{results_of_slot}
+use Rattle.redis_cluster.specs.SlotItems.{items_of_slot}
 use Rattle.redis_cluster.proofs.Fold.{joined, after_is, joined_skips, same_answer}
 
 -- one slot more adds its part at the end
@@ -31,7 +31,7 @@ module _ {C : Type 0} (act : Act C) where
   -- the results of a part, on a keyspace that agrees at the keys of its slot
   pub results-part : (slot : ℕ) (ts : List KeyTuple) (ks now : Keyspace C)
       → ((key : List ℕ) → nat_eq (key_slot key) slot ≡ true → now key ≡ ks key)
-      → results act (tuples_of_slot slot ts) now ≡ results_of_slot slot ts (results act ts ks)
+      → results act (tuples_of_slot slot ts) now ≡ items_of_slot slot ts (results act ts ks)
   results-part slot [] ks now agree = refl
   results-part slot (t ∷ ts) ks now agree =
       by_test (nat_eq (key_slot t.key) slot)
@@ -51,6 +51,6 @@ module _ {C : Type 0} (act : Act C) where
 
   -- After parts of other slots the tuples of a part add what they add to the reply to the whole command.
   pub results_one_more : (before : List ℕ) (slot : ℕ) (ts : List KeyTuple) (ks : Keyspace C) → times slot before ≡ 0
-      → results act (tuples_of_slot slot ts) (after act (joined before ts) ks) ≡ results_of_slot slot ts (results act ts ks)
+      → results act (tuples_of_slot slot ts) (after act (joined before ts) ks) ≡ items_of_slot slot ts (results act ts ks)
   results_one_more before slot ts ks fresh = results-part slot ts ks (after act (joined before ts) ks)
       (λ key own. after_is act (joined before ts) ks key ∙ joined_skips act key ts before (ks key) (ap (λ n. times n before) (eqb-true (key_slot key) slot own) ∙ fresh))

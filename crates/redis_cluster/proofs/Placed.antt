@@ -11,12 +11,12 @@ use Rattle.resp_core.proofs.Cases.{by_test}
 use Rattle.redis_cluster.specs.MultiKey.{KeyTuple}
 use Rattle.redis_cluster.specs.Unsplit.{TupleResult}
 use Rattle.redis_cluster.specs.Orders.{times, NamesOnce, in_order}
-use Rattle.redis_cluster.specs.SlotResults.{results_of_slot}
+use Rattle.redis_cluster.specs.SlotItems.{items_of_slot}
 use Rattle.redis_cluster.proofs.Counts.{same_number, times_there, sum_alike}
 use Rattle.redis_cluster.proofs.Fold.{NamesSlots}
 use Rattle.redis_cluster.proofs.Orders.{sum-flat_map, map-in_order, get-in_order}
 use Rattle.redis_cluster.proofs.Once.{stands}
-use Rattle.redis_cluster.proofs.Places.{numbers_from, numbers_of_slot, slot_at, times-numbers, results_of_slot_is}
+use Rattle.redis_cluster.proofs.Places.{numbers_from, numbers_of_slot, slot_at, times-numbers, items_of_slot_is}
 
 -- the slot of a tuple is named once
 pub named_at : (slots : List ℕ) (ts : List KeyTuple) (k : ℕ) (d : KeyTuple) → NamesSlots slots ts → k < length ts → times (slot_at ts k d) slots ≡ 1
@@ -89,15 +89,15 @@ number_is_own slot ts j k d is =
     )
 
 -- a function of the results of a slot is that function of all results, at the slot's numbers
-pub map-results_of_slot : {X : Type 0} (f : TupleResult → X) (slot : ℕ) (ts : List KeyTuple) (rs : List TupleResult) → length rs ≡ length ts
-    → map f (results_of_slot slot ts rs) ≡ in_order (map f rs) (numbers_of_slot slot ts)
-map-results_of_slot f slot ts rs l = ap (map f) (results_of_slot_is slot ts rs l) ∙ map-in_order f rs (numbers_of_slot slot ts)
+pub map-items_of_slot : {X : Type 0} (f : TupleResult → X) (slot : ℕ) (ts : List KeyTuple) (rs : List TupleResult) → length rs ≡ length ts
+    → map f (items_of_slot slot ts rs) ≡ in_order (map f rs) (numbers_of_slot slot ts)
+map-items_of_slot f slot ts rs l = ap (map f) (items_of_slot_is slot ts rs l) ∙ map-in_order f rs (numbers_of_slot slot ts)
 
 -- the j-th result of a slot is the one of its j-th number
-pub results_of_slot_at : (slot : ℕ) (ts : List KeyTuple) (rs : List TupleResult) (j k : ℕ) → length rs ≡ length ts
-    → slice_get (numbers_of_slot slot ts) j ≡ Some k → slice_get (results_of_slot slot ts rs) j ≡ slice_get rs k
-results_of_slot_at slot ts rs j k l is =
-    ap (λ xs. slice_get xs j) (results_of_slot_is slot ts rs l)
+pub items_of_slot_at : (slot : ℕ) (ts : List KeyTuple) (rs : List TupleResult) (j k : ℕ) → length rs ≡ length ts
+    → slice_get (numbers_of_slot slot ts) j ≡ Some k → slice_get (items_of_slot slot ts rs) j ≡ slice_get rs k
+items_of_slot_at slot ts rs j k l is =
+    ap (λ xs. slice_get xs j) (items_of_slot_is slot ts rs l)
     ∙ get-in_order rs (numbers_of_slot slot ts) (subst (λ n. All (λ m. m < n) (numbers_of_slot slot ts)) (sym l) (numbers_within slot ts)) j
     ∙ ap (option_and_then (λ n. slice_get rs n)) is
 

@@ -1,4 +1,4 @@
--- The tuples of a slot by their numbers, counted from 0: which results are theirs, and that each number is one of its own slot alone.
+-- The tuples of a slot by their numbers, counted from 0: which items are theirs, and that each number is one of its own slot alone.
 use Rattle.std.proofs.Common.{◌≡◌, ℕ, zero, suc, ◌+◌, ◌<◌, List, [], ◌∷◌, ◌++◌, true, false, cond, Some, Less, refl, sym, ap, subst, ◌∙◌, arith, length, get_or}
 use Rattle.std.specs.Prelude.{nat_eq, nat_lt, slice_get}
 use Rattle.std.specs.List.{AllByRecursion}
@@ -9,9 +9,8 @@ use Rattle.std.proofs.lemmas.Bool.Decides.{nat_tests}
 use Rattle.cluster_slots.specs.KeySlot.{key_slot}
 use Rattle.resp_core.proofs.Cases.{by_test}
 use Rattle.redis_cluster.specs.MultiKey.{KeyTuple, tuples_of_slot}
-use Rattle.redis_cluster.specs.Unsplit.{TupleResult}
 use Rattle.redis_cluster.specs.Orders.{times, in_order}
-use Rattle.redis_cluster.specs.SlotResults.{results_of_slot}
+use Rattle.redis_cluster.specs.SlotItems.{items_of_slot}
 use Rattle.redis_cluster.proofs.Counts.{times_here, times_there}
 
 -- the numbers of the tuples whose key has the slot, where the first tuple has this number
@@ -31,21 +30,21 @@ slot_at ts k d = key_slot (get_or ts k d).key
 taken_here : {X : Type 0} (all : List X) (n : ℕ) (x : X) (rest : List ℕ) → slice_get all n ≡ Some x → in_order all (n ∷ rest) ≡ x ∷ in_order all rest
 taken_here all n x rest is = ap (λ o. option_to_list o ++ in_order all rest) is
 
--- the results of a slot, where the first is number n of all
-results_of_slot_from : (all rs : List TupleResult) (n slot : ℕ) (ts : List KeyTuple) → length rs ≡ length ts
-    → ((k : ℕ) → slice_get all (n + k) ≡ slice_get rs k) → results_of_slot slot ts rs ≡ in_order all (numbers_from slot n ts)
-results_of_slot_from all rs n slot [] l at = refl
-results_of_slot_from all [] n slot (t ∷ ts) l at = absurd (omega arith)
-results_of_slot_from all (r ∷ rs) n slot (t ∷ ts) l at =
+-- the items of a slot, where the first is number n of all
+items_of_slot_from : {X : Type 0} (all rs : List X) (n slot : ℕ) (ts : List KeyTuple) → length rs ≡ length ts
+    → ((k : ℕ) → slice_get all (n + k) ≡ slice_get rs k) → items_of_slot slot ts rs ≡ in_order all (numbers_from slot n ts)
+items_of_slot_from all rs n slot [] l at = refl
+items_of_slot_from all [] n slot (t ∷ ts) l at = absurd (omega arith)
+items_of_slot_from all (r ∷ rs) n slot (t ∷ ts) l at =
     let first : slice_get all n ≡ Some r = ap (slice_get all) (omega arith) ∙ at 0 in
-    let rest : results_of_slot slot ts rs ≡ in_order all (numbers_from slot (n + 1) ts) = results_of_slot_from all rs (n + 1) slot ts (omega arith) (λ k. ap (slice_get all) (omega arith) ∙ at (suc k)) in
+    let rest : items_of_slot slot ts rs ≡ in_order all (numbers_from slot (n + 1) ts) = items_of_slot_from all rs (n + 1) slot ts (omega arith) (λ k. ap (slice_get all) (omega arith) ∙ at (suc k)) in
     by_test (nat_eq (key_slot t.key) slot)
     (λ here. rw here (ap (λ xs. r ∷ xs) rest ∙ sym (taken_here all n r (numbers_from slot (n + 1) ts) first)))
     (λ there. rw there rest)
 
--- The results of a slot are those at the numbers of its tuples.
-pub results_of_slot_is : (slot : ℕ) (ts : List KeyTuple) (rs : List TupleResult) → length rs ≡ length ts → results_of_slot slot ts rs ≡ in_order rs (numbers_of_slot slot ts)
-results_of_slot_is slot ts rs l = results_of_slot_from rs rs 0 slot ts l (λ k. ap (slice_get rs) (omega arith))
+-- The items of a slot are those at the numbers of its tuples.
+pub items_of_slot_is : {X : Type 0} (slot : ℕ) (ts : List KeyTuple) (rs : List X) → length rs ≡ length ts → items_of_slot slot ts rs ≡ in_order rs (numbers_of_slot slot ts)
+items_of_slot_is slot ts rs l = items_of_slot_from rs rs 0 slot ts l (λ k. ap (slice_get rs) (omega arith))
 
 -- the tuples of a slot, where the first is number n of all
 part_from : (all : List KeyTuple) (n slot : ℕ) (ts : List KeyTuple) → ((k : ℕ) → slice_get all (n + k) ≡ slice_get ts k)
@@ -74,12 +73,12 @@ length-numbers n slot (t ∷ ts) =
 pub length-numbers_of_slot : (slot : ℕ) (ts : List KeyTuple) → length (numbers_of_slot slot ts) ≡ length (tuples_of_slot slot ts)
 length-numbers_of_slot slot ts = length-numbers 0 slot ts
 
--- a slot has as many results as tuples
-pub length-results_of_slot : (slot : ℕ) (ts : List KeyTuple) (rs : List TupleResult) → length rs ≡ length ts → length (results_of_slot slot ts rs) ≡ length (tuples_of_slot slot ts)
-length-results_of_slot slot [] rs l = refl
-length-results_of_slot slot (t ∷ ts) [] l = absurd (omega arith)
-length-results_of_slot slot (t ∷ ts) (r ∷ rs) l =
-    let rest = length-results_of_slot slot ts rs (omega arith) in
+-- a slot has as many items as tuples
+pub length-items_of_slot : {X : Type 0} (slot : ℕ) (ts : List KeyTuple) (rs : List X) → length rs ≡ length ts → length (items_of_slot slot ts rs) ≡ length (tuples_of_slot slot ts)
+length-items_of_slot slot [] rs l = refl
+length-items_of_slot slot (t ∷ ts) [] l = absurd (omega arith)
+length-items_of_slot slot (t ∷ ts) (r ∷ rs) l =
+    let rest = length-items_of_slot slot ts rs (omega arith) in
     by_test (nat_eq (key_slot t.key) slot) (λ here. rw here (ap suc rest)) (λ there. rw there rest)
 
 -- numbers counted on from n lie above those below n

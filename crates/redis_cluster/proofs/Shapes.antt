@@ -1,5 +1,5 @@
 -- The tuples of a shape are those of the pattern with the indices of their arguments left out.
-use Rattle.std.proofs.Common.{◌≡◌, ℕ, zero, suc, ◌+◌, ◌-◌, ◌*◌, ◌/◌, ◌%◌, ◌≤◌, List, [], ◌∷◌, true, map, length, take, drop, cond, refl, sym, ap, ◌∙◌, arith}
+use Rattle.std.proofs.Common.{◌≡◌, ℕ, zero, suc, ◌+◌, ◌-◌, ◌*◌, ◌/◌, ◌%◌, ◌≤◌, List, [], ◌∷◌, true, map, length, take, drop, get_or, cond, refl, sym, ap, ◌∙◌, arith}
 use Rattle.std.specs.Prelude.{slice_get}
 use Rattle.std.proofs.Math.Seq.{take-length}
 use Rattle.std.specs.Simd.{first_chunks}
@@ -7,8 +7,12 @@ use Rattle.std.proofs.lemmas.Bool.Decides.{nat_tests}
 use Rattle.redis_routing.specs.Tuples.{is_complete, keys_alone, keys_and_values, keys_and_two, shared_in}
 use Rattle.redis_routing.specs.declared.route_by.MultiSlotArgPattern.{MultiSlotArgPattern}
 use Rattle.redis_routing.specs.declared.route_by.MultiSlotArgPattern.TheVariants.{KeysOnly, KeyValuePairs, KeysAndLastArg, KeyWithTwoArgTriples}
-use Rattle.redis_cluster.specs.MultiKey.{is_whole, shape_of, shared_by, tuple_by, tuples_by}
+use Rattle.redis_cluster.specs.MultiKey.{KeyTuple, is_whole, shape_of, shared_by, tuples_by}
 use Rattle.redis_cluster.specs.PlacedTuples.{unplaced, tuples_of}
+
+-- a tuple by its arguments
+abbrev tuple_by : List (List ℕ) → KeyTuple
+tuple_by t = record { key = get_or t 0 []; extras = drop 1 t }
 
 -- as many arguments are whole by the shape as are complete by the pattern
 pub whole_is : (pattern : MultiSlotArgPattern) (m : ℕ) → is_whole (shape_of pattern) m ≡ is_complete pattern m

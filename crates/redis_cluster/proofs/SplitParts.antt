@@ -84,12 +84,12 @@ module _ (registry : Registrations) (args : Arguments) where
   of_length command name pattern policy form named split formed false complete is = absurd (cc is)
 
   of_form : (command : MultiKey) (name : List ℕ) (pattern : MultiSlotArgPattern) (policy : ResponsePolicy) → command_name args ≡ Some name → split_of registry name ≡ Some (pattern, policy)
-      → (form : Option ReplyForm) → form_by_policy policy ≡ form → command_with registry name present pattern form ≡ Some command → (pattern : MultiSlotArgPattern) × IsMade registry args pattern command
+      → (form : Option ReplyForm) → form_by_policy policy ≡ form → option_and_then (command_with registry name present pattern) form ≡ Some command → (pattern : MultiSlotArgPattern) × IsMade registry args pattern command
   of_form command name pattern policy named split None formed is = absurd (cc is)
   of_form command name pattern policy named split (Some form) formed is = of_length command name pattern policy form named split formed (is_whole (shape_of pattern) (length present)) refl is
 
   abbrev by_split : List ℕ → Registered → Option MultiKey
-  by_split name split = command_with registry name present split.0 (form_by_policy split.1)
+  by_split name split = option_and_then (command_with registry name present split.0) (form_by_policy split.1)
 
   of_split : (command : MultiKey) (name : List ℕ) → command_name args ≡ Some name
       → (found : Option Registered) → split_of registry name ≡ found → option_and_then (by_split name) found ≡ Some command → (pattern : MultiSlotArgPattern) × IsMade registry args pattern command
@@ -111,7 +111,7 @@ module _ (registry : Registrations) (args : Arguments) where
       let whole = made.whole in
       ap (option_and_then (λ n. option_and_then (by_split n) (split_of registry n))) made.name
       ∙ ap (option_and_then (by_split command.name)) made.split
-      ∙ ap (command_with registry command.name present pattern) made.form
+      ∙ ap (option_and_then (command_with registry command.name present pattern)) made.form
       ∙ ap (λ complete. cond complete (Some (by_parts command.name pattern command.form)) None) (whole_is pattern (length present) ∙ whole.complete)
       ∙ ap (λ r. Some (record { name = command.name; registered = r; shared = shared_by (shape_of pattern) present; tuples = tuples_by (shape_of pattern) present; form = command.form })) (sym made.registered)
       ∙ ap (λ s. Some (record { name = command.name; registered = command.registered; shared = s; tuples = tuples_by (shape_of pattern) present; form = command.form })) (shared_is pattern present whole.complete ∙ sym whole.shared)
@@ -254,7 +254,7 @@ routes_made names args pattern command made =
     ∙ ap (λ complete. cond complete (Some routes) None) made.whole.complete
 
 -- a policy that joins the replies to parts has a form of the reply
-form_of_joining : (policy : ResponsePolicy) → joins_parts policy ≡ true → (form : ReplyForm) × (form_by_policy policy ≡ Some form)
+pub form_of_joining : (policy : ResponsePolicy) → joins_parts policy ≡ true → (form : ReplyForm) × (form_by_policy policy ≡ Some form)
 form_of_joining OneSucceeded joins = absurd (cc joins)
 form_of_joining FirstSucceededNonEmptyOrAllEmpty joins = absurd (cc joins)
 form_of_joining AllSucceeded joins = (okay, refl)

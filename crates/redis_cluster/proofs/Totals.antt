@@ -8,7 +8,7 @@ use Rattle.resp_core.proofs.Cases.{by_test}
 use Rattle.redis_cluster.specs.MultiKey.{KeyTuple}
 use Rattle.redis_cluster.specs.Unsplit.{TupleResult}
 use Rattle.redis_cluster.specs.Orders.{NamesOnce, in_order}
-use Rattle.redis_cluster.specs.SlotResults.{results_of_slot}
+use Rattle.redis_cluster.specs.SlotItems.{items_of_slot}
 use Rattle.redis_cluster.proofs.Counts.{sum_none, sum_both, sum_at, once_times}
 use Rattle.redis_cluster.proofs.Fold.{NamesSlots}
 use Rattle.redis_cluster.proofs.Orders.{sum-in_order}
@@ -18,38 +18,38 @@ both : (a b c d : ℕ) → a ≡ b → c ≡ d → a + c ≡ b + d
 both a b c d e f = omega arith
 
 -- one tuple more adds its result to the sum of its slot
-sum-results_of_slot-cons : (w : TupleResult → ℕ) (slot : ℕ) (t : KeyTuple) (r : TupleResult) (others : List (KeyTuple × TupleResult))
+sum-items_of_slot-cons : (w : TupleResult → ℕ) (slot : ℕ) (t : KeyTuple) (r : TupleResult) (others : List (KeyTuple × TupleResult))
     → sum_by w (map (λ p. p.1) (cond (nat_eq (key_slot t.key) slot) ((t, r) ∷ others) others)) ≡ cond (nat_eq (key_slot t.key) slot) (w r) 0 + sum_by w (map (λ p. p.1) others)
-sum-results_of_slot-cons w slot t r others =
+sum-items_of_slot-cons w slot t r others =
     by_test (nat_eq (key_slot t.key) slot) (λ here. rw here (sum_by-cons w r (map (λ p. p.1) others))) (λ there. rw there (omega arith))
 
 -- a sum over all results is the sum of those over the results of each slot
-pub sum-results_of_slot : (w : TupleResult → ℕ) (slots : List ℕ) (ts : List KeyTuple) (rs : List TupleResult) → length rs ≡ length ts → NamesSlots slots ts
-    → sum_by (λ slot. sum_by w (results_of_slot slot ts rs)) slots ≡ sum_by w rs
-sum-results_of_slot w slots [] [] l named = sum_none slots
-sum-results_of_slot w slots [] (r ∷ rs) l named = absurd (omega arith)
-sum-results_of_slot w slots (t ∷ ts) [] l named = absurd (omega arith)
-sum-results_of_slot w slots (t ∷ ts) (r ∷ rs) l named =
+pub sum-items_of_slot : (w : TupleResult → ℕ) (slots : List ℕ) (ts : List KeyTuple) (rs : List TupleResult) → length rs ≡ length ts → NamesSlots slots ts
+    → sum_by (λ slot. sum_by w (items_of_slot slot ts rs)) slots ≡ sum_by w rs
+sum-items_of_slot w slots [] [] l named = sum_none slots
+sum-items_of_slot w slots [] (r ∷ rs) l named = absurd (omega arith)
+sum-items_of_slot w slots (t ∷ ts) [] l named = absurd (omega arith)
+sum-items_of_slot w slots (t ∷ ts) (r ∷ rs) l named =
     let s = key_slot t.key in
-    sum_both (λ slot. cond (nat_eq s slot) (w r) 0) (λ slot. sum_by w (results_of_slot slot ts rs)) (λ slot. sum_by w (results_of_slot slot (t ∷ ts) (r ∷ rs)))
-    (λ slot. sum-results_of_slot-cons w slot t r (filter (λ p. nat_eq (key_slot p.0.key) slot) (zip ts rs))) slots
-    ∙ both _ (w r) _ (sum_by w rs) (sum_at s (w r) slots ∙ ap (λ n. n * w r) named.0 ∙ once_times (w r)) (sum-results_of_slot w slots ts rs (omega arith) named.1)
+    sum_both (λ slot. cond (nat_eq s slot) (w r) 0) (λ slot. sum_by w (items_of_slot slot ts rs)) (λ slot. sum_by w (items_of_slot slot (t ∷ ts) (r ∷ rs)))
+    (λ slot. sum-items_of_slot-cons w slot t r (filter (λ p. nat_eq (key_slot p.0.key) slot) (zip ts rs))) slots
+    ∙ both _ (w r) _ (sum_by w rs) (sum_at s (w r) slots ∙ ap (λ n. n * w r) named.0 ∙ once_times (w r)) (sum-items_of_slot w slots ts rs (omega arith) named.1)
     ∙ sym (sum_by-cons w r rs)
 
 -- how many results of a slot count
 abbrev pub count_of_slot : List KeyTuple → List TupleResult → ℕ → ℕ
-count_of_slot ts rs slot = count_by (λ r. r.counts) (results_of_slot slot ts rs)
+count_of_slot ts rs slot = count_by (λ r. r.counts) (items_of_slot slot ts rs)
 
 -- The counts of the parts have the count of the whole command as their sum.
 pub count_of_all : (slots : List ℕ) (ts : List KeyTuple) (rs : List TupleResult) → length rs ≡ length ts → NamesSlots slots ts
     → sum (map (count_of_slot ts rs) slots) ≡ count_by (λ r. r.counts) rs
-count_of_all slots ts rs l named = sum-map (count_of_slot ts rs) slots ∙ sum-results_of_slot (λ r. cond r.counts 1 0) slots ts rs l named
+count_of_all slots ts rs l named = sum-map (count_of_slot ts rs) slots ∙ sum-items_of_slot (λ r. cond r.counts 1 0) slots ts rs l named
 
 -- The counts of the parts, in an order that names each once, have the count of the whole command as their sum.
 pub count_in_order : (slots order : List ℕ) (ts : List KeyTuple) (rs : List TupleResult) → length rs ≡ length ts
     → NamesOnce (length slots) order → NamesSlots slots ts → sum (map (count_of_slot ts rs) (in_order slots order)) ≡ count_by (λ r. r.counts) rs
 count_in_order slots order ts rs l names named =
-    sum-map (count_of_slot ts rs) (in_order slots order) ∙ sum-in_order (count_of_slot ts rs) slots order names ∙ sum-results_of_slot (λ r. cond r.counts 1 0) slots ts rs l named
+    sum-map (count_of_slot ts rs) (in_order slots order) ∙ sum-in_order (count_of_slot ts rs) slots order names ∙ sum-items_of_slot (λ r. cond r.counts 1 0) slots ts rs l named
 
 -- no more results count than there are tuples
 pub count-le-tuples : (ts : List KeyTuple) (rs : List TupleResult) → length rs ≡ length ts → count_by (λ r. r.counts) rs ≤ length ts

@@ -6,7 +6,7 @@ use Rattle.cluster_slots.specs.KeySlot.{key_slot}
 use Rattle.redis_cluster.specs.MultiKey.{KeyTuple, tuples_of_slot}
 use Rattle.redis_cluster.specs.Unsplit.{Act, Keyspace, after, results}
 use Rattle.redis_cluster.specs.Orders.{times, NamesOnce, in_order, tuples_of_slots}
-use Rattle.redis_cluster.specs.SlotResults.{results_of_slot}
+use Rattle.redis_cluster.specs.SlotItems.{items_of_slot}
 use Rattle.redis_cluster.proofs.Fold.{joined, NamesSlots, joined_is_whole, joined_is_of_slots}
 use Rattle.redis_cluster.proofs.Parts.{one_part_more, results_one_more}
 use Rattle.redis_cluster.proofs.Orders.{times-in_order, apart_front, not_before, in_order_more}
@@ -41,5 +41,5 @@ module _ {C : Type 0} (act : Act C) (slots order : List ℕ) (ts : List KeyTuple
   -- The tuples of the next part add what they add to the reply to the whole command.
   pub results_more : (i k slot : ℕ) → NamesOnce (length slots) order → ((n : ℕ) → times n slots ≤ 1) → i < length order
       → k ≡ get_or order i 0 → slice_get slots k ≡ Some slot
-      → results act (tuples_of_slot slot ts) (after act (joined (in_order slots (take i order)) ts) ks) ≡ results_of_slot slot ts (results act ts ks)
+      → results act (tuples_of_slot slot ts) (after act (joined (in_order slots (take i order)) ts) ks) ≡ items_of_slot slot ts (results act ts ks)
   results_more i k slot names apart within at is = results_one_more act (in_order slots (take i order)) slot ts ks (not_before slots order i k slot names apart within at is)

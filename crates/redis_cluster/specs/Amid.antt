@@ -1,16 +1,17 @@
 -- What a multi-key command replies and leaves on a real cluster. Other clients write the same keys
 -- meanwhile, and replicas lag. Each node runs its part at one moment, on what it holds then.
-use Rattle.std.specs.Prelude.{◌≡◌, ◌≢◌, ◌++◌, ◌∷◌, [], ℕ, List, Some, map, length}
+use Rattle.std.specs.Prelude.{◌≡◌, ◌≢◌, ◌∷◌, [], ℕ, List, Some, map}
 use Rattle.std.specs.List.{All}
 use Rattle.resp_core.specs.Reply.{Reply}
 use Rattle.cluster_slots.specs.KeySlot.{key_slot}
 use Rattle.redis_routing.specs.Command.{Arguments}
 use Rattle.redis_routing.specs.Registry.{Registrations}
 use Rattle.redis_cluster.specs.MultiKey.{MultiKey, multi_key, part_by_slot, part_of, slots_in}
-use Rattle.redis_cluster.specs.Orders.{NamesOnce, in_order, times}
+use Rattle.redis_cluster.specs.Joined.{HaveReplied}
+use Rattle.redis_cluster.specs.Orders.{times}
 use Rattle.redis_cluster.specs.Unsplit.{Step, Keyspace, keyspace_after, reply_to}
 
--- What the node of each slot holds, at a moment of the slot's own.
+-- What each slot's node held when it ran the slot's part. Each slot has its own moment.
 abbrev pub HeldBySlot : Type 0 → Type 0
 HeldBySlot C = ℕ → Keyspace C
 
@@ -33,9 +34,9 @@ abbrev pub replies_by : {C : Type 0} → Step C → MultiKey → HeldBySlot C �
 replies_by step command held =
     map (λ slot. reply_to step (part_of command slot) (held slot)) (slots_in command)
 
--- If each of the replies is what its part replies on what its node held, the value is the reply of
--- the unsplit command on each keyspace that is assembled of that. So it is by any meaning of
--- commands over these cells.
+-- Suppose each reply is what its part replies on what its node held. Then the value is the unsplit
+-- command's reply on each keyspace assembled of that. So it is by any meaning of commands over these
+-- cells.
 --
 -- `MGET a b` as above replies the old `a` and the new `b`.
 -- `DEL a b` runs at `a` first, which is there, and another client deletes `b` between the parts:
@@ -45,15 +46,12 @@ IsReplyAmid C command replies value =
     (step : Step C) (held : HeldBySlot C) (one : Keyspace C) → IsAssembled command held one
     → replies ≡ replies_by step command held → value ≡ reply_to step command one
 
--- The nodes gave one reply to each part, and the value is made of these.
+-- The nodes gave one reply to each part. The value is the reply amid what others write, by these.
 pub record IsServedAmid (C : Type 0) (registered : Registrations) (args : Arguments)
     (order : List ℕ) (old new : List Reply → Type 0) (value : Reply) : Type 0 where
   pub command : MultiKey
-  pub command_is : multi_key registered args ≡ Some command
-  pub order_is : NamesOnce (length (slots_in command)) order
   pub replies : List Reply
-  pub each : length replies ≡ length (slots_in command)
-  pub gave : (before : List Reply) → old before → new (before ++ in_order replies order)
+  pub replied : HaveReplied registered args order old new command replies
   pub reply : IsReplyAmid C command replies value
 
 -- the keyspace after the parts of these slots, one after the other

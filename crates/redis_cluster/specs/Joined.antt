@@ -1,51 +1,56 @@
--- The one reply that is made of those to the parts of a split command.
-use Rattle.std.specs.Prelude.{◌≡◌, ◌++◌, ℕ, List, Option, None, Some, Result, Ok, Err, map, length, slice_get}
-use Rattle.resp_core.specs.Reply.{Reply}
+-- The one reply that is made of those to the parts of a multi-key command.
+use Rattle.std.specs.Prelude.{◌≡◌, ◌++◌, ℕ, List, Some, Result, Ok, Err, map, length, ok_or, option_map, slice_get}
+use Rattle.std.specs.List.{AllZip}
+use Rattle.resp_core.specs.Reply.{Reply, array, array_of, int, replies_of}
 use Rattle.resp_core.specs.declared.error.ErrorKind.{ErrorKind}
-use Rattle.resp_core.specs.declared.error.ErrorKind.TheVariants.{Client, UnexpectedReturnType}
-use Rattle.redis_combiners.specs.Aggregate.{aggregate_of}
-use Rattle.redis_combiners.specs.SortedArrays.{sorted_arrays}
-use Rattle.redis_routing.specs.declared.policy.ResponsePolicy.{ResponsePolicy}
-use Rattle.redis_routing.specs.declared.policy.ResponsePolicy.TheVariants.{Aggregate, CombineArrays}
-use Rattle.redis_routing.specs.declared.route_by.MultiSlotArgPattern.{MultiSlotArgPattern}
-use Rattle.redis_routing.specs.Command.{Arguments, command_name}
-use Rattle.redis_routing.specs.Names.{Names}
-use Rattle.redis_cluster.specs.Orders.{in_order}
-use Rattle.redis_routing.specs.Complete.{multi_slot_routes, pattern_by_name}
-use Rattle.redis_routing.specs.Split.{Split, policy_by_name}
+use Rattle.resp_core.specs.declared.error.ErrorKind.TheVariants.{UnexpectedReturnType}
+use Rattle.redis_combiners.specs.Aggregate.{sum_of}
+use Rattle.redis_combiners.specs.Misfits.{first_misfit}
+use Rattle.redis_routing.specs.Command.{Arguments}
+use Rattle.redis_routing.specs.Registry.{Registrations}
+use Rattle.redis_cluster.specs.MultiKey.{KeyTuple, MultiKey, ReplyForm, list, count, okay, multi_key, slots_in, tuples_of_slot}
+use Rattle.redis_cluster.specs.Orders.{NamesOnce, in_order}
+use Rattle.redis_cluster.specs.SlotItems.{items_of_slot}
 
--- the reply, or a refusal of this kind if there is no reply
-abbrev pub or_refused : ErrorKind → Option Reply → Result Reply ErrorKind
-or_refused kind None = Err kind
-or_refused kind (Some reply) = Ok reply
+module _ (tuples : List KeyTuple) (slots : List ℕ) (replies : List Reply) where
+  -- There is one value for each tuple. The reply to a slot's part is an array of the values of the
+  -- slot's tuples, in their order.
+  --
+  -- `MGET a b {a}c`, replies [1, 3] to `MGET a {a}c` and [2] to `MGET b`: the values 1, 2, 3
+  pub record AreMerged (values : List Reply) : Type 0 where
+    pub each : length values ≡ length tuples
+    pub of_slots : AllZip
+        (λ slot reply. array_of reply ≡ Some (items_of_slot slot tuples values))
+        slots replies
 
--- the reply by the policy: one array in the order of the keys, one number, or the first reply
-abbrev pub joined_by : ResponsePolicy → MultiSlotArgPattern → List (List ℕ) → List Reply
-    → Result Reply ErrorKind
-joined_by CombineArrays pattern lists replies = sorted_arrays pattern replies lists
-joined_by (Aggregate op) pattern lists replies =
-    or_refused UnexpectedReturnType (aggregate_of op replies)
-joined_by _ pattern lists replies = or_refused Client (slice_get replies 0)
+  -- What the replies make. A command for a list has the array of the values, one that counts the sum.
+  -- One for `OK` has the reply to the first slot's part, whatever the others are. If they make none,
+  -- it is the kind of the refusal.
+  --
+  -- `DEL a b`, replies 1 and 1: 2. `DEL a b`, replies 1 and nil: `UnexpectedReturnType`
+  -- `MGET a b`, replies [1] and []: `Client`. `MSET a 1 b 2`, replies OK and 7: OK
+  abbrev pub IsOutcome : ReplyForm → Result Reply ErrorKind → Type 0
+  IsOutcome list (Ok value) =
+      (values : List Reply) × AreMerged values × (value ≡ array (replies_of values))
+  IsOutcome list (Err kind) =
+      first_misfit replies (map (λ slot. length (tuples_of_slot slot tuples)) slots) ≡ Some kind
+  IsOutcome count outcome =
+      ok_or (option_map int (sum_of replies)) UnexpectedReturnType ≡ outcome
+  IsOutcome okay outcome = slice_get (map Ok replies) 0 ≡ Some outcome
 
--- the one reply to the command, by those to its parts, or the kind of the refusal
-abbrev pub joined : Split → List Reply → Result Reply ErrorKind
-joined split replies = joined_by split.policy split.pattern (map (λ r. r.1) split.routes) replies
-
--- the split of a command
-pub record IsSplitOf (names : Names) (args : Arguments) (split : Split) : Type 0 where
-  pub arguments : split.arguments ≡ args
-  pub routes : Some split.routes ≡ multi_slot_routes names args
-  pub pattern : Some split.pattern ≡ pattern_by_name names.registered (command_name args)
-  pub policy : Some split.policy ≡ policy_by_name names.registered (command_name args)
-
--- The outcome, a reply or the kind of a refusal, is the one that the command's policy makes of a
--- reply for each route, and these may be what the nodes gave, in the order given, after what they
--- gave before.
-pub record IsJoined (names : Names) (args : Arguments) (order : List ℕ)
-    (old new : List Reply → Type 0) (outcome : Result Reply ErrorKind) : Type 0 where
-  pub split : Split
-  pub split_is : IsSplitOf names args split
-  pub replies : List Reply
-  pub each : length replies ≡ length split.routes
+-- There is one reply for each slot, in the order of the slots. The order names each slot once. In
+-- that order the nodes may have given them, after what they gave before.
+pub record HaveReplied (registered : Registrations) (args : Arguments) (order : List ℕ)
+    (old new : List Reply → Type 0) (command : MultiKey) (replies : List Reply) : Type 0 where
+  pub command_is : multi_key registered args ≡ Some command
+  pub order_is : NamesOnce (length (slots_in command)) order
+  pub each : length replies ≡ length (slots_in command)
   pub gave : (before : List Reply) → old before → new (before ++ in_order replies order)
-  pub joined_is : joined split replies ≡ outcome
+
+-- The outcome, a reply or the kind of a refusal, is what such replies make.
+pub record IsJoined (registered : Registrations) (args : Arguments) (order : List ℕ)
+    (old new : List Reply → Type 0) (outcome : Result Reply ErrorKind) : Type 0 where
+  pub command : MultiKey
+  pub replies : List Reply
+  pub replied : HaveReplied registered args order old new command replies
+  pub outcome_is : IsOutcome command.tuples (slots_in command) replies command.form outcome

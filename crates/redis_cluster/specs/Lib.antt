@@ -40,7 +40,7 @@ pub mod MultiKey
 pub mod PlacedTuples
 pub mod Unsplit
 pub mod Orders
-pub mod SlotResults
+pub mod SlotItems
 pub mod Trace
 pub mod State
 pub mod Sent

@@ -1,6 +1,6 @@
 -- A multi-key command as what it means: its name, its keys with what goes with each, and what
 -- they share. Its slots, its routes and the part of each slot are read off that.
-use Rattle.std.specs.Prelude.{◌≡◌, ◌-◌, ◌%◌, ◌/◌, ◌++◌, ◌∷◌, [], ℕ, Bool, ◌&&◌, List, Option, None, Some, cond, map, filter, length, nat_eq, nat_lt, option_and_then, slice_get, take}
+use Rattle.std.specs.Prelude.{◌≡◌, ◌-◌, ◌%◌, ◌/◌, ◌++◌, ◌∷◌, [], ℕ, Bool, ◌&&◌, List, Option, None, Some, cond, map, drop, filter, get_or, length, nat_eq, nat_lt, option_and_then, option_map, slice_get, take, unwrap_or}
 use Rattle.std.specs.List.{All, flat_map}
 use Rattle.std.specs.Option.{option_to_list}
 use Rattle.std.specs.Simd.{first_chunks}
@@ -39,7 +39,7 @@ pub record MultiKey : Type 0 where
   pub tuples : List KeyTuple
   pub form : ReplyForm
 
--- the form of the reply by the policy that joins the replies to parts of the command
+-- the form of the reply by the policy that joins the replies to parts; no other policy has one
 abbrev pub form_by_policy : ResponsePolicy → Option ReplyForm
 form_by_policy CombineArrays = Some list
 form_by_policy (Aggregate Sum) = Some count
@@ -63,25 +63,20 @@ abbrev pub is_whole : Shape → ℕ → Bool
 is_whole shape len =
     nat_lt shape.shared len && nat_eq ((len - shape.shared) % shape.width) 0
 
--- a tuple by its arguments, of which the first is the key
-abbrev pub tuple_by : List (List ℕ) → KeyTuple
-tuple_by [] = record { key = []; extras = [] }
-tuple_by (key ∷ extras) = record { key = key; extras = extras }
-
--- the tuples of some arguments, one after the other
+-- the tuples of some arguments, one after the other, each by its arguments: the first is the key
 abbrev pub tuples_by : Shape → List (List ℕ) → List KeyTuple
 tuples_by shape args =
-    map tuple_by (first_chunks shape.width ((length args - shape.shared) / shape.width) args)
+    map (λ t. record { key = get_or t 0 []; extras = drop 1 t })
+    (first_chunks shape.width ((length args - shape.shared) / shape.width) args)
 
 -- the argument that all of them share, if there is one
 abbrev pub shared_by : Shape → List (List ℕ) → Option (List ℕ)
 shared_by shape args = slice_get args (length args - shape.shared)
 
 -- the command of a name with these arguments, if they are complete
-abbrev pub command_with : Registrations → List ℕ → List (List ℕ) → MultiSlotArgPattern → Option ReplyForm
+abbrev pub command_with : Registrations → List ℕ → List (List ℕ) → MultiSlotArgPattern → ReplyForm
     → Option MultiKey
-command_with registered name present pattern None = None
-command_with registered name present pattern (Some form) =
+command_with registered name present pattern form =
     cond (is_whole (shape_of pattern) (length present))
     (Some (record {
       name = name;
@@ -95,9 +90,9 @@ command_with registered name present pattern (Some form) =
 -- up to the first gap, make whole tuples. If all keys share an argument, it is there.
 abbrev pub multi_key : Registrations → Arguments → Option MultiKey
 multi_key registered args =
-    option_and_then (λ name. option_and_then
-    (λ split. command_with registered name (present_arguments args) split.0 (form_by_policy split.1))
-    (split_of registered name)) (command_name args)
+    option_and_then (λ name. option_and_then (λ split.
+    option_and_then (command_with registered name (present_arguments args) split.0)
+    (form_by_policy split.1)) (split_of registered name)) (command_name args)
 
 -- the tuples whose key has the slot, in their order
 abbrev pub tuples_of_slot : ℕ → List KeyTuple → List KeyTuple
@@ -124,24 +119,18 @@ command_routes only_reads command =
     map (λ slot. record { slot = slot; addr = nodes_for (only_reads command.name) })
     (slots_in command)
 
--- the arguments of a tuple
-abbrev pub tuple_args : KeyTuple → List (List ℕ)
-tuple_args t = t.key ∷ t.extras
-
 -- the arguments of a slot's part: the name as the command spells it, the tuples of the slot, and
 -- what all tuples share
 abbrev pub part_args : Arguments → MultiKey → ℕ → Arguments
 part_args args command slot =
     take (name_words_of args) args ++ map Some
-    (flat_map tuple_args (tuples_of_slot slot command.tuples) ++ option_to_list command.shared)
+    (flat_map (λ t. t.key ∷ t.extras) (tuples_of_slot slot command.tuples)
+    ++ option_to_list command.shared)
 
-abbrev pub part_args_in : Arguments → Option MultiKey → ℕ → Arguments
-part_args_in args None slot = []
-part_args_in args (Some command) slot = part_args args command slot
-
--- the arguments of a slot's part of these arguments, if they are a multi-key command
+-- the arguments of a slot's part of these arguments, if they are a multi-key command, else none
 abbrev pub part_by_slot : Registrations → Arguments → ℕ → Arguments
-part_by_slot registered args slot = part_args_in args (multi_key registered args) slot
+part_by_slot registered args slot =
+    unwrap_or (option_map (λ command. part_args args command slot) (multi_key registered args)) []
 
 -- the arguments of the part of one slot: a complete multi-key command, all of that slot
 pub record IsPart (registered : Registrations) (args : Arguments) : Type 0 where

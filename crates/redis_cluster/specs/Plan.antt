@@ -1,18 +1,20 @@
 -- The plan of a multi-key command: a part for each of its routes, the node that it goes to,
 -- and the reply to it.
-use Rattle.std.specs.Prelude.{◌≡◌, ℕ, Bool, cond, List, Option, None, Some, map, length, ◌++◌}
+use Rattle.std.specs.Prelude.{◌≡◌, ℕ, Bool, cond, List, Option, None, Some, Result, map, length, ◌++◌}
 use Rattle.std.specs.List.{zip}
 use Rattle.resp_core.specs.Reply.{Reply}
 use Rattle.resp_core.specs.View.{view}
+use Rattle.resp_core.specs.declared.error.ErrorKind.{ErrorKind}
 use Rattle.resp_core.specs.declared.value.Value.{Value}
 use Rattle.cluster_slots.specs.Address.{Address}
 use Rattle.cluster_slots.specs.SlotRoute.{SlotRoute}
 use Rattle.redis_routing.specs.PresentArguments.{present_arguments}
 use Rattle.redis_routing.specs.Split.{Split, IsSplit, slots_of, split_part}
+use Rattle.redis_cluster.specs.Joined.{IsOutcome}
 use Rattle.redis_cluster.specs.MultiKey.{KeyTuple, ReplyForm, form_by_policy}
 use Rattle.redis_cluster.specs.PlacedTuples.{tuples_of}
 use Rattle.redis_cluster.specs.Orders.{in_order}
-use Rattle.redis_cluster.specs.SlotResults.{results_of_slot}
+use Rattle.redis_cluster.specs.SlotItems.{items_of_slot}
 use Rattle.redis_cluster.specs.Unsplit.{TupleResult, reply_by}
 
 -- the command with its routes, and for each route its node, its part, and its reply, if the plan
@@ -45,8 +47,16 @@ pub record ArePartsAnswered (split : Split) (form : ReplyForm) (results : List T
   pub form_is : form_by_policy split.policy ≡ Some form
   pub each : length results ≡ length (tuples_in_split split)
   pub replies_are : replies ≡ map
-      (λ slot. reply_by form (results_of_slot slot (tuples_in_split split) results))
+      (λ slot. reply_by form (items_of_slot slot (tuples_in_split split) results))
       (slots_of split.routes)
+
+-- There is one reply to each part. The outcome, a reply or the kind of a refusal, is what they make.
+pub record IsMadeOfParts (split : Split) (replies : List Reply)
+    (outcome : Result Reply ErrorKind) : Type 0 where
+  pub each : length replies ≡ length split.routes
+  pub form : ReplyForm
+  pub form_is : form_by_policy split.policy ≡ Some form
+  pub outcome_is : IsOutcome (tuples_in_split split) (slots_of split.routes) replies form outcome
 
 -- The plan has all replies, and these are they.
 pub record ArePartReplies (plan : Plan) (form : ReplyForm) (results : List TupleResult)
@@ -64,8 +74,7 @@ pub record AreGiven (old new : List Reply → Type 0) (routes : List (SlotRoute 
   pub each : length values ≡ length routes
   pub gave : (before : List Reply) → old before → new (before ++ in_order (map view values) order)
 
--- The nodes gave `count` replies after what they gave before. In the order in which they came,
--- these may be they.
+-- The nodes gave `count` replies more. In the order in which they came, these may be they.
 pub record HaveGiven (old new : List Reply → Type 0) (count : ℕ) : Type 0 where
   pub replies : List Reply
   pub each : length replies ≡ count

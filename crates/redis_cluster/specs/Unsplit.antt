@@ -66,4 +66,4 @@ module _ {C : Type 0} (step : Step C) (command : MultiKey) (keyspace : Keyspace 
   results_of = results (act_of step command) command.tuples keyspace
 
   abbrev pub reply_to : Reply
-  reply_to = reply_by command.form results_of
+  reply_to = reply_by command.form (results (act_of step command) command.tuples keyspace)

@@ -16,7 +16,7 @@ ghost use Rattle.redis_cluster.specs.Trace.{Ending};
 ghost use Rattle.redis_cluster.specs.Unsplit.{keyspace_after, reply_to};
 ghost use Rattle.redis_cluster.specs.Driven.{Request, request, AreAllAnswered, IsDelivered, IsDrivable, IsDriven, IsUnhindered};
 ghost use Rattle.redis_cluster.specs.Faults.{IsBefore, IsCauseBeforeSending, IsFault, IsCut};
-ghost use Rattle.redis_cluster.specs.Joined.{joined, IsJoined, IsSplitOf};
+ghost use Rattle.redis_cluster.specs.Joined.{IsJoined};
 ghost use Rattle.redis_cluster.specs.Plan.{HaveGiven};
 ghost use Rattle.redis_cluster.specs.Ready.{IsPlanFor, IsPlanNode, IsReady};
 ghost use Rattle.redis_cluster.specs.Ended.{AreEndedEarly};
@@ -95,13 +95,11 @@ pub fn drive<R: Routable, N: Nodes>(
         (N.state nodes.old).trace (N.state nodes.new).trace) }
     // And the reply is made of what they answered, as the command's policy says.
     ensures joined { IfOk result (λ value.
-        IsJoined (names_of read_only.now (N.registered nodes.old)) (R.args command.now)
-        order.now
+        IsJoined (N.registered nodes.old) (R.args command.now) order.now
         (N.gave nodes.old) (N.gave nodes.new) (Ok (view value))) }
     // Or the policy refuses them, with an error of this kind.
     ensures unjoined { IfErr result (λ e. (error : ErrorParts) → e.fault ≡ DriveFault.Reply error →
-        IsJoined (names_of read_only.now (N.registered nodes.old)) (R.args command.now)
-        order.now
+        IsJoined (N.registered nodes.old) (R.args command.now) order.now
         (N.gave nodes.old) (N.gave nodes.new) (Err error.kind)) }
     // Others may write the same keys meanwhile, and replicas may lag. Take any keyspace that has, at
     // each key of the command, what the key's node held when it ran the key's part. If each node
@@ -193,9 +191,7 @@ pub(super) fn plan_in_order<'a, R: Routable, N: Nodes>(
         × IsReady (IsRouteNode strategy.entry (λ s. picks s.now) slot_map.now pick)
         (request (R.args command.now) (names_of read_only.now (N.registered nodes.now))
         slot_map.now order.now) plan c) }
-    ensures split { IfOk result
-        (λ plan. IsSplitOf (names_of read_only.now (N.registered nodes.now)) (R.args command.now)
-        plan.split) }
+    ensures arguments { IfOk result (λ plan. plan.split.arguments ≡ R.args command.now) }
     ensures untold { IfOk result (λ plan. plan.replies ≡ map (λ route. None) plan.split.routes) }
     ensures order { IfOk result (λ plan. NamesOnce (length plan.split.routes) order.now) }
     ensures some { IfOk result (λ plan. 0 < length plan.split.routes) }
@@ -246,17 +242,12 @@ pub fn drive_plan<R: Routable, N: Nodes>(
     ensures delivered { IfOk result (λ value.
         (asked : Request) (c : MultiKey) → IsPlanFor asked order.now (N.registered nodes.old) plan.entry c
         → IsDelivered (IsPlanNode plan.entry) asked (N.state nodes.old).trace (N.state nodes.new).trace) }
-    ensures joined { IfOk result (λ value. (replies : List Reply)
-        × (length replies ≡ length plan.entry.split.routes)
-        × ((before : List Reply) → N.gave nodes.old before
-        → N.gave nodes.new (before ++ in_order replies order.now))
-        × (joined plan.entry.split replies ≡ Ok (view value))) }
-    ensures unjoined { IfErr result
-        (λ e. (error : ErrorParts) → e.fault ≡ DriveFault.Reply error → (replies : List Reply)
-        × (length replies ≡ length plan.entry.split.routes)
-        × ((before : List Reply) → N.gave nodes.old before
-        → N.gave nodes.new (before ++ in_order replies order.now))
-        × (joined plan.entry.split replies ≡ Err error.kind)) }
+    ensures joined { IfOk result (λ value.
+        IsJoined (N.registered nodes.old) plan.entry.split.arguments order.now
+        (N.gave nodes.old) (N.gave nodes.new) (Ok (view value))) }
+    ensures unjoined { IfErr result (λ e. (error : ErrorParts) → e.fault ≡ DriveFault.Reply error →
+        IsJoined (N.registered nodes.old) plan.entry.split.arguments order.now
+        (N.gave nodes.old) (N.gave nodes.new) (Err error.kind)) }
     // The reply if others write the same keys meanwhile, as `drive` has it.
     ensures amid { IfOk result (λ value.
         IsServedAmid N.Cell (N.registered nodes.old) plan.entry.split.arguments order.now
@@ -329,17 +320,12 @@ pub(super) fn drive_tries<R: Routable, N: Nodes>(
     ensures reply { IfOk result
         (λ value. (c : MultiKey) → IsPlanOf (N.registered nodes.old) c plan.entry
         → N.kept nodes.new → view value ≡ reply_to N.step c (N.state nodes.old).keyspace) }
-    ensures joined { IfOk result
-        (λ value. (replies : List Reply) × (length replies ≡ length plan.entry.split.routes)
-        × ((before : List Reply) → N.gave nodes.old before
-        → N.gave nodes.new (before ++ in_order replies order.now))
-        × (joined plan.entry.split replies ≡ Ok (view value))) }
-    ensures unjoined { IfErr result
-        (λ e. (error : ErrorParts) → e.fault ≡ DriveFault.Reply error → (replies : List Reply)
-        × (length replies ≡ length plan.entry.split.routes)
-        × ((before : List Reply) → N.gave nodes.old before
-        → N.gave nodes.new (before ++ in_order replies order.now))
-        × (joined plan.entry.split replies ≡ Err error.kind)) }
+    ensures joined { IfOk result (λ value.
+        IsJoined (N.registered nodes.old) plan.entry.split.arguments order.now
+        (N.gave nodes.old) (N.gave nodes.new) (Ok (view value))) }
+    ensures unjoined { IfErr result (λ e. (error : ErrorParts) → e.fault ≡ DriveFault.Reply error →
+        IsJoined (N.registered nodes.old) plan.entry.split.arguments order.now
+        (N.gave nodes.old) (N.gave nodes.new) (Err error.kind)) }
     ensures amid { IfOk result (λ value.
         IsServedAmid N.Cell (N.registered nodes.old) plan.entry.split.arguments order.now
         (N.gave nodes.old) (N.gave nodes.new) (view value)) }

@@ -14,12 +14,12 @@ ghost use Rattle.redis_routing.specs.Complete.{multi_slot_routes, pattern_by_nam
 ghost use Rattle.redis_routing.specs.Split.{policy_by_name, split_part, slots_of};
 ghost use Rattle.redis_routing.specs.RoutingInfo.{route_lists};
 ghost use Rattle.redis_cluster.specs.Amid.{IsReplyAmid};
-ghost use Rattle.redis_cluster.specs.MultiKey.{MultiKey, ReplyForm, list, part_by_slot};
+ghost use Rattle.redis_cluster.specs.MultiKey.{MultiKey, ReplyForm, list, form_by_policy, part_by_slot};
 ghost use Rattle.redis_cluster.specs.Unsplit.{reply_by, TupleResult};
 ghost use Rattle.redis_cluster.specs.Driven.{request, command_routes_by, IsFirstUncovered};
 ghost use Rattle.redis_cluster.specs.Faults.{IsPlanFault};
-ghost use Rattle.redis_cluster.specs.Joined.{joined};
-ghost use Rattle.redis_cluster.specs.Plan.{IsPlan, ArePartReplies, ArePartsAnswered};
+ghost use Rattle.redis_cluster.specs.Joined.{IsOutcome};
+ghost use Rattle.redis_cluster.specs.Plan.{IsPlan, IsMadeOfParts, ArePartReplies, ArePartsAnswered, tuples_in_split};
 ghost use Rattle.redis_cluster.specs.Ready.{IsPlanFor};
 ghost use Rattle.redis_cluster.specs.Sends.{IsPlanOf};
 
@@ -229,10 +229,10 @@ impl<'a, R: Routable> SplitPlan<'a, R> {
             (λ error. (error ≡ out_of_memory) × (form ≡ list)) }
         ensures joined { (replies : List Value) → self.entry.replies ≡ map Some replies
             → MatchResult result
-            (λ value. joined self.entry.split (map view replies) ≡ Ok (view value))
+            (λ value. IsMadeOfParts self.entry.split (map view replies) (Ok (view value)))
             (λ error. ((error ≡ out_of_memory)
             × (self.entry.split.policy ≡ ResponsePolicy.CombineArrays))
-            ⊎ (joined self.entry.split (map view replies) ≡ Err error.kind)) }
+            ⊎ IsMadeOfParts self.entry.split (map view replies) (Err error.kind)) }
         // Others may write the same keys meanwhile, as for `drive`. Each key holds bytes here, such as
         // `DUMP` gives.
         ensures amid { (registered : Registrations) (c : MultiKey) (replies : List Value)
@@ -269,10 +269,14 @@ fn join<R: Routable>(
     replies: Vec<Value>,
 ) -> RedisResult<Value>
     requires some { 0 < length replies.items }
-    ensures joined { MatchResult result
-        (λ value. joined split.now (map view replies.items) ≡ Ok (view value))
+    requires each { length replies.items ≡ length split.now.routes }
+    ensures joined { (form : ReplyForm) → form_by_policy split.now.policy ≡ Some form
+        → MatchResult result
+        (λ value. IsOutcome (tuples_in_split split.now) (slots_of split.now.routes)
+        (map view replies.items) form (Ok (view value)))
         (λ error. ((error ≡ out_of_memory) × (split.now.policy ≡ ResponsePolicy.CombineArrays))
-        ⊎ (joined split.now (map view replies.items) ≡ Err error.kind)) }
+        ⊎ IsOutcome (tuples_in_split split.now) (slots_of split.now.routes)
+        (map view replies.items) form (Err error.kind)) }
 {
     match split.policy() {
         ResponsePolicy::CombineArrays => {
@@ -303,9 +307,9 @@ pub fn join_replies<R: Routable>(
         (λ value. view value ≡ reply_by form results)
         (λ error. (error ≡ out_of_memory) × (form ≡ list)) }
     ensures joined { length replies.items ≡ length split.now.routes → MatchResult result
-        (λ value. joined split.now (map view replies.items) ≡ Ok (view value))
+        (λ value. IsMadeOfParts split.now (map view replies.items) (Ok (view value)))
         (λ error. ((error ≡ out_of_memory) × (split.now.policy ≡ ResponsePolicy.CombineArrays))
-        ⊎ (joined split.now (map view replies.items) ≡ Err error.kind)) }
+        ⊎ IsMadeOfParts split.now (map view replies.items) (Err error.kind)) }
     ensures count { length replies.items ≢ length split.now.routes
         → IsErrAnd result (λ error. error.kind ≡ Client) }
 {

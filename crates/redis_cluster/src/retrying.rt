@@ -93,11 +93,11 @@ pub fn drive_retrying<R: Routable, N: Nodes>(
         (N.state nodes.old).trace (N.state nodes.new).trace) }
     // And the reply is made of what the nodes answered, as the command's policy says.
     ensures joined { IfOk result (λ value.
-        IsJoined (names_of read_only.now (N.registered nodes.old)) (R.args command.now) order.now
+        IsJoined (N.registered nodes.old) (R.args command.now) order.now
         (N.gave nodes.old) (N.gave nodes.new) (Ok (view value))) }
     // Or the policy refuses them, with an error of this kind.
     ensures unjoined { IfErr result (λ e. (error : ErrorParts) → e.fault ≡ DriveFault.Reply error →
-        IsJoined (names_of read_only.now (N.registered nodes.old)) (R.args command.now) order.now
+        IsJoined (N.registered nodes.old) (R.args command.now) order.now
         (N.gave nodes.old) (N.gave nodes.new) (Err error.kind)) }
     // Others may write the same keys meanwhile, and replicas may lag. Take any keyspace that has, at
     // each key of the command, what the key's node held when it ran the key's part. If each node that

@@ -1,15 +1,19 @@
 -- The name of a command by its first two arguments, and the arguments that it takes.
-use Rattle.std.proofs.Common.{◌≡◌, ℕ, ◌<◌, ◌≤◌, List, [], ◌∷◌, ◌++◌, Option, Some, None, false, length, take, refl, ap, ◌∙◌, arith}
+use Rattle.std.proofs.Common.{◌≡◌, ℕ, ◌<◌, ◌≤◌, List, [], ◌∷◌, ◌++◌, Option, Some, None, false, length, option_map, take, refl, ap, ◌∙◌, arith}
 use Rattle.std.specs.Char.{to_ascii_uppercase}
 use Rattle.std.proofs.lemmas.List.{length-append, length-map}
 use Rattle.redis_routing.specs.Upper.{upper}
 use Rattle.redis_routing.specs.TwoWords.{takes_second}
 use Rattle.redis_routing.specs.NameWords.{name_words_of, words_by}
 use Rattle.redis_routing.specs.PresentArguments.{present_arguments}
-use Rattle.redis_routing.specs.Command.{Arguments, HasWords, argument, command_name, name_from, name_by, in_upper_case}
+use Rattle.redis_routing.specs.Command.{Arguments, HasWords, argument, command_name, name_by}
 use Rattle.resp_core.proofs.Cases.{by_test}
 
-by_first : (args : Arguments) (first : List ℕ) → Some first ≡ argument args 0 → Some (name_by (upper first) (in_upper_case (argument args 1))) ≡ command_name args
+-- the name of a command, if its first argument is there
+abbrev pub name_from : Arguments → Option (List ℕ) → Option (List ℕ)
+name_from args first = option_map (λ word. name_by (upper word) (option_map upper (argument args 1))) first
+
+by_first : (args : Arguments) (first : List ℕ) → Some first ≡ argument args 0 → Some (name_by (upper first) (option_map upper (argument args 1))) ≡ command_name args
 by_first args first is = ap (name_from args) is
 
 -- a command with a name has the words of it
@@ -22,6 +26,11 @@ has_words (Some first ∷ Some second ∷ rest) name named =
     by_test (takes_second (upper first))
     (λ takes. rw takes (record { texts = first ∷ second ∷ []; all = refl; taken = refl }))
     (λ alone. rw alone (record { texts = first ∷ []; all = refl; taken = refl }))
+
+-- the name by a first word that takes no second one
+name_alone : (first : List ℕ) (second : Option (List ℕ)) → takes_second first ≡ false → name_by first second ≡ first
+name_alone first None alone = refl
+name_alone first (Some second) alone = rw alone refl
 
 -- how many words a first one makes that takes no second one
 pub words_alone : (first : List ℕ) (second : Option (List ℕ)) → takes_second (upper first) ≡ false → words_by (Some first) second ≡ 1
@@ -38,16 +47,13 @@ words_again (Some first ∷ None ∷ rest) some other = absurd (omega (arith, so
 words_again (Some first ∷ Some second ∷ rest) some other =
     by_test (takes_second (upper first))
     (λ takes. rw takes (rw takes refl, rw takes refl))
-    (λ alone. rw alone (rw alone refl, words_alone first (argument other 0) alone))
+    (λ alone. rw alone (ap Some (name_alone (upper first) (option_map upper (argument other 0)) alone), words_alone first (argument other 0) alone))
 
 -- a name is longer than its first word just where it takes a second one
 by_length : (first : List ℕ) (second : Option (List ℕ))
-    → (length first < length (name_by (upper first) (in_upper_case second)) → 2 ≡ words_by (Some first) second)
-    × (length (name_by (upper first) (in_upper_case second)) ≤ length first → 1 ≡ words_by (Some first) second)
-by_length first None =
-    by_test (takes_second (upper first))
-    (λ takes. rw takes (λ longer. absurd (omega (arith, longer, length-map first to_ascii_uppercase)), λ _. refl))
-    (λ alone. rw alone (λ longer. absurd (omega (arith, longer, length-map first to_ascii_uppercase)), λ _. refl))
+    → (length first < length (name_by (upper first) (option_map upper second)) → 2 ≡ words_by (Some first) second)
+    × (length (name_by (upper first) (option_map upper second)) ≤ length first → 1 ≡ words_by (Some first) second)
+by_length first None = (λ longer. absurd (omega (arith, longer, length-map first to_ascii_uppercase)), λ _. refl)
 by_length first (Some second) =
     by_test (takes_second (upper first))
     (λ takes. rw takes (λ _. refl, λ short. absurd (omega (arith, short, length-append (upper first) (32 ∷ upper second), length-map first to_ascii_uppercase))))
@@ -56,12 +62,12 @@ by_length first (Some second) =
 module _ (args : Arguments) (name : List ℕ) (named : Some name ≡ command_name args) where
   pub two_words : (first : List ℕ) → Some first ≡ argument args 0 → length first < length name → 2 ≡ name_words_of args
   two_words first is longer =
-      let same : name ≡ name_by (upper first) (in_upper_case (argument args 1)) = cc (named, by_first args first is) in
+      let same : name ≡ name_by (upper first) (option_map upper (argument args 1)) = cc (named, by_first args first is) in
       (by_length first (argument args 1)).0 (rw (← same) longer) ∙ ap (λ a. words_by a (argument args 1)) is
 
   pub only_word : (first : List ℕ) → Some first ≡ argument args 0 → length name ≤ length first → 1 ≡ name_words_of args
   only_word first is short =
-      let same : name ≡ name_by (upper first) (in_upper_case (argument args 1)) = cc (named, by_first args first is) in
+      let same : name ≡ name_by (upper first) (option_map upper (argument args 1)) = cc (named, by_first args first is) in
       (by_length first (argument args 1)).1 (rw (← same) short) ∙ ap (λ a. words_by a (argument args 1)) is
 
   -- a command with a name has a first argument

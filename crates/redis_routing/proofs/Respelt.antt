@@ -1,11 +1,11 @@
 -- A command whose first word is spelt in another case goes where it went.
-use Rattle.std.proofs.Common.{◌≡◌, ℕ, zero, suc, ◌+◌, List, [], ◌∷◌, Bool, true, Option, None, Some, map, refl, sym, ap, ◌∙◌, add-one}
+use Rattle.std.proofs.Common.{◌≡◌, ℕ, zero, suc, ◌+◌, List, [], ◌∷◌, Bool, true, Option, None, Some, map, option_map, refl, sym, ap, ◌∙◌, add-one}
 use Rattle.std.specs.Prelude.{codes, position, nat_lt}
 use Rattle.std.specs.Char.{to_ascii_lowercase}
 use Rattle.std.specs.Str.{bytes_eq}
 use Rattle.std.proofs.lemmas.Str.Ascii.{lowercase-uppercase}
 use Rattle.redis_routing.specs.Upper.{upper}
-use Rattle.redis_routing.specs.Command.{Arguments, IsRespelt, argument, command_name, is_word, name_by, in_upper_case}
+use Rattle.redis_routing.specs.Command.{Arguments, IsRespelt, argument, command_name, is_word, name_by}
 use Rattle.redis_routing.specs.Lookup.{lookup_name}
 use Rattle.redis_routing.specs.Names.{Names}
 use Rattle.redis_routing.specs.PresentArguments.{present_arguments}
@@ -95,9 +95,9 @@ module _ (spelt first : List ℕ) (same : upper spelt ≡ upper first) (rest : A
 
   same_routing : (names : Names) → routing names original ≡ routing names other_spelling
   same_routing names =
-      let name = name_by (upper first) (in_upper_case (argument rest 0)) in
+      let name = name_by (upper first) (option_map upper (argument rest 0)) in
       let tables = tables_with names.registered in
-      let named : command_name original ≡ command_name other_spelling = ap (λ u. Some (name_by u (in_upper_case (argument rest 0)))) (sym same) in
+      let named : command_name original ≡ command_name other_spelling = ap (λ u. Some (name_by u (option_map upper (argument rest 0)))) (sym same) in
       same_route_by (tables.policy name) (names.only_reads name) (tables.route_by name) (each_behind_first names.registered name) ∙ ap (routing_by_name names other_spelling) named
 
 pub respelt_routing : (names : Names) (args other : Arguments) → IsRespelt args other → routing names other ≡ routing names args

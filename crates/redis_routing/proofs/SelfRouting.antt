@@ -1,5 +1,5 @@
 -- The part of each route of a split, as a command of its own, goes to that very route.
-use Rattle.std.proofs.Common.{◌≡◌, ℕ, zero, suc, ◌+◌, ◌-◌, ◌*◌, ◌%◌, ◌<◌, ◌≤◌, List, [], ◌∷◌, ◌++◌, Bool, true, false, cond, not, ◌&&◌, ◌||◌, Option, Some, None, map, length, take, drop, get_or, refl, sym, ap, ◌∙◌, arith}
+use Rattle.std.proofs.Common.{◌≡◌, ℕ, zero, suc, ◌+◌, ◌-◌, ◌*◌, ◌%◌, ◌<◌, ◌≤◌, List, [], ◌∷◌, ◌++◌, Bool, true, false, cond, not, ◌&&◌, ◌||◌, Option, Some, None, map, option_map, length, take, drop, get_or, refl, sym, ap, ◌∙◌, arith}
 use Rattle.std.specs.Prelude.{nat_eq, nat_lt, All}
 use Rattle.std.specs.List.{filter, flat_map, list_any}
 use Rattle.std.proofs.Math.Nat.{mul-mod_left}
@@ -12,7 +12,7 @@ use Rattle.cluster_slots.specs.KeySlot.{key_slot}
 use Rattle.cluster_slots.specs.SlotRoute.{SlotRoute}
 use Rattle.redis_routing.specs.Upper.{upper}
 use Rattle.redis_routing.specs.TwoWords.{takes_second}
-use Rattle.redis_routing.specs.Command.{Arguments, argument, command_name, in_upper_case, name_by, with_second}
+use Rattle.redis_routing.specs.Command.{Arguments, argument, command_name, name_by}
 use Rattle.redis_routing.specs.RouteBy.{base_routings, base_routing}
 use Rattle.redis_routing.specs.Names.{Names}
 use Rattle.redis_routing.specs.NameWords.{name_words_of}
@@ -49,15 +49,15 @@ space_between : (first second : List ℕ) → list_any (nat_eq 32) (first ++ 32 
 space_between [] second = refl
 space_between (c ∷ first) second = or_second (nat_eq 32 c) _ (space_between first second)
 
-not_plain : (first : List ℕ) (second : Option (List ℕ)) → takes_second first ≡ true → is_plain (with_second first second) ≡ false
+not_plain : (first : List ℕ) (second : Option (List ℕ)) → takes_second first ≡ true → is_plain (name_by first second) ≡ false
 not_plain first None takes = rw takes refl
-not_plain first (Some second) takes = ap not (or_second (takes_second (first ++ 32 ∷ second)) _ (space_between first second))
+not_plain first (Some second) takes = rw takes (ap not (or_second (takes_second (first ++ 32 ∷ second)) _ (space_between first second)))
 
 -- no second word belongs to the first one of a plain name
 takes_none : (first : List ℕ) (second : Option (List ℕ)) → is_plain (name_by first second) ≡ true → takes_second first ≡ false
 takes_none first second plain =
     by_test (takes_second first)
-    (λ takes. let short : is_plain (with_second first second) ≡ true = rw takes at plain in absurd (cc (short, not_plain first second takes)))
+    (λ takes. absurd (cc (plain, not_plain first second takes)))
     (λ takes. takes)
 
 -- the name of a command that splits under the tables takes its first word alone
@@ -65,7 +65,7 @@ pub table_words : (args : Arguments) (name : List ℕ) (pattern : MultiSlotArgPa
 table_words [] name pattern named route_by_is = absurd (cc named)
 table_words (None ∷ rest) name pattern named route_by_is = absurd (cc named)
 table_words (Some first ∷ rest) name pattern named route_by_is =
-    let second : Option (List ℕ) = in_upper_case (argument (Some first ∷ rest) 1) in
+    let second : Option (List ℕ) = option_map upper (argument (Some first ∷ rest) 1) in
     let name_is : name ≡ name_by (upper first) second = cc named in
     let plain : is_plain name ≡ true = sym (ap (plain_if_split name) route_by_is) ∙ each_plain name in
     words_alone first (argument rest 0) (takes_none (upper first) second (sym (ap is_plain name_is) ∙ plain))

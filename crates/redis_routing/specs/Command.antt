@@ -1,5 +1,5 @@
 -- A command as a list of arguments of which some are gaps, and its name.
-use Rattle.std.specs.Prelude.{◌≡◌, ℕ, List, [], ◌∷◌, ◌++◌, Bool, false, Option, None, Some, length, map, take, if◌then◌else◌, slice_index_or}
+use Rattle.std.specs.Prelude.{◌≡◌, ℕ, List, [], ◌∷◌, ◌++◌, Bool, false, Option, None, Some, length, map, option_map, take, if◌then◌else◌, slice_index_or}
 use Rattle.std.specs.Char.{to_ascii_lowercase}
 use Rattle.std.specs.Str.{bytes_eq}
 use Rattle.redis_routing.specs.Upper.{upper}
@@ -13,27 +13,16 @@ Arguments = List (Option (List ℕ))
 abbrev pub argument : Arguments → ℕ → Option (List ℕ)
 argument args place = slice_index_or args place None
 
--- a word, and after a space the second one, if there is one
-abbrev pub with_second : List ℕ → Option (List ℕ) → List ℕ
-with_second first None = first
-with_second first (Some second) = first ++ 32 ∷ second
-
--- a name by its first word in upper case: a second word belongs to it where the table of two-word
--- names has the first
+-- A name by its words in upper case. The second one belongs to it if the table of two-word names has
+-- the first: `CLIENT KILL` is a name, and `GET A` is not.
 abbrev pub name_by : List ℕ → Option (List ℕ) → List ℕ
-name_by first second = with_second first (if takes_second first then second else None)
+name_by first None = first
+name_by first (Some second) = if takes_second first then first ++ 32 ∷ second else first
 
-abbrev pub in_upper_case : Option (List ℕ) → Option (List ℕ)
-in_upper_case None = None
-in_upper_case (Some text) = Some (upper text)
-
--- the name of a command by its first argument, unless that is a gap or not there
-abbrev pub name_from : Arguments → Option (List ℕ) → Option (List ℕ)
-name_from args None = None
-name_from args (Some first) = Some (name_by (upper first) (in_upper_case (argument args 1)))
-
+-- the name of a command by its first two arguments, unless the first is a gap or not there
 abbrev pub command_name : Arguments → Option (List ℕ)
-command_name args = name_from args (argument args 0)
+command_name args =
+    option_map (λ first. name_by (upper first) (option_map upper (argument args 1))) (argument args 0)
 
 -- The first arguments, so many, are there: none of them is a gap.
 pub record HasWords (words : ℕ) (args : Arguments) : Type 0 where

@@ -4,7 +4,8 @@ use Rattle.std.specs.Char.{to_ascii_uppercase}
 use Rattle.std.proofs.lemmas.Slice.Eq.{bytes_eq-Decides}
 use Rattle.std.proofs.lemmas.Str.Ascii.{uppercase-uppercase}
 use Rattle.std.proofs.lemmas.List.{map-append}
-use Rattle.redis_routing.specs.Command.{Arguments, argument, command_name, in_upper_case, name_by, name_from, with_second}
+use Rattle.redis_routing.specs.Command.{Arguments, argument, command_name, name_by}
+use Rattle.redis_routing.proofs.CommandNames.{name_from}
 use Rattle.redis_routing.specs.Names.{names_of}
 use Rattle.redis_routing.specs.ReadOnly.{is_among}
 use Rattle.redis_routing.specs.Routing.{routing, routing_by_name}
@@ -23,13 +24,10 @@ upper-upper : (text : List ℕ) → upper (upper text) ≡ upper text
 upper-upper [] = refl
 upper-upper (c ∷ text) = rw (uppercase-uppercase c, upper-upper text) refl
 
-joined_upper : (first : List ℕ) (second : Option (List ℕ)) → upper (with_second (upper first) (in_upper_case second)) ≡ with_second (upper first) (in_upper_case second)
-joined_upper first None = upper-upper first
-joined_upper first (Some second) = map-append to_ascii_uppercase (upper first) (32 ∷ upper second) ∙ rw (upper-upper first, upper-upper second) refl
-
-name_upper : (first : List ℕ) (second : Option (List ℕ)) → upper (name_by (upper first) (in_upper_case second)) ≡ name_by (upper first) (in_upper_case second)
-name_upper first second = by_test (takes_second (upper first))
-    (λ t. rw t (joined_upper first second))
+name_upper : (first : List ℕ) (second : Option (List ℕ)) → upper (name_by (upper first) (option_map upper second)) ≡ name_by (upper first) (option_map upper second)
+name_upper first None = upper-upper first
+name_upper first (Some second) = by_test (takes_second (upper first))
+    (λ t. rw t (map-append to_ascii_uppercase (upper first) (32 ∷ upper second) ∙ rw (upper-upper first, upper-upper second) refl))
     (λ f. rw f (upper-upper first))
 
 same_some : (x y : List ℕ) → Some x ≡ Some y → x ≡ y
@@ -38,7 +36,7 @@ same_some x y e = cc
 from_upper : (args : Arguments) (first : Option (List ℕ)) (name : List ℕ) → Some name ≡ name_from args first → upper name ≡ name
 from_upper args None name e = absurd cc
 from_upper args (Some first) name e =
-    let is : name ≡ name_by (upper first) (in_upper_case (argument args 1)) = same_some _ _ e in
+    let is : name ≡ name_by (upper first) (option_map upper (argument args 1)) = same_some _ _ e in
     ap upper is ∙ name_upper first (argument args 1) ∙ sym is
 
 -- a name that was put in is there

@@ -1,5 +1,5 @@
 -- Why a client has one reply to the parts of a command, or none.
-use Rattle.std.proofs.Common.{◌≡◌, ◌⊎◌, ℕ, inl, inr, List, Some, Result, Ok, Err, map, sym, ◌∙◌, ap, true, false, MatchResult, IfOk, IfErr, subst}
+use Rattle.std.proofs.Common.{◌≡◌, ◌⊎◌, ℕ, inl, inr, List, Some, Result, Ok, Err, map, sym, ap, true, false, MatchResult, IfOk, IfErr, subst}
 use Rattle.std.specs.Prelude.{is_none}
 use Rattle.std.specs.List.{list_any}
 use Rattle.std.specs.Result.{IsErrAnd}
@@ -10,9 +10,9 @@ use Rattle.resp_core.specs.declared.value.Value.{Value}
 use Rattle.redis_routing.specs.declared.policy.ResponsePolicy.TheVariants.{CombineArrays}
 use Rattle.redis_routing.specs.Registry.{Registrations}
 use Rattle.redis_cluster.specs.Amid.{IsReplyAmid}
-use Rattle.redis_cluster.specs.Joined.{joined}
 use Rattle.redis_cluster.specs.MultiKey.{MultiKey}
-use Rattle.redis_cluster.specs.Plan.{Plan}
+use Rattle.redis_cluster.specs.Plan.{IsMadeOfParts, Plan}
+use Rattle.redis_routing.specs.Split.{Split}
 use Rattle.redis_cluster.specs.Sends.{IsPlanOf}
 use Rattle.uses.specs.Batch.{Answers, IsGathered, IsNotCombined, IsUngathered, IsClientRefusal, IsUntold}
 use Rattle.uses.specs.declared.batcher.BatchError.{BatchError}
@@ -32,9 +32,9 @@ refused_so plan answers replies Memory each is = tt
 -- what a plan says of the replies that it was told
 abbrev pub Joins : Plan → Result Value ErrorParts → Type 0
 Joins final r = (replies : List Value) → final.replies ≡ map Some replies
-    → MatchResult r (λ value. joined final.split (map view replies) ≡ Ok (view value))
+    → MatchResult r (λ value. IsMadeOfParts final.split (map view replies) (Ok (view value)))
     (λ error. ((error ≡ out_of_memory) × (final.split.policy ≡ CombineArrays))
-    ⊎ (joined final.split (map view replies) ≡ Err error.kind))
+    ⊎ IsMadeOfParts final.split (map view replies) (Err error.kind))
 
 -- what it says of them amid what others write
 abbrev pub JoinsAmid : Plan → Result Value ErrorParts → Type 0
@@ -73,10 +73,10 @@ module _ (plan final : Plan) (answers : Answers) (values : List Value)
   ended (Ok value) joins amid untold = record {
     replies = values;
     each = each;
-    joined_is = λ none_before.
+    made = λ none_before.
         by_test (list_any is_none final.replies)
         (λ some. absurd (untold some))
-        (λ all. ap (λ s. joined s (map view values)) (sym split_is) ∙ joins values (all_of none_before all));
+        (λ all. subst (λ (s : Split). IsMadeOfParts s (map view values) (Ok (view value))) split_is (joins values (all_of none_before all)));
     amid = λ registered command is none_before.
         by_test (list_any is_none final.replies)
         (λ some. absurd (untold some))
@@ -90,7 +90,7 @@ module _ (plan final : Plan) (answers : Answers) (values : List Value)
         (λ some. inl (untold some))
         (λ all. elim (joins values (all_of none_before all)) [
           | inl memory ↦ inr (inl memory.0)
-          | inr refused ↦ inr (inr (ap (λ s. joined s (map view values)) (sym split_is) ∙ refused))
+          | inr refused ↦ inr (inr (subst (λ (s : Split). IsMadeOfParts s (map view values) (Err error.kind)) split_is refused))
         ]);
   }
 

@@ -12,8 +12,7 @@ use Rattle.redis_routing.specs.Registry.{Registrations}
 use Rattle.redis_cluster.specs.Amid.{IsReplyAmid}
 use Rattle.redis_cluster.specs.Names.{names_of}
 use Rattle.redis_cluster.specs.Faults.{IsPlanFault}
-use Rattle.redis_cluster.specs.Joined.{joined}
-use Rattle.redis_cluster.specs.Plan.{Plan}
+use Rattle.redis_cluster.specs.Plan.{IsMadeOfParts, Plan}
 use Rattle.redis_cluster.specs.Driven.{command_routes_by}
 use Rattle.redis_cluster.specs.MultiKey.{MultiKey, multi_key, part_by_slot}
 use Rattle.redis_cluster.specs.Sends.{IsPlanOf, Target}
@@ -37,7 +36,7 @@ IsUntold plan = plan.replies ≡ map (λ route. None) plan.split.routes
 pub record IsGathered (plan : Plan) (answers : Answers) (reply : Reply) : Type 0 where
   pub replies : List Value
   pub each : answers ≡ map Ok replies
-  pub joined_is : IsUntold plan → joined plan.split (map view replies) ≡ Ok reply
+  pub made : IsUntold plan → IsMadeOfParts plan.split (map view replies) (Ok reply)
   pub amid : (registered : Registrations) (command : MultiKey) → IsPlanOf registered command plan
       → IsUntold plan → IsReplyAmid (List ℕ) command (map view replies) reply
 
@@ -67,7 +66,7 @@ pub record IsNotCombined (plan : Plan) (answers : Answers) (error : ErrorParts) 
   pub replies : List Value
   pub each : answers ≡ map Ok replies
   pub cause : IsUntold plan → (error.kind ≡ Client)
-      ⊎ ((error ≡ out_of_memory) ⊎ (joined plan.split (map view replies) ≡ Err error.kind))
+      ⊎ ((error ≡ out_of_memory) ⊎ IsMadeOfParts plan.split (map view replies) (Err error.kind))
 
 -- a refusal of kind Client
 abbrev pub IsClientRefusal : BatchError → Type 0

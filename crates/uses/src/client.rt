@@ -6,7 +6,6 @@ ghost use Rattle.redis_cluster.specs.State.{State, state};
 ghost use Rattle.redis_cluster.specs.Faults.{IsCut, IsFault};
 ghost use Rattle.redis_cluster.specs.Joined.{IsJoined};
 ghost use Rattle.redis_cluster.specs.MultiKey.{multi_key};
-ghost use Rattle.redis_cluster.specs.Names.{names_of};
 ghost use Rattle.redis_cluster.specs.Trace.{Entry};
 ghost use Rattle.redis_cluster.specs.Unsplit.{keyspace_after, reply_to};
 ghost use Rattle.wire_nodes.specs.Held.{registry_in};
@@ -63,7 +62,7 @@ pub fn write_and_read<W: Wire, M: Meaning>(
         between (⟦<WireNodes<W, M> as Nodes>⟧.state client.new).trace) }
     // It is made of the values that came to the read, as the policy of `MGET` says.
     ensures joined { IfOk result (λ value. (before : List Reply)
-        × IsJoined (names_of [] (registry_in client.old)) (map Some read) (1 ∷ 0 ∷ [])
+        × IsJoined (registry_in client.old) (map Some read) (1 ∷ 0 ∷ [])
         (λ replies. replies ≡ before) (⟦<WireNodes<W, M> as Nodes>⟧.gave client.new) (Ok (view value))) }
     // Where the servers answered as one would, it is what was written.
     ensures as_one { IfOk result (λ value. ⟦<WireNodes<W, M> as Nodes>⟧.kept client.new
@@ -128,7 +127,7 @@ fn drive_over<W: Wire, M: Meaning>(
     ensures once { IfOk result (λ value. AreSentOnce slot_map.now (registry_in client.old) command.now order.now
         (⟦<WireNodes<W, M> as Nodes>⟧.state client.old).trace (⟦<WireNodes<W, M> as Nodes>⟧.state client.new).trace) }
     ensures joined { IfOk result (λ value.
-        IsJoined (names_of [] (registry_in client.old)) (map Some command.now) order.now
+        IsJoined (registry_in client.old) (map Some command.now) order.now
         (⟦<WireNodes<W, M> as Nodes>⟧.gave client.old) (⟦<WireNodes<W, M> as Nodes>⟧.gave client.new)
         (Ok (view value))) }
     ensures as_one { IfOk result (λ value. ⟦<WireNodes<W, M> as Nodes>⟧.kept client.new

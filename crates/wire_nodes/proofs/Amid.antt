@@ -306,7 +306,7 @@ module _ (C : Type 0) (r : Request) (old new : List Said) where
   -- A command is served at the moments of its answered sends.
   served_in_order : (value : Reply) → AreSentInOrder r (map entry_by old) (map entry_by new)
       → IsServedAmid C r.names.registered r.arguments r.order (λ rs. rs ≡ replies_in old) (λ rs. rs ≡ replies_in new) value → IsServedAt C r.names.registered r.arguments old new value
-  served_in_order value d s = is_served C r old new d s.command s.command_is value s.replies s.each (s.gave (replies_in old) refl) s.reply
+  served_in_order value d s = is_served C r old new d s.command s.replied.command_is value s.replies s.replied.each (s.replied.gave (replies_in old) refl) s.reply
 
   -- Whether all parts were answered or not, those that were left what the unsplit command leaves.
   pub leaves_in_order : (map entry_by new ≡ map entry_by old) ⊎ AreSentInOrder r (map entry_by old) (map entry_by new) → (command : MultiKey) → multi_key r.names.registered r.arguments ≡ Some command

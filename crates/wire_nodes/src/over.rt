@@ -57,12 +57,12 @@ pub fn drive_over<R: Routable, W: Wire, M: Meaning>(
         (λ count ending. ⊤) e.fault e.answered) }
     // The reply is made of the values that came, as the command's policy says.
     ensures joined { IfOk result (λ value.
-        IsJoined (names_of read_only.now (registry_in client.old)) (R.args command.now) order.now
+        IsJoined (registry_in client.old) (R.args command.now) order.now
         (λ replies. replies ≡ replies_in (W.log (wire_in client.old)))
         (λ replies. replies ≡ replies_in (W.log (wire_in client.new))) (Ok (view value))) }
     // Or the policy refuses them, with an error of this kind.
     ensures unjoined { IfErr result (λ e. (error : ErrorParts) → e.fault ≡ Reply error →
-        IsJoined (names_of read_only.now (registry_in client.old)) (R.args command.now) order.now
+        IsJoined (registry_in client.old) (R.args command.now) order.now
         (λ replies. replies ≡ replies_in (W.log (wire_in client.old)))
         (λ replies. replies ≡ replies_in (W.log (wire_in client.new))) (Err error.kind)) }
     // Others may write the same keys meanwhile, and replicas may lag. If each node replied to its part

@@ -9,11 +9,12 @@ use Rattle.redis_batches.specs.Plan.{Batches}
 use Rattle.redis_batches.specs.Reads.{IsSlotNode}
 use Rattle.redis_batches.specs.Replies.{AreRepliesTo}
 use Rattle.redis_batches.specs.Taken.{answer_of}
-use Rattle.redis_batches.specs.Tasks.{with_slots}
+use Rattle.redis_batches.specs.Tasks.{AreSplitsOf, with_slots}
 use Rattle.redis_batches.proofs.Amid.{served_amid}
 use Rattle.redis_batches.proofs.Driving.{all_taken, pipeline_answered, pipeline_as_one, pipeline_served, pipeline_stopped, pipeline_unhindered}
 use Rattle.redis_batches.proofs.InTurn.{pipeline_in_turn}
 use Rattle.redis_batches.proofs.Planning.{slots_of_all}
+use Rattle.redis_batches.proofs.ServerReplies.{shared_by_splits}
 use Rattle.redis_batches.proofs.drive.drive_pipeline.Goals as goal
 
 pub send_batches-requires-clause-batches : goal.send_batches-requires-clause-batches
@@ -41,10 +42,13 @@ returns-in-Ok-replies_of-clause-served g c =
     let new = nodes.state c.send_batches.new.nodes in
     let given = map answer_of c.send_batches.new.plan.answers in
     let replies = map answer_of c.in-Ok-replies_of.replies.items in
-    let made = subst (λ splits. AreRepliesTo splits given replies) (ap (map split_in) c.as_slice.ensures.value ∙ c.into_parts-tasks.ensures.splits)
-    (subst (λ answers. AreRepliesTo (map split_in c.as_slice.result.now) (map answer_of answers) replies) c.into_answers.ensures.answers c.in-Ok-replies_of.ensures.replies) in
+    let splits = c.in-Ok.ensures.splits sendable.of_commands.tasks sendable.of_commands.tasks_are in
+    let share = shared_by_splits (nodes.registered c.args.nodes.now) c.in-Ok.plan.splits sendable.of_commands.tasks splits in
+    let made = subst (λ answers. AreRepliesTo sendable.of_commands.tasks (map answer_of answers) replies) c.into_answers.ensures.answers
+    (c.in-Ok-replies_of.ensures.replies (nodes.registered c.args.nodes.now) sendable.of_commands.tasks
+    (subst (λ of. AreSplitsOf (nodes.registered c.args.nodes.now) of sendable.of_commands.tasks) (sym (ap (map split_in) c.as_slice.ensures.value ∙ c.into_parts-tasks.ensures.splits)) splits)) in
     pipeline_served nodes.step nodes.serve (nodes.kept c.send_batches.new.nodes) (nodes.may_refuse c.args.nodes.now) (nodes.registered c.args.nodes.now) is_node c.args.commands.now c.args.order.now old new
-    c.in-Ok.plan c.into_parts-tasks.result.1 c.into_parts-tasks.ensures.batches sendable given replies c.in_default.ensures.served made
+    c.in-Ok.plan c.into_parts-tasks.result.1 c.into_parts-tasks.ensures.batches sendable given replies c.in_default.ensures.served share made
 
 pub returns-in-Ok-replies_of-clause-one_server : goal.returns-in-Ok-replies_of-clause-one_server
 returns-in-Ok-replies_of-clause-one_server g c =
@@ -55,10 +59,13 @@ returns-in-Ok-replies_of-clause-one_server g c =
     let new = nodes.state c.send_batches.new.nodes in
     let given = map answer_of c.send_batches.new.plan.answers in
     let replies = map answer_of c.in-Ok-replies_of.replies.items in
-    let made = subst (λ splits. AreRepliesTo splits given replies) (ap (map split_in) c.as_slice.ensures.value ∙ c.into_parts-tasks.ensures.splits)
-    (subst (λ answers. AreRepliesTo (map split_in c.as_slice.result.now) (map answer_of answers) replies) c.into_answers.ensures.answers c.in-Ok-replies_of.ensures.replies) in
+    let splits = c.in-Ok.ensures.splits sendable.of_commands.tasks sendable.of_commands.tasks_are in
+    let share = shared_by_splits (nodes.registered c.args.nodes.now) c.in-Ok.plan.splits sendable.of_commands.tasks splits in
+    let made = subst (λ answers. AreRepliesTo sendable.of_commands.tasks (map answer_of answers) replies) c.into_answers.ensures.answers
+    (c.in-Ok-replies_of.ensures.replies (nodes.registered c.args.nodes.now) sendable.of_commands.tasks
+    (subst (λ of. AreSplitsOf (nodes.registered c.args.nodes.now) of sendable.of_commands.tasks) (sym (ap (map split_in) c.as_slice.ensures.value ∙ c.into_parts-tasks.ensures.splits)) splits)) in
     pipeline_as_one nodes.step nodes.serve (nodes.kept c.send_batches.new.nodes) (nodes.may_refuse c.args.nodes.now) (nodes.registered c.args.nodes.now) is_node c.args.commands.now c.args.order.now old new
-    c.in-Ok.plan c.into_parts-tasks.result.1 c.into_parts-tasks.ensures.batches sendable given replies c.in_default.ensures.served made
+    c.in-Ok.plan c.into_parts-tasks.result.1 c.into_parts-tasks.ensures.batches sendable given replies c.in_default.ensures.served share made
 
 pub returns-in-Ok-replies_of-clause-made : goal.returns-in-Ok-replies_of-clause-made
 returns-in-Ok-replies_of-clause-made g c =
@@ -66,9 +73,12 @@ returns-in-Ok-replies_of-clause-made g c =
     let answers = c.send_batches.new.plan.answers in
     let given = map answer_of answers in
     let replies = map answer_of c.in-Ok-replies_of.replies.items in
-    let replies_are : AreRepliesTo c.in-Ok.plan.splits given replies = subst (λ splits. AreRepliesTo splits given replies) (ap (map split_in) c.as_slice.ensures.value ∙ c.into_parts-tasks.ensures.splits)
-    (subst (λ all. AreRepliesTo (map split_in c.as_slice.result.now) (map answer_of all) replies) c.into_answers.ensures.answers c.in-Ok-replies_of.ensures.replies) in
     let sendable = c.in-Ok.ensures.sendable in
+    let splits = c.in-Ok.ensures.splits sendable.of_commands.tasks sendable.of_commands.tasks_are in
+    let share = shared_by_splits (nodes.registered c.args.nodes.now) c.in-Ok.plan.splits sendable.of_commands.tasks splits in
+    let made = subst (λ answers. AreRepliesTo sendable.of_commands.tasks (map answer_of answers) replies) c.into_answers.ensures.answers
+    (c.in-Ok-replies_of.ensures.replies (nodes.registered c.args.nodes.now) sendable.of_commands.tasks
+    (subst (λ of. AreSplitsOf (nodes.registered c.args.nodes.now) of sendable.of_commands.tasks) (sym (ap (map split_in) c.as_slice.ensures.value ∙ c.into_parts-tasks.ensures.splits)) splits)) in
     record {
       given = given;
       all = record {
@@ -79,8 +89,8 @@ returns-in-Ok-replies_of-clause-made g c =
         long = length-map answers answer_of ∙ c.send_batches.ensures.room ∙ ap (λ (b : Batches). length b.parts) c.into_parts-tasks.ensures.batches;
         gave = subst (λ b. Grew (nodes.gave c.args.nodes.now) (nodes.gave c.send_batches.new.nodes) (answers_in b given c.args.order.now)) c.into_parts-tasks.ensures.batches c.in_default.ensures.gave;
       };
-      replies_are = replies_are;
-      amid = served_amid nodes.Cell (nodes.registered c.args.nodes.now) c.in-Ok.plan.splits sendable.of_commands.tasks given replies sendable.of_commands.splits_are replies_are;
+      replies_are = made;
+      amid = served_amid nodes.Cell sendable.of_commands.tasks given replies share made;
     }
 
 pub returns-clause-given : goal.returns-clause-given

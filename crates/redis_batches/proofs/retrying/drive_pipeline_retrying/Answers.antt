@@ -14,12 +14,13 @@ use Rattle.redis_batches.specs.Plan.{Batches}
 use Rattle.redis_batches.specs.Reads.{IsSlotNode}
 use Rattle.redis_batches.specs.Replies.{AreRepliesTo}
 use Rattle.redis_batches.specs.Taken.{answer_of}
-use Rattle.redis_batches.specs.Tasks.{with_slots}
+use Rattle.redis_batches.specs.Tasks.{AreSplitsOf, with_slots}
 use Rattle.redis_batches.proofs.Asked.{asked_none}
 use Rattle.redis_batches.proofs.Chain as chain
 use Rattle.redis_batches.proofs.Driving.{pipeline_stopped}
 use Rattle.redis_batches.proofs.Planning.{slots_of_all}
 use Rattle.redis_batches.proofs.Retried as retried
+use Rattle.redis_batches.proofs.ServerReplies.{shared_by_splits}
 use Rattle.redis_batches.proofs.retrying.drive_pipeline_retrying.Goals as goal
 
 pub send_batches-requires-clause-batches : goal.send_batches-requires-clause-batches
@@ -317,13 +318,16 @@ returns-in-Ok-replies_of-clause-served g c =
     (subst (λ r. AreSentAgain nodes.step nodes.serve kept (nodes.may_refuse c.send_batches.new.nodes) r arguments ps first retries between new asked_between asked_new gave_between gave_new before after) c.send_batches.ensures.registered
     (c.in_default-send_again.ensures.again ps first later gone)) in
     let replies = map answer_of c.in-Ok-replies_of.replies.items in
-    let made : AreRepliesTo plan.splits (map answer_of after) replies =
-    subst (λ splits. AreRepliesTo splits (map answer_of after) replies) (ap (map split_in) c.as_slice-5.ensures.value ∙ c.into_placed-tasks.ensures.splits) c.in-Ok-replies_of.ensures.replies in
+    let splits = c.in-Ok.ensures.splits sendable.of_commands.tasks sendable.of_commands.tasks_are in
+    let share = shared_by_splits registered plan.splits sendable.of_commands.tasks splits in
+    let made : AreRepliesTo sendable.of_commands.tasks (map answer_of after) replies =
+    c.in-Ok-replies_of.ensures.replies registered sendable.of_commands.tasks
+    (subst (λ of. AreSplitsOf registered of sendable.of_commands.tasks) (sym (ap (map split_in) c.as_slice-5.ensures.value ∙ c.into_placed-tasks.ensures.splits)) splits) in
     retried.served_in_rounds nodes.step nodes.serve may registered is_node commands order retries old between plan sendable kept_then given served kept c.send_again.ensures.kept new asked_old asked_between asked_new gave_old gave_between gave_new before after
     (ap (map answer_of) (sym c.into_rest-parts.ensures.answers))
     (chain.again_wider nodes.step nodes.serve registered plan.batches.parts kept (nodes.may_refuse c.send_batches.new.nodes) may more ps first retries between new asked_between asked_new gave_between gave_new before after named)
     (subst (λ b. WereAsked asked_old asked_between (map (batch_at b) order)) c.into_placed-tasks.ensures.batches c.in_default.ensures.asked)
-    (ap length c.into_rest-parts.ensures.answers ∙ room) (subst (λ b. Grew gave_old gave_between (answers_in b given order)) c.into_placed-tasks.ensures.batches c.in_default.ensures.gave) replies made
+    (ap length c.into_rest-parts.ensures.answers ∙ room) (subst (λ b. Grew gave_old gave_between (answers_in b given order)) c.into_placed-tasks.ensures.batches c.in_default.ensures.gave) replies share made
 
 pub returns-clause-fault : goal.returns-clause-fault
 returns-clause-fault g c =

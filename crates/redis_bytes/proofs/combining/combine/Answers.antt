@@ -4,7 +4,7 @@ use Rattle.std.proofs.lemmas.Result.{err_from_is_err_and}
 use Rattle.redis_routing.specs.Names.{names_in}
 use Rattle.redis_routing.specs.Complete.{multi_slot_routes}
 use Rattle.redis_routing.specs.Split.{Split}
-use Rattle.redis_cluster.specs.Joined.{IsSplitOf}
+use Rattle.redis_bytes.specs.Requests.{IsSplitOf}
 use Rattle.redis_cluster.specs.Plan.{ArePartsAnswered}
 use Rattle.redis_bytes.proofs.Splits.{of_some, same_split}
 use Rattle.redis_bytes.proofs.combining.combine.Goals as goal

@@ -1,4 +1,4 @@
-use Rattle.std.proofs.Common.{[], inl, refl, sym, subst}
+use Rattle.std.proofs.Common.{[], Ok, Err, inl, refl, sym, subst}
 use Rattle.std.proofs.lemmas.List.{append-nil}
 use Rattle.std.proofs.lemmas.Result.{IfErr-weaker, IfOk-weaker}
 use Rattle.cluster_slots.specs.Address.{Address}
@@ -8,7 +8,7 @@ use Rattle.redis_routing.specs.Names.{names_of}
 use Rattle.redis_routing.specs.Registry.{Registrations}
 use Rattle.redis_cluster.specs.MultiKey.{MultiKey}
 use Rattle.redis_cluster.specs.Driven.{Request, request}
-use Rattle.redis_cluster.specs.Joined.{IsSplitOf}
+use Rattle.redis_cluster.specs.Joined.{IsJoined}
 use Rattle.redis_cluster.specs.Faults.{fault_of_plan, IsCauseBeforeSending}
 use Rattle.redis_cluster.specs.declared.fault.DriveFault.{DriveFault}
 use Rattle.redis_routing.specs.Command.{Arguments}
@@ -64,24 +64,16 @@ returns-in-Ok-clause-fault g c =
 
 pub returns-in-Ok-clause-joined : goal.returns-in-Ok-clause-joined
 returns-in-Ok-clause-joined g c =
-    let new = c.in-Ok.ensures in
-    let args = g.R.Routable.args c.args.command.now in
-    let split_is : IsSplitOf (names_of c.args.read_only.now (g.N.Nodes.registered c.args.nodes.now)) args c.in-Ok.plan.split =
-    subst (λ registered. IsSplitOf (names_of c.args.read_only.now registered) args c.in-Ok.plan.split) c.registry.ensures
-    (record { arguments = new.arguments; routes = new.routes; pattern = new.pattern; policy = new.policy }) in
+    let nodes = g.N.Nodes in
     IfOk-weaker c.drive_plan.result _ _
-    (λ value is. record { split = c.in-Ok.plan.split; split_is = split_is; replies = is.0; each = is.1; gave = is.2; joined_is = is.3 })
+    (λ value. subst (λ (args : Arguments). IsJoined (nodes.registered c.args.nodes.now) args c.args.order.now (nodes.gave c.args.nodes.now) (nodes.gave c.drive_plan.new.nodes) (Ok (view value))) c.in-Ok.ensures.arguments)
     c.drive_plan.ensures.joined
 
 pub returns-in-Ok-clause-unjoined : goal.returns-in-Ok-clause-unjoined
 returns-in-Ok-clause-unjoined g c =
-    let new = c.in-Ok.ensures in
-    let args = g.R.Routable.args c.args.command.now in
-    let split_is : IsSplitOf (names_of c.args.read_only.now (g.N.Nodes.registered c.args.nodes.now)) args c.in-Ok.plan.split =
-    subst (λ registered. IsSplitOf (names_of c.args.read_only.now registered) args c.in-Ok.plan.split) c.registry.ensures
-    (record { arguments = new.arguments; routes = new.routes; pattern = new.pattern; policy = new.policy }) in
+    let nodes = g.N.Nodes in
     IfErr-weaker c.drive_plan.result _ _
-    (λ e is error at. let told = is error at in record { split = c.in-Ok.plan.split; split_is = split_is; replies = told.0; each = told.1; gave = told.2; joined_is = told.3 })
+    (λ e is error at. subst (λ (args : Arguments). IsJoined (nodes.registered c.args.nodes.now) args c.args.order.now (nodes.gave c.args.nodes.now) (nodes.gave c.drive_plan.new.nodes) (Err error.kind)) c.in-Ok.ensures.arguments (is error at))
     c.drive_plan.ensures.unjoined
 
 pub returns-in-Ok-clause-headline : goal.returns-in-Ok-clause-headline

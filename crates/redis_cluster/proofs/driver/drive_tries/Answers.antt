@@ -1,4 +1,4 @@
-use Rattle.std.proofs.Common.{◌≡◌, ◌<◌, All, inl, inr, length, arith, ap, subst, sym, ◌∙◌, ⊎_elim, map, Err}
+use Rattle.std.proofs.Common.{◌≡◌, ◌<◌, All, inl, inr, length, arith, ap, subst, sym, ◌∙◌, ⊎_elim, map, Ok, Err}
 use Rattle.redis_cluster.specs.Orders.{in_order}
 use Rattle.redis_cluster.proofs.Orders.{length-in_order}
 use Rattle.std.proofs.lemmas.List.{length-map}
@@ -9,10 +9,9 @@ use Rattle.redis_cluster.specs.MultiKey.{form_by_policy}
 use Rattle.redis_cluster.specs.Unsplit.{results_of}
 use Rattle.redis_cluster.proofs.Once.{length-names_once}
 use Rattle.redis_routing.specs.Split.{Split}
-use Rattle.redis_cluster.specs.Joined.{joined}
-use Rattle.redis_cluster.specs.Plan.{Plan}
+use Rattle.redis_cluster.specs.Plan.{IsMadeOfParts}
 use Rattle.redis_routing.specs.Split.{IsSplit}
-use Rattle.redis_cluster.proofs.Amid.{served_amid}
+use Rattle.redis_cluster.proofs.Amid.{joined_by_plan, served_amid}
 use Rattle.redis_cluster.proofs.Ended.{no_reply_fault, memory_is_no_reply, same_reply}
 use Rattle.redis_cluster.proofs.Joined.{arrays_make_lists, memory_makes_lists}
 use Rattle.redis_cluster.proofs.driver.drive_tries.Goals as goal
@@ -38,7 +37,7 @@ returns-in-Err-combine-clause-stopped g c =
           let form = ap (λ (s : Split). form_by_policy s.policy) c.in_default.ensures.plan ∙ is.form in
           ⊎_elim
           (λ arrays. arrays_make_lists c.send_all.new.plan.split command.form form arrays.1)
-          (λ kind. memory_makes_lists c.send_all.new.plan.split command.form (map view told.values) form (kind ∙ ap (λ (k : ErrorKind). Err k) memory.0))
+          (λ made. memory_makes_lists c.send_all.new.plan.split command.form (map view told.values) form (subst (λ (k : ErrorKind). IsMadeOfParts c.send_all.new.plan.split (map view told.values) (Err k)) memory.0 made))
           failed;
     })))
     (λ misfit. inr (inr (record {
@@ -56,8 +55,11 @@ returns-in-Err-combine-clause-stopped g c =
 pub returns-in-Ok-clause-joined : goal.returns-in-Ok-clause-joined
 returns-in-Ok-clause-joined g c =
     let told = c.in_default.ensures.told in
-    let is = c.in-Ok.ensures.joined told.values told.all_told in
-    (map view told.values, length-map told.values view ∙ told.each, told.gave, ap (λ (s : Split). joined s (map view told.values)) (sym c.in_default.ensures.plan) ∙ is)
+    let nodes = g.N.Nodes in
+    let replies = map view told.values in
+    joined_by_plan (nodes.registered c.args.nodes.now) c.args.plan c.requires.command.0 c.args.order.now (nodes.gave c.args.nodes.now) (nodes.gave c.send_all.new.nodes) replies c.requires.command.1
+    (subst IsSplit c.in_default.ensures.plan c.len-answered.ensures.plan.split) c.requires.order (length-map told.values view ∙ told.each) told.gave (Ok (view c.in-Ok.reply))
+    (subst (λ (s : Split). IsMadeOfParts s replies (Ok (view c.in-Ok.reply))) c.in_default.ensures.plan (c.in-Ok.ensures.joined told.values told.all_told))
 
 pub returns-in-Err-clause-unjoined : goal.returns-in-Err-clause-unjoined
 returns-in-Err-clause-unjoined g c = λ error is.
@@ -67,19 +69,18 @@ returns-in-Err-clause-unjoined g c = λ error is.
 pub returns-in-Err-combine-clause-unjoined : goal.returns-in-Err-combine-clause-unjoined
 returns-in-Err-combine-clause-unjoined g c = λ error is.
     let told = c.in_default.ensures.told in
+    let nodes = g.N.Nodes in
+    let replies = map view told.values in
     let failed = c.in-Err-combine.ensures.joined told.values told.all_told in
     ⊎_elim
     (λ memory. absurd (memory_is_no_reply error (sym memory.1 ∙ is)))
-    (λ misfit. (
-      map view told.values,
-      length-map told.values view ∙ told.each,
-      told.gave,
-      ap (λ (s : Split). joined s (map view told.values)) (sym c.in_default.ensures.plan)
-          ∙ ⊎_elim
-          (λ arrays. absurd (misfit.0 (ap (λ (e : ErrorParts). e.kind) arrays.0)))
-          (λ refused. refused ∙ ap (λ (e : ErrorParts). Err e.kind) (same_reply c.in-Err-combine.error error (sym misfit.1 ∙ is)))
-          failed,
-    ))
+    (λ misfit. joined_by_plan (nodes.registered c.args.nodes.now) c.args.plan c.requires.command.0 c.args.order.now (nodes.gave c.args.nodes.now) (nodes.gave c.send_all.new.nodes) replies c.requires.command.1
+    (subst IsSplit c.in_default.ensures.plan c.len-answered.ensures.plan.split) c.requires.order (length-map told.values view ∙ told.each) told.gave (Err error.kind)
+    (⊎_elim
+    (λ arrays. absurd (misfit.0 (ap (λ (e : ErrorParts). e.kind) arrays.0)))
+    (λ made. subst (λ (e : ErrorParts). IsMadeOfParts c.args.plan.split replies (Err e.kind)) (same_reply c.in-Err-combine.error error (sym misfit.1 ∙ is))
+    (subst (λ (s : Split). IsMadeOfParts s replies (Err c.in-Err-combine.error.kind)) c.in_default.ensures.plan made))
+    failed))
     c.of_combining.ensures
 
 pub returns-in-Err-combine-clause-given : goal.returns-in-Err-combine-clause-given
@@ -99,12 +100,8 @@ returns-in-Err-combine-clause-given g c =
 pub returns-in-Ok-clause-amid : goal.returns-in-Ok-clause-amid
 returns-in-Ok-clause-amid g c =
     let told = c.in_default.ensures.told in
-    let made = c.in-Ok.ensures.joined told.values told.all_told in
-    let plan : Plan = c.args.plan in
-    served_amid g.N.Nodes.Cell (g.N.Nodes.registered c.args.nodes.now) plan c.requires.command.0 c.args.order.now (g.N.Nodes.gave c.args.nodes.now) (g.N.Nodes.gave c.send_all.new.nodes) (view c.in-Ok.reply) (map view told.values)
-    c.requires.command.1
-    (subst IsSplit c.in_default.ensures.plan c.len-answered.ensures.plan.split)
-    c.requires.order
-    (length-map told.values view ∙ told.each)
-    told.gave
-    (ap (λ (s : Split). joined s (map view told.values)) (sym c.in_default.ensures.plan) ∙ made)
+    let nodes = g.N.Nodes in
+    let replies = map view told.values in
+    served_amid (nodes.registered c.args.nodes.now) c.args.plan c.requires.command.0 c.args.order.now (nodes.gave c.args.nodes.now) (nodes.gave c.send_all.new.nodes) replies c.requires.command.1
+    (subst IsSplit c.in_default.ensures.plan c.len-answered.ensures.plan.split) c.requires.order (length-map told.values view ∙ told.each) told.gave nodes.Cell (view c.in-Ok.reply)
+    (subst (λ (s : Split). IsMadeOfParts s replies (Ok (view c.in-Ok.reply))) c.in_default.ensures.plan (c.in-Ok.ensures.joined told.values told.all_told))

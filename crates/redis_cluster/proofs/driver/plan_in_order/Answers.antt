@@ -12,7 +12,6 @@ use Rattle.redis_cluster.specs.Orders.{NamesOnce}
 use Rattle.redis_cluster.proofs.CommandParts.{routes_are}
 use Rattle.redis_cluster.specs.Driven.{Request, request}
 use Rattle.redis_cluster.specs.Faults.{IsCauseBeforeSending}
-use Rattle.redis_cluster.specs.Joined.{IsSplitOf}
 use Rattle.redis_cluster.specs.Ready.{IsReady}
 use Rattle.redis_cluster.specs.declared.fault.DriveFault.TheVariants.{BadOrder}
 use Rattle.redis_cluster.proofs.Planned.{joining_routes, planned, ready}
@@ -26,13 +25,6 @@ returns-in-Ok-true-clause-ready g c =
     let asked : Registrations → Request = λ registered. request args (names_of c.args.read_only.now registered) c.args.slot_map.now c.args.order.now in
     let made = ready is_node (asked c.registry.result.now) c.in-Ok.plan new.arguments new.routes new.pattern new.policy c.len.ensures.plan new.nodes new.covered in
     subst (λ (registered : Registrations). (command : MultiKey) × IsReady is_node (asked registered) c.in-Ok.plan command) c.registry.ensures made
-
-pub returns-in-Ok-true-clause-split : goal.returns-in-Ok-true-clause-split
-returns-in-Ok-true-clause-split g c =
-    let args = g.R.Routable.args c.args.command.now in
-    let new = c.in-Ok.ensures in
-    subst (λ registered. IsSplitOf (names_of c.args.read_only.now registered) args c.in-Ok.plan.split) c.registry.ensures
-    (record { arguments = new.arguments; routes = new.routes; pattern = new.pattern; policy = new.policy })
 
 pub returns-in-Ok-false-clause-early : goal.returns-in-Ok-false-clause-early
 returns-in-Ok-false-clause-early g c =

@@ -1,21 +1,19 @@
-use Rattle.std.proofs.Common.{◌≡◌, List, Ok, Err, length, map, sym, ap, ◌∙◌, arith, ⊎_elim}
+use Rattle.std.proofs.Common.{◌≡◌, List, length, map, sym, ap, ◌∙◌, arith}
 use Rattle.std.proofs.lemmas.List.{length-map}
-use Rattle.std.proofs.lemmas.Result.{MatchResult-weaker}
 use Rattle.resp_core.specs.Reply.{Reply}
 use Rattle.resp_core.specs.View.{view}
 use Rattle.redis_routing.specs.Split.{Split, slots_of}
 use Rattle.redis_routing.specs.RoutingInfo.{route_list}
 use Rattle.redis_cluster.specs.MultiKey.{ReplyForm}
-use Rattle.redis_cluster.specs.SlotResults.{results_of_slot}
+use Rattle.redis_cluster.specs.SlotItems.{items_of_slot}
 use Rattle.redis_cluster.specs.Unsplit.{TupleResult, reply_by}
-use Rattle.redis_cluster.specs.Joined.{joined}
 use Rattle.redis_cluster.specs.Plan.{ArePartsAnswered, tuples_in_split}
-use Rattle.redis_cluster.proofs.Joined.{arrays_make_lists, joined_is_unsplit}
+use Rattle.redis_cluster.proofs.Made.{made_of_parts, unsplit_of_parts}
 use Rattle.redis_cluster.proofs.SplitTuples.{is_split_to}
 use Rattle.redis_cluster.proofs.plan.join_replies.Goals as goal
 
 as_many : (split : Split) (form : ReplyForm) (results : List TupleResult) (replies : List Reply) → ArePartsAnswered split form results replies → length replies ≡ length split.routes
-as_many split form results replies are = ap length are.replies_are ∙ length-map (slots_of split.routes) (λ slot. reply_by form (results_of_slot slot (tuples_in_split split) results)) ∙ length-map split.routes (λ r. r.0.slot)
+as_many split form results replies are = ap length are.replies_are ∙ length-map (slots_of split.routes) (λ slot. reply_by form (items_of_slot slot (tuples_in_split split) results)) ∙ length-map split.routes (λ r. r.0.slot)
 
 pub returns-then-len-routes-clause-unsplit : goal.returns-then-len-routes-clause-unsplit
 returns-then-len-routes-clause-unsplit g c = λ form results are.
@@ -28,17 +26,18 @@ returns-then-len-routes-clause-joined g c = λ long.
 
 pub join-requires : goal.join-requires
 join-requires g c =
+    let each : length c.args.replies.items ≡ length c.args.split.now.routes =
+    omega (arith, c.len.ensures, ap length c.routes-routes.ensures.routes, length-map c.routes-routes.result.now route_list, c.if-len-routes.false) in
     let some = (is_split_to c.args.split.now c.routes-routes.ensures.split).some in
-    record { some = omega (arith, some, c.len.ensures, ap length c.routes-routes.ensures.routes, length-map c.routes-routes.result.now route_list, c.if-len-routes.false) }
+    record { some = omega (arith, some, each); each = each }
+
+pub returns-clause-joined : goal.returns-clause-joined
+returns-clause-joined g c = λ long. made_of_parts c.args.split.now c.routes-routes.ensures.split c.args.replies.items long c.join.result c.join.ensures.joined
 
 pub returns-clause-unsplit : goal.returns-clause-unsplit
 returns-clause-unsplit g c = λ form results are.
-    let split = c.args.split.now in
-    let replies = map view c.args.replies.items in
-    let right : joined split replies ≡ Ok (reply_by form results) = joined_is_unsplit split form results replies c.routes-routes.ensures.split are in
-    MatchResult-weaker c.join.result c.join.ensures.joined
-    (λ value e. let same : Ok (view value) ≡ Ok (reply_by form results) = sym e ∙ right in cc)
-    (λ error. ⊎_elim (λ memory. (memory.0, arrays_make_lists split form are.form_is memory.1)) (λ refused. absurd (let no_refusal : Ok (reply_by form results) ≡ Err error.kind = sym right ∙ refused in cc)))
+    let long : length c.args.replies.items ≡ length c.args.split.now.routes = sym (length-map c.args.replies.items view) ∙ as_many c.args.split.now form results (map view c.args.replies.items) are in
+    unsplit_of_parts c.args.split.now c.routes-routes.ensures.split form results c.args.replies.items are c.join.result (made_of_parts c.args.split.now c.routes-routes.ensures.split c.args.replies.items long c.join.result c.join.ensures.joined)
 
 pub returns-clause-count : goal.returns-clause-count
 returns-clause-count g c = λ other.

@@ -14,6 +14,7 @@ use Rattle.redis_cluster.specs.Tries.{tries_with}
 use Rattle.redis_cluster.specs.declared.fault.DriveFault.{DriveFault}
 use Rattle.redis_routing.specs.Command.{Arguments}
 use Rattle.redis_cluster.specs.Amid.{IsServedAmid}
+use Rattle.redis_cluster.specs.Joined.{IsJoined}
 use Rattle.redis_cluster.proofs.Amid.{parts_act_by_slot}
 use Rattle.redis_cluster.proofs.Gaps.{same_command}
 use Rattle.redis_cluster.proofs.EachTry.{each_try, each_named}
@@ -117,14 +118,16 @@ returns-in-Ok-retries_of-clause-fault g c =
 
 pub returns-in-Ok-retries_of-clause-joined : goal.returns-in-Ok-retries_of-clause-joined
 returns-in-Ok-retries_of-clause-joined g c =
+    let nodes = g.N.Nodes in
     IfOk-weaker c.drive_tries.result _ _
-    (λ value is. record { split = c.in-Ok.plan.split; split_is = c.in-Ok.ensures.split; replies = is.0; each = is.1; gave = is.2; joined_is = is.3 })
+    (λ value. subst (λ (args : Arguments). IsJoined (nodes.registered c.args.nodes.now) args c.args.order.now (nodes.gave c.args.nodes.now) (nodes.gave c.drive_tries.new.nodes) (Ok (view value))) c.in-Ok.ensures.arguments)
     c.drive_tries.ensures.joined
 
 pub returns-in-Ok-retries_of-clause-unjoined : goal.returns-in-Ok-retries_of-clause-unjoined
 returns-in-Ok-retries_of-clause-unjoined g c =
+    let nodes = g.N.Nodes in
     IfErr-weaker c.drive_tries.result _ _
-    (λ e is error at. let told = is error at in record { split = c.in-Ok.plan.split; split_is = c.in-Ok.ensures.split; replies = told.0; each = told.1; gave = told.2; joined_is = told.3 })
+    (λ e is error at. subst (λ (args : Arguments). IsJoined (nodes.registered c.args.nodes.now) args c.args.order.now (nodes.gave c.args.nodes.now) (nodes.gave c.drive_tries.new.nodes) (Err error.kind)) c.in-Ok.ensures.arguments (is error at))
     c.drive_tries.ensures.unjoined
 
 pub returns-in-Ok-retries_of-clause-untouched : goal.returns-in-Ok-retries_of-clause-untouched
@@ -235,7 +238,7 @@ pub returns-in-Ok-retries_of-clause-amid : goal.returns-in-Ok-retries_of-clause-
 returns-in-Ok-retries_of-clause-amid g c =
     let nodes = g.N.Nodes in
     IfOk-weaker c.drive_tries.result _ _
-    (λ value. subst (λ (args : Arguments). IsServedAmid nodes.Cell (nodes.registered c.args.nodes.now) args c.args.order.now (nodes.gave c.args.nodes.now) (nodes.gave c.drive_tries.new.nodes) (view value)) c.in-Ok.ensures.split.arguments)
+    (λ value. subst (λ (args : Arguments). IsServedAmid nodes.Cell (nodes.registered c.args.nodes.now) args c.args.order.now (nodes.gave c.args.nodes.now) (nodes.gave c.drive_tries.new.nodes) (view value)) c.in-Ok.ensures.arguments)
     c.drive_tries.ensures.amid
 
 pub returns-in-Ok-retries_of-clause-parts : goal.returns-in-Ok-retries_of-clause-parts

@@ -10,7 +10,7 @@ use Rattle.resp_core.specs.View.{view}
 use Rattle.redis_routing.specs.Registry.{Registrations}
 use Rattle.redis_cluster.specs.MultiKey.{MultiKey, multi_key, part_of, tuples_of_slot, form_by_policy}
 use Rattle.redis_cluster.specs.Orders.{times, in_order, NamesOnce}
-use Rattle.redis_cluster.specs.SlotResults.{results_of_slot}
+use Rattle.redis_cluster.specs.SlotItems.{items_of_slot}
 use Rattle.redis_cluster.specs.Sent.{ending_of}
 use Rattle.redis_cluster.specs.Trace.{answered}
 use Rattle.redis_cluster.specs.Unsplit.{act_of, after, reply_by, results, results_of}
@@ -129,7 +129,7 @@ loop-number-preserved g c =
       told = λ command is now.
           let was = c.send_part.ensures.kept now in
           let own = there command is in
-          let reply_of : ℕ → Reply = λ slot. reply_by command.form (results_of_slot slot command.tuples (results_of nodes.step command old)) in
+          let reply_of : ℕ → Reply = λ slot. reply_by command.form (items_of_slot slot command.tuples (results_of nodes.step command old)) in
           let says : view c.in-Ok.reply ≡ reply_of own.slot =
           c.in-Ok.ensures.reply own.target (part_of command own.slot) (at own.target own.target_at) (ap (λ registered. multi_key registered (map Some own.target.1)) inv.registered ∙ own.part) now
           ∙ ap (λ ks. reply_by command.form (results (act_of nodes.step command) (tuples_of_slot own.slot command.tuples) ks)) (inv.keyspace command is was)
@@ -213,7 +213,7 @@ returns-clause-replies g c =
     let whole : take i order ≡ order = take_all i order (omega (arith, c.loop-number-test.false)) in
     λ command is now.
     let rs = results_of nodes.step command (nodes.state c.args.nodes.now).keyspace in
-    let reply_of : ℕ → Reply = λ slot. reply_by command.form (results_of_slot slot command.tuples rs) in
+    let reply_of : ℕ → Reply = λ slot. reply_by command.form (items_of_slot slot command.tuples rs) in
     let all = all_told c.loop-number.plan.replies slots reply_of inv.room
     (λ number slot at. inv.told command is now number slot at
     (let inside : number < length slots = slice_get_within slots number slot at in
@@ -224,8 +224,8 @@ returns-clause-replies g c =
       answered = record {
         form_is = ap (λ (s : Split). form_by_policy s.policy) inv.split ∙ is.form;
         each = length-results (act_of nodes.step command) command.tuples (nodes.state c.args.nodes.now).keyspace ∙ ap length is.tuples ∙ ap (λ (s : Split). length (tuples_in_split s)) (sym inv.split);
-        replies_are = all.2 ∙ ap (λ ts. map (λ slot. reply_by command.form (results_of_slot slot ts rs)) slots) is.tuples
-            ∙ ap (λ (s : Split). map (λ slot. reply_by command.form (results_of_slot slot (tuples_in_split s) rs)) (slots_of s.routes)) (sym inv.split);
+        replies_are = all.2 ∙ ap (λ ts. map (λ slot. reply_by command.form (items_of_slot slot ts rs)) slots) is.tuples
+            ∙ ap (λ (s : Split). map (λ slot. reply_by command.form (items_of_slot slot (tuples_in_split s) rs)) (slots_of s.routes)) (sym inv.split);
       };
     }
 

@@ -2,7 +2,7 @@ use Rattle.std.proofs.Common.{◌≡◌, ◌↔◌, ℕ, length, take}
 use Rattle.std.specs.Prelude.{slice_get}
 use Rattle.redis_cluster.specs.MultiKey.{MultiKey}
 use Rattle.redis_cluster.specs.Orders.{in_order, times}
-use Rattle.redis_cluster.specs.SlotResults.{results_of_slot}
+use Rattle.redis_cluster.specs.SlotItems.{items_of_slot}
 use Rattle.redis_cluster.specs.Trace.{Ending}
 use Rattle.redis_cluster.specs.Unsplit.{act_of, after, reply_by, results_of}
 use Rattle.redis_cluster.proofs.Fold.{joined}
@@ -26,7 +26,7 @@ invariant-loop-number g l =
       kept : nodes.kept l.nodes → nodes.kept l.fn.nodes;
       some_told : AreSomeTold l.plan.replies l.order l.number-index (length slots);
       given : AreGivenSo (nodes.gave l.fn.nodes) (nodes.gave l.nodes) l.plan.replies (take l.number-index l.order);
-      told : (command : MultiKey) → IsPlanOf (nodes.registered l.fn.nodes) command l.fn.plan → nodes.kept l.nodes → AreTold l.plan.replies slots l.order l.number-index (λ slot. reply_by command.form (results_of_slot slot command.tuples (results_of nodes.step command old)));
+      told : (command : MultiKey) → IsPlanOf (nodes.registered l.fn.nodes) command l.fn.plan → nodes.kept l.nodes → AreTold l.plan.replies slots l.order l.number-index (λ slot. reply_by command.form (items_of_slot slot command.tuples (results_of nodes.step command old)));
       untold : AreUntold l.plan.replies l.order l.number-index (length slots);
       trace : AllTried (in_order (tries_with (targets l.fn.plan) l.fn.retries) (take l.number-index l.order)) (nodes.state l.fn.nodes).trace (nodes.state l.nodes).trace;
       allowed : AreAllowed (nodes.may_refuse l.fn.nodes) (nodes.state l.fn.nodes).trace (nodes.state l.nodes).trace;

@@ -1,7 +1,5 @@
-use Rattle.std.proofs.Common.{◌≡◌, ◌⊎◌, ◌≤◌, ◌<◌, ◌+◌, ◌++◌, ◌∷◌, [], ℕ, List, Result, Ok, Err, inl, inr, OnOk, OnErr, refl, subst, sym, ap, ◌∙◌, arith, length, map, take, take_all}
-use Rattle.std.specs.List.{zip}
+use Rattle.std.proofs.Common.{◌≡◌, ◌≤◌, ◌++◌, ◌∷◌, [], ℕ, List, Result, Ok, Err, inr, OnOk, OnErr, subst, sym, ap, ◌∙◌, arith, length, map, take, take_all}
 use Rattle.std.specs.Prelude.{None, Some, option_map, slice_get}
-use Rattle.std.specs.declared.vec.Vec.{Vec}
 use Rattle.std.proofs.lemmas.List.{map_push}
 use Rattle.redis_cluster.specs.Plan.{Plan}
 use Rattle.redis_cluster.specs.Sends.{Target, targets}

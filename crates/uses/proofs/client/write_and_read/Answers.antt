@@ -5,7 +5,6 @@ use Rattle.redis_cluster.specs.State.{State, state}
 use Rattle.redis_cluster.specs.Faults.{IsCut, IsFault}
 use Rattle.redis_cluster.specs.Joined.{IsJoined}
 use Rattle.redis_cluster.specs.MultiKey.{MultiKey, multi_key}
-use Rattle.redis_cluster.specs.Names.{names_of}
 use Rattle.redis_cluster.specs.Registry.{Registrations}
 use Rattle.redis_cluster.specs.Trace.{Entry}
 use Rattle.redis_cluster.specs.Unsplit.{Keyspace, keyspace_after, reply_to}
@@ -30,8 +29,8 @@ pub returns-in-Ok-clause-joined : goal.returns-in-Ok-clause-joined
 returns-in-Ok-clause-joined g c =
     let before = replies_in (g.W.Wire.log c.drive_over.new.client.wire) in (
       before,
-      subst (λ (registered : Registrations). IsJoined (names_of [] registered) (map Some read) (1 ∷ 0 ∷ []) (λ replies. replies ≡ before) (λ replies. replies ≡ replies_in (g.W.Wire.log c.drive_over-2.new.client.wire)) (Ok (view c.in-Ok.value))) c.drive_over.ensures.registered
-          (subst (λ (words : List (List ℕ)). IsJoined (names_of [] c.drive_over.new.client.registry) (map Some words) (1 ∷ 0 ∷ []) (λ replies. replies ≡ before) (λ replies. replies ≡ replies_in (g.W.Wire.log c.drive_over-2.new.client.wire)) (Ok (view c.in-Ok.value))) c.in_ok-read.ensures c.in-Ok.ensures.joined),
+      subst (λ (registered : Registrations). IsJoined registered (map Some read) (1 ∷ 0 ∷ []) (λ replies. replies ≡ before) (λ replies. replies ≡ replies_in (g.W.Wire.log c.drive_over-2.new.client.wire)) (Ok (view c.in-Ok.value))) c.drive_over.ensures.registered
+          (subst (λ (words : List (List ℕ)). IsJoined c.drive_over.new.client.registry (map Some words) (1 ∷ 0 ∷ []) (λ replies. replies ≡ before) (λ replies. replies ≡ replies_in (g.W.Wire.log c.drive_over-2.new.client.wire)) (Ok (view c.in-Ok.value))) c.in_ok-read.ensures c.in-Ok.ensures.joined),
     )
 
 -- the error that a fault has

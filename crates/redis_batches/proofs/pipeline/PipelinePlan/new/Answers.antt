@@ -15,6 +15,7 @@ use Rattle.redis_batches.proofs.Choosing.{is_slot_node, one_chosen}
 use Rattle.redis_batches.proofs.Fewest.{fewest}
 use Rattle.redis_batches.proofs.Placing.{err_from}
 use Rattle.redis_batches.proofs.Planning.{has_parts, is_plan_of, nodes_for_parts, part_fault, placed_parts, tasks_long, written_is}
+use Rattle.redis_batches.proofs.ServerReplies.{splits_of_kept}
 use Rattle.redis_batches.proofs.pipeline.PipelinePlan.new.Goals as goal
 
 pub written_slots-requires : goal.written_slots-requires
@@ -71,6 +72,9 @@ returns-clause-plan g c =
     c.in_ok-tasks.ensures.tasks
     (placed_parts chosen c.as_slice-2.result.now kept (map sent_args made.parts.items) batches.parts nodes c.as_slice-2.ensures.value c.in_ok-batches.ensures.parts c.in_ok-placed.ensures.placed)
     (subst (λ ns. IsByNode batches (map (λ node. node.now) ns)) c.as_slice-3.ensures.value c.in_ok-batches.ensures.by_node)
+
+pub returns-clause-splits : goal.returns-clause-splits
+returns-clause-splits g c = splits_of_kept c.args.names.registry.now c.args.commands.now c.in_ok-tasks.tasks.items c.in_ok-tasks.ensures.tasks
 
 pub returns-clause-fewest : goal.returns-clause-fewest
 returns-clause-fewest g c =

@@ -1,14 +1,11 @@
-use Rattle.std.proofs.Common.{◌≡◌, ℕ, List, Result, true, false, Some, Ok, Err, IfOk, MatchResult, map, sym, ap, ◌∙◌, subst, arith, inl, inr, ⊎_elim}
+use Rattle.std.proofs.Common.{◌≡◌, ℕ, List, Result, true, false, Some, Ok, Err, IfOk, MatchResult, map, length, sym, ap, ◌∙◌, subst, arith}
 use Rattle.std.specs.Prelude.{is_none}
 use Rattle.std.specs.List.{list_any}
-use Rattle.std.proofs.lemmas.Result.{MatchResult-weaker}
 use Rattle.resp_core.specs.View.{view}
-use Rattle.redis_routing.specs.Split.{Split, IsSplit}
-use Rattle.redis_cluster.specs.Unsplit.{reply_by}
-use Rattle.redis_cluster.specs.Joined.{joined}
+use Rattle.redis_routing.specs.Split.{IsSplit}
 use Rattle.redis_cluster.specs.Plan.{Plan, told}
 use Rattle.redis_cluster.proofs.Amid.{reply_amid}
-use Rattle.redis_cluster.proofs.Joined.{arrays_make_lists, joined_is_unsplit}
+use Rattle.redis_cluster.proofs.Made.{IsMadeOr, made_of_parts, unsplit_of_parts}
 use Rattle.redis_cluster.proofs.SplitTuples.{is_split_to}
 use Rattle.redis_cluster.proofs.Told.{all_known, all_set, length-told, none_untold, not_all_told}
 use Rattle.redis_cluster.proofs.plan.SplitPlan.combine.Goals as goal
@@ -28,8 +25,9 @@ returns-then-not-all_set-clause-joined g c = λ replies all.
 pub join-requires : goal.join-requires
 join-requires g c =
     let room = length-told c.self.inside.answered.items c.self.inside.replies.items c.self.invariant.1 in
+    let each : length c.self.inside.replies.items ≡ length c.self.inside.split.routes = omega (arith, room, c.self.invariant.0.replies) in
     let some = (is_split_to c.self.inside.split c.self.invariant.0.split).some in
-    record { some = omega (arith, room, some, c.self.invariant.0.replies) }
+    record { some = omega (arith, some, each); each = each }
 
 pub returns-clause-joined : goal.returns-clause-joined
 returns-clause-joined g c = λ replies all.
@@ -37,17 +35,16 @@ returns-clause-joined g c = λ replies all.
     let set : all_set c.self.inside.answered.items ≡ true = sym (ap all_set c.deref.ensures.value) ∙ sym c.all_set.ensures ∙ c.if-not-all_set.false in
     let known : c.self.inside.replies.items ≡ replies = all_known c.self.inside.answered.items c.self.inside.replies.items replies c.self.invariant.1 set is in
     let split : c.self.inside.split ≡ c.args.self.split = ap (λ (p : Plan). p.split) c.self.view_is in
-    let same : joined c.self.inside.split (map view c.self.inside.replies.items) ≡ joined c.args.self.split (map view replies) = ap (λ s. joined s (map view c.self.inside.replies.items)) split ∙ ap (λ rs. joined c.args.self.split (map view rs)) known in
-    MatchResult-weaker c.join.result c.join.ensures.joined (λ value e. sym same ∙ e)
-    (λ error. ⊎_elim (λ memory. inl (memory.0, sym (ap (λ (s : Split). s.policy) split) ∙ memory.1)) (λ refused. inr (sym same ∙ refused)))
+    let room = length-told c.self.inside.answered.items c.self.inside.replies.items c.self.invariant.1 in
+    let many : length c.self.inside.replies.items ≡ length c.self.inside.split.routes = omega (arith, room, c.self.invariant.0.replies) in
+    subst (λ s. IsMadeOr s (map view replies) c.join.result) split
+    (subst (λ rs. IsMadeOr c.self.inside.split (map view rs) c.join.result) known
+    (made_of_parts c.self.inside.split c.self.invariant.0.split c.self.inside.replies.items many c.join.result c.join.ensures.joined))
 
 pub returns-clause-unsplit : goal.returns-clause-unsplit
 returns-clause-unsplit g c = λ form results are.
     let split : c.self.inside.split ≡ c.args.self.split = ap (λ (p : Plan). p.split) c.self.view_is in
-    let right : joined c.args.self.split (map view are.replies) ≡ Ok (reply_by form results) = joined_is_unsplit c.args.self.split form results (map view are.replies) (subst IsSplit split c.self.invariant.0.split) are.answered in
-    MatchResult-weaker c.join.result (returns-clause-joined g c are.replies are.all_told)
-    (λ value e. let same : Ok (view value) ≡ Ok (reply_by form results) = sym e ∙ right in cc)
-    (λ error. ⊎_elim (λ memory. (memory.0, arrays_make_lists c.args.self.split form are.answered.form_is memory.1)) (λ refused. absurd (let no_refusal : Ok (reply_by form results) ≡ Err error.kind = sym right ∙ refused in cc)))
+    unsplit_of_parts c.args.self.split (subst IsSplit split c.self.invariant.0.split) form results are.replies are.answered c.join.result (returns-clause-joined g c are.replies are.all_told)
 
 if_ok : {T E : Type 0} (A P : T → Type 0) (B : E → Type 0) (r : Result T E) → ((x : T) → A x → P x) → MatchResult r A B → IfOk r P
 if_ok A P B (Ok x) f is = f x is
