@@ -1,14 +1,13 @@
--- The order in which the replies in a reply are gone over, and copies made of them, without
--- recursion.
+-- The order in which the replies in a reply are visited and copied, without recursion.
 use Rattle.std.specs.Prelude.{◌≡◌, List, [], ◌∷◌, ◌++◌, ⊤}
 use Rattle.resp_core.specs.Reply.{Reply, Pairs, nil, int, bulk, array, simple, okay, pairs, no_pairs, pair, items_in}
 
--- what is inside pairs, the last first
+-- the keys and values of pairs, in reverse order
 abbrev pub inside_pairs : Pairs → List Reply
 inside_pairs no_pairs = []
 inside_pairs (pair k v ps) = inside_pairs ps ++ v ∷ k ∷ []
 
--- what is inside a reply
+-- the replies directly inside a reply
 abbrev pub inside : Reply → List Reply
 inside nil = []
 inside (int n) = []
@@ -28,8 +27,8 @@ IsFlat (simple text) = ⊤
 IsFlat okay = ⊤
 IsFlat (pairs items) = ⊥
 
--- `waiting` is left of the root, once each of `gone`, the latest first, was taken from the end of
--- what waited, and what is inside it put there
+-- `waiting` is a stack that began as the root alone. Each of `gone`, the latest first, was popped
+-- from its end, and the replies inside it were pushed.
 abbrev pub IsWalk : Reply → List Reply → List Reply → Type 0
 IsWalk root [] waiting = waiting ≡ root ∷ []
 IsWalk root (r ∷ gone) waiting =

@@ -1,10 +1,10 @@
--- How many steps there are left in freeing a reply, where on the way down the first place of each
--- array and each map holds what is above it.
+-- How many steps are left in freeing a reply. On the way down, what is above replaces the first
+-- element of each array or map.
 use Rattle.std.specs.Prelude.{ℕ, ◌+◌}
 use Rattle.resp_core.specs.Reply.{Reply, Replies, Pairs, nil, int, bulk, array, simple, okay, pairs, no_replies, reply, no_pairs, pair}
 
 abbrev mutual
-  -- of a reply that is still to be entered
+  -- the steps for a reply that is still to be entered
   pub steps_in : Reply → ℕ
   steps_in nil = 1
   steps_in (int n) = 1
@@ -22,7 +22,7 @@ abbrev mutual
   steps_in_pairs no_pairs = 0
   steps_in_pairs (pair k v ps) = steps_in k + steps_in_value v + steps_in_pairs ps
 
-  -- of a pair's value, in whose place nil stands once it was taken out
+  -- the steps for a pair's value: none for nil, which replaces a value that was taken out
   pub steps_in_value : Reply → ℕ
   steps_in_value nil = 0
   steps_in_value (int n) = 1
@@ -32,7 +32,7 @@ abbrev mutual
   steps_in_value okay = 1
   steps_in_value (pairs items) = 2 + steps_in_pairs items
 
--- of what is above
+-- the steps for what is above
 abbrev pub steps_above : Reply → ℕ
 steps_above nil = 0
 steps_above (int n) = 0

@@ -33,7 +33,7 @@ abbrev pub pairs_of : List (Reply × Reply) → Pairs
 pairs_of [] = no_pairs
 pairs_of (p ∷ ps) = pair p.0 p.1 (pairs_of ps)
 
--- the number, if it is one
+-- the number, if the reply is an integer
 abbrev pub int_of : Reply → Option ℤ
 int_of nil = None
 int_of (int n) = Some n
@@ -43,7 +43,7 @@ int_of (simple text) = None
 int_of okay = None
 int_of (pairs items) = None
 
--- the bytes, if it is a bulk string
+-- the bytes, if the reply is a bulk string
 abbrev pub bulk_string_of : Reply → Option (List ℕ)
 bulk_string_of nil = None
 bulk_string_of (int n) = None
@@ -53,7 +53,7 @@ bulk_string_of (simple text) = None
 bulk_string_of okay = None
 bulk_string_of (pairs items) = None
 
--- the items, if it is an array
+-- the items, if the reply is an array
 abbrev pub array_of : Reply → Option (List Reply)
 array_of nil = None
 array_of (int n) = None

@@ -1,4 +1,4 @@
--- Whether two replies are one, by cases.
+-- Whether two replies are equal, by cases.
 use Rattle.std.specs.Prelude.{Bool, true, false, ◌&&◌, nat_eq}
 use Rattle.std.specs.Ordering.{int_eq}
 use Rattle.std.specs.Cmp.Lexicographic.{pointwise}

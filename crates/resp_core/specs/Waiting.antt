@@ -12,10 +12,10 @@ left p = view p.0.now
 abbrev pub right : Bor Value × Bor Value → Reply
 right p = view p.1.now
 
--- whether the two of each pair are the same
+-- the two values of each pair stand for the same reply
 abbrev pub AreSame : List (Bor Value × Bor Value) → Type 0
 AreSame ps = map left ps ≡ map right ps
 
--- at most so many pairs are still to be compared
+-- a bound on the pairs that are still to be compared
 abbrev pub steps_waiting : List (Bor Value × Bor Value) → ℕ
 steps_waiting ps = sum (map (λ p. steps_in (left p)) ps)

@@ -9,7 +9,7 @@ use std::alloc::{AllocError, Global};
 use std::marker::Model;
 use std::{fmt, slice};
 
-/// A command: its name and what follows, each a byte string.
+/// A command: its name and its arguments, each a byte string.
 ///
 /// ```
 /// let mut command = Cmd::new(alloc);
@@ -17,7 +17,7 @@ use std::{fmt, slice};
 /// ```
 #[derive(Drop)]
 pub struct Cmd {
-    /// The arguments one after another.
+    /// The bytes of the arguments, end to end.
     bytes: Vec<u8>,
     /// Where each argument ends.
     ends: Vec<usize>,
@@ -34,14 +34,14 @@ impl Model for Cmd {
     ghost invariant = { λ c. AreItemsAt 0 c.ends.items c.bytes.items };
 }
 
-/// For how many arguments the first one makes room.
+/// Number of arguments that the first one makes room for.
 const SHORT_ARGS: usize = 4;
 
-/// For how many bytes the first argument makes room.
+/// Number of bytes that the first argument makes room for.
 const SHORT_BYTES: usize = 32;
 
 impl Cmd {
-    /// A command of no argument. Takes no memory.
+    /// An empty command. Takes no memory.
     pub fn new(alloc: Global) -> Cmd
         ensures { result ≡ [] }
     {
@@ -51,7 +51,7 @@ impl Cmd {
         }
     }
 
-    /// A command with room for so many arguments.
+    /// An empty command with room for `items` arguments.
     ///
     /// # Errors
     ///
@@ -62,7 +62,7 @@ impl Cmd {
         Cmd::with_room(alloc, items, 0)
     }
 
-    /// A command with room for so many arguments that have so many bytes together.
+    /// An empty command with room for `items` arguments of `bytes` bytes in all.
     ///
     /// # Errors
     ///
@@ -76,11 +76,11 @@ impl Cmd {
         })
     }
 
-    /// Adds an argument at the end, and lends the command back for the next.
+    /// Adds an argument at the end, and borrows the command again for the next one.
     ///
     /// # Errors
     ///
-    /// If memory runs out, the command stays as it was: this is `write_arg`, which says so.
+    /// If memory runs out, the command stays as it was, as the contract of `write_arg` says.
     pub fn arg(&mut self, arg: &[u8]) -> Result<&mut Cmd, AllocError>
         ensures same_reference { IfOk result (λ cmd. cmd.ghost_name ≡ self.entry.ghost_name) }
         ensures added { IfOk result (λ cmd. cmd.now ≡ self.old ++ arg.now ∷ []) }
@@ -106,7 +106,7 @@ impl Cmd {
         Ok(())
     }
 
-    /// The argument at an index, of which 0 is the name. An empty argument is bytes of length 0.
+    /// The argument at an index; the name has index 0. An empty argument is an empty slice.
     pub fn arg_idx(&self, index: usize) -> Option<&[u8]>
         ensures item { option_copied result ≡ slice_get self.now index }
         ensures few { length self.now < 2 ^ 63 }
@@ -116,7 +116,7 @@ impl Cmd {
         Some(&self.bytes[start..end])
     }
 
-    /// How many arguments there are, the name included.
+    /// Number of arguments, the name included.
     pub fn len(&self) -> usize
         ensures count { result ≡ length self.now }
         ensures few { length self.now < 2 ^ 63 }
@@ -143,8 +143,8 @@ impl Cmd {
     }
 }
 
-/// Makes room for the end of one more argument. The first time it makes room for a short command, or
-/// for the argument's bytes where these are more, so that such a command asks for memory twice.
+/// Makes room for the end of one more argument. The first call makes room for a short command, or
+/// for the argument's bytes if these are more. So a short command allocates twice.
 #[cold]
 fn make_room(ends: &mut Vec<usize>, bytes: &mut Vec<u8>, len: usize) -> Result<(), AllocError>
     ensures ends { ends.new.items ≡ ends.old.items }
@@ -158,7 +158,7 @@ fn make_room(ends: &mut Vec<usize>, bytes: &mut Vec<u8>, len: usize) -> Result<(
     ends.reserve(SHORT_ARGS)
 }
 
-/// Where the argument at a place starts: where the one before it ends.
+/// Where the argument at an index starts: where the one before it ends.
 fn start_of(ends: &[usize], index: usize) -> usize
     requires { index < length ends.now }
     ensures { result ≡ slice_index (0 ∷ ends.now) index }

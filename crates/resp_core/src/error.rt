@@ -8,12 +8,12 @@ use std::error::Error;
 use std::fmt;
 use std::marker::Model;
 
-/// What kind of thing went wrong.
+/// The kind of an error.
 #[derive(Clone, Copy, Debug, PartialEq, Eq, Hash)]
 pub enum ErrorKind {
     /// An address or a setting that cannot be used.
     InvalidClientConfig,
-    /// A reply of a shape that the command does not answer with.
+    /// A reply whose shape does not fit the command.
     UnexpectedReturnType,
     /// The client was asked for something that it cannot do.
     Client,
@@ -21,7 +21,7 @@ pub enum ErrorKind {
     OutOfMemory,
 }
 
-/// An error: its kind, a fixed text, and in some cases a detail. `Display` prints the text, and after a
+/// An error: a kind, a fixed text and perhaps a detail. `Display` prints the text, and after a
 /// colon the detail.
 #[derive(Debug, Drop)]
 pub struct RedisError {
@@ -43,11 +43,11 @@ impl Model for RedisError {
     } };
 }
 
-/// What a call of the layer gives, or why it gives nothing.
+/// The result of a call, or its error.
 pub type RedisResult<T> = Result<T, RedisError>;
 
 impl RedisError {
-    /// What kind of thing went wrong.
+    /// The kind of this error.
     pub fn kind(&self) -> ErrorKind
         ensures { result ≡ self.now.kind }
     {
@@ -61,7 +61,7 @@ impl RedisError {
         self.desc
     }
 
-    /// What this occurrence adds to the text, if anything.
+    /// What this error adds to its fixed text, if anything.
     pub fn detail(&self) -> Option<&str>
         ensures { option_copied result ≡ self.now.detail }
     {
@@ -112,7 +112,7 @@ impl From<AllocError> for RedisError {
     }
 }
 
-/// What could not be kept is let go.
+/// The value that could not be stored is dropped.
 impl<T: Drop> From<AllocFailed<T>> for RedisError {
     ghost from_gives = { λ _ e. e ≡ out_of_memory };
 

@@ -1,7 +1,7 @@
-//! What the layer speaks of: errors, values and commands.
+//! Errors, values and commands.
 #![tactic(auto)]
 
-/// Commands: a name and what follows, each a byte string.
+/// Commands: a name and its arguments, each a byte string.
 pub mod cmd;
 /// Errors: a kind, a text and perhaps a detail.
 pub mod error;

@@ -16,10 +16,10 @@ use std::alloc::{AllocError, Global};
 
 /// A reply of a Redis server, as a tree.
 ///
-/// However deep the tree is, to drop, clone or compare it takes no more stack. To drop it takes no
-/// memory either, and to clone it memory for the copy and for lists of what is under way. To
-/// compare it takes no memory down to 32 levels, and a list for each array or map of level 33 that
-/// has others inside. Where there is no memory for such a list, `==` recurses. `Debug` recurses.
+/// Dropping, cloning and comparing use a bounded stack, however deep the tree is. Dropping takes no
+/// memory. Comparing takes none down to 32 levels, and one list for each array or map of level 33
+/// that has others inside. If there is no memory for such a list, `==` recurses. `Debug` always
+/// recurses.
 ///
 /// ```
 /// let not_a_count = (ErrorKind::UnexpectedReturnType, "the reply is not a count");
@@ -31,11 +31,11 @@ pub enum Value {
     Nil,
     /// A whole number.
     Int(i64),
-    /// Bytes of any kind, as the value of a key.
+    /// Any bytes, such as the value of a key.
     BulkString(Vec<u8>),
     /// Replies in order.
     Array(Vec<Value>),
-    /// A short text, as a status.
+    /// A short text, such as the status `PONG`.
     SimpleString(String),
     /// The status `OK`.
     Okay,
@@ -137,8 +137,8 @@ impl Clone for Value {
     }
 }
 
-/// Down to how many levels arrays and maps are copied and compared by recursion. What lies deeper is
-/// gone over by lists, so that the stack does not grow with a value's depth.
+/// Arrays and maps are copied and compared by recursion down to this level. Deeper ones are visited
+/// by lists, so that the stack does not grow with depth.
 const RECURSED_LEVELS: usize = 32;
 
 #[cycle(copy)]
@@ -200,9 +200,8 @@ impl Eq for Value {
     ghost laws = { on_equiv view same_reply-equivalence };
 }
 
-/// Whether two values are equal. Where no level is left, arrays and maps are compared by a list.
-/// Without memory for that list they are compared by recursion. Then the levels start at their
-/// greatest number, so that no list is asked for again inside.
+/// Whether two values are equal. If no level is left, arrays and maps are compared by a list.
+/// Without memory for the list, recursion goes on with so many levels that no list is tried again.
 #[cycle(same)]
 #[inline(always)]
 fn same_value(a: &Value, b: &Value, levels: usize) -> bool
@@ -223,7 +222,7 @@ fn same_value(a: &Value, b: &Value, levels: usize) -> bool
     }
 }
 
-/// Whether two values are equal, by a list. `None` where a level is left, or no memory for the list.
+/// Whether two values are equal, by a list. `None` if a level is left or memory runs out.
 #[inline(always)]
 fn same_if_deep(alloc: Global, a: &Value, b: &Value, levels: usize) -> Option<bool>
     ensures { IfSome result (λ same. IsTrue same ↔ (view a.now ≡ view b.now)) }

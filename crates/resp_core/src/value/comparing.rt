@@ -1,5 +1,5 @@
-//! Comparing values without recursion. The pairs of values that are still to be compared stand in a
-//! list; only arrays and maps are put there.
+//! Comparing values without recursion. A list has the pairs of arrays and of maps that are still to
+//! be compared.
 ghost use Rattle.std.specs.Prelude.{◌≡◌, ◌⊎◌, ◌+◌, ◌<◌, ◌≤◌, ◌↔◌, IsTrue, IsFalse, IfOk, map};
 ghost use Rattle.resp_core.specs.View.{view, view_pair};
 ghost use Rattle.resp_core.specs.Reply.{replies_of, pairs_of};
@@ -10,7 +10,7 @@ ghost use Rattle.resp_core.specs.Waiting.{AreSame, steps_waiting};
 use super::Value;
 use std::alloc::{AllocError, Global};
 
-/// Whether two values are equal, where the first has no value inside or the two differ.
+/// Whether two values are equal, if the first has no value inside or the two differ.
 #[inline(always)]
 pub(super) fn same_flat(a: &Value, b: &Value) -> bool
     requires { IsFlat (view a.now) ⊎ ¬ (view a.now ≡ view b.now) }
@@ -25,7 +25,7 @@ pub(super) fn same_flat(a: &Value, b: &Value) -> bool
     }
 }
 
-/// Whether two values are equal, by a list of what waits to be compared.
+/// Whether two values are equal, by a list of the pairs still to be compared.
 pub(super) fn same_by_list<'a>(
     alloc: Global,
     a: &'a Value,
@@ -45,7 +45,8 @@ pub(super) fn same_by_list<'a>(
     Ok(true)
 }
 
-/// Adds the pairs inside two values, if these are alike outside and all that is not added is equal.
+/// Adds the pairs inside two values that have to be equal for the two to be. `false` if these
+/// already differ.
 fn add_inside<'a>(
     waiting: &mut Vec<(&'a Value, &'a Value)>,
     a: &'a Value,
@@ -115,7 +116,7 @@ fn add_pairs<'a>(
     Ok(true)
 }
 
-/// Adds a pair, or compares it where it is not two arrays or two maps.
+/// Adds a pair of two arrays or of two maps, and compares any other pair at once.
 fn add<'a>(
     waiting: &mut Vec<(&'a Value, &'a Value)>,
     a: &'a Value,

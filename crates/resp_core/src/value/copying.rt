@@ -1,5 +1,5 @@
-//! Copying values without recursion: the values in a value are put in order, each before those
-//! inside it, and the copies are made from the last to the first.
+//! Copying values without recursion. The values in a value are listed, each before those inside it,
+//! and copied from the last to the first.
 ghost use Rattle.std.specs.Prelude.{◌≡◌, ◌++◌, [], IfOk, OnOk, List, map, reverse};
 ghost use Rattle.resp_core.specs.View.{view, view_pair};
 ghost use Rattle.resp_core.specs.Reply.{Reply, pairs_of};
@@ -92,7 +92,7 @@ fn add_pairs<'a>(
     Ok(())
 }
 
-/// A copy of a value, over the copies of what is inside it at the end of `copies`.
+/// A copy of a value. The copies of what is inside it are taken from the end of `copies`.
 fn copy_over(value: &Value, copies: &mut Vec<Value>) -> Result<Value, AllocError>
     requires { EndsWith (inside (view value.now)) (map view copies.old.items) }
     ensures copied { IfOk result (λ copy. view copy ≡ view value.now) }
@@ -111,7 +111,7 @@ fn copy_over(value: &Value, copies: &mut Vec<Value>) -> Result<Value, AllocError
     }
 }
 
-/// The copies of pairs at the end of `copies`, the last first.
+/// Takes the copies of pairs from the end of `copies`, the last pair first.
 fn take_pairs(
     items: &Vec<(Value, Value)>,
     copies: &mut Vec<Value>,

@@ -1,5 +1,5 @@
-//! The steps in which a value is freed, without recursion and without memory: on the way down, what
-//! is above stands in the place of what was taken out.
+//! Freeing a value without recursion and without memory. On the way down, what is above replaces
+//! the value that was taken out.
 ghost use Rattle.std.specs.Prelude.{◌≡◌, ◌+◌, ◌<◌, ◌≤◌, ◌++◌, ◌∷◌, [], map, IfSome, IfNone, vec_len};
 ghost use Rattle.std.specs.Vec.{vec_capacity};
 ghost use Rattle.resp_core.specs.Reply.{array, pairs, replies_of, pairs_of};
@@ -10,8 +10,8 @@ use super::Value;
 use std::mem;
 
 impl Value {
-    /// Frees a value, the innermost first. Never inline, so that `drop` is: most values have none
-    /// inside.
+    /// Frees a value, the innermost first. Never inline, so that `drop` can be: most values have
+    /// none inside.
     #[inline(never)]
     pub(super) fn free(mut self) {
         let mut above = Value::Nil;
@@ -33,8 +33,8 @@ impl Value {
         }
     }
 
-    /// The first value inside, and the rest with `above` in its place. Where there is none,
-    /// `above`.
+    /// The first value inside, and the rest with `above` in its position. If nothing is inside,
+    /// `None` and `above`.
     fn into_first(self, above: Value) -> (Option<Value>, Value)
         ensures smaller { IfSome result.0 (λ first. steps_in (view first)
             + steps_above (view result.1)
@@ -66,7 +66,7 @@ impl Value {
         }
     }
 
-    /// Of what is above: the next value, and what is then above. `None` at the top.
+    /// The next value of what is above, and what is above that. `None` at the top.
     fn into_next(self) -> Option<(Value, Value)>
         ensures { IfSome result (λ next. steps_in (view next.0) + steps_above (view next.1)
             ≤ steps_above (view self)) }
@@ -96,8 +96,8 @@ impl Value {
         }
     }
 
-    /// The value of a pair that was taken out of the end of `items`, with the key back in its
-    /// place; the key, where that value was taken before.
+    /// For a value that was popped off `items` with its key: the value, and the items with the key
+    /// put back. If the value was taken before, the key and the other items.
     fn or_key(self, key: Value, mut items: Vec<(Value, Value)>) -> (Value, Value)
         requires room { vec_len items < vec_capacity items }
         requires not_empty { 0 < vec_len items }
