@@ -21,7 +21,7 @@ crlf = 13 ∷ 10 ∷ []
 abbrev pub line : ℕ → List ℕ → List ℕ
 line mark text = mark ∷ (text ++ crlf)
 
--- a byte that no text of a line has: neither of the two that end lines
+-- a byte that the text of a line may have: neither of the two that end lines
 abbrev pub IsInLine : ℕ → Type 0
 IsInLine b = (b ≢ 13) × (b ≢ 10)
 
@@ -43,7 +43,7 @@ below_zero None = None
 below_zero (Some zero) = Some (pos 0)
 below_zero (Some (suc n)) = Some (negsuc n)
 
--- the number of 64 bits that a text writes, which may have a sign: of "-5", -5; of "+5", 5
+-- the 64-bit number that a text writes, with or without a sign: -5 for "-5", 5 for "+5"
 unfoldable pub int_in : List ℕ → Option ℤ
 int_in [] = None
 int_in (first ∷ more) =
@@ -51,7 +51,7 @@ int_in (first ∷ more) =
     else (if first == 43 then not_below_zero (number_up_to (2 ^ 63) more)
     else not_below_zero (number_up_to (2 ^ 63) (first ∷ more)))
 
--- the length or the count that a text announces: of "5", 5, and none of "-5"
+-- the length or the count that a text announces, without a sign: 5 for "5"
 abbrev pub length_in : List ℕ → Option ℕ
 length_in = number_up_to (2 ^ 63)
 
@@ -71,7 +71,7 @@ answer_before (Err text) others = Err text
 answer_before (Ok r) (Ok rs) = Ok (r ∷ rs)
 answer_before (Ok r) (Err text) = Err text
 
--- one answer more after these
+-- an answer after others: the first error counts
 abbrev pub answer_after : Result (List Reply) (List ℕ) → Answer → Result (List Reply) (List ℕ)
 answer_after (Err text) a = Err text
 answer_after (Ok rs) (Ok r) = Ok (rs ++ r ∷ [])
@@ -82,18 +82,17 @@ abbrev pub answers_in : Result (Vec Value Global) (Vec ℕ Global) → Result (L
 answers_in (Ok values) = Ok (map view values.items)
 answers_in (Err text) = Err text.items
 
--- all of them, or the first error
+-- the replies of all answers, or the text of the first error
 abbrev pub all_of : List Answer → Result (List Reply) (List ℕ)
 all_of [] = Ok []
 all_of (a ∷ answers) = answer_before a (all_of answers)
 
--- the array of these, or the error
+-- the array of the replies, or the error
 abbrev pub array_of_all : Result (List Reply) (List ℕ) → Answer
 array_of_all (Ok rs) = Ok (array (replies_of rs))
 array_of_all (Err text) = Err text
 
--- what the text of a line with + means: "OK" has a value of its own, and a text that is not UTF-8 is
--- told as bytes
+-- the reply of a line with +: `okay` for "OK", and a bulk string if the text is not UTF-8
 abbrev pub simple_of : List ℕ → Reply
 simple_of text =
     if bytes_eq text (codes "OK") then okay
@@ -101,7 +100,7 @@ simple_of text =
 
 -- ---- the forms of an answer
 
--- a line, and what stands after it, by the mark of the line:
+-- a line and what follows it, by the mark of the line:
 -- "+OK", "-ERR no", ":5", "$3" with "abc" and a line's end, "$-1"
 abbrev pub IsFlat : Answer → ℕ → List ℕ → List ℕ → Type 0
 IsFlat a mark text body =
@@ -112,7 +111,7 @@ IsFlat a mark text body =
     ⊎ ((mark ≡ 36) × (bytes : List ℕ) × (length_in text ≡ Some (length bytes))
     × (body ≡ bytes ++ crlf) × (a ≡ Ok (bulk bytes)))
 
--- each of these is a form of the one at its place, in the order of the list
+-- the bytes are a form of each element, one after another
 abbrev pub InOrder : {X : Type 0} → (X → List ℕ → Type 0) → List X → List ℕ → Type 0
 InOrder Each [] bytes = bytes ≡ []
 InOrder Each (x ∷ xs) bytes = (form : List ℕ) × (rest : List ℕ)
@@ -125,7 +124,7 @@ IsNested Each a mark text body =
     ⊎ ((mark ≡ 42) × (answers : List Answer) × (length_in text ≡ Some (length answers))
     × InOrder Each answers body × (a ≡ array_of_all (all_of answers)))
 
--- The bytes are a form of the answer, in which lines with * stand at most so deep.
+-- The bytes are a form of the answer, with lines of mark * nested at most `levels` deep.
 unfoldable pub IsForm : ℕ → Answer → List ℕ → Type 0
 IsForm zero a form = (mark : ℕ) × (text : List ℕ) × (body : List ℕ)
     × (form ≡ line mark text ++ body) × AllByRecursion IsInLine text × IsFlat a mark text body
@@ -145,7 +144,7 @@ abbrev pub bulk_form : List ℕ → List ℕ
 bulk_form bytes = line 36 (decimal (length bytes)) ++ (bytes ++ crlf)
 
 abbrev mutual
-  -- the one form that is written; a map has none in version 2
+  -- the form that `write` gives a reply; a map has none in version 2
   pub form : Reply → List ℕ
   form nil = line 36 (codes "-1")
   form (int n) = line 58 (signed_decimal n)
@@ -160,7 +159,7 @@ abbrev mutual
   forms (reply r rs) = form r ++ forms rs
 
 abbrev mutual
-  -- how deep arrays stand in arrays: 0 where there is none
+  -- how deep arrays are nested: 0 for a reply that is not an array
   pub depth : Reply → ℕ
   depth nil = 0
   depth (int n) = 0
@@ -180,8 +179,8 @@ IsShort (pos n) = n < 2 ^ 63
 IsShort (negsuc n) = n < 2 ^ 63
 
 abbrev mutual
-  -- What has a form of its own: no map, a simple string is one line and not OK, which is a value by
-  -- itself. (Each string of a `Value` is UTF-8, each number and each length one of 64 bits.)
+  -- The reply has a form of its own: it holds no map, and each simple string is one line other than
+  -- "OK". Each `Value` keeps the bounds on lengths and numbers, and has UTF-8 strings.
   pub HasForm : Reply → Type 0
   HasForm nil = Unit {0}
   HasForm (int n) = IsShort n
@@ -197,7 +196,7 @@ abbrev mutual
 
 -- ---- requests
 
--- an array of bulk strings, whose numbers have no sign and no leading zero
+-- a request: an array of bulk strings, with no sign or leading zero in its numbers
 abbrev pub request : List (List ℕ) → List ℕ
 request args = line 42 (decimal (length args)) ++ flat_map bulk_form args
 

@@ -1,5 +1,5 @@
--- Reading an answer from left to right, with the first fault that is met. What a whole answer is, says
--- `IsForm`; the contract of `read` joins the two.
+-- Reading an answer from left to right, up to the first fault. `IsForm` says what a whole answer
+-- is, and the contract of `read` joins the two.
 use Rattle.std.specs.Prelude.{◌≡◌, ◌==◌, ◌++◌, ℕ, ℤ, zero, suc, Bool, ◌&&◌, ◌||◌, nat_lt, if◌then◌else◌, List, [], ◌∷◌, length, take, drop, codes, bytes_eq, Option, Some, None, Result, Ok, Err}
 use Rattle.resp_core.specs.Reply.{Reply, nil, int, bulk}
 use Rattle.resp.specs.declared.reading.TheConstants.{MAX_LEVELS}
@@ -14,27 +14,29 @@ abbrev pub ◌>>=◌ : {A B : Type 0} → Result A Fault → (A → Result B Fau
 (Ok x) >>= f = f x
 (Err e) >>= f = Err e
 
--- What a function returned, seen by view, is what reading gives, unless memory ran out.
+-- The function failed as reading does, or memory ran out.
 abbrev pub Fails : {Y : Type 0} → ReadError → Result Y Fault → Type 0
 Fails errors.Memory read = Unit {0}
 Fails (errors.Fault f) read = read ≡ Err f
 
+-- What a function returned, seen by view, is what reading gives, unless memory ran out.
 abbrev pub Gives : {X Y : Type 0} → (X → Y) → Result X ReadError → Result Y Fault → Type 0
 Gives view (Ok x) read = read ≡ Ok (view x)
 Gives view (Err e) read = Fails e read
 
 -- ---- a line
 
--- the text of the line that begins here, and what follows the text
+-- the text of the line that begins here
 unfoldable pub text_until_line_end : List ℕ → List ℕ
 text_until_line_end [] = []
 text_until_line_end (b ∷ bytes) = if b == 13 || b == 10 then [] else b ∷ text_until_line_end bytes
 
+-- what follows the text of the line that begins here
 unfoldable pub after_text : List ℕ → List ℕ
 after_text [] = []
 after_text (b ∷ bytes) = if b == 13 || b == 10 then b ∷ bytes else after_text bytes
 
--- what follows the line's end that stands here
+-- what follows the line's end that begins here
 abbrev pub ended : List ℕ → Result (List ℕ) Fault
 ended [] = Err Incomplete
 ended (b ∷ []) = if b == 13 then Err Incomplete else Err Malformed
@@ -44,7 +46,7 @@ abbrev pub or_malformed : {A : Type 0} → Option A → Result A Fault
 or_malformed None = Err Malformed
 or_malformed (Some x) = Ok x
 
--- whether a number may still begin: the bytes end where its first digit would stand
+-- whether the bytes end before the first digit of a number
 abbrev pub is_before_digits : List ℕ → List ℕ → Bool
 is_before_digits text after =
     length after == 0 && (length text == 0 || (bytes_eq text (codes "-") || bytes_eq text (codes "+")))
@@ -52,13 +54,13 @@ is_before_digits text after =
 abbrev pub is_before_length : List ℕ → List ℕ → Bool
 is_before_length text after = length after == 0 && (length text == 0 || bytes_eq text (codes "-"))
 
--- a number's line by its text and what follows that
+-- the number of a line, by its text and what follows the text
 unfoldable pub int_at : List ℕ → List ℕ → Result (ℤ × List ℕ) Fault
 int_at text after =
     if is_before_digits text after then Err Incomplete
     else (or_malformed (int_in text) >>= λ n. ended after >>= λ rest. Ok (n, rest))
 
--- the line of a length, which is none for -1
+-- the length in a line, by its text and what follows the text; `None` for -1
 unfoldable pub length_at : List ℕ → List ℕ → Result (Option ℕ × List ℕ) Fault
 length_at text after =
     if bytes_eq text (codes "-1") then (ended after >>= λ rest. Ok (None, rest))
@@ -70,14 +72,14 @@ length_at text after =
 abbrev pub nothing_at : List ℕ → Result (Answer × List ℕ) Fault
 nothing_at rest = Ok (Ok nil, rest)
 
--- a bulk string of so many bytes, or nil
+-- a bulk string of this length, or nil for `None`
 unfoldable pub bytes_at : Option ℕ → List ℕ → Result (Answer × List ℕ) Fault
 bytes_at None rest = nothing_at rest
 bytes_at (Some n) rest =
     if nat_lt (length rest) n then Err Incomplete
     else (ended (drop n rest) >>= λ after. Ok (Ok (bulk (take n rest)), after))
 
--- an answer that is no array, by its mark, the text of its first line, and what follows that
+-- an answer that is no array, by its mark, the text of its first line, and what follows the text
 unfoldable pub flat_at : ℕ → List ℕ → List ℕ → Result (Answer × List ℕ) Fault
 flat_at mark text after =
     if mark == 36 then (length_at text after >>= λ x. bytes_at x.0 x.1)
@@ -89,20 +91,20 @@ flat_at mark text after =
 abbrev pub Items : Type 0
 Items = Result (List Reply) (List ℕ)
 
--- so many answers, one after the other
+-- n answers, one after another
 unfoldable pub times_at : (List ℕ → Result (Answer × List ℕ) Fault) → ℕ → List ℕ
     → Result (Items × List ℕ) Fault
 times_at read zero bytes = Ok (Ok [], bytes)
 times_at read (suc n) bytes = read bytes >>= λ first.
     times_at read n first.1 >>= λ others. Ok (answer_before first.0 others.0, others.1)
 
--- an array of so many items, or nil
+-- an array of n items, or nil for `None`
 unfoldable pub array_items_at : (ℕ → List ℕ → Result (Items × List ℕ) Fault) → Option ℕ → List ℕ
     → Result (Answer × List ℕ) Fault
 array_items_at items None rest = nothing_at rest
 array_items_at items (Some n) rest = items n rest >>= λ x. Ok (array_of_all x.0, x.1)
 
--- an array, from behind its mark
+-- an array, from the byte after its mark on
 unfoldable pub array_at : (ℕ → List ℕ → Result (Items × List ℕ) Fault) → List ℕ
     → Result (Answer × List ℕ) Fault
 array_at items bytes = length_at (text_until_line_end bytes) (after_text bytes) >>= λ x. array_items_at items x.0 x.1
@@ -113,14 +115,14 @@ front_at nested [] = Err Incomplete
 front_at nested (mark ∷ bytes) =
     if mark == 42 then nested bytes else flat_at mark (text_until_line_end bytes) (after_text bytes)
 
--- the answer at the front, in which arrays stand at most so deep in arrays, and what follows it
+-- the answer at the front, with arrays nested at most `levels` deep, and what follows it
 unfoldable pub answer_at : ℕ → List ℕ → Result (Answer × List ℕ) Fault
 answer_at zero bytes = front_at (λ rest. Err TooDeep) bytes
 answer_at (suc levels) bytes = front_at (array_at (times_at (answer_at levels))) bytes
 
 -- ---- why nothing was read
 
--- some more bytes make a whole answer of these
+-- some more bytes complete these to a whole answer
 abbrev pub CanBeCompleted : List ℕ → Type 0
 CanBeCompleted bytes = (more : List ℕ) × (a : Answer) × IsForm MAX_LEVELS a (bytes ++ more)
 
@@ -139,7 +141,7 @@ Says Incomplete bytes = HasNoAnswer bytes × CanBeCompleted bytes
 Says Malformed bytes = BeginsNone bytes
 Says TooDeep bytes = BeginsNone bytes
 
--- It is the first fault from the left, and the bytes are as it says.
+-- The fault is the first from the left, and the bytes are as it says.
 abbrev pub Cause : List ℕ → ReadError → Type 0
 Cause bytes errors.Memory = Unit {0}
 Cause bytes (errors.Fault fault) = (answer_at MAX_LEVELS bytes ≡ Err fault) × Says fault bytes

@@ -12,9 +12,9 @@ use std::fmt;
 pub enum Fault {
     /// The bytes end before the reply does. More bytes can complete it.
     Incomplete,
-    /// No reply begins so, whatever follows.
+    /// No reply begins with these bytes, whatever follows.
     Malformed,
-    /// More arrays than `MAX_LEVELS` stand in one another.
+    /// Arrays are nested deeper than `MAX_LEVELS`.
     TooDeep,
 }
 
@@ -75,7 +75,7 @@ impl<T: Drop> From<AllocFailed<T>> for ReadError {
 pub enum RequestFault {
     /// The bytes end before the request does. More bytes can complete it.
     Incomplete,
-    /// No request has the byte at this index there. What stands before it begins one.
+    /// No request can have the byte at this index there. All bytes before it begin one.
     Malformed(usize),
 }
 
@@ -119,7 +119,7 @@ impl Error for RequestError {}
 pub enum WriteError {
     /// Memory ran out.
     Memory,
-    /// The value has no form: `write` says when.
+    /// The value cannot be written: `write` says when.
     NoForm,
 }
 

@@ -22,7 +22,7 @@ pub(super) fn line_of(bytes: &[u8]) -> (&[u8], &[u8])
     bytes.split_at(bytes.len())
 }
 
-/// What follows the line's end that stands here.
+/// What follows the line's end that begins here.
 fn end_of(after: &[u8]) -> Result<&[u8], ReadError>
     ensures { Gives (λ x. x.now) result (ended after.now) }
 {
@@ -45,7 +45,7 @@ fn is_before_length(text: &[u8], after: &[u8]) -> bool
     after.is_empty() && (text.is_empty() || text == b"-".as_slice())
 }
 
-/// A number's line by its text and what follows that.
+/// The number of a line, by its text and what follows the text.
 #[tactic(auto, unfolding(crate::specs::Reading::int_at))]
 fn int_at<'a>(text: &[u8], after: &'a [u8]) -> Result<(i64, &'a [u8]), ReadError>
     ensures { Gives (λ x. (x.0, x.1.now)) result (int_at text.now after.now) }
@@ -60,7 +60,7 @@ fn int_at<'a>(text: &[u8], after: &'a [u8]) -> Result<(i64, &'a [u8]), ReadError
     Ok((number, rest))
 }
 
-/// The line of a length, which is none for -1.
+/// The length in a line, by its text and what follows the text. `None` for -1.
 #[tactic(auto, unfolding(crate::specs::Reading::length_at))]
 pub(super) fn length_at<'a>(
     text: &[u8],
@@ -82,7 +82,7 @@ pub(super) fn length_at<'a>(
     Ok((Some(length), rest))
 }
 
-/// A bulk string of so many bytes, or nil.
+/// A bulk string of this length, or nil for `None`.
 #[tactic(auto, unfolding(crate::specs::Reading::bytes_at))]
 fn bytes_of(alloc: Global, length: Option<u64>, rest: &[u8]) -> Result<(Response, &[u8]), ReadError>
     ensures { Gives (λ x. (answer x.0, x.1.now)) result (bytes_at length rest.now) }
@@ -101,7 +101,7 @@ fn bytes_of(alloc: Global, length: Option<u64>, rest: &[u8]) -> Result<(Response
     ))
 }
 
-/// What the text of a line with + means.
+/// The value of a line with `+`, by its text.
 fn simple_of(alloc: Global, text: &[u8]) -> Result<Value, AllocError>
     ensures { IfOk result (λ value. view value ≡ simple_of text.now) }
 {
@@ -114,7 +114,7 @@ fn simple_of(alloc: Global, text: &[u8]) -> Result<Value, AllocError>
     }
 }
 
-/// An answer that is no array, by its mark, the text of its first line, and what follows that.
+/// An answer that is no array, by its mark, the text of its first line, and what follows the text.
 #[tactic(auto, unfolding(crate::specs::Reading::flat_at))]
 pub(super) fn flat_of<'a>(
     alloc: Global,

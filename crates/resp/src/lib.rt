@@ -1,5 +1,4 @@
-//! Replies and requests as the bytes of the Redis serialization protocol, version 2: read from any
-//! bytes, and written.
+//! Reading and writing replies and requests in the Redis serialization protocol, version 2.
 #![tactic(auto)]
 
 mod fault;

@@ -30,7 +30,7 @@ pub(super) fn length_of(text: &[u8]) -> Option<u64>
     number_of(text, 1 << 63)
 }
 
-/// The number of 64 bits, which may have a sign.
+/// A number of 64 bits, with or without a sign.
 #[tactic(auto, unfolding(crate::specs::Forms::int_in))]
 pub(super) fn int_of(text: &[u8]) -> Option<i64>
     ensures { result ≡ int_in text.now }
@@ -43,7 +43,7 @@ pub(super) fn int_of(text: &[u8]) -> Option<i64>
     }
 }
 
-/// The number that is so far below 0.
+/// The number `-n`.
 fn below_zero(n: u64) -> i64
     requires { n ≤ 2 ^ 63 }
     ensures { Some result ≡ below_zero (Some n) }
@@ -51,7 +51,7 @@ fn below_zero(n: u64) -> i64
     if n == 0 { 0 } else { -1 - (n - 1) as i64 }
 }
 
-/// The number, which has 63 bits.
+/// The number `n`, which has 63 bits.
 fn not_below_zero(n: u64) -> i64
     requires { n < 2 ^ 63 }
     ensures { Some result ≡ not_below_zero (Some n) }

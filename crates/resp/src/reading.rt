@@ -8,32 +8,32 @@ use crate::response::Response;
 use resp_core::Value;
 use std::alloc::Global;
 
-/// How many arrays may stand in one another, the outermost counted.
+/// Largest number of arrays nested in one another, the outermost included.
 pub const MAX_LEVELS: u8 = 32;
 
-/// Reads the answer at the front of some bytes, and gives it with the bytes after it.
+/// Reads the reply at the front of some bytes, and returns it with the bytes after it.
 ///
-/// Any bytes are taken. An array that holds an error is told as its first error, at any depth: a
-/// `Value` holds none. A simple string that is not UTF-8 is read as the bulk string of its bytes.
-/// `*-1` is nil. Inline commands and the types of version 3 are `Malformed`.
+/// Any bytes may be passed. An array that holds an error at any depth is read as its first error. A
+/// simple string that is not UTF-8 is read as a bulk string. `*-1` is nil. Inline commands and the
+/// types of version 3 are `Malformed`.
 ///
-/// Memory is taken for what was read alone, never for a length that is only announced, which tests
-/// show and no clause says. The recursion ends at `MAX_LEVELS`. The cost is O(bytes). A caller that
-/// reads anew each time more bytes have come pays for all bytes so far each time.
+/// Memory is taken only for bytes that are there, never for an announced length. This is tested,
+/// not proved. Recursion ends at `MAX_LEVELS`. The cost is O(bytes). A call after more bytes have
+/// come reads all bytes again.
 ///
 /// # Errors
 ///
-/// `Incomplete` where more bytes can complete the answer, `Malformed` where none can, `TooDeep`
-/// where arrays stand deeper than `MAX_LEVELS` in arrays. `Memory` if memory runs out.
+/// `Incomplete` if more bytes can complete the reply, `Malformed` if none can, `TooDeep` if arrays
+/// are nested deeper than `MAX_LEVELS`. `Memory` if memory runs out.
 pub fn read(alloc: Global, bytes: &[u8]) -> Result<(Response, &[u8]), ReadError>
-    // What is read stands there,
+    // What is read is a form at the front of the bytes.
     ensures found { IfOk result (λ x. (form : List ℕ)
         × (bytes.now ≡ form ++ x.1.now) × IsForm MAX_LEVELS (answer x.0) form) }
-    // and each form that stands there is read, whatever follows, unless memory runs out.
+    // Each form at the front is read, whatever follows, unless memory runs out.
     ensures only { (a : Answer) (form rest : List ℕ) → IsForm MAX_LEVELS a form → bytes.now ≡ form ++ rest
         → Gives {Y = Answer × List ℕ} (λ x. (answer x.0, x.1.now)) result (Ok (a, rest)) }
     // The first fault from the left is reported. Incomplete bytes hold no whole answer, and can be
-    // completed. Malformed ones, and those too deep, can't.
+    // completed. Bytes that are malformed or too deep can't.
     ensures cause { IfErr result (λ e. Cause bytes.now e) }
 {
     response_at(alloc, bytes, MAX_LEVELS)
@@ -57,7 +57,7 @@ fn added(
     }
 }
 
-/// The array of these, or the error.
+/// The array of the items, or the error.
 fn gathered(items: Result<Vec<Value>, Vec<u8>>) -> Response
     ensures { answer result ≡ array_of_all (answers_in items) }
 {

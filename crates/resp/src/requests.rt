@@ -7,30 +7,29 @@ use crate::stop::{Stop, Unread};
 use resp_core::Cmd;
 use std::alloc::Global;
 
-/// Reads the request at the front of some bytes, an array of bulk strings as `*1\r\n$4\r\nPING\r\n`,
-/// and gives it with the bytes after it.
+/// Reads the request at the front of some bytes, and returns it with the bytes after it. A request
+/// is an array of bulk strings, as `*1\r\n$4\r\nPING\r\n`.
 ///
-/// Any bytes are taken. `*0\r\n` is a command of no argument. Inline commands are `Malformed`, and
-/// so are numbers with a sign or a leading zero.
+/// Any bytes may be passed. `*0\r\n` is a command of no argument. Inline commands are `Malformed`,
+/// and so are numbers with a sign or a leading zero.
 ///
-/// Memory is taken for what was read alone, never for a length that is only announced, which tests
-/// show and no clause says. The cost is O(bytes). A caller that reads anew each time more bytes have
-/// come pays for all bytes so far each time.
+/// Memory is taken only for bytes that are there, never for an announced length. This is tested,
+/// not proved. The cost is O(bytes). A call after more bytes have come reads all bytes again.
 ///
 /// # Errors
 ///
-/// `Incomplete` where more bytes can complete the request, `Malformed` with the index of the first
-/// byte that no request has there. `Memory` if memory runs out.
+/// `Incomplete` if more bytes can complete the request. `Malformed` has the index of the first byte
+/// that no request can have there. `Memory` if memory runs out.
 pub fn read_request(alloc: Global, bytes: &[u8]) -> Result<(Cmd, &[u8]), RequestError>
-    // What is read stands there,
+    // What is read is a request at the front of the bytes.
     ensures found { IfOk result (λ x. (form : List ℕ)
         × (bytes.now ≡ form ++ x.1.now) × IsRequest x.0 form) }
-    // and each request that stands there is read, whatever follows, unless memory runs out.
+    // Each request at the front is read, whatever follows, unless memory runs out.
     ensures only { (args : List (List ℕ)) (form rest : List ℕ) → IsRequest args form
         → bytes.now ≡ form ++ rest
         → MatchResult result (λ x. (x.0 ≡ args) × (x.1.now ≡ rest)) (λ e. e ≡ RequestError.Memory) }
-    // Incomplete bytes hold no whole request, and can be completed. The byte that is reported is the
-    // first that can't stand there.
+    // Incomplete bytes hold no whole request, and can be completed. The byte that is reported is
+    // the first that no request can have there.
     ensures cause { IfErr result (λ e. RequestErrorCause bytes.now e) }
 {
     match command_at(alloc, bytes) {
@@ -40,7 +39,7 @@ pub fn read_request(alloc: Global, bytes: &[u8]) -> Result<(Cmd, &[u8]), Request
     }
 }
 
-/// How many bytes the request at the front of some bytes has. Takes no memory.
+/// Number of bytes of the request at the front. Takes no memory.
 ///
 /// # Errors
 ///
@@ -78,7 +77,7 @@ fn command_at(alloc: Global, bytes: &[u8]) -> Result<(Cmd, &[u8]), Unread>
     bulks_at(alloc, count, rest)
 }
 
-/// So many bulk strings.
+/// `count` bulk strings.
 fn bulks_at(alloc: Global, count: u64, bytes: &[u8]) -> Result<(Cmd, &[u8]), Unread>
     ensures { Tells (λ x. (x.0, x.1.now)) result (bulks_at count bytes.now) }
 {
@@ -101,7 +100,7 @@ fn after_request(bytes: &[u8]) -> Result<&[u8], Stop>
     after_bulks(count, rest)
 }
 
-/// What follows so many bulk strings.
+/// What follows `count` bulk strings.
 fn after_bulks(count: u64, bytes: &[u8]) -> Result<&[u8], Stop>
     ensures { IsRead (λ rest. rest.now) result (rest_of (bulks_at count bytes.now)) }
 {
@@ -146,7 +145,7 @@ fn line_at(bytes: &[u8], mark: u8) -> Result<(u64, &[u8]), Stop>
     Ok((number, rest))
 }
 
-/// What follows this byte.
+/// What follows `byte` at the front.
 #[tactic(auto, unfolding(crate::specs::Requests::byte_at))]
 fn after_byte(byte: u8, bytes: &[u8]) -> Result<&[u8], Stop>
     ensures { IsRead (λ rest. (byte, rest.now)) result (byte_at byte bytes.now) }
@@ -158,7 +157,7 @@ fn after_byte(byte: u8, bytes: &[u8]) -> Result<&[u8], Stop>
     }
 }
 
-/// A number with no leading zero, which the first byte of a line's end follows.
+/// A number with no leading zero, and what follows the first byte of the line's end.
 fn digits_at(bytes: &[u8]) -> Result<(u64, &[u8]), Stop>
     ensures { IsRead (λ x. (x.0, x.1.now)) result (digits_at (2 ^ 63) false 0 bytes.now) }
 {

@@ -1,10 +1,10 @@
 use resp_core::Value;
 
-/// What a server answers: a value, or an error, so that no error is taken for a value.
+/// A server's reply: a value or an error.
 #[derive(Debug, Drop)]
 pub enum Response {
     /// A value.
     Value(Value),
-    /// The text of an error, as `ERR unknown command`: the bytes of the line behind its `-`.
+    /// An error, as `ERR unknown command`: the bytes of the line after its `-`.
     Error(Vec<u8>),
 }

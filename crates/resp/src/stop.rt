@@ -8,7 +8,7 @@ use std::alloc::AllocError;
 pub(super) enum Stop {
     /// At the end of the bytes: more can complete the request.
     WantsMore,
-    /// At a byte that stands in no request there; so many are left with it.
+    /// At a byte that no request can have there. The number counts this byte and all after it.
     StopsAt(usize),
 }
 

@@ -10,20 +10,20 @@ use itoa::Buffer;
 use resp_core::{Cmd, Value};
 use std::alloc::{AllocError, Global};
 
-/// The bytes of a value, which `read` reads as this value.
+/// The bytes of a value. `read` reads them as the same value.
 ///
 /// # Errors
 ///
-/// `NoForm` where the value is or holds a map, a simple string that is `OK` (which is
-/// `Value::Okay`) or has a byte that ends lines, or arrays deeper than `MAX_LEVELS`. `Memory` if
-/// memory runs out.
+/// `NoForm` if the value is or holds a map, or arrays nested deeper than `MAX_LEVELS`. Also for a
+/// simple string that is `OK`, which is `Value::Okay`, or has a `\r` or `\n`. `Memory` if memory
+/// runs out.
 pub fn write(alloc: Global, value: &Value) -> Result<Vec<u8>, WriteError>
     ensures bytes { IfOk result (λ bytes. bytes.items ≡ form (view value.now)) }
-    // They are a form of the value: `read` reads them, whatever follows.
+    // `read` reads the bytes as this value, whatever follows.
     ensures readable { IfOk result (λ bytes. IsForm MAX_LEVELS (Ok (view value.now)) bytes.items) }
     ensures form { IfOk result (λ bytes. HasForm (view value.now)) }
     ensures depth { IfOk result (λ bytes. depth (view value.now) ≤ MAX_LEVELS) }
-    // It is refused for its form only where it has none.
+    // A value that has a form, and is not nested too deep, is never refused with `NoForm`.
     ensures refused { HasForm (view value.now) → depth (view value.now) ≤ MAX_LEVELS
         → IfErr result (λ e. e ≡ WriteError.Memory) }
 {
@@ -74,7 +74,7 @@ fn push_line(out: &mut Vec<u8>, mark: u8, text: &[u8]) -> Result<(), AllocError>
     out.extend_from_slice(b"\r\n")
 }
 
-/// Whether no end of a line stands in a text.
+/// Whether a text has neither of the bytes that end lines.
 fn is_one_line(text: &[u8]) -> bool
     ensures { IsTrue result ↔ AllByRecursion IsInLine text.now }
 {
