@@ -14,7 +14,7 @@ pub record Address : Type 0 where
 abbrev pub display_text : Address → List ℕ
 display_text a = a.host ++ colon ∷ decimal a.port
 
--- whether two addresses have one host and one port
+-- whether two addresses have the same host and the same port
 abbrev pub same_address : Address → Address → Bool
 same_address = eq_of_both (on (λ a. a.host) (pointwise nat_eq)) (on (λ a. a.port) ◌==◌)
 

@@ -5,16 +5,16 @@ use Rattle.resp_core.specs.declared.error.ErrorKind.TheVariants.{InvalidClientCo
 use Rattle.cluster_slots.specs.Number.{number_in}
 use Rattle.cluster_slots.specs.Bytes.{colon, open_bracket, close_bracket}
 
--- the text is the host with some opening brackets before it and some closing ones after it, all
--- that there are
+-- the text is the host in brackets; the host is not empty, begins with no opening bracket and ends
+-- with no closing one
 pub record IsBracketed (text host : List ℕ) (opens closes : ℕ) : Type 0 where
   pub whole : text ≡ replicate opens open_bracket ++ host ++ replicate closes close_bracket
   pub some : host ≢ []
   pub start : (rest : List ℕ) → host ≢ open_bracket ∷ rest
   pub end : (front : List ℕ) → host ≢ front ++ close_bracket ∷ []
 
--- the text is cut at its last colon into left and right; left is the host in brackets or not, right
--- is the port
+-- the text is cut at its last colon: on the left is the host, in brackets or not, and on the right
+-- the port
 pub record ReadsAs (text left right host : List ℕ) (port : ℕ) : Type 0 where
   pub cut : text ≡ left ++ colon ∷ right
   pub last : ¬ (Contains right colon)
@@ -30,13 +30,13 @@ IsAddressText text host port =
 abbrev pub IsNoAddress : List ℕ → Type 0
 IsNoAddress text = (host : List ℕ) (port : ℕ) → ¬ (IsAddressText text host port)
 
--- a host that its printed form gives back: not empty, and with no bracket at its outside
+-- a host that is read back from its printed form: not empty, with no bracket around it
 pub record IsPlainHost (host : List ℕ) : Type 0 where
   pub some : host ≢ []
   pub start : (rest : List ℕ) → host ≢ open_bracket ∷ rest
   pub end : (front : List ℕ) → host ≢ front ++ close_bracket ∷ []
 
--- the refusal of a text that stands for no address
+-- the error for a text that names no address
 abbrev pub invalid_node_string : ErrorParts
 invalid_node_string =
     record { kind = InvalidClientConfig; desc = codes "Invalid node string"; detail = None }

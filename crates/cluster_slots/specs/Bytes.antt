@@ -1,4 +1,4 @@
--- The bytes that addresses and keys are read by.
+-- The delimiters of addresses and of hash tags.
 use Rattle.std.specs.Prelude.{ℕ}
 
 abbrev pub colon : ℕ

@@ -18,12 +18,11 @@ HasTag key t = (u : List ℕ) × (v : List ℕ) × HoldsTag key t u v
 abbrev pub HasNoTag : List ℕ → Type 0
 HasNoTag key = (t : List ℕ) → ¬ (HasTag key t)
 
--- t is what decides the key's slot: its tag in braces, or all of a key that has none
+-- t decides the key's slot: it is the tag in braces, or the whole key if there is none
 abbrev pub IsHashTag : List ℕ → List ℕ → Type 0
 IsHashTag key t = HasTag key t ⊎ ((t ≡ key) × HasNoTag key)
 
--- the tag as a value: what stands between the first opening brace and the first closing one after
--- it, or else the key
+-- the hash tag of a key, by what follows its first opening brace: the whole key if there is no tag
 abbrev pub tag_in : List ℕ → List ℕ → List ℕ
 tag_in key rest =
     cond (list_any (nat_eq close_brace) rest

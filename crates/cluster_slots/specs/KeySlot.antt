@@ -35,6 +35,6 @@ crc_of bytes = rem (bits_of bytes ++ replicate 16 0)
 abbrev pub IsKeySlot : List ℕ → ℕ → Type 0
 IsKeySlot key slot = (tag : List ℕ) × IsHashTag key tag × (slot ≡ crc_of tag % 16384)
 
--- the same as a value
+-- the slot of a key, as a value
 unfoldable pub key_slot : List ℕ → ℕ
 key_slot key = crc_of (hash_tag key) % 16384

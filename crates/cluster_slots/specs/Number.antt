@@ -3,7 +3,7 @@ use Rattle.std.specs.Prelude.{ℕ, ◌^◌, List, ◌&&◌, if◌then◌else◌,
 use Rattle.std.specs.Str.{all_ascii_digits}
 use Rattle.std.specs.Str.Parse.{without_leading_plus, digits_value}
 
--- the number of so many bits that a text writes: an optional plus, and one or more digits
+-- the number below 2 ^ bits that a text writes: an optional plus, and one or more digits
 unfoldable pub number_in : ℕ → List ℕ → Option ℕ
 number_in bits text =
     if nat_lt 0 (length (without_leading_plus text))

@@ -1,4 +1,4 @@
-//! Addresses of nodes, slots of keys, and numbers as texts write them.
+//! Addresses of nodes, slots of keys, and numbers in texts.
 #![tactic(auto)]
 
 mod host_text;

@@ -19,8 +19,8 @@ use std::hash::{Hash, Hasher};
 use std::marker::Model;
 use std::sync::ArcStr;
 
-/// The address of a node: a host and a port. A host of at most 16 bytes takes no memory where it is
-/// given as text, and clones share the text of a longer one.
+/// The address of a node: a host and a port. A host text of at most 16 bytes takes no memory.
+/// Clones share a longer one.
 ///
 /// Addresses are ordered by the bytes of the host, then by port. `Display` and `Debug` print
 /// `host:port`.
@@ -44,7 +44,7 @@ impl Model for NodeAddress {
 }
 
 impl NodeAddress {
-    /// The address of a host, taken as it is, and a port.
+    /// The address of a host and a port. The host is taken as it is.
     ///
     /// # Errors
     ///
@@ -93,8 +93,7 @@ impl NodeAddress {
         Ok(NodeAddress::new(alloc, host, port)?)
     }
 
-    /// The host as it was given, without the brackets that `try_from` reads around one: a name, an
-    /// IPv4 or an IPv6 address.
+    /// The host, a name or an IP address, without the brackets that `try_from` accepts.
     pub fn host(&self) -> &str
         ensures { result.now ≡ self.now.host }
     {
@@ -108,7 +107,7 @@ impl NodeAddress {
         self.port
     }
 
-    /// Whether the text names this address. One that names none does not.
+    /// Whether the text names this address. `false` for a text that names none.
     pub fn matches_text(&self, text: &str) -> bool
         ensures { IsTrue result ↔ IsAddressText text.now self.now.host self.now.port }
     {
@@ -209,8 +208,8 @@ impl Hash for NodeAddress {
 
 /// The host and the port that a text names.
 ///
-/// The text is cut at its last colon. All brackets `[` before the host and `]` after it are left
-/// out, and a host has to be left. The port is a decimal number up to 65535, with or without a `+`.
+/// The text is cut at its last colon. All `[` before the host and all `]` after it are dropped, and
+/// the host must not be empty. The port is a decimal number up to 65535, with or without a `+`.
 ///
 /// # Errors
 ///
@@ -218,7 +217,7 @@ impl Hash for NodeAddress {
 pub fn split_node_address(text: &str) -> RedisResult<(&str, u16)>
     ensures read { IfOk result (λ named. IsAddressText text.now named.0.now named.1) }
     ensures refused { IfErr result (λ e. (e ≡ invalid_node_string) × IsNoAddress text.now) }
-    // The printed form of an address names it exactly where its host is a plain one.
+    // The printed form of an address names it exactly if its host is a plain one.
     ensures printed { (a : Address) → a.port < 2 ^ 16 → text.now ≡ display_text a
         → (IsAddressText text.now a.host a.port ↔ IsPlainHost a.host) }
 {

@@ -1,7 +1,7 @@
 ghost use Rattle.std.specs.Prelude.{◌≡◌};
 ghost use Rattle.cluster_slots.specs.Number.{number_in};
 
-/// The number of 64 bits that an argument writes, as `u64::from_str` reads it.
+/// The number that an argument writes, as `u64::from_str` reads it.
 pub fn parse_u64(arg: &[u8]) -> Option<u64>
     ensures { result ≡ number_in 64 arg.now }
 {
@@ -14,7 +14,7 @@ pub fn parse_u64(arg: &[u8]) -> Option<u64>
     }
 }
 
-/// The number of 16 bits that an argument writes, as `u16::from_str` reads it.
+/// The number that an argument writes, as `u16::from_str` reads it.
 pub fn parse_u16(arg: &[u8]) -> Option<u16>
     ensures { result ≡ number_in 16 arg.now }
 {

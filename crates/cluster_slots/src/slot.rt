@@ -31,7 +31,7 @@ impl Model for Slot {
 }
 
 impl Slot {
-    /// The slot of this number, if there is one.
+    /// The slot of this number. `None` from 16384 on.
     pub fn new(number: u16) -> Option<Slot>
         ensures there { IsSome result ↔ (number < 16384) }
         ensures size { SLOT_SIZE ≡ 16384 }
@@ -46,8 +46,8 @@ impl Slot {
 
     /// The slot of a key: CRC-16/XMODEM of its hash tag, modulo `SLOT_SIZE`.
     ///
-    /// The hash tag is what stands between the first `{` and the first `}` after it, or the whole
-    /// key where there is nothing between them or no such pair (Redis cluster specification).
+    /// The hash tag is what stands between the first `{` and the first `}` after it. If nothing
+    /// stands between them, or there is no such pair, it is the whole key.
     pub fn for_key(key: &[u8]) -> Slot
         ensures slot { IsKeySlot key.now result }
         ensures value { result ≡ key_slot key.now }
@@ -74,11 +74,11 @@ impl Slot {
 /// Which of a slot's nodes a command may go to.
 #[derive(Clone, Copy, Debug, PartialEq, Eq, Hash)]
 pub enum SlotAddr {
-    /// The primary alone.
+    /// The primary only.
     Master,
-    /// The primary, or a replica where the client reads from replicas.
+    /// The primary, or a replica if the client reads from replicas.
     ReplicaOptional,
-    /// A replica, where the slot has one.
+    /// A replica, or the primary if the slot has no replica.
     ReplicaRequired,
 }
 
@@ -104,7 +104,7 @@ impl Model for Route {
 }
 
 impl Route {
-    /// A route to any number, which need not be that of a slot.
+    /// A route to this slot number, which is not checked.
     pub fn new(slot: u16, slot_addr: SlotAddr) -> Self
         ensures { result ≡ record { slot = slot; addr = slot_addr } }
     {
@@ -128,7 +128,7 @@ impl Route {
         Route::with_slot(Slot::for_key(key), slot_addr)
     }
 
-    /// The number of the slot, which `new` may have been given past 16383.
+    /// The slot number. Above 16383 only if `new` was given such a number.
     pub fn slot(&self) -> u16
         ensures { result ≡ self.now.slot }
     {
@@ -143,7 +143,7 @@ impl Route {
     }
 }
 
-/// The parts before and after the first such byte.
+/// The bytes before and after the first `byte`.
 fn cut_at(bytes: &[u8], byte: u8) -> Option<(&[u8], &[u8])>
     ensures { MatchOption result (¬ (Contains bytes.now byte))
         (λ parts. (bytes.now ≡ parts.0.now ++ byte ∷ parts.1.now) × ¬ (Contains parts.0.now byte)) }
@@ -152,8 +152,8 @@ fn cut_at(bytes: &[u8], byte: u8) -> Option<(&[u8], &[u8])>
     Some((&bytes[..at], &bytes[at + 1..]))
 }
 
-/// Whether the byte is one of these. Up to three are compared without a loop, which would take longer
-/// than the comparisons.
+/// Whether `bytes` contains `byte`. Up to three are compared without a loop, which would take
+/// longer.
 fn has_byte(bytes: &[u8], byte: u8) -> bool
     ensures { result ≡ list_any (nat_eq byte) bytes.now }
 {
@@ -166,7 +166,7 @@ fn has_byte(bytes: &[u8], byte: u8) -> bool
     }
 }
 
-/// Whether the byte is one of these. No step ends the search, so many are compared at once.
+/// Whether `bytes` contains `byte`. The loop never ends early, so many are compared at once.
 fn is_among(bytes: &[u8], byte: u8) -> bool
     ensures { result ≡ list_any (nat_eq byte) bytes.now }
 {
@@ -204,7 +204,7 @@ fn update(crc: u16, byte: u8) -> u16
     (crc << 8) ^ remainder((crc >> 8) as u8 ^ byte, 0)
 }
 
-/// The register after two bytes, and then so many bytes of zero bits.
+/// The register after two bytes, and then `after` zero bytes.
 fn update_by_two(crc: u16, a: u8, b: u8, after: usize) -> u16
     requires { after < 7 }
     ensures { result ≡ zeros_down (8 * after) (fold (λ r byte. zeros_down 8 (bit_xor r (byte * 256)))

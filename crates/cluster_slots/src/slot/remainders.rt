@@ -1,5 +1,5 @@
-/// The remainders of bytes, divided by the polynomial of CRC-16/XMODEM, x^16 + x^12 + x^5 + 1:
-/// entry i of table n is that of the 8 bits of i followed by 16 + 8n zero bits.
+/// Remainders of bytes by the polynomial of CRC-16/XMODEM, x^16 + x^12 + x^5 + 1. Entry i of table
+/// n belongs to the 8 bits of i followed by 16 + 8n zero bits.
 pub(super) const REMAINDERS: [[u16; 256]; 8] = [
     [
         0x0000, 0x1021, 0x2042, 0x3063, 0x4084, 0x50A5, 0x60C6, 0x70E7, 0x8108, 0x9129, 0xA14A,
