@@ -1,13 +1,13 @@
-//! Tells which nodes of a Redis cluster serve a key, or the keys of a command, and runs commands on
-//! nodes in memory.
+//! Prints which nodes of a Redis cluster serve a key or a command, and runs commands on nodes in
+//! memory.
 //!
 //! `slotroute node KEY` reads a slot map from standard input, one range a line as
-//! `START END HOST:PORT [HOST:PORT ..]`, and prints the slot of the key and the primary that
-//! serves it. `slotroute split WORD ..` reads such a map too, and prints the parts of a multi-key
-//! command, one for each slot: its slot, its node, and its words. `slotroute run forward`
-//! runs the commands of the lines that follow the map and a line with no field, and prints the parts
-//! that it sends and the replies; `run reverse` sends the parts in the other order. A last word
-//! `first`, `pick=N` or `shard` says which nodes serve reads.
+//! `START END HOST:PORT [HOST:PORT ..]`. It prints the key's slot and the primary that serves the
+//! slot. `slotroute split WORD ..` reads such a map and prints the parts of a multi-key command,
+//! with the slot, the node and the words of each. `slotroute run forward` reads a map, a blank line
+//! and commands. It runs the commands, and prints the parts that it sends and the replies.
+//! `run reverse` sends the parts in reverse order. A last word `first`, `pick=N` or `shard` says
+//! which nodes serve reads.
 #![tactic(auto)]
 
 ghost use Rattle.std.specs.Prelude.{◌≤◌, IfOk};
@@ -39,7 +39,7 @@ fn run(rt: &HostRuntime, alloc: Global) -> io::Result<u8>
     Ok(serve(alloc, &words, &mut reader, &mut out, &mut err, strategy))
 }
 
-/// Runs the program, and tells where its words are not text or there is no memory for them.
+/// Runs the program, and reports words that are not text or that find no memory.
 fn status(rt: &HostRuntime) -> u8
     ensures { result ≤ 2 }
 {
