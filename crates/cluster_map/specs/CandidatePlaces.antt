@@ -1,5 +1,5 @@
--- What stands at a place among the candidates is one of them. For the law of a strategy,
--- `picks_candidates`.
+-- The address at an index among the candidates is a candidate. Strategies prove their law
+-- `picks_candidates` by this.
 use Rattle.std.proofs.Common.{◌≡◌, ℕ, zero, suc, ◌⊎◌, inl, inr, List, ◌∷◌, Option, Some, None, Contains, slice_get}
 use Rattle.std.specs.Option.{option_map_or}
 use Rattle.std.proofs.lemmas.Option.{slice_get_within, get_or_from_slice_get}
@@ -14,7 +14,7 @@ Contains-at addresses address place there = (
   get_or_from_slice_get addresses place address address there,
 )
 
--- a replica
+-- the replica at an index is a candidate
 pub IsCandidate-replica : (c : Candidates) (address : Address) (place : ℕ)
     → slice_get c.replicas place ≡ Some address → IsCandidate c address
 IsCandidate-replica c address place there = inr (Contains-at c.replicas address place there)
@@ -27,7 +27,7 @@ one_of (Some primary) replicas address zero there = inl there
 one_of (Some primary) replicas address (suc place) there =
     inr (Contains-at replicas address place there)
 
--- the primary, where it is a candidate, or a replica
+-- the address at an index of the primary, if it is a candidate, and the replicas is a candidate
 pub IsCandidate-in_order : (c : Candidates) (address : Address) (place : ℕ)
     → slice_get (primary_then_replicas c) place ≡ Some address → IsCandidate c address
 IsCandidate-in_order c address place there = one_of c.primary c.replicas address place there

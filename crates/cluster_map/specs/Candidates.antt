@@ -3,7 +3,7 @@ use Rattle.std.specs.Prelude.{◌≡◌, ℕ, ◌⊎◌, List, ◌∷◌, Option
 use Rattle.std.specs.Option.{option_map_or}
 use Rattle.cluster_slots.specs.Address.{Address}
 
--- a slot, its primary where a read may go to it, and its replicas
+-- a slot, its primary if a read may go there, and its replicas
 pub record Candidates : Type 0 where
   pub slot : ℕ
   pub primary : Option Address

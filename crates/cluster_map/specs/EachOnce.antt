@@ -2,7 +2,7 @@
 use Rattle.std.specs.Prelude.{Bool, not, List, [], ◌∷◌, filter}
 use Rattle.cluster_slots.specs.Address.{Address, same_address}
 
--- the first, and then each of the others that is not the first
+-- each element at its first appearance, by `same`
 abbrev pub once_by : {A : Type 0} → (A → A → Bool) → List A → List A
 once_by same [] = []
 once_by same (x ∷ xs) = x ∷ filter (λ y. not (same y x)) (once_by same xs)

@@ -1,4 +1,4 @@
--- The nodes that a read may go to in place of the one that its route has.
+-- The nodes that a read may go to if the node of its route fails.
 use Rattle.std.specs.Prelude.{◌≡◌, ◌⊎◌, List, [], ◌∷◌, ◌++◌}
 use Rattle.cluster_slots.specs.Address.{Address}
 use Rattle.cluster_slots.specs.SlotRoute.{SlotRoute}
@@ -7,14 +7,14 @@ use Rattle.cluster_slots.specs.declared.slot.SlotAddr.TheVariants.{Master, Repli
 use Rattle.cluster_map.specs.SlotNodes.{SlotNodes}
 use Rattle.cluster_map.specs.RangeMap.{RangeEntry, IsAnswerAt, IsUncovered}
 
--- what is asked for at the primary can go nowhere else; other reads can go to the replicas, and
--- where they need not go to a replica, to the primary at last
+-- none for a route to the primary; for reads the replicas, and then the primary unless a replica is
+-- required
 abbrev pub fallback : SlotNodes → SlotAddr → List Address
 fallback nodes Master = []
 fallback nodes ReplicaOptional = nodes.replicas ++ nodes.primary ∷ []
 fallback nodes ReplicaRequired = nodes.replicas
 
--- the fallback of the entry that answers for the route's slot, or nothing where none does
+-- the fallback in the entry for the route's slot, or no address if no entry answers for it
 abbrev pub IsFallback : List (RangeEntry SlotNodes) → SlotRoute → List Address → Type 0
 IsFallback entries route addresses =
     (IsUncovered entries route.slot × (addresses ≡ []))

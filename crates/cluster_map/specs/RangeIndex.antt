@@ -2,7 +2,7 @@
 use Rattle.std.specs.Prelude.{◌≡◌, ◌<◌, ◌≤◌, ℕ, ◌*◌, ◌^◌, nat_lt, List, length, map, filter, take, drop, get_or}
 use Rattle.cluster_map.specs.RangeMap.{RangeEntry, end_of}
 
--- A page is 2 ^ bits slots. So many of the ends as its number says are below its first slot, or more.
+-- A page is 2 ^ bits slots. Its number is at most the count of ends below its first slot.
 abbrev pub ArePages : ℕ → List ℕ → List ℕ → Type 0
 ArePages bits numbers ends =
     (page d : ℕ) → page < length numbers

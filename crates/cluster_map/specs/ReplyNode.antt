@@ -17,12 +17,12 @@ IsFound entries route pick found =
 abbrev pub IsCovered : List (RangeEntry SlotNodes) → ℕ → Type 0
 IsCovered entries slot = (nodes : SlotNodes) × IsAnswerAt entries slot nodes
 
--- the entries that the ranges of a reply leave, put in one after the other
+-- the entries after the ranges of a reply are inserted in order
 abbrev pub entries_in : List ℕ → Reply → List (RangeEntry SlotNodes)
 entries_in answering reply = insert_ranges [] (ranges_in answering reply)
 
--- an address is found exactly where an entry of the reply answers for the route's slot, and it is
--- the one that the route asks for there
+-- an address is found exactly if an entry of the reply answers for the route's slot, and then it is
+-- the route's node
 pub record IsFoundByReply (answering : List ℕ) (reply : Reply) (route : SlotRoute) (pick : ℕ)
     (found : Option Address) : Type 0 where
   pub there : IsSome found ↔ IsCovered (entries_in answering reply) route.slot

@@ -35,7 +35,7 @@ same_range =
     (eq_of_both (on (λ r. r.end) ◌==◌) (eq_of_both (on (λ r. r.master) same_address)
     (on (λ r. r.replicas) (pointwise same_address))))
 
--- the entries after the ranges are put in, in order
+-- the entries after the ranges are inserted in order
 abbrev pub insert_ranges : List (RangeEntry SlotNodes) → List RangeNodes → List (RangeEntry SlotNodes)
 insert_ranges entries ranges =
     fold (λ es r. insert_entry es r.start r.end (nodes_of r)) entries ranges

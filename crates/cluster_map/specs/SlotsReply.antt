@@ -1,8 +1,8 @@
 -- What a reply to CLUSTER SLOTS says (Redis documentation, "CLUSTER SLOTS").
 --
 -- The reply is an array with an item for each range of slots. An item is an array: the first slot,
--- the last slot, and then the nodes, of which the first is the primary. A node is an array: its
--- host, its port, and more that is not read.
+-- the last slot, and then the nodes, the primary first. A node is an array: its host, its port, and
+-- more that is not read.
 use Rattle.std.specs.Prelude.{ℕ, ℤ, pos, negsuc, nat_lt, Bool, ◌||◌, if◌then◌else◌, List, [], ◌∷◌, filter_map, Option, Some, None, option_and_then, unwrap_or, bytes_eq, codes, encode_utf8_all}
 use Rattle.std.specs.Option.{option_map_or}
 use Rattle.bstr.specs.Utf8.{lossy_chars}
@@ -19,19 +19,18 @@ within_u16 (negsuc n) = None
 abbrev pub u16_of : Reply → Option ℕ
 u16_of reply = option_and_then within_u16 (int_of reply)
 
--- the text of a host: a bulk string's, with U+FFFD for what is not UTF-8, and an empty one where
--- there is nothing
+-- the text of a host, with U+FFFD for bytes that are not UTF-8; empty for nil
 abbrev pub host_text : Reply → Option (List ℕ)
 host_text nil = Some []
 host_text (bulk bytes) = Some (encode_utf8_all (lossy_chars bytes))
 host_text reply = None
 
--- the text names no host: the node is reached as the one that answered was
+-- whether the text names no host, so that the name of the node that answered replaces it
 abbrev pub is_unspecified : List ℕ → Bool
 is_unspecified text =
     bytes_eq text (codes "") || (bytes_eq text (codes "0.0.0.0") || bytes_eq text (codes "::"))
 
--- the text that a node writes for a host that it does not know
+-- whether the text is what a node writes for a host that it does not know
 abbrev pub is_unknown : List ℕ → Bool
 is_unknown text = bytes_eq text (codes "?")
 
@@ -40,7 +39,7 @@ abbrev pub given_name : List ℕ → Option (List ℕ)
 given_name [] = None
 given_name (b ∷ bs) = Some (b ∷ bs)
 
--- the host that a text stands for, in a reply of the node that is called `answering`
+-- the host that a text stands for, in a reply of the node `answering`
 abbrev pub host_for : List ℕ → List ℕ → Option (List ℕ)
 host_for answering text =
     if is_unspecified text then given_name answering else (if is_unknown text then None
@@ -57,11 +56,11 @@ address_in answering (host ∷ port ∷ more) =
     address_from (option_and_then (host_for answering) (host_text host)) (u16_of port)
 address_in answering elements = None
 
--- the address of a node that can be used
+-- the address of a node, if it can be used
 abbrev pub node_in : List ℕ → Reply → Option Address
 node_in answering reply = option_and_then (address_in answering) (array_of reply)
 
--- the range, if it has both ends and a node: the first is the primary
+-- the range, if it has both ends and a node; the first node is the primary
 abbrev pub range_from : Option ℕ → Option ℕ → List Address → Option RangeNodes
 range_from (Some start) (Some end) (primary ∷ replicas) =
     Some (record { start = start; end = end; master = primary; replicas = replicas })

@@ -9,10 +9,11 @@ use Rattle.cluster_map.specs.RangeMap.{RangeEntry, value_of, insert_entries, IsA
 use Rattle.cluster_map.specs.RouteNode.{IsNodeOfRoute}
 use Rattle.cluster_map.specs.Shards.{ShardNodes}
 
--- the primary of an entry, and whether it is this one
+-- the primary of an entry
 abbrev pub entry_primary : RangeEntry SlotNodes → Address
 entry_primary e = (value_of e).primary
 
+-- whether an entry has this primary
 abbrev pub has_primary : Address → RangeEntry SlotNodes → Bool
 has_primary primary e = same_address primary (entry_primary e)
 
@@ -29,43 +30,42 @@ abbrev pub shard_with : Address → List (RangeEntry SlotNodes) → ShardNodes
 shard_with primary es =
     record { ranges = map range_of_entry es; primary = primary; replicas = first_replicas es }
 
--- the shard of a primary: its entries' ranges by ascending end, and the replicas of the first of
--- them
+-- the shard of a primary: the ranges of its entries in order, and the replicas of the first entry
 abbrev pub shard_of : List (RangeEntry SlotNodes) → Address → ShardNodes
 shard_of es primary = shard_with primary (filter (has_primary primary) es)
 
--- a shard for each primary, by its first entry
+-- a shard for each primary, in order of its first entry
 abbrev pub shards_of : List (RangeEntry SlotNodes) → List ShardNodes
 shards_of es = map (shard_of es) (each_once (map entry_primary es))
 
--- shards, and entries that have the places of the shards as values
+-- shards, and entries whose values are indices of shards
 pub record Topology : Type 0 where
   pub shards : List ShardNodes
   pub ranges : List (RangeEntry ℕ)
 
--- a range with a place
+-- the entry of a range, with the index of its shard
 abbrev pub place_entry : ℕ → ℕ × ℕ → RangeEntry ℕ
 place_entry place range = (range.0, range.1, place)
 
--- the ranges of the shards, in order, with the shards' places, which count from this one
+-- the entries of the ranges of the shards, whose indices count from `place`
 abbrev pub place_entries : ℕ → List ShardNodes → List (RangeEntry ℕ)
 place_entries place [] = []
 place_entries place (s ∷ ss) = map (place_entry place) s.ranges ++ place_entries (suc place) ss
 
--- the ranges of the shards are put in, in order
+-- shards, and the entries after their ranges are inserted in order
 abbrev pub topology_of : List ShardNodes → Topology
 topology_of ss = record { shards = ss; ranges = insert_entries [] (place_entries 0 ss) }
 
--- the shard whose place is the answer for the slot
+-- the shard whose index answers for the slot
 abbrev pub IsShardAt : Topology → ℕ → ShardNodes → Type 0
 IsShardAt t slot shard =
     (place : ℕ) × IsAnswerAt t.ranges slot place × (slice_get t.shards place ≡ Some shard)
 
--- the places that still have a range, each once, by the first of its ranges
+-- the indices of shards that still have an entry, in order of the first entry
 abbrev pub places_left : List (RangeEntry ℕ) → List ℕ
 places_left es = once_by nat_eq (map value_of es)
 
--- the elements at these places
+-- the elements at these indices
 abbrev pub at_places : {X : Type 0} → List X → List ℕ → List X
 at_places xs places = filter_map (slice_get xs) places
 
@@ -73,7 +73,7 @@ at_places xs places = filter_map (slice_get xs) places
 abbrev pub shards_left : Topology → List ShardNodes
 shards_left t = at_places t.shards (places_left t.ranges)
 
--- every number has a shard with a primary exactly where a route to the primary has this node
+-- for each slot number, entries and topology have the same primary, or both have none
 abbrev pub Agrees : List (RangeEntry SlotNodes) → Topology → Type 0
 Agrees es t =
     (slot : ℕ) (address : Address)

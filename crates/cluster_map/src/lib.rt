@@ -1,8 +1,8 @@
-//! Addresses of nodes, slots of keys, the map from slots to nodes, the reply that tells it, and
-//! where reads go.
+//! Addresses of nodes, slots of keys, the map from slots to nodes, its `CLUSTER SLOTS` reply, and
+//! read routing.
 #![tactic(auto)]
 
-/// Strategies that say where reads go, and what they are told.
+/// Strategies that choose the nodes of reads, and what they choose from.
 pub mod read_routing;
 /// The map from slots to nodes.
 pub mod slot_map;

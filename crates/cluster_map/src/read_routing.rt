@@ -17,7 +17,7 @@ pub use replicas::Replicas;
 pub use shard::Shard;
 pub use shards::Shards;
 
-/// Where reads go that need not go to the primary.
+/// Chooses the node of reads that need not go to the primary.
 ///
 /// ```
 /// fn route_read<'a>(&self, candidates: &ReadCandidates<'a>) -> &'a NodeAddress {
@@ -31,31 +31,31 @@ pub trait ReadRoutingStrategy: Drop {
     /// The addresses that a read of these candidates may go to.
     ghost picks: { Self → Candidates → Address → Type 0 };
 
-    /// Tells the strategy of the cluster's shards. Whoever owns the strategy calls it, each time
-    /// that the map is made anew.
+    /// Passes the cluster's shards to the strategy. The owner of the strategy calls this for each
+    /// new map.
     fn on_topology_changed(&mut self, topology: ClusterTopology) {
         let _ = topology;
     }
 
-    /// The node that a read goes to. It is asked only where there are replicas.
+    /// The node that a read goes to. Called only if the slot has replicas.
     fn route_read<'a>(&self, candidates: &ReadCandidates<'a>) -> &'a NodeAddress
         ensures picked { picks self.now (candidates_of candidates.now) result.now }
         ensures candidate { IsCandidate (candidates_of candidates.now) result.now };
 
-    /// It is one of the candidates.
+    /// A strategy picks only candidates.
     ghost picks_candidates: { (s : Self) (c : Candidates) (address : Address) → picks s c address
         → IsCandidate c address };
 }
 
-/// What makes strategies.
+/// Makes strategies.
 pub trait ReadRoutingStrategyFactory {
-    /// What is made.
+    /// The type of the strategies.
     type Strategy: ReadRoutingStrategy;
 
-    /// The strategies that it may make: any, where an implementation does not say it.
+    /// The strategies that the factory may make; any, by default.
     ghost creates: { Self → Self.Strategy → Type 0 } = { λ factory strategy. Unit {0} };
 
-    /// A strategy, as one is made for each connection to a cluster.
+    /// A new strategy, one for each connection to a cluster.
     fn create_strategy(&self) -> Self::Strategy
         ensures made { creates self.now result };
 }

@@ -101,9 +101,9 @@ impl SlotAddrs {
 
     /// The node for a route to the slot.
     ///
-    /// A route to the primary has the primary, and so has each route where there is no replica.
-    /// Otherwise the strategy picks, if one is lent; without a strategy a read goes to the primary,
-    /// or where a replica is required, to the one at `pick` modulo their number.
+    /// A route to the primary goes to the primary, and so does each route if there is no replica.
+    /// Otherwise the strategy picks, if one is passed. Without a strategy a read goes to the
+    /// primary, or, if a replica is required, to the replica at `pick` modulo their number.
     pub fn slot_addr(
         &self,
         slot: u16,
@@ -169,7 +169,7 @@ impl Model for SlotMap {
 }
 
 impl SlotMap {
-    /// A map of no range. Takes no memory.
+    /// An empty map. Takes no memory.
     pub fn new(alloc: Global) -> Self
         ensures { result ≡ [] }
     {
@@ -185,12 +185,11 @@ impl SlotMap {
         SlotMap::new(alloc)
     }
 
-    /// Puts the ranges in, one after the other: each takes the place of an earlier one that has the
-    /// same end.
+    /// Inserts the ranges in order. Each replaces an earlier one with the same end.
     ///
     /// # Errors
     ///
-    /// If memory runs out, the map stays as it was: memory is asked for all ranges at once.
+    /// If memory runs out, the map stays as it was.
     pub fn fill_slots(&mut self, slots: Vec<SlotRange>) -> Result<(), AllocError>
         ensures put { OnOk result (self.new ≡ insert_ranges self.old slots.items) }
         ensures before { OnErr result ((count : ℕ) × (count < length slots.items)
@@ -203,8 +202,8 @@ impl SlotMap {
         self.slots.extend(range_entries(slots)?)
     }
 
-    /// The map of these ranges, put in one after the other: a later range takes the place of an
-    /// earlier one that has the same end.
+    /// The map of these ranges, inserted in order. A later range replaces an earlier one with the
+    /// same end.
     ///
     /// # Errors
     ///
@@ -212,11 +211,11 @@ impl SlotMap {
     #[tactic(auto, using(crate::proofs::Disjoint::any_order))]
     pub fn from_slots(alloc: Global, slots: Vec<SlotRange>) -> Result<Self, AllocError>
         ensures put { IfOk result (λ map. map ≡ insert_ranges [] slots.items) }
-        // Where no two of the ranges meet and none is reversed, each has its entry,
+        // If no two of the ranges overlap and none is reversed, each has its entry.
         ensures kept { AreDisjoint (map range_entry slots.items)
             → IfOk result (λ m. (e : RangeEntry SlotNodes)
             → Contains m e ↔ Contains (map range_entry slots.items) e) }
-        // and their order does not count.
+        // Then their order does not matter.
         ensures any_order { (others : List RangeNodes) → IsPermutation slots.items others
             → AreDisjoint (map range_entry slots.items)
             → IfOk result (λ m. m ≡ insert_ranges [] others) }
@@ -226,14 +225,14 @@ impl SlotMap {
         Ok(map)
     }
 
-    /// The map that a reply to `CLUSTER SLOTS` tells of: that of the ranges of `parse_slots`.
+    /// The map of a reply to `CLUSTER SLOTS`, with the ranges that `parse_slots` reads.
     ///
     /// # Errors
     ///
     /// Kind `OutOfMemory` if memory runs out.
     pub fn from_reply(alloc: Global, reply: &Value, answering: &str) -> RedisResult<Self>
         ensures entries { IfOk result (λ map. map ≡ entries_in answering.now (view reply.now)) }
-        // So what a route then finds is what the reply says.
+        // So a route finds the node that the reply says.
         ensures node { IfOk result (λ map. (route : SlotRoute) (pick : ℕ) (found : Option Address)
             → IsFound map route pick found
             → IsFoundByReply answering.now (view reply.now) route pick found) }
@@ -243,7 +242,8 @@ impl SlotMap {
         Ok(SlotMap::from_slots(alloc, slots)?)
     }
 
-    /// The node for a route, where a range holds for its slot: that of `SlotAddrs::slot_addr`.
+    /// The node for a route, as `SlotAddrs::slot_addr` chooses it. `None` if no range covers its
+    /// slot.
     pub fn slot_addr_for_route(
         &self,
         route: Route,
@@ -253,7 +253,7 @@ impl SlotMap {
         ensures node { MatchOption result (IsUncovered self.now route.slot)
             (λ address. IsRouteNode strategy.entry (λ s. picks s.now)
             self.now pick route address.now) }
-        // In the map of a reply it is the node that the reply says.
+        // In the map of a reply, the node is the one that the reply says.
         ensures reply { (answering : List ℕ) (reply : Reply) → self.now ≡ entries_in answering reply
             → MatchOption result (IsUncovered (entries_in answering reply) route.slot)
             (λ address. IsRouteNode strategy.entry (λ s. picks s.now)
@@ -265,8 +265,8 @@ impl SlotMap {
         Some(addrs.slot_addr(route.slot(), route.slot_addr(), strategy, pick))
     }
 
-    /// The node of each route, in order, or `None` where no range holds for its slot. The strategy
-    /// is asked in this order, and `pick` is the same for all.
+    /// The node of each route, in order, or `None` if no range covers its slot. The strategy is
+    /// asked in this order, and `pick` is the same for all.
     ///
     /// # Errors
     ///
@@ -291,9 +291,9 @@ impl SlotMap {
         Ok(found)
     }
 
-    /// The nodes that a read may go to where the one of its route fails: the replicas, and after
-    /// them the primary where no replica is required. There is none for a primary's route, nor
-    /// where no range holds for the slot.
+    /// The nodes to try if the node of a read's route fails: the replicas, and then the primary
+    /// unless a replica is required. Empty for a route to the primary, or if no range covers the
+    /// slot.
     ///
     /// # Errors
     ///
@@ -312,7 +312,7 @@ impl SlotMap {
         }
     }
 
-    /// Takes all ranges out.
+    /// Removes all ranges.
     pub fn clear(&mut self)
         ensures empty { self.new ≡ [] }
     {
@@ -327,7 +327,7 @@ impl SlotMap {
         self.slots.values()
     }
 
-    /// Each primary once, by its first range.
+    /// Each primary once, in order of its first range.
     ///
     /// # Errors
     ///
@@ -348,7 +348,7 @@ impl SlotMap {
         seen.into_nodes()
     }
 
-    /// Each node once, by its first range and, within a range, the primary first.
+    /// Each node once, in order of its first range. Within a range the primary comes first.
     ///
     /// # Errors
     ///
@@ -366,8 +366,8 @@ impl SlotMap {
         seen.into_nodes()
     }
 
-    /// The shards of this map: for each primary, in order of the end of its first range, all its
-    /// ranges, and the replicas of the first one.
+    /// The shards of this map: one for each primary, in order of its first range. A shard has all
+    /// ranges of its primary, and the replicas of the first range.
     ///
     /// # Errors
     ///
@@ -376,9 +376,9 @@ impl SlotMap {
         ensures shards { IfOk result (λ topology. topology ≡ topology_of (shards_of self.now)) }
         // So its `shards` lists just these.
         ensures listed { IfOk result (λ topology. shards_left topology ≡ shards_of self.now) }
-        // It agrees with the map on every slot.
+        // The topology agrees with the map on every slot.
         ensures agrees { IfOk result (λ topology. Agrees self.now topology) }
-        // Past what a `u16` holds neither has one.
+        // Neither covers a number above 65535.
         ensures past { IfOk result (λ topology. (slot : ℕ) → 2 ^ 16 ≤ slot
             → IsUncovered self.now slot × ((s : ShardNodes) → ¬ (IsShardAt topology slot s))) }
         ensures order { Ascends self.now }

@@ -11,18 +11,19 @@ use std::alloc::{AllocError, Global};
 use std::marker::Model;
 use std::{fmt, slice};
 
-/// Values for ranges of slots, of which each has an end of its own.
+/// Values for ranges of slots with distinct ends.
 ///
-/// The range that ends first at a slot or after it is the one that holds for the slot, if it
-/// starts there or before. So a range that overlaps another, or is reversed, can hide the other.
+/// A slot has the range with the smallest end at or after it, if that range starts at or before the
+/// slot. So a range that overlaps another, or is reversed, can hide the other.
 #[derive(Drop)]
 pub struct SlotRangeMap<V> {
     // (start, end, value), by ascending end
     ranges: Vec<(u16, u16, V)>,
-    // Their ends once more, side by side, so that a search reads few lines of memory. Then, where
-    // there are many, a number for each page of slots: so many ends or more are below its first one.
+    // The ends once more, side by side, so that a search reads few lines of memory. If there are
+    // many, a number follows for each page of slots: at least as many ends are below its first
+    // slot.
     index: Vec<u16>,
-    // A page has two to the power of this slots.
+    // A page has 2 ^ page_bits slots.
     page_bits: u32,
 }
 
@@ -39,7 +40,7 @@ impl<V> Model for SlotRangeMap<V> {
         × IsIndex m.ranges.items m.index.items m.page_bits };
 }
 
-/// Whether there is an end at the place, below this one.
+/// Whether there is an end at index `place`, and it is below `end`.
 fn is_below(ends: &[u16], place: usize, end: u16) -> bool
     requires { IsNonDecreasing ends.now }
     ensures { result ≡ nat_lt place (length (filter (λ e. nat_lt e end) ends.now)) }
@@ -47,7 +48,7 @@ fn is_below(ends: &[u16], place: usize, end: u16) -> bool
     place < ends.len() && ends[place] < end
 }
 
-/// How many of the ends are below this one.
+/// Number of ends below `end`.
 ///
 /// Each step looks at three ends, which cut what is left into four parts, and counts those below. A
 /// branch at each of them would be guessed wrong half of the time.
@@ -72,7 +73,7 @@ fn place_of(ends: &[u16], end: u16) -> usize
 /// How many ends are compared at once.
 const LANES: usize = 16;
 
-/// How many of a few ends are below this one.
+/// Number of ends below `end`, among few ends.
 fn count_below(ends: &[u16], end: u16) -> usize
     ensures { result ≡ length (filter (λ e. nat_lt e end) ends.now) }
 {
@@ -83,8 +84,8 @@ fn count_below(ends: &[u16], end: u16) -> usize
     below
 }
 
-/// How many of the ends are below this one, where it is known that so many are or more. It looks at
-/// `LANES` ends, and tells nothing where all of these are below.
+/// Number of ends below `end`, if at least `known` are. Compares `LANES` ends, and returns `None`
+/// if all of these are below.
 fn place_near(ends: &[u16], known: usize, end: u16) -> Option<usize>
     requires rises { IsNonDecreasing ends.now }
     requires many { 16 ≤ length ends.now }
@@ -102,7 +103,7 @@ fn place_near(ends: &[u16], known: usize, end: u16) -> Option<usize>
     }
 }
 
-/// How many of the ends in an index of so many ranges are below this one.
+/// Number of ends below `end`, in an index of `count` ranges.
 fn place_in(index: &[u16], count: usize, page_bits: u32, end: u16) -> usize
     requires long { count ≤ length index.now }
     requires bits { page_bits < 16 }
@@ -119,8 +120,8 @@ fn place_in(index: &[u16], count: usize, page_bits: u32, end: u16) -> usize
     }
 }
 
-/// How many of these ends, of which there are `LANES` or more, are below this one, by the number of
-/// its page. Never inline, so that a look-up among fewer can be.
+/// Number of ends below `end`, among `LANES` or more, by the number of its page. Never inline, so
+/// that a look-up among fewer can be.
 #[inline(never)]
 fn place_by_pages(ends: &[u16], pages: &[u16], page_bits: u32, end: u16) -> usize
     requires rises { IsNonDecreasing ends.now }
@@ -140,7 +141,7 @@ fn place_by_pages(ends: &[u16], pages: &[u16], page_bits: u32, end: u16) -> usiz
     }
 }
 
-/// Whether there is a range at the place that has this end.
+/// Whether there is a range at index `place`, and it has this end.
 fn ends_at<V>(ranges: &[(u16, u16, V)], place: usize, end: u16) -> bool
     ensures { result ≡ ends_at end (slice_get ranges.now place) }
 {
@@ -151,7 +152,7 @@ fn ends_at<V>(ranges: &[(u16, u16, V)], place: usize, end: u16) -> bool
 }
 
 impl<V> SlotRangeMap<V> {
-    /// A map of no range. Takes no memory.
+    /// An empty map. Takes no memory.
     pub fn new(alloc: Global) -> Self
         ensures { result ≡ [] }
     {
@@ -169,9 +170,8 @@ impl<V> SlotRangeMap<V> {
         SlotRangeMap::new(alloc)
     }
 
-    /// Puts in a range, both ends included, in place of the one with the same end. It is found in
-    /// O(log n), and a range that is new moves those that end after it. So n ranges put in one by
-    /// one take O(n) where they ascend and O(n²) where they descend: `extend` is for many.
+    /// Inserts a range, both ends included, and replaces the one with the same end. Its index is
+    /// found in O(log n), and a new range moves all that end after it. Use `extend` for many.
     ///
     /// # Errors
     ///
@@ -193,13 +193,13 @@ impl<V> SlotRangeMap<V> {
         Ok(())
     }
 
-    /// The value of the range that holds for the slot. O(log n), and for a slot of a key in a map
-    /// that `extend` filled mostly a look at 16 ends.
+    /// The value of the range that covers the slot. O(log n). In a map that `extend` filled, the
+    /// slot of a key mostly takes one look at 16 ends.
     pub fn get(&self, slot: u16) -> Option<&V>
         ensures least { MatchOption result (IsUncovered self.now slot) (λ value. IsAnswerAt self.now
             slot value.now) }
-        // Where no two ranges meet and none is reversed, it is the value of the one that contains
-        // the slot.
+        // If no two ranges overlap and none is reversed, this is the value of the range that
+        // contains the slot.
         ensures disjoint { AreDisjoint self.now
             → MatchOption result (IsHeldByNone self.now slot) (λ value. IsHeldWith self.now slot
             value.now) }
@@ -237,7 +237,7 @@ impl<V> SlotRangeMap<V> {
         Values { ranges }
     }
 
-    /// Takes all ranges out.
+    /// Removes all ranges.
     pub fn clear(&mut self)
     where
         V: Drop,
@@ -249,8 +249,8 @@ impl<V> SlotRangeMap<V> {
 }
 
 impl<V: Drop> SlotRangeMap<V> {
-    /// Puts ranges in, one after the other: each takes the place of an earlier one that has the
-    /// same end. O(n log n) in all ranges, and O(n) where they ascend by end.
+    /// Inserts ranges in order. Each replaces an earlier one with the same end. O(n log n) in all
+    /// ranges, and O(n) if they ascend by end.
     ///
     /// # Errors
     ///
@@ -281,8 +281,8 @@ impl<V: Drop> SlotRangeMap<V> {
     }
 }
 
-/// Sorts the ranges by ascending end, keeps the last of those that have one end, and writes their
-/// index in place of the one that is there. Gives how many bits of a slot its page leaves out.
+/// Sorts the ranges by ascending end, keeps the last of those with the same end, and rewrites the
+/// index. Returns the bits of a page.
 fn put_in_order<V: Drop>(
     ranges: &mut Vec<(u16, u16, V)>,
     index: &mut Vec<u16>,
@@ -294,18 +294,18 @@ fn put_in_order<V: Drop>(
 {
     let page_bits = page_bits_for(ranges.len());
     let pages = PAGED_SLOTS >> page_bits;
-    // Once the ranges are sorted, nothing may be refused.
+    // Once the ranges are sorted, no allocation may fail.
     index.reserve((ranges.len() + pages).saturating_sub(index.len()))?;
     sort_by_end(ranges)?;
     write_index(ranges.as_slice(), pages, page_bits, index)?;
     Ok(page_bits)
 }
 
-/// How many slots pages are for: all that keys have.
+/// Number of slots that pages are for: all that keys have.
 const PAGED_SLOTS: usize = 16384;
 
-/// How many bits of a slot its page leaves out, for so many ranges: a page for four of them, and no
-/// more than 1024. For up to 16 ranges there is no page.
+/// The bits of a page, for `count` ranges: two to four ranges a page, and at most 1024 pages. Up to
+/// 16 ranges have no page.
 fn page_bits_for(count: usize) -> u32
     ensures { result < 16 }
 {
@@ -315,7 +315,7 @@ fn page_bits_for(count: usize) -> u32
     15u32.saturating_sub(count.ilog2()).max(4)
 }
 
-/// Writes the index of the ranges, with so many pages, in place of the one that is there.
+/// Writes the index of the ranges, with `pages` pages, over the old one.
 fn write_index<V>(
     ranges: &[(u16, u16, V)],
     pages: usize,
@@ -336,8 +336,8 @@ fn write_index<V>(
     Ok(())
 }
 
-/// Writes the ends of the ranges, and to the page after that of an end how many ends there are up
-/// to it. A number that loses its top bit only makes a look-up longer.
+/// Writes the ends of the ranges. The page after the page of an end gets the number of ends up to
+/// it. A number that loses its top bit only makes a look-up longer.
 fn note_ends<V>(ranges: &[(u16, u16, V)], page_bits: u32, ends: &mut [u16], numbers: &mut [u16])
     requires bits { page_bits < 16 }
     requires ascends { Ascends ranges.now }
@@ -356,7 +356,7 @@ fn note_ends<V>(ranges: &[(u16, u16, V)], page_bits: u32, ends: &mut [u16], numb
     }
 }
 
-/// Raises each number to the greatest before it: what is below a page is below those after it.
+/// Raises each number to the greatest before it: what is below a page is below later pages.
 fn raise_to_earlier(numbers: &mut [u16])
     ensures { (bits : ℕ) (ends : List ℕ) → ArePages bits numbers.old ends
         → ArePages bits numbers.new ends }
@@ -368,7 +368,7 @@ fn raise_to_earlier(numbers: &mut [u16])
     }
 }
 
-/// Sorts the ranges by ascending end, and keeps the last of those that have one end.
+/// Sorts the ranges by ascending end, and keeps the last of those with the same end.
 fn sort_by_end<V: Drop>(ranges: &mut Vec<(u16, u16, V)>) -> Result<(), AllocError>
     ensures put { OnOk result (ranges.new.items ≡ insert_entries [] ranges.old.items) }
     ensures unchanged { OnErr result (ranges.new.items ≡ ranges.old.items) }
@@ -376,7 +376,7 @@ fn sort_by_end<V: Drop>(ranges: &mut Vec<(u16, u16, V)>) -> Result<(), AllocErro
     if ranges.is_sorted_by(|range, next| range.1 < next.1) {
         return Ok(());
     }
-    // `dedup_by_key` keeps the first of equal ends, so the last is to come first.
+    // `dedup_by_key` keeps the first of equal ends, so the last has to come first.
     ranges.reverse();
     if let Err(error) = ranges.sort_by_key(|range| range.1) {
         ranges.reverse();
@@ -392,7 +392,7 @@ impl<V: Clone> Clone for SlotRangeMap<V> {
 
     fn clone(&self) -> Result<Self, AllocError>
         ensures entries { IfOk result (AllZip (IsEntryClone V.is_clone) self.now) }
-        // Where clones of values equal them, so do clones of maps.
+        // If clones of values are equal to them, so are clones of maps.
         ensures same { IfOk result
             (λ copy. ((v w : V) → V.is_clone v w → w ≡ v) → copy ≡ self.now) }
     {

@@ -1,4 +1,4 @@
-//! What a node answers to `CLUSTER SLOTS`: which nodes serve which slots.
+//! The reply to `CLUSTER SLOTS`: which nodes serve which slots.
 ghost use Rattle.std.specs.Prelude.{◌≡◌, ◌∷◌, [], IfOk, IfErr, Some, codes, filter_map, map, option_copied, option_map};
 ghost use Rattle.std.specs.Cow.{cow_str_bytes};
 ghost use Rattle.resp_core.specs.ErrorParts.{out_of_memory};
@@ -26,12 +26,12 @@ pub fn slot_cmd(alloc: Global) -> RedisResult<Cmd>
     Ok(cmd)
 }
 
-/// The ranges that a reply to `CLUSTER SLOTS` tells of, in its order. `answering` is the host of
-/// the node that it came from, and stands for a host that is nil, empty, `0.0.0.0` or `::`.
+/// The ranges of a reply to `CLUSTER SLOTS`, in its order. `answering` is the host of the node that
+/// replied, and replaces a host that is nil, empty, `0.0.0.0` or `::`.
 ///
-/// A node is left out if it has no host or port, or if its host is `?` or still empty. A range is
-/// left out if no node is left or an end does not fit in a `u16`, and so are all items from the
-/// first on that is not an array. So no reply is refused.
+/// A node is dropped if it has no host or port, or if its host is `?` or still empty. A range is
+/// dropped if no node is left or an end does not fit in a `u16`. Reading ends at the first item
+/// that is not an array. So no reply is refused.
 ///
 /// # Errors
 ///
@@ -135,7 +135,7 @@ fn read_node(
     }
 }
 
-/// The text of a host. No memory is taken for one that is UTF-8.
+/// The text of a host. Takes no memory if it is UTF-8.
 fn read_host(alloc: Global, host: &Value) -> Result<Option<CowStr<'_, Global>>, AllocError>
     ensures { IfOk result (λ text. option_map cow_str_bytes text ≡ host_text (view host.now)) }
 {
@@ -146,7 +146,7 @@ fn read_host(alloc: Global, host: &Value) -> Result<Option<CowStr<'_, Global>>, 
     }
 }
 
-/// The host that a text stands for, where it can be used.
+/// The host that a text stands for, if it can be used.
 fn usable_host<'a>(text: &'a str, answering: &'a str) -> Option<&'a str>
     ensures { option_copied result ≡ host_for answering.now text.now }
 {

@@ -8,7 +8,7 @@ use Rattle.cluster_map.specs.Shards.{ShardNodes}
 abbrev pub primary_of : ShardNodes → Address
 primary_of s = s.primary
 
--- each place is below a number
+-- each entry's index is below n
 abbrev pub AllPlaces : ℕ → List (RangeEntry ℕ) → Type 0
 AllPlaces n [] = Unit {0}
 AllPlaces n (e ∷ es) = (value_of e < n) × AllPlaces n es

@@ -3,7 +3,7 @@ ghost use Rattle.std.specs.Prelude.{◌≡◌, Some, None};
 use crate::read_routing::replicas::Replicas;
 use cluster_slots::NodeAddress;
 
-/// The nodes that a read may go to where the primary is one of them.
+/// The nodes that a read may go to, the primary among them.
 #[derive(Clone, Copy, Debug)]
 pub struct AnyNodeCandidates<'a> {
     slot: u16,
@@ -36,7 +36,7 @@ impl<'a> AnyNodeCandidates<'a> {
     }
 }
 
-/// The nodes that a read may go to where only replicas are asked for.
+/// The nodes that a read may go to, if it must go to a replica.
 #[derive(Clone, Copy, Debug)]
 pub struct ReplicasOnlyCandidates<'a> {
     slot: u16,
@@ -66,7 +66,7 @@ impl<'a> ReplicasOnlyCandidates<'a> {
 pub enum ReadCandidates<'a> {
     /// The primary and its replicas.
     AnyNode(AnyNodeCandidates<'a>),
-    /// The replicas alone.
+    /// The replicas only.
     ReplicasOnly(ReplicasOnlyCandidates<'a>),
 }
 

@@ -14,9 +14,9 @@ use std::marker::Model;
 #[derive(Debug, Drop)]
 pub struct ClusterTopology {
     shards: Vec<Shard>,
-    // the place of each range's shard
+    // the index of each range's shard
     ranges: SlotRangeMap<usize>,
-    // the places that have a range, by the first of their ranges
+    // the indices of shards that have a range, in order of the first range
     order: Vec<usize>,
 }
 
@@ -35,8 +35,8 @@ impl Model for ClusterTopology {
 }
 
 impl ClusterTopology {
-    /// The topology of these shards. Their ranges are put in, one after the other: a range takes
-    /// the place of an earlier one that has the same end.
+    /// The topology of these shards. Their ranges are inserted in order, and a range replaces an
+    /// earlier one with the same end.
     ///
     /// # Errors
     ///
@@ -59,7 +59,7 @@ impl ClusterTopology {
         })
     }
 
-    /// The shard that serves the slot, where a range holds for it. O(log n).
+    /// The shard that serves the slot, if a range covers it. O(log n).
     #[inline]
     pub fn shard_for_slot(&self, slot: u16) -> Option<&Shard>
         ensures shard { MatchOption result (IsUncovered self.now.ranges slot)
@@ -70,7 +70,7 @@ impl ClusterTopology {
         Some(&self.shards[*place])
     }
 
-    /// The shards that still have a range, each once, by the first of its ranges in order of end.
+    /// The shards that still have a range, in order of the end of the first range.
     pub fn shards(&self) -> Shards<'_>
         ensures all { shards_to_give result ≡ shards_left self.now }
     {
@@ -105,7 +105,7 @@ fn copy_places(places: &Vec<usize>) -> Result<Vec<usize>, AllocError>
     places.clone()
 }
 
-/// How many ranges the shards have. No contract: it only makes room.
+/// Number of ranges of the shards. It has no contract, since it only makes room.
 fn range_count(shards: &[Shard]) -> usize {
     let mut count = 0_usize;
     for shard in shards {
@@ -114,7 +114,7 @@ fn range_count(shards: &[Shard]) -> usize {
     count
 }
 
-/// Adds the ranges of the shard at a place, each with that place.
+/// Adds the ranges of a shard, each with the index of the shard.
 fn push_ranges(
     entries: &mut Vec<(u16, u16, usize)>,
     shard_ranges: &[(u16, u16)],
@@ -129,7 +129,7 @@ fn push_ranges(
     Ok(())
 }
 
-/// Each place once, by its first range. Each is below `count`.
+/// The indices of shards that have a range, in order of the first range. Each is below `count`.
 fn first_places(
     alloc: Global,
     count: usize,

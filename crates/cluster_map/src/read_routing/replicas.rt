@@ -4,7 +4,7 @@ ghost use Rattle.std.specs.Slice.Iter.{iter_rest};
 use cluster_slots::NodeAddress;
 use std::slice;
 
-/// The replicas of a slot, of which there is at least one.
+/// The replicas of a slot, at least one.
 #[derive(Clone, Copy, Debug)]
 pub struct Replicas<'a> {
     nodes: &'a [NodeAddress],
@@ -14,7 +14,7 @@ pub struct Replicas<'a> {
 impl<'a> Replicas<'a> {
     ghost use Rattle.cluster_map.specs.ReadCandidates.{addresses_of};
 
-    /// These replicas, unless there is none.
+    /// These replicas. `None` if there are none.
     pub fn new(nodes: &'a [NodeAddress]) -> Option<Self>
         ensures none { IsNone result ↔ (length nodes.now ≡ 0) }
         ensures some { IfSome result (λ replicas. addresses_of replicas ≡ nodes.now) }
@@ -30,7 +30,7 @@ impl<'a> Replicas<'a> {
     pub fn len(&self) -> usize
         ensures value { result ≡ length (addresses_of self.now) }
         ensures some { 0 < result }
-        // So the nodes of a slot, the primary among them, can be counted too.
+        // So the count fits in a `usize` with the primary, too.
         ensures below { result < 2 ^ 63 }
     {
         self.nodes.len()
@@ -50,7 +50,7 @@ impl<'a> Replicas<'a> {
         self.nodes.get(index)
     }
 
-    /// The replica at `pick` modulo their number, for a `pick` that the caller draws.
+    /// The replica at `pick` modulo their number. The caller draws `pick`.
     pub fn choose_random(&self, pick: usize) -> &'a NodeAddress
         ensures { slice_get (addresses_of self.now) (pick % length (addresses_of self.now))
             ≡ Some result.now }

@@ -49,7 +49,7 @@ impl<'a> IntoIterator for &'a SlotAddrs {
     }
 }
 
-/// Puts in the nodes of a range.
+/// Inserts the nodes of a range.
 pub(crate) fn insert_all<'a>(
     seen: &mut NodeSet<'a, '_>,
     addrs: &'a SlotAddrs,

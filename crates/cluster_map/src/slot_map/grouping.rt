@@ -30,7 +30,7 @@ pub(crate) fn shards_of(
 }
 
 /// Adds a range to the shard with its primary, or makes that shard. The primaries of the shards are
-/// in the set, each at the place of its shard.
+/// in the set, each at the index of its shard.
 fn add_range<'a>(
     alloc: Global,
     seen: &mut NodeSet<'a, '_>,

@@ -22,7 +22,7 @@ const MOST_MISSES: usize = 16;
 /// compare, and this bounds their number.
 const MOST_HASHED: usize = 32768;
 
-/// The most nodes that room is made for, since many ranges often have few nodes.
+/// The most nodes that room is made for. Many ranges often have few nodes.
 const MOST_ROOM: usize = 2048;
 
 /// Addresses of nodes, each once, in order of first appearance.
@@ -66,7 +66,7 @@ impl<'a, 'c> NodeSet<'a, 'c> {
         })
     }
 
-    /// Puts a node in, unless it is there, and returns its index and whether it is new.
+    /// Inserts a node unless it is there. Returns its index and whether it is new.
     #[tactic(auto, using(crate::proofs::NodeSets::nodes_counted, crate::proofs::NodeSets::index_counted, crate::proofs::NodeSets::new_counted))]
     pub(crate) fn insert_full(&mut self, node: &'a NodeAddress) -> Result<(usize, bool), AllocError>
         ensures nodes { OnOk result (self.new ≡ (if list_any (same_address node.now) self.old

@@ -50,7 +50,7 @@ impl<'a> OrderedNodes<'a> {
         Ok(ordered)
     }
 
-    /// Puts a node in, unless it is there, and returns its index and whether it is new.
+    /// Inserts a node unless it is there. Returns its index and whether it is new.
     pub(crate) fn insert_full(&mut self, node: &'a NodeAddress) -> Result<(usize, bool), AllocError>
         ensures nodes { OnOk result (self.new ≡ (if list_any (same_address node.now) self.old
             then self.old else self.old ++ node.now ∷ [])) }
