@@ -6,7 +6,7 @@ use Rattle.redis_routing.specs.Lists.{all_some}
 use Rattle.redis_routing.specs.declared.policy.AggregateOp.{AggregateOp}
 use Rattle.redis_routing.specs.declared.policy.AggregateOp.TheVariants.{Min, Sum}
 
--- the numbers of the replies, if each is one
+-- the numbers of the replies, if each reply is a number
 abbrev pub numbers : List Reply → Option (List ℤ)
 numbers replies = all_some (map int_of replies)
 
@@ -26,7 +26,7 @@ in_i64 n = if fits_i64 n then Some n else None
 abbrev pub sum_of : List Reply → Option ℤ
 sum_of rs = option_and_then (λ ns. in_i64 (total ns)) (numbers rs)
 
--- the least number, if each reply is one; of none it is the greatest i64
+-- the least number, if each reply is a number; the greatest i64 for no replies
 abbrev pub least_of : List Reply → Option ℤ
 least_of rs = option_map (λ ns. fold int_min (pos (2 ^ 63 - 1)) ns) (numbers rs)
 

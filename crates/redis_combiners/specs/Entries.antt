@@ -9,11 +9,11 @@ use Rattle.redis_combiners.specs.Totals.{total_at}
 abbrev pub plain_pairs : List (Vec ℕ Global × ℤ) → List KeyNumber
 plain_pairs entries = map (λ entry. (entry.0.items, entry.1)) entries
 
--- their keys, one beside the other
+-- the keys of the pairs
 abbrev pub keys_among : List (Vec ℕ Global × ℤ) → List (List ℕ)
 keys_among entries = map (λ pair. pair.0) (plain_pairs entries)
 
--- the total of the entries that have the key, if one has it
+-- the total of the key, if an entry has it
 abbrev pub total_among : List (Vec ℕ Global × ℤ) → List ℕ → Option ℤ
 total_among entries key = total_at key (plain_pairs entries)
 
@@ -22,17 +22,17 @@ abbrev pub entry_has : List ℕ → Option (Vec ℕ Global × ℤ) → Bool
 entry_has key None = false
 entry_has key (Some entry) = bytes_eq entry.0.items key
 
--- whether the entry at a place has the key
+-- whether the entry at an index has the key
 abbrev pub has_key_at : List (Vec ℕ Global × ℤ) → ℕ → List ℕ → Bool
 has_key_at entries place key = entry_has key (slice_get entries place)
 
--- the total of two parts, each of which may have none
+-- the sum of two totals, each of which may be missing
 abbrev pub sum_of_totals : Option ℤ → Option ℤ → Option ℤ
 sum_of_totals None o = o
 sum_of_totals (Some a) None = Some a
 sum_of_totals (Some a) (Some b) = Some (a +ℤ b)
 
--- how many pairs there are and the total of the key, once pairs are added, if there are pairs to add
+-- the number of pairs and the total of the key, after pairs are added, if there are pairs to add
 abbrev pub with_pairs : ℕ → Option ℤ → List ℕ → Option (List KeyNumber) → Option (ℕ × Option ℤ)
 with_pairs count so_far key added =
     option_map (λ pairs. (count + length pairs, sum_of_totals so_far (total_at key pairs))) added

@@ -8,8 +8,8 @@ use Rattle.redis_routing.specs.Lists.{all_some, flatten}
 abbrev pub KeyNumber : Type 0
 KeyNumber = List ℕ × ℤ
 
--- the items two by two: a key and its number, if they are a bulk string and a number; a last item
--- alone is not a pair
+-- the items two by two: a key and its number, if they are a bulk string and an integer; a last item
+-- alone is no pair
 abbrev pub pairs_in_turn : List Reply → List (Option KeyNumber)
 pairs_in_turn [] = []
 pairs_in_turn (key ∷ []) = None ∷ []
@@ -20,8 +20,7 @@ pairs_in_turn (key ∷ (number ∷ items)) =
 abbrev pub pairs_among : List Reply → Option (List KeyNumber)
 pairs_among items = all_some (pairs_in_turn items)
 
--- the pairs of all replies, one reply after the other, if each is an array of keys and numbers in
--- turn
+-- the pairs of all replies, in order, if each reply is an array of keys and numbers in turn
 abbrev pub all_pairs : List Reply → Option (List KeyNumber)
 all_pairs replies =
     option_map flatten

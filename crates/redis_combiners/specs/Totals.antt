@@ -31,8 +31,7 @@ ascending_keys all = keys (from_entries {R = slice_cmp nat_cmp} all)
 abbrev pub totals : List KeyNumber → List KeyNumber
 totals all = map (λ key. (key, total_of key all)) (ascending_keys all)
 
--- how totals are listed: by strictly ascending bytes of their keys, which are the keys that occur,
--- each beside its total
+-- a listing of totals: each key that occurs, by strictly ascending bytes, beside its total
 pub record IsListing (all sums : List KeyNumber) : Type 0 where
   pub ascending : IsStrictlySortedBy (slice_cmp nat_cmp) (map (λ sum. sum.0) sums)
   pub occurs : (key : List ℕ) → list_any (has_key key) sums ≡ list_any (has_key key) all

@@ -9,7 +9,7 @@ ghost use Rattle.redis_combiners.specs.Spots.{spots_of, filled};
 use resp_core::Value;
 use std::alloc::{AllocError, Global};
 
-/// So many values that later ones take the place of.
+/// `count` values, which later ones replace.
 fn nils(alloc: Global, count: usize) -> Result<Vec<Value>, AllocError>
     ensures { IfOk result (λ v. map view v.items ≡ replicate count nil) }
 {
@@ -20,7 +20,7 @@ fn nils(alloc: Global, count: usize) -> Result<Vec<Value>, AllocError>
     Ok(values)
 }
 
-/// Puts each item at its place, if this is one of the places and not taken yet.
+/// Puts each item at its index. `false` if an index is too large or taken.
 fn put_all(
     taken: &mut [bool],
     sorted: &mut [Value],
@@ -46,7 +46,7 @@ fn put_all(
     true
 }
 
-/// Whether all places are taken.
+/// Whether all indices are taken.
 fn all_taken(taken: &[bool]) -> bool
     ensures { result ≡ list_all (λ bit. bit) taken.now }
 {
@@ -58,8 +58,8 @@ fn all_taken(taken: &[bool]) -> bool
     true
 }
 
-/// The items of all replies in the order of their places, if these are the numbers from 0 on, each
-/// once. Each item goes straight to its place.
+/// The items of all replies in the order of their indices, if these are the numbers from 0 on, each
+/// once. Each item goes straight to its index.
 pub(super) fn arrange(
     alloc: Global,
     mut values: Vec<Value>,

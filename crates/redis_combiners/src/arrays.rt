@@ -12,7 +12,7 @@ use std::alloc::{AllocError, Global};
 ///
 /// # Errors
 ///
-/// `UnexpectedReturnType` where a reply is not an array, or out of memory.
+/// `UnexpectedReturnType` if a reply is not an array. `OutOfMemory` if memory runs out.
 pub fn combine_array_results(alloc: Global, values: Vec<Value>) -> RedisResult<Value>
     ensures { MatchResult result
         (λ value. option_map (λ items. array (replies_of items)) (all_items (map view values.items))

@@ -4,7 +4,7 @@ ghost use Rattle.redis_combiners.specs.Misfits.{first_misfit};
 
 use resp_core::{ErrorKind, RedisError, RedisResult, Value};
 
-/// Sees that each reply is an array of as many items as its count says.
+/// Checks that each reply is an array with as many items as its count.
 pub(super) fn check_fit(values: &[Value], counts: &[usize]) -> RedisResult<()>
     requires { length values.now ≡ length counts.now }
     ensures { MatchResult result

@@ -1,4 +1,4 @@
-//! How the replies of several nodes make one.
+//! Combines the replies of several nodes into one.
 #![tactic(auto)]
 
 mod arrange;

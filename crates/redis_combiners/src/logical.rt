@@ -9,15 +9,15 @@ use redis_routing::LogicalAggregateOp;
 use resp_core::{ErrorKind, RedisError, RedisResult, Value};
 use std::alloc::Global;
 
-/// One array of 0 and 1 for replies that are such arrays, all of one length. With `And` a place has
-/// 1 exactly where all replies have 1 there, as a script of `SCRIPT EXISTS` is there where each
-/// primary has it; with `Or` exactly where some reply has 1 there. No replies make an empty array.
-/// The order of the replies does not matter. It takes no memory.
+/// Combines replies that are arrays of 0 and 1, all of one length. With `And`, an element is 1 if
+/// all replies have 1 there; with `Or`, if one has. So `SCRIPT EXISTS` reports the scripts that
+/// each primary has. No replies make an empty array. The order of the replies does not matter.
+/// Takes no memory.
 ///
 /// # Errors
 ///
-/// `UnexpectedReturnType` where a reply is not an array of 0 and 1, or its length is not that of
-/// the first.
+/// `UnexpectedReturnType` if a reply is not an array of 0 and 1, or has another length than the
+/// first.
 #[tactic(auto, using(crate::proofs::BitOrders::any_order))]
 pub fn logical_aggregate(
     alloc: Global,
@@ -42,8 +42,8 @@ pub fn logical_aggregate(
     }
 }
 
-/// The items of the one array, if the replies are of 0 and 1 and of one length. They are the first
-/// reply's own, so that nothing is asked of the allocator.
+/// The combined items, if all replies are of 0 and 1 and of one length. The first reply's items are
+/// reused, so this takes no memory.
 fn items(alloc: Global, values: Vec<Value>, op: LogicalAggregateOp) -> Option<Vec<Value>>
     ensures { option_map (λ v. map view v.items) result
         ≡ logical_items op (map view values.items) }
@@ -84,7 +84,7 @@ fn are_bits(items: &[Value]) -> bool
     true
 }
 
-/// Changes each item of the row to what it and the other item make, if all are 0 or 1.
+/// Combines each item of the row with the other item, if all are 0 or 1.
 fn join(row: &mut [Value], items: &[Value], op: LogicalAggregateOp) -> bool
     requires { length row.old ≡ length items.now }
     ensures bits { result ≡ is_some (joined_items op (map view row.old) (map view items.now)) }
@@ -103,7 +103,7 @@ fn join(row: &mut [Value], items: &[Value], op: LogicalAggregateOp) -> bool
     true
 }
 
-/// The bit that two make.
+/// Two bits combined.
 fn join_bits(own: bool, other: bool, op: LogicalAggregateOp) -> bool
     ensures { result ≡ joined_bit op own other }
 {
@@ -127,7 +127,7 @@ fn bit(item: &Value) -> Option<bool>
     }
 }
 
-/// Puts a bit in the place of an item. A number is written into, so that no value is dropped.
+/// Replaces an item by a bit. A number is written into, so that no value is dropped.
 fn put_bit(item: &mut Value, bit: bool)
     ensures { view item.new ≡ as_int bit }
 {

@@ -16,25 +16,25 @@ use resp_core::{ErrorKind, RedisError, RedisResult, Value};
 use std::alloc::{AllocError, Global};
 use std::cmp::Ordering;
 
-/// How many pairs are summed up at most.
+/// The most pairs that are summed up.
 const MOST_PAIRS: u64 = u64::MAX / 2;
 
-/// The totals of keys, and over how many pairs. A key may have several, whose sum is its total.
+/// Totals of keys, and the number of pairs in them. A key with several totals has their sum.
 #[derive(Drop)]
 struct KeyTotals {
     totals: Vec<(Vec<u8>, i128)>,
     pair_count: u64,
 }
 
-/// One map for replies that are arrays of keys and numbers in turn: each key that occurs, by
-/// ascending bytes, with the sum of its numbers over all replies, as the subscribers that
-/// `PUBSUB NUMSUB` counts. No replies make an empty map. The order of the replies does not matter.
+/// Combines replies that are arrays of keys and numbers in turn, as of `PUBSUB NUMSUB`, into one
+/// map. The map has each key, by ascending bytes, with the sum of its numbers. No replies make an
+/// empty map. The order of the replies does not matter.
 ///
 /// # Errors
 ///
-/// `UnexpectedReturnType` where a reply is not an array of bulk strings and numbers in turn, or
-/// where the sum of a key does not fit in an i64. A running sum may leave the i64, since it has 128
-/// bits. Or out of memory, as 2^63 pairs always are.
+/// `UnexpectedReturnType` if a reply is not an array of bulk strings and numbers in turn. Also if
+/// the sum of a key does not fit in an i64. A running sum has 128 bits. `OutOfMemory` if memory
+/// runs out, as for 2^63 pairs.
 #[tactic(auto, using(crate::proofs::TotalOrders::any_order))]
 pub fn combine_map_results(alloc: Global, values: Vec<Value>) -> RedisResult<Value>
     ensures answer { MatchResult result
@@ -89,8 +89,8 @@ fn sum_replies(alloc: Global, values: Vec<Value>) -> Result<Option<KeyTotals>, A
     Ok(Some(sums))
 }
 
-/// Adds the pairs of the items, if these are bulk strings and numbers in turn. A reply mostly has its
-/// keys in the order of those before, so each key is looked for right behind the one before it.
+/// Adds the pairs of the items, if these are bulk strings and numbers in turn. Replies mostly have
+/// the same keys in order, so each key is first looked for after the one before it.
 fn add_pairs(sums: &mut KeyTotals, items: Vec<Value>) -> Result<bool, AllocError>
     requires { sums.old.pair_count < 2 ^ 63 }
     ensures totals { IfOk result (λ ok. (q : List ℕ)
@@ -118,7 +118,7 @@ fn add_pairs(sums: &mut KeyTotals, items: Vec<Value>) -> Result<bool, AllocError
     Ok(true)
 }
 
-/// Counts a pair, adds its number to the total of its key, and tells whether that stood at the place.
+/// Counts a pair and adds its number to the total of its key. Returns whether that was at `place`.
 fn add_pair(sums: &mut KeyTotals, place: usize, key: Vec<u8>, n: i64) -> Result<bool, AllocError>
     ensures count { OnOk result (sums.new.pair_count ≡ sums.old.pair_count + 1) }
     ensures few { OnOk result (sums.new.pair_count < 2 ^ 63) }
@@ -135,7 +135,8 @@ fn add_pair(sums: &mut KeyTotals, place: usize, key: Vec<u8>, n: i64) -> Result<
     add_number(&mut sums.totals, place, key, i128::from(n))
 }
 
-/// Adds a number to the total at a place, if that is of its key, or puts it last, and tells which.
+/// Adds a number to the total at index `place` if that has its key, or appends it. Returns whether
+/// it had.
 fn add_number(
     totals: &mut Vec<(Vec<u8>, i128)>,
     place: usize,
@@ -161,7 +162,7 @@ fn add_number(
     }
 }
 
-/// Whether the total at a place is of this key.
+/// Whether the total at index `place` has this key.
 fn has_key(totals: &Vec<(Vec<u8>, i128)>, place: usize, key: &Vec<u8>) -> bool
     ensures { result ≡ has_key_at totals.now.items place key.now.items }
 {
@@ -184,7 +185,7 @@ fn add_to(total: &mut i128, number: i128) -> Result<(), AllocError>
     }
 }
 
-/// The total of each key, by ascending key: those of one key stand side by side once they are sorted.
+/// The total of each key, by ascending key. Sorting puts the totals of one key side by side.
 fn by_key(
     alloc: Global,
     mut totals: Vec<(Vec<u8>, i128)>,

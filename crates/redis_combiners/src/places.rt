@@ -6,15 +6,15 @@ use cluster_slots::Route;
 use redis_routing::MultiSlotArgPattern;
 use std::alloc::{AllocError, Global};
 
-/// The places of the keys of some lists of arguments, one list after the other, and how many there
-/// are of each list.
+/// The indices of the keys of some lists of arguments, list after list, and the number of keys in
+/// each.
 #[derive(Drop)]
 pub(super) struct KeyPlaces {
     pub(super) all: Vec<usize>,
     pub(super) counts: Vec<usize>,
 }
 
-/// The places of the keys in the lists, if every list is of whole tuples.
+/// The indices of the keys in the lists, if all tuples are whole.
 pub(super) fn key_places(
     alloc: Global,
     lists: &[(Route, Vec<usize>)],
@@ -39,7 +39,7 @@ pub(super) fn key_places(
     Ok(Some(KeyPlaces { all, counts }))
 }
 
-/// Adds the places of the keys in a list and returns how many these are, if it is of whole tuples.
+/// Adds the indices of the keys in a list and returns their number, if all tuples are whole.
 fn add_places(
     all: &mut Vec<usize>,
     list: &[usize],
@@ -63,7 +63,7 @@ fn add_places(
     Ok(Some(count))
 }
 
-/// The list without the place of the argument that all keys share, if the pattern has one.
+/// The list without the index of the argument that all keys share, if the pattern has one.
 fn own_part(list: &[usize], pattern: MultiSlotArgPattern) -> Option<&[usize]>
     ensures { option_map (λ own. own.now) result ≡ own_arguments pattern list.now }
 {

@@ -13,16 +13,16 @@ use redis_routing::MultiSlotArgPattern;
 use resp_core::{ErrorKind, RedisError, RedisResult, Value};
 use std::alloc::Global;
 
-/// One array of the items of all replies, each at the place that its key had in the command:
-/// element j of reply i stands where place j of list i says. The lists are those of the routes of a
-/// split, as of an `MGET`.
+/// One array of the items of all replies, each at the index of its key in the command, as for
+/// `MGET`. Item j of reply i belongs to key j of list i. The lists are those of the routes of a
+/// split.
 ///
 /// # Errors
 ///
-/// In this order. `Client` where a list is not of whole tuples, or is empty though it should end in
-/// a shared index. `Client` where there are not as many replies as lists. For the first reply that
-/// does not fit, `UnexpectedReturnType` where it is not an array, and `Client` where it does not
-/// have as many items as its list has places. `Client` where the places are not the numbers from 0
+/// In this order. `Client` if a list has a tuple that is not whole, or lacks the shared index at
+/// its end. `Client` if there are not as many replies as lists. For the first reply that does not
+/// fit, `UnexpectedReturnType` if it is not an array, and else `Client`. `Client` if the indices
+/// are not the numbers from 0 on, each once. `OutOfMemory` may come instead of any of these.
 /// on, each once. Out of memory may come in place of any of these.
 pub fn combine_and_sort_array_results(
     alloc: Global,

@@ -7,9 +7,9 @@ ghost use Rattle.redis_combiners.specs.Aggregate.{sum_of, least_of, aggregate_of
 use redis_routing::AggregateOp;
 use resp_core::{ErrorKind, RedisError, RedisResult, Value};
 
-/// One number for replies that are numbers: their sum, which is 0 of none, or the least of them,
-/// which is `i64::MAX` of none. `DBSIZE` and `DEL` are summed up, and of `WAIT` it is the least.
-/// The order of the replies does not matter. Takes no memory.
+/// Combines replies that are numbers: their sum, as for `DEL` and `DBSIZE`, or the least of them,
+/// as for `WAIT`. Of no replies the sum is 0 and the least is `i64::MAX`. The order of the replies
+/// does not matter. Takes no memory.
 ///
 /// ```
 /// aggregate(replies, AggregateOp::Sum)
@@ -17,8 +17,8 @@ use resp_core::{ErrorKind, RedisError, RedisResult, Value};
 ///
 /// # Errors
 ///
-/// `UnexpectedReturnType` where a reply is not a number, or where the sum does not fit in an i64; a
-/// running sum may leave the i64, since it is taken in 128 bits.
+/// `UnexpectedReturnType` if a reply is not a number, or if the sum does not fit in an i64. A
+/// running sum may leave the i64, since it has 128 bits.
 #[tactic(auto, using(crate::proofs::Orders::any_order))]
 pub fn aggregate(values: Vec<Value>, op: AggregateOp) -> RedisResult<Value>
     ensures answer { MatchResult result
@@ -53,7 +53,7 @@ fn sum(values: &[Value]) -> Option<i64>
     i64::try_from(total).ok()
 }
 
-/// The least number, if each reply is one.
+/// The least number, if each reply is a number.
 fn least(values: &[Value]) -> Option<i64>
     ensures { result ≡ least_of (map view values.now) }
 {
