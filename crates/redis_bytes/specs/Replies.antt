@@ -24,14 +24,14 @@ IsReply reply bytes = IsAnswer (Ok reply) bytes
 abbrev pub AreReplies : List Reply → List ℕ → Type 0
 AreReplies replies bytes = InOrder IsReply replies bytes
 
--- an error with this text stands at the front
+-- the bytes begin with an error of this text
 pub record BeginsError (bytes text : List ℕ) : Type 0 where
   pub form : List ℕ
   pub rest : List ℕ
   pub bytes_are : bytes ≡ form ++ rest
   pub is : IsAnswer (Err text) form
 
--- why the reply of this number, which these bytes begin with, is no value
+-- why the reply of this number, at the front of these bytes, is no value
 abbrev pub IsNoValue : ℕ → List ℕ → BytesFault → Type 0
 IsNoValue number bytes Memory = Unit {0}
 IsNoValue number bytes (faults.Reply n fault) =
@@ -39,7 +39,7 @@ IsNoValue number bytes (faults.Reply n fault) =
 IsNoValue number bytes (Error n text) = (n ≡ number) × BeginsError bytes text.items
 IsNoValue number bytes _ = ⊥
 
--- Some replies stand at the front, fewer than so many, and the next is no value for this reason.
+-- Fewer than `count` replies are at the front, and the next is no value for this reason.
 pub record IsFirstUnread (count : ℕ) (bytes : List ℕ) (fault : BytesFault) : Type 0 where
   pub replies : List Reply
   pub front : List ℕ
@@ -49,7 +49,7 @@ pub record IsFirstUnread (count : ℕ) (bytes : List ℕ) (fault : BytesFault) :
   pub few : length replies < count
   pub next : IsNoValue (length replies) rest fault
 
--- So many replies stand at the front, which end at this index, and something after them.
+-- `count` replies are at the front and end at index `end`, and more bytes follow.
 pub record AreFollowed (count : ℕ) (bytes : List ℕ) (end : ℕ) : Type 0 where
   pub replies : List Reply
   pub front : List ℕ
@@ -60,7 +60,7 @@ pub record AreFollowed (count : ℕ) (bytes : List ℕ) (end : ℕ) : Type 0 whe
   pub end_is : end ≡ length front
   pub more : 0 < length rest
 
--- why the bytes are not so many replies
+-- why the bytes are not `count` replies
 abbrev pub AreUnread : ℕ → List ℕ → BytesFault → Type 0
 AreUnread count bytes Memory = Unit {0}
 AreUnread count bytes (AfterReplies end) = AreFollowed count bytes end
@@ -71,7 +71,7 @@ pub record AreAnswered (split : Split) (bytes : List ℕ) (replies : List Reply)
   pub all : length replies ≡ length split.routes
   pub are : AreReplies replies bytes
 
--- They make one, whose form the others are.
+-- The replies to the parts make one reply, and `combined` is its form.
 pub record AreCombined (split : Split) (bytes combined : List ℕ) : Type 0 where
   pub replies : List Reply
   pub answered : AreAnswered split bytes replies

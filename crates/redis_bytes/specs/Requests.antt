@@ -12,11 +12,11 @@ use Rattle.redis_bytes.specs.declared.fault.BytesFault.{BytesFault}
 use Rattle.redis_bytes.specs.declared.fault.BytesFault.TheVariants.{Memory, Request, AfterRequest, NotMultiKey}
 use Rattle.redis_bytes.specs.declared.splitting.Parts.{Parts}
 
--- the words of a command, of which 0 is its name
+-- the words of a command, its name first
 abbrev pub Words : Type 0
 Words = List (List ℕ)
 
--- a request stands at the front, which ends at this index, and something after it
+-- a request is at the front and ends at index `end`, and more bytes follow
 pub record IsFollowed (bytes : List ℕ) (end : ℕ) : Type 0 where
   pub words : Words
   pub form : List ℕ
@@ -46,7 +46,7 @@ pub record IsSplitRequest (names : Names) (bytes : List ℕ) (split : Split) : T
   pub is : IsRequest words bytes
   pub split_is : IsSplitOf names (map Some words) split
 
--- For each route its part: the part's request, one after the other, and where each ends.
+-- The requests of the parts, one for each route, end to end, and where each ends.
 pub record AreParts (split : Split) (parts : Parts) : Type 0 where
   pub commands : List Words
   pub each : map (map Some) commands ≡ map (split_part split) (slots_of split.routes)
@@ -54,8 +54,7 @@ pub record AreParts (split : Split) (parts : Parts) : Type 0 where
   pub ends : parts.ends.items ≡ item_ends 0 (map request commands)
   pub bytes : parts.bytes.items ≡ flat_map request commands
 
--- why the bytes are not split: they are not one request, or not that of a complete command of many
--- keys
+-- why the bytes are not split: they are not one request, or not a complete multi-key command
 abbrev pub IsUnsplit : Names → List ℕ → BytesFault → Type 0
 IsUnsplit names bytes NotMultiKey = (words : Words) × IsRequest words bytes
     × (multi_slot_routes names (map Some words) ≡ None)

@@ -20,7 +20,7 @@ use Rattle.redis_bytes.specs.declared.tables.Table.{Table}
 abbrev pub addresses : List (Bor Address) → List Address
 addresses nodes = map (λ n. n.now) nodes
 
--- the node is a new one at the end, with this number, or there is no new one
+-- no node is new, or one is appended with this number
 abbrev pub Grows : List (Bor Address) → List (Bor Address) → ℕ → Type 0
 Grows old new number =
     (new ≡ old) ⊎ ((node : Bor Address) × (new ≡ old ++ node ∷ []) × (number ≡ length old))
@@ -28,17 +28,17 @@ Grows old new number =
 abbrev pub by_address : Bor Address → Bor Address → Ordering
 by_address a b = address_cmp a.now b.now
 
--- a node has a number exactly where it stands at that place
+-- a node has a number exactly if it is at that index
 abbrev pub ArePlaced : List (Bor Address) → BTreeMap (Bor Address) ℕ → Type 0
 ArePlaced nodes places = (node : Bor Address) (number : ℕ)
     → (get by_address places node ≡ Some number) ↔ (slice_get (addresses nodes) number ≡ Some node.now)
 
--- no two of them are the same
+-- no two nodes are the same
 abbrev pub AreDistinct : List Address → Type 0
 AreDistinct nodes = (i j : ℕ) (node : Address) → slice_get nodes i ≡ Some node
     → slice_get nodes j ≡ Some node → i ≡ j
 
--- each is the node of some slot
+-- each node is the node of some slot
 abbrev pub AreUsed : List ℕ → List Address → Type 0
 AreUsed numbers nodes = (number : ℕ) → number < length nodes
     → (slot : ℕ) × (slot < length numbers) × (slice_index numbers slot ≡ number)
@@ -51,7 +51,7 @@ abbrev pub ArePlain : List Address → Type 0
 ArePlain nodes = (number : ℕ) (node : Address) → slice_get nodes number ≡ Some node
     → ¬ (Contains node.host line_feed)
 
--- why they have no lines: a host has a line feed
+-- why nodes have no lines: a host has a line feed
 abbrev pub IsUnprinted : List Address → BytesFault → Type 0
 IsUnprinted nodes fault = (fault ≡ Memory) ⊎ ((fault ≡ LineFeedInHost) × (number : ℕ) × (node : Address)
     × (slice_get nodes number ≡ Some node) × Contains node.host line_feed)
@@ -60,16 +60,15 @@ IsUnprinted nodes fault = (fault ≡ Memory) ⊎ ((fault ≡ LineFeedInHost) × 
 abbrev pub node_line : Address → List ℕ
 node_line node = display_text node ++ line_feed ∷ []
 
--- 65535 if no entry answers for the route's slot; else the number, among the nodes, of the one
--- that the route asks for
+-- 65535 if no entry answers for the route's slot, else the index of the route's node among `nodes`
 abbrev pub IsNumbered : List (RangeEntry SlotNodes) → List Address → SlotRoute → ℕ → ℕ → Type 0
 IsNumbered entries nodes route pick number =
     ((number ≡ 65535) × IsUncovered entries route.slot)
     ⊎ ((node : Address) × (slice_get nodes number ≡ Some node)
     × IsNodeOfRoute entries route pick node)
 
--- For each slot the number of the node that a route there asks for, and the lines of the nodes, of
--- which there are no more than slots.
+-- For each slot the number of the node of a route there, and a line for each node. Each node is
+-- listed once and serves a slot.
 pub record IsTable (entries : List (RangeEntry SlotNodes)) (addr : SlotAddr) (pick : ℕ) (table : Table)
     : Type 0 where
   pub nodes : List Address
@@ -83,7 +82,7 @@ pub record IsTable (entries : List (RangeEntry SlotNodes)) (addr : SlotAddr) (pi
       → IsNumbered entries nodes (record { slot = slot; addr = addr }) pick
       (slice_index table.numbers.items slot)
 
--- The node that is asked for in a slot has a line feed in its host.
+-- The node of a slot has a line feed in its host.
 pub record HasLineFeed (entries : List (RangeEntry SlotNodes)) (addr : SlotAddr) (pick : ℕ) : Type 0
   where
     pub slot : ℕ

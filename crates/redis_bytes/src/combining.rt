@@ -19,17 +19,17 @@ use resp::{WriteError, write};
 use resp_core::{ErrorKind, RedisError, Value};
 use std::alloc::Global;
 
-/// The one reply to a request, by the replies to its parts, which stand one after the other in the
-/// order of the parts, whatever the order is in which they came. Where the parts of
-/// `DEL foo bar baz` answered `:1`, `:0` and `:1`, it is `:2`.
+/// The one reply to a request, by the replies to its parts. `replies` has them in the order of the
+/// parts, in whatever order they came. If the parts of `DEL foo bar baz` returned `:1`, `:0` and
+/// `:1`, it is `:2`.
 ///
 /// An error among the replies is never combined: it is reported with its number and its text.
 ///
 /// # Errors
 ///
-/// In this order. For the request as `split`. `Reply` or `Error` for the first reply that cannot be
-/// read or is an error. `AfterReplies` if bytes follow the last one. `Unfit` if they are not
-/// what the parts answer with. `NoForm` if the one reply has no form. `Memory` if memory runs
+/// In this order: the errors of `split` for the request. `Reply` or `Error` for the first reply
+/// that cannot be read or is an error. `AfterReplies` if bytes follow the last one. `Unfit` if the
+/// replies do not fit the command. `NoForm` if the one reply has no form. `Memory` if memory runs
 /// out.
 pub fn combine(
     alloc: Global,
@@ -37,11 +37,11 @@ pub fn combine(
     names: Names<'_>,
     replies: &[u8],
 ) -> Result<Vec<u8>, BytesFault>
-    // The bytes are a reply to each part, and they are joined by the command's policy.
+    // The bytes are a reply to each part, and the command's policy joins the replies.
     ensures combined { IfOk result (λ combined. (split : Split)
         × IsSplitRequest (names_in names.entry) request.now split
         × AreCombined split replies.now combined.items) }
-    // Where they are the replies to the parts, the one reply is that of the unsplit command.
+    // If the nodes gave these replies to the parts, the result is the reply to the unsplit command.
     ensures unsplit { (split : Split) (reply_form : ReplyForm) (results : List TupleResult)
         (parts : List Reply) → IsSplitRequest (names_in names.entry) request.now split
         → ArePartsAnswered split reply_form results parts → AreReplies parts replies.now
@@ -59,7 +59,7 @@ pub fn combine(
     joined(alloc, &split, replies)
 }
 
-/// The one reply to a split command, by the bytes of those to its parts.
+/// The one reply to a split command, by the bytes of the replies to its parts.
 fn joined<R: Routable>(
     alloc: Global,
     split: &SplitCommand<'_, R>,

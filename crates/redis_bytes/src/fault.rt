@@ -8,7 +8,7 @@ use std::alloc::{AllocError, AllocFailed};
 use std::error::Error;
 use std::fmt;
 
-/// Why a call gives no bytes. Replies are numbered as the parts are, from 0.
+/// Why a call returns no bytes. Replies are numbered as the parts are, from 0.
 #[derive(Debug, Drop)]
 pub enum BytesFault {
     /// Memory ran out.
@@ -17,7 +17,7 @@ pub enum BytesFault {
     Request(RequestFault),
     /// Bytes follow the request, which ends at this index.
     AfterRequest(usize),
-    /// The command is not one of those that are split by slot, or is not complete.
+    /// The command is not split by slot, or is not complete.
     NotMultiKey,
     /// The reply of this number cannot be read.
     Reply(usize, Fault),
@@ -25,12 +25,11 @@ pub enum BytesFault {
     Error(usize, Vec<u8>),
     /// Bytes follow the last reply, which ends at this index.
     AfterReplies(usize),
-    /// The replies make no one reply: they are not what the parts answer with.
+    /// The replies do not fit the command, so they make no one reply.
     Unfit(ErrorKind),
-    /// The one reply has no form: `resp::write` says when. Replies that were read have one, and no
-    /// input is known that gives this.
+    /// The one reply has no form: `resp::write` says when. No input is known that causes this.
     NoForm,
-    /// A host has a line feed, so that no line of a table tells it.
+    /// A host has a line feed, so a line of a table cannot hold it.
     LineFeedInHost,
 }
 

@@ -1,5 +1,4 @@
-//! A cluster's commands from bytes to bytes: where a request goes, the requests of its parts, and the
-//! one reply that the replies to these make.
+//! Routes requests, splits them and combines replies, all as bytes of the Redis protocol.
 #![tactic(auto)]
 
 mod combining;

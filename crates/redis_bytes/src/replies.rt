@@ -8,7 +8,7 @@ use resp::{ReadError, Response, read};
 use resp_core::Value;
 use std::alloc::Global;
 
-/// The reply of this number, which the bytes begin with, if it is a value, and what follows it.
+/// The reply of this number at the front of the bytes, if it is a value, and what follows it.
 fn value_at(alloc: Global, number: usize, bytes: &[u8]) -> Result<(Value, &[u8]), BytesFault>
     ensures found { IfOk result (λ x. (form : List ℕ)
         × (bytes.now ≡ form ++ x.1.now) × IsReply (view x.0) form) }
@@ -29,7 +29,7 @@ fn value_at(alloc: Global, number: usize, bytes: &[u8]) -> Result<(Value, &[u8])
     }
 }
 
-/// So many replies, which are all of the bytes. No error is among them.
+/// The `count` replies that the bytes are, with no error among them.
 pub(super) fn replies_in(
     alloc: Global,
     count: usize,

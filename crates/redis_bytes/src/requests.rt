@@ -7,7 +7,7 @@ use resp::{RequestError, read_request};
 use resp_core::Cmd;
 use std::alloc::Global;
 
-/// The command that some bytes are, all of them.
+/// The one command that the bytes are.
 pub(super) fn command_in(alloc: Global, request: &[u8]) -> Result<Cmd, BytesFault>
     ensures found { IfOk result (λ command. IsRequest command request.now) }
     ensures only { (words : Words) → IsRequest words request.now

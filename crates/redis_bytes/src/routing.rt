@@ -10,9 +10,10 @@ use crate::requests::command_in;
 use redis_routing::{Names, RoutingInfo};
 use std::alloc::Global;
 
-/// Where a request goes: `*2\r\n$3\r\nGET\r\n$3\r\nfoo\r\n` to a node of slot 12182, a request of many
-/// keys to a node of each slot, others to any node or to all. There is nothing where the layer does
-/// not route it. `names` tell which commands only read, and which names are registered.
+/// Where a request goes. `*2\r\n$3\r\nGET\r\n$3\r\nfoo\r\n` goes to a node of slot 12182, and a
+/// multi-key request to a node of each slot. Others go to any node or to all. `None` if the layer
+/// does not route the request. `names` says which commands only read, and which names are
+/// registered.
 ///
 /// # Errors
 ///
@@ -26,12 +27,12 @@ pub fn route(
     // The bytes are one request, and the routing is that of its words.
     ensures routed { IfOk result (λ info. (words : Words) × IsRequest words request.now
         × (option_map as_routing info ≡ routing (names_in names.entry) (map Some words))) }
-    // Each request is routed, unless memory runs out,
+    // Each request is routed, unless memory runs out.
     ensures only { (words : Words) → IsRequest words request.now
         → MatchResult result
         (λ info. option_map as_routing info ≡ routing (names_in names.entry) (map Some words))
         (λ fault. fault ≡ BytesFault.Memory) }
-    // and each fault has its cause.
+    // Each fault has its cause.
     ensures fault { IfErr result (λ fault. IsUnread request.now fault) }
 {
     let command = command_in(alloc, request)?;

@@ -27,22 +27,22 @@ pub struct Parts {
 }
 
 /// Splits a request by slot. `DEL foo bar baz {bar}vaz` has three parts, `DEL foo`,
-/// `DEL bar {bar}vaz` and `DEL baz`, each a request of its own. `names` tell which commands only
-/// read, whose routes replicas may serve too, and which names are registered.
+/// `DEL bar {bar}vaz` and `DEL baz`, each a request of its own. `names` says which commands only
+/// read, so that replicas may serve them, and which names are registered.
 ///
 /// # Errors
 ///
-/// In this order: `Request` if the bytes begin no whole request, `AfterRequest` if bytes follow
-/// it, `NotMultiKey` if it is not one of those that are split by slot, or is not complete.
-/// `Memory` if memory runs out.
+/// In this order: `Request` if the bytes begin no whole request. `AfterRequest` if bytes follow it.
+/// `NotMultiKey` if the command is not split by slot, or is not complete. `Memory` if memory runs
+/// out.
 pub fn split(alloc: Global, request: &[u8], names: Names<'_>) -> Result<Parts, BytesFault>
     // The bytes are one request, and the parts are those of its split.
     ensures parts { IfOk result (λ parts. (split : Split)
         × IsSplitRequest (names_in names.entry) request.now split × AreParts split parts) }
-    // Each request that has a split is split, unless memory runs out,
+    // Each request that has a split is split, unless memory runs out.
     ensures only { (split : Split) → IsSplitRequest (names_in names.entry) request.now split
         → MatchResult result (λ parts. AreParts split parts) (λ fault. fault ≡ BytesFault.Memory) }
-    // and each fault has its cause.
+    // Each fault has its cause.
     ensures fault { IfErr result (λ fault. IsUnsplit (names_in names.entry) request.now fault) }
 {
     let command = command_in(alloc, request)?;

@@ -15,11 +15,11 @@ use std::collections::BTreeMap;
 /// How many slots a table has.
 pub const SLOTS: u16 = 16384;
 
-/// The number of no node.
+/// The number that stands for no node.
 pub const NO_NODE: u16 = 65535;
 
-/// A map from slots to nodes, flat: for each slot the number of a node, and for each node one line of
-/// host, colon and port.
+/// A map from slots to nodes, flat: the number of a node for each slot, and one line of host, colon
+/// and port for each node.
 #[derive(Drop)]
 pub struct Table {
     /// For each slot the number of its node, or `NO_NODE`.
@@ -28,8 +28,8 @@ pub struct Table {
     pub nodes: Vec<u8>,
 }
 
-/// The map that the bytes of a reply to `CLUSTER SLOTS` tell of. `answering` is the name of the node
-/// that answered, which stands for hosts that the reply leaves out.
+/// The map of a reply to `CLUSTER SLOTS`, as bytes. `answering` is the host of the node that
+/// replied, for hosts that the reply leaves out.
 ///
 /// # Errors
 ///
@@ -38,11 +38,11 @@ pub struct Table {
 pub fn slot_map(alloc: Global, reply: &[u8], answering: &str) -> Result<SlotMap, BytesFault>
     ensures entries { IfOk result (λ map. (said : Reply) × IsReply said reply.now
         × (map ≡ entries_in answering.now said)) }
-    // Each reply gives its map, unless memory runs out,
+    // Each reply gives its map, unless memory runs out.
     ensures only { (said : Reply) → IsReply said reply.now
         → MatchResult result (λ map. map ≡ entries_in answering.now said)
         (λ fault. fault ≡ BytesFault.Memory) }
-    // and each fault has its cause.
+    // Each fault has its cause.
     ensures fault { IfErr result (λ fault. AreUnread 1 reply.now fault) }
 {
     let said = reply_in(alloc, reply)?;
@@ -52,9 +52,8 @@ pub fn slot_map(alloc: Global, reply: &[u8], answering: &str) -> Result<SlotMap,
     }
 }
 
-/// The table of the bytes of a reply to `CLUSTER SLOTS`: for each slot the number of the node that a
-/// route there asks for, by `addr` and `pick`, or `NO_NODE` if no range holds for it. Each node
-/// stands in it once.
+/// The table of a reply to `CLUSTER SLOTS`, as bytes. Each slot has the number of the node of a
+/// route there, by `addr` and `pick`, or `NO_NODE` if no range covers it. Each node is listed once.
 ///
 /// # Errors
 ///
@@ -76,7 +75,7 @@ pub fn slot_table(
     Ok(Table { numbers, nodes })
 }
 
-/// For each slot the number of the node that a route there asks for, and the nodes.
+/// For each slot the number of the node of a route there, and the nodes.
 fn numbers_in(
     alloc: Global,
     map: &SlotMap,
@@ -102,7 +101,7 @@ fn numbers_in(
     Ok((numbers, nodes))
 }
 
-/// The number of the node that a route asks for.
+/// The number of the node of a route.
 fn number_at<'a>(
     map: &'a SlotMap,
     route: Route,
@@ -123,7 +122,7 @@ fn number_at<'a>(
     }
 }
 
-/// The number of a node, which is put last if it is not among the others.
+/// The number of a node, which is appended if it is new.
 fn number_of<'a>(
     nodes: &mut Vec<&'a NodeAddress>,
     places: &mut BTreeMap<&'a NodeAddress, u16>,
