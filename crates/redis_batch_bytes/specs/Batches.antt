@@ -7,11 +7,11 @@ use Rattle.redis_cluster.specs.Orders.{in_order}
 use Rattle.redis_batches.specs.Plan.{Batches}
 use Rattle.redis_batch_bytes.specs.declared.splitting.BatchBytes.{BatchBytes}
 
--- the requests of the parts at these places, one after the other
+-- the requests of the parts at these indices, end to end
 abbrev pub batch_bytes : List (List (List ℕ)) → List ℕ → List ℕ
 batch_bytes parts places = flat_map request (in_order parts places)
 
--- For each batch its node, how many commands it has, where its bytes end, and these bytes.
+-- For each batch its node, its number of commands, where its bytes end, and its bytes.
 pub record AreBatchesOf (batches : Batches) (found : BatchBytes) : Type 0 where
   pub nodes : found.nodes.items ≡ batches.nodes
   pub counts : found.counts.items ≡ map length batches.places

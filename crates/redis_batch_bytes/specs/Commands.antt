@@ -12,12 +12,12 @@ use Rattle.redis_batch_bytes.specs.declared.fault.BatchFault.TheVariants.{Memory
 abbrev pub AreRequests : List Words → List ℕ → Type 0
 AreRequests commands bytes = InOrder IsRequest commands bytes
 
--- a fault of bytes that stand behind so many others, by its index among all
+-- a fault of bytes after `before` others, with its index among all
 abbrev pub behind : ℕ → RequestFault → RequestFault
 behind before Incomplete = Incomplete
 behind before (Malformed index) = Malformed (before + index)
 
--- No whole request stands at the front of these bytes, behind so many others, for this reason.
+-- The bytes, after `before` others, begin with no whole request, for this reason.
 pub record IsNoRequest (before : ℕ) (bytes : List ℕ) (fault : RequestFault) : Type 0 where
   pub own : RequestFault
   pub cause : RequestCause bytes own

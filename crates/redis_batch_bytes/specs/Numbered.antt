@@ -9,11 +9,11 @@ use Rattle.redis_batches.specs.Placed.{IsPrimaryOf, Ranges}
 abbrev pub numbered : ℕ → Address
 numbered number = record { host = []; port = number }
 
--- the number of a slot, which is 65535 if there is none
+-- the number of a slot, or 65535 if it has none
 abbrev pub number_at : List ℕ → ℕ → ℕ
 number_at numbers slot = get_or numbers slot 65535
 
--- The one primary of a slot is the address of its number, and a slot with none is not covered.
+-- A slot with a number has one primary, the address of the number. A slot without is not covered.
 pub record IsNumberedMap (numbers : List ℕ) (ranges : Ranges) : Type 0 where
   pub node : (slot : ℕ) → slot < 16384 → number_at numbers slot ≢ 65535
       → IsPrimaryOf ranges slot (numbered (number_at numbers slot))
@@ -22,7 +22,7 @@ pub record IsNumberedMap (numbers : List ℕ) (ranges : Ranges) : Type 0 where
   pub none : (slot : ℕ) → slot < 16384 → number_at numbers slot ≡ 65535
       → IsUncovered ranges slot
 
--- Ranges for the slots below a limit that have a number: each range is of slots with one number.
+-- Ranges for the slots below a limit that have a number. All slots of a range have the same number.
 pub record AreRuns (numbers : List ℕ) (limit : ℕ) (entries : List (RangeEntry SlotNodes))
     : Type 0 where
   pub disjoint : AreDisjoint entries

@@ -18,7 +18,7 @@ use Rattle.redis_batch_bytes.specs.Plans.{IsPlanOfRequests, IsUnplanned}
 use Rattle.redis_batch_bytes.specs.Told.{WireAnswer, answer_form, told}
 use Rattle.redis_batch_bytes.specs.Unread.{AreUnreadAnswers}
 
--- Answers stand at the front, with this after them, and a plan takes these of them.
+-- Answers are at the front, followed by `rest`, and a plan takes `given` of them.
 pub record StandAsTold (bytes rest : List ℕ) (given : List Answer) : Type 0 where
   pub said : List WireAnswer
   pub front : List ℕ
@@ -26,13 +26,13 @@ pub record StandAsTold (bytes rest : List ℕ) (given : List Answer) : Type 0 wh
   pub are : InOrder IsAnswer said front
   pub given_are : given ≡ map told said
 
--- of these answers to parts, the ones to the batches are these, batch after batch
+-- `given` has the answers of `all`, which has one for each part, batch after batch
 abbrev pub AreByBatch : Batches → List Answer → List Answer → Type 0
 AreByBatch batches all given =
     (length all ≡ length batches.parts) × (given ≡ in_order all (concat batches.places))
 
--- The bytes are an answer to each command of each batch, batch after batch. Where the nodes answered
--- the parts like this, the replies to the commands, by these answers, are so.
+-- The bytes are an answer to each command of each batch, batch after batch. If these are the nodes'
+-- answers to the parts, the replies to the commands fulfil `AreSo`.
 pub record AreAnswered (plan : PipelineBatches) (bytes : List ℕ) (AreSo : List Answer → Type 0)
     : Type 0 where
   pub given : List Answer
@@ -41,7 +41,7 @@ pub record AreAnswered (plan : PipelineBatches) (bytes : List ℕ) (AreSo : List
   pub replies : (all : List Answer) → AreByBatch plan.batches all given
       → (replies : List Answer) × AreRepliesFor plan.splits all replies × AreSo replies
 
--- They are written one after the other.
+-- `combined` has the replies to the commands, one after another.
 abbrev pub AreCombined : PipelineBatches → List ℕ → List ℕ → Type 0
 AreCombined plan bytes combined =
     AreAnswered plan bytes (λ replies. combined ≡ flat_map answer_form replies)
@@ -59,13 +59,14 @@ IsUncombinedBy plan bytes (NoForm number) =
     AreAnswered plan bytes (λ replies. AreUnwritten replies (NoForm number))
 IsUncombinedBy plan bytes fault = AreUnreadAnswers plan.batches.places bytes fault
 
--- why replies to a pipeline are not combined: it has no plan, or they are not those to its batches
+-- why replies to a pipeline are not combined: it has no plan, or the bytes are not the answers to
+-- its batches
 abbrev pub IsUncombined : Registrations → Ranges → List ℕ → List ℕ → BatchFault → Type 0
 IsUncombined registered ranges requests bytes fault = IsUnplanned registered ranges requests fault
     ⊎ ((plan : PipelineBatches) × IsPlanOfRequests registered ranges requests plan
     × IsUncombinedBy plan bytes fault)
 
--- ---- telling a plan
+-- ---- passing answers to a plan
 
 -- the plan is the same except for the answers
 abbrev pub IsSameBut : PipelineBatches → PipelineBatches → Type 0
@@ -73,8 +74,9 @@ IsSameBut old new = (new.splits ≡ old.splits) × (new.batches.nodes ≡ old.ba
     × (new.batches.places ≡ old.batches.places) × (new.batches.parts ≡ old.batches.parts)
     × (length new.batches.answers ≡ length old.batches.answers)
 
--- The bytes begin with the answers to a batch, and the plan took these. So if they are those of a
--- list, the plan has the list's answer at each place of the batch, and keeps those that it had.
+-- The bytes begin with the answers to a batch, and the plan took these. If they are the batch's
+-- answers in `all`, the plan has the answers of `all` at the batch's indices. It keeps those that
+-- it had.
 pub record IsToldBatch (old new : PipelineBatches) (number : ℕ) (bytes rest : List ℕ) : Type 0 where
   pub given : List Answer
   pub stand : StandAsTold bytes rest given
@@ -88,8 +90,8 @@ pub record IsToldBatch (old new : PipelineBatches) (number : ℕ) (bytes rest : 
       → given ≡ in_order all places → (place : ℕ) → IsRight old.batches.answers all place
       → IsRight new.batches.answers all place
 
--- The bytes are the answers to all batches. So if they are those of a list, batch after batch, the
--- plan has the list's answer at each place of each batch.
+-- The bytes are the answers to all batches. If they are the answers in `all`, batch after batch,
+-- the plan has the answer of `all` at each index of each batch.
 pub record AreTold (old new : PipelineBatches) (bytes : List ℕ) : Type 0 where
   pub given : List Answer
   pub stand : StandAsTold bytes [] given

@@ -15,13 +15,12 @@ WireAnswer = resp.Answer
 abbrev pub error_of : List ℕ → ErrorParts
 error_of text = record { kind = Client; desc = []; detail = Some (utf8_lossy text) }
 
--- what a plan takes of it
+-- what a plan takes of an answer
 abbrev pub told : WireAnswer → Answer
 told (Ok reply) = Ok reply
 told (Err text) = Err (error_of text)
 
--- the text of an error: what a node said, or where the replies to the parts make no one reply, a
--- text that says so
+-- the text of an error: a node's, or a fixed one if the replies to the parts make no one reply
 abbrev pub said_by : List ℕ → Option (List ℕ) → List ℕ
 said_by [] (Some text) = text
 said_by desc detail = codes "ERR the replies to the parts make no one reply"

@@ -16,7 +16,7 @@ IsNoAnswer batch number bytes (Reply b n fault) =
     (b ≡ batch) × (n ≡ number) × Cause bytes (errors.Fault fault)
 IsNoAnswer batch number bytes _ = ⊥
 
--- Of so many answers to a batch some stand at the front, and the next is not read for this reason.
+-- Fewer than `count` answers to a batch are at the front, and the next is not read for this reason.
 pub record IsFirstNoAnswer (batch count : ℕ) (bytes : List ℕ) (fault : BatchFault) : Type 0 where
   pub said : List WireAnswer
   pub front : List ℕ
@@ -26,12 +26,12 @@ pub record IsFirstNoAnswer (batch count : ℕ) (bytes : List ℕ) (fault : Batch
   pub few : length said < count
   pub next : IsNoAnswer batch (length said) rest fault
 
--- why the bytes do not begin with so many answers to a batch
+-- why the bytes do not begin with `count` answers to a batch
 abbrev pub IsUnreadAnswer : ℕ → ℕ → List ℕ → BatchFault → Type 0
 IsUnreadAnswer batch count bytes Memory = Unit {0}
 IsUnreadAnswer batch count bytes fault = IsFirstNoAnswer batch count bytes fault
 
--- The answers to the batches before one stand at the front, and those to this one are not read.
+-- The answers to the batches before `batch` are at the front, and those to `batch` are not read.
 pub record IsFirstUnreadBatch (places : List (List ℕ)) (bytes : List ℕ) (fault : BatchFault)
     : Type 0 where
   pub said : List WireAnswer
@@ -45,7 +45,7 @@ pub record IsFirstUnreadBatch (places : List (List ℕ)) (bytes : List ℕ) (fau
   pub all : length said ≡ length (concat (take batch places))
   pub next : IsFirstNoAnswer batch (length own) rest fault
 
--- The answers to all batches stand at the front, which end at this index, and something after them.
+-- The answers to all batches are at the front and end at index `end`, and more bytes follow.
 pub record AreFollowed (places : List (List ℕ)) (bytes : List ℕ) (end : ℕ) : Type 0 where
   pub said : List WireAnswer
   pub front : List ℕ
@@ -56,7 +56,7 @@ pub record AreFollowed (places : List (List ℕ)) (bytes : List ℕ) (end : ℕ)
   pub end_is : end ≡ length front
   pub more : 0 < length rest
 
--- why bytes are not the answers to the parts at these places, batch after batch
+-- why bytes are not the answers to the parts at these indices, batch after batch
 abbrev pub AreUnreadAnswers : List (List ℕ) → List ℕ → BatchFault → Type 0
 AreUnreadAnswers places bytes Memory = Unit {0}
 AreUnreadAnswers places bytes (AfterReplies end) = AreFollowed places bytes end

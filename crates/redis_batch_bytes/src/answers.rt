@@ -11,7 +11,7 @@ use resp::{ReadError, read};
 use resp_core::{RedisError, Value};
 use std::alloc::Global;
 
-/// The answers to a batch of so many commands, which the bytes begin with, and what follows them.
+/// The answers to a batch of `count` commands, at the front of the bytes, and what follows them.
 pub(super) fn answers_at(
     alloc: Global,
     batch: usize,
@@ -32,7 +32,7 @@ pub(super) fn answers_at(
     Ok((answers, rest))
 }
 
-/// The answer of this number to a batch, which the bytes begin with, and what follows it.
+/// The answer of this number to a batch, at the front of the bytes, and what follows it.
 fn answer_at(
     alloc: Global,
     batch: usize,

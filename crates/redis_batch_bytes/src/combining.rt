@@ -15,18 +15,18 @@ use redis_batches::PipelinePlan;
 use redis_routing::Registry;
 use std::alloc::Global;
 
-/// The replies to the requests of a pipeline, one after the other, by the replies to its batches,
-/// which stand batch after batch in the order of `split_pipeline`, whatever the order is in which
-/// they came. Registry and map have to be those that the pipeline was split by.
+/// The replies to the requests of a pipeline, one after another, by the replies to its batches.
+/// `replies` has these batch after batch in the order of `split_pipeline`, in whatever order they
+/// came. Pass the registry and the map that the pipeline was split by.
 ///
-/// An error is the reply to its command, and stops nothing. To a command that was split it is the
-/// first error of its parts. What is not UTF-8 in its text comes back as U+FFFD.
+/// An error is the reply to its command, and stops nothing. A command that was split gets the first
+/// error of its parts. Bytes of its text that are not UTF-8 come back as U+FFFD.
 ///
 /// # Errors
 ///
-/// In this order. For the requests as `split_pipeline`. `Reply` for the first reply that cannot be
-/// read, and if there are too few. `AfterReplies` if bytes follow the last one. `NoForm` for
-/// the first reply that has no form. `Memory` if memory runs out.
+/// In this order: the errors of `split_pipeline` for the requests. `Reply` for the first reply that
+/// cannot be read or is missing. `AfterReplies` if bytes follow the last one. `NoForm` for the
+/// first reply that has no form. `Memory` if memory runs out.
 pub fn combine_pipeline(
     alloc: Global,
     requests: &[u8],
@@ -34,8 +34,8 @@ pub fn combine_pipeline(
     slot_map: &SlotMap,
     replies: &[u8],
 ) -> Result<Vec<u8>, BatchFault>
-    // The bytes are a reply to each command of each batch, and by these the replies to the commands
-    // are written.
+    // The bytes are a reply to each command of each batch, and the replies to the commands are
+    // written by these.
     ensures combined { IfOk result (λ combined. (plan : PipelineBatches)
         × IsPlanOfRequests registry.now slot_map.now requests.now plan
         × AreCombined plan replies.now combined.items) }
@@ -48,7 +48,7 @@ pub fn combine_pipeline(
     combined(alloc, plan, replies)
 }
 
-/// The replies to the commands of a plan, as bytes, by those to its batches.
+/// The replies to the commands of a plan, as bytes, by the replies to its batches.
 fn combined(alloc: Global, plan: PipelinePlan<'_>, replies: &[u8]) -> Result<Vec<u8>, BatchFault>
     requires untold { All (λ told. told ≡ false) plan.batches.told }
     requires sent { EachIsSent plan.batches }

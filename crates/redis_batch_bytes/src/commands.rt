@@ -7,7 +7,7 @@ use resp::{RequestError, RequestFault, read_request};
 use resp_core::Cmd;
 use std::alloc::Global;
 
-/// The commands of requests that stand one after the other, to the last byte.
+/// The commands of the requests that the bytes are.
 pub(super) fn commands_in(alloc: Global, requests: &[u8]) -> Result<Vec<Cmd>, BatchFault>
     ensures found { IfOk result (λ commands. AreRequests commands.items requests.now) }
     ensures fault { IfErr result (λ fault. AreUnread requests.now fault) }
@@ -23,8 +23,8 @@ pub(super) fn commands_in(alloc: Global, requests: &[u8]) -> Result<Vec<Cmd>, Ba
     Ok(commands)
 }
 
-/// The command of the request of this number, which stands behind so many bytes at the front of
-/// these, and what follows it.
+/// The command of request `number`, at the front of the bytes and after `before` others, and what
+/// follows it.
 fn command_at(
     alloc: Global,
     number: usize,

@@ -7,7 +7,8 @@ use resp::Response;
 use resp_core::{ErrorKind, RedisError, Value};
 use std::alloc::{AllocError, Global};
 
-/// What a plan takes of an answer. The text of an error is its detail, and there is no other text.
+/// What a plan takes of an answer. The text of an error becomes its detail, and its fixed text is
+/// empty.
 pub(super) fn told(
     alloc: Global,
     response: Response,
@@ -23,8 +24,8 @@ pub(super) fn told(
     }
 }
 
-/// The text of an error: what the node said, or where the replies to a command's parts make no one
-/// reply, a text that says so.
+/// The text of an error: a node's, or a fixed one if the replies to a command's parts make no
+/// reply.
 pub(super) fn said_of(error: &RedisError) -> &str
     ensures { result.now ≡ said_of error.now }
 {

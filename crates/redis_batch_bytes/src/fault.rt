@@ -7,27 +7,27 @@ use std::alloc::{AllocError, AllocFailed};
 use std::error::Error;
 use std::fmt;
 
-/// Why a pipeline gives no bytes. Requests, commands, batches and the replies to a batch are each
+/// Why a pipeline returns no bytes. Requests, commands, batches and the replies to a batch are each
 /// numbered from 0.
 #[derive(Debug, Drop)]
 pub enum BatchFault {
     /// Memory ran out.
     Memory,
-    /// At least one byte follows the requests before this number, and no whole request begins there.
-    /// The index of a malformed byte counts from the first byte of all.
+    /// The request of this number cannot be read. The index of a malformed byte counts from the
+    /// first byte of all requests.
     Request(usize, RequestFault),
-    /// The command of this number goes to no single slot, and is not one that is split by slot. It is
-    /// the first such command.
+    /// The command of this number is the first that goes to no single slot and is not split by
+    /// slot.
     NotRoutable(usize),
-    /// No node serves this slot of the command of this number: the first slot, in the order of the
-    /// commands and of the routes of each, that has none.
+    /// This slot of the command of this number has no node. It is the first such slot, in the order
+    /// of the commands and of the routes of each.
     NotCovered(usize, u16),
-    /// To the batch of this number, the reply of this number cannot be read.
+    /// In the batch of the first number, the reply of the second cannot be read.
     Reply(usize, usize, Fault),
     /// Bytes follow the last reply, which ends at this index.
     AfterReplies(usize),
-    /// The reply to the command of this number has no form: `resp::write` says when. Replies that
-    /// were read have one, and no input is known that gives this.
+    /// The reply to the command of this number has no form: `resp::write` says when. No input is
+    /// known that causes this.
     NoForm(usize),
 }
 

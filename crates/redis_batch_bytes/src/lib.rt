@@ -1,5 +1,4 @@
-//! Pipelines of commands from bytes to bytes: the requests of each node's batch, and the replies to
-//! the commands by those to the batches.
+//! Splits pipelines of requests into batches and combines their replies, all as bytes.
 #![tactic(auto)]
 
 mod answers;

@@ -6,10 +6,9 @@ use cluster_map::{NodeAddress, SlotMap, SlotRange};
 use redis_bytes::{NO_NODE, SLOTS};
 use std::alloc::{AllocError, Global};
 
-/// The map of a table that has a number for each slot, as `redis_bytes::slot_table` gives it: the
-/// slot's node is an address with no host, and the number as its port. So a caller that keeps the
-/// table alone splits pipelines by it, and tells the nodes of the batches by their numbers. A slot
-/// whose number is `NO_NODE`, or that has none, is not covered.
+/// The map of a table of node numbers, as `redis_bytes::slot_table` returns it. A slot's node is an
+/// address with no host, and the number as its port. So a caller that keeps only the table can
+/// split pipelines. A slot with `NO_NODE`, or without a number, is not covered.
 ///
 /// # Errors
 ///
@@ -22,7 +21,7 @@ pub fn numbered_map(alloc: Global, numbers: &[u16]) -> Result<SlotMap, AllocErro
     SlotMap::from_slots(alloc, runs_of(alloc, slots)?)
 }
 
-/// A range for each run of slots that have one number.
+/// A range for each run of slots with the same number.
 fn runs_of(alloc: Global, numbers: &[u16]) -> Result<Vec<SlotRange>, AllocError>
     requires few { length numbers.now ≤ 16384 }
     ensures { IfOk result (λ runs.

@@ -17,27 +17,25 @@ use resp::write_command;
 use resp_core::Cmd;
 use std::alloc::{AllocError, Global};
 
-/// The batches of a pipeline, in the order in which their nodes first appear: for each its node, how
-/// many commands it has, and where its bytes end among those of all batches.
+/// The batches of a pipeline, in the order in which their nodes first appear.
 #[derive(Drop)]
 pub struct BatchBytes {
     /// The node of each batch.
     pub nodes: Vec<NodeAddress>,
-    /// How many commands each has, and so how many replies its node gives.
+    /// The number of commands of each batch, and so of the replies to it.
     pub counts: Vec<usize>,
-    /// The index after the last byte of each.
+    /// The index after the last byte of each batch.
     pub ends: Vec<usize>,
-    /// The batches, one after the other; each is its commands' requests, one after the other.
+    /// The requests of the batches, one after another.
     pub bytes: Vec<u8>,
 }
 
-/// Splits a pipeline, whose requests stand one after the other, into one batch for each node: of
-/// `SET a 1`, `SET b 2`, `MGET b a` these are `SET a 1`, `MGET a` for the node of `a`, and `SET b 2`,
-/// `MGET b` for that of `b`. Each part goes to the primary of its slot. Names of a module's commands
-/// are known by `registry`.
+/// Splits a pipeline of requests into one batch for each node. `SET a 1`, `SET b 2`, `MGET b a`
+/// become `SET a 1`, `MGET a` for the node of `a`, and `SET b 2`, `MGET b` for the node of `b`.
+/// Each part goes to the primary of its slot. `registry` has the names of a module's commands.
 ///
-/// Within a batch a node has to take the commands in their order, as it does with what comes over one
-/// connection. The batches may be sent in any order, or side by side.
+/// A node has to run the commands of a batch in order, as it does for one connection. The batches
+/// may be sent in any order, or at once.
 ///
 /// # Errors
 ///
@@ -113,7 +111,7 @@ fn written(
     Ok((counts, ends, bytes))
 }
 
-/// Adds the requests of a batch, and tells how many they are.
+/// Adds the requests of a batch, and returns their number.
 fn push_batch(
     alloc: Global,
     plan: &PipelinePlan<'_>,

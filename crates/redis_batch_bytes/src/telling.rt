@@ -13,7 +13,7 @@ use crate::fault::BatchFault;
 use redis_batches::PipelinePlan;
 use std::alloc::{AllocError, Global};
 
-/// Tells a plan the answers to its batches, which are the bytes, batch after batch.
+/// Passes a plan the answers to its batches, which the bytes are, batch after batch.
 pub(super) fn tell_all(
     alloc: Global,
     plan: &mut PipelinePlan<'_>,
@@ -36,7 +36,7 @@ pub(super) fn tell_all(
     Ok(())
 }
 
-/// Tells a plan the answers to a batch, which the bytes begin with, and gives what follows them.
+/// Passes a plan the answers to a batch, at the front of the bytes, and returns what follows them.
 fn tell_batch<'b>(
     alloc: Global,
     plan: &mut PipelinePlan<'_>,
@@ -69,7 +69,7 @@ fn count_of(alloc: Global, plan: &PipelinePlan<'_>, number: usize) -> Result<usi
     ensures count { IfOk result (λ count. (places : List ℕ)
         → slice_get plan.now.batches.places number ≡ Some places → count ≡ length places) }
 {
-    // The places of its batches are within its parts.
+    // The indices of the plan's batches are within its parts.
     let _count = plan.len();
     let Some(batch) = plan.batch(alloc, number)? else {
         unreachable!()
