@@ -23,8 +23,8 @@ HasManyRanges None slot = ⊥
 HasManyRanges (Some topology) slot =
     (shard : ShardNodes) × IsShardAt topology slot shard × (2 ≤ length shard.ranges)
 
--- the address is the last replica where the slot's shard is known to have two ranges or more,
--- else the first
+-- the address is the last replica if the slot's shard is known to have two ranges or more, else the
+-- first replica
 abbrev pub IsShardPick : Option Topology → Candidates → Address → Type 0
 IsShardPick known c address =
     (HasManyRanges known c.slot × IsLastReplica c address)

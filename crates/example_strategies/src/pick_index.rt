@@ -6,8 +6,8 @@ ghost use Rattle.example_strategies.specs.Picks.{IsAtIndex};
 
 use cluster_map::{ClusterTopology, NodeAddress, ReadCandidates, ReadRoutingStrategy, Replicas};
 
-/// Picks the candidate at an index modulo their number. The primary, where a read may go to it, is
-/// the first of them, and the replicas follow.
+/// Picks the candidate at an index modulo their number. The primary comes first, if a read may go
+/// there, and then the replicas.
 #[derive(Debug, Drop)]
 pub struct PickIndex(pub usize);
 
@@ -43,7 +43,7 @@ impl ReadRoutingStrategy for PickIndex {
     }
 }
 
-/// The node at an index modulo the number of nodes: the primary is the first, the replicas follow.
+/// The node at an index modulo the number of nodes, the primary first.
 fn node_at<'a>(primary: &'a NodeAddress, replicas: Replicas<'a>, index: usize) -> &'a NodeAddress
     ensures { let nodes = primary.now ∷ addresses_of replicas.entry in
         slice_get nodes (index % length nodes) ≡ Some result.now }

@@ -7,10 +7,10 @@ use crate::candidates::{last_of, replicas_of};
 use cluster_map::{ClusterTopology, NodeAddress, ReadCandidates, ReadRoutingStrategy};
 use std::marker::Model;
 
-/// Picks the last replica where the slot's shard has two ranges or more, else the first replica.
+/// Picks the last replica if the slot's shard has two ranges or more, else the first replica.
 ///
-/// It goes by the topology that it was told last. A slot that this topology has no shard for has
-/// the first replica, and so has each slot before it is told of one.
+/// The shard is looked up in the last topology that was passed. A slot without a shard there gets
+/// the first replica, and so does each slot before a topology is passed.
 #[derive(Debug, Drop)]
 pub struct ShardAware {
     topology: Option<ClusterTopology>,
@@ -26,7 +26,7 @@ impl Model for ShardAware {
 }
 
 impl ShardAware {
-    /// A strategy that was told of no topology yet.
+    /// A strategy without a topology.
     pub fn new() -> Self
         ensures { result ≡ None }
     {
@@ -55,7 +55,7 @@ impl ReadRoutingStrategy for ShardAware {
       | inr (few, first) ↦ IsCandidate-replica c address 0 first
     ] };
 
-    /// Keeps this topology in place of an earlier one.
+    /// Replaces the topology.
     fn on_topology_changed(&mut self, topology: ClusterTopology)
         ensures told { self.new ≡ Some topology }
     {
