@@ -1,4 +1,4 @@
--- What stands at a key, and the trees that keep it.
+-- The values of a key, and the trees that keep them.
 use Rattle.std.specs.Prelude.{ℕ, List, Option, None, Some, option_map}
 use Rattle.std.specs.Ordering.{nat_cmp}
 use Rattle.std.specs.Cmp.Lexicographic.{slice_cmp}

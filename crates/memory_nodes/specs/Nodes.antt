@@ -18,42 +18,42 @@ use Rattle.memory_nodes.specs.declared.trace_entry.TraceEntry.{TraceEntry}
 abbrev pub node_refused : ErrorParts
 node_refused = record { kind = Client; desc = codes "node refused"; detail = None }
 
--- Whether a fuse refuses the send that finds so many entries in the trace. A fuse of 3 lets two
--- sends through; one of 1, as one of 0, lets none.
+-- Whether a fuse refuses the send that finds this many entries in the trace. A fuse of 3 lets two
+-- sends through; a fuse of 1 or 0 lets none.
 abbrev pub IsFused : Option ℕ → ℕ → Type 0
 IsFused None count = ⊥
 IsFused (Some limit) count = limit ≤ count + 1
 
--- what is planned for the send that finds so many entries in the trace, where the plan was made
--- when there were `base`: its items one after the other, and answers after the last
+-- an item of a plan, or an answer after the last item
 abbrev pub or_answer : Option Planned → Planned
 or_answer None = planned.Answer
 or_answer (Some item) = item
 
+-- what is planned for the send that finds `count` entries in the trace, by a plan made at `base`
 abbrev pub planned_for : List Planned → (base count : ℕ) → Planned
 planned_for plan base count =
     cond (nat_le base count) (or_answer (slice_get plan (count - base))) planned.Answer
 
--- a send that is planned so ends so, without an answer
+-- the ending of a planned send that is not answered
 abbrev pub EndsSo : Planned → Ending → Type 0
 EndsSo planned.Answer ending = ⊥
 EndsSo planned.Refuse ending = ending ≡ refused node_refused
 EndsSo (planned.Redirect redirect) ending = ending ≡ redirected redirect
 
--- how a send ended, by whether the node answered and where it sent the client on
+-- how a send ended, by whether the node answered and where it redirected the client
 abbrev pub ending_in : Bool → Option Redirect → Ending
 ending_in true redirect = answered
 ending_in false None = refused node_refused
 ending_in false (Some redirect) = redirected redirect
 
--- what stands in the trace of one send
+-- the trace entry of one send
 abbrev pub entry_of : TraceEntry → Entry
 entry_of e = entry e.node (words e.args.items) (ending_in e.answered e.redirect)
 
 abbrev pub keyspace_in : MemoryNodes → Keyspace Cell
 keyspace_in nodes = keyspace_of nodes.cells
 
--- the names that commands may have beside those of the tables
+-- the names that commands may have beside the names of the tables
 abbrev pub registered_in : MemoryNodes → Registrations
 registered_in nodes = nodes.registry
 
@@ -71,7 +71,7 @@ state_in nodes = state (keyspace_in nodes) (trace_in nodes) (mark_in nodes)
 abbrev pub fuse_in : MemoryNodes → Option ℕ
 fuse_in nodes = nodes.fuse
 
--- what the plan has for the send that finds so many entries
+-- what is planned for the send that finds `count` entries in the trace
 abbrev pub planned_in : MemoryNodes → ℕ → Planned
 planned_in nodes count = planned_for nodes.plan.items nodes.base count
 

@@ -22,7 +22,7 @@ bytes_of (Made name) = name.items
 abbrev pub words : List (Vec ℕ Global) → List (List ℕ)
 words args = map (λ arg. arg.items) args
 
--- the tuples of arguments of which none is shared
+-- the tuples of arguments, none of which is shared
 abbrev pub key_tuples : MultiSlotArgPattern → List (List ℕ) → List KeyTuple
 key_tuples pattern args = map unplaced (tuples_from pattern 0 args)
 
@@ -37,11 +37,11 @@ with_form whole form =
       form = form;
     }
 
--- and with the form of its policy
+-- the command that was taken apart, with the form of its policy
 abbrev pub command_by : WholeCommand → Option MultiKey
 command_by whole = option_map (with_form whole) (form_by_policy whole.policy)
 
--- what each of its tuples does
+-- what each tuple of the command does
 abbrev pub act_on : WholeCommand → Act Cell
 act_on whole =
     λ t. step whole.registered whole.name.now (slice_get (words whole.shared.now) 0) t.key

@@ -13,17 +13,17 @@ use Rattle.memory_nodes.specs.declared.results.Results.TheVariants.{Values, Coun
 abbrev pub result_of : KeyResult → TupleResult
 result_of r = record { value = view r.value; counts = r.counts }
 
--- what is kept is the values of these results, or how many of them count
+-- the values of these results are kept, or the number of those that count
 unfoldable pub HoldResults : Results → List TupleResult → Type 0
 HoldResults (Values values) results = map view values.items ≡ map (λ r. r.value) results
 HoldResults (Count count) results = count ≡ count_by (λ r. r.counts) results
 
--- there is room for what so many tuples add
+-- there is room for the results of this many tuples
 unfoldable pub HaveRoom : Results → ℕ → Type 0
 HaveRoom (Values values) tuples = vec_len values + tuples ≤ vec_capacity values
 HaveRoom (Count count) tuples = count + tuples < 2 ^ 63
 
--- values are kept where the policy makes a list of them
+-- values are kept if the policy makes a list of them, and else a count
 unfoldable pub FitPolicy : Results → ResponsePolicy → Type 0
 FitPolicy (Values values) policy = policy ≡ CombineArrays
 FitPolicy (Count count) policy = policy ≢ CombineArrays

@@ -31,9 +31,9 @@ actions =
 abbrev pub action_of : List ℕ → Action
 action_of name = unwrap_or (lookup_name actions name) Leave
 
--- A registered name does by its policy what a name of the tables does that has the same: a list
--- reads, at the path that all keys share where they share one, a count counts the keys that are
--- there, and `OK` writes, where the pattern has a value, or a path and a value, for each key.
+-- A registered name does what a name of the tables with its policy does. CombineArrays reads, at
+-- the path that the keys share, if any. Sum counts the keys that exist. AllSucceeded writes, if the
+-- pattern has a value, or a path and a value, for each key.
 abbrev pub registered_action : MultiSlotArgPattern → ResponsePolicy → Action
 registered_action KeysAndLastArg CombineArrays = ReadAtShared
 registered_action pattern CombineArrays = Read
@@ -42,7 +42,7 @@ registered_action KeyValuePairs AllSucceeded = Write
 registered_action KeyWithTwoArgTriples AllSucceeded = WriteAtPath
 registered_action pattern policy = Leave
 
--- by what the name is registered with, or if it is not, by the name
+-- the action by what the name is registered with, or else by the name
 abbrev pub action_by : Option Registered → List ℕ → Action
 action_by None name = action_of name
 action_by (Some registered) name = registered_action registered.0 registered.1
@@ -56,18 +56,19 @@ shown (Some value) = bulk value
 abbrev pub alone : List ℕ → Cell
 alone value = put [] (Some value) (λ path. None)
 
--- one value at a path, and at other paths what was there
+-- one value at a path, and the old values at other paths
 abbrev pub written : List ℕ → List ℕ → Option Cell → Cell
 written path value cell = put path (Some value) (value_at cell)
 
--- what is left in the cell, with a value, or with whether the key counts
+-- what is left in the cell, and a value for the reply
 abbrev pub gives : Option Cell → Reply → Outcome Cell
 gives cell value = record { cell = cell; result = record { value = value; counts = false } }
 
+-- what is left in the cell, and whether the key counts
 abbrev pub counted : Option Cell → Bool → Outcome Cell
 counted cell counts = record { cell = cell; result = record { value = nil; counts = counts } }
 
--- an argument that goes with the key, by its place among them
+-- an argument that goes with the key, by its index
 abbrev pub extra : List (List ℕ) → ℕ → List ℕ
 extra extras place = slice_index_or extras place []
 

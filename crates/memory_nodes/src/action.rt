@@ -18,7 +18,7 @@ pub(super) enum Action {
     Leave,
     /// Writes a value at the empty path, and keeps no other.
     Write,
-    /// Writes a value at a path, and keeps those at other paths.
+    /// Writes a value at a path, and keeps the values at other paths.
     WriteAtPath,
 }
 
@@ -43,7 +43,7 @@ impl Action {
         look_up(&ACTIONS, name).unwrap_or(Action::Leave)
     }
 
-    /// What a command does by what its name is registered with, or if it is not, by the name.
+    /// What a command does, by what its name is registered with, or else by its name.
     pub(super) fn by(
         registered: Option<(MultiSlotArgPattern, ResponsePolicy)>,
         name: &[u8],
@@ -56,7 +56,7 @@ impl Action {
         }
     }
 
-    /// What a command does whose name is registered with these.
+    /// What a command of a registered name does.
     fn of_registered(pattern: MultiSlotArgPattern, policy: ResponsePolicy) -> Action
         ensures { result ≡ registered_action pattern policy }
     {

@@ -54,7 +54,7 @@ pub(super) fn write<'a>(
     write_alone(alloc, cells, key, b"", value)
 }
 
-/// Puts a value at a path of a key, and keeps those at other paths.
+/// Puts a value at a path of a key, and keeps the values at other paths.
 pub(super) fn write_at_path<'a>(
     alloc: Global,
     cells: &mut Cells,
@@ -106,7 +106,7 @@ fn write_alone<'a>(
     })
 }
 
-/// Puts a value at a path, and gives what stood there.
+/// Puts a value at a path, and returns the old one.
 fn put_value(
     alloc: Global,
     values: &mut Values,

@@ -5,21 +5,21 @@ ghost use Rattle.memory_nodes.specs.Undo.{undone, before_all};
 use crate::cells::{Cells, Values};
 use crate::tree::put_back;
 
-/// A write, by what it takes to undo it.
+/// What it takes to undo a write.
 #[derive(Drop)]
 pub(super) struct Change<'a> {
     /// The key that was written.
     pub(super) key: &'a [u8],
-    /// What stood there before.
+    /// What the key held before.
     pub(super) before: Before<'a>,
 }
 
-/// What stood at a key before a write.
+/// What a key held before a write.
 #[derive(Drop)]
 pub(super) enum Before<'a> {
-    /// All its values, or none if the key was not there.
+    /// All values of the key. `None` if the key was not there.
     AtKey(Option<Values>),
-    /// The value at a path, or none. The write kept those at other paths.
+    /// The value at a path, if there was one. The write kept the values at other paths.
     AtPath(&'a [u8], Option<Vec<u8>>),
 }
 

@@ -10,7 +10,7 @@ use std::alloc::{AllocError, Global};
 /// The name of a command in upper case.
 #[derive(Drop)]
 pub(super) enum Name<'a> {
-    /// The first argument of the command, which is the name as it stands.
+    /// The first argument of the command, if that is in upper case.
     Given(&'a [u8]),
     /// Made of one or two arguments.
     Made(Vec<u8>),
@@ -31,7 +31,7 @@ impl<'a> Name<'a> {
         Ok(Name::Made(name))
     }
 
-    /// Its bytes.
+    /// The bytes of the name.
     pub(super) fn as_slice(&self) -> &[u8]
         ensures { result.now ≡ bytes_of self.now }
     {
@@ -42,7 +42,7 @@ impl<'a> Name<'a> {
     }
 }
 
-/// The first argument of a command, where it is the name in upper case.
+/// The first argument of a command, if it is the name in upper case.
 fn plain_name(cmd: &Cmd) -> Option<&[u8]>
     ensures { IfSome result (λ name. command_name (map Some cmd.now) ≡ Some name.now) }
 {

@@ -19,9 +19,9 @@ use redis_routing::{Redirect, Registry};
 use resp_core::{Cmd, ErrorKind, RedisError, Value};
 use std::alloc::{AllocError, Global};
 
-/// Nodes that share one keyspace in memory, keep a trace of what they are sent, refuse from the
-/// send on that their fuse names, and else refuse or redirect as was planned. A send looks each of
-/// its keys up in a tree, and touches no other key.
+/// Nodes that share one keyspace in memory and keep a trace of what they are sent. A fuse refuses
+/// each send from a given one on, and a plan refuses or redirects single sends. A send looks each
+/// of its keys up in a tree, and touches no other key.
 #[derive(Drop)]
 pub struct MemoryNodes {
     alloc: Global,
@@ -36,8 +36,8 @@ pub struct MemoryNodes {
 }
 
 impl MemoryNodes {
-    /// Nodes that hold no key, have been sent nothing, refuse and redirect nothing, and know the
-    /// names of the tables alone. Takes no memory.
+    /// Nodes with no key, no entry in the trace, no fuse, no plan and no registered name. Takes no
+    /// memory.
     pub fn new(alloc: Global) -> MemoryNodes
         ensures registered { registered_in result ≡ [] }
         ensures keyspace { keyspace_in result ≡ (λ key. None) }
@@ -50,10 +50,10 @@ impl MemoryNodes {
         MemoryNodes::with_registry(alloc, Registry::new(alloc))
     }
 
-    /// `new`, for nodes that know registered names too. A command of such a name reads where its
-    /// policy is `CombineArrays`, at the path that all keys share where they share one. By
-    /// `Aggregate(Sum)` it counts the keys that are there. By `AllSucceeded` it writes as `MSET` or
-    /// `JSON.MSET` does, where each key has a value, or a path and a value. Takes no memory.
+    /// `new` for nodes that know registered names, too. The policy of a name says what it does.
+    /// `CombineArrays` reads, at the path that the keys share, if any. `Aggregate(Sum)` counts the
+    /// keys that exist. `AllSucceeded` writes as `MSET` or `JSON.MSET` does, if each key has a
+    /// value, or a path and a value. Takes no memory.
     pub fn with_registry(alloc: Global, registry: Registry) -> MemoryNodes
         ensures registered { registered_in result ≡ registry }
         ensures keyspace { keyspace_in result ≡ (λ key. None) }
@@ -75,8 +75,8 @@ impl MemoryNodes {
         }
     }
 
-    /// From now on refuses each send that finds `limit - 1` or more entries in the trace: a limit
-    /// of 3 lets two sends through, and 1, as 0, lets none. The fuse goes before the plan.
+    /// Refuses from now on each send that finds `limit - 1` or more entries in the trace. A limit
+    /// of 3 lets two sends through; 1 or 0 lets none. The fuse goes before the plan.
     pub fn fuse(&mut self, limit: usize)
         ensures registered { registered_in self.new ≡ registered_in self.old }
         ensures keyspace { keyspace_in self.new ≡ keyspace_in self.old }
@@ -91,9 +91,8 @@ impl MemoryNodes {
         self.fuse = Some(limit);
     }
 
-    /// From now on each send does what its entry of this plan says, the next send the first one's,
-    /// and answers after the last: `[Refuse, Answer]` refuses one send. An earlier plan is gone. The
-    /// fuse goes before the plan.
+    /// Replaces the plan. Each send from now on follows the next entry, and after the last one it
+    /// is answered: `[Refuse, Answer]` refuses one send. The fuse goes before the plan.
     pub fn plan(&mut self, plan: Vec<Planned>)
         ensures registered { registered_in self.new ≡ registered_in self.old }
         ensures keyspace { keyspace_in self.new ≡ keyspace_in self.old }
@@ -111,14 +110,14 @@ impl MemoryNodes {
         self.plan = plan;
     }
 
-    /// The value at a path of a key. Values that no path was given for stand at the empty one.
+    /// The value at a path of a key. A value written without a path is at the empty path.
     pub fn get(&self, key: &[u8], path: &[u8]) -> Option<&[u8]>
         ensures { option_copied result ≡ value_at (keyspace_in self.now key.now) path.now }
     {
         value_at(&self.cells, key, path)
     }
 
-    /// What was sent so far, the first send first.
+    /// The sends so far, in order.
     pub fn trace(&self) -> &[TraceEntry]
         ensures { map entry_of result.now ≡ trace_in self.now }
     {
@@ -135,8 +134,7 @@ impl MemoryNodes {
         }
     }
 
-    /// Answers a command, at the cost of the command alone. Where memory runs out, what it changed
-    /// is undone.
+    /// Answers a command. If memory runs out, what it changed is undone.
     fn answer(&mut self, node: &NodeAddress, cmd: &Cmd) -> Result<Value, AllocError>
         requires whole { IsSome (multi_key (registered_in self.old) (map Some cmd.now)) }
         ensures reply { IfOk result
@@ -186,7 +184,7 @@ impl MemoryNodes {
         Ok(RedisError::from((ErrorKind::Client, "node refused")))
     }
 
-    /// Notes that a command was sent on, and gives the redirect back.
+    /// Adds a redirected send to the trace, and returns the redirect.
     fn redirect(
         &mut self,
         node: &NodeAddress,
@@ -237,7 +235,7 @@ impl Nodes for MemoryNodes {
         &self.registry
     }
 
-    /// Refuses where the fuse says so, and else does what was planned, or answers.
+    /// Refuses if the fuse says so, and else does what was planned.
     fn send(&mut self, node: &NodeAddress, cmd: &Cmd) -> Result<Value, SendError>
         requires whole { IsSome (multi_key (registered_in self.old) (map Some cmd.now)) }
         ensures reply { IfOk result
@@ -258,7 +256,7 @@ impl Nodes for MemoryNodes {
             (λ error. IfSome (multi_key (registered_in self.old) (map Some cmd.now))
             (λ command. IsLeft step command (keyspace_in self.old) (keyspace_in self.new)
             (ending_of error))) }
-        // The fuse and the plan are as they were, also where the fuse hides the plan.
+        // The fuse and the plan are as they were, also if the fuse hides the plan.
         ensures fuse { fuse_in self.new ≡ fuse_in self.old }
         ensures planned { (count : ℕ) → planned_in self.new count ≡ planned_in self.old count }
         ensures may_refuse { (count : ℕ) (ending : Ending) → MayRefuse self.new count ending
@@ -300,8 +298,8 @@ impl Nodes for MemoryNodes {
     }
 }
 
-/// Makes room for one entry more, at first for six, so that a trace of up to six sends that were
-/// answered never moves.
+/// Makes room for one more entry, at first for six. So a trace of up to six answered sends never
+/// moves.
 fn reserve_entry(trace: &mut Vec<TraceEntry>) -> Result<(), AllocError>
     ensures items { trace.new.items ≡ trace.old.items }
     ensures room { OnOk result (vec_len trace.new < vec_capacity trace.new) }

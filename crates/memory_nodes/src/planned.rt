@@ -4,19 +4,19 @@ ghost use Rattle.memory_nodes.specs.Nodes.{planned_for};
 use redis_routing::Redirect;
 use std::alloc::AllocError;
 
-/// What a send does that was planned: answers, refuses as the fuse does, or redirects.
+/// What a plan has a send do: answer, refuse as the fuse does, or redirect.
 #[derive(Debug, PartialEq, Eq, Drop)]
 pub enum Planned {
     /// The node answers.
     Answer,
     /// The node refuses.
     Refuse,
-    /// The node sends the client on.
+    /// The node redirects the client.
     Redirect(Redirect),
 }
 
-/// What is planned for the send that finds so many entries in the trace, where the plan was made
-/// when there were `base`.
+/// What is planned for the send that finds `entries` entries in the trace, by a plan made at
+/// `base`.
 pub(super) fn next_planned(
     plan: &[Planned],
     base: usize,

@@ -12,9 +12,9 @@ use std::alloc::{AllocError, Global};
 /// What a tuple adds to the reply.
 #[derive(Drop)]
 pub(super) struct KeyResult {
-    /// Its value, if the reply is a list.
+    /// The value of the tuple, if the reply is a list.
     pub(super) value: Value,
-    /// Whether it counts, if the reply is a count.
+    /// Whether the tuple counts, if the reply is a count.
     pub(super) counts: bool,
 }
 
@@ -43,14 +43,14 @@ impl KeyResult {
 /// What tuples add to the reply.
 #[derive(Drop)]
 pub(super) enum Results {
-    /// The value of each, in order, if the reply is a list.
+    /// The value of each tuple, in order, if the reply is a list.
     Values(Vec<Value>),
-    /// How many count, if the reply is no list.
+    /// How many tuples count, if the reply is no list.
     Count(usize),
 }
 
 impl Results {
-    /// What no tuple adds to a reply by this policy, with room for what so many tuples add.
+    /// No results yet, with room for those of `tuples` tuples, for a reply by this policy.
     #[tactic(auto, unfolding(crate::specs::Results::HoldResults, crate::specs::Results::HaveRoom, crate::specs::Results::FitPolicy))]
     pub(super) fn with_room(
         alloc: Global,
@@ -70,7 +70,7 @@ impl Results {
         }
     }
 
-    /// Adds what the next tuple adds. Takes no memory.
+    /// Adds the result of the next tuple. Takes no memory.
     #[tactic(auto, unfolding(crate::specs::Results::HoldResults, crate::specs::Results::HaveRoom, crate::specs::Results::FitPolicy))]
     pub(super) fn add(&mut self, added: KeyResult)
         requires room { HaveRoom self.old 1 }
@@ -86,7 +86,7 @@ impl Results {
         }
     }
 
-    /// The reply that a policy makes of them.
+    /// The reply that a policy makes of the results.
     #[tactic(auto, unfolding(crate::specs::Results::HoldResults, crate::specs::Results::HaveRoom, crate::specs::Results::FitPolicy))]
     pub(super) fn into_reply(self, policy: ResponsePolicy) -> Value
         requires few { HaveRoom self 0 }

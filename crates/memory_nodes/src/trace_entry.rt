@@ -14,15 +14,15 @@ pub struct TraceEntry {
     pub node: NodeAddress,
     /// The arguments of the command, the name first.
     pub args: Vec<Vec<u8>>,
-    /// Whether the node answered. Where it did not, it refused or redirected.
+    /// Whether the node answered. If not, it refused or redirected.
     pub answered: bool,
-    /// Where the node sent the client on. A node that answers sends it nowhere.
+    /// Where the node redirected the client, if it did.
     pub redirect: Option<Redirect>,
     ghost one_ending: { IsTrue answered → redirect ≡ None },
 }
 
 impl TraceEntry {
-    /// The entry of a send of a command to a node that answered it.
+    /// The entry of a send that the node answered.
     pub(super) fn with_answer(
         alloc: Global,
         node: &NodeAddress,
@@ -40,8 +40,7 @@ impl TraceEntry {
         })
     }
 
-    /// The entry of a send of a command to a node that sent the client on, or if there is no
-    /// redirect, refused the command.
+    /// The entry of a send that the node redirected, or refused if there is no redirect.
     pub(super) fn without_answer(
         alloc: Global,
         node: &NodeAddress,

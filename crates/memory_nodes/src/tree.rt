@@ -6,10 +6,10 @@ ghost use Rattle.memory_nodes.specs.Undo.{back};
 use std::alloc::{AllocError, Global};
 use std::collections::BTreeMap;
 
-/// What stands at some bytes.
+/// Values by the bytes that they belong to.
 pub(super) type Tree<V> = BTreeMap<Vec<u8>, V>;
 
-/// Puts a value at some bytes, in the place of what is there, and gives that.
+/// Puts a value at some bytes, and returns the value that it replaces.
 pub(super) fn put_at<V: Drop>(
     alloc: Global,
     tree: &mut Tree<V>,
@@ -24,7 +24,7 @@ pub(super) fn put_at<V: Drop>(
     Ok(before)
 }
 
-/// Puts back what stood at some bytes before, in the place of what is there now. Takes no memory.
+/// Puts back the value that some bytes had before. Takes no memory.
 pub(super) fn put_back<V: Drop>(tree: &mut Tree<V>, bytes: &[u8], before: Option<V>)
     ensures { found tree.new
         ≡ put bytes.now (back before (found tree.old bytes.now)) (found tree.old) }

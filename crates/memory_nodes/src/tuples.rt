@@ -18,8 +18,8 @@ use redis_routing::Registry;
 use resp_core::{Cmd, Value};
 use std::alloc::{AllocError, Global};
 
-/// Runs a multi-key command whose arguments are these, and answers it. Where memory runs out,
-/// the keyspace is as it was.
+/// Runs a multi-key command with these arguments, and answers it. If memory runs out, the keyspace
+/// is as it was.
 pub(super) fn run(
     alloc: Global,
     registry: &Registry,
@@ -65,7 +65,7 @@ fn run_tuples<'a>(
         (keyspace_of cells.old))) }
     ensures few { IfOk result (λ kept. HaveRoom kept 0) }
     ensures fit { IfOk result (λ kept. FitPolicy kept whole.now.policy) }
-    // Where memory runs out, undoing the changes leads back.
+    // If memory runs out, undoing the changes leads back.
     ensures undo { OnErr result
         (before_all changes.new.items (keyspace_of cells.new)
         ≡ before_all changes.old.items (keyspace_of cells.old)) }
@@ -151,7 +151,7 @@ fn read(alloc: Global, cells: &Cells, key: &[u8], path: &[u8]) -> Result<KeyResu
     }
 }
 
-/// The argument at a place, or no bytes.
+/// The argument at an index, or no bytes.
 fn word(args: &[Vec<u8>], place: usize) -> &[u8]
     ensures { result.now ≡ slice_index_or (words args.now) place [] }
 {

@@ -12,20 +12,20 @@ use resp_core::Cmd;
 pub(super) struct WholeCommand<'a> {
     /// The name in upper case.
     pub(super) name: &'a [u8],
-    /// What the name is registered with, unless it is one of the nine.
+    /// What the name is registered with. `None` for the nine names of the tables.
     pub(super) registered: Option<(MultiSlotArgPattern, ResponsePolicy)>,
-    /// How its arguments make tuples of a key and what goes with it.
+    /// How the arguments make tuples of a key and what goes with it.
     pub(super) pattern: MultiSlotArgPattern,
-    /// How what the tuples add makes the reply.
+    /// How the results of the tuples make the reply.
     pub(super) policy: ResponsePolicy,
     /// The arguments of the tuples, one after the other.
     pub(super) tuples: &'a [Vec<u8>],
-    /// The argument that all keys share, or none.
+    /// The argument that all keys share, if there is one.
     pub(super) shared: &'a [Vec<u8>],
 }
 
 impl<'a> WholeCommand<'a> {
-    /// Takes a command of this name apart whose arguments are these. Takes no memory.
+    /// Takes apart a command with this name and these arguments. Takes no memory.
     pub(super) fn new(registry: &Registry, cmd: &Cmd, name: &'a [u8], args: &'a [Vec<u8>]) -> Self
         requires name { command_name (map Some cmd.now) ≡ Some name.now }
         requires args { words args.now ≡ cmd.now }
@@ -47,7 +47,7 @@ impl<'a> WholeCommand<'a> {
     }
 }
 
-/// How commands of this name make tuples, and how what those add makes the reply.
+/// How commands of this name make tuples, and how the results of these make the reply.
 fn shape_of(registry: &Registry, name: &[u8]) -> (MultiSlotArgPattern, ResponsePolicy)
     requires { IsSome (split_of registry.now name.now) }
     ensures { Some result ≡ split_of registry.now name.now }
@@ -58,7 +58,7 @@ fn shape_of(registry: &Registry, name: &[u8]) -> (MultiSlotArgPattern, ResponseP
     split
 }
 
-/// What a name is registered with. None of the nine is.
+/// What a name is registered with. `None` for the nine names of the tables.
 fn registered_as(registry: &Registry, name: &[u8]) -> Option<(MultiSlotArgPattern, ResponsePolicy)>
     ensures { result ≡ registered_as registry.now name.now }
 {
