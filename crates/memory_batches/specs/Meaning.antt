@@ -18,7 +18,7 @@ Means registered args OverKeys = IsSome (multi_key registered (map Some args))
 Means registered args (InSlot slot) = task_of registered args ≡ Some (in_slot slot args)
 Means registered args Nothing = task_of registered args ≡ None
 
--- what is left and answered is what an effect leaves and answers
+-- the new keyspace and the answer are those of an effect
 pub record IsDone (effect : Effect Cell Answer) (old new : Keyspace Cell)
     (answer : Result Value ErrorParts) : Type 0 where
   pub keyspace : new ≡ (effect old).keys

@@ -15,14 +15,14 @@ use Rattle.memory_batches.specs.Strings.{serve}
 use Rattle.memory_batches.specs.declared.nodes.MemoryBatchNodes.{MemoryBatchNodes}
 use Rattle.memory_batches.specs.declared.trace_entry.BatchEntry.{BatchEntry}
 
--- what stands in the trace of one command
+-- the trace entry of one command
 abbrev pub entry_of : BatchEntry → Entry
 entry_of e = entry e.node e.command (ending_by e.refusal)
 
 abbrev pub keyspace_in : MemoryBatchNodes → Keyspace Cell
 keyspace_in nodes = store.keyspace_in nodes.store
 
--- the names that commands may have beside those of the tables
+-- the names that commands may have beside the names of the tables
 abbrev pub registered_in : MemoryBatchNodes → Registrations
 registered_in nodes = store.registered_in nodes.store
 
@@ -36,16 +36,17 @@ mark_in nodes = nodes.mark
 abbrev pub state_in : MemoryBatchNodes → State Cell
 state_in nodes = state (keyspace_in nodes) (trace_in nodes) (mark_in nodes)
 
--- the error that is planned for the command that finds so many entries in the trace, if one is,
--- where the plan was made when there were `base`
+-- an entry of a plan, or none after the last
 abbrev pub listed : Option (Option ErrorParts) → Option ErrorParts
 listed None = None
 listed (Some item) = item
 
+-- the error that is planned for the command that finds `count` entries in the trace, by a plan made
+-- at `base`
 abbrev pub refusal_for : List (Option ErrorParts) → (base count : ℕ) → Option ErrorParts
 refusal_for plan base count = cond (nat_le base count) (listed (slice_get plan (count - base))) None
 
--- a command may be refused at a place of the trace with the error that is planned for it
+-- the command at an index of the trace may be refused with the error that is planned for it
 abbrev pub may_end : List (Option ErrorParts) → (base count : ℕ) → Ending → Type 0
 may_end plan base count ending =
     (error : ErrorParts) × (refusal_for plan base count ≡ Some error) × (ending ≡ refused error)
@@ -53,18 +54,18 @@ may_end plan base count ending =
 abbrev pub MayRefuse : MemoryBatchNodes → ℕ → Ending → Type 0
 MayRefuse nodes = may_end nodes.plan.items nodes.base
 
--- what the plan has for the command that finds so many entries
+-- the error that is planned for the command that finds `count` entries in the trace
 abbrev pub refusal_in : MemoryBatchNodes → ℕ → Option ErrorParts
 refusal_in nodes count = refusal_for nodes.plan.items nodes.base count
 
--- Each entry that the trace grew by ended as was planned for its place.
+-- Each new entry of the trace ended as was planned for its index.
 abbrev pub AreAsPlanned : (old new : MemoryBatchNodes) → Type 0
 AreAsPlanned old new =
     (place : ℕ) (e : Entry) → length (trace_in old) ≤ place → slice_get (trace_in new) place ≡ Some e
     → e.ending ≡ ending_by (refusal_in old place)
 
--- The first commands of a batch were served, except those that were refused as they may be, and the
--- trace grew by their entries. The one behind them was begun at most.
+-- The first commands of a batch were served, except those that the plan refused, and the trace grew
+-- by their entries. The next one was begun at most.
 pub record IsBegun (node : Address) (batch : List (List (List ℕ))) (old new : MemoryBatchNodes)
     : Type 0 where
   pub ends : List (Option ErrorParts)

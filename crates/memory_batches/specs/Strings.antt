@@ -21,11 +21,11 @@ use Rattle.memory_batches.specs.declared.verb.Verb.TheVariants.{Get, Set, Incr, 
 abbrev pub string_at : Keyspace Cell → List ℕ → Option (List ℕ)
 string_at keyspace key = value_at (keyspace key) []
 
--- the keyspace where a key holds this string, and no other value
+-- the keyspace after a key got this string, and no other value
 abbrev pub with_string : List ℕ → List ℕ → Keyspace Cell → Keyspace Cell
 with_string key string keyspace = put key (Some (alone string)) keyspace
 
--- an error of a command's own, by its text
+-- an error of a command, by its text
 abbrev pub own_error : List ℕ → ErrorParts
 own_error text = record { kind = Client; desc = text; detail = None }
 
@@ -37,12 +37,12 @@ fails text = λ keyspace. record { keys = keyspace; reply = Err (own_error text)
 abbrev pub length_at : Keyspace Cell → List ℕ → Option (List ℕ)
 length_at keyspace key = value_at (keyspace key) (codes "length")
 
--- the keyspace where a key has this length, and at other paths what it had
+-- the keyspace after a key got this length, and kept its values at other paths
 abbrev pub with_length : List ℕ → List ℕ → Keyspace Cell → Keyspace Cell
 with_length key length keyspace =
     put key (Some (written (codes "length") length (keyspace key))) keyspace
 
--- A key holds a list where it has a length and no string. Of a list its length alone is kept.
+-- A key holds a list if it has a length and no string. Only the length of a list is kept.
 abbrev pub is_list : (string length : Option (List ℕ)) → Bool
 is_list (Some string) length = false
 is_list None length = is_some length
@@ -53,7 +53,7 @@ holds_list keyspace key = is_list (string_at keyspace key) (length_at keyspace k
 abbrev pub wrong_type : Effect Cell Answer
 wrong_type = fails (codes "WRONGTYPE Operation against a key holding the wrong kind of value")
 
--- what a command over the string of a key does, which at a list is an error
+-- what a command over the string of a key does, except that a list is an error
 abbrev pub unless_list : List ℕ → Effect Cell Answer → Effect Cell Answer
 unless_list key effect = λ keyspace. cond (holds_list keyspace key) wrong_type effect keyspace
 
@@ -76,8 +76,7 @@ has_64_bits (negsuc n) = nat_lt n (2 ^ 63)
 abbrev pub in_64_bits : ℤ → Option ℤ
 in_64_bits n = cond (has_64_bits n) (Some n) None
 
--- The number of 64 bits that is written so, if there is one: a text that has a plus, or a space or a
--- zero in front, is none.
+-- The 64-bit number that a text writes as a server does: without a plus, a space or a leading zero.
 abbrev pub number_in : List ℕ → Option ℤ
 number_in text =
     cond (bytes_eq (signed_decimal (signed_digits_value 10 text)) text)
@@ -91,7 +90,7 @@ number_at (Some text) = number_in text
 abbrev pub one_more : Option ℤ → Option ℤ
 one_more number = option_and_then (λ n. in_64_bits (n +ℤ pos 1)) number
 
--- INCR key: the key holds one more than its number, and the answer is that, if it has 64 bits
+-- INCR key: adds one to the number at the key and answers the sum, if it has 64 bits
 abbrev pub counted : List ℕ → Option ℤ → Effect Cell Answer
 counted key None = fails (codes "ERR increment or decrement would overflow")
 counted key (Some n) = λ keyspace. record {
@@ -109,12 +108,12 @@ raised key = λ keyspace. raised_from key (number_at (string_at keyspace key)) k
 abbrev pub incr : List ℕ → Effect Cell Answer
 incr key = unless_list key (raised key)
 
--- how long the list at a key is, which is 0 if the key is absent; no number at a string
+-- the length of the list at a key: 0 if the key is absent, and none if it holds a string
 abbrev pub list_length : (string length : Option (List ℕ)) → Option ℤ
 list_length (Some string) length = None
 list_length None length = number_at length
 
--- LPUSH key element: the list at the key is one longer, and the answer is its length now
+-- LPUSH key element: adds one to the length of the list at the key, and answers the new length
 abbrev pub pushed : List ℕ → Option ℤ → Effect Cell Answer
 pushed key None = wrong_type
 pushed key (Some n) = λ keyspace. record {
@@ -126,8 +125,8 @@ abbrev pub lpush : List ℕ → Effect Cell Answer
 lpush key = λ keyspace.
     pushed key (one_more (list_length (string_at keyspace key) (length_at keyspace key))) keyspace
 
--- RENAME key new: the new key holds the string of the key, which is gone, whatever the new key held.
--- Here it knows strings alone: unlike Redis, it answers at a list that there is no such key.
+-- RENAME key new: moves the string of the key to the new key, whatever that held. Unlike Redis, it
+-- answers for a list that there is no such key.
 abbrev pub renamed : List ℕ → List ℕ → Option (List ℕ) → Effect Cell Answer
 renamed key new None = fails (codes "ERR no such key")
 renamed key new (Some string) = λ keyspace. record {
@@ -138,7 +137,7 @@ renamed key new (Some string) = λ keyspace. record {
 abbrev pub rename : List ℕ → List ℕ → Effect Cell Answer
 rename key new = λ keyspace. renamed key new (string_at keyspace key) keyspace
 
--- in a cluster its keys must have one slot
+-- the error of a RENAME whose keys have two slots
 abbrev pub cross_slot : Effect Cell Answer
 cross_slot = fails (codes "CROSSSLOT Keys in request don't hash to the same slot")
 
@@ -161,7 +160,7 @@ abbrev pub verb_in : Option (List ℕ) → Option Verb
 verb_in None = None
 verb_in (Some name) = verb_of name
 
--- how many arguments each takes, the name included
+-- how many arguments a command takes, the name included
 abbrev pub length_of : Verb → ℕ
 length_of Get = 2
 length_of Set = 3
@@ -182,6 +181,6 @@ abbrev pub arguments_of : List (List ℕ) → List (List ℕ)
 arguments_of [] = []
 arguments_of (name ∷ arguments) = arguments
 
--- what a command does to the keys of its slot, and answers; its name counts in upper case
+-- what a command does to the keys of its slot, and answers; its name is read in upper case
 abbrev pub serve : Serve Cell
 serve args = by_verb (verb_in (command_name (map Some args))) (arguments_of args)

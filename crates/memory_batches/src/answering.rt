@@ -15,7 +15,7 @@ use redis_cluster::driver::Nodes;
 use resp_core::{Cmd, RedisError, Value};
 use std::alloc::{AllocError, Global};
 
-/// Answers a command, or refuses it with this error, and then does nothing.
+/// Answers a command, or refuses it with `refusal` and does nothing.
 pub(super) fn answer_or_refuse(
     alloc: Global,
     store: &mut MemoryNodes,

@@ -12,11 +12,11 @@ use std::alloc::{AllocError, Global};
 /// What a command means to nodes.
 #[derive(Clone, Copy)]
 pub(super) enum Meaning {
-    /// It is over many keys, and does its step at each.
+    /// Over many keys, with a step at each.
     OverKeys,
-    /// It keeps to the keys of this slot.
+    /// Over keys of this slot only.
     InSlot(u16),
-    /// It keeps to no slot, as `PING`.
+    /// Over no slot, as `PING`.
     Nothing,
 }
 

@@ -19,21 +19,20 @@ use resp_core::{Cmd, RedisError, Value};
 use std::alloc::{AllocError, Global};
 
 /// Nodes that share one keyspace in memory, take batches of commands, keep a trace of these, and
-/// refuse those commands that were planned to be refused.
+/// refuse the commands that a plan refuses.
 ///
-/// They know the commands over many keys, as `MemoryNodes` does, and `GET key`, `SET key value`,
-/// `INCR key`, `LPUSH key element` and `RENAME key new`. These answer what Redis answers for strings
-/// and lists, but that `RENAME` of a list answers that there is no such key.
+/// They know the multi-key commands, as `MemoryNodes` does, and `GET key`, `SET key value`,
+/// `INCR key`, `LPUSH key element` and `RENAME key new`. These answer as Redis does for strings and
+/// lists, except that `RENAME` of a list answers that there is no such key. Any other command is
+/// answered with the error `ERR unknown command`.
 ///
-/// To these a key is its string, the value at the empty path, which `MSET` writes too. Or it is its
-/// list, of which the length alone is kept, at the path `length`. A key with neither is absent, also
-/// where it has values at other paths, at which Redis would tell of the wrong type. A string that
-/// they write takes the place of all values of the key. Any other command is answered with the error
-/// `ERR unknown command`.
+/// The string of a key is its value at the empty path, which `MSET` writes, too. Only the length of
+/// a list is kept, at the path `length`. A key with neither is absent to these commands, also if it
+/// has values at other paths. A string that they write replaces all values of the key.
 #[derive(Drop)]
 pub struct MemoryBatchNodes {
     alloc: Global,
-    /// The keyspace. Its own trace is not looked at.
+    /// The keyspace. Its own trace is not used.
     store: MemoryNodes,
     trace: Vec<BatchEntry>,
     plan: Vec<Option<RedisError>>,
@@ -43,8 +42,7 @@ pub struct MemoryBatchNodes {
 }
 
 impl MemoryBatchNodes {
-    /// Nodes that hold no key, have been sent nothing, refuse nothing, and know the names of the
-    /// tables alone. Takes no memory.
+    /// Nodes with no key, no entry in the trace, no plan and no registered name. Takes no memory.
     pub fn new(alloc: Global) -> MemoryBatchNodes
         ensures registered { registered_in result ≡ [] }
         ensures keyspace { keyspace_in result ≡ (λ key. None) }
@@ -55,8 +53,8 @@ impl MemoryBatchNodes {
         MemoryBatchNodes::with_registry(alloc, Registry::new(alloc))
     }
 
-    /// `new`, for nodes that know registered names too, as `MemoryNodes::with_registry` has them.
-    /// Takes no memory.
+    /// `new` for nodes that know registered names, too, as `MemoryNodes::with_registry` does. Takes
+    /// no memory.
     pub fn with_registry(alloc: Global, registry: Registry) -> MemoryBatchNodes
         ensures registered { registered_in result ≡ registry }
         ensures keyspace { keyspace_in result ≡ (λ key. None) }
@@ -76,9 +74,9 @@ impl MemoryBatchNodes {
 }
 
 impl MemoryBatchNodes {
-    /// From now on each command does what its entry of this plan says, the next command the first
-    /// one's: with an error it is refused, and else answered, as are those after the last. An
-    /// earlier plan is gone. `[None, Some(error)]` refuses the second of the commands that come.
+    /// Replaces the plan. Each command from now on follows the next entry: an error refuses it, and
+    /// without one it is answered. So are all commands after the last entry. `[None, Some(error)]`
+    /// refuses the second command from now on.
     pub fn plan(&mut self, plan: Vec<Option<RedisError>>)
         ensures registered { registered_in self.new ≡ registered_in self.old }
         ensures keyspace { keyspace_in self.new ≡ keyspace_in self.old }
@@ -91,14 +89,14 @@ impl MemoryBatchNodes {
         self.plan = plan;
     }
 
-    /// The value at a path of a key. Values that no path was given for stand at the empty one.
+    /// The value at a path of a key. A value written without a path is at the empty path.
     pub fn get(&self, key: &[u8], path: &[u8]) -> Option<&[u8]>
         ensures { option_copied result ≡ value_at (keyspace_in self.now key.now) path.now }
     {
         self.store.get(key, path)
     }
 
-    /// What was sent so far, the first command first.
+    /// The commands so far, in order.
     pub fn trace(&self) -> &[BatchEntry]
         ensures { map entry_of result.now ≡ trace_in self.now }
     {
@@ -112,7 +110,7 @@ impl MemoryBatchNodes {
         planned_refusal(self.alloc, &self.plan, self.base, self.trace.len())
     }
 
-    /// Answers one command, or refuses it, and notes that.
+    /// Answers one command, or refuses it, and adds it to the trace.
     fn take(
         &mut self,
         node: &NodeAddress,
@@ -186,10 +184,9 @@ impl BatchNodes for MemoryBatchNodes {
         self.store.registry()
     }
 
-    /// Where memory runs out before the first command, none is taken. Once one was begun, the answers
-    /// are lost: what was taken stays, as at a node that fails between two commands, since undoing it
-    /// would take a copy of the keys. A `RENAME` that was begun may leave its key gone and the new one
-    /// as it was. Any other command does all or nothing.
+    /// If memory runs out before the first command, none is taken. Later, the answers are lost and
+    /// what was taken stays, as at a node that fails between two commands. Each command does all or
+    /// nothing, except that a `RENAME` may have only removed its key.
     fn send_batch(
         &mut self,
         node: &NodeAddress,
@@ -200,10 +197,10 @@ impl BatchNodes for MemoryBatchNodes {
             (MayRefuse self.old) node.now (map (λ cmd. cmd.now) batch.now)
             (state_in self.old) (state_in self.new)
             (map answer_of answers.items)) }
-        // Each command was refused that was to be, and no other.
+        // Exactly the commands were refused that the plan refuses.
         ensures as_planned { OnOk result (AreAsPlanned self.old self.new) }
         ensures mark { OnOk result (mark_in self.new ≡ false) }
-        // A batch that was not taken ran out of memory.
+        // A batch fails only if memory runs out.
         ensures only { OnErr result (mark_in self.new ≡ true) }
         ensures untaken { IfErr result (λ error. IsUntaken step serve (registered_in self.old)
             (Unit {0}) (MayRefuse self.old) node.now (map (λ cmd. cmd.now) batch.now)

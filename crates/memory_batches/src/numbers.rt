@@ -28,7 +28,7 @@ pub(super) fn next(number: i64) -> Option<i64>
     number.checked_add(1)
 }
 
-/// A number in decimal digits, with a minus in front where it is below 0.
+/// A number in decimal digits, with a minus in front if it is below 0.
 pub(super) fn decimal_of(alloc: Global, number: i64) -> Result<String, AllocError>
     ensures { IfOk result (λ text. string_bytes text ≡ signed_decimal number) }
 {

@@ -4,8 +4,8 @@ ghost use Rattle.memory_batches.specs.Nodes.{refusal_for};
 use resp_core::RedisError;
 use std::alloc::{AllocError, Global};
 
-/// The error that a plan has for the command that finds so many entries in the trace, where the
-/// plan was made when there were `base`.
+/// The error that is planned for the command that finds `entries` entries in the trace, by a plan
+/// made at `base`.
 pub(super) fn planned_refusal(
     alloc: Global,
     plan: &[Option<RedisError>],

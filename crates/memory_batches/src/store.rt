@@ -10,7 +10,7 @@ use redis_cluster::driver::Nodes;
 use resp_core::Cmd;
 use std::alloc::{AllocError, Global};
 
-/// The string at a key, if the keys of a slot alone are seen.
+/// The string at a key, if the key has this slot.
 pub(super) fn string_in<'a>(store: &'a MemoryNodes, slot: u16, key: &[u8]) -> Option<&'a [u8]>
     ensures { option_copied result ≡ string_at (shelf slot (keyspace_in store.now)) key.now }
 {
@@ -20,7 +20,7 @@ pub(super) fn string_in<'a>(store: &'a MemoryNodes, slot: u16, key: &[u8]) -> Op
     store.get(key, b"")
 }
 
-/// The length of the list at a key, in decimal digits, if the keys of a slot alone are seen.
+/// The length of the list at a key, in decimal digits, if the key has this slot.
 pub(super) fn length_in<'a>(store: &'a MemoryNodes, slot: u16, key: &[u8]) -> Option<&'a [u8]>
     ensures { option_copied result ≡ length_at (shelf slot (keyspace_in store.now)) key.now }
 {
@@ -30,7 +30,7 @@ pub(super) fn length_in<'a>(store: &'a MemoryNodes, slot: u16, key: &[u8]) -> Op
     store.get(key, b"length")
 }
 
-/// Whether a key holds a list, if the keys of a slot alone are seen.
+/// Whether a key has this slot and holds a list.
 pub(super) fn holds_list(store: &MemoryNodes, slot: u16, key: &[u8]) -> bool
     ensures { result ≡ holds_list (shelf slot (keyspace_in store.now)) key.now }
 {
@@ -40,7 +40,7 @@ pub(super) fn holds_list(store: &MemoryNodes, slot: u16, key: &[u8]) -> bool
     }
 }
 
-/// Puts a string at a key, in the place of all that is there.
+/// Puts a string at a key, and removes all other values of the key.
 pub(super) fn write(
     alloc: Global,
     store: &mut MemoryNodes,
@@ -63,7 +63,7 @@ pub(super) fn write(
     }
 }
 
-/// Puts the length of its list at a key, and leaves what is at other paths.
+/// Puts the length of a list at a key, and keeps the values at other paths.
 fn write_length(
     alloc: Global,
     store: &mut MemoryNodes,
@@ -107,7 +107,7 @@ pub(super) fn remove(
     }
 }
 
-/// Puts a string at a key, if the keys of a slot alone are seen and kept.
+/// Puts a string at a key, if the key has this slot.
 pub(super) fn put_in(
     alloc: Global,
     store: &mut MemoryNodes,
@@ -128,7 +128,7 @@ pub(super) fn put_in(
     write(alloc, store, node, key, string)
 }
 
-/// Puts the length of its list at a key, if the keys of a slot alone are seen and kept.
+/// Puts the length of a list at a key, if the key has this slot.
 pub(super) fn put_length_in(
     alloc: Global,
     store: &mut MemoryNodes,

@@ -15,7 +15,7 @@ use memory_nodes::MemoryNodes;
 use resp_core::{Cmd, ErrorKind, RedisError, Value};
 use std::alloc::{AllocError, Global};
 
-/// Serves a command of a slot, over the keys of that slot alone.
+/// Serves a command of a slot, over the keys of that slot only.
 pub(super) fn serve(
     alloc: Global,
     store: &mut MemoryNodes,
@@ -51,7 +51,8 @@ pub(super) fn unknown_command() -> RedisError
     RedisError::from((ErrorKind::Client, "ERR unknown command"))
 }
 
-/// The answer to a command over strings at a list, or over lists at a string.
+/// The answer to a command over strings if the key holds a list, or over lists if it holds a
+/// string.
 fn wrong_type() -> RedisError
     ensures { result
         ≡ own_error (codes "WRONGTYPE Operation against a key holding the wrong kind of value") }
@@ -60,7 +61,7 @@ fn wrong_type() -> RedisError
     RedisError::from((ErrorKind::Client, text))
 }
 
-/// Answers the string at a key, or an error at a list.
+/// Answers the string at a key, or an error if the key holds a list.
 fn get(
     alloc: Global,
     store: &MemoryNodes,
@@ -111,7 +112,7 @@ fn set(
     Ok(Ok(Value::Okay))
 }
 
-/// Adds one to the number at a key, or answers an error at a list.
+/// Adds one to the number at a key, or answers an error if the key holds a list.
 fn incr(
     alloc: Global,
     store: &mut MemoryNodes,
@@ -173,7 +174,7 @@ fn number_at(
     }
 }
 
-/// Adds an element to the list at a key, of which the length alone is kept.
+/// Adds an element to the list at a key. Only the length of the list is kept.
 fn lpush(
     alloc: Global,
     store: &mut MemoryNodes,
@@ -246,7 +247,7 @@ fn rename(
     Ok(Ok(Value::Okay))
 }
 
-/// The argument at a place, or no bytes.
+/// The argument at an index, or no bytes.
 fn word(cmd: &Cmd, place: usize) -> &[u8]
     ensures { result.now ≡ slice_index_or cmd.now place [] }
 {

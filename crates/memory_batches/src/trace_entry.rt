@@ -12,7 +12,7 @@ pub struct BatchEntry {
     pub node: NodeAddress,
     /// The command.
     pub command: Cmd,
-    /// The error of the refusal. Where there is none, the node answered.
+    /// The error of the refusal. `None` if the node answered.
     pub refusal: Option<RedisError>,
 }
 
