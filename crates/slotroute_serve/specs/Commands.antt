@@ -33,17 +33,17 @@ use Rattle.slotroute_serve.specs.declared.refusal.Refusal.TheVariants.{NotMultiK
 abbrev pub only_reads : List ℕ → Bool
 only_reads = is_among (codes "MGET" ∷ codes "JSON.MGET" ∷ codes "EXISTS" ∷ [])
 
--- what is reported of names, where these are registered
+-- the names of the commands that only read, and these registered names
 abbrev pub names_with : Registrations → Names
 names_with registered = record { only_reads = only_reads; registered = registered }
 
--- the node of a route: the primary, or where a strategy is passed, for a read any candidate
+-- the node of a route; with a strategy, a read may go to any candidate
 abbrev pub IsRunNode : Bool → List (RangeEntry SlotNodes) → SlotRoute → Address → Type 0
 IsRunNode false entries route address = IsNodeOfRoute entries route 0 address
 IsRunNode true entries route address = IsPickedNode IsCandidate entries route address
 
--- The command with these words was driven from one keyspace to another, its parts by the numbers of
--- their routes, and the text has the parts that were sent and the reply.
+-- The command was driven from one keyspace to another, its parts in the order of the direction. The
+-- text has the parts that were sent and the reply.
 pub record IsCommandRun (handed : Bool) (direction : Direction) (registered : Registrations)
     (entries : List (RangeEntry SlotNodes)) (words : List (List ℕ)) (old new : Keyspace Cell)
     (text : List ℕ) : Type 0 where
@@ -56,9 +56,8 @@ pub record IsCommandRun (handed : Bool) (direction : Direction) (registered : Re
   pub ordered : order ≡ send_order direction (length driven.routes)
   pub printed : text ≡ command_lines sent answer
 
--- Why a command with these words is refused: it is no complete multi-key command, or the first
--- of its routes that has no node has this slot. Nodes in memory without a fuse and a plan refuse and
--- redirect none and lose no reply, and their replies fit.
+-- Why a command is refused: it is no complete multi-key command, or its first route without a node
+-- has this slot. Nodes in memory without a fuse and a plan cause no other refusal.
 abbrev pub IsRefused : Registrations → List (RangeEntry SlotNodes) → List (List ℕ) → Refusal → Type 0
 IsRefused registered entries words NotMultiKey =
     command_routes_by (names_with registered) (map Some words) ≡ None

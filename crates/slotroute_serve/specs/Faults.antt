@@ -1,4 +1,4 @@
--- What a fault says of the input, and its line.
+-- What a fault means for the input, and its line.
 use Rattle.std.specs.Prelude.{◌≡◌, ◌≢◌, ℕ, List, None, codes, ⊤}
 use Rattle.std.specs.declared.io.ErrorKind.{ErrorKind}
 use Rattle.std.specs.declared.io.ErrorKind.TheVariants.{OutOfMemory}
@@ -20,7 +20,7 @@ use Rattle.slotroute_serve.specs.declared.fault.ReadFault.TheVariants as read
 use Rattle.slotroute_serve.specs.declared.fault.RunFault.{RunFault}
 use Rattle.slotroute_serve.specs.declared.fault.RunFault.TheVariants as run
 
--- the line that tells of a fault
+-- the line that reports a fault
 abbrev pub fault_line : Fault → List ℕ
 fault_line Usage = usage_line
 fault_line (BadMapLine number) = bad_map_line number
@@ -30,14 +30,14 @@ fault_line Memory = codes "slotroute: no memory\n"
 fault_line Input = codes "slotroute: input failed\n"
 fault_line OutputFailed = codes "slotroute: output failed\n"
 
--- what calls for a fault besides the input: a read that may fail for that of the input, a write
--- that may for that of the output
+-- what a fault needs besides the input: for Input a read that may fail, for OutputFailed a write
+-- that may fail
 abbrev pub IsCaused : Type 0 → Type 0 → Fault → Type 0
 IsCaused reading writing Input = reading
 IsCaused reading writing OutputFailed = writing
 IsCaused reading writing other = ⊤
 
--- The fault of each stage, as one of the program.
+-- The program's fault for the fault of each stage.
 abbrev pub fault_of_map : MapFault → Fault
 fault_of_map (map.BadLine number) = BadMapLine number
 fault_of_map map.Memory = Memory
@@ -53,16 +53,17 @@ fault_of_run run.Memory = Memory
 fault_of_run run.Input = Input
 fault_of_run run.Output = OutputFailed
 
--- what a line that could not be read is to the map, and to a run
+-- the fault of the map if a line cannot be read
 abbrev pub map_unread : ReadFault → MapFault
 map_unread read.Memory = map.Memory
 map_unread read.Input = map.Input
 
+-- the fault of a run if a line cannot be read
 abbrev pub run_unread : ReadFault → RunFault
 run_unread read.Memory = run.Memory
 run_unread read.Input = run.Input
 
--- what it is to a run that the command of the line with this number was not run
+-- the fault of a run if the command of the line with this number is not run
 abbrev pub fault_at_line : ℕ → CommandFault → RunFault
 fault_at_line number (command.Refused refusal) = run.Command number refusal
 fault_at_line number command.Memory = run.Memory
@@ -72,7 +73,7 @@ pub record IsReaderFault (kind : ErrorKind) (fault : ReadFault) : Type 0 where
   pub memory : kind ≡ OutOfMemory → fault ≡ read.Memory
   pub input : kind ≢ OutOfMemory → fault ≡ read.Input
 
--- why there is no map of these leading lines: one of them is bad, or there was trouble
+-- why there is no map of these leading lines: one of them is bad, or memory or the input failed
 abbrev pub WhyNoMap : List (List (List ℕ)) → MapFault → Type 0
 WhyNoMap lines (map.BadLine number) = IsFirstBadLine lines number
 WhyNoMap lines trouble = ⊤
@@ -82,8 +83,7 @@ abbrev pub IsInputLeft : List ℕ → List ℕ → MapFault → Type 0
 IsInputLeft input left (map.BadLine number) = left ≡ after_lines number input
 IsInputLeft input left trouble = StopsInMap input left
 
--- why there are no lines for a command: it is no complete multi-key command, or memory was
--- refused
+-- why there are no lines for a command: it is no complete multi-key command, or memory ran out
 abbrev pub WhyNoSplit : Registrations → List (List ℕ) → AnswerFault → Type 0
 WhyNoSplit registered command answer.NotMultiKey = split_routes registered command ≡ None
 WhyNoSplit registered command answer.Memory = ⊤

@@ -55,7 +55,7 @@ pub record StopsInLine (input left : List ℕ) : Type 0 where
   pub begun : input ≡ read ++ left
   pub ends : left ≡ more ++ drop_through line_feed input
 
--- what is left begins in a leading line or in the one that ends them, or right after it
+-- what is left begins in a leading line, in the line that ends them, or right after it
 pub record StopsInMap (input left : List ℕ) : Type 0 where
   pub count : ℕ
   pub within : count ≤ length (leading_lines input)

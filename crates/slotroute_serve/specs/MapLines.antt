@@ -23,7 +23,7 @@ nothing_made = record { ranges = []; registry = [] }
 abbrev pub made_in : LeadingLines → Made
 made_in kept = record { ranges = kept.ranges.items; registry = kept.registry }
 
--- the field names the node at the address, which only a text can
+-- the field is UTF-8 and names the node's address
 abbrev pub IsNodeField : List ℕ → Address → Type 0
 IsNodeField field address = IsUtf8 field × IsAddressText field address.host address.port
 

@@ -23,7 +23,7 @@ pattern_words =
     (codes "last", KeysAndLastArg) ∷
     (codes "triples", KeyWithTwoArgTriples) ∷ []
 
--- how the replies to its parts make one, by the word POLICY
+-- how the replies to the parts make one, by the word POLICY
 abbrev pub policy_words : List (List ℕ × ResponsePolicy)
 policy_words =
     (codes "ok", AllSucceeded) ∷
@@ -43,8 +43,7 @@ IsMultiLine (first ∷ pattern ∷ policy ∷ words) name registered =
     × (lookup_name policy_words policy ≡ Some registered.1) × (name_in words ≡ Some name)
 IsMultiLine fields name registered = ⊥
 
--- The name could be registered, and in upper case was. What any other name is registered with
--- stays.
+-- The name was accepted, and registered in upper case. Other names keep their registration.
 pub record IsRegistered (old new : Registrations) (name : List ℕ) (registered : Registered)
     : Type 0 where
   pub accepted : register_error old (upper name) registered.1 ≡ None

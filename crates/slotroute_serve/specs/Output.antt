@@ -64,7 +64,7 @@ IsRunBy strategy (command ∷ direction ∷ word ∷ []) =
     (command ≡ codes "run") × NamesStrategy word strategy
 IsRunBy strategy words = ⊥
 
--- the words are `node KEY`, `split WORD ..` with one word or more, or those of `run`
+-- the words are `node KEY`, `split WORD ..` with one word or more, or the words of `run`
 pub data IsRequest : List (List ℕ) → Type 0 where
   node_request : (key : List ℕ) → IsRequest (node_words key)
   split_request : (command : List (List ℕ)) → command ≢ [] → IsRequest (split_words command)
@@ -89,8 +89,7 @@ refused_line number refusal =
     codes "slotroute: line " ++ decimal number ++ codes ": " ++ run_refusal_text refusal
     ++ line_feed ∷ []
 
--- the line and the status that answer for a key: its slot, and the primary of the range that
--- answers for the slot
+-- the line and the status for a key: its slot, and the slot's primary or `none`
 pub data IsNodeAnswer (entries : List (RangeEntry SlotNodes)) (key : List ℕ) : List ℕ → ℕ → Type 0 where
   served : (slot pick : ℕ) (address : Address) → IsKeySlot key slot
       → IsNodeOfRoute entries (record { slot = slot; addr = Master }) pick address
@@ -98,8 +97,8 @@ pub data IsNodeAnswer (entries : List (RangeEntry SlotNodes)) (key : List ℕ) :
   unserved : (slot : ℕ) → IsKeySlot key slot → IsUncovered entries slot
       → IsNodeAnswer entries key (slot_line slot (codes "none")) 1
 
--- what answers for the words on the entries of a map: for those of `node` the line of the key, for
--- those of `split` the lines of the command, whose name may be a registered one
+-- the output and the status for the words: the line of the key for `node`, the lines of the command
+-- for `split`
 pub data IsAnswer (registered : Registrations) (entries : List (RangeEntry SlotNodes))
     : List (List ℕ) → List ℕ → ℕ → Type 0 where
   node_answer : (key line : List ℕ) (status : ℕ) → IsNodeAnswer entries key line status
@@ -108,12 +107,12 @@ pub data IsAnswer (registered : Registrations) (entries : List (RangeEntry SlotN
       → IsSplitAnswer registered entries command lines status
       → IsAnswer registered entries (split_words command) lines status
 
--- the number of the line that follows those of the map
+-- the number of the first line after the map
 abbrev pub first_after_map : List ℕ → ℕ
 first_after_map input = length (leading_lines input) + 2
 
--- what is left of the input, what goes to the output and to the error stream, and the status, where
--- a strategy is passed or not
+-- what is left of the input, what goes to the output and to the error stream, and the status;
+-- `handed` says whether a strategy is passed
 pub data Output (handed : Bool)
     : List (List ℕ) → List ℕ → List ℕ → List ℕ → List ℕ → ℕ → Type 0 where
   usage : (words : List (List ℕ)) (input : List ℕ) → ¬ (IsRequest words)

@@ -17,7 +17,7 @@ abbrev pub send_line : Entry → List ℕ
 send_line e = display_text e.node ++ flat_map (λ word. space ∷ word) e.args ++ line_feed ∷ []
 
 abbrev mutual
-  -- a reply of a multi-key command; those of other kinds print as nothing
+  -- a reply of a multi-key command; other replies print as nothing
   pub printed : Reply → List ℕ
   printed okay = codes "OK"
   printed (int number) = signed_decimal number

@@ -10,13 +10,13 @@ use Rattle.slotroute_serve.specs.declared.request.Question.TheVariants.{Node, Sp
 use Rattle.slotroute_serve.specs.declared.request.Request.{Request}
 use Rattle.slotroute_serve.specs.declared.request.Request.TheVariants.{Answer, Run}
 
--- the words are those of the question
+-- the words ask the question
 abbrev pub Asks : List (List ℕ) → Question → Type 0
 Asks words (Node key) = words ≡ node_words key.now
 Asks words (Split command) =
     (words ≡ split_words (map string_bytes command.now)) × (map string_bytes command.now ≢ [])
 
--- the words are those of the request
+-- the words ask for the request
 abbrev pub AsksFor : List (List ℕ) → Request → Type 0
 AsksFor words (Answer question) = Asks words question
 AsksFor words (Run direction) = IsRunWords direction words

@@ -13,7 +13,7 @@ use Rattle.slotroute_serve.specs.Streams.{Leaves}
 use Rattle.slotroute_serve.specs.declared.fault.RunFault.{RunFault}
 use Rattle.slotroute_serve.specs.declared.fault.RunFault.TheVariants.{Command, Output as OutputFailed}
 
--- why a line with these fields has no text: its command is refused, or memory was
+-- why a line with these fields has no text: its command is refused, or memory ran out
 abbrev pub WhyNoText : Registrations → List (RangeEntry SlotNodes) → List (List ℕ) → CommandFault
     → Type 0
 WhyNoText registered entries fields (Refused refusal) =
@@ -22,7 +22,7 @@ WhyNoText registered entries fields NoMemory = ⊤
 
 module _ (handed : Bool) (direction : Direction) (registered : Registrations)
     (entries : List (RangeEntry SlotNodes)) (first : ℕ) where
-  -- what was read and printed when a run ended with a fault, where the first line has this number
+  -- what was read and printed when a run ended with a fault; its first line has the number `first`
   abbrev pub WhyStopped : Option (List ℕ) → Option (List ℕ) → List ℕ → RunFault → Type 0
   WhyStopped input left text (Command number refusal) =
       Leaves input left

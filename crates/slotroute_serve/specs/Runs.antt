@@ -14,7 +14,7 @@ use Rattle.slotroute_serve.specs.Lines.{lines_of, fields_of, after_lines, StopsI
 abbrev pub field_lines : List ℕ → List (List (List ℕ))
 field_lines input = map fields_of (lines_of input)
 
--- no key is there
+-- the keyspace without keys
 abbrev pub no_keys : Keyspace Cell
 no_keys = λ key. None
 
@@ -36,8 +36,8 @@ module _ (handed : Bool) (direction : Direction) (registered : Registrations)
     pub run : AreRun (field_lines input) no_keys keyspace text
     pub left_is : left ≡ []
 
-  -- The lines before that of this number were run, where the first line has the number `first`, and
-  -- the command of that line is refused. What follows the line is left.
+  -- The lines before line `number` were run, and the command of that line is refused. The first
+  -- line has the number `first`. What follows the refused line is left.
   pub record RefusedAt (first : ℕ) (input left text : List ℕ) (number : ℕ) (refusal : Refusal)
       : Type 0 where
     pub before : List (List (List ℕ))
@@ -60,8 +60,8 @@ module _ (handed : Bool) (direction : Direction) (registered : Registrations)
     pub run : AreRun before no_keys keyspace text
     pub stops : StopsInLine (after_lines (length before) input) left
 
-  -- The lines before one were run, and the text is what they printed and the first bytes of what the
-  -- command of that line prints, perhaps all. What follows the line is left.
+  -- The first lines were run. The text is what they printed, and the first bytes, perhaps all, of
+  -- what the next line prints. What follows that line is left.
   pub record CutShort (input left text : List ℕ) : Type 0 where
     pub before : List (List (List ℕ))
     pub fields : List (List ℕ)

@@ -1,4 +1,4 @@
--- What stands in the streams after a run, and the status.
+-- What is in the streams after a run, and the status.
 use Rattle.std.specs.Prelude.{◌≡◌, ◌⊎◌, ℕ, Bool, List, [], Option, take, ⊤}
 use Rattle.std.specs.Io.KnownBytes.{Appends}
 use Rattle.cluster_map.specs.SlotNodes.{insert_ranges}
@@ -44,22 +44,21 @@ pub record CutsRun (handed : Bool) (direction : Direction) (input left text : Li
   pub is_map : IsMap (leading_lines input) made
   pub cut : CutShort handed direction made.registry (insert_ranges [] made.ranges) (after_map input) left text
 
--- the text of the commands that were run so far, which is none but for `run`
+-- the text of the commands that were run so far; empty except for `run`
 abbrev pub IsSoFar : Bool → List (List ℕ) → Option (List ℕ) → Option (List ℕ) → List ℕ → Type 0
 IsSoFar handed words input left text =
     (text ≡ [])
     ⊎ ((direction : Direction) × IsRunWords direction words
     × Leaves input left (λ bytes rest. BeginsRun handed direction bytes rest text))
 
--- the reading stopped in the map, when nothing was written, or among the commands of a run
+-- the reading stopped in the map, before anything was written, or among the commands of a run
 abbrev pub IsUnfinished : Bool → List (List ℕ) → Option (List ℕ) → Option (List ℕ) → List ℕ → Type 0
 IsUnfinished handed words input left text =
     ((text ≡ []) × Leaves input left StopsInMap)
     ⊎ ((direction : Direction) × IsRunWords direction words
     × Leaves input left (λ bytes rest. BeginsRun handed direction bytes rest text))
 
--- the text is the first bytes of an answer, or what the first commands of a run print and the
--- first bytes of what the next one does
+-- the text is the first bytes of an answer, or of what the commands of a run print
 abbrev pub IsCutShort : Bool → List (List ℕ) → Option (List ℕ) → Option (List ℕ) → List ℕ → Type 0
 IsCutShort handed words input left text =
     Leaves input left (λ bytes rest. BeginsOutput handed words bytes rest text)
@@ -72,11 +71,11 @@ IsNumbered (BadMapLine number) = ⊤
 IsNumbered (Command number refusal) = ⊤
 IsNumbered other = ⊥
 
--- text is the line, or where a write may fail, its first bytes
+-- the text is the line, or, if a write may fail, its first bytes
 abbrev pub IsTold : Type 0 → List ℕ → List ℕ → Type 0
 IsTold tells text line = (text ≡ line) ⊎ (tells × ((k : ℕ) × (text ≡ take k line)))
 
--- text is the fault's line, or in the place of one with a number the one that tells of memory
+-- the text is the fault's line; instead of a line with a number it may be the line for Memory
 abbrev pub TellsOf : Type 0 → List ℕ → Fault → Type 0
 TellsOf tells text fault =
     IsTold tells text (fault_line fault)
@@ -104,8 +103,8 @@ Explains handed words input left out_old out_new trouble =
     (outs : List ℕ) × Appends out_old out_new outs × IsRequest words
     × IsUnfinished handed words input left outs
 
--- memory was refused or a stream failed, where calls that read, write or tell may fail: what was
--- read and written till then, and what was reported of it
+-- a fault: what was read and written before it, and what was reported of it; `reads`, `writes` and
+-- `tells` say whether such calls may fail
 pub record HasFault (reads writes tells : Type 0) (handed : Bool) (words : List (List ℕ))
     (input left out_old out_new err_old err_new : Option (List ℕ)) (status : ℕ) : Type 0 where
   pub fault : Fault
@@ -123,8 +122,8 @@ Serves reads writes tells handed words input left out_old out_new err_old err_ne
     HasOutput handed words input left out_old out_new err_old err_new status
     ⊎ HasFault reads writes tells handed words input left out_old out_new err_old err_new status
 
--- Memory was refused, and the whole line of that was written. The commands of a run before that
--- printed what they print, and nothing else was written.
+-- Memory ran out, and the line for that was written. Earlier commands of a run printed what they
+-- print, and nothing else was written.
 pub record RanOutOfMemory (handed : Bool) (words : List (List ℕ))
     (input left out_old out_new err_old err_new : Option (List ℕ)) (status : ℕ) : Type 0 where
   pub outs : List ℕ
@@ -140,7 +139,7 @@ HasAnswer handed words input left out_old out_new status =
     (outs : List ℕ) × Appends out_old out_new outs
     × Leaves input left (λ bytes rest. Output handed words bytes rest outs [] status)
 
--- the error stream grew by what tells of the fault
+-- the error stream grew by the report of the fault
 abbrev pub Reports : Type 0 → Option (List ℕ) → Option (List ℕ) → Fault → Type 0
 Reports tells err_old err_new fault =
     (errs : List ℕ) × Appends err_old err_new errs × TellsOf tells errs fault

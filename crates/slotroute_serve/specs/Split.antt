@@ -17,7 +17,7 @@ use Rattle.slotroute_serve.specs.Printed.{line_feed, space}
 abbrev pub split_routes : Registrations → List (List ℕ) → Option (List (SlotRoute × List ℕ))
 split_routes registered words = multi_slot_routes (names_with registered) (map Some words)
 
--- what a line tells of a part: its slot, its node, if there is one, and its words
+-- what a line has of a part: its slot, its node, if there is one, and its words
 pub record RoutedPart : Type 0 where
   pub slot : ℕ
   pub node : Option Address
@@ -34,8 +34,8 @@ part_line part =
     decimal part.slot ++ space ∷ node_text part.node
     ++ flat_map (λ word. space ∷ word) part.words ++ line_feed ∷ []
 
--- the part of a command that a route is for, by the parts of slots, and the node of the route,
--- which is none if no range answers for its slot
+-- the part of a route by its slot, and the node of the route, or none if no range answers for the
+-- slot
 pub record IsRoutedPart (entries : List (RangeEntry SlotNodes)) (parts_by_slot : ℕ → Arguments)
     (route : SlotRoute) (part : RoutedPart) : Type 0 where
   pub slot : part.slot ≡ route.slot
@@ -54,7 +54,7 @@ pub record ArePartLines (entries : List (RangeEntry SlotNodes)) (parts_by_slot :
   pub lines : text ≡ flat_map part_line parts
   pub ended : status ≡ split_status parts
 
--- the lines and the status that answer for a command: one line for the part of each of its routes
+-- the lines and the status for a command: one line for the part of each of its routes
 pub record IsSplitAnswer (registered : Registrations) (entries : List (RangeEntry SlotNodes))
     (command : List (List ℕ)) (text : List ℕ) (status : ℕ) : Type 0 where
   pub routes : List (SlotRoute × List ℕ)

@@ -13,7 +13,7 @@ MayFailToRead {S} fails =
 abbrev pub MayFailToWrite : {S : Type 0} → (S → Error → Type 0) → Type 0
 MayFailToWrite {S} fails = (at : S) × (error : Error) × fails at error
 
--- where the input is known, so is what is left of it, and P holds of the two
+-- if the input is known, so is what is left of it, and P holds of the two
 abbrev pub Leaves : Option (List ℕ) → Option (List ℕ) → (List ℕ → List ℕ → Type 0) → Type 0
 Leaves None left P = ⊤
 Leaves (Some input) None P = ⊥

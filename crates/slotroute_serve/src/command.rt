@@ -30,13 +30,13 @@ pub fn read_only_names(alloc: Global) -> Result<ReadOnlyNames, AllocError>
     Ok(names)
 }
 
-/// Runs the command with these words on nodes that refuse nothing, and gives what is printed of
-/// it: its parts in the order in which they went out, each with its node, and the reply.
+/// Runs the command with these words on nodes that refuse nothing. Returns what is printed: the
+/// parts in the order in which they were sent, each with its node, and the reply.
 ///
 /// # Errors
 ///
-/// `Refused` if it is no multi-key command, is not complete, or has a key whose slot
-/// has no node. Nothing was sent then. `Memory` if memory ran out, after any number of parts.
+/// `Refused` if the command is no complete multi-key command, or the slot of a key has no node.
+/// Nothing was sent then. `Memory` if memory ran out, after any number of parts.
 pub fn run_command(
     alloc: Global,
     direction: &Direction,
@@ -65,8 +65,8 @@ pub fn run_command(
     Ok(command_lines(alloc, &nodes.trace()[before..], &reply)?)
 }
 
-/// Drives a command on nodes that refuse nothing, in the order of the direction. Its plan, which
-/// tells how many routes the order has to name, is what is sent.
+/// Drives a command on nodes that refuse nothing, in the order of the direction. The plan comes
+/// first, since it has the number of routes that the order needs.
 fn drive_command(
     alloc: Global,
     direction: &Direction,
@@ -102,7 +102,7 @@ fn drive_command(
     }
 }
 
-/// The fault of a command by that of the driver.
+/// The fault of a command by the fault of the driver.
 fn command_fault(fault: DriveFault) -> CommandFault
     requires { ¬ (fault ≡ DriveFault.BadOrder) }
     ensures { result ≡ fault_of_drive fault }

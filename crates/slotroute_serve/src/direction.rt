@@ -3,7 +3,7 @@ ghost use Rattle.slotroute_serve.specs.Direction.{send_order};
 
 use std::alloc::{AllocError, Global};
 
-/// The order in which the parts of a command go out.
+/// The order in which the parts of a command are sent.
 #[derive(Debug, Drop, PartialEq)]
 pub enum Direction {
     /// By ascending numbers of the routes.
@@ -12,7 +12,7 @@ pub enum Direction {
     Reverse,
 }
 
-/// The numbers of so many routes, in the order in which their parts go out.
+/// The numbers of `count` routes, in the order in which their parts are sent.
 pub(super) fn send_order(
     alloc: Global,
     direction: &Direction,

@@ -8,7 +8,7 @@ use std::io;
 /// Why the program ends with status 2.
 #[derive(Debug, Drop)]
 pub enum Fault {
-    /// The words are none that the program knows.
+    /// The program does not know these words.
     Usage,
     /// This line, counted from 1, is not a map line.
     BadMapLine(u64),
@@ -71,7 +71,7 @@ pub enum RunFault {
 }
 
 impl RunFault {
-    /// What it is to the run that the command of the line with this number was not run.
+    /// The fault of a run if the command of the line with this number is not run.
     pub fn at_line(number: u64, fault: CommandFault) -> RunFault
         ensures { result ≡ fault_at_line number fault }
     {

@@ -27,8 +27,8 @@ pub(super) struct LeadingLines {
     pub(super) registry: Registry,
 }
 
-/// Reads the leading lines, and the line with no field that ends them. Gives what they make, and
-/// the number of the line that follows.
+/// Reads the leading lines, and the line with no field that ends them. Returns what they make, and
+/// the number of the next line.
 pub(super) fn read_map<S: Source>(
     alloc: Global,
     source: &mut S,
@@ -59,11 +59,11 @@ pub(super) fn read_map<S: Source>(
             return Err(MapFault::BadLine(number));
         }
     }
-    // There is no number for a further line.
+    // There is no number left for a further line.
     Err(MapFault::Memory)
 }
 
-/// Reads one line in place of what `line` held, or tells that the input is at its end.
+/// Replaces `line` by the next line. Returns `false` at the end of the input.
 pub(super) fn next_line<S: Source>(source: &mut S, line: &mut Vec<u8>) -> Result<bool, ReadFault>
     ensures text { OnOk result
         (IfSome (S.remaining source.old) (λ input. line.new.items ≡ line_of input)) }
@@ -83,7 +83,7 @@ pub(super) fn next_line<S: Source>(source: &mut S, line: &mut Vec<u8>) -> Result
     Ok(true)
 }
 
-/// Takes the byte off the end of a line, if it stands there.
+/// Removes the byte at the end of a line, if it is there.
 fn strip(line: &mut Vec<u8>, byte: u8)
     ensures { line.new.items ≡ strip_last byte line.old.items }
 {
@@ -116,7 +116,7 @@ fn add_line(alloc: Global, fields: &[&[u8]], made: &mut LeadingLines) -> Result<
     }
 }
 
-/// The range of a line with these fields, if it is the line of one.
+/// The range of a line with these fields, if it is a range line.
 fn range_line(alloc: Global, fields: &[&[u8]]) -> Result<Option<SlotRange>, AllocError>
     ensures { IfOk result (λ range. MatchOption range
         ((range : RangeNodes) → ¬ (IsRangeLine (map (λ field. field.now) fields.now) range))

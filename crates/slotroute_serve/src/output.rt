@@ -7,7 +7,7 @@ use crate::fault::WriteFault;
 use crate::streams::Sink;
 use std::io::{self, ErrorKind};
 
-/// Writes a text and sends it off. Where the writer fails, a beginning of the text may be written.
+/// Writes and flushes a text. If the writer fails, the first bytes of the text may be written.
 pub fn emit<W: Sink>(writer: &mut W, text: &[u8]) -> Result<(), WriteFault>
     ensures ok { OnOk result (Appends (W.contents writer.old) (W.contents writer.new) text.now) }
     ensures failed { OnErr result (MayFailToWrite W.fails) }
@@ -17,7 +17,7 @@ pub fn emit<W: Sink>(writer: &mut W, text: &[u8]) -> Result<(), WriteFault>
     put(writer, text).map_err(|_| WriteFault)
 }
 
-/// Writes a text and sends it off, as `write_all` and `flush` do.
+/// Writes and flushes a text, as `write_all` and `flush` do.
 fn put<W: Sink>(writer: &mut W, text: &[u8]) -> io::Result<()>
     ensures ok { OnOk result (Appends (W.contents writer.old) (W.contents writer.new) text.now) }
     ensures failed { OnErr result (MayFailToWrite W.fails) }
@@ -31,7 +31,7 @@ fn put<W: Sink>(writer: &mut W, text: &[u8]) -> io::Result<()>
     writer.flush()
 }
 
-/// Writes some of the bytes. A call that was interrupted is made again, up to 2^64 times.
+/// Writes some of the bytes. An interrupted call is repeated, up to 2^64 times.
 fn write_retrying<W: Sink>(writer: &mut W, bytes: &[u8]) -> io::Result<usize>
     ensures bound { WritesAtMost result bytes.now }
     ensures some { IfOk result (λ n. 0 < length bytes.now → 0 < n) }

@@ -21,17 +21,17 @@ use std::alloc::{AllocError, Global};
 use std::borrow::CowStr;
 use std::io::{BufRead, Write};
 
-/// The line for other words.
+/// The line for unknown words.
 pub const USAGE: &str =
     "usage: slotroute node KEY | split WORD .. | run forward|reverse [first|pick=N|shard]\n";
 
-/// Runs the program on the words after its name, and gives its status.
+/// Runs the program on the words after its name, and returns its status.
 ///
-/// What was asked for goes to `out`, and a fault goes to `err` as one line. The status is 0, 1 or
-/// 2, as for a fault. Streams may tell contracts nothing of their bytes, as standard input and
-/// output do. The status is bounded then, too, and other words are refused. A strategy that is
-/// passed picks the nodes that the reads of `run` go to, whatever its last word is. It gets the
-/// shards of the map once, before the first command.
+/// The answer goes to `out`, and a fault goes to `err` as one line. The status is 0, 1, or 2 for a
+/// fault. Contracts need not know the bytes of a stream, as of standard input. Also then the status
+/// is bounded, and unknown words are refused. A strategy that is passed picks the nodes of the
+/// reads of `run`, whatever the last word is. It gets the shards of the map once, before the first
+/// command.
 pub fn serve<R: BufRead, O: Write, E: Write>(
     alloc: Global,
     words: &[String],
@@ -50,7 +50,7 @@ pub fn serve<R: BufRead, O: Write, E: Write>(
     serve_streams(alloc, words, reader, out, err, strategy)
 }
 
-/// `serve` over streams that tell contracts how they may fail. Where they may not, only memory can
+/// `serve` over streams whose contracts say how they may fail. If they cannot fail, only memory can
 /// run out.
 pub fn serve_streams<R: Source, O: Sink, E: Sink>(
     alloc: Global,
@@ -143,7 +143,7 @@ fn answer(
     }
 }
 
-/// Tells the strategy of the map, and runs the commands of the lines that are left.
+/// Passes the shards of the map to the strategy, and runs the commands of the lines that are left.
 fn run_told<R: Source, O: Sink>(
     alloc: Global,
     direction: &Direction,
@@ -176,7 +176,7 @@ fn run_told<R: Source, O: Sink>(
     )
 }
 
-/// Tells a strategy the shards of the map.
+/// Passes the shards of the map to a strategy.
 fn tell(
     alloc: Global,
     slot_map: &SlotMap,
@@ -212,7 +212,7 @@ fn node_answer(alloc: Global, map: &SlotMap, key: &[u8]) -> Result<(String, u8),
     }
 }
 
-/// Writes the line of a fault. If memory runs out for one with a number, it tells so.
+/// Writes the line of a fault. Without memory for its number, writes the line for `Memory`.
 fn report<E: Sink>(alloc: Global, fault: &Fault, err: &mut E)
     ensures { Reports (MayFailToWrite E.fails) (E.contents err.old) (E.contents err.new) fault.now }
 {

@@ -8,15 +8,15 @@ use std::fmt;
 /// Why a command is refused.
 #[derive(Debug, Drop)]
 pub enum Refusal {
-    /// It is not a multi-key command, or not a complete one.
+    /// The command is not a multi-key command, or not a complete one.
     NotMultiKey,
-    /// No node serves this slot of one of its keys.
+    /// No node serves this slot of a key.
     NotCovered(u16),
-    /// A node refused a part of it.
+    /// A node refused a part.
     NodeRefused,
-    /// The reply to a part of it was lost.
+    /// The reply to a part was lost.
     ReplyLost,
-    /// The replies to its parts do not make one.
+    /// The replies to the parts do not make one.
     BadReply,
 }
 

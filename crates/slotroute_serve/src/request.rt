@@ -9,13 +9,13 @@ use crate::strategy::named_strategy;
 /// What the words ask for.
 #[derive(Drop)]
 pub enum Request<'a> {
-    /// What the map says.
+    /// To answer a question about the map.
     Answer(Question<'a>),
     /// To run the commands that follow the map.
     Run(Direction),
 }
 
-/// What is asked of the map.
+/// A question about the map.
 #[derive(Drop)]
 pub enum Question<'a> {
     /// The node of a key.

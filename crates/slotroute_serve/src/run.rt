@@ -19,9 +19,9 @@ use memory_nodes::MemoryNodes;
 use redis_cluster::routing::{ReadOnlyNames, Registry};
 use std::alloc::Global;
 
-/// Runs the commands of the lines that are left, of which the first has the number `first`. They
-/// run on nodes that hold no key and know these registered names. What each prints is written
-/// before the next line is read.
+/// Runs the commands of the lines that are left, on nodes with no key and these registered names.
+/// The first line has the number `first`. The output of a command is written before the next line
+/// is read.
 pub fn run_commands<R: Source, O: Sink>(
     alloc: Global,
     direction: &Direction,
@@ -55,11 +55,11 @@ pub fn run_commands<R: Source, O: Sink>(
             Err(fault) => return Err(RunFault::at_line(number, fault)),
         }
     }
-    // There is no number for a further line.
+    // There is no number left for a further line.
     Err(RunFault::Memory)
 }
 
-/// What the command of a line prints, which is nothing where the line has no field.
+/// What the command of a line prints: nothing if the line has no field.
 fn line_text(
     alloc: Global,
     direction: &Direction,

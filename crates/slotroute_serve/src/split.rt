@@ -37,7 +37,7 @@ pub fn split_answer(
     Ok(lines_of(alloc, slot_map, &split)?)
 }
 
-/// A line for the part of each route, and whether each has a node, as a status.
+/// A line for the part of each route, and as a status whether each part has a node.
 fn lines_of(
     alloc: Global,
     slot_map: &SlotMap,

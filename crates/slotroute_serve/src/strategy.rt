@@ -14,8 +14,7 @@ pub enum StrategyName {
     Shard,
 }
 
-/// The strategy that the words `run DIRECTION WORD` name; none where other words are given, or the
-/// last one names none.
+/// The strategy that the words `run DIRECTION WORD` name. `None` for other words.
 pub fn strategy_of(words: &[String]) -> Option<StrategyName>
     ensures { MatchOption result
         ((strategy : StrategyName) → ¬ (IsRunBy strategy (map string_bytes words.now)))

@@ -10,14 +10,14 @@ use std::io::{self, BufRead, ErrorKind, Write};
 
 /// What lines are read from.
 pub trait Source {
-    /// The bytes that reads will give, where they are known.
+    /// The bytes that reads will give, if they are known.
     ghost remaining: { Self → Option (List ℕ) };
 
-    /// Whether a read may fail with this error. Of any source only a read that failed shows that.
+    /// Whether a read may fail with this error. Any source shows that only by a read that failed.
     ghost fails: { Self → Error → Type 0 };
 
-    /// Adds the next line with its line feed to `line`, and gives the number of its bytes, which
-    /// is 0 at the end.
+    /// Adds the next line with its line feed to `line`. Returns the number of its bytes, 0 at the
+    /// end.
     fn read_line(&mut self, line: &mut Vec<u8>) -> io::Result<usize>
         ensures ok { IfOk result (λ n. vec_len line.new ≡ vec_len line.old + n) }
         ensures bytes { OnOk result (IfSome (remaining self.old)
@@ -31,26 +31,26 @@ pub trait Source {
 
 /// What bytes are written to.
 pub trait Sink {
-    /// The bytes that were written, where they are known.
+    /// The bytes that were written, if they are known.
     ghost contents: { Self → Option (List ℕ) };
 
-    /// Whether a write may fail with this error. Of any sink only a write that failed shows that.
+    /// Whether a write may fail with this error. Any sink shows that only by a write that failed.
     ghost fails: { Self → Error → Type 0 };
 
-    /// Writes the first of the bytes, at least one if there are any, and gives their number.
+    /// Writes the first of the bytes, at least one if there are any. Returns their number.
     fn write(&mut self, bytes: &[u8]) -> io::Result<usize>
         ensures bound { WritesAtMost result bytes.now }
         ensures some { IfOk result (λ n. 0 < length bytes.now → 0 < n) }
         ensures bytes { WriteAppends (contents self.old) (contents self.new) result bytes.now }
         ensures failed { IfErr result (fails self.old) };
 
-    /// Sends off what was written.
+    /// Flushes what was written.
     fn flush(&mut self) -> io::Result<()>
         ensures bytes { Keeps (contents self.old) (contents self.new) }
         ensures failed { IfErr result (fails self.old) };
 }
 
-// Nothing tells which calls of any reader or writer may fail, so each may.
+// Nothing is known of which calls of a reader or writer fail, so each may.
 impl<R: BufRead> Source for R {
     ghost remaining = { R.remaining };
 

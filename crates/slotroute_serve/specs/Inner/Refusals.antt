@@ -1,11 +1,11 @@
--- The fault of a command by that of the driver.
+-- The fault of a command by the fault of the driver.
 use Rattle.redis_cluster.specs.declared.fault.DriveFault.{DriveFault}
 use Rattle.redis_cluster.specs.declared.fault.DriveFault.TheVariants as drive
 use Rattle.slotroute_serve.specs.declared.refusal.CommandFault.{CommandFault}
 use Rattle.slotroute_serve.specs.declared.refusal.CommandFault.TheVariants.{Refused, Memory}
 use Rattle.slotroute_serve.specs.declared.refusal.Refusal.TheVariants.{NotMultiKey, NotCovered, NodeRefused, ReplyLost, BadReply}
 
--- an order that the driver refuses is none of ours, and stands here as a refusal
+-- the program makes no order that the driver refuses, so any refusal does for BadOrder
 abbrev pub fault_of_drive : DriveFault → CommandFault
 fault_of_drive drive.NotMultiKey = Refused NotMultiKey
 fault_of_drive (drive.NotCovered slot) = Refused (NotCovered slot)
