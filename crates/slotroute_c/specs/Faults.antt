@@ -1,4 +1,4 @@
--- The answer to each fault, and what is reported of it.
+-- The outcome of each fault, and what `told` reports of it.
 use Rattle.std.specs.Prelude.{◌≢◌, ℕ}
 use Rattle.resp.specs.declared.fault.ReadError.{ReadError}
 use Rattle.resp.specs.declared.fault.ReadError.TheVariants as read
@@ -12,7 +12,7 @@ use Rattle.slotroute_c.specs.declared.told.Told.{Told}
 use Rattle.slotroute_c.specs.Fields.{with_at, with_reply}
 use Rattle.slotroute_c.specs.Outcomes.{code, of_reply}
 
--- the answer to the fault of a request
+-- the outcome of a request's fault
 abbrev pub of_request : RequestFault → Outcome
 of_request request.Incomplete = RequestIncomplete
 of_request (request.Malformed at) = RequestMalformed
@@ -29,8 +29,7 @@ outcome_of (faults.Unfit kind) = Unfit
 outcome_of faults.NoForm = NoForm
 outcome_of faults.LineFeedInHost = LineFeedInHost
 
--- the number of another answer: what is asked for is not done, no buffer is too small, and no text is at
--- fault
+-- a code other than those of Done, TooSmall and NotText
 abbrev pub IsOther : ℕ → Type 0
 IsOther number = (number ≢ code Done) × (number ≢ code TooSmall) × (number ≢ code NotText)
 
@@ -48,7 +47,7 @@ with_fault (faults.Error number text) told = with_reply number told
 with_fault (faults.AfterReplies end) told = with_at end told
 with_fault _ told = told
 
--- the answer to the fault of the first reply
+-- the outcome if the first reply is not read
 abbrev pub of_read : ReadError → Outcome
 of_read read.Memory = NoMemory
 of_read (read.Fault fault) = of_reply fault

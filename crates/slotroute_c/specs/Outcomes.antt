@@ -1,5 +1,4 @@
--- The numbers by which a call answers, and the text of each. `include/slotroute.h` names the same
--- numbers.
+-- The codes that calls return, and the text of each. `include/slotroute.h` names the same codes.
 use Rattle.std.specs.Prelude.{◌==◌, ◌||◌, ℕ, Bool, false, List, [], ◌∷◌, codes, if◌then◌else◌}
 use Rattle.resp.specs.declared.fault.Fault.{Fault}
 use Rattle.resp.specs.declared.fault.Fault.TheVariants.{Incomplete, Malformed, TooDeep}
@@ -48,7 +47,7 @@ text LineFeedInHost = codes "a host has a line feed"
 text NotRoutable = codes "a command goes to no single slot and is not split by slot"
 text NotCovered = codes "a slot of a command has no node"
 
--- the text of the answer of a number
+-- the text of a code
 abbrev pub message : ℕ → List ℕ
 message number =
     if number == 0 then text Done
@@ -72,12 +71,12 @@ message number =
     else (if number == 18 then text NotCovered
     else codes "no answer of this library"))))))))))))))))))
 
--- whether a number is that of one of these answers
+-- whether a number is the code of one of these outcomes
 abbrev pub is_one_of : ℕ → List Outcome → Bool
 is_one_of number [] = false
 is_one_of number (outcome ∷ outcomes) = number == code outcome || is_one_of number outcomes
 
--- the answer to the fault of a reply
+-- the outcome of a reply's fault
 abbrev pub of_reply : Fault → Outcome
 of_reply Incomplete = ReplyIncomplete
 of_reply Malformed = ReplyMalformed

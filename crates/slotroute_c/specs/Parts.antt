@@ -17,12 +17,12 @@ abbrev pub ArePartsOf : List ℕ → Parts → Type 0
 ArePartsOf request parts =
     (split : Split) × IsSplitRequest (names_of [] []) request split × AreParts split parts
 
--- how many parts and bytes there are, is reported
+-- the number of parts and of bytes is reported
 abbrev pub with_parts : Parts → Told → Told
 with_parts parts told =
     with_sizes (length parts.routes.items) (length parts.bytes.items) told
 
--- one of the buffers, which have so many places, is too small
+-- one of the buffers, by their lengths, is too small
 abbrev pub IsTooSmall : Parts → ℕ → ℕ → ℕ → Type 0
 IsTooSmall parts slots ends out = (slots < length parts.routes.items)
     ⊎ (ends < length parts.ends.items) ⊎ (out < length parts.bytes.items)

@@ -1,5 +1,4 @@
--- The batches of a pipeline by a table of nodes' numbers, its replies, and what is reported of
--- them.
+-- The batches of a pipeline by a table of node numbers, its replies, and what `told` reports.
 use Rattle.std.specs.Prelude.{◌<◌, ◌⊎◌, ℕ, List, [], map, length}
 use Rattle.cluster_slots.specs.Address.{Address}
 use Rattle.redis_batches.specs.Placed.{Ranges}
@@ -18,8 +17,8 @@ use Rattle.slotroute_c.specs.Fields.{with_at, with_batch, with_reply, with_reque
 use Rattle.slotroute_c.specs.Faults.{of_request, with_request_fault}
 use Rattle.slotroute_c.specs.Outcomes.{of_reply}
 
--- The bytes are requests, and these are the batches of a plan of their commands, by the map of a
--- table that has the number of a node for each slot.
+-- The bytes are requests, and these are the batches of a plan of their commands. The map is that of
+-- a table with the number of each slot's node.
 pub record AreBatchesBy (numbers requests : List ℕ) (batches : BatchBytes) : Type 0 where
   pub ranges : Ranges
   pub map_is : IsNumberedMap numbers ranges
@@ -27,7 +26,7 @@ pub record AreBatchesBy (numbers requests : List ℕ) (batches : BatchBytes) : T
   pub plan_is : IsPlanOfRequests [] ranges requests plan
   pub are : AreBatchesOf plan.batches batches
 
--- how many batches and bytes there are, is reported
+-- the number of batches and of bytes is reported
 abbrev pub with_batches : BatchBytes → Told → Told
 with_batches batches told =
     with_sizes (length batches.nodes.items) (length batches.bytes.items) told
@@ -36,7 +35,7 @@ with_batches batches told =
 abbrev pub numbers_of : List Address → List ℕ
 numbers_of nodes = map (λ node. node.port) nodes
 
--- one of the buffers, which have so many places, is too small
+-- one of the buffers, by their lengths, is too small
 abbrev pub IsOneTooSmall : BatchBytes → ℕ → ℕ → ℕ → ℕ → Type 0
 IsOneTooSmall batches nodes counts ends out =
     (nodes < length batches.nodes.items) ⊎ (counts < length batches.counts.items)
@@ -62,7 +61,7 @@ IsUncombinedBy numbers requests replies faults.Memory = Unit {0}
 IsUncombinedBy numbers requests replies fault =
     (ranges : Ranges) × IsNumberedMap numbers ranges × IsUncombined [] ranges requests replies fault
 
--- the answer to each fault of a pipeline
+-- the outcome of each fault of a pipeline
 abbrev pub outcome_of_batch : BatchFault → Outcome
 outcome_of_batch faults.Memory = NoMemory
 outcome_of_batch (faults.Request number fault) = of_request fault
@@ -73,7 +72,7 @@ outcome_of_batch (faults.AfterReplies end) = AfterReplies
 outcome_of_batch (faults.NoForm number) = NoForm
 
 -- a fault is reported by the number of the request, the index of the byte, or the numbers of the
--- batch and of the reply to it
+-- batch and of its reply
 abbrev pub with_batch_fault : BatchFault → Told → Told
 with_batch_fault faults.Memory told = told
 with_batch_fault (faults.Request number fault) told =

@@ -21,7 +21,7 @@ addr_number Master = 0
 addr_number ReplicaOptional = 1
 addr_number ReplicaRequired = 2
 
--- how several replies make one, or 0 where the layer has no rule
+-- how several replies make one, or 0 if the layer has no rule
 abbrev pub policy_number : Option ResponsePolicy → ℕ
 policy_number None = 0
 policy_number (Some OneSucceeded) = 1
@@ -38,7 +38,7 @@ policy_number (Some CombineMaps) = 10
 abbrev pub numbers : ℕ → ℕ → ℕ → ℕ → Routed
 numbers kind slot addr policy = record { kind = kind; slot = slot; addr = addr; policy = policy }
 
--- the one node that a request goes to; no call answers 7, an address
+-- the one node that a request goes to; no call returns 7, an address
 abbrev pub to_one : SingleNodeRouting → Routed
 to_one random = numbers 1 0 0 0
 to_one random_primary = numbers 2 0 0 0
@@ -51,7 +51,7 @@ to_several all_nodes policy = numbers 4 0 0 (policy_number policy)
 to_several all_masters policy = numbers 5 0 0 (policy_number policy)
 to_several (multi_slot routes pattern) policy = numbers 6 0 0 (policy_number policy)
 
--- 0 where the layer does not route the request
+-- 0 if the layer does not route the request
 abbrev pub routed_of : Option Routing → Routed
 routed_of None = numbers 0 0 0 0
 routed_of (Some (single_node single)) = to_one single
@@ -70,7 +70,7 @@ AreNamesFor only_reads request names = (words : Words) → IsRequest words reque
 abbrev pub routed_by : ℕ → Words → Routed
 routed_by only_reads words = routed_of (routing (names_for only_reads) (map Some words))
 
--- the node that a number asks for: the primary, or a replica if there is one
+-- the node by its number: 0 for the primary, else a replica if there is one
 abbrev pub addr_of : ℕ → SlotAddr
 addr_of zero = Master
 addr_of (suc n) = ReplicaRequired

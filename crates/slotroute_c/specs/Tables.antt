@@ -9,7 +9,7 @@ use Rattle.slotroute_c.specs.declared.told.Told.{Told}
 use Rattle.slotroute_c.specs.Fields.{with_sizes}
 use Rattle.slotroute_c.specs.Routed.{addr_of}
 
--- The bytes are one reply, and this is its table; how many numbers and bytes there are is reported.
+-- The bytes are one reply, and this is its table. The count of numbers and of bytes is reported.
 pub record IsTableOf (reply answering : List ℕ) (addr pick : ℕ) (old new : Told)
     (table : Table) : Type 0 where
   pub said : Reply

@@ -10,7 +10,7 @@ pub(super) fn put<T: Copy>(buffer: &mut [T], items: &[T])
     front.copy_from_slice(items);
 }
 
-/// The same of a vector's items.
+/// Writes a vector's items to the front of a buffer.
 pub(super) fn put_all<T: Copy>(buffer: &mut [T], items: &Vec<T>)
     requires { length items.now.items ≤ length buffer.old }
     ensures { IsWritten items.now.items buffer.old buffer.new }

@@ -7,7 +7,7 @@ use crate::told::Told;
 use redis_bytes::BytesFault;
 use resp::{Fault, RequestFault};
 
-/// The code of a fault, whose place is reported.
+/// The code of a fault. `told` gets the index or the number that goes with it.
 pub(super) fn code_of(fault: &BytesFault, told: &mut Told) -> u32
     ensures code { result ≡ code (outcome_of fault.now) }
     ensures told { told.new ≡ with_fault fault.now told.old }
@@ -39,7 +39,7 @@ pub(super) fn code_of(fault: &BytesFault, told: &mut Told) -> u32
     }
 }
 
-/// The same for the fault of a request.
+/// The code of a request's fault. `told` gets the index of the byte.
 pub(super) fn code_of_request(fault: RequestFault, told: &mut Told) -> u32
     ensures code { result ≡ code (of_request fault) }
     ensures told { told.new ≡ with_request_fault fault told.old }
@@ -54,7 +54,7 @@ pub(super) fn code_of_request(fault: RequestFault, told: &mut Told) -> u32
     }
 }
 
-/// The same for the fault of a reply.
+/// The code of a reply's fault.
 pub(super) fn code_of_reply(fault: Fault) -> u32
     ensures code { result ≡ code (of_reply fault) }
     ensures other { IsOther result }

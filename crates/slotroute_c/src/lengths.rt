@@ -15,12 +15,12 @@ use crate::told::Told;
 use resp::{ReadError, read, request_len};
 use std::alloc::Global;
 
-/// How many bytes the first reply has, which may be an error: `told.bytes`.
+/// Writes the number of bytes of the first reply, which may be an error, to `told.bytes`.
 ///
 /// # Errors
 ///
-/// `ReplyIncomplete` if more bytes can complete it, `ReplyMalformed` and `ReplyTooDeep` if none can.
-/// Each has the number 0 in `told.reply`. `NoMemory` if memory runs out.
+/// `ReplyIncomplete` if more bytes can complete the reply, `ReplyMalformed` and `ReplyTooDeep` if
+/// none can. For these `told.reply` is 0. `NoMemory` if memory runs out.
 #[unsafe(no_mangle)]
 pub extern "C" fn slotroute_reply_len(alloc: Global, bytes: &[u8], told: &mut Told) -> u32
     ensures done { result ≡ code outcome.Done → (a : Answer) × (form : List ℕ) × (rest : List ℕ)
@@ -43,12 +43,12 @@ pub extern "C" fn slotroute_reply_len(alloc: Global, bytes: &[u8], told: &mut To
     }
 }
 
-/// How many bytes the first request has: `told.bytes`. It takes no memory.
+/// Writes the number of bytes of the first request to `told.bytes`. Takes no memory.
 ///
 /// # Errors
 ///
-/// `RequestIncomplete` if more bytes can complete it; `RequestMalformed` if none can, with the
-/// index of the first byte that stands in no request there.
+/// `RequestIncomplete` if more bytes can complete the request. `RequestMalformed` if none can:
+/// `told.at` is the index of the first byte that no request can have there.
 #[unsafe(no_mangle)]
 pub extern "C" fn slotroute_request_len(bytes: &[u8], told: &mut Told) -> u32
     ensures done { result ≡ code outcome.Done → (args : List (List ℕ)) × (form : List ℕ)

@@ -1,5 +1,5 @@
 //! The routing layer for callers in C: buffers in, buffers out, and nothing kept between calls.
-//! `include/slotroute.h` declares what stands here.
+//! `include/slotroute.h` declares these functions.
 #![tactic(auto)]
 
 mod buffers;

@@ -4,7 +4,7 @@ ghost use Rattle.slotroute_c.specs.Buffers.{IsWritten};
 
 use crate::buffers::put;
 
-/// What comes of a call. `include/slotroute.h` says more of each.
+/// The outcome of a call. `include/slotroute.h` says more of each.
 #[derive(Clone, Copy)]
 pub enum Outcome {
     /// The call did what it is for.
@@ -25,7 +25,7 @@ pub enum Outcome {
     ReplyIncomplete,
     /// No bytes complete a reply.
     ReplyMalformed,
-    /// A reply has arrays in arrays that are too deep.
+    /// A reply has arrays that are nested too deep.
     ReplyTooDeep,
     /// A reply is an error.
     ReplyIsError,
@@ -40,7 +40,7 @@ pub enum Outcome {
     /// The text is no redirect.
     NoRedirect,
     LineFeedInHost,
-    /// A command goes to no single slot, and is not one that is split.
+    /// A command goes to no single slot, and is not split.
     NotRoutable,
     /// A slot has no node.
     NotCovered,
@@ -103,15 +103,15 @@ fn message(number: u32) -> &'static str
     }
 }
 
-/// The length of the text of a code: of 1, `out of memory`. It is written where it fits.
+/// The length of the text of a code, as of `out of memory` for 1. The text is written if it fits.
 #[unsafe(no_mangle)]
 pub extern "C" fn slotroute_message(answer: u32, buffer: &mut [u8]) -> usize
-    // It has the length of the text,
+    // The result is the length of the text.
     ensures len { result ≡ length (message answer) }
-    // which is written,
+    // The text is written if it fits.
     ensures text { length (message answer) ≤ length buffer.old
         → IsWritten (message answer) buffer.old buffer.new }
-    // or nothing is.
+    // Otherwise nothing is written.
     ensures too_small { length buffer.old < length (message answer) → buffer.new ≡ buffer.old }
 {
     let text = message(answer).as_bytes();

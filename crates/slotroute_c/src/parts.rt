@@ -20,15 +20,14 @@ use redis_bytes::{BytesFault, Parts};
 use redis_routing::{Names, ReadOnlyNames, Registry};
 use std::alloc::{AllocError, Global};
 
-/// Splits a request by slot: writes the slot of each part to `slots`, where the bytes of each end to
-/// `ends`, and these bytes, each part a request of its own, to `out`. `told` says how many parts and
-/// bytes there are.
+/// Splits a request by slot. Writes each part's slot to `slots`, the end of its bytes to `ends`,
+/// and its bytes, a request of their own, to `out`. `told` has the number of parts and of bytes.
 ///
 /// # Errors
 ///
 /// In this order: `RequestIncomplete`, `RequestMalformed` and `AfterRequest` if the bytes are not
-/// one request; `NotMultiKey` if it is not split by slot; `TooSmall` if a buffer is too small
-/// for what `told` says. `NoMemory` if memory runs out.
+/// one request. `NotMultiKey` if the request is not split by slot. `TooSmall` if a buffer is too
+/// small for what `told` says. `NoMemory` if memory runs out.
 #[unsafe(no_mangle)]
 pub extern "C" fn slotroute_split(
     alloc: Global,
@@ -102,16 +101,16 @@ fn slots_in(alloc: Global, routes: &[Route]) -> Result<Vec<u16>, AllocError>
     Ok(slots)
 }
 
-/// Makes the one reply to a request of the replies to its parts, which stand one after the other in
-/// the order of the parts, and writes it. `told` says how many bytes it has.
+/// Writes the one reply to a request, combined from the replies to its parts. `replies` has these
+/// in the order of the parts. `told` has the number of bytes.
 ///
 /// # Errors
 ///
-/// In this order. For the request as `slotroute_split`. `ReplyIncomplete`, `ReplyMalformed`,
-/// `ReplyTooDeep` or `ReplyIsError` for the first reply that is no value, whose number is reported.
-/// `AfterReplies` if bytes follow the last one. `Unfit` if they are not what the parts answer
-/// with. `NoForm` if the one reply has no form. `TooSmall` if it does not fit. `NoMemory` if
-/// memory runs out.
+/// In this order: the codes of `slotroute_split` for the request. `ReplyIncomplete`,
+/// `ReplyMalformed`, `ReplyTooDeep` or `ReplyIsError` for the first reply that is no value, with
+/// its number in `told`. `AfterReplies` if bytes follow the last one. `Unfit` if the replies do not
+/// fit the command. `NoForm` if the one reply has no form. `TooSmall` if it does not fit.
+/// `NoMemory` if memory runs out.
 #[unsafe(no_mangle)]
 pub extern "C" fn slotroute_combine(
     alloc: Global,

@@ -16,15 +16,14 @@ use redis_batch_bytes::{BatchBytes, BatchFault, combine_pipeline, numbered_map, 
 use redis_routing::Registry;
 use std::alloc::{AllocError, Global};
 
-/// Splits a pipeline, whose requests stand one after the other, into one batch for each node, by a
-/// table as `slotroute_table` gives it. Writes the number of each batch's node to `nodes`, how many
-/// commands each has to `counts`, where the bytes of each end to `ends`, and these bytes to `out`.
-/// `told` says how many batches and bytes there are.
+/// Splits a pipeline of requests into one batch for each node, by a table of `slotroute_table`.
+/// Writes each batch's node number to `nodes`, its number of commands to `counts`, the end of its
+/// bytes to `ends`, and its bytes to `out`. `told` has the number of batches and of bytes.
 ///
 /// # Errors
 ///
 /// In this order: `RequestIncomplete` and `RequestMalformed` for the first request that cannot be
-/// read, `NotRoutable` for the first command that goes to no single slot and is not split,
+/// read. `NotRoutable` for the first command that goes to no single slot and is not split.
 /// `NotCovered` for the first slot that has no node. `told` has the number of the request.
 /// `TooSmall` if a buffer is too small for what `told` says. `NoMemory` if memory runs out.
 #[unsafe(no_mangle)]
@@ -85,17 +84,17 @@ pub extern "C" fn slotroute_split_pipeline(
     Outcome::Done.code()
 }
 
-/// Makes the replies to the requests of a pipeline of those to its batches, which stand batch after
-/// batch, and writes them one after the other. `told` says how many bytes they have. The table has
-/// to be the one that the pipeline was split by.
+/// Writes the replies to the requests of a pipeline, by the replies to its batches. `replies` has
+/// these batch after batch. `told` has the number of bytes. The table must be the one that the
+/// pipeline was split by.
 ///
 /// # Errors
 ///
-/// In this order. For the requests as `slotroute_split_pipeline`. `ReplyIncomplete`,
-/// `ReplyMalformed` or `ReplyTooDeep` for the first reply that cannot be read, whose batch and
-/// number are reported. `AfterReplies` if bytes follow the last one. `NoForm` if the reply to a
-/// request has no form, whose number is reported. `TooSmall` if they do not fit. `NoMemory` if memory
-/// runs out.
+/// In this order: the codes of `slotroute_split_pipeline` for the requests. `ReplyIncomplete`,
+/// `ReplyMalformed` or `ReplyTooDeep` for the first reply that cannot be read, with its batch and
+/// number in `told`. `AfterReplies` if bytes follow the last one. `NoForm` if the reply to a
+/// request has no form, with its number in `told`. `TooSmall` if the replies do not fit. `NoMemory`
+/// if memory runs out.
 #[unsafe(no_mangle)]
 pub extern "C" fn slotroute_combine_pipeline(
     alloc: Global,
@@ -141,7 +140,7 @@ fn batches_by(alloc: Global, requests: &[u8], numbers: &[u16]) -> Result<BatchBy
     split_pipeline(alloc, requests, &registry, &slot_map)
 }
 
-/// The replies to the requests of a pipeline, by those to its batches by a table.
+/// The replies to the requests of a pipeline, by the replies to its batches and a table.
 fn combined_by(
     alloc: Global,
     requests: &[u8],
@@ -170,7 +169,7 @@ fn numbers_of(alloc: Global, nodes: &[NodeAddress]) -> Result<Vec<u16>, AllocErr
     Ok(numbers)
 }
 
-/// The code of a pipeline's fault, whose place is reported.
+/// The code of a pipeline's fault. `told` gets the numbers that go with it.
 fn code_of_batch(fault: &BatchFault, told: &mut Told) -> u32
     ensures code { result ≡ code (outcome_of_batch fault.now) }
     ensures told { told.new ≡ with_batch_fault fault.now told.old }

@@ -26,14 +26,15 @@ pub struct RedirectNumbers {
     pub host_len: usize,
 }
 
-/// Reads the text of an error, as `MOVED 3999 127.0.0.1:6381`: writes the host that it names, and
-/// tells the rest in `told`. `answering` is the host of the node that sent the error, which is meant
-/// where the text has none.
+/// Reads the text of an error, as `MOVED 3999 127.0.0.1:6381`. Writes its host to `host`, and the
+/// rest to `told`. `answering` is the host of the node that sent the error, for a text without a
+/// host.
 ///
 /// # Errors
 ///
-/// `NotText` if the text or `answering` is not UTF-8, `NoRedirect` if the text is another one,
-/// `TooSmall` if the host does not fit, which has `told.host_len` bytes; `NoMemory`.
+/// `NotText` if the text or `answering` is not UTF-8. `NoRedirect` if the text is no redirect.
+/// `TooSmall` if the host does not fit: `told.host_len` is its length. `NoMemory` if memory runs
+/// out.
 #[unsafe(no_mangle)]
 pub extern "C" fn slotroute_redirect(
     alloc: Global,
@@ -74,7 +75,7 @@ pub extern "C" fn slotroute_redirect(
     }
 }
 
-/// Tells a redirect, and writes its host where that fits.
+/// Writes a redirect to `told`, and its host to `host` if it fits.
 fn tell(slot: Slot, redirect: &Redirect, host: &mut [u8], told: &mut RedirectNumbers) -> Outcome
     ensures told { told.new ≡ numbers_of slot redirect.now }
     ensures done { result ≡ Outcome.Done

@@ -25,9 +25,9 @@ use std::alloc::Global;
 #[repr(C)]
 #[derive(Clone, Copy)]
 pub struct Routed {
-    /// To which nodes: of a slot, any, all, or those of several slots.
+    /// The nodes: of one slot, of several, any, or all.
     pub kind: u32,
-    /// The slot, where it goes to the nodes of one.
+    /// The slot, if the request goes to one.
     pub slot: u32,
     /// Which nodes of that slot may serve it.
     pub addr: u32,
@@ -86,7 +86,7 @@ fn routing_of(
     redis_bytes::route(alloc, request, names)
 }
 
-/// The names that only read: that of a request's command, if it does.
+/// The names that only read: the name of the request's command, if it only reads.
 fn names_for(alloc: Global, request: &[u8], only_reads: u32) -> Result<ReadOnlyNames, BytesFault>
     ensures names { IfOk result (λ names. AreNamesFor only_reads request.now names) }
     ensures memory { IfErr result (λ fault. fault ≡ BytesFault.Memory) }
@@ -107,7 +107,7 @@ fn names_for(alloc: Global, request: &[u8], only_reads: u32) -> Result<ReadOnlyN
     Ok(names)
 }
 
-/// The node that a number asks for: 0 for the primary, else a replica if there is one.
+/// The node by its number: 0 for the primary, else a replica if there is one.
 pub(super) fn addr_of(number: u32) -> SlotAddr
     ensures { result ≡ addr_of number }
 {

@@ -16,18 +16,18 @@ use crate::routes::addr_of;
 use crate::told::Told;
 use std::alloc::Global;
 
-/// The table of a reply to `CLUSTER SLOTS`: writes for each slot the number of the node that a route
-/// there asks for, or 65535, to `numbers`, and the lines of the nodes to `nodes`. `answering` is the
-/// host of the node that answered, which stands where the reply names none. `addr` is 0 for primaries,
-/// else the replica at `pick` modulo their count, or the primary if there is none. `told` says how
-/// many numbers and bytes there are.
+/// Writes the table of a reply to `CLUSTER SLOTS`. Each slot gets the number of the node of a route
+/// there, or 65535, in `numbers`. Each node gets a line in `nodes`. `answering` is the host of the
+/// node that replied, for hosts that the reply leaves out. `addr` is 0 for primaries, else the
+/// replica at `pick` modulo their count, or the primary if there is none. `told` has the count of
+/// numbers and of bytes.
 ///
 /// # Errors
 ///
-/// `NotText` if `answering` is not UTF-8; `ReplyIncomplete`, `ReplyMalformed`, `ReplyTooDeep` or
-/// `ReplyIsError` if the reply is no value, and `AfterReplies` if bytes follow it;
-/// `LineFeedInHost` if a slot's node has a line feed in its host, so that no line tells it;
-/// `TooSmall` if a buffer is too small for what `told` says. `NoMemory` if memory runs out.
+/// `NotText` if `answering` is not UTF-8. `ReplyIncomplete`, `ReplyMalformed`, `ReplyTooDeep` or
+/// `ReplyIsError` if the reply is no value. `AfterReplies` if bytes follow it. `LineFeedInHost` if
+/// the host of a slot's node has a line feed. `TooSmall` if a buffer is too small for what `told`
+/// says. `NoMemory` if memory runs out.
 #[unsafe(no_mangle)]
 pub extern "C" fn slotroute_table(
     alloc: Global,

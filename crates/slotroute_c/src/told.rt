@@ -1,5 +1,5 @@
-/// Sizes that a call needs, or where a fault is. `include/slotroute.h` says which call writes
-/// which of them.
+/// Sizes that a call needs, or where a fault is. `include/slotroute.h` says which call writes which
+/// field.
 #[repr(C)]
 #[derive(Clone, Copy)]
 pub struct Told {
