@@ -27,12 +27,12 @@ use Rattle.uses.specs.declared.batcher.NoReply.{NoReply}
 abbrev pub Answers : Type 0
 Answers = List (Result Value NoReply)
 
--- no reply was told yet
+-- the plan has no reply yet
 abbrev pub IsUntold : Plan → Type 0
 IsUntold plan = plan.replies ≡ map (λ route. None) plan.split.routes
 
--- Each answer is a reply, and to a plan that was told none before, the one reply is that which the
--- command's policy makes of them. It is the reply to the command, amid what others write.
+-- Each answer is a reply. If the plan had no reply before, the command's policy makes the one reply
+-- of them. It is the reply to the command, amid what others write.
 pub record IsGathered (plan : Plan) (answers : Answers) (reply : Reply) : Type 0 where
   pub replies : List Value
   pub each : answers ≡ map Ok replies
@@ -40,8 +40,8 @@ pub record IsGathered (plan : Plan) (answers : Answers) (reply : Reply) : Type 0
   pub amid : (registered : Registrations) (command : MultiKey) → IsPlanOf registered command plan
       → IsUntold plan → IsReplyAmid (List ℕ) command (map view replies) reply
 
--- The last call gave a reply to each part of the command. The one reply is that to the command, amid
--- what others write.
+-- The last call gave a reply to each part of the command. The one reply is the reply to the
+-- command, amid what others write.
 --
 -- `MGET a b`, and another client's `MSET a 1 b 1` comes between the two parts:
 --     the old `a` and the new `b`
@@ -60,8 +60,8 @@ pub record IsNotAnswered (answers : Answers) (number : ℕ) (cause : NoReply) : 
   pub answers_are : answers ≡ map Ok before ++ Err cause ∷ rest
   pub number_is : number ≡ length before
 
--- Each answer is a reply. They are not one for each route, or the policy refuses them with an error
--- of that kind, or memory ran out in making one of them.
+-- Each answer is a reply. There are more or fewer than routes, or the policy refuses them with an
+-- error of that kind, or memory ran out.
 pub record IsNotCombined (plan : Plan) (answers : Answers) (error : ErrorParts) : Type 0 where
   pub replies : List Value
   pub each : answers ≡ map Ok replies
@@ -75,7 +75,7 @@ IsClientRefusal (NotAnswered number cause) = ⊥
 IsClientRefusal (NotCombined error) = error.kind ≡ Client
 IsClientRefusal Memory = ⊥
 
--- why there are no replies to tell
+-- why there is not a reply to each part
 abbrev pub IsUnread : Answers → BatchError → Type 0
 IsUnread answers (NotPlanned fault) = ⊥
 IsUnread answers (NotAnswered number cause) = IsNotAnswered answers number cause
@@ -96,7 +96,7 @@ IsUnplanned entries args Unsent (NotAnswered number cause) = Unit {0}
 IsUnplanned entries args Unsent (NotCombined error) = Unit {0}
 IsUnplanned entries args Unsent Memory = Unit {0}
 
--- what may have been handed over, call by call
+-- what may have been handed over, a list for each call
 abbrev pub Handed : Type 0
 Handed = List (List Target)
 
@@ -118,7 +118,7 @@ pub record AreHanded (entries : List (ranges.RangeEntry SlotNodes)) (args : Argu
   pub each : AllZip (λ route part. IsNodeOfRoute entries route 0 part.0
       × (map Some part.1 ≡ part_by_slot [] args route.slot)) routes parts
 
--- They were handed over so, too, where there is no reply; where memory ran out, they were or were
+-- Without a reply, the parts were handed over like that, too. If memory ran out, they were or were
 -- not.
 abbrev pub AreHandedOrNone : List (ranges.RangeEntry SlotNodes) → Arguments
     → (old new : Handed → Type 0) → BatchError → Type 0

@@ -14,12 +14,12 @@ use Rattle.redis_cluster.specs.Trace.{Entry}
 abbrev pub write : List (List ℕ)
 write = codes "MSET" ∷ codes "a" ∷ codes "1" ∷ codes "b" ∷ codes "2" ∷ []
 
--- the words of the one that reads
+-- the words of the command that reads
 abbrev pub read : List (List ℕ)
 read = codes "MGET" ∷ codes "a" ∷ codes "b" ∷ []
 
 module _ (slots : List (ranges.RangeEntry SlotNodes)) where
-  -- an address is that of the primary of the route's slot
+  -- the address is the primary of the route's slot
   abbrev pub IsPrimary : SlotRoute → Address → Type 0
   IsPrimary route address = IsNodeOfRoute slots route 0 address
 

@@ -5,8 +5,8 @@ use redis_cluster::routing::{Names, ReadOnlyNames, Registry};
 use resp_core::{Cmd, Value};
 use std::alloc::Global;
 
-/// Sends part 0 of a read, then another client's write, then part 1 of the read. Gives the reply to the
-/// read, if there is one.
+/// Sends part 0 of a read, then another client's write, then part 1 of the read. Returns the reply
+/// to the read, if there is one.
 pub fn read_around<N: Nodes>(
     alloc: Global,
     read: &Cmd,
@@ -28,7 +28,7 @@ pub fn read_around<N: Nodes>(
     plan.combine(alloc).ok()
 }
 
-/// Sends one part of a plan, and tells the plan its reply.
+/// Sends one part of a plan, and passes its reply to the plan.
 fn send_part<N: Nodes>(
     alloc: Global,
     plan: &mut SplitPlan<'_, Cmd>,
@@ -41,7 +41,7 @@ fn send_part<N: Nodes>(
     plan.tell(number, reply).ok()
 }
 
-/// Sends a command whose parts have these numbers, and gives its reply, if there is one.
+/// Sends the parts of a command in this order, and returns its reply, if there is one.
 pub fn send<N: Nodes>(
     alloc: Global,
     command: &Cmd,

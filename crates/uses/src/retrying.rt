@@ -21,7 +21,7 @@ pub struct Asking<S: Drop> {
 }
 
 impl<S: Sockets + Drop> Asking<S> {
-    /// Over these connections, and no `ASK` has come yet.
+    /// A transport over these connections. No `ASK` has come yet.
     pub fn over(sockets: S) -> Self {
         Asking {
             sockets,

@@ -25,7 +25,8 @@ fn numbers(alloc: Global, of: &[i64]) -> Result<Vec<Result<Value, RedisError>>, 
     Ok(answers)
 }
 
-/// The replies to the three commands over connections that give these answers, the last batch first.
+/// The replies to the three commands over connections that return these answers, the last batch
+/// first.
 fn replies_over(
     alloc: Global,
     mut answers: Vec<Vec<Result<Value, RedisError>>>,
@@ -43,7 +44,7 @@ fn replies_over(
     })
 }
 
-/// The numbers among the replies, each behind a space.
+/// The numbers among the replies, each after a space.
 fn numbers_in(alloc: Global, replies: &[Result<Value, RedisError>]) -> Result<String, AllocError> {
     let mut text = String::new(alloc);
     for reply in replies {

@@ -11,7 +11,7 @@ const BATCH_OF_FOO: &str =
 
 const BATCH_OF_BAR: &str = "10.0.0.1:6379 MSET bar 2\n10.0.0.1:6379 MGET bar\n";
 
-/// The command of these words, which are parted by single spaces.
+/// The command of these words, separated by single spaces.
 pub(super) fn command_of(alloc: Global, words: &str) -> Result<Cmd, AllocError> {
     let mut command = Cmd::new(alloc);
     for word in words.split(' ') {

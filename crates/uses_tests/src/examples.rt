@@ -72,7 +72,7 @@ fn a_shared_strategy_picks_a_replica(rt: HostRuntime) -> Result<(), Fail> {
     Ok(())
 }
 
-// Connections that give these answers, whatever is sent.
+// Connections that return these answers, whatever is sent.
 #[derive(Drop)]
 struct Scripted {
     answers: Vec<Answer>,
@@ -86,7 +86,7 @@ impl Connections for Scripted {
     }
 }
 
-// What a batch of `DEL foo bar` gives for these answers to its two parts.
+// What a batch of `DEL foo bar` returns for these answers to its two parts.
 fn batched(alloc: Global, first: Answer, second: Answer) -> Result<String, Fail> {
     let map = two_nodes(alloc)?;
     let mut command = Cmd::new(alloc);
