@@ -44,7 +44,7 @@ fn with_capacity(alloc: Global, words: &str) -> RedisResult<String> {
     emptiness(alloc, &cmd)
 }
 
-/// A command with room for so many items and bytes, and the words behind these numbers.
+/// A command with room for these numbers of items and bytes, and the words after them.
 fn roomy(alloc: Global, words: &str) -> RedisResult<(Cmd, &str)> {
     let (items, rest) = first(words);
     let (bytes, rest) = first(rest);
@@ -57,7 +57,7 @@ fn with_room(alloc: Global, words: &str) -> RedisResult<String> {
     emptiness(alloc, &cmd)
 }
 
-/// Adds items, of which one that is refused may not change the command.
+/// Adds items. An item that is refused must not change the command.
 fn add(cmd: &mut Cmd, items: &[Vec<u8>]) -> RedisResult<()> {
     for item in items {
         let before = cmd.clone()?;
@@ -80,7 +80,7 @@ fn arg(alloc: Global, text: &str) -> RedisResult<String> {
     Ok(format!(in alloc; "{} items, equal {same}", cmd.len())?)
 }
 
-/// A command of so many items, of which each is its own place.
+/// A command of this many items, each of which is its own index.
 fn counted(alloc: Global, items: usize) -> RedisResult<Cmd> {
     let mut cmd = Cmd::new(alloc);
     for place in 0..items {
@@ -89,7 +89,7 @@ fn counted(alloc: Global, items: usize) -> RedisResult<Cmd> {
     Ok(cmd)
 }
 
-/// Whether each item of a command is its own place.
+/// Whether each item of a command is its own index.
 fn is_counted(cmd: &Cmd) -> bool {
     for (place, item) in (0..cmd.len()).zip(cmd.args()) {
         if item != place.to_be_bytes().as_slice() {
@@ -110,7 +110,7 @@ fn many_items(alloc: Global, words: &str) -> RedisResult<String> {
     kept(alloc, &cmd, is_counted(&cmd))
 }
 
-/// A command of three items, of which this is the second.
+/// A command of three items, with this one as the second.
 fn between(alloc: Global, item: &[u8]) -> RedisResult<Cmd> {
     let mut cmd = Cmd::new(alloc);
     cmd.arg(b"SET")?.arg(item)?.arg(b"")?;

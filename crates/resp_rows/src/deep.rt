@@ -1,4 +1,4 @@
-//! Values that are nested deeply, of each shape: what recurses down any of them ends the program.
+//! Values that are nested deeply, of each shape. Code that recurses down one ends the program.
 use crate::texts::first;
 use fixtures::{bad_row, number};
 use resp_core::{RedisResult, Value};
@@ -35,7 +35,7 @@ fn map_around(alloc: Global, level: &str, inside: Value) -> RedisResult<Value> {
     }))
 }
 
-/// A value in one level more.
+/// A value in one more level.
 fn around(alloc: Global, level: &str, inside: Value) -> RedisResult<Value> {
     match level {
         "alone" | "first" | "last" | "between" => array_around(alloc, level, inside),
@@ -47,15 +47,15 @@ fn around(alloc: Global, level: &str, inside: Value) -> RedisResult<Value> {
 /// The levels of a value.
 #[derive(Drop)]
 struct Shape<'a> {
-    /// How many there are in the outermost one.
+    /// The number of levels inside the outermost one.
     depth: usize,
-    /// These, from the innermost on, over and over.
+    /// The shapes of the levels, repeated from the innermost on.
     levels: Vec<&'a str>,
     /// The outermost one.
     root: &'a str,
 }
 
-/// The shape of a text: the depth, the levels, and behind `in` the outermost one.
+/// The shape of a text: the depth, the levels, and after `in` the outermost level.
 fn read_shape(alloc: Global, words: &str) -> RedisResult<Shape<'_>> {
     let (depth, rest) = first(words);
     let (inner, root) = rest.split_once(" in ").unwrap_or((rest, "alone"));
@@ -86,7 +86,7 @@ fn comparisons(value: Value, other: Value) -> RedisResult<(bool, bool)> {
     Ok((copy == value, other == value))
 }
 
-/// What is made of a deep value, and of one that differs inside.
+/// The comparisons of a deep value, and of one that differs inside.
 pub fn compare(alloc: Global, words: &str) -> RedisResult<String> {
     let shape = read_shape(alloc, words)?;
     let value = nested(alloc, &shape, 7)?;

@@ -17,7 +17,7 @@ use resp_core::RedisResult;
 use std::alloc::Global;
 use std::process::ExitCode;
 
-/// What later rows speak of.
+/// The state that later rows use.
 #[derive(Drop)]
 struct Rows {
     tables: Tables,

@@ -1,4 +1,4 @@
-//! Pipelines as bytes, where no name is registered.
+//! Pipelines as bytes, with no registered name.
 use crate::routing::piece;
 use crate::texts::{escaped, first, halves};
 use cluster_map::SlotMap;
@@ -74,7 +74,7 @@ impl Pipelines {
         Ok(format!(in alloc; "{node}, {count} commands, {text}")?)
     }
 
-    /// The replies to a pipeline by those to its batches.
+    /// The replies to a pipeline, by the replies to its batches.
     fn combine(&self, alloc: Global, words: &str) -> RedisResult<String> {
         let (commands, replies) = halves(words);
         let requests = requests(alloc, commands)?;
@@ -125,7 +125,7 @@ fn requests(alloc: Global, words: &str) -> RedisResult<Vec<u8>> {
     Ok(bytes)
 }
 
-/// Puts in the number of a slot, as `3300=0` writes it; that of no node is `none`.
+/// Sets the number of a slot, as `3300=0` writes it; `none` is the number of no node.
 fn put_number(numbers: &mut [u16], word: &str) -> RedisResult<()> {
     let (slot, digits) = word.split_once('=').unwrap_or((word, "none"));
     let slot: usize = number(slot)?;
@@ -139,7 +139,7 @@ fn put_number(numbers: &mut [u16], word: &str) -> RedisResult<()> {
     Ok(())
 }
 
-/// The numbers of all slots: the first word, but for those that later words put in.
+/// The numbers of all slots: the first word, except for the slots of later words.
 fn numbers_of(alloc: Global, words: &str) -> RedisResult<Vec<u16>> {
     let (all, rest) = first(words);
     let mut numbers = vec![in alloc; number(all)?; usize::from(SLOTS)]?;
@@ -152,7 +152,7 @@ fn numbers_of(alloc: Global, words: &str) -> RedisResult<Vec<u16>> {
     Ok(numbers)
 }
 
-/// The map of the numbers of the first so many slots.
+/// The map of the first numbers, as many as the first word says.
 fn map_of_numbers(alloc: Global, words: &str) -> RedisResult<SlotMap> {
     let (count, rest) = first(words);
     let count: usize = number(count)?;

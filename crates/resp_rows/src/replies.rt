@@ -67,7 +67,7 @@ fn is_answered(alloc: Global, bytes: &[u8]) -> bool {
     !matches!(read(alloc, bytes), Err(ReadError::Memory))
 }
 
-/// How many of the bytes at an index are answered.
+/// How many of the bytes at an index are answered, by a reply or a fault.
 fn answered(alloc: Global, whole: &[u8], index: usize) -> RedisResult<usize> {
     let mut bytes = whole.to_vec(alloc)?;
     let mut count: usize = 0;
@@ -82,7 +82,7 @@ fn answered(alloc: Global, whole: &[u8], index: usize) -> RedisResult<usize> {
     Ok(count)
 }
 
-/// How many replies are answered that have another byte at one index, or the same.
+/// How many replies with another byte, or the same one, at one index are answered.
 fn read_flips(alloc: Global, words: &str) -> RedisResult<String> {
     let whole = bytes(alloc, words)?;
     let mut count: usize = 0;
@@ -103,7 +103,7 @@ fn write_row(alloc: Global, words: &str) -> RedisResult<String> {
     written(alloc, &value(alloc, words)?)
 }
 
-/// The bytes of a nil in so many arrays.
+/// The bytes of a nil in nested arrays.
 fn write_nested(alloc: Global, words: &str) -> RedisResult<String> {
     written(alloc, &nested(alloc, number(words)?)?)
 }

@@ -6,7 +6,7 @@ use resp::{RequestError, RequestFault, read_request, request_len, write_command}
 use resp_core::{Cmd, RedisResult};
 use std::alloc::Global;
 
-/// What a call answers that is of one request.
+/// What a call on one request returns.
 pub fn call(alloc: Global, name: &str, words: &str) -> Option<RedisResult<String>> {
     Some(match name {
         "request" => request(alloc, words),

@@ -1,5 +1,5 @@
-//! Where a request goes, its parts, and the one reply of those to the parts, where no name only
-//! reads and none is registered.
+//! Where a request goes, its parts, and the one reply, if no name only reads and none is
+//! registered.
 use crate::texts::{command, escaped, first, halves};
 use fixtures::{bytes, number};
 use redis_bytes::{BytesFault, Parts};
@@ -62,7 +62,7 @@ pub fn parts(alloc: Global, words: &str) -> RedisResult<String> {
     }
 }
 
-/// What stands between an end and the one before it.
+/// The bytes between an end and the one before it.
 pub fn piece<'a>(bytes: &'a [u8], ends: &[usize], index: usize) -> &'a [u8] {
     let start = match index.checked_sub(1) {
         Some(before) => ends.get(before).copied().unwrap_or(0),

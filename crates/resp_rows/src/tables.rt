@@ -7,14 +7,14 @@ use redis_bytes::{BytesFault, NO_NODE, Table, slot_map, slot_table};
 use resp_core::RedisResult;
 use std::alloc::Global;
 
-/// The table that rows speak of.
+/// The table that rows use.
 #[derive(Drop)]
 pub struct Tables {
     table: Table,
 }
 
 impl Tables {
-    /// That of no slots.
+    /// The table of no slots.
     pub fn new(alloc: Global) -> Self {
         let (numbers, nodes) = (Vec::new(alloc), Vec::new(alloc));
         Tables {
@@ -32,7 +32,7 @@ impl Tables {
         })
     }
 
-    /// Keeps the table of the primaries that a reply tells.
+    /// Keeps the table of the primaries in a reply.
     fn keep(&mut self, alloc: Global, words: &str) -> RedisResult<String> {
         match table_of(alloc, words)? {
             Ok(table) => self.table = table,

@@ -3,17 +3,17 @@ use fixtures::cmd;
 use resp_core::{Cmd, RedisResult};
 use std::alloc::Global;
 
-/// The first word of a text, and the text behind it.
+/// The first word of a text, and the text after it.
 pub fn first(text: &str) -> (&str, &str) {
     text.split_once(' ').unwrap_or((text, ""))
 }
 
-/// What stands before and behind the bar of a text.
+/// The text before and after the bar.
 pub fn halves(text: &str) -> (&str, &str) {
     text.split_once(" | ").unwrap_or((text, ""))
 }
 
-/// The command of some words; that of no item where there is no text.
+/// The command of some words; an empty command for an empty text.
 pub fn command(alloc: Global, text: &str) -> RedisResult<Cmd> {
     if text.is_empty() {
         return Ok(Cmd::new(alloc));
@@ -32,7 +32,7 @@ fn push_byte(alloc: Global, text: &mut String, byte: u8) -> RedisResult<()> {
     Ok(())
 }
 
-/// Bytes with the escapes of a row, but with spaces.
+/// Bytes with the escapes of a row, except for spaces.
 pub fn escaped(alloc: Global, bytes: &[u8]) -> RedisResult<String> {
     let mut text = String::new(alloc);
     for byte in bytes {
@@ -41,7 +41,7 @@ pub fn escaped(alloc: Global, bytes: &[u8]) -> RedisResult<String> {
     Ok(text)
 }
 
-/// The same in quotes.
+/// Bytes with the escapes of a row, in quotes.
 pub fn quoted(alloc: Global, bytes: &[u8]) -> RedisResult<String> {
     let text = escaped(alloc, bytes)?;
     Ok(format!(in alloc; "\"{text}\"")?)
