@@ -34,7 +34,7 @@ fn matches(alloc: Global, host: &str, port: u16, text: &str) -> Result<bool, All
     Ok(address.matches_text(text))
 }
 
-/// Which address a text names that does not match another one.
+/// The address that a text names, if it does not match another one.
 fn read(alloc: Global, text: &str, size: bool) -> Result<String, AllocError> {
     match NodeAddress::try_from(alloc, text) {
         Ok(address) if address.matches_text(text) => {
@@ -46,7 +46,7 @@ fn read(alloc: Global, text: &str, size: bool) -> Result<String, AllocError> {
     }
 }
 
-/// What a text is cut into and, where that is something else, which address it names.
+/// The host and port that a text is cut into, and the address that it names, if that differs.
 pub fn address(alloc: Global, word: &str, size: bool) -> RedisResult<String> {
     let text = text_of(alloc, word)?;
     let cut = cut(alloc, &text, size)?;
@@ -62,7 +62,7 @@ fn texts(alloc: Global, address: &NodeAddress) -> Result<String, AllocError> {
     format!(in alloc; "{address} {address:?}")
 }
 
-/// What both print of the address of a host and a port.
+/// What `Display` and `Debug` print of the address of a host and a port.
 pub fn printed(alloc: Global, words: &str) -> RedisResult<String> {
     let (host, port) = two(words);
     let host = text_of(alloc, host)?;

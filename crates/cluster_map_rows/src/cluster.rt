@@ -1,4 +1,4 @@
-//! The map of a cluster, and the strategy that is lent to it.
+//! The map of a cluster, and the strategy that it borrows.
 use crate::replies::ranges_text;
 use crate::strategies::Lent;
 use crate::texts::{addr_of, node_or_none, push_next, text_of, two, yes_or_no};
@@ -11,7 +11,7 @@ use fixtures::{bad_row, bytes, map, number, ranges, value};
 use resp_core::{RedisResult, Value};
 use std::alloc::Global;
 
-/// What rows set and later rows ask.
+/// The state that rows set and later rows use.
 #[derive(Drop)]
 pub struct Cluster {
     map: SlotMap,
@@ -19,7 +19,7 @@ pub struct Cluster {
     lent: Lent,
 }
 
-/// A route, and the pick that is handed in with it.
+/// A route, and the pick that is passed with it.
 fn route_of(words: &str) -> RedisResult<(Route, usize)> {
     let (slot, others) = two(words);
     let (addr, pick) = two(others);
@@ -45,7 +45,7 @@ fn hosts(alloc: Global, nodes: &[&NodeAddress]) -> RedisResult<String> {
     Ok(text)
 }
 
-/// The same, of which there may be none.
+/// The hosts of nodes that may be missing, a space apart.
 fn hosts_or_none(alloc: Global, nodes: &[Option<&NodeAddress>]) -> RedisResult<String> {
     let mut text = String::new(alloc);
     for node in nodes {
@@ -133,7 +133,7 @@ fn nodes(
     hosts_or_none(alloc, &nodes)
 }
 
-/// What a call of this name answers to which a strategy is lent.
+/// What a call of this name returns, with a strategy.
 fn find(
     alloc: Global,
     map: &SlotMap,
@@ -148,7 +148,7 @@ fn find(
     }
 }
 
-/// The same, with the strategy that is lent.
+/// What a call of this name returns, with the strategy of the rows.
 fn find_by(
     alloc: Global,
     map: &SlotMap,
@@ -171,7 +171,7 @@ fn node_of_key(alloc: Global, map: &SlotMap, word: &str) -> RedisResult<String> 
     Ok(node_or_none(alloc, map.slot_addr_for_route(route, None, 0))?)
 }
 
-/// Where a read may go when the node of its route fails.
+/// Where a read may go if the node of its route fails.
 fn fallback(alloc: Global, map: &SlotMap, words: &str) -> RedisResult<String> {
     let (route, _) = route_of(words)?;
     nodes_text(alloc, &map.shard_fallback_addrs(alloc, route)?)
@@ -182,7 +182,7 @@ fn printed_map(alloc: Global, map: &SlotMap) -> RedisResult<String> {
 }
 
 impl Cluster {
-    /// A map of no range, and no strategy.
+    /// An empty map, and no strategy.
     pub fn new(alloc: Global) -> Self {
         Cluster {
             map: SlotMap::new(alloc),
@@ -191,7 +191,7 @@ impl Cluster {
         }
     }
 
-    /// What a call of this name answers that sets something or asks for a node.
+    /// What a call of this name returns that sets something or asks for a node.
     pub fn call(&mut self, alloc: Global, name: &str, words: &str) -> RedisResult<String> {
         match name {
             "map" => self.set_map(alloc, words),
@@ -207,7 +207,7 @@ impl Cluster {
         }
     }
 
-    /// What a call of this name answers that sets nothing.
+    /// What a call of this name returns that sets nothing.
     fn ask(&self, alloc: Global, name: &str, words: &str) -> RedisResult<String> {
         match name {
             "node" | "node_of_range" | "nodes" => {
@@ -243,7 +243,7 @@ impl Cluster {
         self.count(alloc)
     }
 
-    /// The ranges that a reply tells of. The map is then made of it.
+    /// The ranges of a reply. The map is then made of the reply.
     fn reply(&mut self, alloc: Global, words: &str) -> RedisResult<String> {
         let (answering, reply) = two(words);
         let answering = text_of(alloc, answering)?;
@@ -282,7 +282,7 @@ impl Cluster {
         self.set_topology(alloc, shards::topology_of(alloc, words)?)
     }
 
-    /// Puts a clone of the topology in its place.
+    /// Replaces the topology by a clone.
     fn copied_topology(&mut self, alloc: Global) -> RedisResult<String> {
         let copy = match &self.topology {
             Some(topology) => topology.clone()?,

@@ -19,7 +19,7 @@ use resp_core::RedisResult;
 use std::alloc::Global;
 use std::process::ExitCode;
 
-/// What later rows speak of.
+/// The state that later rows use.
 #[derive(Drop)]
 struct Rows {
     ranges: SlotRangeMap<String>,
@@ -27,7 +27,7 @@ struct Rows {
 }
 
 impl Rows {
-    /// A map of no range, and a cluster of no node.
+    /// An empty map, and a cluster without nodes.
     fn new(alloc: Global) -> Self {
         Rows {
             ranges: SlotRangeMap::default(alloc),

@@ -1,12 +1,12 @@
-//! Nodes of hosts whose hashes are equal, as whoever picks them can make them.
+//! Nodes of hosts whose hashes are equal, as an attacker can choose them.
 use crate::texts::two;
 use cluster_map::{ClusterTopology, NodeAddress, Route, SlotAddr, SlotMap, SlotRange};
 use fixtures::{bad_row, number};
 use resp_core::RedisResult;
 use std::alloc::{AllocError, Global};
 
-/// The host of a number. All have one hash, since the hasher of std's maps multiplies the last eight
-/// bytes by what the 24 before them make, which is 0.
+/// The host of a number. All hosts have one hash: the hasher of std's maps multiplies the last
+/// eight bytes by a value of the 24 before them, which is 0.
 fn node_of(alloc: Global, number: u16, port: u16) -> Result<NodeAddress, AllocError> {
     let host = format!(in alloc; "collidehostcxkzgMOsKSBRA{number:08}")?;
     NodeAddress::new(alloc, &host, port)
@@ -19,7 +19,7 @@ fn range_of(alloc: Global, slot: u16, number: u16) -> Result<SlotRange, AllocErr
     Ok(SlotRange::new(slot, slot, node_of(alloc, number, 1)?, replicas))
 }
 
-/// The map of so many ranges of one slot each, which have so many hosts in turn.
+/// The map of ranges of one slot each, with this many hosts in turn.
 pub fn map_of_hosts(alloc: Global, words: &str) -> RedisResult<SlotMap> {
     let (count, hosts) = two(words);
     let (count, hosts): (u16, u16) = (number(count)?, number(hosts)?);
@@ -44,7 +44,7 @@ fn nodes_of_hosts(alloc: Global, hosts: u16, ports: &[u16]) -> RedisResult<Vec<N
     Ok(nodes)
 }
 
-/// How many of the nodes that were found are in turn those that are wanted.
+/// How many of the found nodes are in turn the wanted ones.
 fn in_order(found: &[&NodeAddress], wanted: &[NodeAddress]) -> usize {
     found
         .iter()
@@ -53,8 +53,8 @@ fn in_order(found: &[&NodeAddress], wanted: &[NodeAddress]) -> usize {
         .count()
 }
 
-/// How many primaries the map lists, and how many of them are in turn those of so many hosts; and
-/// the same of its nodes.
+/// How many primaries the map lists, and how many of them are in turn the expected ones. Then the
+/// same for its nodes.
 pub fn nodes(alloc: Global, map: &SlotMap, word: &str) -> RedisResult<String> {
     let hosts = number(word)?;
     let found = map.addresses_for_all_primaries(alloc)?;
@@ -65,7 +65,7 @@ pub fn nodes(alloc: Global, map: &SlotMap, word: &str) -> RedisResult<String> {
     Ok(format!(in alloc; "{found} primaries, {primaries} in order, {all} nodes, {nodes} in order")?)
 }
 
-/// Of how many slots, counted from 0, the shard has the primary that the map says.
+/// For how many slots, counted from 0, the shard has the same primary as the map.
 fn agreeing(map: &SlotMap, topology: &ClusterTopology, slots: u16) -> usize {
     let mut count: usize = 0;
     for slot in 0..slots {
@@ -76,7 +76,7 @@ fn agreeing(map: &SlotMap, topology: &ClusterTopology, slots: u16) -> usize {
     count
 }
 
-/// How many shards the map has, and of how many of so many slots they have the primary.
+/// How many shards the map has, and for how many slots they have the map's primary.
 pub fn shards(alloc: Global, map: &SlotMap, word: &str) -> RedisResult<String> {
     let topology = map.topology(alloc)?;
     let slots = agreeing(map, &topology, number(word)?);

@@ -5,7 +5,7 @@ use fixtures::number;
 use resp_core::RedisResult;
 use std::alloc::{AllocError, Global};
 
-/// What a call of this name answers that goes by the map of earlier rows, if there is one.
+/// What a call of this name returns that uses the map of earlier rows, if there is one.
 pub fn call(
     map: &mut SlotRangeMap<String>,
     alloc: Global,
@@ -35,7 +35,7 @@ fn entry(line: &str) -> RedisResult<(u16, u16, &str)> {
     Ok((number(start)?, number(end)?, value))
 }
 
-/// Puts in ranges, one after the other, and tells those that the map then has.
+/// Inserts ranges in order, and returns the ranges of the map.
 fn insert(map: &mut SlotRangeMap<String>, alloc: Global, words: &str) -> RedisResult<String> {
     for line in words.split("; ") {
         let (start, end, value) = entry(line)?;
@@ -69,7 +69,7 @@ fn at(map: &SlotRangeMap<String>, alloc: Global, word: &str) -> RedisResult<Stri
     }
 }
 
-/// Puts in ranges of one slot each, whose values are their slots, the last one first.
+/// Inserts ranges of one slot each, whose values are their slots, the last one first.
 fn fill(map: &mut SlotRangeMap<String>, alloc: Global, first: u16, last: u16) -> RedisResult<()> {
     for slot in (first..=last).rev() {
         map.insert(slot, slot, format!(in alloc; "{slot}")?)?;
@@ -77,7 +77,7 @@ fn fill(map: &mut SlotRangeMap<String>, alloc: Global, first: u16, last: u16) ->
     Ok(())
 }
 
-/// How many of the ranges are in turn those of one slot each from a first one on.
+/// How many of the ranges have one slot each, in turn from a first one on.
 fn in_order(map: &SlotRangeMap<String>, first: u16, last: u16) -> RedisResult<usize> {
     let mut count: usize = 0;
     for ((start, end, value), slot) in map.iter().zip(first..=last) {
@@ -87,7 +87,7 @@ fn in_order(map: &SlotRangeMap<String>, first: u16, last: u16) -> RedisResult<us
     Ok(count)
 }
 
-/// How many slots have themselves as their value.
+/// How many slots have their number as their value.
 fn found(map: &SlotRangeMap<String>, first: u16, last: u16) -> RedisResult<usize> {
     let mut count: usize = 0;
     for slot in first..=last {
@@ -98,7 +98,7 @@ fn found(map: &SlotRangeMap<String>, first: u16, last: u16) -> RedisResult<usize
     Ok(count)
 }
 
-/// Ranges of one slot each, from a first to a last one, put in by descending end.
+/// Ranges of one slot each, from a first to a last one, inserted by descending end.
 fn descending(map: &mut SlotRangeMap<String>, alloc: Global, words: &str) -> RedisResult<String> {
     let (first, last) = two(words);
     let (first, last) = (number(first)?, number(last)?);
@@ -127,13 +127,13 @@ pub fn printed(alloc: Global, words: &str) -> RedisResult<String> {
     Ok(format!(in alloc; "{map:?}")?)
 }
 
-/// So many ranges of one slot each, the last one first; past the last slot they begin again.
+/// Ranges of one slot each, the last one first. Past the last slot they begin again.
 fn one_for_each(alloc: Global, count: usize) -> Result<Vec<(u16, u16, char)>, AllocError> {
     let slots = (0..count).rev().map(|number| (number % 65_536) as u16);
     slots.map(|slot| (slot, slot, ' ')).collect(alloc)
 }
 
-/// How many ranges a map has after so many were put in together, and then so many more.
+/// How many ranges a map has after some were inserted together, and then some more.
 pub fn extended(alloc: Global, words: &str) -> RedisResult<String> {
     let (before, count) = two(words);
     let mut map = SlotRangeMap::new(alloc);

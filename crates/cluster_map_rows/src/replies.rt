@@ -24,7 +24,7 @@ fn push_range(alloc: Global, text: &mut String, range: &SlotRange) -> RedisResul
     Ok(())
 }
 
-/// The ranges that a reply tells of, or `none`.
+/// The ranges of a reply, or `none`.
 pub fn ranges_text(alloc: Global, reply: &Value, answering: &str) -> RedisResult<String> {
     let mut text = String::new(alloc);
     for range in &parse_slots(alloc, reply, answering)? {
@@ -36,7 +36,7 @@ pub fn ranges_text(alloc: Global, reply: &Value, answering: &str) -> RedisResult
     Ok(text)
 }
 
-/// A node whose host has so many bytes.
+/// A node whose host has this many bytes.
 fn node(alloc: Global, bytes: usize, port: i64) -> Result<Value, AllocError> {
     let host = Value::BulkString(vec![in alloc; b'h'; bytes]?);
     Ok(Value::Array(vec![in alloc; host, Value::Int(port)]?))
@@ -62,7 +62,7 @@ fn count_shards(alloc: Global, reply: &Value) -> RedisResult<usize> {
     Ok(map.topology(alloc)?.shards().count())
 }
 
-/// How many ranges a reply of so many items has, and how many shards its map.
+/// How many ranges a reply of this many items has, and how many shards its map has.
 pub fn reply_items(alloc: Global, word: &str) -> RedisResult<String> {
     let reply = items(alloc, number(word)?)?;
     let shards = count_shards(alloc, &reply)?;
@@ -70,7 +70,7 @@ pub fn reply_items(alloc: Global, word: &str) -> RedisResult<String> {
     Ok(format!(in alloc; "{ranges} ranges, {shards} shards")?)
 }
 
-/// A reply of one item, which has so many nodes, each with its place as its port, and a host of so
+/// A reply of one item with this many nodes. Each has its index as its port, and a host of this
 /// many bytes.
 fn item_of_nodes(alloc: Global, nodes: i64, bytes: usize) -> RedisResult<Value> {
     let mut item = vec![in alloc; Value::Int(0), Value::Int(16383)]?;
@@ -80,7 +80,7 @@ fn item_of_nodes(alloc: Global, nodes: i64, bytes: usize) -> RedisResult<Value> 
     Ok(Value::Array(vec![in alloc; Value::Array(item)]?))
 }
 
-/// How many replicas the one range of such a reply has, and how many bytes the host of its primary.
+/// How many replicas the one range of a reply has, and how long the host of its primary is.
 pub fn reply_nodes(alloc: Global, words: &str) -> RedisResult<String> {
     let (nodes, bytes) = two(words);
     let reply = item_of_nodes(alloc, number(nodes)?, number(bytes)?)?;

@@ -1,4 +1,4 @@
-//! Slots of keys, beside remainders by division of one bit after the other.
+//! Slots of keys, beside remainders by bitwise division.
 use crate::texts::two;
 use cluster_map::{Route, SLOT_SIZE, Slot, SlotAddr};
 use fixtures::{bytes, number};
@@ -8,7 +8,7 @@ use std::alloc::Global;
 /// The polynomial of the Redis cluster specification without x^16.
 const POLYNOMIAL: u16 = 0x1021;
 
-/// What a remainder becomes by eight more bits.
+/// A remainder after eight more bits.
 fn eight_bits_on(start: u16) -> u16 {
     let mut crc = start;
     for _bit in 0..8u32 {
@@ -41,7 +41,7 @@ pub fn slot(alloc: Global, words: &str) -> RedisResult<String> {
     Ok(format!(in alloc; "key {slot}, route {routed} {addr:?}, tag {by_bits}")?)
 }
 
-/// Of how many keys of one byte, up to a last byte, the slot is that of the remainder bit by bit.
+/// How many keys of one byte, up to a last byte, have the slot of the bitwise remainder.
 pub fn slots_of_bytes(alloc: Global, word: &str) -> RedisResult<String> {
     let mut count: u16 = 0;
     for byte in 0..=number::<u8>(word)? {

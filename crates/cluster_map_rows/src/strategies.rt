@@ -1,4 +1,4 @@
-//! Strategies that are lent to a map.
+//! Strategies that a map borrows.
 use cluster_map::{
     ClusterTopology, DefaultFactory, ReadRoutingStrategy, ReadRoutingStrategyFactory,
 };
@@ -7,12 +7,12 @@ use fixtures::{Turns, bad_row, number};
 use resp_core::RedisResult;
 use std::alloc::Global;
 
-/// The strategy that later rows lend.
+/// The strategy that later rows pass.
 #[derive(Drop)]
 pub enum Lent {
-    /// None.
+    /// No strategy.
     Nothing,
-    /// One that counts how often it is asked.
+    /// A strategy that counts how often it is asked.
     Turns(Turns),
     First(FirstReplica),
     Index(PickIndex),
@@ -25,13 +25,13 @@ fn made() -> FirstReplica {
     factory.create_strategy()
 }
 
-// As a user tells a strategy of which the type is not known.
+// Passes the topology as a user does who does not know the strategy's type.
 fn tell(strategy: &mut dyn ReadRoutingStrategy, topology: ClusterTopology) {
     strategy.on_topology_changed(topology);
 }
 
 impl Lent {
-    /// The strategy of a name, as it is before it is asked for anything.
+    /// The strategy of a name, before it is asked for anything.
     pub fn new(name: &str) -> RedisResult<Lent> {
         match name {
             "none" => Ok(Lent::Nothing),
@@ -46,7 +46,7 @@ impl Lent {
         }
     }
 
-    /// Tells the strategy of the shards.
+    /// Passes the shards to the strategy.
     pub fn tell(&mut self, topology: ClusterTopology) {
         match self {
             Lent::Nothing => {}
@@ -57,7 +57,7 @@ impl Lent {
         }
     }
 
-    /// An answer, and behind it how often the strategy was asked, where it counts that.
+    /// An answer, and after it how often the strategy was asked, if it counts.
     pub fn with_asked(&self, alloc: Global, answer: String) -> RedisResult<String> {
         let Lent::Turns(turns) = self else {
             return Ok(answer);
