@@ -1,4 +1,4 @@
-//! One reply of those of several nodes.
+//! One reply by the replies of several nodes.
 use crate::replies::{pattern, replies, routes, routes_of_each};
 use cluster_map::Route;
 use fixtures::value_text;
@@ -9,7 +9,7 @@ use redis_cluster::routing::{
 use resp_core::{RedisResult, Value};
 use std::alloc::Global;
 
-/// What a call of this name answers, if it is one of those here.
+/// What a call of this name returns, if it is one of these.
 pub fn call(alloc: Global, name: &str, text: &str) -> Option<RedisResult<String>> {
     match name {
         "sum" | "min" | "and" | "or" | "map" | "array" | "sorted" => {
@@ -44,7 +44,7 @@ fn count_text(alloc: Global, given: &RedisResult<Value>) -> RedisResult<String> 
     }
 }
 
-/// What a combiner gives; an error of its own is that of a row which can't be read.
+/// The result of a combiner. The outer error is that of a row that cannot be read.
 fn combine(alloc: Global, name: &str, text: &str) -> RedisResult<RedisResult<Value>> {
     if name == "sorted" {
         return sorted(alloc, text);
@@ -63,7 +63,7 @@ fn by_name(alloc: Global, name: &str, replies: Vec<Value>) -> RedisResult<Value>
     }
 }
 
-/// The replies behind a pattern and the lists of places; `each` is a list of one place for each
+/// The replies after a pattern and the lists of indices; `each` is a list of one index for each
 /// reply.
 fn sorted(alloc: Global, text: &str) -> RedisResult<RedisResult<Value>> {
     let mut fields = text.splitn(3, ' ');

@@ -1,4 +1,4 @@
-//! Commands: where they go, how they are split, and what stands in them.
+//! Commands: where they go, how they are split, and their arguments.
 use crate::known::Known;
 use crate::replies::{indices, is_reply, reply};
 use crate::texts::{bytes_text, cmd_text, equality, routes_text, routing_text};
@@ -11,7 +11,7 @@ use redis_cluster::routing::{
 use resp_core::{Cmd, RedisResult};
 use std::alloc::{AllocError, Global};
 
-/// What the call of this name answers of a command, which is the last of the words.
+/// What the call of this name returns for a command, which is the last of the words.
 pub fn call(alloc: Global, known: &Known, name: &str, text: &str) -> RedisResult<String> {
     let (first, text) = match name {
         "arg" | "position" | "part" | "take" | "take_two" => {
@@ -69,7 +69,7 @@ fn route<R: Routable>(alloc: Global, known: &Known, command: &R) -> RedisResult<
     routing_text(alloc, &found(alloc, known, command)?)
 }
 
-/// Whether a copy of where a command goes is equal, or `none` where it goes nowhere.
+/// Whether a copy of where a command goes is equal, or `none` if it goes nowhere.
 fn clone_route<R: Routable>(alloc: Global, known: &Known, command: &R) -> RedisResult<String> {
     match found(alloc, known, command)? {
         Some(info) => Ok(equality(alloc, &info)?),
@@ -92,7 +92,7 @@ fn part_count<R: Routable>(alloc: Global, known: &Known, command: &R) -> RedisRe
     }
 }
 
-/// Where a command goes, of which `many` is several nodes, and in how many parts.
+/// Where a command goes, with `many` for several nodes, and its number of parts.
 fn parts<R: Routable>(alloc: Global, known: &Known, command: &R) -> RedisResult<String> {
     let route = route(alloc, known, command)?;
     let parts = part_count(alloc, known, command)?;

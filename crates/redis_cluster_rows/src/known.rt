@@ -6,12 +6,12 @@ use redis_cluster::routing::{Names, ReadOnlyNames, RegisterError, Registry};
 use resp_core::RedisResult;
 use std::alloc::Global;
 
-/// What the rows so far tell of names.
+/// What the rows so far say of names.
 #[derive(Drop)]
 pub struct Known {
     /// The names of the commands that only read.
     pub read_only: ReadOnlyNames,
-    /// The names that the tables don't have.
+    /// The names that the tables do not have.
     pub registry: Registry,
 }
 
@@ -24,7 +24,7 @@ impl Known {
         }
     }
 
-    /// Both, as calls are told of them.
+    /// Both, as calls take them.
     pub fn names(&self) -> Names<'_> {
         Names {
             read_only: &self.read_only,
@@ -33,7 +33,7 @@ impl Known {
     }
 }
 
-/// What a call of this name answers, if it is one of those here.
+/// What a call of this name returns, if it is one of these.
 pub fn call(
     alloc: Global,
     known: &mut Known,
@@ -65,7 +65,7 @@ fn reads(alloc: Global, known: &Known, text: &str) -> RedisResult<String> {
     Ok(format!(in alloc; "{contains}")?)
 }
 
-/// A new registry, or a copy in place of the one so far. Answers how many names it has.
+/// A new registry, or a copy that replaces the old one. Returns how many names it has.
 fn registry(alloc: Global, known: &mut Known, text: &str) -> RedisResult<String> {
     known.registry = match text {
         "new" => Registry::new(alloc),
@@ -74,7 +74,7 @@ fn registry(alloc: Global, known: &mut Known, text: &str) -> RedisResult<String>
     Ok(format!(in alloc; "{}", known.registry.len())?)
 }
 
-/// Registers a name behind its pattern and its policy.
+/// Registers a name, after its pattern and its policy.
 fn register(alloc: Global, known: &mut Known, text: &str) -> RedisResult<String> {
     let mut fields = text.splitn(3, ' ');
     let pattern = pattern(fields.next().unwrap_or(""))?;

@@ -17,7 +17,7 @@ use resp_core::RedisResult;
 use std::alloc::Global;
 use std::process::ExitCode;
 
-/// The names and the pipeline that later rows speak of.
+/// The names and the pipeline that later rows use.
 #[derive(Drop)]
 struct Rows {
     known: Known,

@@ -4,7 +4,7 @@ use redis_cluster::pipeline::{ClusterPipeline, UNROUTABLE_ERROR, cluster_pipe};
 use resp_core::{RedisError, RedisResult};
 use std::alloc::Global;
 
-/// What a call of this name answers, if it is one of those here.
+/// What a call of this name returns, if it is one of these.
 pub fn call(
     alloc: Global,
     pipeline: &mut ClusterPipeline,
@@ -52,7 +52,7 @@ fn pipe(alloc: Global, pipeline: &mut ClusterPipeline, text: &str) -> RedisResul
     checked(alloc, pipeline.check(alloc))
 }
 
-/// Writes arguments to the last command, and tells whether the pipeline may be sent.
+/// Writes arguments to the last command, and returns whether the pipeline may be sent.
 fn write(alloc: Global, pipeline: &mut ClusterPipeline, text: &str) -> RedisResult<String> {
     for arg in &words(alloc, text)? {
         pipeline.write_arg(arg)?;
@@ -65,7 +65,7 @@ fn len(alloc: Global, pipeline: &ClusterPipeline) -> RedisResult<String> {
     Ok(format!(in alloc; "{}", pipeline.commands().len())?)
 }
 
-/// A new pipeline with room for so many commands.
+/// A new pipeline with room for this many commands.
 fn room(alloc: Global, pipeline: &mut ClusterPipeline, text: &str) -> RedisResult<String> {
     *pipeline = match text {
         "" => ClusterPipeline::new(alloc),
@@ -74,8 +74,8 @@ fn room(alloc: Global, pipeline: &mut ClusterPipeline, text: &str) -> RedisResul
     len(alloc, pipeline)
 }
 
-/// Adds a command of a name, and an argument behind it where there is one, or an argument to the
-/// last command, or marks that; or puts a copy of the pipeline in its place.
+/// Adds a command of a name, with an argument if there is one, or an argument to the last command,
+/// or marks that command. Or replaces the pipeline by a copy.
 fn change(
     alloc: Global,
     pipeline: &mut ClusterPipeline,
@@ -100,8 +100,8 @@ fn change(
     Ok(())
 }
 
-/// How many commands a pipeline has after such a change. Of an error it tells the kind too, or that
-/// the pipeline is not as it was.
+/// How many commands a pipeline has after such a change. For an error its kind and text, or that
+/// the pipeline changed.
 fn changed(
     alloc: Global,
     pipeline: &mut ClusterPipeline,

@@ -5,7 +5,7 @@ use redis_cluster::routing::{AggregateOp, MultiSlotArgPattern, ResponsePolicy};
 use resp_core::{RedisResult, Value};
 use std::alloc::Global;
 
-/// How often a word stands: as often as it says behind `\+`.
+/// How often a word is repeated, by the number after `\+`.
 fn repeated(text: &str) -> RedisResult<(&str, usize)> {
     match text.split_once("\\+") {
         Some((word, times)) => Ok((word, number(times)?)),
@@ -13,7 +13,7 @@ fn repeated(text: &str) -> RedisResult<(&str, usize)> {
     }
 }
 
-/// A value so many times.
+/// Adds a value this many times.
 fn push(items: &mut Vec<Value>, value: Value, times: usize) -> RedisResult<()> {
     for _ in 1..times {
         items.push(value.clone()?)?;
@@ -33,7 +33,7 @@ fn deep_map(alloc: Global) -> RedisResult<Value> {
     Ok(value)
 }
 
-/// The value of a word, of which `deep_map` is maps in maps.
+/// The value of a word; `deep_map` is maps in maps.
 fn item(alloc: Global, word: &str) -> RedisResult<Value> {
     match word {
         "deep_map" => deep_map(alloc),
@@ -41,7 +41,7 @@ fn item(alloc: Global, word: &str) -> RedisResult<Value> {
     }
 }
 
-/// An array of the words behind the first space of a text.
+/// An array of the words after the first space of a text.
 fn array(alloc: Global, text: &str) -> RedisResult<Value> {
     let mut items = Vec::new(alloc);
     for word in text.split(' ').skip(1) {
@@ -51,7 +51,7 @@ fn array(alloc: Global, text: &str) -> RedisResult<Value> {
     Ok(Value::Array(items))
 }
 
-/// An array of so many keys, each with a 1.
+/// An array of this many keys, each with a 1.
 fn keys(alloc: Global, count: usize) -> RedisResult<Value> {
     let mut items = Vec::new(alloc);
     for key in 0..count {
@@ -67,7 +67,7 @@ pub fn is_reply(text: &str) -> bool {
     text == "nil" || text.starts_with('[')
 }
 
-/// One reply: an array of words, an array of so many keys, or a word.
+/// One reply: an array of words, an array of keys, or a word.
 pub fn reply(alloc: Global, text: &str) -> RedisResult<Value> {
     if let Some(count) = text.strip_prefix("keys ") {
         return keys(alloc, number(count)?);
@@ -81,8 +81,7 @@ pub fn reply(alloc: Global, text: &str) -> RedisResult<Value> {
     }
 }
 
-/// Replies, a semicolon and a space apart, of which each may stand several times; none of an empty
-/// text.
+/// Replies, a semicolon and a space apart, each of which may be repeated. An empty text has none.
 pub fn replies(alloc: Global, text: &str) -> RedisResult<Vec<Value>> {
     let mut replies = Vec::new(alloc);
     if text.is_empty() {
@@ -97,7 +96,7 @@ pub fn replies(alloc: Global, text: &str) -> RedisResult<Vec<Value>> {
     Ok(replies)
 }
 
-/// The numbers of a word, a comma apart; none of `-`.
+/// The numbers of a word, a comma apart; `-` has none.
 pub fn indices(alloc: Global, text: &str) -> RedisResult<Vec<usize>> {
     let mut indices = Vec::new(alloc);
     if text == "-" {
@@ -113,7 +112,7 @@ fn route(places: Vec<usize>) -> (Route, Vec<usize>) {
     (Route::new(0, SlotAddr::Master), places)
 }
 
-/// Routes of these lists of places, a slash apart.
+/// Routes of these lists of indices, a slash apart.
 pub fn routes(alloc: Global, text: &str) -> RedisResult<Vec<(Route, Vec<usize>)>> {
     let mut routes = Vec::new(alloc);
     for text in text.split('/') {
@@ -122,7 +121,7 @@ pub fn routes(alloc: Global, text: &str) -> RedisResult<Vec<(Route, Vec<usize>)>
     Ok(routes)
 }
 
-/// A route of one place for each reply.
+/// A route of one index for each reply.
 pub fn routes_of_each(alloc: Global, count: usize) -> RedisResult<Vec<(Route, Vec<usize>)>> {
     let mut routes = Vec::new(alloc);
     for place in 0..count {
@@ -142,7 +141,7 @@ pub fn pattern(word: &str) -> RedisResult<MultiSlotArgPattern> {
     }
 }
 
-/// The policy of this name, of which `Sum` adds numbers up.
+/// The policy of this name; `Sum` adds numbers up.
 pub fn policy(word: &str) -> RedisResult<ResponsePolicy> {
     match word {
         "AllSucceeded" => Ok(ResponsePolicy::AllSucceeded),

@@ -1,4 +1,4 @@
-//! What the tables know of names, and what a text tells of where a command is served.
+//! What the tables say of names, and the redirects in texts.
 use crate::texts::{equality, policy_text};
 use cluster_map::NodeAddress;
 use fixtures::{bad_row, bytes};
@@ -7,7 +7,7 @@ use redis_routing::base_routing;
 use resp_core::RedisResult;
 use std::alloc::{AllocError, Global};
 
-/// What a call of this name answers, if it is one of those here.
+/// What a call of this name returns, if it is one of these.
 pub fn call(alloc: Global, name: &str, text: &str) -> Option<RedisResult<String>> {
     match name {
         "routing" => Some(routing(alloc, text)),
@@ -32,7 +32,7 @@ fn policy(alloc: Global, text: &str) -> RedisResult<String> {
     policy_text(alloc, ResponsePolicy::for_command(&bytes(alloc, text)?))
 }
 
-/// What a text tells a client whose node answered from `n1`.
+/// The redirect in a text from the node `n1`.
 fn told(alloc: Global, text: &str) -> RedisResult<Option<(u16, Redirect)>> {
     let Ok(text) = String::from_utf8(bytes(alloc, text)?) else {
         return Err(bad_row("not a text"));

@@ -44,8 +44,8 @@ pub fn cmd_text(alloc: Global, cmd: &Cmd) -> RedisResult<String> {
     Ok(text)
 }
 
-/// Where a command goes: `none`, `any`, a slot and what is asked of its nodes, or several nodes and
-/// the policy of their replies.
+/// Where a command goes: `none`, `any`, a slot and which of its nodes, or several nodes and the
+/// policy of their replies.
 pub fn routing_text(alloc: Global, info: &Option<RoutingInfo>) -> RedisResult<String> {
     match info {
         None => Ok(String::from_str(alloc, "none")?),
