@@ -72,7 +72,7 @@ pub fn drive(alloc: Global, rows: &mut Rows, words: &str) -> RedisResult<String>
     replies_text(alloc, driven(alloc, rows, &sent))
 }
 
-/// The replies to a pipeline whose refused parts go out again, so many rounds.
+/// The replies to a pipeline whose refused parts are sent again, in this many rounds.
 pub fn drive_again(alloc: Global, rows: &mut Rows, words: &str) -> RedisResult<String> {
     let (retries, words) = words.split_once(' ').unwrap_or((words, ""));
     let retries = number(retries)?;

@@ -1,5 +1,5 @@
-//! Answers rows of calls of pipelines: over nodes in memory, told by hand, and over a transport that
-//! gives what a row says.
+//! Answers rows of calls of pipelines: over nodes in memory, by hand, and over a transport that
+//! returns what a row says.
 #![tactic(auto)]
 
 mod driven;
@@ -16,7 +16,7 @@ use resp_core::RedisResult;
 use std::alloc::Global;
 use std::process::ExitCode;
 
-/// What later rows speak of.
+/// The state that later rows use.
 #[derive(Drop)]
 struct Rows {
     map: SlotMap,
@@ -37,14 +37,14 @@ impl Rows {
         }
     }
 
-    /// Nodes of this map, which hold nothing.
+    /// Nodes of this map, with no keys.
     fn set_nodes(&mut self, alloc: Global, text: &str) -> RedisResult<()> {
         self.map = map(alloc, text)?;
         self.nodes = MemoryBatchNodes::new(alloc);
         Ok(())
     }
 
-    /// From now on just the commands of these names only read.
+    /// From now on only the commands of these names only read.
     fn set_read_only(&mut self, alloc: Global, text: &str) -> RedisResult<()> {
         self.read_only = ReadOnlyNames::new(alloc);
         if text.is_empty() {
@@ -65,7 +65,7 @@ impl Rows {
         Ok(())
     }
 
-    /// The calls that say what later rows speak of, if it is one.
+    /// The calls that set what later rows use, if it is one.
     fn set(&mut self, alloc: Global, name: &str, words: &str) -> RedisResult<bool> {
         match name {
             "nodes" => self.set_nodes(alloc, words)?,

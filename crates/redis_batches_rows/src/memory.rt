@@ -7,7 +7,7 @@ use redis_batches::BatchNodes;
 use resp_core::{Cmd, RedisError, RedisResult};
 use std::alloc::Global;
 
-/// Adds the refusal of the command of a place, behind those of earlier places.
+/// Adds the refusal of the command with a number, after the refusals of earlier commands.
 fn add_refusal(plan: &mut Vec<Option<RedisError>>, text: &str) -> RedisResult<()> {
     let (place, error) = text.split_once(' ').unwrap_or((text, ""));
     for _ in plan.len()..number(place)? {
@@ -17,7 +17,7 @@ fn add_refusal(plan: &mut Vec<Option<RedisError>>, text: &str) -> RedisResult<()
     Ok(())
 }
 
-/// From now on nodes refuse the commands of these places, each with its error.
+/// From now on nodes refuse the commands with these numbers, each with its error.
 pub fn refuse(alloc: Global, nodes: &mut MemoryBatchNodes, text: &str) -> RedisResult<()> {
     let mut plan = Vec::new(alloc);
     for refusal in text.split("; ") {
@@ -64,7 +64,7 @@ pub fn value(alloc: Global, nodes: &MemoryBatchNodes, key: &str) -> RedisResult<
     }
 }
 
-/// The hosts that commands were sent to, one after the other.
+/// The hosts that commands were sent to, in order.
 pub fn hosts(alloc: Global, nodes: &MemoryBatchNodes) -> RedisResult<String> {
     let mut text = String::new(alloc);
     for entry in nodes.trace() {

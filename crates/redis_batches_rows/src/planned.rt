@@ -1,4 +1,4 @@
-//! Pipelines that are planned, and told by hand.
+//! Pipelines that are planned, and get their answers by hand.
 use crate::Rows;
 use crate::texts::{answers_of, answers_text};
 use cluster_map::ReadRoutingStrategy;
@@ -73,7 +73,7 @@ pub fn planned(alloc: Global, rows: &Rows, words: &str) -> RedisResult<String> {
     }
 }
 
-/// Tells the answers to a batch: whether the plan takes them.
+/// Passes the answers to a batch. Returns whether the plan takes them.
 fn tell(alloc: Global, plan: &mut PipelinePlan<'_>, words: &str) -> RedisResult<&'static str> {
     let (batch, answers) = words.split_once(' ').unwrap_or((words, ""));
     let batch = number(batch)?;

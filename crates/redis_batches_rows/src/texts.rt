@@ -18,7 +18,7 @@ pub fn order_of(alloc: Global, text: &str) -> RedisResult<Vec<usize>> {
     Ok(order)
 }
 
-/// The errors that nodes refuse a command with. An error has a fixed text.
+/// The errors that nodes refuse a command with. The text of an error is fixed.
 const ERRORS: [&str; 8] = [
     "ASK 15495 n4:4",
     "LOADING",

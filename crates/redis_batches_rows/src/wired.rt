@@ -1,4 +1,4 @@
-//! Pipelines that are driven over connections, which give what a row says.
+//! Pipelines that are driven over connections, which return what a row says.
 use crate::driven::{Pipeline, pipeline_of, replies_text};
 use crate::texts::{Answers, answers_of, error_of};
 use cluster_map::SlotMap;
@@ -8,7 +8,7 @@ use resp_core::{Cmd, ErrorKind, RedisError, RedisResult};
 use std::alloc::Global;
 use wire_batches::{BatchClient, BatchTransport, NodeAddress, Redirect, SendError};
 
-/// Gives these outcomes, the last one first, whatever is sent, and then loses the answers.
+/// Returns these outcomes, the last one first, whatever is sent, and then loses the answers.
 #[derive(Drop)]
 pub struct Scripted {
     pub outcomes: Vec<Result<Answers, SendError>>,
@@ -28,7 +28,7 @@ impl BatchTransport for Scripted {
     }
 }
 
-/// What comes of a batch: `refused`, `moved`, `lost`, or answers.
+/// The outcome of a batch: `refused`, `moved`, `lost`, or answers.
 fn outcome_of(alloc: Global, text: &str) -> RedisResult<Result<Answers, SendError>> {
     match text {
         "refused" => Ok(Err(SendError::Refused(error_of("error")?))),
@@ -79,8 +79,8 @@ fn push_sent(alloc: Global, text: &mut String, sent: &[usize]) -> RedisResult<()
     Ok(())
 }
 
-/// The replies to a pipeline whose batches have these outcomes, and how many commands each batch had
-/// that was sent.
+/// The replies to a pipeline whose batches have these outcomes, and the number of commands in each
+/// batch that was sent.
 pub fn drive(alloc: Global, map: &SlotMap, words: &str) -> RedisResult<String> {
     let (outcomes, words) = words.split_once(" | ").unwrap_or(("", words));
     let sent = pipeline_of(alloc, words)?;
