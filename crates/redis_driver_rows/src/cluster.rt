@@ -1,4 +1,4 @@
-//! Nodes in memory that the rows speak of.
+//! Nodes in memory that the rows use.
 use crate::texts::{okay, trace_text};
 use cluster_map::{NodeAddress, SlotMap};
 use fixtures::{bad_row, bytes, map, number, words};
@@ -7,17 +7,17 @@ use redis_cluster::routing::{ReadOnlyNames, Redirect, Registry};
 use resp_core::RedisResult;
 use std::alloc::Global;
 
-/// Nodes in memory, their map, and what is told of names.
+/// Nodes in memory, their map, and the names that only read.
 pub struct Cluster {
     pub map: SlotMap,
     pub read_only: ReadOnlyNames,
     pub registry: Registry,
     pub nodes: MemoryNodes,
-    /// How many sends the rows told of.
+    /// How many sends the rows have reported.
     told: usize,
 }
 
-// By hand, so that what lets one go is proved over a call, and not over what it holds.
+// By hand, so that dropping is proved over a call, and not over what the value holds.
 impl Drop for Cluster {
     fn drop(self) {
         let Cluster {
@@ -51,7 +51,7 @@ pub fn reads(alloc: Global, cluster: &mut Cluster, text: &str) -> RedisResult<St
     okay(alloc)
 }
 
-/// Begins anew with nodes of these ranges, which hold no key.
+/// Begins anew with nodes of these ranges, with no keys.
 pub fn start(alloc: Global, cluster: &mut Cluster, text: &str) -> RedisResult<String> {
     cluster.map = map(alloc, text)?;
     cluster.nodes = MemoryNodes::new(alloc);
@@ -59,7 +59,7 @@ pub fn start(alloc: Global, cluster: &mut Cluster, text: &str) -> RedisResult<St
     okay(alloc)
 }
 
-/// What was sent since this was asked before.
+/// What was sent since the last call.
 pub fn sent(alloc: Global, cluster: &mut Cluster) -> RedisResult<String> {
     let trace = cluster.nodes.trace();
     let text = trace_text(alloc, trace.get(cluster.told..).unwrap_or(&[]));
@@ -86,7 +86,7 @@ pub fn fuse(alloc: Global, cluster: &mut Cluster, text: &str) -> RedisResult<Str
     okay(alloc)
 }
 
-/// What a mark plans for a send: an answer, a refusal, or to be sent on to `x:9`.
+/// What a mark plans for a send: an answer, a refusal, or a redirect to `x:9`.
 fn planned(alloc: Global, mark: u8) -> RedisResult<Planned> {
     match mark {
         b'+' => Ok(Planned::Answer),

@@ -1,10 +1,10 @@
-//! The strategy that is lent to reads.
+//! The strategy of reads.
 use crate::texts::okay;
 use fixtures::{Turns, bad_row, number};
 use resp_core::RedisResult;
 use std::alloc::Global;
 
-/// A strategy that is lent, or none.
+/// A strategy, or none.
 #[derive(Drop)]
 pub enum Lent {
     Nobody,
@@ -13,7 +13,7 @@ pub enum Lent {
     Turns(Turns),
 }
 
-/// Lends the strategy of a word to the reads of later rows.
+/// Sets the strategy for the reads of later rows.
 pub fn choose(alloc: Global, lent: &mut Lent, word: &str) -> RedisResult<String> {
     *lent = match word {
         "none" => Lent::Nobody,
@@ -27,7 +27,7 @@ pub fn choose(alloc: Global, lent: &mut Lent, word: &str) -> RedisResult<String>
     okay(alloc)
 }
 
-/// How many reads the strategy was asked for that takes the candidates in turn.
+/// How many reads the strategy was asked for, if it takes the candidates in turn.
 pub fn asked(alloc: Global, lent: &Lent) -> RedisResult<String> {
     match lent {
         Lent::Turns(turns) => Ok(format!(in alloc; "{}", turns.asked())?),

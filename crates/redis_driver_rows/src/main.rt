@@ -18,13 +18,13 @@ use resp_core::RedisResult;
 use std::alloc::Global;
 use std::process::ExitCode;
 
-/// The nodes that later rows speak of, and the strategy that is lent to reads.
+/// The nodes that later rows use, and the strategy of reads.
 struct Rows {
     cluster: Cluster,
     lent: Lent,
 }
 
-// By hand, so that what lets one go is proved over a call, and not over what it holds.
+// By hand, so that dropping is proved over a call, and not over what the value holds.
 impl Drop for Rows {
     fn drop(self) {
         let Rows {
@@ -50,7 +50,7 @@ impl Calls for Rows {
     }
 }
 
-/// What the calls answer that do not drive a command over the nodes of the rows.
+/// What the calls return that do not drive a command over the nodes of the rows.
 fn other(
     alloc: Global,
     cluster: &mut Cluster,

@@ -10,7 +10,7 @@ use redis_cluster::routing::{ReadOnlyNames, Routable};
 use resp_core::{Cmd, RedisResult, Value};
 use std::alloc::Global;
 
-/// A row cut behind its first word.
+/// A row, cut after its first word.
 pub fn cut(words: &str) -> (&str, &str) {
     words.split_once(' ').unwrap_or((words, ""))
 }
@@ -59,7 +59,7 @@ fn give_to<R: Routable>(
     )
 }
 
-/// Drives a command over the nodes of the rows, with the strategy that is lent.
+/// Drives a command over the nodes of the rows, with the strategy of the rows.
 fn give_by<R: Routable>(
     alloc: Global,
     command: &R,
@@ -81,7 +81,7 @@ fn give_by<R: Routable>(
     }
 }
 
-/// What comes of a command in an order.
+/// The outcome of a command in an order.
 pub fn drive_words(
     alloc: Global,
     cluster: &mut Cluster,
@@ -94,7 +94,7 @@ pub fn drive_words(
     driven_text(alloc, &give_by(alloc, &command, cluster, lent, &order))
 }
 
-/// What comes of a command that is given as an array of values.
+/// The outcome of a command that is an array of values.
 pub fn drive_array(
     alloc: Global,
     cluster: &mut Cluster,
@@ -107,7 +107,7 @@ pub fn drive_array(
     driven_text(alloc, &give_by(alloc, &command, cluster, lent, &order))
 }
 
-/// `DEL` of each key of two bytes, of which each slot has four.
+/// `DEL` of each key of two bytes, four for each slot.
 fn command_over_all_slots(alloc: Global) -> RedisResult<Cmd> {
     let mut command = Cmd::new(alloc);
     command.write_arg(b"DEL")?;
@@ -117,7 +117,7 @@ fn command_over_all_slots(alloc: Global) -> RedisResult<Cmd> {
     Ok(command)
 }
 
-/// What comes of a command with a key of each slot, where the order names so many routes.
+/// The outcome of a command with a key of each slot, in an order of this many routes.
 pub fn drive_slots(
     alloc: Global,
     cluster: &mut Cluster,
@@ -151,7 +151,7 @@ fn give_retrying(
     )
 }
 
-/// What comes of a command with so many retries, in an order.
+/// The outcome of a command with this many retries, in an order.
 pub fn retry(alloc: Global, cluster: &mut Cluster, words: &str) -> RedisResult<String> {
     let (digits, rest) = cut(words);
     let (word, text) = cut(rest);

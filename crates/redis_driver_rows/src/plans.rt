@@ -36,7 +36,7 @@ fn retry_by(
     }
 }
 
-/// The first target of a read of a slot with so many retries, and how many are left.
+/// The first target of a read of a slot with this many retries, and how many are left.
 pub fn target(alloc: Global, cluster: &Cluster, lent: &Lent, words: &str) -> RedisResult<String> {
     let (slot, retries) = cut(words);
     let Some(retry) = retry_by(alloc, &cluster.map, number(slot)?, number(retries)?, lent)? else {
@@ -60,7 +60,7 @@ fn plan_of<'a>(
     SplitPlan::new(alloc, command, names, &cluster.map, None, 0)
 }
 
-/// The reply of a text: a value, or after `deep=` a nil in so many arrays.
+/// The reply of a text: a value, or after `deep=` a nil in nested arrays.
 fn reply_of(alloc: Global, text: &str) -> RedisResult<Value> {
     match text.strip_prefix("deep=") {
         Some(levels) => Ok(nested(alloc, number(levels)?)?),
@@ -68,7 +68,7 @@ fn reply_of(alloc: Global, text: &str) -> RedisResult<Value> {
     }
 }
 
-/// Tells a reply to the part of each of two routes.
+/// Passes a reply to the part of each of two routes.
 fn tell(alloc: Global, plan: &mut SplitPlan<'_, Cmd>, text: &str) -> RedisResult<()> {
     for number in 0..2 {
         if plan.tell(number, reply_of(alloc, text)?).is_err() {
@@ -78,7 +78,7 @@ fn tell(alloc: Global, plan: &mut SplitPlan<'_, Cmd>, text: &str) -> RedisResult
     Ok(())
 }
 
-/// The kind of the error that a plan makes of its replies, or that they make one.
+/// The kind of the error of a plan's replies, or that they make one reply.
 fn combined(alloc: Global, plan: SplitPlan<'_, Cmd>) -> RedisResult<String> {
     match plan.combine(alloc) {
         Ok(_) => Ok(format!(in alloc; "a reply")?),
@@ -86,7 +86,7 @@ fn combined(alloc: Global, plan: SplitPlan<'_, Cmd>) -> RedisResult<String> {
     }
 }
 
-/// What comes of a reply that is told to the part of each of the two routes of a command.
+/// The outcome of a reply that is passed to the parts of both routes of a command.
 pub fn combine(alloc: Global, cluster: &Cluster, words: &str) -> RedisResult<String> {
     let (text, reply) = words.split_once("; ").unwrap_or((words, ""));
     let command = cmd(alloc, text)?;
@@ -99,7 +99,7 @@ pub fn combine(alloc: Global, cluster: &Cluster, words: &str) -> RedisResult<Str
     }
 }
 
-/// Whether an order names so many parts, each once.
+/// Whether an order names this many parts, each once.
 pub fn once(alloc: Global, words: &str) -> RedisResult<String> {
     let (count, word) = cut(words);
     let is_once = names_once(alloc, number(count)?, &order(alloc, word)?)?;

@@ -1,11 +1,11 @@
-//! A transport that gives what a row says.
+//! A transport that returns what a row says.
 use crate::texts::push_sent;
 use resp_core::{ErrorKind, RedisError};
 use std::alloc::Global;
 use wire_nodes::{Cmd, NodeAddress, SendError, Transport, Value};
 
-/// Connections that give these outcomes, the last one first, whatever is sent: `refused` is a
-/// refusal, `lost` a reply that is lost, and another value an answer. Nothing is said of them.
+/// Connections that return these outcomes, the last one first, whatever is sent: `refused`, `lost`
+/// for a lost reply, and any other value as an answer. They have no contract.
 #[derive(Drop)]
 pub struct Script {
     pub alloc: Global,

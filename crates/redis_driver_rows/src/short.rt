@@ -15,14 +15,14 @@ use redis_cluster::routing::Registry;
 use resp_core::{Cmd, RedisResult, Value};
 use std::alloc::Global;
 
-/// Nodes in memory that answer so many sends, run out of memory at the next, and answer again.
+/// Nodes in memory that answer some sends, run out of memory at the next, and answer again.
 pub struct ShortOfMemory {
     nodes: MemoryNodes,
     sends_left: usize,
     mark: bool,
 }
 
-// By hand, so that what lets one go is proved over a call, and not over what it holds.
+// By hand, so that dropping is proved over a call, and not over what the value holds.
 impl Drop for ShortOfMemory {
     fn drop(self) {
         let ShortOfMemory {
@@ -80,7 +80,7 @@ fn give_short(
     )
 }
 
-/// What comes of a command, and what was sent.
+/// The outcome of a command, and what was sent.
 fn text_of(
     alloc: Global,
     given: &Result<Value, DriveError>,
@@ -92,7 +92,7 @@ fn text_of(
     Ok(text)
 }
 
-/// What comes of a command over nodes that hold no key and answer so many sends.
+/// The outcome of a command over nodes with no keys that answer this many sends.
 fn driven(
     alloc: Global,
     cluster: &Cluster,
@@ -109,8 +109,8 @@ fn driven(
     text_of(alloc, &given, &nodes.nodes)
 }
 
-/// What comes of a command in an order, and what was sent, where memory runs out after so many
-/// sends to nodes that hold no key.
+/// The outcome of a command in an order, and what was sent, if memory runs out after this many
+/// sends to nodes with no keys.
 pub fn short(alloc: Global, cluster: &Cluster, words: &str) -> RedisResult<String> {
     let (digits, rest) = cut(words);
     let (word, text) = cut(rest);

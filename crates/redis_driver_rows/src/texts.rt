@@ -1,4 +1,4 @@
-//! What comes of commands, and what was sent, as texts.
+//! Outcomes of commands, and what was sent, as texts.
 use cluster_map::NodeAddress;
 use fixtures::{bad_row, value_text};
 use memory_nodes::TraceEntry;
@@ -12,7 +12,7 @@ pub fn okay(alloc: Global) -> RedisResult<String> {
     Ok(format!(in alloc; "OK")?)
 }
 
-/// What comes of a command: the reply, or the fault and how many parts were answered before it.
+/// The outcome of a command: the reply, or the fault and the number of parts answered before it.
 pub fn driven_text(alloc: Global, given: &Result<Value, DriveError>) -> RedisResult<String> {
     match given {
         Ok(reply) => value_text(alloc, reply),

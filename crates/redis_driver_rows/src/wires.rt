@@ -1,4 +1,4 @@
-//! Commands that are driven over connections, which give what a row says.
+//! Commands that are driven over connections, which return what a row says.
 use crate::cluster::Cluster;
 use crate::nodes::{cut, order};
 use crate::script::Script;
@@ -17,12 +17,12 @@ fn outcomes(alloc: Global, text: &str) -> RedisResult<Vec<Value>> {
     Ok(outcomes)
 }
 
-/// A row cut into the outcomes, and the command with its order.
+/// A row, cut into the outcomes and the command with its order.
 fn cut_script(words: &str) -> (&str, &str) {
     words.split_once("; ").unwrap_or(("", words))
 }
 
-/// What comes of a command over connections.
+/// The outcome of a command over connections.
 fn driven<W: Wire>(
     alloc: Global,
     cluster: &Cluster,
@@ -45,7 +45,7 @@ fn driven<W: Wire>(
     driven_text(alloc, &given)
 }
 
-/// What comes of a command over a transport that is lent, and what was sent.
+/// The outcome of a command over a borrowed transport, and what was sent.
 pub fn over(alloc: Global, cluster: &Cluster, words: &str) -> RedisResult<String> {
     let (script, words) = cut_script(words);
     let mut transport = Script {
@@ -77,7 +77,7 @@ fn wire(alloc: Global, script: &str) -> RedisResult<ScriptedWire> {
     })
 }
 
-/// What comes of a command over a transport that is owned, and what was sent.
+/// The outcome of a command over an owned transport, and what was sent.
 pub fn logged(alloc: Global, cluster: &Cluster, words: &str) -> RedisResult<String> {
     let (script, words) = cut_script(words);
     let logged = Logged::new(wire(alloc, script)?);
@@ -87,7 +87,7 @@ pub fn logged(alloc: Global, cluster: &Cluster, words: &str) -> RedisResult<Stri
     with_sent(alloc, driven?, &wire.sent)
 }
 
-/// What comes of a command over connections that keep a log of their own, and what was sent.
+/// The outcome of a command over connections that keep a log of their own, and what was sent.
 pub fn own(alloc: Global, cluster: &Cluster, words: &str) -> RedisResult<String> {
     let (script, words) = cut_script(words);
     let wire = wire(alloc, script)?;
