@@ -13,7 +13,7 @@ pub enum Failing {
     Telling,
 }
 
-/// The run whose stream fails after so many calls.
+/// The run whose stream fails after this many calls.
 fn serve_failing(alloc: Global, failing: Failing, run: &Run, calls: usize) -> Written {
     let fails = Mode::Fails(calls);
     match failing {
@@ -23,7 +23,7 @@ fn serve_failing(alloc: Global, failing: Failing, run: &Run, calls: usize) -> Wr
     }
 }
 
-/// How many bytes of the output a run wrote that told this fault, if it wrote its beginning.
+/// How many bytes of the output a run wrote that reported this fault, if they are its first bytes.
 fn beginning(written: &Written, whole: &Written, fault: &[u8]) -> Option<usize> {
     let is_told = written.status == 2 && written.errors.as_slice() == fault;
     if is_told && whole.output.starts_with(&written.output) {
@@ -33,8 +33,8 @@ fn beginning(written: &Written, whole: &Written, fault: &[u8]) -> Option<usize> 
     }
 }
 
-/// How many bytes of the fault's line a run wrote, if it wrote its beginning and no more, and the
-/// whole output.
+/// How many bytes of the fault's line a run wrote, if these are its first bytes and the output is
+/// whole.
 fn beginning_of_fault(written: &Written, whole: &Written) -> Option<usize> {
     let is_short = written.errors.len() < whole.errors.len();
     let is_same = written.status == whole.status && written.output == whole.output;
@@ -45,7 +45,7 @@ fn beginning_of_fault(written: &Written, whole: &Written) -> Option<usize> {
     }
 }
 
-/// How many bytes a run wrote that failed as it has to; none of another run.
+/// How many bytes a run wrote, if it failed as it should.
 fn failed_length(failing: Failing, written: &Written, whole: &Written) -> Option<usize> {
     match failing {
         Failing::Reading => beginning(written, whole, b"slotroute: input failed\n"),
@@ -54,7 +54,7 @@ fn failed_length(failing: Failing, written: &Written, whole: &Written) -> Option
     }
 }
 
-/// The lengths of the runs that fail as they have to, and the first run that does not.
+/// The lengths of the runs that fail as they should, and the first run that does not.
 fn fail_in_turn(
     alloc: Global,
     failing: Failing,
@@ -72,16 +72,16 @@ fn fail_in_turn(
     Err(bad_row("each of 10000 runs fails"))
 }
 
-/// A length that so many runs have one after the other.
+/// A length that several runs have, one after another.
 #[derive(Clone, Copy)]
 struct Stretch {
     length: usize,
     times: usize,
-    /// Whether it is the length before and one more.
+    /// Whether the length is one more than the length before.
     is_next: bool,
 }
 
-/// Adds a stretch, but for one run with the length that is next.
+/// Adds a stretch, unless it is one run whose length is one more.
 fn push_stretch(alloc: Global, text: &mut String, stretch: Stretch) -> RedisResult<()> {
     if stretch.times != 1 || !stretch.is_next {
         text.push_str(&format!(in alloc; " {}*{}", stretch.length, stretch.times)?)?;

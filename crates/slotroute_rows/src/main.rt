@@ -19,7 +19,7 @@ use std::process::ExitCode;
 use strategies::{Strategy, serve_by};
 use streams::Mode;
 
-/// The strategy that the next `serve` is handed.
+/// The strategy that is passed to the next `serve`.
 #[derive(Drop)]
 struct Rows {
     strategy: Option<Strategy>,
@@ -70,7 +70,7 @@ impl Rows {
     }
 }
 
-/// What the fault of a command prints that has a key of this slot, which no node has.
+/// What the fault of a command prints, if no node has this slot of its key.
 fn fault(alloc: Global, slot: &str) -> RedisResult<String> {
     let fault = CommandFault::Refused(Refusal::NotCovered(number(slot)?));
     Ok(format!(in alloc; "{fault}")?)

@@ -1,4 +1,4 @@
-//! Runs over an input that stays open behind its last byte.
+//! Runs over an input that stays open after its last byte.
 use crate::runs::{Run, serve_over, shown};
 use crate::streams::Mode;
 use resp_core::RedisResult;

@@ -1,4 +1,4 @@
-//! Runs whose output is too long for the answer of a row, which says it in pieces.
+//! Runs whose output is too long for a row, which has it in pieces.
 use crate::runs::{Written, push_bytes, push_errors, run_of, serve_all};
 use fixtures::{bad_row, bytes};
 use resp_core::RedisResult;
@@ -21,7 +21,7 @@ fn told(alloc: Global, written: &Written, is_so: bool) -> RedisResult<String> {
     Ok(text)
 }
 
-/// What the run of a text writes, and what the text says of its output behind a second bar.
+/// What the run of a text writes, and what the text says of its output after a second bar.
 fn cut(alloc: Global, text: &str) -> RedisResult<(Written, Vec<u8>)> {
     let Some((text, output)) = text.rsplit_once(" | ") else {
         return Err(bad_row("no output"));

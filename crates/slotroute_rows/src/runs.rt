@@ -24,7 +24,7 @@ pub struct Written {
     pub reading: Mode,
 }
 
-/// A piece so many times, with the number of the time, from 0 on, for each `#` in it.
+/// Adds a piece several times, with the number of the repetition for each `#` in it.
 fn push_numbered(alloc: Global, input: &mut Vec<u8>, piece: &str, times: u32) -> RedisResult<()> {
     for time in 0..times {
         let digits = format!(in alloc; "{time}")?;
@@ -59,7 +59,7 @@ fn words_of(alloc: Global, text: &str) -> RedisResult<Vec<String>> {
     Ok(texts)
 }
 
-/// The run of a text: its words, and behind a bar its input.
+/// The run of a text: its words, and after a bar its input.
 pub fn run_of(alloc: Global, text: &str) -> RedisResult<Run> {
     let (texts, input) = text.split_once(" | ").unwrap_or((text, ""));
     let words = words_of(alloc, texts)?;
@@ -67,7 +67,7 @@ pub fn run_of(alloc: Global, text: &str) -> RedisResult<Run> {
     Ok(Run { words, input })
 }
 
-/// A stream with room, so that no output fails for memory where what is written is short.
+/// A stream with room, so that short outputs do not fail for memory.
 fn writer(alloc: Global, mode: Mode) -> Writer {
     Writer {
         bytes: Vec::with_capacity(alloc, 1000).unwrap_or(Vec::new(alloc)),
@@ -97,7 +97,7 @@ fn serve_with(
     }
 }
 
-/// A run over streams that do not fail, with the strategy that is handed in.
+/// A run over streams that do not fail, with the strategy that is passed.
 pub fn serve_all(
     alloc: Global,
     run: &Run,
@@ -134,7 +134,7 @@ pub fn push_bytes(alloc: Global, text: &mut String, bytes: &[u8]) -> RedisResult
     Ok(())
 }
 
-/// Adds what a run wrote to the error stream, if anything, behind ` ! `.
+/// Adds what a run wrote to the error stream, if anything, after ` ! `.
 pub fn push_errors(alloc: Global, text: &mut String, errors: &[u8]) -> RedisResult<()> {
     if errors.is_empty() {
         return Ok(());

@@ -8,7 +8,7 @@ use slotroute_serve::{Sink, Source, serve_streams};
 use std::alloc::Global;
 use std::io;
 
-/// Has no line.
+/// An input without lines.
 #[derive(Drop)]
 struct Nothing;
 

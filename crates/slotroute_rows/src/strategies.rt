@@ -1,4 +1,4 @@
-//! The strategies that a run is handed.
+//! The strategies that are passed to a run.
 ghost use Rattle.std.specs.Prelude.{◌≡◌};
 ghost use Rattle.cluster_map.specs.Candidates.{IsCandidate};
 ghost use Rattle.cluster_map.specs.ReadCandidates.{addresses_of, candidates_of};
@@ -11,7 +11,7 @@ use resp_core::RedisResult;
 use std::alloc::Global;
 use std::cell::Cell;
 
-/// Picks the candidate whose index is the number of times that it was told of shards.
+/// Picks the candidate whose index is the number of times that shards were passed.
 #[derive(Drop)]
 struct CountsTold {
     by_count: PickIndex,
@@ -32,7 +32,7 @@ impl ReadRoutingStrategy for CountsTold {
     }
 }
 
-/// Answers the replicas in turn, whatever the slot.
+/// Picks the replicas in turn, whatever the slot.
 #[derive(Drop)]
 struct ReplicasInTurn {
     asked: Cell<usize>,
@@ -59,7 +59,7 @@ fn replicas_of<'a>(candidates: &ReadCandidates<'a>) -> Replicas<'a>
     }
 }
 
-/// A strategy that a run is handed.
+/// A strategy that is passed to a run.
 #[derive(Clone, Copy)]
 pub enum Strategy {
     First,
@@ -95,7 +95,7 @@ fn serve_in_turn(alloc: Global, run: &Run) -> RedisResult<Written> {
     Ok(serve_all(alloc, run, Some(Box::new(alloc, ReplicasInTurn { asked })?)))
 }
 
-/// A run over streams that do not fail, which is handed this strategy.
+/// A run over streams that do not fail, with this strategy.
 pub fn serve_by(alloc: Global, run: &Run, strategy: Strategy) -> RedisResult<Written> {
     match strategy {
         Strategy::First => Ok(serve_all(alloc, run, Some(Box::new(alloc, FirstReplica)?))),

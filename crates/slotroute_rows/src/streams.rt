@@ -1,4 +1,4 @@
-//! Streams in memory, which fail or are interrupted as they are told.
+//! Streams in memory, which fail or are interrupted as a mode says.
 use std::io::{self, BufRead, ErrorKind, Read, Write};
 
 /// What the calls of a stream do.
@@ -6,18 +6,19 @@ use std::io::{self, BufRead, ErrorKind, Read, Write};
 pub enum Mode {
     /// Give or take all that is there.
     Whole,
-    /// Give or take a byte, and fail after so many calls.
+    /// Give or take a byte, and fail after this many calls.
     Fails(usize),
-    /// Are interrupted at every second call, and else give or take a byte. Whether the last one was.
+    /// Are interrupted at every second call, and else give or take a byte. Whether the last call
+    /// was.
     Interrupted(bool),
     /// Take no byte.
     Full,
-    /// Give a byte, and fail at the end. Whether one was made there.
+    /// Give a byte, and fail at the end. Whether a call was made there.
     Open(bool),
 }
 
 impl Mode {
-    /// How many of so many bytes the next call gives or takes.
+    /// How many of `length` bytes the next call gives or takes.
     fn next(&mut self, length: usize) -> io::Result<usize> {
         match *self {
             Mode::Whole => Ok(length),
