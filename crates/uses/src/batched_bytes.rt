@@ -21,7 +21,7 @@ pub trait BatchConnections {
     ) -> Result<(), AllocError>;
 }
 
-/// Sends each batch, and gives the replies, batch after batch.
+/// Sends each batch, and returns the replies, batch after batch.
 pub fn send_each<C: BatchConnections>(
     alloc: Global,
     connections: &mut C,
@@ -39,7 +39,7 @@ pub fn send_each<C: BatchConnections>(
     Ok(replies)
 }
 
-/// The replies to the requests of a pipeline, in their order, by those to its batches.
+/// The replies to the requests of a pipeline, in order, by the replies to its batches.
 pub fn in_order(
     alloc: Global,
     requests: &[u8],

@@ -13,12 +13,12 @@ use resp_core::{Cmd, ErrorKind, RedisError, Value};
 use std::alloc::Global;
 use wire_batches::{BatchClient, BatchMeaning, BatchTransport, BatchWire, WireBatches};
 
-/// Borrows the connections of the user's own for one pipeline. These give the answers that they hold,
-/// those to the last batch first. Others write the batch to a socket of the node, and read as many
+/// Borrows the user's own connections for one pipeline. These return the answers that they hold,
+/// the last batch first. Others write the batch to a socket of the node, and read as many answers.
 /// answers.
 #[derive(Drop)]
 pub struct BatchConnections<'a> {
-    /// What they give, the last batch first.
+    /// The answers that are returned, the last batch first.
     pub answers: &'a mut Vec<Vec<Result<Value, RedisError>>>,
 }
 
@@ -35,10 +35,10 @@ impl BatchTransport for BatchConnections<'_> {
     }
 }
 
-/// Sends a pipeline, one batch for each primary, and gives the reply to each command.
+/// Sends a pipeline, one batch for each primary, and returns the reply to each command.
 ///
-/// Where the servers answered as one would and refused nothing, keyspace and replies are those of one
-/// server that takes the commands one after the other.
+/// If the servers answered as one would and refused nothing, the keyspace and the replies are those
+/// of one server that runs the commands in order.
 pub fn send_pipeline<W: BatchWire, M: BatchMeaning>(
     alloc: Global,
     commands: &[Cmd],
@@ -54,7 +54,7 @@ pub fn send_pipeline<W: BatchWire, M: BatchMeaning>(
         (⟦<WireBatches<W, M> as BatchNodes>⟧.state client.old)
         (⟦<WireBatches<W, M> as BatchNodes>⟧.state client.new)
         (map answer_of replies.items)) }
-    // Servers that answered so until now did so before.
+    // Servers that answered like that until now did so before.
     ensures kept { ⟦<WireBatches<W, M> as BatchNodes>⟧.kept client.new
         → ⟦<WireBatches<W, M> as BatchNodes>⟧.kept client.old }
 {
@@ -70,7 +70,7 @@ pub fn send_pipeline<W: BatchWire, M: BatchMeaning>(
     )
 }
 
-/// The same over connections, for one pipeline.
+/// `send_pipeline` over connections, for one pipeline.
 pub fn send_over(
     alloc: Global,
     commands: &[Cmd],

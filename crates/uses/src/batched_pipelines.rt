@@ -10,21 +10,21 @@ use redis_cluster::routing::{Names, ReadOnlyNames};
 use resp_core::{Cmd, RedisError, Value};
 use std::alloc::{AllocError, Global};
 
-/// What is answered to a command: a reply, or an error of the server.
+/// The answer to a command: a reply, or an error of the server.
 pub type Answer = Result<Value, RedisError>;
 
 /// Connections to the nodes of a cluster.
 pub trait BatchConnections {
-    /// Writes these commands to the node at once, and reads an answer to each, in their order.
+    /// Writes these commands to the node at once, and reads an answer to each, in order.
     fn exchange(&mut self, node: &NodeAddress, batch: &[&Cmd]) -> Result<Vec<Answer>, AllocError>;
 }
 
 /// Why a pipeline has no replies.
 #[derive(Debug, Drop)]
 pub enum NoReplies {
-    /// It has no plan. Nothing was sent.
+    /// The pipeline has no plan. Nothing was sent.
     NotPlanned(PipelineFault),
-    /// There are not as many answers to the batch of this number as commands. Batches before it took
+    /// The batch of this number has more or fewer answers than commands. Batches before it took
     /// effect, and so may this one.
     NotAnswered(usize),
     /// The answers make no replies. All batches took effect.
@@ -33,8 +33,8 @@ pub enum NoReplies {
     Memory,
 }
 
-/// Sends a pipeline, batch after batch, and gives the reply to each command. Slots that it only reads
-/// are read where the strategy says, and with `None` at their primaries.
+/// Sends a pipeline, batch after batch, and returns the reply to each command. Slots that are only
+/// read are read at the strategy's nodes, or at their primaries with `None`.
 pub fn send_by_plan<C: BatchConnections>(
     alloc: Global,
     commands: &[Cmd],
@@ -89,7 +89,7 @@ pub fn send_over<N: BatchNodes>(
     drive_pipeline(alloc, commands, read_only, slot_map, strategy, order, nodes)
 }
 
-/// The same, and what nodes send on goes out again, in five rounds at most.
+/// `send_over`, and what nodes redirect is sent again, in at most five rounds.
 pub fn send_in_rounds<N: BatchNodes>(
     alloc: Global,
     commands: &[Cmd],

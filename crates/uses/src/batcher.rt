@@ -33,8 +33,8 @@ pub trait Connections {
     /// Whether these may be the answers so far: a list for each call.
     ghost gave: { Self → List Answers → Type 0 } = { λ _ _. Unit {0} };
 
-    /// Sends each part to its node, waits for none in between, and gives an answer for each, in
-    /// their order.
+    /// Sends each part to its node without waiting in between. Returns an answer for each, in
+    /// order.
     fn exchange(&mut self, parts: &[(&NodeAddress, &Cmd)]) -> Result<Vec<Answer>, AllocError>
         ensures handed { (before : List (List Target)) → handed self.old before
             → handed self.new (before ++ map (λ part. (part.0.now, part.1.now)) parts.now ∷ []) }
@@ -45,7 +45,7 @@ pub trait Connections {
 /// Why there is no reply to a command.
 #[derive(Debug, Drop)]
 pub enum BatchError {
-    /// It has no plan. Nothing was sent.
+    /// The command has no plan. Nothing was sent.
     NotPlanned(PlanFault),
     /// There is no reply to this part. Other parts may have taken effect.
     NotAnswered(usize, NoReply),
@@ -99,7 +99,7 @@ impl<T: Drop> From<AllocFailed<T>> for BatchError {
     }
 }
 
-/// Sends the parts of a command side by side, and makes one reply of what comes back.
+/// Sends the parts of a command side by side, and makes one reply of the answers.
 pub fn batch<C: Connections>(
     alloc: Global,
     command: &Cmd,
@@ -113,8 +113,9 @@ pub fn batch<C: Connections>(
         (C.handed connections.old) (C.handed connections.new) error) }
     ensures unplanned { IfErr result (λ error.
         IsUnplanned slot_map.now (map Some command.now) (connections.new ≡ connections.old) error) }
-    // Others may write the same keys meanwhile. If each node replied by what it held, the reply is that
-    // of the unsplit command on each keyspace that has, at each key, what the key's node held.
+    // Others may write the same keys during the call. If each node replied by what it held, the
+    // reply is the unsplit command's on any keyspace that has, at each key, what the key's node
+    // held.
     ensures amid { IfOk result (λ reply. IsBatchedAmid (map Some command.now)
         (C.gave connections.old) (C.gave connections.new) (view reply)) }
 {
@@ -131,7 +132,7 @@ pub fn batch<C: Connections>(
     gather(alloc, plan, answers)
 }
 
-/// Sends each part to its node, and gives what came back for each.
+/// Sends each part to its node, and returns what came back for each.
 fn send_parts<C: Connections>(
     alloc: Global,
     plan: &SplitPlan<'_, Cmd>,
@@ -154,7 +155,7 @@ fn send_parts<C: Connections>(
     connections.exchange(&parts)
 }
 
-/// The node and the part of a route, where there is such a route.
+/// The node and the part of a route, if the route exists.
 fn target_of<'a>(plan: &'a SplitPlan<'_, Cmd>, number: usize) -> Option<(&'a NodeAddress, &'a Cmd)>
     ensures { option_map (λ target. (target.0.now, target.1.now)) result
         ≡ slice_get (targets plan.now) number }
@@ -166,9 +167,9 @@ fn target_of<'a>(plan: &'a SplitPlan<'_, Cmd>, number: usize) -> Option<(&'a Nod
 
 /// The one reply to a command, by the answers to its parts, in the order of the routes.
 ///
-/// If there is one, each answer is a reply: no error is told as one. If the plan had no reply before,
-/// it is the one that the command's policy makes of them. So it is the reply of the unsplit command,
-/// amid what others write.
+/// On success each answer is a reply, and none is an error. If the plan had no reply before, the
+/// command's policy makes the one reply of them. So it is the reply to the unsplit command, amid
+/// what others write.
 pub fn gather(
     alloc: Global,
     mut plan: SplitPlan<'_, Cmd>,
@@ -192,7 +193,7 @@ fn not_combined(text: &'static str) -> BatchError
     BatchError::NotCombined(RedisError::from((ErrorKind::Client, text)))
 }
 
-/// The replies, if each answer is one.
+/// The replies, if each answer is a reply.
 fn replies_in(alloc: Global, answers: Vec<Answer>) -> Result<Vec<Value>, BatchError>
     ensures replies { IfOk result (λ replies. answers.items ≡ map Ok replies.items) }
     ensures cause { IfErr result (λ error. IsUnread answers.items error) }

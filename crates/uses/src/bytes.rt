@@ -16,7 +16,7 @@ pub fn get_request(alloc: Global, key: &[u8]) -> Result<Vec<u8>, AllocError>
     write_command(alloc, &command)
 }
 
-/// What was answered first, and the bytes after it, or nothing while more bytes can complete it.
+/// The first answer and the bytes after it, or `None` while more bytes can complete it.
 pub fn first_answer(alloc: Global, bytes: &[u8]) -> Result<Option<(Response, &[u8])>, ReadError>
     ensures waits { IfOk result (λ found. found ≡ None → CanBeCompleted bytes.now) }
 {

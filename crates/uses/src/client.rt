@@ -41,30 +41,29 @@ impl From<AllocError> for ClientFault {
 
 /// Writes `a` and `b`, which have two slots, and reads them.
 ///
-/// Whatever the servers answer, a value comes only where each part went once, in order, to the
-/// primary of its slot, and it is made of what came. Where they answered as one server would, it is
-/// what was written.
+/// A value is returned only if each part went once, in order, to the primary of its slot. The value
+/// is made of the replies. If the servers answered as one would, it is what was written.
 ///
 /// # Errors
 ///
-/// `Memory` where nothing was sent. `Write` where the keys were not written, or not all, and `Read`
-/// where they were written and not read, each with the number of parts that were answered.
+/// `Memory` if nothing was sent. `Write` if the keys were not written, or not all. `Read` if they
+/// were written and not read. Both have the number of parts that were answered.
 pub fn write_and_read<W: Wire, M: Meaning>(
     alloc: Global,
     slot_map: &SlotMap,
     client: &mut WireNodes<W, M>,
 ) -> Result<Value, ClientFault>
-    // A value comes only where each part of both commands went once, and was answered.
+    // A value is returned only if each part of both commands went once, and was answered.
     ensures once { IfOk result (λ value. (between : List Entry)
         × AreSentOnce slot_map.now (registry_in client.old) write (0 ∷ 1 ∷ [])
         (⟦<WireNodes<W, M> as Nodes>⟧.state client.old).trace between
         × AreSentOnce slot_map.now (registry_in client.old) read (1 ∷ 0 ∷ [])
         between (⟦<WireNodes<W, M> as Nodes>⟧.state client.new).trace) }
-    // It is made of the values that came to the read, as the policy of `MGET` says.
+    // The value is made of the replies to the read, as the policy of `MGET` says.
     ensures joined { IfOk result (λ value. (before : List Reply)
         × IsJoined (registry_in client.old) (map Some read) (1 ∷ 0 ∷ [])
         (λ replies. replies ≡ before) (⟦<WireNodes<W, M> as Nodes>⟧.gave client.new) (Ok (view value))) }
-    // Where the servers answered as one would, it is what was written.
+    // If the servers answered as one would, the value is what was written.
     ensures as_one { IfOk result (λ value. ⟦<WireNodes<W, M> as Nodes>⟧.kept client.new
         → IfSome (multi_key (registry_in client.old) (map Some write)) (λ set. IfSome (multi_key (registry_in client.old) (map Some read)) (λ get.
         view value ≡ reply_to M.step get (keyspace_after M.step set
@@ -78,7 +77,7 @@ pub fn write_and_read<W: Wire, M: Meaning>(
         (⟦<WireNodes<W, M> as Nodes>⟧.state client.old)
         (⟦<WireNodes<W, M> as Nodes>⟧.state client.new)
         (λ count ending. ⊤) error.fault error.answered) }
-    // So it is with a read that failed, and each part of the write was answered.
+    // A read that failed is cut like that, too, and each part of the write was answered.
     ensures not_read { IfErr result (λ fault. (error : DriveError)
         → fault ≡ ClientFault.Read error → (between : State M.Cell)
         × AreSentOnce slot_map.now (registry_in client.old) write (0 ∷ 1 ∷ [])
@@ -87,14 +86,14 @@ pub fn write_and_read<W: Wire, M: Meaning>(
         between
         (⟦<WireNodes<W, M> as Nodes>⟧.state client.new)
         (λ count ending. ⊤) error.fault error.answered) }
-    // Where the servers answered as one would, the keys hold what the answered parts wrote,
+    // If the servers answered as one would, the keys hold what the answered parts wrote.
     ensures written_so_far { IfErr result (λ fault. (error : DriveError)
         → fault ≡ ClientFault.Write error → ⟦<WireNodes<W, M> as Nodes>⟧.kept client.new
         → IsFault (IsPrimary slot_map.now) M.step (asked slot_map.now (registry_in client.old) write (0 ∷ 1 ∷ []))
         (⟦<WireNodes<W, M> as Nodes>⟧.state client.old)
         (⟦<WireNodes<W, M> as Nodes>⟧.state client.new)
         (λ count ending. ⊤) error.fault error.answered) }
-    // and after a read that failed what the write leaves, as the answered parts of the read leave it.
+    // After a read that failed, the keys hold what the write and the read's answered parts leave.
     ensures written { IfErr result (λ fault. (error : DriveError)
         → fault ≡ ClientFault.Read error → ⟦<WireNodes<W, M> as Nodes>⟧.kept client.new
         → IfSome (multi_key (registry_in client.old) (map Some write)) (λ set. (between : List Entry) × (mark : Bool)
@@ -102,7 +101,7 @@ pub fn write_and_read<W: Wire, M: Meaning>(
         (state (keyspace_after M.step set (⟦<WireNodes<W, M> as Nodes>⟧.state client.old).keyspace) between mark)
         (⟦<WireNodes<W, M> as Nodes>⟧.state client.new)
         (λ count ending. ⊤) error.fault error.answered)) }
-    // Servers that answered so until now did so before.
+    // Servers that answered like that until now did so before.
     ensures kept { ⟦<WireNodes<W, M> as Nodes>⟧.kept client.new → ⟦<WireNodes<W, M> as Nodes>⟧.kept client.old }
 {
     let write = write_command(alloc)?;

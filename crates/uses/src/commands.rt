@@ -16,7 +16,7 @@ pub fn set(alloc: Global, key: &[u8], value: &[u8]) -> Result<Cmd, AllocError>
     Ok(command)
 }
 
-/// The count in a reply, or an error where it is none.
+/// The count in a reply, or an error if the reply is not a count.
 pub fn count_in(reply: &Value) -> RedisResult<i64>
     ensures { MatchResult result
         (λ count. int_of (view reply.now) ≡ Some count)

@@ -10,8 +10,8 @@ use redis_cluster::routing::ReadOnlyNames;
 use resp_core::{Cmd, Value};
 use std::alloc::Global;
 
-/// Deletes the keys of a `DEL`, each at its node, and gives how many there were. That is the reply
-/// of one server that has all keys, whatever the keys hold, where the nodes keep to one meaning.
+/// Deletes the keys of a `DEL`, each at its node, and returns how many there were. If the nodes
+/// keep to one meaning, one server that has all keys would reply the same, whatever the keys hold.
 pub fn delete<N: Nodes>(
     alloc: Global,
     command: &Cmd,

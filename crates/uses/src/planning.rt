@@ -5,7 +5,7 @@ use redis_cluster::routing::{Names, ReadOnlyNames, Routable};
 use resp_core::Value;
 use std::alloc::Global;
 
-/// Sends the parts of a multi-key command, the last one first, and gives the one reply.
+/// Sends the parts of a multi-key command, the last one first, and returns the one reply.
 pub fn send_backwards<R: Routable, N: Nodes>(
     alloc: Global,
     command: &R,

@@ -10,9 +10,9 @@ use std::alloc::{AllocError, Global};
 /// Why a node gave no answer.
 #[derive(Drop)]
 pub enum Unanswered {
-    /// It sent the client on; nothing took effect.
+    /// The node redirected the client; nothing took effect.
     Redirected(Redirect),
-    /// It refused, or can't be reached; nothing took effect.
+    /// The node refused, or can't be reached; nothing took effect.
     Refused(RedisError),
     /// `TRYAGAIN`: nothing took effect.
     TryAgain,
@@ -22,7 +22,7 @@ pub enum Unanswered {
 
 /// Connections to nodes.
 pub trait Connections {
-    /// Sends the command to the node, behind an `ASKING` where that is wanted.
+    /// Sends the command to the node, after an `ASKING` if that is asked for.
     fn ask(&mut self, node: &NodeAddress, command: &Cmd, asking: bool) -> Result<Value, Unanswered>;
 }
 
@@ -31,7 +31,7 @@ pub fn example_redirect(alloc: Global) -> Result<Option<(Slot, Redirect)>, Alloc
     Redirect::from_error_text(alloc, "MOVED 3999 127.0.0.1:6381", "127.0.0.1")
 }
 
-/// A retry for a route, with three retries; none where the map has no node of its slot.
+/// A retry for a route, with three retries. `None` if the map has no node of its slot.
 pub fn three_retries(
     alloc: Global,
     map: &SlotMap,
@@ -40,8 +40,8 @@ pub fn three_retries(
     Retry::new(alloc, map, route, None, 0, 3)
 }
 
-/// Sends a command until a node answers it, its reply is lost, or no target is left. It is sent
-/// again only after an outcome that says that nothing took effect.
+/// Sends a command until a node answers it, its reply is lost, or no target is left. Sends again
+/// only after an outcome that says that nothing took effect.
 pub fn send_on<C: Connections>(
     retry: &mut Retry,
     command: &Cmd,
@@ -57,7 +57,7 @@ pub fn send_on<C: Connections>(
     Ok(None)
 }
 
-/// Tells the retry what came. Gives whether `ASKING` goes before the next send.
+/// Passes the outcome to the retry. Returns whether `ASKING` goes before the next send.
 fn next_target(retry: &mut Retry, unanswered: Unanswered, asking: bool) -> Result<bool, Unanswered>
     ensures counted { OnOk result (retry.new.left < retry.old.left) }
 {

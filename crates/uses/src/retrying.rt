@@ -8,12 +8,12 @@ use wire_nodes::{Meaning, Transport, Wire, WireNodes};
 
 /// Connections to nodes.
 pub trait Sockets {
-    /// Sends a command to a node, behind an `ASKING` on the same connection where that is wanted,
+    /// Sends a command to a node, after an `ASKING` on the same connection if that is asked for,
     /// and reads what comes back.
     fn ask(&mut self, node: &NodeAddress, cmd: &Cmd, asking: bool) -> Result<Value, SendError>;
 }
 
-/// A transport that remembers where an `ASK` sent the client on.
+/// A transport that remembers the node that an `ASK` named.
 #[derive(Drop)]
 pub struct Asking<S: Drop> {
     sockets: S,
@@ -31,8 +31,8 @@ impl<S: Sockets + Drop> Asking<S> {
 }
 
 impl<S: Sockets + Drop> Transport for Asking<S> {
-    /// Sends `ASKING` first to the node that the `ASK` before named. Where there was no memory to
-    /// remember it, the node sends the client back, and nothing takes effect.
+    /// Sends `ASKING` first to the node that the last `ASK` named. If there was no memory to
+    /// remember it, the node redirects the client back, and nothing takes effect.
     fn exchange(&mut self, node: &NodeAddress, cmd: &Cmd) -> Result<Value, SendError> {
         let asking = match &self.asked {
             Some(address) => address == node,
@@ -47,7 +47,7 @@ impl<S: Sockets + Drop> Transport for Asking<S> {
     }
 }
 
-/// Drives a command; each of its parts goes on after a redirect or a refusal, five times at most.
+/// Drives a command. Each part is sent again after a redirect or a refusal, at most five times.
 pub fn drive_on<W: Wire, M: Meaning>(
     alloc: Global,
     command: &Cmd,

@@ -19,11 +19,11 @@ pub enum Answer {
     TimeOut(RedisError),
 }
 
-/// Sockets of the user's own. These give the answers that they hold, the last one first. Others
+/// Sockets of the user's own. These return the answers that they hold, the last one first. Others
 /// write the command to a socket of the node, and read.
 #[derive(Drop)]
 pub struct Sockets {
-    /// What they give, the last one first.
+    /// The answers that are returned, the last one first.
     pub answers: Vec<Answer>,
 }
 
@@ -55,7 +55,7 @@ impl Transport for Connections<'_> {
     }
 }
 
-/// Sends the parts of a multi-key command in this order, and gives the one reply.
+/// Sends the parts of a multi-key command in this order, and returns the one reply.
 pub fn send(
     alloc: Global,
     command: &Cmd,

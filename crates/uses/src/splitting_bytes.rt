@@ -21,7 +21,7 @@ pub trait Connections {
     ) -> Result<(), AllocError>;
 }
 
-/// The parts of a request, or none where it is sent as it is.
+/// The parts of a request, or `None` if it is sent as it is.
 pub fn parts_of(
     alloc: Global,
     request: &[u8],
@@ -36,7 +36,7 @@ pub fn parts_of(
     }
 }
 
-/// Sends each part, and gives their replies, one after the other in the order of the parts.
+/// Sends each part, and returns the replies one after another, in the order of the parts.
 pub fn send_parts<C: Connections>(
     alloc: Global,
     connections: &mut C,
