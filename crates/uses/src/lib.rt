@@ -20,5 +20,6 @@ pub mod retrying;
 pub mod routing;
 pub mod sending;
 pub mod shared_strategy;
+pub mod side_by_side;
 pub mod splitting_bytes;
 pub mod threads;

@@ -10,4 +10,6 @@ mod client;
 #[cfg(test)]
 mod examples;
 #[cfg(test)]
+mod first_drive;
+#[cfg(test)]
 mod interleaved;

@@ -1,0 +1,68 @@
+use cluster_map::{NodeAddress, SlotMap, SlotRange};
+use memory_nodes::{MemoryNodes, Planned};
+use redis_cluster::driver::{DriveError, drive};
+use redis_cluster::routing::ReadOnlyNames;
+use resp_core::{Cmd, RedisResult, Value};
+use std::alloc::Global;
+use std::test::Fail;
+
+/// A map of two nodes, each with half of the slots.
+fn two_nodes(alloc: Global) -> RedisResult<SlotMap> {
+    let low = NodeAddress::try_from(alloc, "10.0.0.1:6379")?;
+    let high = NodeAddress::try_from(alloc, "10.0.0.2:6379")?;
+    let slots = vec![in alloc;
+        SlotRange::new(0, 8191, low, Vec::new(alloc)),
+        SlotRange::new(8192, 16383, high, Vec::new(alloc)),
+    ]?;
+    Ok(SlotMap::from_slots(alloc, slots)?)
+}
+
+/// Sends a command of these words, whose keys lie in two slots, part 0 first.
+fn send(
+    alloc: Global,
+    words: &str,
+    slot_map: &SlotMap,
+    nodes: &mut MemoryNodes,
+) -> Result<Value, DriveError> {
+    let mut command = Cmd::new(alloc);
+    for word in words.split(' ') {
+        command.write_arg(word.as_bytes())?;
+    }
+    let none_only_reads = ReadOnlyNames::new(alloc);
+    drive(
+        alloc,
+        &command,
+        &none_only_reads,
+        slot_map,
+        None,
+        0,
+        &[0, 1],
+        nodes,
+    )
+}
+
+#[test]
+fn both_keys_are_written(rt: HostRuntime) -> Result<(), Fail> {
+    let alloc = rt.alloc();
+    let slot_map = two_nodes(alloc)?;
+    let mut nodes = MemoryNodes::new(alloc);
+    let written = send(alloc, "MSET foo 1 bar 2", &slot_map, &mut nodes)?;
+    assert!(rt; written == Value::Okay);
+    let there = send(alloc, "EXISTS foo bar", &slot_map, &mut nodes)?;
+    assert!(rt; there == Value::Int(2));
+    Ok(())
+}
+
+#[test]
+fn a_refused_part_ends_the_command(rt: HostRuntime) -> Result<(), Fail> {
+    let alloc = rt.alloc();
+    let slot_map = two_nodes(alloc)?;
+    let mut nodes = MemoryNodes::new(alloc);
+    nodes.plan(vec![in alloc; Planned::Answer, Planned::Refuse]?);
+    let answered = match send(alloc, "MSET foo 1 bar 2", &slot_map, &mut nodes) {
+        Ok(_) => 2,
+        Err(error) => error.answered,
+    };
+    assert_eq!(rt; answered, 1);
+    Ok(())
+}
