@@ -6,7 +6,7 @@ use redis_batches::{PipelineError, drive_pipeline};
 use redis_cluster::routing::{ReadOnlyNames, Registry};
 use resp_core::{Cmd, ErrorKind, RedisError, RedisResult};
 use std::alloc::Global;
-use wire_batches::{BatchClient, BatchTransport, NodeAddress, Redirect, SendError};
+use wire::{BatchClient, BatchTransport, NodeAddress, Redirect, SendError};
 
 /// Returns these outcomes, the last one first, whatever is sent, and then loses the answers.
 #[derive(Drop)]

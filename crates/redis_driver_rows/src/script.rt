@@ -2,7 +2,7 @@
 use crate::texts::push_sent;
 use resp_core::{ErrorKind, RedisError};
 use std::alloc::Global;
-use wire_nodes::{Cmd, NodeAddress, SendError, Transport, Value};
+use wire::{Cmd, NodeAddress, SendError, Transport, Value};
 
 /// Connections that return these outcomes, the last one first, whatever is sent: `refused`, `lost`
 /// for a lost reply, and any other value as an answer. They have no contract.

@@ -8,7 +8,7 @@ use fixtures::{cmd, values};
 use redis_cluster::routing::Registry;
 use resp_core::{RedisResult, Value};
 use std::alloc::Global;
-use wire_nodes::{Any, Logged, Wire, WireNodes, drive_over};
+use wire::{Any, Logged, Wire, WireNodes, drive_over};
 
 /// The outcomes of a text, the last one first.
 fn outcomes(alloc: Global, text: &str) -> RedisResult<Vec<Value>> {

@@ -3,7 +3,7 @@ ghost use Rattle.std.specs.Prelude.{◌≡◌, [], map, IfOk};
 ghost use Rattle.redis_cluster.specs.Driven.{AreAllAnswered};
 ghost use Rattle.redis_batches.specs.DrivenPipeline.{IsOneServer};
 ghost use Rattle.redis_batches.specs.Taken.{answer_of};
-ghost use Rattle.wire_batches.specs.Held.{registry_in};
+ghost use Rattle.wire.specs.Held.{batch_registry_in};
 
 use cluster_map::{NodeAddress, SlotMap};
 use redis_batches::{BatchNodes, PipelineError, drive_pipeline};
@@ -11,7 +11,7 @@ use redis_cluster::driver::SendError;
 use redis_cluster::routing::{ReadOnlyNames, Registry};
 use resp_core::{Cmd, ErrorKind, RedisError, Value};
 use std::alloc::Global;
-use wire_batches::{BatchClient, BatchMeaning, BatchTransport, BatchWire, WireBatches};
+use wire::{BatchClient, BatchMeaning, BatchTransport, BatchWire, WireBatches};
 
 /// Borrows the user's own connections for one pipeline. These return the answers that they hold,
 /// the last batch first. Others write the batch to a socket of the node, and read as many answers.
@@ -50,7 +50,7 @@ pub fn send_pipeline<W: BatchWire, M: BatchMeaning>(
         AreAllAnswered (⟦<WireBatches<W, M> as BatchNodes>⟧.state client.old).trace
         (⟦<WireBatches<W, M> as BatchNodes>⟧.state client.new).trace
         → ⟦<WireBatches<W, M> as BatchNodes>⟧.kept client.new
-        → IsOneServer M.step M.serve (registry_in client.old) commands.now
+        → IsOneServer M.step M.serve (batch_registry_in client.old) commands.now
         (⟦<WireBatches<W, M> as BatchNodes>⟧.state client.old)
         (⟦<WireBatches<W, M> as BatchNodes>⟧.state client.new)
         (map answer_of replies.items)) }

@@ -8,7 +8,7 @@ ghost use Rattle.redis_cluster.specs.Joined.{IsJoined};
 ghost use Rattle.redis_cluster.specs.MultiKey.{multi_key};
 ghost use Rattle.redis_cluster.specs.Trace.{Entry};
 ghost use Rattle.redis_cluster.specs.Unsplit.{keyspace_after, reply_to};
-ghost use Rattle.wire_nodes.specs.Held.{registry_in};
+ghost use Rattle.wire.specs.Held.{registry_in};
 ghost use Rattle.uses.specs.Client.{asked, read, write, AreSentOnce, IsPrimary};
 
 use cluster_map::SlotMap;
@@ -16,7 +16,7 @@ use redis_cluster::driver::{DriveError, Nodes, drive};
 use redis_cluster::routing::ReadOnlyNames;
 use resp_core::{Cmd, Value};
 use std::alloc::{AllocError, Global};
-use wire_nodes::{Meaning, Wire, WireNodes};
+use wire::{Meaning, Wire, WireNodes};
 
 /// Why a client has not read what it wrote.
 #[derive(Drop)]

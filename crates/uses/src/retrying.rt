@@ -4,7 +4,7 @@ use redis_cluster::driver::{DriveError, SendError, drive_retrying};
 use redis_cluster::routing::{ReadOnlyNames, Redirect};
 use resp_core::{Cmd, Value};
 use std::alloc::Global;
-use wire_nodes::{Meaning, Transport, Wire, WireNodes};
+use wire::{Meaning, Transport, Wire, WireNodes};
 
 /// Connections to nodes.
 pub trait Sockets {

@@ -4,7 +4,7 @@ use redis_cluster::driver::{DriveError, SendError};
 use redis_cluster::routing::{ReadOnlyNames, Redirect, Registry};
 use resp_core::{Cmd, ErrorKind, RedisError, Value};
 use std::alloc::Global;
-use wire_nodes::{Client, Transport, drive_over};
+use wire::{Client, Transport, drive_over};
 
 /// What comes back from a node.
 #[derive(Drop)]

@@ -6,7 +6,7 @@ use std::test::Fail;
 use uses::client::{ClientFault, write_and_read};
 use uses::node_of_key::two_nodes;
 use uses::sending::{Answer, Connections, Sockets, send};
-use wire_nodes::Client;
+use wire::Client;
 
 fn list_of(alloc: Global, text: &str) -> Result<Answer, AllocError> {
     let item = Value::BulkString(text.as_bytes().to_vec(alloc)?);

@@ -4,8 +4,7 @@ use Rattle.redis_cluster.specs.Driven.{request}
 use Rattle.redis_cluster.specs.State.{state}
 use Rattle.redis_cluster.specs.Faults.{IsCut, IsFault}
 use Rattle.redis_cluster.specs.Names.{names_of}
-use Rattle.wire_nodes.specs.Said.{entry_by}
-use Rattle.wire_nodes.specs.Replay.{replay, AreKept}
+use Rattle.wire.specs.Commands.{entry_by, replay_commands, AreCommandsKept}
 use Rattle.uses.specs.Client.{IsPrimary}
 use Rattle.uses.proofs.client.drive_over.Goals as goal
 
@@ -15,8 +14,8 @@ returns-clause-cut g c =
     let new = g.W.Wire.log c.drive.new.nodes.wire in
     subst
     (λ (names : List (List ℕ)). IfErr c.drive.result (λ error. IsCut (IsPrimary c.args.slot_map.now) (request (map Some c.args.command.now) (names_of names c.args.client.now.registry) c.args.slot_map.now c.args.order.now)
-    (state (replay c.args.client.now.registry g.M.Meaning.step g.M.Meaning.took old g.M.Meaning.initial) (map entry_by old) c.args.client.now.mark)
-    (state (replay c.drive.new.nodes.registry g.M.Meaning.step g.M.Meaning.took new g.M.Meaning.initial) (map entry_by new) c.drive.new.nodes.mark) (λ count ending. ⊤) error.fault error.answered))
+    (state (replay_commands c.args.client.now.registry g.M.Meaning.step g.M.Meaning.took old g.M.Meaning.initial) (map entry_by old) c.args.client.now.mark)
+    (state (replay_commands c.drive.new.nodes.registry g.M.Meaning.step g.M.Meaning.took new g.M.Meaning.initial) (map entry_by new) c.drive.new.nodes.mark) (λ count ending. ⊤) error.fault error.answered))
     c.new-none_only_reads.ensures c.drive.ensures.cut
 
 pub returns-clause-fault : goal.returns-clause-fault
@@ -24,8 +23,8 @@ returns-clause-fault g c =
     let old = g.W.Wire.log c.args.client.now.wire in
     let new = g.W.Wire.log c.drive.new.nodes.wire in
     subst
-    (λ (names : List (List ℕ)). IfErr c.drive.result (λ error. AreKept c.drive.new.nodes.registry g.M.Meaning.step g.M.Meaning.took new g.M.Meaning.initial
+    (λ (names : List (List ℕ)). IfErr c.drive.result (λ error. AreCommandsKept c.drive.new.nodes.registry g.M.Meaning.step g.M.Meaning.took new g.M.Meaning.initial
     → IsFault (IsPrimary c.args.slot_map.now) g.M.Meaning.step (request (map Some c.args.command.now) (names_of names c.args.client.now.registry) c.args.slot_map.now c.args.order.now)
-    (state (replay c.args.client.now.registry g.M.Meaning.step g.M.Meaning.took old g.M.Meaning.initial) (map entry_by old) c.args.client.now.mark)
-    (state (replay c.drive.new.nodes.registry g.M.Meaning.step g.M.Meaning.took new g.M.Meaning.initial) (map entry_by new) c.drive.new.nodes.mark) (λ count ending. ⊤) error.fault error.answered))
+    (state (replay_commands c.args.client.now.registry g.M.Meaning.step g.M.Meaning.took old g.M.Meaning.initial) (map entry_by old) c.args.client.now.mark)
+    (state (replay_commands c.drive.new.nodes.registry g.M.Meaning.step g.M.Meaning.took new g.M.Meaning.initial) (map entry_by new) c.drive.new.nodes.mark) (λ count ending. ⊤) error.fault error.answered))
     c.new-none_only_reads.ensures c.drive.ensures.fault

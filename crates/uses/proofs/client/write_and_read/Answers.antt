@@ -9,8 +9,8 @@ use Rattle.redis_cluster.specs.Registry.{Registrations}
 use Rattle.redis_cluster.specs.Trace.{Entry}
 use Rattle.redis_cluster.specs.Unsplit.{Keyspace, keyspace_after, reply_to}
 use Rattle.redis_cluster.specs.declared.driver.DriveError.{DriveError}
-use Rattle.wire_nodes.specs.Said.{Said, entry_by, replies_in}
-use Rattle.wire_nodes.specs.Replay.{replay}
+use Rattle.wire.specs.Commands.{SaidCommand, entry_by, replay_commands}
+use Rattle.wire.specs.Said.{replies_in}
 use Rattle.uses.specs.Client.{asked, read, write, AreSentOnce, IsPrimary}
 use Rattle.uses.specs.declared.client.ClientFault.{ClientFault}
 use Rattle.uses.specs.declared.client.ClientFault.TheVariants.{Memory, Write, Read}
@@ -49,7 +49,7 @@ returns-in-Err-clause-written_so_far g c =
     λ error is kept.
     let slots = c.args.slot_map.now in
     let step = g.M.Meaning.step in
-    let state_of : Registrations → List Said → Bool → State g.M.Meaning.Cell = λ registered log mark. state (replay registered step g.M.Meaning.took log g.M.Meaning.initial) (map entry_by log) mark in
+    let state_of : Registrations → List SaidCommand → Bool → State g.M.Meaning.Cell = λ registered log mark. state (replay_commands registered step g.M.Meaning.took log g.M.Meaning.initial) (map entry_by log) mark in
     let old = state_of c.args.client.now.registry (g.W.Wire.log c.args.client.now.wire) c.args.client.now.mark in
     let new = state_of c.drive_over.new.client.registry (g.W.Wire.log c.drive_over.new.client.wire) c.drive_over.new.client.mark in
     let stop = c.in-Err.error in
@@ -61,7 +61,7 @@ pub returns-clause-not_read : goal.returns-clause-not_read
 returns-clause-not_read g c =
     λ error is.
     let slots = c.args.slot_map.now in
-    let state_of : Registrations → List Said → Bool → State g.M.Meaning.Cell = λ registered log mark. state (replay registered g.M.Meaning.step g.M.Meaning.took log g.M.Meaning.initial) (map entry_by log) mark in
+    let state_of : Registrations → List SaidCommand → Bool → State g.M.Meaning.Cell = λ registered log mark. state (replay_commands registered g.M.Meaning.step g.M.Meaning.took log g.M.Meaning.initial) (map entry_by log) mark in
     let between = state_of c.drive_over.new.client.registry (g.W.Wire.log c.drive_over.new.client.wire) c.drive_over.new.client.mark in
     let last = state_of c.drive_over-2.new.client.registry (g.W.Wire.log c.drive_over-2.new.client.wire) c.drive_over-2.new.client.mark in
     let stop = c.in-Err-drive_over.error in
@@ -80,24 +80,24 @@ returns-clause-written g c =
     λ error is kept.
     let slots = c.args.slot_map.now in
     let step = g.M.Meaning.step in
-    let keys : List Said → Keyspace g.M.Meaning.Cell = λ log. replay c.args.client.now.registry step g.M.Meaning.took log g.M.Meaning.initial in
+    let keys : List SaidCommand → Keyspace g.M.Meaning.Cell = λ log. replay_commands c.args.client.now.registry step g.M.Meaning.took log g.M.Meaning.initial in
     let old = keys (g.W.Wire.log c.args.client.now.wire) in
     let middle = keys (g.W.Wire.log c.drive_over.new.client.wire) in
     let between = map entry_by (g.W.Wire.log c.drive_over.new.client.wire) in
     let mark = c.drive_over.new.client.mark in
-    let last = state (replay c.drive_over-2.new.client.registry step g.M.Meaning.took (g.W.Wire.log c.drive_over-2.new.client.wire) g.M.Meaning.initial) (map entry_by (g.W.Wire.log c.drive_over-2.new.client.wire)) c.drive_over-2.new.client.mark in
+    let last = state (replay_commands c.drive_over-2.new.client.registry step g.M.Meaning.took (g.W.Wire.log c.drive_over-2.new.client.wire) g.M.Meaning.initial) (map entry_by (g.W.Wire.log c.drive_over-2.new.client.wire)) c.drive_over-2.new.client.mark in
     let stop = c.in-Err-drive_over.error in
     let same : stop ≡ error = ap (λ fault. error_of fault error) is in
     let Read : Registrations → List (List ℕ) → Type 0 = λ registered words.
     IsFault (IsPrimary slots) step (asked slots registered words (1 ∷ 0 ∷ []))
-    (state (replay registered step g.M.Meaning.took (g.W.Wire.log c.drive_over.new.client.wire) g.M.Meaning.initial) between mark)
-    (state (replay c.drive_over-2.new.client.registry step g.M.Meaning.took (g.W.Wire.log c.drive_over-2.new.client.wire) g.M.Meaning.initial) (map entry_by (g.W.Wire.log c.drive_over-2.new.client.wire)) c.drive_over-2.new.client.mark) (λ count ending. ⊤) stop.fault stop.answered in
+    (state (replay_commands registered step g.M.Meaning.took (g.W.Wire.log c.drive_over.new.client.wire) g.M.Meaning.initial) between mark)
+    (state (replay_commands c.drive_over-2.new.client.registry step g.M.Meaning.took (g.W.Wire.log c.drive_over-2.new.client.wire) g.M.Meaning.initial) (map entry_by (g.W.Wire.log c.drive_over-2.new.client.wire)) c.drive_over-2.new.client.mark) (λ count ending. ⊤) stop.fault stop.answered in
     let of_read = subst (λ (registered : Registrations). Read registered read) c.drive_over.ensures.registered
     (subst (λ (words : List (List ℕ)). Read c.drive_over.new.client.registry words) c.in_ok-read.ensures (c.in-Err-drive_over.ensures.fault kept)) in
     let of_error =
     subst (λ (e : DriveError). IsFault (IsPrimary slots) step (asked slots c.args.client.now.registry read (1 ∷ 0 ∷ [])) (state middle between mark) last (λ count ending. ⊤) e.fault e.answered) same of_read in
     let Written : Registrations → MultiKey → Type 0 = λ registered whole. (view c.in_default.field-0 ≡ reply_to step whole old)
-    × (replay registered step g.M.Meaning.took (g.W.Wire.log c.drive_over.new.client.wire) g.M.Meaning.initial ≡ keyspace_after step whole old) in
+    × (replay_commands registered step g.M.Meaning.took (g.W.Wire.log c.drive_over.new.client.wire) g.M.Meaning.initial ≡ keyspace_after step whole old) in
     let written =
     subst (λ (registered : Registrations). IfSome (multi_key c.args.client.now.registry (map Some write)) (Written registered)) c.drive_over.ensures.registered
     (subst (λ (words : List (List ℕ)). IfSome (multi_key c.args.client.now.registry (map Some words)) (Written c.drive_over.new.client.registry)) c.in_ok-write.ensures (c.in_default.ensures.as_one (c.in-Err-drive_over.ensures.kept kept))) in

@@ -1,0 +1,7 @@
+pub mod Replaying
+pub mod CommandReplaying
+pub mod BatchReplaying
+pub mod Beside
+pub mod AnsweredSends
+pub mod Amid
+pub mod Threads

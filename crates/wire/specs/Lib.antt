@@ -1,0 +1,8 @@
+pub mod Said
+pub mod Replay
+pub mod Commands
+pub mod Batches
+pub mod Logged
+pub mod Held
+pub mod Beside
+pub mod Amid

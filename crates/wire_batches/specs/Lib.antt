@@ -1,4 +1,0 @@
-pub mod Said
-pub mod Replay
-pub mod Logged
-pub mod Held
