@@ -1,5 +1,5 @@
 -- A multi-key command, taken apart.
-use Rattle.std.proofs.Common.{◌≡◌, ℕ, List, [], ◌∷◌, Bool, true, false, cond, Option, Some, None, map, option_map, length, take, drop, refl, sym, ap, ◌∙◌, subst, ◌≤◌, arith}
+use Rattle.std.proofs.Common.{◌≡◌, ℕ, ◌-◌, List, [], ◌∷◌, Bool, true, false, cond, Option, Some, None, map, option_map, length, take, drop, refl, sym, ap, ◌∙◌, subst, ◌≤◌, arith}
 use Rattle.std.specs.Prelude.{IsSome, option_and_then, slice_get}
 use Rattle.std.proofs.lemmas.List.{take-map, drop-map, length-map, length-take}
 use Rattle.std.specs.declared.vec.Vec.{Vec}
@@ -12,7 +12,7 @@ use Rattle.redis_routing.specs.MultiKeyNames.{registered_as, split_of}
 use Rattle.redis_routing.specs.Tuples.{is_complete, tuple_args_count, shared_in}
 use Rattle.redis_routing.specs.declared.policy.ResponsePolicy.{ResponsePolicy}
 use Rattle.redis_routing.specs.declared.route_by.MultiSlotArgPattern.{MultiSlotArgPattern}
-use Rattle.redis_cluster.specs.MultiKey.{MultiKey, ReplyForm, multi_key, command_with, form_by_policy, is_whole, shape_of, shared_by, tuples_by}
+use Rattle.redis_cluster.specs.MultiKey.{MultiKey, ReplyForm, multi_key, command_with, form_by_policy, is_whole, shape_of, tuples_by}
 use Rattle.redis_cluster.proofs.Shapes.{shared_is, tuples_are_placed, whole_is}
 use Rattle.redis_cluster.specs.PlacedTuples.{tuples_of}
 use Rattle.redis_routing.proofs.CommandNames.{has_words}
@@ -51,7 +51,7 @@ module _ (known : Registrations) where
   with_shape name run pattern (Some form) h = complete (is_whole (shape_of pattern) (length run)) refl h
     where
       by_shape_of : MultiKey
-      by_shape_of = record { name = name; registered = registered_as known name; shared = shared_by (shape_of pattern) run; tuples = tuples_by (shape_of pattern) run; form = form }
+      by_shape_of = record { name = name; registered = registered_as known name; shared = slice_get run (length run - (shape_of pattern).shared); tuples = tuples_by (shape_of pattern) run; form = form }
 
       same : is_complete pattern (length run) ≡ true → by_shape_of ≡ shaped name run pattern form
       same whole =

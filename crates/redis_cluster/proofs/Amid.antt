@@ -103,13 +103,13 @@ acts_by_slot C command = record {
 }
 
 -- What the parts of a command are.
-pub parts_act_by_slot : (C : Type 0) (command : MultiKey) (registered : Registrations) (args : Arguments) → multi_key registered args ≡ Some command → PartsActBySlot C registered args command
-parts_act_by_slot C command registered args is =
+pub parts_act_by_slot : (C : Type 0) (registered : Registrations) (args : Arguments) → PartsActBySlot C registered args
+parts_act_by_slot C registered args =
     record {
-      meant = All-weaker (λ slot. list_any (λ (t : KeyTuple). nat_eq (key_slot t.key) slot) command.tuples ≡ true) (λ slot. multi_key registered (part_by_slot registered args slot) ≡ Some (part_of command slot))
+      meant = λ command is. All-weaker (λ slot. list_any (λ (t : KeyTuple). nat_eq (key_slot t.key) slot) command.tuples ≡ true) (λ slot. multi_key registered (part_by_slot registered args slot) ≡ Some (part_of command slot))
           (λ slot has. ap (multi_key registered) (sym (part_by_command registered args command slot is)) ∙ part_means registered args command slot is has)
           (slots_in command) (slots_have_keys command);
-      acts = acts_by_slot C command;
+      acts = λ command is. acts_by_slot C command;
     }
 
 -- What is made of the replies to the parts of a plan is the reply amid what others write.

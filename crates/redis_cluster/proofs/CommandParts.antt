@@ -22,6 +22,7 @@ use Rattle.redis_routing.specs.Parts.{first_appearances, slot_of, tuples_in_slot
 use Rattle.redis_routing.specs.Routing.{nodes_for, route_of_slot, routes_of}
 use Rattle.redis_cluster.specs.MultiKey.{KeyTuple, MultiKey, command_routes, multi_key, part_args, part_by_slot, tuples_of_slot}
 use Rattle.redis_cluster.specs.PlacedTuples.{unplaced}
+use Rattle.redis_cluster.specs.Driven.{Request, command_routes_by, IsCoveredCommand}
 use Rattle.redis_cluster.proofs.SplitParts.{command_of_routes, filter-map, is_made, no_command, pattern_made, routes_made, same_slots}
 
 -- the routes by the command's slots
@@ -35,6 +36,10 @@ routes_by_command names args command routes is routed =
     ap (map (λ r. r.0)) (sym same)
     ∙ map-map (λ r. r.0) (route_of_slot reads made.0 present) (first_appearances (map slot_of (tuples_in made.0 present)))
     ∙ ap (λ ns. map (λ slot. record { slot = slot; addr = nodes_for reads }) (first_appearances ns)) (same_slots made.0 present command made.1.whole)
+
+-- the routes of a covered command are those of its arguments
+pub covered_routes : (r : Request) (routes : List SlotRoute) (command : MultiKey) → IsCoveredCommand r routes command → command_routes_by r.names r.arguments ≡ Some routes
+covered_routes r routes command is = ap (option_map (command_routes r.names.only_reads)) is.command_is ∙ ap Some (sym is.routes_are)
 
 -- a command has routes just where it is complete, and they are those of its slots
 pub routes_are : (names : Names) (args : Arguments) → IfSome (multi_slot_routes names args) (λ routes. HasJoiningPolicy names.registered args)

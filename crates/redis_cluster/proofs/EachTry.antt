@@ -18,13 +18,13 @@ use Rattle.redis_cluster.specs.Retried.{IsTryOf}
 use Rattle.redis_cluster.specs.Retry.{Attempt, IsRetryOf}
 use Rattle.redis_cluster.specs.Tries.{tries_with}
 use Rattle.redis_routing.specs.RoutingInfo.{route_lists}
-use Rattle.redis_cluster.specs.Plan.{Plan, IsPlan}
+use Rattle.redis_cluster.specs.Plan.{Plan, IsRoutedPlan}
 use Rattle.redis_cluster.proofs.Constructors.{none_apart, same_some}
 use Rattle.redis_cluster.proofs.Covered.{firsts-route_lists}
 use Rattle.redis_cluster.proofs.Zips.{zip_long}
 
 pub each_try : (IsNode : SlotRoute → Address → Type 0) (r : Request) (retries : ℕ) (routes : List SlotRoute) (nodes : List Address) (parts : List (List (List ℕ))) (own : List Attempt) → AllZip (IsTarget IsNode r) routes (zip nodes parts)
-    → AllZip (IsRetryOf r.map retries) (zip routes nodes) own → AllZip (IsTryOf IsNode r retries) routes (tries_with (zip nodes parts) own)
+    → AllZip (IsRetryOf r.map retries) (zip routes nodes) own → AllZip (IsTryOf IsNode retries r) routes (tries_with (zip nodes parts) own)
 each_try IsNode r retries [] [] parts own each begun = tt
 each_try IsNode r retries [] (n ∷ nodes) [] own each begun = tt
 each_try IsNode r retries [] (n ∷ nodes) (p ∷ parts) own each begun = absurd each
@@ -83,5 +83,5 @@ route_at held routes number found same at =
     ap (λ rs. slice_get (map (λ r. r.0) rs) number) (sym same) ∙ ap (λ rs. slice_get rs number) (firsts-route_lists held) ∙ get_map (λ r. r.0) held number found at
 
 -- the routes of a plan and its nodes beside each other are as many as the routes
-pub as_many : (plan : Plan) → IsPlan plan → length (zip (map (λ r. r.0) plan.split.routes) plan.nodes) ≡ length plan.split.routes
+pub as_many : (plan : Plan) → IsRoutedPlan plan → length (zip (map (λ r. r.0) plan.split.routes) plan.nodes) ≡ length plan.split.routes
 as_many plan whole = zip_long (map (λ r. r.0) plan.split.routes) plan.nodes (length plan.split.routes) (length-map plan.split.routes (λ r. r.0)) whole.nodes

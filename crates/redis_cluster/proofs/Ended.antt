@@ -20,7 +20,7 @@ use Rattle.redis_cluster.specs.Unsplit.{Step, Keyspace, act_of, after, keyspace_
 use Rattle.redis_cluster.specs.declared.nodes.SendError.{SendError}
 use Rattle.redis_cluster.specs.declared.nodes.SendError.TheVariants as sent
 use Rattle.redis_cluster.proofs.Orders.{map-in_order}
-use Rattle.redis_cluster.specs.Driven.{Request, IsCoveredCommand, IsDrivable, IsLeftBy}
+use Rattle.redis_cluster.specs.Driven.{Request, IsDrivable, RoutesTookEffect}
 use Rattle.redis_cluster.specs.State.{State}
 use Rattle.redis_cluster.specs.Ended.{AreEndedEarly, AreStopped}
 use Rattle.redis_cluster.specs.Faults.{fault_of_send, IsBefore, IsReachOf, TookEffect, WereCutShort, whole, up_to}
@@ -28,8 +28,8 @@ use Rattle.redis_cluster.specs.Plan.{Plan}
 use Rattle.redis_routing.specs.Split.{slots_of}
 use Rattle.redis_cluster.specs.Attempts.{Try}
 use Rattle.redis_cluster.specs.Retried.{AreTried, EndsTried}
-use Rattle.redis_cluster.specs.Sends.{IsLeftAt}
-use Rattle.redis_cluster.specs.Tries.{AllTried}
+use Rattle.redis_cluster.specs.Sends.{SlotsTookEffect}
+use Rattle.redis_cluster.specs.Tries.{SentInTurn}
 use Rattle.redis_cluster.specs.declared.fault.DriveFault.{DriveFault}
 use Rattle.redis_cluster.specs.declared.fault.DriveFault.TheVariants as early
 use Rattle.redis_cluster.specs.Ready.{IsReady}
@@ -73,7 +73,7 @@ take_in_order (x ∷ xs) (suc count) (k ∷ order) within =
     rw at (ap (λ ys. get_or (x ∷ xs) k x ∷ ys) (take_in_order (x ∷ xs) count order (All-tail (λ j. j < length (x ∷ xs)) k order within)))
 
 -- what was tried for routes, by the tries of each
-tried_all : (IsTry : SlotRoute → Try → Type 0) (routes : List SlotRoute) (tries : List Try) (old new : List Entry) → AllZip IsTry routes tries → AllTried tries old new → AreTried IsTry routes old new
+tried_all : (IsTry : SlotRoute → Try → Type 0) (routes : List SlotRoute) (tries : List Try) (old new : List Entry) → AllZip IsTry routes tries → SentInTurn tries old new → AreTried IsTry routes old new
 tried_all IsTry [] [] old new each tried = tried
 tried_all IsTry [] (t ∷ tries) old new each tried = absurd each
 tried_all IsTry (r ∷ routes) [] old new each tried = absurd each
@@ -98,35 +98,32 @@ module _ {C : Type 0} (IsNode : SlotRoute → Address → Type 0) (step : Step C
   slots_are : map (λ (route : SlotRoute). route.slot) routes ≡ slots
   slots_are = map-map (λ (route : SlotRoute). route.slot) (λ t. t.0) plan.split.routes
 
-  pub covered_command : IsCoveredCommand r routes command
-  covered_command = record { routes_are = is.routes_are; command_is = is.command_is; covered = is.covered }
-
   module _ (order : NamesOnce (length plan.split.routes) r.order) where
     of_routes : NamesOnce (length routes) r.order
     of_routes = subst (λ n. NamesOnce n r.order) (sym routes_many) order
 
     pub drivable : IsDrivable r routes command
-    drivable = record { is_covered = covered_command; order = of_routes }
+    drivable = record { is_covered = is.is_covered; order = of_routes }
 
     slots_first : (count : ℕ) → map (λ (route : SlotRoute). route.slot) (take count (in_order routes r.order)) ≡ in_order slots (take count r.order)
     slots_first count =
         ap (map (λ (route : SlotRoute). route.slot)) (take_in_order routes count r.order of_routes.below)
         ∙ map-in_order (λ (route : SlotRoute). route.slot) routes (take count r.order) ∙ ap (λ xs. in_order xs (take count r.order)) slots_are
 
-    left_by : (count : ℕ) → new.keyspace ≡ after (act_of step command) (tuples_of_slots (in_order slots (take count r.order)) command.tuples) old.keyspace → IsLeftBy step old new command (take count (in_order routes r.order))
+    left_by : (count : ℕ) → new.keyspace ≡ after (act_of step command) (tuples_of_slots (in_order slots (take count r.order)) command.tuples) old.keyspace → RoutesTookEffect step old new command (take count (in_order routes r.order))
     left_by count keyspace = keyspace ∙ ap (λ xs. after (act_of step command) (tuples_of_slots xs command.tuples) old.keyspace) (sym (slots_first count))
 
     module _ (IsTry : SlotRoute → Try → Type 0) (tries : List Try) (are : AllZip IsTry routes tries) where
-      tried_first : (count : ℕ) (trace : List Entry) → AllTried (in_order tries (take count r.order)) old.trace trace → AreTried IsTry (take count (in_order routes r.order)) old.trace trace
+      tried_first : (count : ℕ) (trace : List Entry) → SentInTurn (in_order tries (take count r.order)) old.trace trace → AreTried IsTry (take count (in_order routes r.order)) old.trace trace
       tried_first count trace tried =
           subst (λ rs. AreTried IsTry rs old.trace trace) (sym (take_in_order routes count r.order of_routes.below))
           (tried_all IsTry (in_order routes (take count r.order)) (in_order tries (take count r.order)) old.trace trace (both_in_order IsTry routes tries (take count r.order) are) tried)
 
       -- all were tried
-      pub tried_whole : AllTried (in_order tries r.order) old.trace new.trace → AreTried IsTry (in_order routes r.order) old.trace new.trace
+      pub tried_whole : SentInTurn (in_order tries r.order) old.trace new.trace → AreTried IsTry (in_order routes r.order) old.trace new.trace
       tried_whole tried = tried_all IsTry (in_order routes r.order) (in_order tries r.order) old.trace new.trace (both_in_order IsTry routes tries r.order are) tried
 
-      took : (ending : Option Ending) (count : ℕ) → IsLeftAt (act_of step command) command.tuples (in_order slots (take count r.order)) (in_order slots (take (count + 1) r.order)) old.keyspace new.keyspace ending
+      took : (ending : Option Ending) (count : ℕ) → SlotsTookEffect (act_of step command) command.tuples (in_order slots (take count r.order)) (in_order slots (take (count + 1) r.order)) old.keyspace new.keyspace ending
           → TookEffect r old new step routes command count (up_to ending)
       took None count e = left_by count e
       took (Some answered) count e = left_by count e
@@ -162,7 +159,7 @@ module _ {C : Type 0} (IsNode : SlotRoute → Address → Type 0) (step : Step C
         at_send sent.Memory s = at_route None early.Memory (inl refl) (λ e is. cc is) s
 
         -- they reached past all routes
-        past_all : (fault : DriveFault) → IsReachOf fault command.form whole → count ≡ length plan.split.routes → AllTried (in_order tries r.order) old.trace new.trace
+        past_all : (fault : DriveFault) → IsReachOf fault command.form whole → count ≡ length plan.split.routes → SentInTurn (in_order tries r.order) old.trace new.trace
             → (kept → (new.keyspace ≡ keyspace_after step command old.keyspace) × ((error : ErrorParts) → fault ≡ early.Reply error → ⊥)) → Stops fault
         past_all fault reach all tried effect = (
           record {

@@ -21,6 +21,7 @@ use Rattle.redis_cluster.specs.Attempts.{IsCause}
 use Rattle.redis_cluster.specs.Faults.{IsCauseBeforeSending, EndsOnce, IsAllowed, IsFault, IsFaultBy, WentOut, WereCutShort, up_to}
 use Rattle.redis_cluster.specs.declared.fault.DriveFault.{DriveFault}
 use Rattle.redis_cluster.specs.declared.fault.DriveFault.TheVariants.{NotMultiKey, NotCovered, BadOrder, Memory, Node, Redirected, Lost, Reply}
+use Rattle.redis_cluster.proofs.CommandParts.{covered_routes}
 use Rattle.redis_cluster.proofs.Constructors.{same_some}
 
 -- what holds of each holds of the one in the middle
@@ -40,17 +41,17 @@ not_lost error is = cc
 -- A command that can be driven has no fault before the first send but for memory.
 module _ (r : Request) (asked : List SlotRoute) (command : MultiKey) (can : IsDrivable r asked command) where
   pub routes_same : (routes : List SlotRoute) → command_routes_by r.names r.arguments ≡ Some routes → routes ≡ asked
-  routes_same routes is = same_some routes asked (sym is ∙ can.is_covered.routes_are)
+  routes_same routes is = same_some routes asked (sym is ∙ covered_routes r asked command can.is_covered)
 
   pub begins : (fault : DriveFault) → IsCauseBeforeSending r fault → fault ≡ Memory
-  begins NotMultiKey f = absurd (let no_routes : command_routes_by r.names r.arguments ≡ None = f in cc (no_routes, can.is_covered.routes_are))
+  begins NotMultiKey f = absurd (let no_routes : command_routes_by r.names r.arguments ≡ None = f in cc (no_routes, covered_routes r asked command can.is_covered))
   begins (NotCovered slot) f =
       let first = f.2 in
       let all : All (λ route. IsCovered r.map route.slot) (first.before ++ first.route ∷ first.rest) =
       subst (All (λ (route : SlotRoute). IsCovered r.map route.slot)) (sym (routes_same f.0 f.1) ∙ first.routes_are) can.is_covered.covered in
       let own = middle (λ (route : SlotRoute). IsCovered r.map route.slot) first.before first.route first.rest all in
       absurd (first.uncovered own.0 own.1)
-  begins BadOrder f = absurd (f.3 (subst (λ n. NamesOnce n r.order) (ap length (sym (routes_same f.0 f.2.routes_are))) can.order))
+  begins BadOrder f = absurd (f.3 (subst (λ n. NamesOnce n r.order) (ap length (sym (routes_same f.0 (covered_routes r f.0 f.1 f.2)))) can.order))
   begins Memory f = refl
   begins (Node error) f = absurd f
   begins (Redirected redirect) f = absurd f
@@ -117,7 +118,7 @@ module _ {C : Type 0} (IsNode : SlotRoute → Address → Type 0) (step : Step C
         let taken : length (take count (in_order up.routes r.order)) ≡ count = length-take-le count (in_order up.routes r.order) (omega (arith, within)) in
         let many : length sent.entries ≡ length (take count (in_order up.routes r.order)) = AllZip-long (IsEntryOf IsNode r answered) (take count (in_order up.routes r.order)) sent.entries sent.each in
         let grew : length before ≡ length old.trace + length sent.entries = ap length sent.grew ∙ length-append old.trace sent.entries in
-        let same : length up.routes ≡ length h.routes = ap length (routes_same r h.routes h.command h.drivable up.routes up.drivable.is_covered.routes_are) in
+        let same : length up.routes ≡ length h.routes = ap length (routes_same r h.routes h.command h.drivable up.routes (covered_routes r up.routes up.command up.drivable.is_covered)) in
         h.willing (length before) (omega (arith, grew)) (omega (arith, grew, many, taken, within, in_all, same)) ending (up.allowed (length before) (ap length is ∙ length_push before last))
 
     pub headline_fault : (fault : DriveFault) (count : ℕ) → IsFault IsNode step r old new may_refuse fault count → fault ≡ Memory

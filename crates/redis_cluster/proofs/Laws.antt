@@ -5,7 +5,7 @@ use Rattle.std.proofs.lemmas.List.Sums.{sum_by-cons}
 use Rattle.std.proofs.lemmas.List.{append-nil}
 use Rattle.cluster_slots.specs.Address.{Address}
 use Rattle.redis_cluster.specs.Trace.{Entry, Ending, answered, refused, redirected, lost, entry}
-use Rattle.redis_cluster.specs.Attempts.{Try, is_answered, HaveOneAnswer, refusals, last_or, last_ending, next_place, next_address, AreBegun, IsTried}
+use Rattle.redis_cluster.specs.Attempts.{Try, is_answered, HaveOneAnswer, refusals, last_or, last_ending, next_place, next_address, AreBegun, AttemptsOf}
 use Rattle.redis_cluster.proofs.Constructors.{same_some, none_apart}
 
 -- nothing comes behind an answer
@@ -49,7 +49,7 @@ same_entry : (e : Entry) (n : Address) (a : List (List ℕ)) (x : Ending) → e.
 same_entry e n a x p q r = λ i. record { node = p i; args = q i; ending = r i }
 
 -- without retries there is one entry, at the first place
-pub tried_once : (try : Try) (x : Ending) (first : Address) (rest : List Address) (old new : List Entry) → try.retries ≡ 0 → try.places ≡ first ∷ rest → IsTried try (Some x) old new → new ≡ old ++ entry first try.part x ∷ []
+pub tried_once : (try : Try) (x : Ending) (first : Address) (rest : List Address) (old new : List Entry) → try.retries ≡ 0 → try.places ≡ first ∷ rest → AttemptsOf try (Some x) old new → new ≡ old ++ entry first try.part x ∷ []
 tried_once try x first rest old new none places h = h.grew ∙ ap (λ es. old ++ es) (single h.attempts h.ended.0.begun h.ended.1)
   where
     single : (es : List Entry) → AreBegun try es → last_ending es ≡ Some x → es ≡ entry first try.part x ∷ []
@@ -60,7 +60,7 @@ tried_once try x first rest old new none places h = h.grew ∙ ap (λ es. old ++
         ap (λ y. y ∷ []) (same_entry e first try.part x (sym (same_some first e.node node)) (b.part 0 e (omega arith)) (same_some e.ending x l))
 
 -- and none where memory ran out
-pub tried_none : (try : Try) (old new : List Entry) → try.retries ≡ 0 → IsTried try None old new → new ≡ old
+pub tried_none : (try : Try) (old new : List Entry) → try.retries ≡ 0 → AttemptsOf try None old new → new ≡ old
 tried_none try old new none h = h.grew ∙ ap (λ es. old ++ es) (empty h.attempts h.ended.fewer) ∙ append-nil old
   where
     empty : (es : List Entry) → length es ≤ try.retries → es ≡ []

@@ -33,6 +33,7 @@ pub mod Headline
 pub mod Covered
 pub mod Telling
 pub mod Allowed
+pub mod Frame
 pub mod Trying
 pub mod Tries
 pub mod Laws

@@ -1,5 +1,5 @@
 -- A plan that was made of a multi-key command has a part for each slot of its keys, and a node for each.
-use Rattle.std.proofs.Common.{◌≡◌, ℕ, true, List, [], ◌∷◌, Some, option_map, All, sym, ap, ◌∙◌, map}
+use Rattle.std.proofs.Common.{◌≡◌, ℕ, true, List, [], ◌∷◌, Some, All, sym, ap, ◌∙◌, map}
 use Rattle.std.specs.List.{AllZip, list_any, zip}
 use Rattle.std.specs.Prelude.{IfSome, nat_eq}
 use Rattle.std.proofs.lemmas.List.Elements.{All-head, All-tail, All-map, All-weaker}
@@ -16,10 +16,10 @@ use Rattle.redis_routing.specs.Parts.{part_of_slot}
 use Rattle.redis_routing.specs.Split.{Split, IsSplit, HasJoiningPolicy, split_part, policy_by_name, slots_of}
 use Rattle.redis_cluster.specs.MultiKey.{MultiKey, form_by_policy, multi_key, part_by_slot, part_of}
 use Rattle.redis_cluster.specs.PlacedTuples.{tuples_of}
-use Rattle.redis_cluster.proofs.CommandParts.{part_by_command, routes_are}
+use Rattle.redis_cluster.proofs.CommandParts.{part_by_command, routes_by_command}
 use Rattle.redis_cluster.proofs.SplitParts.{command_of_routes, is_made, part_means, pattern_made, policy_made}
 use Rattle.redis_cluster.specs.Driven.{Request}
-use Rattle.redis_cluster.specs.Plan.{Plan, IsPlan}
+use Rattle.redis_cluster.specs.Plan.{Plan, IsRoutedPlan}
 use Rattle.redis_cluster.specs.Sends.{IsPlanOf}
 use Rattle.redis_cluster.specs.Ready.{IsTarget, IsReady}
 use Rattle.redis_cluster.proofs.Constructors.{same_some, same_head, same_tail}
@@ -50,7 +50,7 @@ pub joining_routes : (names : Names) (args : Arguments) (split : Split) → Some
 joining_routes names args split routes policy held = rw (← routes) (joining names args split policy held)
 
 module _ (names : Names) (args : Arguments) (plan : Plan) (arguments : plan.split.arguments ≡ args) (routes : Some plan.split.routes ≡ multi_slot_routes names args)
-    (pattern : Some plan.split.pattern ≡ pattern_by_name names.registered (command_name args)) (policy : Some plan.split.policy ≡ policy_by_name names.registered (command_name args)) (whole : IsPlan plan) where
+    (pattern : Some plan.split.pattern ≡ pattern_by_name names.registered (command_name args)) (policy : Some plan.split.policy ≡ policy_by_name names.registered (command_name args)) (whole : IsRoutedPlan plan) where
   abbrev registry : Registrations
   registry = names.registered
 
@@ -92,7 +92,7 @@ targets_by IsNode asked part_at (r ∷ routes) (n ∷ nodes) (p ∷ parts) same 
     ((each.0, same_head parts_are ∙ same r.0.slot), targets_by IsNode asked part_at routes nodes parts same each.1 (same_tail parts_are))
 
 pub ready : (IsNode : SlotRoute → Address → Type 0) (r : Request) (plan : Plan) → plan.split.arguments ≡ r.arguments → Some plan.split.routes ≡ multi_slot_routes r.names r.arguments
-    → Some plan.split.pattern ≡ pattern_by_name r.names.registered (command_name r.arguments) → Some plan.split.policy ≡ policy_by_name r.names.registered (command_name r.arguments) → IsPlan plan
+    → Some plan.split.pattern ≡ pattern_by_name r.names.registered (command_name r.arguments) → Some plan.split.policy ≡ policy_by_name r.names.registered (command_name r.arguments) → IsRoutedPlan plan
     → AllZip (λ t a. IsNode t.0 a) plan.split.routes plan.nodes → All (λ t. IsCovered r.map t.0.slot) plan.split.routes → (command : MultiKey) × IsReady IsNode r plan command
 ready IsNode r plan arguments routes pattern policy whole nodes covered =
     let registry = r.names.registered in
@@ -100,9 +100,11 @@ ready IsNode r plan arguments routes pattern policy whole nodes covered =
       found.0,
       record {
         plan_is = found.2;
-        command_is = found.1;
-        routes_are = sym (routes_are r.names r.arguments (joining_routes r.names r.arguments plan.split routes policy whole.split)) ∙ ap (λ o. option_map (map (λ t. t.0)) o) (sym routes);
-        covered = All-map (λ (route : SlotRoute). IsCovered r.map route.slot) (λ t. t.0) plan.split.routes covered;
+        is_covered = record {
+          command_is = found.1;
+          routes_are = routes_by_command r.names r.arguments found.0 plan.split.routes found.1 (sym routes);
+          covered = All-map (λ (route : SlotRoute). IsCovered r.map route.slot) (λ t. t.0) plan.split.routes covered;
+        };
         targets_are = targets_by IsNode r (split_part plan.split) plan.split.routes plan.nodes plan.parts (λ slot. part_is registry r.arguments plan.split slot arguments pattern ∙ part_by_command registry r.arguments found.0 slot found.1) nodes whole.parts;
       },
     )

@@ -23,7 +23,7 @@ use Rattle.std.specs.Option.{option_to_list}
 use Rattle.std.proofs.lemmas.List.{map_push}
 use Rattle.std.proofs.Common.{append_assoc, ◌++◌}
 use Rattle.redis_cluster.proofs.Once.{times_more, times-take, names_once-apart}
-use Rattle.redis_cluster.specs.Sends.{Target, IsLeftAt}
+use Rattle.redis_cluster.specs.Sends.{Target, SlotsTookEffect}
 use Rattle.redis_cluster.proofs.Constructors.{same_some, same_head, same_tail}
 
 -- the slot of a route, and where its part goes, which is that of the slot
@@ -202,7 +202,7 @@ all_some_told (r ∷ replies) each =
 
 -- the keyspace is that of the parts before it, or where the reply was lost that of one part more
 pub left_at : {C : Type 0} (step : Step C) (act : Act C) (tuples : List KeyTuple) (part : MultiKey) (slots more : List ℕ) (old mid new : Keyspace C) (ending : Option Ending) → mid ≡ after act (tuples_of_slots slots tuples) old
-    → keyspace_after step part mid ≡ after act (tuples_of_slots more tuples) old → IsLeft step part mid new ending → IsLeftAt act tuples slots more old new ending
+    → keyspace_after step part mid ≡ after act (tuples_of_slots more tuples) old → IsLeft step part mid new ending → SlotsTookEffect act tuples slots more old new ending
 left_at step act tuples part slots more old mid new None was next left = left ∙ was
 left_at step act tuples part slots more old mid new (Some answered) was next left = left ∙ was
 left_at step act tuples part slots more old mid new (Some (refused error)) was next left = left ∙ was

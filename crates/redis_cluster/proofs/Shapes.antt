@@ -7,7 +7,7 @@ use Rattle.std.proofs.lemmas.Bool.Decides.{nat_tests}
 use Rattle.redis_routing.specs.Tuples.{is_complete, keys_alone, keys_and_values, keys_and_two, shared_in}
 use Rattle.redis_routing.specs.declared.route_by.MultiSlotArgPattern.{MultiSlotArgPattern}
 use Rattle.redis_routing.specs.declared.route_by.MultiSlotArgPattern.TheVariants.{KeysOnly, KeyValuePairs, KeysAndLastArg, KeyWithTwoArgTriples}
-use Rattle.redis_cluster.specs.MultiKey.{KeyTuple, is_whole, shape_of, shared_by, tuples_by}
+use Rattle.redis_cluster.specs.MultiKey.{KeyTuple, is_whole, shape_of, tuples_by}
 use Rattle.redis_cluster.specs.PlacedTuples.{unplaced, tuples_of}
 
 -- a tuple by its arguments
@@ -69,7 +69,7 @@ tuples_are_placed KeyWithTwoArgTriples present complete =
     sym (ap (λ xs. map unplaced (keys_and_two 0 xs)) all ∙ triples ((length present - 0) / 3) 0 present (omega (arith, third)))
 
 -- and what they share
-pub shared_is : (pattern : MultiSlotArgPattern) (present : List (List ℕ)) → is_complete pattern (length present) ≡ true → shared_by (shape_of pattern) present ≡ slice_get (shared_in pattern present) 0
+pub shared_is : (pattern : MultiSlotArgPattern) (present : List (List ℕ)) → is_complete pattern (length present) ≡ true → slice_get present (length present - (shape_of pattern).shared) ≡ slice_get (shared_in pattern present) 0
 shared_is KeysOnly present complete = ap (slice_get present) (omega arith) ∙ sym (get_after (length present) present)
 shared_is KeyValuePairs present complete = ap (slice_get present) (omega arith) ∙ sym (get_after (length present) present)
 shared_is KeysAndLastArg present complete = sym (ap (λ some. slice_get (drop (cond some (length present - 1) (length present)) present) 0) complete ∙ get_after (length present - 1) present)

@@ -1,5 +1,5 @@
 -- The parts of a multi-key command: the part of a slot means the command with that slot's tuples alone, and each slot of a key has one route.
-use Rattle.std.proofs.Common.{◌≡◌, ℕ, ◌<◌, ◌≤◌, List, [], ◌∷◌, ◌++◌, Bool, true, false, cond, ◌||◌, Option, None, Some, map, length, get_or, refl, sym, ap, ◌∙◌, subst, arith}
+use Rattle.std.proofs.Common.{◌≡◌, ℕ, ◌-◌, ◌<◌, ◌≤◌, List, [], ◌∷◌, ◌++◌, Bool, true, false, cond, ◌||◌, Option, None, Some, map, length, get_or, refl, sym, ap, ◌∙◌, subst, arith}
 use Rattle.std.specs.Prelude.{nat_eq, count_by, option_and_then, option_map, slice_get, All}
 use Rattle.std.specs.List.{filter, list_any}
 use Rattle.std.proofs.Math.Path.{fun_ext}
@@ -30,7 +30,7 @@ use Rattle.redis_routing.proofs.Picks.{complete_fits}
 use Rattle.redis_routing.proofs.Patterns.{fits_some}
 use Rattle.redis_routing.proofs.SelfRouting.{All-first_appearances, all_there, complete_again, present_arguments-part, same_contents, shared_again, tuples_again}
 use Rattle.redis_routing.proofs.SomeRoutes.{some_route}
-use Rattle.redis_cluster.specs.MultiKey.{KeyTuple, MultiKey, ReplyForm, list, count, okay, command_with, form_by_policy, is_whole, multi_key, part_of, shape_of, shared_by, slots_in, tuples_by, tuples_of_slot}
+use Rattle.redis_cluster.specs.MultiKey.{KeyTuple, MultiKey, ReplyForm, list, count, okay, command_with, form_by_policy, is_whole, multi_key, part_of, shape_of, slots_in, tuples_by, tuples_of_slot}
 use Rattle.redis_cluster.specs.PlacedTuples.{tuples_of, unplaced}
 use Rattle.redis_cluster.proofs.Constructors.{same_some}
 use Rattle.redis_cluster.proofs.Shapes.{whole_is, tuples_are_placed, shared_is}
@@ -72,7 +72,7 @@ module _ (registry : Registrations) (args : Arguments) where
   present = present_arguments args
 
   abbrev by_parts : List ℕ → MultiSlotArgPattern → ReplyForm → MultiKey
-  by_parts name pattern form = record { name = name; registered = registered_as registry name; shared = shared_by (shape_of pattern) present; tuples = tuples_by (shape_of pattern) present; form = form }
+  by_parts name pattern form = record { name = name; registered = registered_as registry name; shared = slice_get present (length present - (shape_of pattern).shared); tuples = tuples_by (shape_of pattern) present; form = form }
 
   of_length : (command : MultiKey) (name : List ℕ) (pattern : MultiSlotArgPattern) (policy : ResponsePolicy) (form : ReplyForm)
       → command_name args ≡ Some name → split_of registry name ≡ Some (pattern, policy) → form_by_policy policy ≡ Some form
@@ -113,7 +113,7 @@ module _ (registry : Registrations) (args : Arguments) where
       ∙ ap (option_and_then (by_split command.name)) made.split
       ∙ ap (option_and_then (command_with registry command.name present pattern)) made.form
       ∙ ap (λ complete. cond complete (Some (by_parts command.name pattern command.form)) None) (whole_is pattern (length present) ∙ whole.complete)
-      ∙ ap (λ r. Some (record { name = command.name; registered = r; shared = shared_by (shape_of pattern) present; tuples = tuples_by (shape_of pattern) present; form = command.form })) (sym made.registered)
+      ∙ ap (λ r. Some (record { name = command.name; registered = r; shared = slice_get present (length present - (shape_of pattern).shared); tuples = tuples_by (shape_of pattern) present; form = command.form })) (sym made.registered)
       ∙ ap (λ s. Some (record { name = command.name; registered = command.registered; shared = s; tuples = tuples_by (shape_of pattern) present; form = command.form })) (shared_is pattern present whole.complete ∙ sym whole.shared)
       ∙ ap (λ ts. Some (record { name = command.name; registered = command.registered; shared = command.shared; tuples = ts; form = command.form })) (tuples_are_placed pattern present whole.complete ∙ sym whole.tuples)
 

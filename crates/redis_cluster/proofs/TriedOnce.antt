@@ -20,7 +20,7 @@ use Rattle.redis_cluster.specs.Plan.{Plan}
 use Rattle.redis_cluster.specs.Ready.{IsTarget, IsPlanFor, IsPlanNode}
 use Rattle.redis_cluster.specs.Retried.{AreTried, AreAllTried, EndsTried, IsRetried}
 use Rattle.redis_cluster.specs.Sends.{Target, targets}
-use Rattle.redis_cluster.specs.Tries.{tries_with, AllTried}
+use Rattle.redis_cluster.specs.Tries.{tries_with, SentInTurn}
 use Rattle.redis_cluster.specs.declared.fault.DriveFault.{DriveFault}
 use Rattle.redis_cluster.specs.declared.fault.DriveFault.TheVariants as early
 use Rattle.redis_cluster.specs.declared.fault.PlanFault.{PlanFault}
@@ -63,10 +63,7 @@ module _ (IsNode : SlotRoute → Address → Type 0) (asked : Request) where
   ends_once route (Some ending) old new (try, is, tried) = (entry is.node try.part ending, entry_once route try is ending, tried_once try ending is.node [] old new is.none is.places tried)
 
 module _ {C : Type 0} (IsNode : SlotRoute → Address → Type 0) (step : Step C) (r : Request) (old new : State C) where
-  abbrev Once : SlotRoute → Try → Type 0
-  Once = IsOnce IsNode r
-
-  pub driven_once : (value : Reply) → IsRetried Once step r old new value → IsDriven IsNode step r old new value
+  pub driven_once : (value : Reply) → IsRetried (IsOnce IsNode) step r old new value → IsDriven IsNode step r old new value
   driven_once value d = record {
     routes = d.routes;
     command = d.command;
@@ -76,7 +73,7 @@ module _ {C : Type 0} (IsNode : SlotRoute → Address → Type 0) (step : Step C
     reply = d.reply;
   }
 
-pub delivered_once : (IsNode : SlotRoute → Address → Type 0) (r : Request) (old new : List Entry) → AreAllTried (IsOnce IsNode r) r old new → IsDelivered IsNode r old new
+pub delivered_once : (IsNode : SlotRoute → Address → Type 0) (r : Request) (old new : List Entry) → AreAllTried (IsOnce IsNode) r old new → IsDelivered IsNode r old new
 delivered_once IsNode r old new d = record { routes = d.routes; command = d.command; drivable = d.drivable; trace = sent_once IsNode r (in_order d.routes r.order) old new d.trace }
 
 -- a command that has no plan has a fault that comes before the first send
@@ -99,21 +96,21 @@ module _ {C : Type 0} (step : Step C) (r : Request) (order : List ℕ) (register
   each_try = each_once IsNode r (map (λ t. t.0) plan.split.routes) (targets plan) is.0.targets_are
 
   -- what was sent of a plan, each part once
-  pub plan_tried : AllTried (in_order tries order) old.trace new.trace → AreAllTried (IsOnce IsNode r) r old.trace new.trace
+  pub plan_tried : SentInTurn (in_order tries order) old.trace new.trace → AreAllTried (IsOnce IsNode) r old.trace new.trace
   plan_tried tried = record {
     routes = map (λ t. t.0) plan.split.routes;
     command = command;
     drivable = drivable IsNode step r old new plan command is.0 names_asked;
-    trace = tried_whole IsNode step r old new plan command is.0 names_asked (IsOnce IsNode r) tries each_try (subst (λ o. AllTried (in_order tries o) old.trace new.trace) (sym is.1) tried);
+    trace = tried_whole IsNode step r old new plan command is.0 names_asked (IsOnce IsNode r) tries each_try (subst (λ o. SentInTurn (in_order tries o) old.trace new.trace) (sym is.1) tried);
   }
 
-  pub plan_driven : (value : Reply) → AllTried (in_order tries order) old.trace new.trace → new.keyspace ≡ keyspace_after step command old.keyspace → value ≡ reply_to step command old.keyspace → IsDriven IsNode step r old new value
+  pub plan_driven : (value : Reply) → SentInTurn (in_order tries order) old.trace new.trace → new.keyspace ≡ keyspace_after step command old.keyspace → value ≡ reply_to step command old.keyspace → IsDriven IsNode step r old new value
   plan_driven value tried keyspace reply =
       driven_once IsNode step r old new value (record {
         routes = map (λ t. t.0) plan.split.routes;
         command = command;
         drivable = drivable IsNode step r old new plan command is.0 names_asked;
-        trace = tried_whole IsNode step r old new plan command is.0 names_asked (IsOnce IsNode r) tries each_try (subst (λ o. AllTried (in_order tries o) old.trace new.trace) (sym is.1) tried);
+        trace = tried_whole IsNode step r old new plan command is.0 names_asked (IsOnce IsNode r) tries each_try (subst (λ o. SentInTurn (in_order tries o) old.trace new.trace) (sym is.1) tried);
         keyspace = keyspace;
         reply = reply;
       })
@@ -131,7 +128,7 @@ pub bad_order : (r : Request) (order : List ℕ) (registered : Registrations) (p
 bad_order r order registered plan command is not = (
   map (λ t. t.0) plan.split.routes,
   command,
-  record { routes_are = is.0.routes_are; command_is = is.0.command_is; covered = is.0.covered },
+  is.0.is_covered,
   λ names. not (subst (λ n. NamesOnce n order) (length-map plan.split.routes (λ t. t.0)) (subst (λ o. NamesOnce (length (map (λ t. t.0) plan.split.routes)) o) is.1 names)),
 )
 

@@ -6,10 +6,10 @@ use Rattle.resp_core.proofs.Cases.{by_test}
 use Rattle.redis_cluster.specs.Orders.{times}
 use Rattle.redis_cluster.specs.Trace.{Entry, Ending, answered}
 use Rattle.redis_cluster.proofs.Once.{times_more}
-use Rattle.redis_cluster.specs.Attempts.{Try, IsTried, IsCause}
+use Rattle.redis_cluster.specs.Attempts.{Try, AttemptsOf, IsCause}
 use Rattle.redis_cluster.specs.Retry.{Attempt}
 use Rattle.redis_cluster.specs.Sends.{Target}
-use Rattle.redis_cluster.specs.Tries.{try_with, tries_with, AllTried}
+use Rattle.redis_cluster.specs.Tries.{try_with, tries_with, SentInTurn}
 use Rattle.redis_cluster.proofs.Constructors.{same_some}
 
 -- what holds of each holds of the one at a place
@@ -38,11 +38,11 @@ tries_many (t ∷ targets) [] = ap suc (tries_many targets [])
 tries_many (t ∷ targets) (r ∷ retries) = ap suc (tries_many targets retries)
 
 -- one route more was tried
-pub tried_more : (tries more : List Try) (try : Try) (old mid new : List Entry) → AllTried tries old mid → IsTried try (Some answered) mid new → more ≡ tries ++ try ∷ [] → AllTried more old new
-tried_more tries more try old mid new before last is = subst (λ ts. AllTried ts old new) (sym is) (pushed tries old before)
+pub tried_more : (tries more : List Try) (try : Try) (old mid new : List Entry) → SentInTurn tries old mid → AttemptsOf try (Some answered) mid new → more ≡ tries ++ try ∷ [] → SentInTurn more old new
+tried_more tries more try old mid new before last is = subst (λ ts. SentInTurn ts old new) (sym is) (pushed tries old before)
   where
-    pushed : (ts : List Try) (from : List Entry) → AllTried ts from mid → AllTried (ts ++ try ∷ []) from new
-    pushed [] from e = (new, subst (λ m. IsTried try (Some answered) m new) e last, refl)
+    pushed : (ts : List Try) (from : List Entry) → SentInTurn ts from mid → SentInTurn (ts ++ try ∷ []) from new
+    pushed [] from e = (new, subst (λ m. AttemptsOf try (Some answered) m new) e last, refl)
     pushed (t ∷ ts) from e = (e.0, e.1, pushed ts e.0 e.2)
 
 -- the retries of the others are as they were

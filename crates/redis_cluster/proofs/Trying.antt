@@ -11,12 +11,12 @@ use Rattle.redis_cluster.specs.Trace.{Entry, Ending, answered, refused, redirect
 use Rattle.redis_routing.specs.declared.info.Redirect.{Redirect}
 use Rattle.redis_cluster.specs.Retry.{Attempt, FollowsRedirect, FallsBack}
 use Rattle.redis_cluster.specs.Sent.{IsUnanswered}
-use Rattle.redis_cluster.specs.Attempts.{Try, is_refused, refusals, last_or, last_ending, next_place, next_address, AreBegun, IsTried, IsCause}
+use Rattle.redis_cluster.specs.Attempts.{Try, is_refusal, refusals, last_or, last_ending, next_place, next_address, AreBegun, AttemptsOf, IsCause}
 use Rattle.redis_cluster.specs.Tries.{try_once}
 use Rattle.redis_cluster.proofs.Constructors.{same_some}
 
 -- a part that is sent once, whatever comes of it
-pub tried_alone : (node : Address) (part : List (List ℕ)) (x : Ending) (old new : List Entry) → new ≡ old ++ entry node part x ∷ [] → IsTried (try_once node part) (Some x) old new
+pub tried_alone : (node : Address) (part : List (List ℕ)) (x : Ending) (old new : List Entry) → new ≡ old ++ entry node part x ∷ [] → AttemptsOf (try_once node part) (Some x) old new
 tried_alone node part x old new grew = record {
   attempts = entry node part x ∷ [];
   grew = grew;
@@ -34,7 +34,7 @@ tried_alone node part x old new grew = record {
     first (suc number) e at = absurd (cc)
 
 -- or whose send found no memory
-pub tried_not : (node : Address) (part : List (List ℕ)) (old new : List Entry) → new ≡ old → IsTried (try_once node part) None old new
+pub tried_not : (node : Address) (part : List (List ℕ)) (old new : List Entry) → new ≡ old → AttemptsOf (try_once node part) None old new
 tried_not node part old new same = record {
   attempts = [];
   grew = same ∙ sym (append-nil old);
@@ -45,7 +45,7 @@ tried_not node part old new same = record {
   };
 }
 
-pub tried_so : (may_refuse : ℕ → Ending → Type 0) (old new : List Entry) (mark : Bool) (node : Address) (part : List (List ℕ)) (ending : Option Ending) → IsUnanswered may_refuse old new mark node part ending → IsTried (try_once node part) ending old new
+pub tried_so : (may_refuse : ℕ → Ending → Type 0) (old new : List Entry) (mark : Bool) (node : Address) (part : List (List ℕ)) (ending : Option Ending) → IsUnanswered may_refuse old new mark node part ending → AttemptsOf (try_once node part) ending old new
 tried_so may_refuse old new mark node part None h = tried_not node part old new h.0
 tried_so may_refuse old new mark node part (Some x) h = tried_alone node part x old new h.1
 
@@ -84,8 +84,8 @@ pub last_push : (was : Option Ending) (es : List Entry) (e : Entry) → last_or 
 last_push was [] e = refl
 last_push was (x ∷ es) e = last_push (Some x.ending) es e
 
-refusals_push : (es : List Entry) (e : Entry) → refusals (es ++ e ∷ []) ≡ refusals es + cond (is_refused e.ending) 1 0
-refusals_push es e = sum_by_push (λ x. cond (is_refused x.ending) 1 0) es e
+refusals_push : (es : List Entry) (e : Entry) → refusals (es ++ e ∷ []) ≡ refusals es + cond (is_refusal e.ending) 1 0
+refusals_push es e = sum_by_push (λ x. cond (is_refusal x.ending) 1 0) es e
 
 drop_head : {X : Type 0} (n : ℕ) (xs : List X) (x : X) (ys : List X) → drop n xs ≡ x ∷ ys → (slice_get xs n ≡ Some x) × (ys ≡ drop (suc n) xs)
 drop_head zero [] x ys h = absurd (cc)
@@ -124,7 +124,7 @@ module _ (try : Try) (old mid new : List Entry) (retry : Attempt) (node : Addres
   last : (x : Ending) → last_ending (h.attempts ++ entry node try.part x ∷ []) ≡ Some x
   last x = last_push None h.attempts (entry node try.part x)
 
-  ends : (x : Ending) → new ≡ mid ++ entry node try.part x ∷ [] → ((next_address try.places (h.attempts ++ entry node try.part x ∷ []) ≡ None) ⊎ (retry.left ≡ 0)) → IsTried try (Some x) old new
+  ends : (x : Ending) → new ≡ mid ++ entry node try.part x ∷ [] → ((next_address try.places (h.attempts ++ entry node try.part x ∷ []) ≡ None) ⊎ (retry.left ≡ 0)) → AttemptsOf try (Some x) old new
   ends x e done =
       record {
         attempts = h.attempts ++ entry node try.part x ∷ [];
@@ -139,15 +139,15 @@ module _ (try : Try) (old mid new : List Entry) (retry : Attempt) (node : Addres
       }
 
   -- after an answer
-  pub answers : new ≡ mid ++ entry node try.part answered ∷ [] → IsTried try (Some answered) old new
+  pub answers : new ≡ mid ++ entry node try.part answered ∷ [] → AttemptsOf try (Some answered) old new
   answers e = ends answered e (inl (ap (next_place try.places (refusals (h.attempts ++ entry node try.part answered ∷ []))) (last answered)))
 
   -- after a lost reply
-  pub loses : (error : ErrorParts) → new ≡ mid ++ entry node try.part (lost error) ∷ [] → IsTried try (Some (lost error)) old new
+  pub loses : (error : ErrorParts) → new ≡ mid ++ entry node try.part (lost error) ∷ [] → AttemptsOf try (Some (lost error)) old new
   loses error e = ends (lost error) e (inl (ap (next_place try.places (refusals (h.attempts ++ entry node try.part (lost error) ∷ []))) (last (lost error))))
 
   -- after a redirect that can't be followed
-  pub redirects_last : (r : Redirect) → new ≡ mid ++ entry node try.part (redirected r) ∷ [] → retry.left ≡ 0 → IsTried try (Some (redirected r)) old new
+  pub redirects_last : (r : Redirect) → new ≡ mid ++ entry node try.part (redirected r) ∷ [] → retry.left ≡ 0 → AttemptsOf try (Some (redirected r)) old new
   redirects_last r e none = ends (redirected r) e (inr none)
 
   refused_next : (error : ErrorParts) → next_address try.places (h.attempts ++ entry node try.part (refused error) ∷ []) ≡ slice_get try.places (refusals h.attempts + 1)
@@ -156,7 +156,7 @@ module _ (try : Try) (old mid new : List Entry) (retry : Attempt) (node : Addres
       ∙ ap (slice_get try.places) (refusals_push h.attempts (entry node try.part (refused error)))
 
   -- after a refusal with no target left
-  pub refuses_last : (error : ErrorParts) → new ≡ mid ++ entry node try.part (refused error) ∷ [] → ((retry.left ≡ 0) ⊎ (retry.fallback ≡ [])) → IsTried try (Some (refused error)) old new
+  pub refuses_last : (error : ErrorParts) → new ≡ mid ++ entry node try.part (refused error) ∷ [] → ((retry.left ≡ 0) ⊎ (retry.fallback ≡ [])) → AttemptsOf try (Some (refused error)) old new
   refuses_last error e none =
       ends (refused error) e (elim none [
         | inl w ↦ inr w
@@ -195,7 +195,7 @@ module _ (try : Try) (old mid new : List Entry) (retry : Attempt) (node : Addres
       }
 
 -- where memory ran out before the next attempt
-pub stays : (try : Try) (old mid new : List Entry) (retry : Attempt) → IsTrying try old mid retry → new ≡ mid → IsTried try None old new
+pub stays : (try : Try) (old mid new : List Entry) (retry : Attempt) → IsTrying try old mid retry → new ≡ mid → AttemptsOf try None old new
 stays try old mid new retry h e =
     record {
       attempts = h.attempts;

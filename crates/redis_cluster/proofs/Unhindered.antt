@@ -10,12 +10,13 @@ use Rattle.redis_cluster.specs.MultiKey.{MultiKey}
 use Rattle.redis_cluster.specs.Orders.{in_order}
 use Rattle.redis_cluster.specs.Trace.{Entry, Ending, answered}
 use Rattle.redis_cluster.specs.Unsplit.{Step}
-use Rattle.redis_cluster.specs.Attempts.{Try, refusals, last_ending, next_place, next_address, AreBegun, AreAllowed, IsTried}
+use Rattle.redis_cluster.specs.Attempts.{Try, refusals, last_ending, next_place, next_address, AreBegun, AreAllowed, AttemptsOf}
 use Rattle.redis_cluster.specs.Driven.{Request, IsDrivable, IsEntryOf, IsDelivered, AreAllAnswered, AreWilling, IsUnhindered}
 use Rattle.redis_cluster.specs.State.{State}
 use Rattle.redis_cluster.specs.Retried.{IsTryOf, AreTried, AreAllTried, EndsTried, IsRetryFault}
 use Rattle.redis_cluster.specs.declared.fault.DriveFault.{DriveFault}
 use Rattle.redis_cluster.specs.declared.fault.DriveFault.TheVariants.{Memory}
+use Rattle.redis_cluster.proofs.CommandParts.{covered_routes}
 use Rattle.redis_cluster.proofs.Constructors.{same_some, none_apart}
 use Rattle.redis_cluster.proofs.Once.{length-names_once}
 use Rattle.redis_cluster.proofs.Orders.{length-in_order}
@@ -47,7 +48,7 @@ module _ (IsTry : SlotRoute → Try → Type 0) where
       (first.attempts ++ later.0, later.1 ∙ ap (λ es. es ++ later.0) first.grew ∙ append_assoc old first.attempts later.0)
 
   -- the entries behind those of the first attempts
-  behind_first : (route : SlotRoute) (routes : List SlotRoute) (old m mid rest entries : List Entry) (try : Try) (first : IsTried try (Some answered) old m) (later : AreTried IsTry routes m mid) → mid ++ rest ≡ old ++ entries
+  behind_first : (route : SlotRoute) (routes : List SlotRoute) (old m mid rest entries : List Entry) (try : Try) (first : AttemptsOf try (Some answered) old m) (later : AreTried IsTry routes m mid) → mid ++ rest ≡ old ++ entries
       → entries ≡ first.attempts ++ ((grows routes m mid later).0 ++ rest)
   behind_first route routes old m mid rest entries try first later same =
       let more = grows routes m mid later in
@@ -69,7 +70,7 @@ module _ (IsTry : SlotRoute → Try → Type 0) where
 
 module _ (IsNode : SlotRoute → Address → Type 0) (r : Request) (retries : ℕ) where
   -- the one attempt of a route is its part, at its node
-  one_entry : (route : SlotRoute) (try : Try) → IsTryOf IsNode r retries route try → (es : List Entry) → AreBegun try es → last_ending es ≡ Some answered → AreFirstAnswered 1 es → (e : Entry) × (es ≡ e ∷ []) × IsEntryOf IsNode r answered route e
+  one_entry : (route : SlotRoute) (try : Try) → IsTryOf IsNode retries r route try → (es : List Entry) → AreBegun try es → last_ending es ≡ Some answered → AreFirstAnswered 1 es → (e : Entry) × (es ≡ e ∷ []) × IsEntryOf IsNode r answered route e
   one_entry route try is [] begun last first = absurd (none_apart answered last)
   one_entry route try is (e ∷ []) begun last first =
       let node : Some is.node ≡ Some e.node = sym (ap (λ ps. next_address ps []) is.places) ∙ begun.address 0 e refl in
@@ -77,15 +78,15 @@ module _ (IsNode : SlotRoute → Address → Type 0) (r : Request) (retries : �
   one_entry route try is (e ∷ f ∷ es) begun last first = absurd (no_more try e f es begun (first 0 e (omega arith) refl))
 
   -- routes of which each send was answered were sent once each
-  sent_alone : (routes : List SlotRoute) (old new entries : List Entry) → AreTried (IsTryOf IsNode r retries) routes old new → new ≡ old ++ entries → AreFirstAnswered (length routes) entries → AllZip (IsEntryOf IsNode r answered) routes entries
+  sent_alone : (routes : List SlotRoute) (old new entries : List Entry) → AreTried (IsTryOf IsNode retries r) routes old new → new ≡ old ++ entries → AreFirstAnswered (length routes) entries → AllZip (IsEntryOf IsNode r answered) routes entries
   sent_alone [] old new entries tried grew were =
       let none : entries ≡ [] = append_cancel_left old entries [] (sym grew ∙ tried ∙ sym (append-nil old)) in
       subst (λ es. AllZip (IsEntryOf IsNode r answered) [] es) (sym none) tt
   sent_alone (route ∷ routes) old new entries (try, m, is, first, later) grew were =
-      let more = grows (IsTryOf IsNode r retries) routes m new later in
+      let more = grows (IsTryOf IsNode retries r) routes m new later in
       let whole : new ++ [] ≡ old ++ entries = append-nil new ∙ grew in
       let tail : more.0 ++ [] ≡ more.0 = append-nil more.0 in
-      let all : entries ≡ first.attempts ++ more.0 = behind_first (IsTryOf IsNode r retries) route routes old m new [] entries try first later whole ∙ ap (λ es. first.attempts ++ es) tail in
+      let all : entries ≡ first.attempts ++ more.0 = behind_first (IsTryOf IsNode retries r) route routes old m new [] entries try first later whole ∙ ap (λ es. first.attempts ++ es) tail in
       let one = one_entry route try is first.attempts first.ended.0.begun first.ended.1
       (λ number e below at. were number e (omega (arith, below)) (ap (λ es. slice_get es number) all ∙ at_front first.attempts more.0 number e at)) in
       let front : entries ≡ one.0 ∷ more.0 = all ∙ ap (λ es. es ++ more.0) one.1 in
@@ -97,23 +98,23 @@ were_willing : (may_refuse : ℕ → Ending → Type 0) (old new : List Entry) (
 were_willing may_refuse old new many are willing number e below at =
     ⊎_elim (λ is. is) (λ may. willing (length old + number) (omega arith) (omega (arith, below)) e.ending may) (are.each number e at)
 
-module _ {C : Type 0} (IsTry : SlotRoute → Try → Type 0) (step : Step C) (r : Request) (old new : State C) (may_refuse : ℕ → Ending → Type 0) where
+module _ {C : Type 0} (IsTry : Request → SlotRoute → Try → Type 0) (step : Step C) (r : Request) (old new : State C) (may_refuse : ℕ → Ending → Type 0) where
   module _ (asked : List SlotRoute) (command : MultiKey) (can : IsDrivable r asked command) (entries : List Entry) (grew : new.trace ≡ old.trace ++ entries) (were : AreFirstAnswered (length asked) entries) (count : ℕ) where
-    must_answer : (ending : Ending) → ReachedUpTo (AreTried IsTry) (EndsTried IsTry) r old new may_refuse count ending → ending ≡ answered
+    must_answer : (ending : Ending) → ReachedUpTo (AreTried (IsTry r)) (EndsTried (IsTry r)) r old new may_refuse count ending → ending ≡ answered
     must_answer ending up =
         let (route, before, next, first_tried, (try, is_try, tried)) = up.went in
         let order = up.drivable.order in
         let first = take count (in_order up.routes r.order) in
-        let same : length up.routes ≡ length asked = ap length (routes_same r asked command can up.routes up.drivable.is_covered.routes_are) in
+        let same : length up.routes ≡ length asked = ap length (routes_same r asked command can up.routes (covered_routes r up.routes up.command up.drivable.is_covered)) in
         let in_all : length (in_order up.routes r.order) ≡ length up.routes = length-in_order up.routes r.order order.below ∙ length-names_once (length up.routes) r.order order in
         let within : count < length (in_order up.routes r.order) = slice_get_within (in_order up.routes r.order) count route next in
         let taken : length first ≡ count = length-take-le count (in_order up.routes r.order) (omega (arith, within)) in
-        let last : AreFirstAnswered 1 tried.attempts = behind IsTry first old.trace before tried.attempts entries 1 first_tried (sym tried.grew ∙ grew)
+        let last : AreFirstAnswered 1 tried.attempts = behind (IsTry r) first old.trace before tried.attempts entries 1 first_tried (sym tried.grew ∙ grew)
         (λ number e below at. were number e (omega (arith, below, taken, within, in_all, same)) at) in
         (one_alone try ending tried.attempts tried.ended.0.begun tried.ended.1 last).2
 
     memory_alone : (fault : DriveFault) → IsRetryFault IsTry step r old new may_refuse fault count → fault ≡ Memory
-    memory_alone fault f = only_memory (AreTried IsTry) (EndsTried IsTry) r old new may_refuse count asked command can step fault f must_answer
+    memory_alone fault f = only_memory (AreTried (IsTry r)) (EndsTried (IsTry r)) r old new may_refuse count asked command can step fault f must_answer
 
   pub headline_retried : IsUnhindered may_refuse r old.trace → AreAllowed may_refuse old.trace new.trace → (fault : DriveFault) (count : ℕ) → IsRetryFault IsTry step r old new may_refuse fault count → fault ≡ Memory
   headline_retried h are fault count = memory_alone h.routes h.command h.drivable are.entries are.grew (were_willing may_refuse old.trace new.trace (length h.routes) are h.willing) count fault
@@ -122,10 +123,10 @@ module _ {C : Type 0} (IsTry : SlotRoute → Try → Type 0) (step : Step C) (r 
   carried_retried asked command can (entries, grew, all) fault count = memory_alone asked command can entries grew (λ number e below at. all_at (λ (x : Entry). x.ending ≡ answered) entries number e all at) count fault
 
 -- what was tried where no node may refuse was delivered
-pub delivered_alone : (IsNode : SlotRoute → Address → Type 0) (r : Request) (retries : ℕ) (old new : List Entry) (may_refuse : ℕ → Ending → Type 0) → IsUnhindered may_refuse r old → AreAllowed may_refuse old new → AreAllTried (IsTryOf IsNode r retries) r old new → IsDelivered IsNode r old new
+pub delivered_alone : (IsNode : SlotRoute → Address → Type 0) (r : Request) (retries : ℕ) (old new : List Entry) (may_refuse : ℕ → Ending → Type 0) → IsUnhindered may_refuse r old → AreAllowed may_refuse old new → AreAllTried (IsTryOf IsNode retries) r old new → IsDelivered IsNode r old new
 delivered_alone IsNode r retries old new may_refuse h are d =
     let order = d.drivable.order in
-    let same : length d.routes ≡ length h.routes = ap length (routes_same r h.routes h.command h.drivable d.routes d.drivable.is_covered.routes_are) in
+    let same : length d.routes ≡ length h.routes = ap length (routes_same r h.routes h.command h.drivable d.routes (covered_routes r d.routes d.command d.drivable.is_covered)) in
     let in_all : length (in_order d.routes r.order) ≡ length d.routes = length-in_order d.routes r.order order.below ∙ length-names_once (length d.routes) r.order order in
     let were = were_willing may_refuse old new (length h.routes) are h.willing in
     record {

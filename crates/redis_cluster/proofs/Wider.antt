@@ -8,13 +8,11 @@ use Rattle.cluster_slots.specs.SlotRoute.{SlotRoute}
 use Rattle.redis_cluster.specs.Orders.{in_order}
 use Rattle.redis_cluster.specs.Trace.{Entry, Ending, answered}
 use Rattle.redis_cluster.specs.Unsplit.{Step}
-use Rattle.redis_cluster.specs.Attempts.{Try}
 use Rattle.redis_cluster.specs.Driven.{Request, IsEntryOf, AreSent, IsDelivered, IsDriven}
 use Rattle.redis_cluster.specs.State.{State}
 use Rattle.redis_cluster.specs.Faults.{EndsOnce, IsFault, IsCut, Reach, WentOut, WereCutShort, whole, up_to}
 use Rattle.redis_cluster.specs.Plan.{Plan}
 use Rattle.redis_cluster.specs.Ready.{IsPlanNode}
-use Rattle.redis_cluster.specs.Retried.{IsTryOf, AreTried, AreAllTried}
 use Rattle.redis_cluster.specs.declared.fault.DriveFault.{DriveFault}
 use Rattle.redis_cluster.proofs.Constructors.{none_apart, same_some}
 
@@ -70,16 +68,6 @@ module _ (P Q : SlotRoute → Address → Type 0) (wider : (route : SlotRoute) (
 
   pub delivered_at : (r : Request) (old new : List Entry) → IsDelivered P r old new → IsDelivered Q r old new
   delivered_at r old new d = record { routes = d.routes; command = d.command; drivable = d.drivable; trace = sent_at r _ old new d.trace }
-
-  try_at : (r : Request) (retries : ℕ) (route : SlotRoute) (try : Try) → IsTryOf P r retries route try → IsTryOf Q r retries route try
-  try_at r retries route try is = record { part = is.part; node = is.node; is_node = wider route is.node is.is_node; fallback = is.fallback; is_fallback = is.is_fallback; places = is.places; retries_are = is.retries_are }
-
-  tries_at : (r : Request) (retries : ℕ) (routes : List SlotRoute) (old new : List Entry) → AreTried (IsTryOf P r retries) routes old new → AreTried (IsTryOf Q r retries) routes old new
-  tries_at r retries [] old new same = same
-  tries_at r retries (route ∷ routes) old new (try, mid, is, first, rest) = (try, mid, try_at r retries route try is, first, tries_at r retries routes mid new rest)
-
-  pub tried_at : (r : Request) (retries : ℕ) (old new : List Entry) → AreAllTried (IsTryOf P r retries) r old new → AreAllTried (IsTryOf Q r retries) r old new
-  tried_at r retries old new d = record { routes = d.routes; command = d.command; drivable = d.drivable; trace = tries_at r retries _ old new d.trace }
 
   module _ {C : Type 0} (step : Step C) (r : Request) (old new : State C) where
     pub driven_at : (value : Reply) → IsDriven P step r old new value → IsDriven Q step r old new value

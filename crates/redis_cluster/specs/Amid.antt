@@ -78,9 +78,10 @@ pub record ActsBySlot (C : Type 0) (command : MultiKey) : Type 0 where
       → ((slot : ℕ) → times slot (before slot) ≡ 0)
       → IsAssembled command (λ slot. after_parts step command (before slot) first) first
 
--- What is sent for a slot means the slot's part, and the command acts slot by slot.
-pub record PartsActBySlot (C : Type 0) (registered : Registrations) (args : Arguments)
-    (command : MultiKey) : Type 0 where
-  pub meant : All (λ slot. multi_key registered (part_by_slot registered args slot)
+-- If the arguments are a multi-key command, what is sent for a slot means the slot's part, and the
+-- command acts slot by slot.
+pub record PartsActBySlot (C : Type 0) (registered : Registrations) (args : Arguments) : Type 0 where
+  pub meant : (command : MultiKey) → multi_key registered args ≡ Some command
+      → All (λ slot. multi_key registered (part_by_slot registered args slot)
       ≡ Some (part_of command slot)) (slots_in command)
-  pub acts : ActsBySlot C command
+  pub acts : (command : MultiKey) → multi_key registered args ≡ Some command → ActsBySlot C command

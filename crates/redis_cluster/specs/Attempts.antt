@@ -13,13 +13,13 @@ pub record Try : Type 0 where
   pub places : List Address
   pub retries : ℕ
 
-abbrev pub is_refused : Ending → Bool
-is_refused (refused error) = true
-is_refused _ = false
+abbrev pub is_refusal : Ending → Bool
+is_refusal (refused error) = true
+is_refusal _ = false
 
 -- how many of the attempts were refused
 abbrev pub refusals : List Entry → ℕ
-refusals attempts = count_by (λ e. is_refused e.ending) attempts
+refusals attempts = count_by (λ e. is_refusal e.ending) attempts
 
 -- how the last of them ended, or the given ending if there are none
 abbrev pub last_or : Option Ending → List Entry → Option Ending
@@ -67,7 +67,7 @@ AreEndedSo try (Some ending) attempts =
     AreAttempts try attempts × (last_ending attempts ≡ Some ending)
 
 -- the trace grew by the attempts of a route, which ended so
-pub record IsTried (try : Try) (ending : Option Ending) (old new : List Entry) : Type 0 where
+pub record AttemptsOf (try : Try) (ending : Option Ending) (old new : List Entry) : Type 0 where
   pub attempts : List Entry
   pub grew : new ≡ old ++ attempts
   pub ended : AreEndedSo try ending attempts

@@ -25,8 +25,7 @@ pub record Request : Type 0 where
   pub order : List ℕ
 
 abbrev pub request : Arguments → Names → List (ranges.RangeEntry SlotNodes) → List ℕ → Request
-request args names entries order =
-    record { arguments = args; names = names; map = entries; order = order }
+request args names map order = record { arguments = args; names = names; map = map; order = order }
 
 -- the routes of a command, by their numbers, if it is complete
 abbrev pub command_routes_by : Names → Arguments → Option (List SlotRoute)
@@ -47,8 +46,8 @@ pub record IsFirstUncovered (entries : List (ranges.RangeEntry SlotNodes)) (rout
 -- The command is complete, with these routes, and each route's slot has a node.
 pub record IsCoveredCommand (r : Request) (routes : List SlotRoute) (command : MultiKey)
     : Type 0 where
-  pub routes_are : command_routes_by r.names r.arguments ≡ Some routes
   pub command_is : multi_key r.names.registered r.arguments ≡ Some command
+  pub routes_are : routes ≡ command_routes r.names.only_reads command
   pub covered : All (λ route. IsCovered r.map route.slot) routes
 
 -- It can be driven: the order names each of its routes once, too.
@@ -80,9 +79,9 @@ pub record IsDelivered (IsNode : SlotRoute → Address → Type 0) (r : Request)
   pub trace : AreSent IsNode r (in_order routes r.order) old new
 
 -- the keyspace is that of the tuples of these routes' slots, in the order of the arguments
-abbrev pub IsLeftBy : {C : Type 0} → Step C → (old new : State C) → MultiKey → List SlotRoute
+abbrev pub RoutesTookEffect : {C : Type 0} → Step C → (old new : State C) → MultiKey → List SlotRoute
     → Type 0
-IsLeftBy step old new command routes =
+RoutesTookEffect step old new command routes =
     new.keyspace ≡ after (act_of step command)
     (tuples_of_slots (map (λ route. route.slot) routes) command.tuples) old.keyspace
 

@@ -9,11 +9,11 @@ use Rattle.redis_cluster.specs.Trace.{Entry, Ending}
 use Rattle.redis_cluster.specs.Unsplit.{Step, Keyspace, act_of, keyspace_after}
 use Rattle.redis_cluster.specs.declared.nodes.SendError.{SendError}
 use Rattle.redis_routing.specs.Split.{slots_of}
-use Rattle.redis_cluster.specs.Attempts.{Try, IsTried, IsCause}
+use Rattle.redis_cluster.specs.Attempts.{Try, AttemptsOf, IsCause}
 use Rattle.redis_cluster.specs.Faults.{fault_of_send}
 use Rattle.redis_cluster.specs.Plan.{Plan}
-use Rattle.redis_cluster.specs.Sends.{IsPlanOf, IsLeftAt}
-use Rattle.redis_cluster.specs.Tries.{AllTried}
+use Rattle.redis_cluster.specs.Sends.{IsPlanOf, SlotsTookEffect}
+use Rattle.redis_cluster.specs.Tries.{SentInTurn}
 use Rattle.redis_cluster.specs.declared.fault.DriveFault.{DriveFault}
 use Rattle.redis_cluster.specs.declared.fault.DriveFault.TheVariants.{Memory, Reply}
 
@@ -25,13 +25,13 @@ pub record AreStopped {C : Type 0} (kept : Type 0) (step : Step C) (may_refuse :
     (old_keys new_keys : Keyspace C) (old new : List Entry) (mark : Bool)
     (ending : Option Ending) : Type 0 where
   pub before : List Entry
-  pub trace : AllTried (in_order tries (take count order)) old before
-  pub keyspace : kept → IsLeftAt (act_of step command) command.tuples
+  pub trace : SentInTurn (in_order tries (take count order)) old before
+  pub keyspace : kept → SlotsTookEffect (act_of step command) command.tuples
       (in_order (slots_of plan.split.routes) (take count order))
       (in_order (slots_of plan.split.routes) (take (count + 1) order)) old_keys new_keys ending
   pub try : Try
   pub next : slice_get (in_order tries order) count ≡ Some try
-  pub tried : IsTried try ending before new
+  pub tried : AttemptsOf try ending before new
   pub cause : IsCause may_refuse (length new) mark ending
 
 module _ {C : Type 0} (kept : Type 0) (registered : Registrations) (step : Step C) (may_refuse : ℕ → Ending → Type 0) (plan : Plan)
@@ -49,7 +49,7 @@ module _ {C : Type 0} (kept : Type 0) (registered : Registrations) (step : Step 
   pub record IsListEnded (fault : DriveFault) (count : ℕ) : Type 0 where
     pub fault_is : fault ≡ Memory
     pub count_is : count ≡ length plan.split.routes
-    pub trace : AllTried (in_order tries order) old new
+    pub trace : SentInTurn (in_order tries order) old new
     pub keyspace : (command : MultiKey) → IsPlanOf registered command plan
         → kept → new_keys ≡ keyspace_after step command old_keys
     pub form : (command : MultiKey) → IsPlanOf registered command plan → command.form ≡ list
@@ -59,7 +59,7 @@ module _ {C : Type 0} (kept : Type 0) (registered : Registrations) (step : Step 
     pub error : ErrorParts
     pub fault_is : fault ≡ Reply error
     pub count_is : count ≡ length plan.split.routes
-    pub trace : AllTried (in_order tries order) old new
+    pub trace : SentInTurn (in_order tries order) old new
     pub misfit : kept → ⊥
 
   abbrev pub AreEndedEarly : DriveFault → ℕ → Type 0

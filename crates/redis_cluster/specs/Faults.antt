@@ -14,7 +14,7 @@ use Rattle.cluster_map.specs.SlotNodes.{SlotNodes}
 use Rattle.cluster_map.specs.RangeMap as ranges
 use Rattle.redis_routing.specs.Command.{Arguments}
 use Rattle.redis_routing.specs.Names.{Names}
-use Rattle.redis_cluster.specs.Driven.{Request, command_routes_by, IsFirstUncovered, IsCoveredCommand, IsDrivable, IsEntryOf, AreSent, IsLeftBy}
+use Rattle.redis_cluster.specs.Driven.{Request, command_routes_by, IsFirstUncovered, IsCoveredCommand, IsDrivable, IsEntryOf, AreSent, RoutesTookEffect}
 use Rattle.redis_cluster.specs.State.{State}
 use Rattle.redis_cluster.specs.declared.fault.DriveFault.{DriveFault}
 use Rattle.redis_cluster.specs.declared.fault.DriveFault.TheVariants.{NotMultiKey, NotCovered, BadOrder, Memory, Node, Redirected, Lost, Reply}
@@ -87,10 +87,10 @@ module _ {C : Type 0} (r : Request) (old new : State C) where
   TookEffect step routes command count whole =
       new.keyspace ≡ keyspace_after step command old.keyspace
   TookEffect step routes command count (up_to (Some (lost error))) =
-      IsLeftBy step old new command (take count (in_order routes r.order))
-      ⊎ IsLeftBy step old new command (take (count + 1) (in_order routes r.order))
+      RoutesTookEffect step old new command (take count (in_order routes r.order))
+      ⊎ RoutesTookEffect step old new command (take (count + 1) (in_order routes r.order))
   TookEffect step routes command count (up_to ending) =
-      IsLeftBy step old new command (take count (in_order routes r.order))
+      RoutesTookEffect step old new command (take count (in_order routes r.order))
 
 -- `Answered` says of routes that the trace grew by an answer to each, and `Ends` of a route that it
 -- grew by its sends, which ended so.

@@ -1,7 +1,10 @@
 -- The one reply that is made of those to the parts of a multi-key command.
 use Rattle.std.specs.Prelude.{◌≡◌, ◌++◌, ℕ, List, Some, Result, Ok, Err, map, length, ok_or, option_map, slice_get}
 use Rattle.std.specs.List.{AllZip}
+use Rattle.resp_core.specs.ErrorParts.{ErrorParts}
 use Rattle.resp_core.specs.Reply.{Reply, array, array_of, int, replies_of}
+use Rattle.resp_core.specs.View.{view}
+use Rattle.resp_core.specs.declared.value.Value.{Value}
 use Rattle.resp_core.specs.declared.error.ErrorKind.{ErrorKind}
 use Rattle.resp_core.specs.declared.error.ErrorKind.TheVariants.{UnexpectedReturnType}
 use Rattle.redis_combiners.specs.Aggregate.{sum_of}
@@ -11,6 +14,8 @@ use Rattle.redis_routing.specs.Registry.{Registrations}
 use Rattle.redis_cluster.specs.MultiKey.{KeyTuple, MultiKey, ReplyForm, list, count, okay, multi_key, slots_in, tuples_of_slot}
 use Rattle.redis_cluster.specs.Orders.{NamesOnce, in_order}
 use Rattle.redis_cluster.specs.SlotItems.{items_of_slot}
+use Rattle.redis_cluster.specs.declared.fault.DriveError.{DriveError}
+use Rattle.redis_cluster.specs.declared.fault.DriveFault.TheVariants as fault
 
 module _ (tuples : List KeyTuple) (slots : List ℕ) (replies : List Reply) where
   -- There is one value for each tuple. The reply to a slot's part is an array of the values of the
@@ -54,3 +59,11 @@ pub record IsJoined (registered : Registrations) (args : Arguments) (order : Lis
   pub replies : List Reply
   pub replied : HaveReplied registered args order old new command replies
   pub outcome_is : IsOutcome command.tuples (slots_in command) replies command.form outcome
+
+-- What a call returned is what such replies make, if it is a reply or a refusal of the replies.
+abbrev pub ReturnsJoined : Registrations → Arguments → List ℕ → (old new : List Reply → Type 0)
+    → Result Value DriveError → Type 0
+ReturnsJoined registered args order old new (Ok value) =
+    IsJoined registered args order old new (Ok (view value))
+ReturnsJoined registered args order old new (Err e) = (error : ErrorParts)
+    → e.fault ≡ fault.Reply error → IsJoined registered args order old new (Err error.kind)

@@ -48,6 +48,7 @@ pub mod Front
 pub mod SendErrorText
 pub mod Plan
 pub mod Sends
+pub mod Frame
 pub mod Driven
 pub mod Ready
 pub mod Faults

@@ -60,8 +60,7 @@ shape_of KeyWithTwoArgTriples = record { width = 3; shared = 0 }
 -- whether this many arguments are complete: without the shared ones they make whole tuples, and at
 -- least one
 abbrev pub is_whole : Shape → ℕ → Bool
-is_whole shape len =
-    nat_lt shape.shared len && nat_eq ((len - shape.shared) % shape.width) 0
+is_whole shape len = nat_lt shape.shared len && nat_eq ((len - shape.shared) % shape.width) 0
 
 -- the tuples of some arguments, one after the other, each by its arguments: the first is the key
 abbrev pub tuples_by : Shape → List (List ℕ) → List KeyTuple
@@ -69,22 +68,18 @@ tuples_by shape args =
     map (λ t. record { key = get_or t 0 []; extras = drop 1 t })
     (first_chunks shape.width ((length args - shape.shared) / shape.width) args)
 
--- the argument that all of them share, if there is one
-abbrev pub shared_by : Shape → List (List ℕ) → Option (List ℕ)
-shared_by shape args = slice_get args (length args - shape.shared)
-
--- the command of a name with these arguments, if they are complete
-abbrev pub command_with : Registrations → List ℕ → List (List ℕ) → MultiSlotArgPattern → ReplyForm
-    → Option MultiKey
-command_with registered name present pattern form =
-    cond (is_whole (shape_of pattern) (length present))
-    (Some (record {
-      name = name;
-      registered = registered_as registered name;
-      shared = shared_by (shape_of pattern) present;
-      tuples = tuples_by (shape_of pattern) present;
-      form = form;
-    })) None
+module _ (registered : Registrations) (name : List ℕ) (present : List (List ℕ)) where
+  -- the command of a name with these arguments, if they are complete
+  abbrev pub command_with : MultiSlotArgPattern → ReplyForm → Option MultiKey
+  command_with pattern form =
+      cond (is_whole (shape_of pattern) (length present))
+      (Some (record {
+        name = name;
+        registered = registered_as registered name;
+        shared = slice_get present (length present - (shape_of pattern).shared);
+        tuples = tuples_by (shape_of pattern) present;
+        form = form;
+      })) None
 
 -- A complete multi-key command. Its name is one of the nine or registered. The arguments after it,
 -- up to the first gap, make whole tuples. If all keys share an argument, it is there.

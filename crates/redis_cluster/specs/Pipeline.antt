@@ -55,13 +55,13 @@ abbrev pub utf8_text : List ℕ → List ℕ
 utf8_text bytes = if utf8_valid_len bytes == length bytes then bytes else []
 
 -- the name that a first argument gives: without the white space round it, in ASCII upper case
-abbrev pub name_in : Option (List ℕ) → List ℕ
-name_in None = []
-name_in (Some first) = upper (trim (utf8_text first))
+abbrev pub name_by_first : Option (List ℕ) → List ℕ
+name_by_first None = []
+name_by_first (Some first) = upper (trim (utf8_text first))
 
 -- the name by which a pipeline looks at a command; further arguments do not count
 abbrev pub name_of : CommandWords → List ℕ
-name_of command = name_in (slice_get command 0)
+name_of command = name_by_first (slice_get command 0)
 
 -- the name of the first command that a pipeline refuses
 abbrev pub first_refused : List CommandWords → Option (List ℕ)

@@ -26,15 +26,15 @@ pub record Plan : Type 0 where
   pub replies : List (Option Value)
 
 -- each route has a node, its own part, and room for a reply
-pub record IsPlan (plan : Plan) : Type 0 where
+pub record IsRoutedPlan (plan : Plan) : Type 0 where
   pub split : IsSplit plan.split
   pub nodes : length plan.nodes ≡ length plan.split.routes
   pub parts : map (map Some) plan.parts ≡ map (split_part plan.split) (slots_of plan.split.routes)
   pub replies : length plan.replies ≡ length plan.split.routes
 
--- the replies that a plan has
-abbrev pub told : List Bool → List Value → List (Option Value)
-told are_told replies = map (λ p. cond p.0 (Some p.1) None) (zip are_told replies)
+-- the replies that a plan has: each one with its mark set
+abbrev pub marked_replies : List Bool → List Value → List (Option Value)
+marked_replies marks replies = map (λ p. cond p.0 (Some p.1) None) (zip marks replies)
 
 -- the tuples of the command
 abbrev pub tuples_in_split : Split → List KeyTuple

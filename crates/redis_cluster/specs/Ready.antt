@@ -1,12 +1,11 @@
 -- What the driver knows of a plan before the first send.
 use Rattle.std.specs.Prelude.{◌≡◌, ℕ, List, Some, map, slice_get}
-use Rattle.std.specs.List.{All, AllZip}
+use Rattle.std.specs.List.{AllZip}
 use Rattle.cluster_slots.specs.Address.{Address}
 use Rattle.cluster_slots.specs.SlotRoute.{SlotRoute}
-use Rattle.cluster_map.specs.ReplyNode.{IsCovered}
 use Rattle.redis_routing.specs.Registry.{Registrations}
-use Rattle.redis_cluster.specs.MultiKey.{MultiKey, multi_key, part_by_slot}
-use Rattle.redis_cluster.specs.Driven.{Request, command_routes_by}
+use Rattle.redis_cluster.specs.MultiKey.{MultiKey, part_by_slot}
+use Rattle.redis_cluster.specs.Driven.{Request, IsCoveredCommand}
 use Rattle.redis_cluster.specs.Plan.{Plan}
 use Rattle.redis_cluster.specs.Sends.{Target, targets, IsPlanOf}
 
@@ -20,9 +19,7 @@ IsTarget IsNode r route target =
 pub record IsReady (IsNode : SlotRoute → Address → Type 0) (r : Request) (plan : Plan)
     (command : MultiKey) : Type 0 where
   pub plan_is : IsPlanOf r.names.registered command plan
-  pub command_is : multi_key r.names.registered r.arguments ≡ Some command
-  pub routes_are : command_routes_by r.names r.arguments ≡ Some (map (λ t. t.0) plan.split.routes)
-  pub covered : All (λ route. IsCovered r.map route.slot) (map (λ t. t.0) plan.split.routes)
+  pub is_covered : IsCoveredCommand r (map (λ t. t.0) plan.split.routes) command
   pub targets_are : AllZip (IsTarget IsNode r) (map (λ t. t.0) plan.split.routes)
       (targets plan)
 

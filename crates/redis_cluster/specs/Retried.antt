@@ -9,7 +9,7 @@ use Rattle.redis_cluster.specs.MultiKey.{MultiKey, part_by_slot}
 use Rattle.redis_cluster.specs.Orders.{in_order}
 use Rattle.redis_cluster.specs.Trace.{Entry, Ending, answered}
 use Rattle.redis_cluster.specs.Unsplit.{Step, keyspace_after, reply_to}
-use Rattle.redis_cluster.specs.Attempts.{Try, IsTried}
+use Rattle.redis_cluster.specs.Attempts.{Try, AttemptsOf}
 use Rattle.redis_cluster.specs.Driven.{Request, IsDrivable}
 use Rattle.redis_cluster.specs.State.{State}
 use Rattle.redis_cluster.specs.Faults.{IsCutBy, IsFaultBy}
@@ -17,7 +17,7 @@ use Rattle.redis_cluster.specs.declared.fault.DriveFault.{DriveFault}
 
 -- What is tried for a route: its own part, at a node of the route, and then at the addresses that
 -- the map has to fall back on.
-pub record IsTryOf (IsNode : SlotRoute → Address → Type 0) (r : Request) (retries : ℕ)
+pub record IsTryOf (IsNode : SlotRoute → Address → Type 0) (retries : ℕ) (r : Request)
     (route : SlotRoute) (try : Try) : Type 0 where
   pub part : map Some try.part ≡ part_by_slot r.names.registered r.arguments route.slot
   pub node : Address
@@ -33,15 +33,21 @@ module _ (IsTry : SlotRoute → Try → Type 0) where
   abbrev pub AreTried : List SlotRoute → (old new : List Entry) → Type 0
   AreTried [] old new = new ≡ old
   AreTried (route ∷ routes) old new =
-      (try : Try) × (mid : List Entry) × IsTry route try × IsTried try (Some answered) old mid
+      (try : Try) × (mid : List Entry) × IsTry route try × AttemptsOf try (Some answered) old mid
       × AreTried routes mid new
 
+  -- the trace grew by what was tried for a route, which ended so
+  abbrev pub EndsTried : SlotRoute → Option Ending → (old new : List Entry) → Type 0
+  EndsTried route ending old new = (try : Try) × IsTry route try × AttemptsOf try ending old new
+
+-- `IsTry` says of a request what is tried for each of its routes.
+module _ (IsTry : Request → SlotRoute → Try → Type 0) where
   -- each part was tried in the order given, until it was answered, whatever the answers are
   pub record AreAllTried (r : Request) (old new : List Entry) : Type 0 where
     pub routes : List SlotRoute
     pub command : MultiKey
     pub drivable : IsDrivable r routes command
-    pub trace : AreTried (in_order routes r.order) old new
+    pub trace : AreTried (IsTry r) (in_order routes r.order) old new
 
   module _ {C : Type 0} (step : Step C) (r : Request) (old new : State C) where
     -- The command was driven to its end: each part was tried in the order given, until it was
@@ -50,21 +56,17 @@ module _ (IsTry : SlotRoute → Try → Type 0) where
       pub routes : List SlotRoute
       pub command : MultiKey
       pub drivable : IsDrivable r routes command
-      pub trace : AreTried (in_order routes r.order) old.trace new.trace
+      pub trace : AreTried (IsTry r) (in_order routes r.order) old.trace new.trace
       pub keyspace : new.keyspace ≡ keyspace_after step command old.keyspace
       pub reply : value ≡ reply_to step command old.keyspace
-
-  -- the trace grew by what was tried for a route, which ended so
-  abbrev pub EndsTried : SlotRoute → Option Ending → (old new : List Entry) → Type 0
-  EndsTried route ending old new = (try : Try) × IsTry route try × IsTried try ending old new
 
   -- `IsCutBy` and `IsFaultBy` of parts that are tried again
   abbrev pub IsRetryCut : {C : Type 0} → Request → (old new : State C) → (ℕ → Ending → Type 0)
       → DriveFault → ℕ → Type 0
   IsRetryCut r old new may_refuse fault count =
-      IsCutBy AreTried EndsTried r old new may_refuse fault count
+      IsCutBy (AreTried (IsTry r)) (EndsTried (IsTry r)) r old new may_refuse fault count
 
   abbrev pub IsRetryFault : {C : Type 0} → Step C → Request → (old new : State C)
       → (ℕ → Ending → Type 0) → DriveFault → ℕ → Type 0
   IsRetryFault step r old new may_refuse fault count =
-      IsFaultBy AreTried EndsTried r old new may_refuse step fault count
+      IsFaultBy (AreTried (IsTry r)) (EndsTried (IsTry r)) r old new may_refuse step fault count

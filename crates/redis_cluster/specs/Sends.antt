@@ -33,15 +33,15 @@ pub record IsPlanOf (registered : Registrations) (command : MultiKey) (plan : Pl
 
 -- The keyspace is that of the tuples of some slots. Where the last reply was lost, it may be that of
 -- one slot more.
-abbrev pub IsLeftAt : {C : Type 0} (act : Act C) (tuples : List KeyTuple)
+abbrev pub SlotsTookEffect : {C : Type 0} (act : Act C) (tuples : List KeyTuple)
     (slots more : List ℕ) (old new : Keyspace C) → Option Ending → Type 0
-IsLeftAt act tuples slots more old new None = new ≡ after act (tuples_of_slots slots tuples) old
-IsLeftAt act tuples slots more old new (Some answered) =
+SlotsTookEffect act tuples slots more old new None = new ≡ after act (tuples_of_slots slots tuples) old
+SlotsTookEffect act tuples slots more old new (Some answered) =
     new ≡ after act (tuples_of_slots slots tuples) old
-IsLeftAt act tuples slots more old new (Some (refused error)) =
+SlotsTookEffect act tuples slots more old new (Some (refused error)) =
     new ≡ after act (tuples_of_slots slots tuples) old
-IsLeftAt act tuples slots more old new (Some (redirected redirect)) =
+SlotsTookEffect act tuples slots more old new (Some (redirected redirect)) =
     new ≡ after act (tuples_of_slots slots tuples) old
-IsLeftAt act tuples slots more old new (Some (lost error)) =
+SlotsTookEffect act tuples slots more old new (Some (lost error)) =
     (new ≡ after act (tuples_of_slots slots tuples) old)
     ⊎ (new ≡ after act (tuples_of_slots more tuples) old)

@@ -3,7 +3,7 @@ use Rattle.std.specs.Prelude.{◌≡◌, ℕ, List, [], ◌∷◌, ◌++◌, Opt
 use Rattle.std.specs.Option.{option_to_list}
 use Rattle.cluster_slots.specs.Address.{Address}
 use Rattle.redis_cluster.specs.Trace.{Entry, answered}
-use Rattle.redis_cluster.specs.Attempts.{Try, IsTried}
+use Rattle.redis_cluster.specs.Attempts.{Try, AttemptsOf}
 use Rattle.redis_cluster.specs.Retry.{Attempt}
 use Rattle.redis_cluster.specs.Sends.{Target}
 
@@ -34,7 +34,7 @@ tries_with (target ∷ targets) (retry ∷ retries) =
 
 -- the trace grew by what was tried for each, one after the other, and the last attempt of each was
 -- answered
-abbrev pub AllTried : List Try → (old new : List Entry) → Type 0
-AllTried [] old new = new ≡ old
-AllTried (try ∷ tries) old new =
-    (mid : List Entry) × IsTried try (Some answered) old mid × AllTried tries mid new
+abbrev pub SentInTurn : List Try → (old new : List Entry) → Type 0
+SentInTurn [] old new = new ≡ old
+SentInTurn (try ∷ tries) old new =
+    (mid : List Entry) × AttemptsOf try (Some answered) old mid × SentInTurn tries mid new

@@ -1,11 +1,12 @@
-ghost use Rattle.std.specs.Prelude.{◌≡◌, ◌++◌, ◌∷◌, ◌↔◌, [], ℕ, List, Option, None, Some, map, length, IsSome, IfOk, OnOk, OnErr, IfErr};
+ghost use Rattle.std.specs.Prelude.{◌≡◌, ◌++◌, ◌∷◌, [], ℕ, List, Option, None, Some, map, length, IsSome, IfOk, OnOk, OnErr, IfErr};
 ghost use Rattle.resp_core.specs.Reply.{Reply};
 ghost use Rattle.resp_core.specs.View.{view};
+ghost use Rattle.redis_cluster.specs.Frame.{SameNodes};
 ghost use Rattle.redis_cluster.specs.MultiKey.{MultiKey, multi_key, IsPart};
 ghost use Rattle.redis_cluster.specs.Sent.{IsLeft, ending_of};
-ghost use Rattle.redis_cluster.specs.Trace.{Ending, answered};
+ghost use Rattle.redis_cluster.specs.Trace.{answered};
 ghost use Rattle.redis_cluster.specs.Unsplit.{keyspace_after, reply_to};
-ghost use Rattle.redis_cluster.specs.Attempts.{Try, IsTried, IsCause, AreAllowed};
+ghost use Rattle.redis_cluster.specs.Attempts.{Try, AttemptsOf, IsCause, AreAllowed};
 ghost use Rattle.redis_cluster.specs.Tries.{try_by, try_once};
 
 use crate::nodes::{Nodes, SendError};
@@ -26,16 +27,15 @@ pub(super) fn send_once<N: Nodes>(
     ensures keyspace { OnOk result ((command : MultiKey)
         → multi_key (N.registered nodes.old) (map Some part.now) ≡ Some command → N.kept nodes.new
         → (N.state nodes.new).keyspace ≡ keyspace_after N.step command (N.state nodes.old).keyspace) }
-    ensures kept { N.kept nodes.new → N.kept nodes.old }
     ensures gave { IfOk result
         (λ value. (replies : List Reply) → N.gave nodes.old replies
         → N.gave nodes.new (replies ++ view value ∷ [])) }
     ensures gave_none { OnErr result
         ((replies : List Reply) → N.gave nodes.old replies → N.gave nodes.new replies) }
-    ensures answered { OnOk result (IsTried (try_once node.now part.now) (Some answered)
+    ensures answered { OnOk result (AttemptsOf (try_once node.now part.now) (Some answered)
         (N.state nodes.old).trace (N.state nodes.new).trace) }
     ensures unanswered { IfErr result
-        (λ error. IsTried (try_once node.now part.now) (ending_of error)
+        (λ error. AttemptsOf (try_once node.now part.now) (ending_of error)
         (N.state nodes.old).trace (N.state nodes.new).trace) }
     ensures cause { IfErr result
         (λ error. IsCause (N.may_refuse nodes.old) (length (N.state nodes.new).trace) (N.state nodes.new).mark
@@ -44,9 +44,7 @@ pub(super) fn send_once<N: Nodes>(
     ensures left { IfErr result (λ error. (command : MultiKey)
         → multi_key (N.registered nodes.old) (map Some part.now) ≡ Some command → N.kept nodes.new
         → IsLeft N.step command (N.state nodes.old).keyspace (N.state nodes.new).keyspace (ending_of error)) }
-    ensures registered { N.registered nodes.new ≡ N.registered nodes.old }
-    ensures may_refuse { (count : ℕ) (ending : Ending) → N.may_refuse nodes.new count ending
-        ↔ N.may_refuse nodes.old count ending }
+    ensures frame { SameNodes ⟦<N as Nodes>⟧ nodes.old nodes.new }
 {
     nodes.send(node, part)
 }
@@ -65,16 +63,15 @@ pub(super) fn send_with_retries<N: Nodes>(
     ensures keyspace { OnOk result ((command : MultiKey)
         → multi_key (N.registered nodes.old) (map Some part.now) ≡ Some command → N.kept nodes.new
         → (N.state nodes.new).keyspace ≡ keyspace_after N.step command (N.state nodes.old).keyspace) }
-    ensures kept { N.kept nodes.new → N.kept nodes.old }
     ensures gave { IfOk result
         (λ value. (replies : List Reply) → N.gave nodes.old replies
         → N.gave nodes.new (replies ++ view value ∷ [])) }
     ensures gave_none { OnErr result
         ((replies : List Reply) → N.gave nodes.old replies → N.gave nodes.new replies) }
-    ensures answered { OnOk result (IsTried (try_by part.now retry.old) (Some answered)
+    ensures answered { OnOk result (AttemptsOf (try_by part.now retry.old) (Some answered)
         (N.state nodes.old).trace (N.state nodes.new).trace) }
     ensures unanswered { IfErr result
-        (λ error. IsTried (try_by part.now retry.old) (ending_of error)
+        (λ error. AttemptsOf (try_by part.now retry.old) (ending_of error)
         (N.state nodes.old).trace (N.state nodes.new).trace) }
     ensures cause { IfErr result
         (λ error. IsCause (N.may_refuse nodes.old) (length (N.state nodes.new).trace) (N.state nodes.new).mark
@@ -83,9 +80,7 @@ pub(super) fn send_with_retries<N: Nodes>(
     ensures left { IfErr result (λ error. (command : MultiKey)
         → multi_key (N.registered nodes.old) (map Some part.now) ≡ Some command → N.kept nodes.new
         → IsLeft N.step command (N.state nodes.old).keyspace (N.state nodes.new).keyspace (ending_of error)) }
-    ensures registered { N.registered nodes.new ≡ N.registered nodes.old }
-    ensures may_refuse { (count : ℕ) (ending : Ending) → N.may_refuse nodes.new count ending
-        ↔ N.may_refuse nodes.old count ending }
+    ensures frame { SameNodes ⟦<N as Nodes>⟧ nodes.old nodes.new }
 {
     while let Some(node) = retry.target() {
         match nodes.send(node, part) {

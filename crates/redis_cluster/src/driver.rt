@@ -1,27 +1,25 @@
-ghost use Rattle.std.specs.Prelude.{◌≡◌, ◌<◌, ◌↔◌, ◌++◌, ◌⊎◌, ℕ, List, Ok, Err, None, map, length, Some, IsSome, IfOk, OnOk, IfErr};
+ghost use Rattle.std.specs.Prelude.{◌≡◌, ◌<◌, ◌⊎◌, List, None, map, length, Some, IsSome, IfOk, OnOk, IfErr};
 ghost use Rattle.std.specs.List.{All};
 ghost use Rattle.resp_core.specs.declared.error.ErrorKind.TheVariants.{OutOfMemory};
-ghost use Rattle.resp_core.specs.ErrorParts.{ErrorParts};
-ghost use Rattle.resp_core.specs.Reply.{Reply};
 ghost use Rattle.resp_core.specs.View.{view};
 ghost use Rattle.cluster_slots.specs.SlotRoute.{SlotRoute};
 ghost use Rattle.cluster_map.specs.RouteNode.{IsRouteNode};
 ghost use Rattle.redis_routing.specs.Names.{names_of};
 ghost use Rattle.redis_cluster.specs.Amid.{PartsActBySlot, IsServedAmid};
 ghost use Rattle.redis_cluster.specs.Attempts.{AreAllowed};
+ghost use Rattle.redis_cluster.specs.Frame.{SameNodes};
 ghost use Rattle.redis_cluster.specs.Front.{IsSameCommand, front};
 ghost use Rattle.redis_cluster.specs.MultiKey.{MultiKey, multi_key};
 ghost use Rattle.redis_cluster.specs.Orders.{NamesOnce, in_order};
-ghost use Rattle.redis_cluster.specs.Trace.{Ending};
 ghost use Rattle.redis_cluster.specs.Unsplit.{keyspace_after, reply_to};
 ghost use Rattle.redis_cluster.specs.Driven.{Request, request, AreAllAnswered, IsDelivered, IsDrivable, IsDriven, IsUnhindered};
 ghost use Rattle.redis_cluster.specs.Faults.{IsBefore, IsCauseBeforeSending, IsFault, IsCut};
-ghost use Rattle.redis_cluster.specs.Joined.{IsJoined};
+ghost use Rattle.redis_cluster.specs.Joined.{ReturnsJoined};
 ghost use Rattle.redis_cluster.specs.Plan.{HaveGiven};
 ghost use Rattle.redis_cluster.specs.Ready.{IsPlanFor, IsPlanNode, IsReady};
 ghost use Rattle.redis_cluster.specs.Ended.{AreEndedEarly};
 ghost use Rattle.redis_cluster.specs.Sends.{targets, IsPlanOf};
-ghost use Rattle.redis_cluster.specs.Tries.{tries_with, AllTried};
+ghost use Rattle.redis_cluster.specs.Tries.{tries_with, SentInTurn};
 
 pub use crate::fault::{DriveError, DriveFault, PlanFault};
 pub use crate::nodes::{Nodes, SendError};
@@ -88,79 +86,58 @@ pub fn drive<R: Routable, N: Nodes>(
     nodes: &mut N,
 ) -> Result<Value, DriveError>
     // Each part went once, in the order given, to a node of its route, whatever the nodes answered.
-    ensures delivered { IfOk result (λ value.
-        IsDelivered (IsRouteNode strategy.entry (λ s. picks s.now) slot_map.now pick)
-        (request (R.args command.now) (names_of read_only.now (N.registered nodes.old))
-        slot_map.now order.now)
-        (N.state nodes.old).trace (N.state nodes.new).trace) }
-    // And the reply is made of what they answered, as the command's policy says.
-    ensures joined { IfOk result (λ value.
-        IsJoined (N.registered nodes.old) (R.args command.now) order.now
-        (N.gave nodes.old) (N.gave nodes.new) (Ok (view value))) }
-    // Or the policy refuses them, with an error of this kind.
-    ensures unjoined { IfErr result (λ e. (error : ErrorParts) → e.fault ≡ DriveFault.Reply error →
-        IsJoined (N.registered nodes.old) (R.args command.now) order.now
-        (N.gave nodes.old) (N.gave nodes.new) (Err error.kind)) }
+    ensures delivered { let IsNode = IsRouteNode strategy.entry (λ s. picks s.now) slot_map.now pick in
+        let r = request (R.args command.now) (names_of read_only.now (N.registered nodes.old)) slot_map.now order.now in
+        IfOk result (λ value. IsDelivered IsNode r (N.state nodes.old).trace (N.state nodes.new).trace) }
+    // The reply is made of what they answered, as the command's policy says. Or the policy refuses
+    // what they answered, with an error of this kind.
+    ensures joined { ReturnsJoined (N.registered nodes.old) (R.args command.now) order.now
+        (N.gave nodes.old) (N.gave nodes.new) result }
     // Others may write the same keys meanwhile, and replicas may lag. Take any keyspace that has, at
     // each key of the command, what the key's node held when it ran the key's part. If each node
     // replied by what it held, the reply is that of the unsplit command on this keyspace.
-    ensures amid { IfOk result (λ value.
-        IsServedAmid N.Cell (N.registered nodes.old) (R.args command.now) order.now
+    ensures amid { IfOk result (λ value. IsServedAmid N.Cell (N.registered nodes.old) (R.args command.now) order.now
         (N.gave nodes.old) (N.gave nodes.new) (view value)) }
     // The headline: if the nodes keep to one meaning over one keyspace, each part went once, in the
     // order given, to a node of its route. The keyspace and the reply are those of the unsplit
     // command.
-    ensures driven { IfOk result (λ value. N.kept nodes.new →
-        IsDriven (IsRouteNode strategy.entry (λ s. picks s.now) slot_map.now pick) N.step
-        (request (R.args command.now) (names_of read_only.now (N.registered nodes.old))
-        slot_map.now order.now)
-        (N.state nodes.old) (N.state nodes.new)
-        (view value)) }
+    ensures driven { let IsNode = IsRouteNode strategy.entry (λ s. picks s.now) slot_map.now pick in
+        let r = request (R.args command.now) (names_of read_only.now (N.registered nodes.old)) slot_map.now order.now in
+        IfOk result (λ value. N.kept nodes.new
+        → IsDriven IsNode N.step r (N.state nodes.old) (N.state nodes.new) (view value)) }
     // There is a reply if the command can be driven, no node may refuse or redirect, no reply may
     // be lost and the nodes keep to one meaning, unless memory runs out. Nobody knows that of
     // connections: see `carried`.
     ensures headline { IsUnhindered (N.may_refuse nodes.old)
-        (request (R.args command.now) (names_of read_only.now (N.registered nodes.old))
-        slot_map.now order.now)
+        (request (R.args command.now) (names_of read_only.now (N.registered nodes.old)) slot_map.now order.now)
         (N.state nodes.old).trace → IfErr result (λ e. N.kept nodes.new → e.fault ≡ DriveFault.Memory) }
     // And if each send was answered, whatever nodes may refuse.
     ensures carried { (routes : List SlotRoute) (c : MultiKey) → IsDrivable
-        (request (R.args command.now) (names_of read_only.now (N.registered nodes.old))
-        slot_map.now order.now) routes c
+        (request (R.args command.now) (names_of read_only.now (N.registered nodes.old)) slot_map.now order.now) routes c
         → AreAllAnswered (N.state nodes.old).trace (N.state nodes.new).trace
         → IfErr result (λ e. N.kept nodes.new → e.fault ≡ DriveFault.Memory) }
     // On error, exactly the first `answered` parts were answered, whatever the answers are.
-    ensures cut { IfErr result (λ e.
-        IsCut (IsRouteNode strategy.entry (λ s. picks s.now) slot_map.now pick)
-        (request (R.args command.now) (names_of read_only.now (N.registered nodes.old))
-        slot_map.now order.now)
-        (N.state nodes.old) (N.state nodes.new)
-        (N.may_refuse nodes.old) e.fault e.answered) }
+    ensures cut { let IsNode = IsRouteNode strategy.entry (λ s. picks s.now) slot_map.now pick in
+        let r = request (R.args command.now) (names_of read_only.now (N.registered nodes.old)) slot_map.now order.now in
+        IfErr result (λ e. IsCut IsNode r (N.state nodes.old) (N.state nodes.new) (N.may_refuse nodes.old)
+        e.fault e.answered) }
     // Each fault has its cause, except out of memory before any answer. What was answered stands.
-    ensures fault { IfErr result (λ e. N.kept nodes.new →
-        IsFault (IsRouteNode strategy.entry (λ s. picks s.now) slot_map.now pick) N.step
-        (request (R.args command.now) (names_of read_only.now (N.registered nodes.old))
-        slot_map.now order.now)
-        (N.state nodes.old) (N.state nodes.new)
+    ensures fault { let IsNode = IsRouteNode strategy.entry (λ s. picks s.now) slot_map.now pick in
+        let r = request (R.args command.now) (names_of read_only.now (N.registered nodes.old)) slot_map.now order.now in
+        IfErr result (λ e. N.kept nodes.new → IsFault IsNode N.step r (N.state nodes.old) (N.state nodes.new)
         (N.may_refuse nodes.old) e.fault e.answered) }
     // These may be the replies that the nodes gave, one to each part that was answered.
-    ensures given { IfErr result
-        (λ e. HaveGiven (N.gave nodes.old) (N.gave nodes.new) e.answered) }
+    ensures given { IfErr result (λ e. HaveGiven (N.gave nodes.old) (N.gave nodes.new) e.answered) }
     // The nodes are as they were if the command, the map or the order is at fault.
     ensures untouched { IfErr result (λ e. IsBefore e.fault → nodes.new ≡ nodes.old) }
-    // Nodes that kept to it now did so before.
-    ensures kept { N.kept nodes.new → N.kept nodes.old }
     // Each part that was answered, as `delivered` or `cut` says, left at its keys what the unsplit
     // command leaves there, whatever became of the other parts.
-    ensures parts { (c : MultiKey) → multi_key (N.registered nodes.old) (R.args command.now) ≡ Some c
-        → PartsActBySlot N.Cell (N.registered nodes.old) (R.args command.now) c }
+    ensures parts { PartsActBySlot N.Cell (N.registered nodes.old) (R.args command.now) }
     // A command with gaps and its front have the same tuples, routes and parts.
     ensures gaps { IsSameCommand (R.args command.now) (front (R.args command.now)) }
-    // The same names stay registered.
-    ensures registered { N.registered nodes.new ≡ N.registered nodes.old }
-    // What nodes may refuse stays the same.
-    ensures may_refuse { (count : ℕ) (ending : Ending) → N.may_refuse nodes.new count ending
-        ↔ N.may_refuse nodes.old count ending }
+    // No send changes what is registered, or what nodes may refuse. Nodes that kept to one meaning
+    // now did so before.
+    ensures frame { SameNodes ⟦<N as Nodes>⟧ nodes.old nodes.new }
 {
     let names = Names {
         read_only,
@@ -242,12 +219,8 @@ pub fn drive_plan<R: Routable, N: Nodes>(
     ensures delivered { IfOk result (λ value.
         (asked : Request) (c : MultiKey) → IsPlanFor asked order.now (N.registered nodes.old) plan.entry c
         → IsDelivered (IsPlanNode plan.entry) asked (N.state nodes.old).trace (N.state nodes.new).trace) }
-    ensures joined { IfOk result (λ value.
-        IsJoined (N.registered nodes.old) plan.entry.split.arguments order.now
-        (N.gave nodes.old) (N.gave nodes.new) (Ok (view value))) }
-    ensures unjoined { IfErr result (λ e. (error : ErrorParts) → e.fault ≡ DriveFault.Reply error →
-        IsJoined (N.registered nodes.old) plan.entry.split.arguments order.now
-        (N.gave nodes.old) (N.gave nodes.new) (Err error.kind)) }
+    ensures joined { ReturnsJoined (N.registered nodes.old) plan.entry.split.arguments order.now
+        (N.gave nodes.old) (N.gave nodes.new) result }
     // The reply if others write the same keys meanwhile, as `drive` has it.
     ensures amid { IfOk result (λ value.
         IsServedAmid N.Cell (N.registered nodes.old) plan.entry.split.arguments order.now
@@ -276,15 +249,10 @@ pub fn drive_plan<R: Routable, N: Nodes>(
         → IsFault (IsPlanNode plan.entry) N.step asked
         (N.state nodes.old) (N.state nodes.new)
         (N.may_refuse nodes.old) e.fault e.answered) }
-    ensures given { IfErr result
-        (λ e. HaveGiven (N.gave nodes.old) (N.gave nodes.new) e.answered) }
+    ensures given { IfErr result (λ e. HaveGiven (N.gave nodes.old) (N.gave nodes.new) e.answered) }
     ensures untouched { IfErr result (λ e. IsBefore e.fault → nodes.new ≡ nodes.old) }
-    ensures kept { N.kept nodes.new → N.kept nodes.old }
-    ensures parts { (c : MultiKey) → multi_key (N.registered nodes.old) plan.entry.split.arguments ≡ Some c
-        → PartsActBySlot N.Cell (N.registered nodes.old) plan.entry.split.arguments c }
-    ensures registered { N.registered nodes.new ≡ N.registered nodes.old }
-    ensures may_refuse { (count : ℕ) (ending : Ending) → N.may_refuse nodes.new count ending
-        ↔ N.may_refuse nodes.old count ending }
+    ensures parts { PartsActBySlot N.Cell (N.registered nodes.old) plan.entry.split.arguments }
+    ensures frame { SameNodes ⟦<N as Nodes>⟧ nodes.old nodes.new }
 {
     match names_once(alloc, plan.len(), order) {
         Ok(true) => drive_tries(alloc, plan, &mut [], order, nodes),
@@ -311,35 +279,27 @@ pub(super) fn drive_tries<R: Routable, N: Nodes>(
     requires untold { plan.replies ≡ map (λ route. None) plan.split.routes }
     requires order { NamesOnce (length plan.split.routes) order.now }
     requires named { All (λ retry. IsSome retry.target) retries.old }
-    ensures trace { OnOk result (AllTried (in_order (tries_with (targets plan.entry) retries.old)
+    ensures trace { OnOk result (SentInTurn (in_order (tries_with (targets plan.entry) retries.old)
         order.now) (N.state nodes.old).trace (N.state nodes.new).trace) }
     ensures allowed { AreAllowed (N.may_refuse nodes.old) (N.state nodes.old).trace (N.state nodes.new).trace }
-    ensures kept { N.kept nodes.new → N.kept nodes.old }
     ensures keyspace { OnOk result ((c : MultiKey) → IsPlanOf (N.registered nodes.old) c plan.entry
         → N.kept nodes.new → (N.state nodes.new).keyspace ≡ keyspace_after N.step c (N.state nodes.old).keyspace) }
     ensures reply { IfOk result
         (λ value. (c : MultiKey) → IsPlanOf (N.registered nodes.old) c plan.entry
         → N.kept nodes.new → view value ≡ reply_to N.step c (N.state nodes.old).keyspace) }
-    ensures joined { IfOk result (λ value.
-        IsJoined (N.registered nodes.old) plan.entry.split.arguments order.now
-        (N.gave nodes.old) (N.gave nodes.new) (Ok (view value))) }
-    ensures unjoined { IfErr result (λ e. (error : ErrorParts) → e.fault ≡ DriveFault.Reply error →
-        IsJoined (N.registered nodes.old) plan.entry.split.arguments order.now
-        (N.gave nodes.old) (N.gave nodes.new) (Err error.kind)) }
+    ensures joined { ReturnsJoined (N.registered nodes.old) plan.entry.split.arguments order.now
+        (N.gave nodes.old) (N.gave nodes.new) result }
     ensures amid { IfOk result (λ value.
         IsServedAmid N.Cell (N.registered nodes.old) plan.entry.split.arguments order.now
         (N.gave nodes.old) (N.gave nodes.new) (view value)) }
-    ensures given { IfErr result
-        (λ e. HaveGiven (N.gave nodes.old) (N.gave nodes.new) e.answered) }
+    ensures given { IfErr result (λ e. HaveGiven (N.gave nodes.old) (N.gave nodes.new) e.answered) }
     ensures stopped { IfErr result
         (λ e. AreEndedEarly (N.kept nodes.new) (N.registered nodes.old) N.step
         (N.may_refuse nodes.old) plan.entry
         (tries_with (targets plan.entry) retries.old) order.now
         (N.state nodes.old).keyspace (N.state nodes.new).keyspace (N.state nodes.old).trace (N.state nodes.new).trace
         (N.state nodes.new).mark e.fault e.answered) }
-    ensures registered { N.registered nodes.new ≡ N.registered nodes.old }
-    ensures may_refuse { (count : ℕ) (ending : Ending) → N.may_refuse nodes.new count ending
-        ↔ N.may_refuse nodes.old count ending }
+    ensures frame { SameNodes ⟦<N as Nodes>⟧ nodes.old nodes.new }
 {
     if let Err(stop) = send_all(&mut plan, retries, order, nodes) {
         return Err(stop);

@@ -19,7 +19,7 @@ ghost use Rattle.redis_cluster.specs.Unsplit.{reply_by, TupleResult};
 ghost use Rattle.redis_cluster.specs.Driven.{request, command_routes_by, IsFirstUncovered};
 ghost use Rattle.redis_cluster.specs.Faults.{IsPlanFault};
 ghost use Rattle.redis_cluster.specs.Joined.{IsOutcome};
-ghost use Rattle.redis_cluster.specs.Plan.{IsPlan, IsMadeOfParts, ArePartReplies, ArePartsAnswered, tuples_in_split};
+ghost use Rattle.redis_cluster.specs.Plan.{IsRoutedPlan, IsMadeOfParts, ArePartReplies, ArePartsAnswered, tuples_in_split};
 ghost use Rattle.redis_cluster.specs.Ready.{IsPlanFor};
 ghost use Rattle.redis_cluster.specs.Sends.{IsPlanOf};
 
@@ -60,7 +60,7 @@ impl<'a, R: Routable> Model for SplitPlan<'a, R> {
     ghost use Rattle.std.specs.Prelude.{◌≡◌, length, map};
     ghost use Rattle.std.specs.Coded.{codes};
     ghost use Rattle.resp_core.specs.contracts.value.Value as value;
-    ghost use Rattle.redis_cluster.specs.Plan.{Plan, IsPlan, told};
+    ghost use Rattle.redis_cluster.specs.Plan.{Plan, IsRoutedPlan, marked_replies};
 
     ghost Value = { Plan };
 
@@ -70,14 +70,14 @@ impl<'a, R: Routable> Model for SplitPlan<'a, R> {
       split = p.split;
       nodes = map (λ n. n.now) p.nodes.items;
       parts = p.parts.items;
-      replies = told p.answered.items p.replies.items;
+      replies = marked_replies p.answered.items p.replies.items;
     } };
 
-    ghost invariant = { λ p. IsPlan (record {
+    ghost invariant = { λ p. IsRoutedPlan (record {
       split = p.split;
       nodes = map (λ n. n.now) p.nodes.items;
       parts = p.parts.items;
-      replies = told p.answered.items p.replies.items;
+      replies = marked_replies p.answered.items p.replies.items;
     })
         × (length p.answered.items ≡ length p.replies.items) };
 }
@@ -159,7 +159,7 @@ impl<'a, R: Routable> SplitPlan<'a, R> {
     /// The routes, each with the indices of its part's arguments.
     pub fn routes(&self) -> &[(Route, Vec<usize>)]
         ensures routes { route_lists result.now ≡ self.now.split.routes }
-        ensures plan { IsPlan self.now }
+        ensures plan { IsRoutedPlan self.now }
     {
         self.split.routes()
     }
@@ -168,7 +168,7 @@ impl<'a, R: Routable> SplitPlan<'a, R> {
     pub fn len(&self) -> usize
         ensures len { result ≡ length self.now.split.routes }
         ensures some { 0 < result }
-        ensures plan { IsPlan self.now }
+        ensures plan { IsRoutedPlan self.now }
     {
         self.split.len()
     }

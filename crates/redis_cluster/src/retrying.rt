@@ -1,18 +1,17 @@
-ghost use Rattle.std.specs.Prelude.{◌≡◌, ◌↔◌, ◌++◌, ℕ, List, Ok, Err, map, length, Some, IsSome, IfOk, IfErr};
+ghost use Rattle.std.specs.Prelude.{◌≡◌, List, map, Some, IfOk, IfErr};
 ghost use Rattle.std.specs.List.{All, AllZip, zip};
-ghost use Rattle.resp_core.specs.ErrorParts.{ErrorParts};
 ghost use Rattle.resp_core.specs.View.{view};
 ghost use Rattle.cluster_slots.specs.SlotRoute.{SlotRoute};
 ghost use Rattle.cluster_map.specs.RouteNode.{IsRouteNode};
 ghost use Rattle.redis_routing.specs.Names.{names_of};
+ghost use Rattle.redis_cluster.specs.Frame.{SameNodes};
 ghost use Rattle.redis_cluster.specs.Front.{IsSameCommand, front};
 ghost use Rattle.redis_cluster.specs.MultiKey.{MultiKey, multi_key};
-ghost use Rattle.redis_cluster.specs.Trace.{Ending};
 ghost use Rattle.redis_cluster.specs.Amid.{PartsActBySlot, IsServedAmid};
 ghost use Rattle.redis_cluster.specs.Attempts.{AreAllowed, HaveOneAnswer};
 ghost use Rattle.redis_cluster.specs.Driven.{request, AreAllAnswered, IsDelivered, IsDrivable, IsUnhindered};
 ghost use Rattle.redis_cluster.specs.Faults.{IsBefore};
-ghost use Rattle.redis_cluster.specs.Joined.{IsJoined};
+ghost use Rattle.redis_cluster.specs.Joined.{ReturnsJoined};
 ghost use Rattle.redis_cluster.specs.Plan.{HaveGiven};
 ghost use Rattle.redis_cluster.specs.Retried.{IsTryOf, AreAllTried, IsRetried, IsRetryFault, IsRetryCut};
 ghost use Rattle.redis_cluster.specs.Retry.{IsRetryOf};
@@ -75,44 +74,32 @@ pub fn drive_retrying<R: Routable, N: Nodes>(
     nodes: &mut N,
 ) -> Result<Value, DriveError>
     // Each part was tried in the order given, until it was answered, and not again after it.
-    ensures tried { IfOk result (λ value. AreAllTried
-        (IsTryOf (IsRouteNode strategy.entry (λ s. picks s.now) slot_map.now pick)
-        (request (R.args command.now) (names_of read_only.now (N.registered nodes.old)) slot_map.now order.now) retries)
-        (request (R.args command.now) (names_of read_only.now (N.registered nodes.old)) slot_map.now order.now)
-        (N.state nodes.old).trace (N.state nodes.new).trace) }
+    ensures tried { let IsTry = IsTryOf (IsRouteNode strategy.entry (λ s. picks s.now) slot_map.now pick) retries in
+        let r = request (R.args command.now) (names_of read_only.now (N.registered nodes.old)) slot_map.now order.now in
+        IfOk result (λ value. AreAllTried IsTry r (N.state nodes.old).trace (N.state nodes.new).trace) }
     // Attempts that end with an answer have no other answered entry.
     ensures one_answer { HaveOneAnswer }
     // Each send was answered, or allowed to end otherwise, whether there is a reply or not.
     ensures allowed { AreAllowed (N.may_refuse nodes.old) (N.state nodes.old).trace (N.state nodes.new).trace }
     // So if each send must be answered, each part went once, as `drive` sends it.
-    ensures once { IsUnhindered (N.may_refuse nodes.old)
-        (request (R.args command.now) (names_of read_only.now (N.registered nodes.old)) slot_map.now order.now)
-        (N.state nodes.old).trace → IfOk result (λ value.
-        IsDelivered (IsRouteNode strategy.entry (λ s. picks s.now) slot_map.now pick)
-        (request (R.args command.now) (names_of read_only.now (N.registered nodes.old)) slot_map.now order.now)
-        (N.state nodes.old).trace (N.state nodes.new).trace) }
-    // And the reply is made of what the nodes answered, as the command's policy says.
-    ensures joined { IfOk result (λ value.
-        IsJoined (N.registered nodes.old) (R.args command.now) order.now
-        (N.gave nodes.old) (N.gave nodes.new) (Ok (view value))) }
-    // Or the policy refuses them, with an error of this kind.
-    ensures unjoined { IfErr result (λ e. (error : ErrorParts) → e.fault ≡ DriveFault.Reply error →
-        IsJoined (N.registered nodes.old) (R.args command.now) order.now
-        (N.gave nodes.old) (N.gave nodes.new) (Err error.kind)) }
+    ensures once { let IsNode = IsRouteNode strategy.entry (λ s. picks s.now) slot_map.now pick in
+        let r = request (R.args command.now) (names_of read_only.now (N.registered nodes.old)) slot_map.now order.now in
+        IsUnhindered (N.may_refuse nodes.old) r (N.state nodes.old).trace
+        → IfOk result (λ value. IsDelivered IsNode r (N.state nodes.old).trace (N.state nodes.new).trace) }
+    // The reply is made of what the nodes answered, as the command's policy says. Or the policy
+    // refuses what they answered, with an error of this kind.
+    ensures joined { ReturnsJoined (N.registered nodes.old) (R.args command.now) order.now
+        (N.gave nodes.old) (N.gave nodes.new) result }
     // Others may write the same keys meanwhile, and replicas may lag. Take any keyspace that has, at
     // each key of the command, what the key's node held when it ran the key's part. If each node that
     // gave a reply gave it by what it held, the reply is that of the unsplit command on this keyspace.
-    ensures amid { IfOk result (λ value.
-        IsServedAmid N.Cell (N.registered nodes.old) (R.args command.now) order.now
+    ensures amid { IfOk result (λ value. IsServedAmid N.Cell (N.registered nodes.old) (R.args command.now) order.now
         (N.gave nodes.old) (N.gave nodes.new) (view value)) }
     // If the nodes keep to one meaning over one keyspace, the keyspace and the reply are those of
     // the unsplit command, whatever was refused or redirected.
-    ensures driven { IfOk result (λ value. N.kept nodes.new → IsRetried
-        (IsTryOf (IsRouteNode strategy.entry (λ s. picks s.now) slot_map.now pick)
-        (request (R.args command.now) (names_of read_only.now (N.registered nodes.old)) slot_map.now order.now) retries)
-        N.step (request (R.args command.now) (names_of read_only.now (N.registered nodes.old)) slot_map.now order.now)
-        (N.state nodes.old) (N.state nodes.new)
-        (view value)) }
+    ensures driven { let IsTry = IsTryOf (IsRouteNode strategy.entry (λ s. picks s.now) slot_map.now pick) retries in
+        let r = request (R.args command.now) (names_of read_only.now (N.registered nodes.old)) slot_map.now order.now in
+        IfOk result (λ value. N.kept nodes.new → IsRetried IsTry N.step r (N.state nodes.old) (N.state nodes.new) (view value)) }
     // There is a reply if the command can be driven, no node may refuse or redirect, no reply may
     // be lost and the nodes keep to one meaning, unless memory runs out. Nobody knows that of
     // connections: see `carried`.
@@ -121,41 +108,31 @@ pub fn drive_retrying<R: Routable, N: Nodes>(
         (N.state nodes.old).trace → IfErr result (λ e. N.kept nodes.new → e.fault ≡ DriveFault.Memory) }
     // And if each send was answered, whatever nodes may refuse.
     ensures carried { (routes : List SlotRoute) (c : MultiKey) → IsDrivable
-        (request (R.args command.now) (names_of read_only.now (N.registered nodes.old)) slot_map.now order.now)
-        routes c → AreAllAnswered (N.state nodes.old).trace (N.state nodes.new).trace
+        (request (R.args command.now) (names_of read_only.now (N.registered nodes.old)) slot_map.now order.now) routes c
+        → AreAllAnswered (N.state nodes.old).trace (N.state nodes.new).trace
         → IfErr result (λ e. N.kept nodes.new → e.fault ≡ DriveFault.Memory) }
     // On error, exactly the first `answered` parts were answered, whatever the answers are.
-    ensures cut { IfErr result (λ e. IsRetryCut
-        (IsTryOf (IsRouteNode strategy.entry (λ s. picks s.now) slot_map.now pick)
-        (request (R.args command.now) (names_of read_only.now (N.registered nodes.old)) slot_map.now order.now) retries)
-        (request (R.args command.now) (names_of read_only.now (N.registered nodes.old)) slot_map.now order.now)
-        (N.state nodes.old) (N.state nodes.new)
-        (N.may_refuse nodes.old) e.fault e.answered) }
+    ensures cut { let IsTry = IsTryOf (IsRouteNode strategy.entry (λ s. picks s.now) slot_map.now pick) retries in
+        let r = request (R.args command.now) (names_of read_only.now (N.registered nodes.old)) slot_map.now order.now in
+        IfErr result (λ e. IsRetryCut IsTry r (N.state nodes.old) (N.state nodes.new) (N.may_refuse nodes.old)
+        e.fault e.answered) }
     // Each fault has its cause, except out of memory before any send. What was answered stands.
-    ensures fault { IfErr result (λ e. N.kept nodes.new → IsRetryFault
-        (IsTryOf (IsRouteNode strategy.entry (λ s. picks s.now) slot_map.now pick)
-        (request (R.args command.now) (names_of read_only.now (N.registered nodes.old)) slot_map.now order.now) retries)
-        N.step (request (R.args command.now) (names_of read_only.now (N.registered nodes.old)) slot_map.now order.now)
-        (N.state nodes.old) (N.state nodes.new)
+    ensures fault { let IsTry = IsTryOf (IsRouteNode strategy.entry (λ s. picks s.now) slot_map.now pick) retries in
+        let r = request (R.args command.now) (names_of read_only.now (N.registered nodes.old)) slot_map.now order.now in
+        IfErr result (λ e. N.kept nodes.new → IsRetryFault IsTry N.step r (N.state nodes.old) (N.state nodes.new)
         (N.may_refuse nodes.old) e.fault e.answered) }
     // These may be the replies that the nodes gave, one to each part that was answered.
-    ensures given { IfErr result
-        (λ e. HaveGiven (N.gave nodes.old) (N.gave nodes.new) e.answered) }
+    ensures given { IfErr result (λ e. HaveGiven (N.gave nodes.old) (N.gave nodes.new) e.answered) }
     // The nodes are as they were if the command, the map or the order is at fault.
     ensures untouched { IfErr result (λ e. IsBefore e.fault → nodes.new ≡ nodes.old) }
-    // Nodes that kept to it now did so before.
-    ensures kept { N.kept nodes.new → N.kept nodes.old }
     // Each part that was answered left at its keys what the unsplit command leaves there, whatever
     // became of the other parts.
-    ensures parts { (c : MultiKey) → multi_key (N.registered nodes.old) (R.args command.now) ≡ Some c
-        → PartsActBySlot N.Cell (N.registered nodes.old) (R.args command.now) c }
+    ensures parts { PartsActBySlot N.Cell (N.registered nodes.old) (R.args command.now) }
     // A command with gaps and its front have the same tuples, routes and parts.
     ensures gaps { IsSameCommand (R.args command.now) (front (R.args command.now)) }
-    // The same names stay registered.
-    ensures registered { N.registered nodes.new ≡ N.registered nodes.old }
-    // What nodes may refuse stays the same.
-    ensures may_refuse { (count : ℕ) (ending : Ending) → N.may_refuse nodes.new count ending
-        ↔ N.may_refuse nodes.old count ending }
+    // No send changes what is registered, or what nodes may refuse. Nodes that kept to one meaning
+    // now did so before.
+    ensures frame { SameNodes ⟦<N as Nodes>⟧ nodes.old nodes.new }
 {
     let plan = match plan_in_order(
         alloc, command, read_only, slot_map, strategy, pick, order, nodes,

@@ -1,19 +1,20 @@
-ghost use Rattle.std.specs.Prelude.{◌≡◌, ◌<◌, ◌++◌, ◌∷◌, ◌↔◌, [], ℕ, List, Some, None, false, nat_eq, map, length, slice_get, slice_set, IsSome, IfOk, OnOk, OnErr, IfErr};
+ghost use Rattle.std.specs.Prelude.{◌≡◌, ◌<◌, ◌++◌, ◌∷◌, [], ℕ, List, Some, None, false, nat_eq, map, length, slice_get, slice_set, IsSome, IfOk, OnOk, OnErr, IfErr};
 ghost use Rattle.std.specs.List.{All};
 ghost use Rattle.resp_core.specs.Reply.{Reply};
 ghost use Rattle.resp_core.specs.View.{view};
+ghost use Rattle.redis_cluster.specs.Frame.{SameNodes};
 ghost use Rattle.redis_cluster.specs.MultiKey.{MultiKey, multi_key, IsPart};
 ghost use Rattle.redis_cluster.specs.Orders.{NamesOnce, in_order};
 ghost use Rattle.redis_cluster.specs.Sent.{IsLeft, ending_of};
-ghost use Rattle.redis_cluster.specs.Trace.{Ending, answered};
+ghost use Rattle.redis_cluster.specs.Trace.{answered};
 ghost use Rattle.redis_cluster.specs.Unsplit.{keyspace_after, reply_to, results_of};
-ghost use Rattle.redis_cluster.specs.Attempts.{IsTried, IsCause, AreAllowed};
+ghost use Rattle.redis_cluster.specs.Attempts.{AttemptsOf, IsCause, AreAllowed};
 ghost use Rattle.redis_cluster.specs.Ended.{AreStopped};
 ghost use Rattle.redis_cluster.specs.Faults.{fault_of_send};
 ghost use Rattle.redis_cluster.specs.Plan.{ArePartReplies, AreGiven, HaveGiven};
 ghost use Rattle.redis_cluster.specs.Retry.{Attempt};
 ghost use Rattle.redis_cluster.specs.Sends.{Target, targets, IsPlanOf};
-ghost use Rattle.redis_cluster.specs.Tries.{tries_with, try_with, AllTried};
+ghost use Rattle.redis_cluster.specs.Tries.{tries_with, try_with, SentInTurn};
 
 use crate::attempts::{send_once, send_with_retries};
 use crate::fault::{DriveError, DriveFault};
@@ -43,13 +44,12 @@ pub(super) fn send_all<R: Routable, N: Nodes>(
         → N.kept nodes.new
         → ArePartReplies plan.new command.form (results_of N.step command (N.state nodes.old).keyspace)) }
     ensures trace { OnOk result
-        (AllTried (in_order (tries_with (targets plan.old) retries.old) order.now)
+        (SentInTurn (in_order (tries_with (targets plan.old) retries.old) order.now)
         (N.state nodes.old).trace (N.state nodes.new).trace) }
     ensures allowed { AreAllowed (N.may_refuse nodes.old) (N.state nodes.old).trace (N.state nodes.new).trace }
     ensures keyspace { OnOk result ((command : MultiKey) → IsPlanOf (N.registered nodes.old) command plan.old
         → N.kept nodes.new
         → (N.state nodes.new).keyspace ≡ keyspace_after N.step command (N.state nodes.old).keyspace) }
-    ensures kept { N.kept nodes.new → N.kept nodes.old }
     ensures within { IfErr result (λ stop. stop.answered < length order.now) }
     ensures given { IfErr result
         (λ stop. HaveGiven (N.gave nodes.old) (N.gave nodes.new) stop.answered) }
@@ -59,9 +59,7 @@ pub(super) fn send_all<R: Routable, N: Nodes>(
         → AreStopped (N.kept nodes.new) N.step (N.may_refuse nodes.old) command plan.old
         (tries_with (targets plan.old) retries.old) order.now stop.answered (N.state nodes.old).keyspace (N.state nodes.new).keyspace (N.state nodes.old).trace (N.state nodes.new).trace
         (N.state nodes.new).mark (ending_of error))) }
-    ensures registered { N.registered nodes.new ≡ N.registered nodes.old }
-    ensures may_refuse { (count : ℕ) (ending : Ending) → N.may_refuse nodes.new count ending
-        ↔ N.may_refuse nodes.old count ending }
+    ensures frame { SameNodes ⟦<N as Nodes>⟧ nodes.old nodes.new }
 {
     let mut answered = 0;
     for number in order {
@@ -95,7 +93,6 @@ fn send_part<R: Routable, N: Nodes>(
         → slice_get (targets plan.now) number ≡ Some target
         → multi_key (N.registered nodes.old) (map Some target.1) ≡ Some command
         → N.kept nodes.new → view value ≡ reply_to N.step command (N.state nodes.old).keyspace) }
-    ensures kept { N.kept nodes.new → N.kept nodes.old }
     ensures gave { IfOk result
         (λ value. (replies : List Reply) → N.gave nodes.old replies
         → N.gave nodes.new (replies ++ view value ∷ [])) }
@@ -108,11 +105,11 @@ fn send_part<R: Routable, N: Nodes>(
         → (N.state nodes.new).keyspace ≡ keyspace_after N.step command (N.state nodes.old).keyspace) }
     ensures trace { OnOk result ((target : Target)
         → slice_get (targets plan.now) number ≡ Some target
-        → IsTried (try_with target (slice_get retries.old number)) (Some answered)
+        → AttemptsOf (try_with target (slice_get retries.old number)) (Some answered)
         (N.state nodes.old).trace (N.state nodes.new).trace) }
     ensures unanswered { IfErr result
         (λ error. (target : Target) → slice_get (targets plan.now) number ≡ Some target
-        → IsTried (try_with target (slice_get retries.old number)) (ending_of error)
+        → AttemptsOf (try_with target (slice_get retries.old number)) (ending_of error)
         (N.state nodes.old).trace (N.state nodes.new).trace) }
     ensures cause { IfErr result
         (λ error. IsCause (N.may_refuse nodes.old) (length (N.state nodes.new).trace) (N.state nodes.new).mark
@@ -126,9 +123,7 @@ fn send_part<R: Routable, N: Nodes>(
     ensures others { (other : ℕ) → nat_eq other number ≡ false
         → slice_get retries.new other ≡ slice_get retries.old other }
     ensures many { length retries.new ≡ length retries.old }
-    ensures registered { N.registered nodes.new ≡ N.registered nodes.old }
-    ensures may_refuse { (count : ℕ) (ending : Ending) → N.may_refuse nodes.new count ending
-        ↔ N.may_refuse nodes.old count ending }
+    ensures frame { SameNodes ⟦<N as Nodes>⟧ nodes.old nodes.new }
 {
     let Some(part) = plan.part(number) else {
         unreachable!()

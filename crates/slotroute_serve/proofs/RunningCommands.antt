@@ -25,6 +25,7 @@ use Rattle.redis_cluster.specs.Registry.{Registrations}
 use Rattle.redis_cluster.specs.Trace.{Entry, Ending, refused, redirected, lost}
 use Rattle.redis_cluster.specs.declared.fault.DriveFault.{DriveFault}
 use Rattle.redis_cluster.specs.declared.fault.DriveFault.TheVariants as drive
+use Rattle.redis_cluster.proofs.CommandParts.{covered_routes}
 use Rattle.redis_cluster.proofs.Headline.{last_allowed}
 use Rattle.redis_cluster.proofs.Wider.{driven_at, plan_node}
 use Rattle.resp_core.specs.Reply.{Reply}
@@ -124,7 +125,7 @@ module _ (IsNode : SlotRoute → Address → Type 0) (names : List (List ℕ)) (
       by_cut (inr cut) = cut.0.reach_is
       by_cut (inl early) =
           let routes : List SlotRoute = early.0.0 in
-          let ordered : order ≡ send_order direction (length routes) = subst (λ (found : Option (List SlotRoute)). IfSome found (λ rs. order ≡ send_order direction (length rs))) early.0.2.routes_are is in
+          let ordered : order ≡ send_order direction (length routes) = subst (λ (found : Option (List SlotRoute)). IfSome found (λ rs. order ≡ send_order direction (length rs))) (covered_routes asked routes early.0.1 early.0.2) is in
           early.0.3 (subst (λ (o : List ℕ). NamesOnce (length routes) o) (sym ordered) (names_once direction (length routes)))
 
 -- the routes of a driven command are those that its order was made for
@@ -146,7 +147,7 @@ command_run handed direction registered entries words old new order answer text 
     keyspace = d.keyspace;
     reply = d.reply;
   };
-  ordered = order_is direction registered words order d.routes ordered d.drivable.is_covered.routes_are;
+  ordered = order_is direction registered words order d.routes ordered (covered_routes (request (map Some words) (names_with registered) entries order) d.routes d.command d.drivable.is_covered);
   printed = lines ∙ ap (λ sent. command_lines sent answer) (ap (drop (length old.trace)) d.trace.grew ∙ drop-append_seam old.trace d.trace.entries);
 }
 

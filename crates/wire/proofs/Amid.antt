@@ -23,6 +23,7 @@ use Rattle.redis_cluster.specs.Orders.{NamesOnce, in_order, times}
 use Rattle.redis_cluster.specs.Trace.{Entry, Ending, answered, refused, redirected, lost}
 use Rattle.redis_cluster.specs.Unsplit.{Step, Keyspace, keyspace_after, reply_to}
 use Rattle.redis_cluster.proofs.Amid.{parts_act_by_slot}
+use Rattle.redis_cluster.proofs.CommandParts.{covered_routes}
 use Rattle.redis_cluster.proofs.Constructors.{same_some}
 use Rattle.redis_cluster.proofs.Counts.{same_number, times_here, times_there}
 use Rattle.redis_cluster.proofs.Orders.{get-in_order, map-in_order, times-in_order}
@@ -189,7 +190,7 @@ module _ (C : Type 0) (r : Request) (old new : List SaidCommand) (d : AreSentInO
 
   slots_are : slots_in_routes d.routes ≡ slots
   slots_are =
-      ap slots_in_routes (sym (same_some (command_routes r.names.only_reads command) d.routes (sym (ap (option_map (command_routes r.names.only_reads)) command_is) ∙ d.drivable.is_covered.routes_are)))
+      ap slots_in_routes (sym (same_some (command_routes r.names.only_reads command) d.routes (sym (ap (option_map (command_routes r.names.only_reads)) command_is) ∙ covered_routes r d.routes d.command d.drivable.is_covered)))
       ∙ slots_back (nodes_for (r.names.only_reads command.name)) slots
 
   order_is : NamesOnce (length slots) r.order
@@ -203,12 +204,12 @@ module _ (C : Type 0) (r : Request) (old new : List SaidCommand) (d : AreSentInO
       subst (λ xs. AreOfSlots registered r.arguments xs (map entry_by tail)) (map-in_order (λ (route : SlotRoute). route.slot) d.routes r.order ∙ ap (λ xs. in_order xs r.order) slots_are)
       (subst (λ es. AreOfSlots registered r.arguments (slots_in_routes (in_order d.routes r.order)) es) (sym tail_is) d.each)
 
-  parts : PartsActBySlot C registered r.arguments command
-  parts = parts_act_by_slot C command registered r.arguments command_is
+  parts : PartsActBySlot C registered r.arguments
+  parts = parts_act_by_slot C registered r.arguments
 
   -- what is sent for a slot means the slot's part
   meant : (i slot : ℕ) → slice_get slots i ≡ Some slot → multi_key registered (part_by_slot registered r.arguments slot) ≡ Some (part_of command slot)
-  meant i slot at = at_place (λ slot. multi_key registered (part_by_slot registered r.arguments slot) ≡ Some (part_of command slot)) slots i slot parts.meant at
+  meant i slot at = at_place (λ slot. multi_key registered (part_by_slot registered r.arguments slot) ≡ Some (part_of command slot)) slots i slot (parts.meant command command_is) at
 
   -- each answered send since then is of a slot's part
   part_at : (number : ℕ) (part : MultiKey) (reply : Reply) → n ≤ number → IsReplyAt registered new number part reply → (slot : ℕ) × (part ≡ part_of command slot)
@@ -233,7 +234,7 @@ module _ (C : Type 0) (r : Request) (old new : List SaidCommand) (d : AreSentInO
             subst (λ (p : MultiKey). All (λ t. one t.key ≡ held t.key → keyspace_after step command one t.key ≡ keyspace_after step p held t.key) p.tuples) (sym own.1)
             (λ k d within same.
             let key : List ℕ = (get_or (tuples_of_slot slot command.tuples) k d).key in
-            sym (parts.acts.left step slot held one key (eqb-true (key_slot key) slot (filter_passes (λ (t : KeyTuple). nat_eq (key_slot t.key) slot) command.tuples k d within)) same));
+            sym ((parts.acts command command_is).left step slot held one key (eqb-true (key_slot key) slot (filter_passes (λ (t : KeyTuple). nat_eq (key_slot t.key) slot) command.tuples k d within)) same));
       }
 
   -- These replies came to its parts, and this one is the reply to it.
@@ -319,6 +320,6 @@ module _ (C : Type 0) (r : Request) (IsNode : SlotRoute → Address → Type 0) 
   served_at value d = served_in_order C r old new value (by_delivered IsNode r (map entry_by old) (map entry_by new) d)
 
 -- And one that was tried until each part was answered.
-pub served_at_retries : (C : Type 0) (r : Request) (IsTry : SlotRoute → Try → Type 0) → ((route : SlotRoute) (try : Try) → IsTry route try → IsOwnTry r route try) → (old new : List SaidCommand) (value : Reply) → AreAllTried IsTry r (map entry_by old) (map entry_by new)
+pub served_at_retries : (C : Type 0) (r : Request) (IsTry : Request → SlotRoute → Try → Type 0) → ((route : SlotRoute) (try : Try) → IsTry r route try → IsOwnTry r route try) → (old new : List SaidCommand) (value : Reply) → AreAllTried IsTry r (map entry_by old) (map entry_by new)
     → IsServedAmid C r.names.registered r.arguments r.order (λ rs. rs ≡ replies_in old) (λ rs. rs ≡ replies_in new) value → IsServedAt C r.names.registered r.arguments old new value
 served_at_retries C r IsTry own old new value d = served_in_order C r old new value (by_tried IsTry r own (map entry_by old) (map entry_by new) d)

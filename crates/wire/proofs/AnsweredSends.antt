@@ -123,8 +123,8 @@ module _ (registered : Registrations) (args : Arguments) (slot : ℕ) (slots : L
       by_attempts None (e ∷ es) (All-weaker (λ (x : Entry). x.args ≡ try.part) (λ x. map Some x.args ≡ part_by_slot registered args slot) (λ x is. ap (map Some) is ∙ own) (e ∷ es) ended.0.begun.part)
       (answer_is_last try (e ∷ es) ended.0.begun) (omega arith) ended.1
 
-module _ (IsTry : SlotRoute → Try → Type 0) (r : Request) (own : (route : SlotRoute) (try : Try) → IsTry route try → IsOwnTry r route try) where
-  of_tried : (routes : List SlotRoute) (old new : List Entry) → AreTried IsTry routes old new → (entries : List Entry) × (new ≡ old ++ entries) × AreOfSlots r.names.registered r.arguments (slots_in_routes routes) entries
+module _ (IsTry : Request → SlotRoute → Try → Type 0) (r : Request) (own : (route : SlotRoute) (try : Try) → IsTry r route try → IsOwnTry r route try) where
+  of_tried : (routes : List SlotRoute) (old new : List Entry) → AreTried (IsTry r) routes old new → (entries : List Entry) × (new ≡ old ++ entries) × AreOfSlots r.names.registered r.arguments (slots_in_routes routes) entries
   of_tried [] old new same = ([], same ∙ sym (append-nil old), tt)
   of_tried (route ∷ routes) old new (try, mid, is, first, later) =
       let rest = of_tried routes mid new later in (

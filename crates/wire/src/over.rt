@@ -1,13 +1,11 @@
-ghost use Rattle.std.specs.Prelude.{◌≡◌, Some, map, Ok, Err, IfOk, IfErr, ⊤};
-ghost use Rattle.resp_core.specs.ErrorParts.{ErrorParts};
+ghost use Rattle.std.specs.Prelude.{◌≡◌, Some, map, IfOk, IfErr, ⊤};
 ghost use Rattle.resp_core.specs.View.{view};
 ghost use Rattle.cluster_map.specs.RouteNode.{IsRouteNode};
 ghost use Rattle.redis_routing.specs.Names.{names_of};
 ghost use Rattle.redis_cluster.specs.Driven.{request, IsDelivered};
 ghost use Rattle.redis_cluster.specs.Faults.{IsCut};
-ghost use Rattle.redis_cluster.specs.Joined.{IsJoined};
+ghost use Rattle.redis_cluster.specs.Joined.{ReturnsJoined};
 ghost use Rattle.redis_cluster.specs.MultiKey.{MultiKey, multi_key};
-ghost use Rattle.redis_cluster.specs.declared.fault.DriveFault.TheVariants.{Reply};
 ghost use Rattle.wire.specs.Amid.{IsServedAt, OfEachReply, LeavesAsUnsplit};
 ghost use Rattle.wire.specs.Commands.{entry_by};
 ghost use Rattle.wire.specs.Held.{registry_in, wire_in};
@@ -57,16 +55,11 @@ pub fn drive_over<R: Routable, W: Wire, M: Meaning>(
         (⟦<WireNodes<W, M> as Nodes>⟧.state client.old)
         (⟦<WireNodes<W, M> as Nodes>⟧.state client.new)
         (λ count ending. ⊤) e.fault e.answered) }
-    // The reply is made of the values that came, as the command's policy says.
-    ensures joined { IfOk result (λ value.
-        IsJoined (registry_in client.old) (R.args command.now) order.now
+    // The reply is made of the values that came, as the command's policy says. Or the policy refuses
+    // the values, with an error of this kind.
+    ensures joined { ReturnsJoined (registry_in client.old) (R.args command.now) order.now
         (λ replies. replies ≡ replies_in (W.log (wire_in client.old)))
-        (λ replies. replies ≡ replies_in (W.log (wire_in client.new))) (Ok (view value))) }
-    // Or the policy refuses them, with an error of this kind.
-    ensures unjoined { IfErr result (λ e. (error : ErrorParts) → e.fault ≡ Reply error →
-        IsJoined (registry_in client.old) (R.args command.now) order.now
-        (λ replies. replies ≡ replies_in (W.log (wire_in client.old)))
-        (λ replies. replies ≡ replies_in (W.log (wire_in client.new))) (Err error.kind)) }
+        (λ replies. replies ≡ replies_in (W.log (wire_in client.new))) result }
     // Others may write the same keys meanwhile, and replicas may lag. If each node replied to its part
     // by what it held, the reply is that of the unsplit command on that.
     ensures amid { IfOk result (λ value.

@@ -90,7 +90,7 @@ impl<W: Wire, M: Meaning> WireNodes<W, M> {
         // that were not answered count for nothing.
         ensures amid_retried { (asked : Request) (retries : ℕ) (before : List SaidCommand) (value : Reply)
             → asked.names.registered ≡ registry_in self
-            → AreAllTried (IsTryOf (λ route address. ⊤) asked retries) asked (map entry_by before)
+            → AreAllTried (IsTryOf (λ route address. ⊤) retries) asked (map entry_by before)
             (map entry_by (W.log (wire_in self)))
             → IsServedAmid M.Cell (registry_in self) asked.arguments asked.order
             (λ replies. replies ≡ replies_in before)

@@ -2,10 +2,11 @@ use Rattle.std.proofs.Common.{◌≡◌, ◌∙◌, Option, Some, ap, sym, subst
 use Rattle.std.specs.Prelude.{IfSome}
 use Rattle.redis_cluster.specs.MultiKey.{MultiKey, multi_key}
 use Rattle.redis_cluster.specs.Trace.{redirected}
-use Rattle.redis_cluster.specs.Attempts.{IsTried}
+use Rattle.redis_cluster.specs.Attempts.{AttemptsOf}
 use Rattle.redis_cluster.specs.Tries.{try_by}
 use Rattle.redis_routing.specs.declared.info.Redirect.{Redirect}
 use Rattle.redis_cluster.proofs.Allowed.{allowed_sent, allowed_more}
+use Rattle.redis_cluster.proofs.Frame.{frame_more}
 use Rattle.redis_cluster.proofs.Trying.{answers, loses, refuses_last, refuses, redirects_last, redirects}
 use Rattle.redis_cluster.proofs.attempts.send_with_retries.Goals as goal
 
@@ -35,14 +36,12 @@ loop-node-preserved-else-not-on_failure g c =
     record {
       tried = refuses (try_by c.args.part.now c.args.retry.now) (nodes.state c.args.nodes.now).trace (nodes.state c.loop-node.nodes).trace (nodes.state c.send.new.self).trace c.loop-node.retry c.in-Some.node.now
           inv.tried (sym c.in-Some.ensures.target) c.in-Refused.refusal c.on_failure.new.self told.1 (c.on_failure.ensures.named c.if-not-on_failure.false);
-      allowed = allowed_more (nodes.may_refuse c.args.nodes.now) (nodes.may_refuse c.loop-node.nodes) (nodes.state c.args.nodes.now).trace (nodes.state c.loop-node.nodes).trace (nodes.state c.send.new.self).trace c.loop-node.invariant.may_refuse c.loop-node.invariant.allowed
+      allowed = allowed_more (nodes.may_refuse c.args.nodes.now) (nodes.may_refuse c.loop-node.nodes) (nodes.state c.args.nodes.now).trace (nodes.state c.loop-node.nodes).trace (nodes.state c.send.new.self).trace c.loop-node.invariant.frame.may_refuse c.loop-node.invariant.allowed
           (allowed_sent (nodes.may_refuse c.loop-node.nodes) c.send.result (nodes.state c.loop-node.nodes).trace (nodes.state c.send.new.self).trace (nodes.state c.send.new.self).mark c.in-Some.node.now c.args.part.now c.send.ensures.trace c.send.ensures.unanswered);
-      kept = λ now. inv.kept (c.send.ensures.kept now);
-      keyspace = λ now. of_command (λ command. nodes.kept c.send.new.self → (nodes.state c.send.new.self).keyspace ≡ (nodes.state c.loop-node.nodes).keyspace) (multi_key (nodes.registered c.loop-node.nodes) (map Some c.args.part.now)) c.requires.part.command (ap (λ registered. multi_key registered (map Some c.args.part.now)) inv.registered ∙ c.requires.part.command_is) left now
+      frame = frame_more nodes c.args.nodes.now c.loop-node.nodes c.send.new.self inv.frame (record { kept = c.send.ensures.kept; registered = c.send.ensures.registered; may_refuse = c.send.ensures.may_refuse });
+      keyspace = λ now. of_command (λ command. nodes.kept c.send.new.self → (nodes.state c.send.new.self).keyspace ≡ (nodes.state c.loop-node.nodes).keyspace) (multi_key (nodes.registered c.loop-node.nodes) (map Some c.args.part.now)) c.requires.part.command (ap (λ registered. multi_key registered (map Some c.args.part.now)) inv.frame.registered ∙ c.requires.part.command_is) left now
           ∙ inv.keyspace (c.send.ensures.kept now);
-      registered = c.send.ensures.registered ∙ inv.registered;
       gave = λ replies was. c.in-Err.ensures.gave_none replies (inv.gave replies was);
-      may_refuse = λ count ending. (λ may. (inv.may_refuse count ending).0 ((c.send.ensures.may_refuse count ending).0 may), λ may. (c.send.ensures.may_refuse count ending).1 ((inv.may_refuse count ending).1 may));
     }
 
 pub loop-node-preserved-else-not-on_failure-2 : goal.loop-node-preserved-else-not-on_failure-2
@@ -54,14 +53,12 @@ loop-node-preserved-else-not-on_failure-2 g c =
     record {
       tried = refuses (try_by c.args.part.now c.args.retry.now) (nodes.state c.args.nodes.now).trace (nodes.state c.loop-node.nodes).trace (nodes.state c.send.new.self).trace c.loop-node.retry c.in-Some.node.now
           inv.tried (sym c.in-Some.ensures.target) c.in-Refused.refusal c.on_failure.new.self told.1 (c.on_failure.ensures.named c.if-not-on_failure.false);
-      allowed = allowed_more (nodes.may_refuse c.args.nodes.now) (nodes.may_refuse c.loop-node.nodes) (nodes.state c.args.nodes.now).trace (nodes.state c.loop-node.nodes).trace (nodes.state c.send.new.self).trace c.loop-node.invariant.may_refuse c.loop-node.invariant.allowed
+      allowed = allowed_more (nodes.may_refuse c.args.nodes.now) (nodes.may_refuse c.loop-node.nodes) (nodes.state c.args.nodes.now).trace (nodes.state c.loop-node.nodes).trace (nodes.state c.send.new.self).trace c.loop-node.invariant.frame.may_refuse c.loop-node.invariant.allowed
           (allowed_sent (nodes.may_refuse c.loop-node.nodes) c.send.result (nodes.state c.loop-node.nodes).trace (nodes.state c.send.new.self).trace (nodes.state c.send.new.self).mark c.in-Some.node.now c.args.part.now c.send.ensures.trace c.send.ensures.unanswered);
-      kept = λ now. inv.kept (c.send.ensures.kept now);
-      keyspace = λ now. of_command (λ command. nodes.kept c.send.new.self → (nodes.state c.send.new.self).keyspace ≡ (nodes.state c.loop-node.nodes).keyspace) (multi_key (nodes.registered c.loop-node.nodes) (map Some c.args.part.now)) c.requires.part.command (ap (λ registered. multi_key registered (map Some c.args.part.now)) inv.registered ∙ c.requires.part.command_is) left now
+      frame = frame_more nodes c.args.nodes.now c.loop-node.nodes c.send.new.self inv.frame (record { kept = c.send.ensures.kept; registered = c.send.ensures.registered; may_refuse = c.send.ensures.may_refuse });
+      keyspace = λ now. of_command (λ command. nodes.kept c.send.new.self → (nodes.state c.send.new.self).keyspace ≡ (nodes.state c.loop-node.nodes).keyspace) (multi_key (nodes.registered c.loop-node.nodes) (map Some c.args.part.now)) c.requires.part.command (ap (λ registered. multi_key registered (map Some c.args.part.now)) inv.frame.registered ∙ c.requires.part.command_is) left now
           ∙ inv.keyspace (c.send.ensures.kept now);
-      registered = c.send.ensures.registered ∙ inv.registered;
       gave = λ replies was. c.in-Err.ensures.gave_none replies (inv.gave replies was);
-      may_refuse = λ count ending. (λ may. (inv.may_refuse count ending).0 ((c.send.ensures.may_refuse count ending).0 may), λ may. (c.send.ensures.may_refuse count ending).1 ((inv.may_refuse count ending).1 may));
     }
 
 pub returns-in-Err-on_redirect-clause-unanswered : goal.returns-in-Err-on_redirect-clause-unanswered
@@ -71,7 +68,7 @@ returns-in-Err-on_redirect-clause-unanswered g c =
     let ended = c.in-Err-on_redirect.ensures.ended in
     let tried = redirects_last (try_by c.args.part.now c.args.retry.now) (nodes.state c.args.nodes.now).trace (nodes.state c.loop-node.nodes).trace (nodes.state c.send.new.self).trace c.loop-node.retry c.in-Some.node.now
     c.loop-node.invariant.tried (sym c.in-Some.ensures.target) c.in-Redirected.redirect told.1 ended.1 in
-    subst (λ (r : Redirect). IsTried (try_by c.args.part.now c.args.retry.now) (Some (redirected r)) (nodes.state c.args.nodes.now).trace (nodes.state c.send.new.self).trace) (sym ended.0) tried
+    subst (λ (r : Redirect). AttemptsOf (try_by c.args.part.now c.args.retry.now) (Some (redirected r)) (nodes.state c.args.nodes.now).trace (nodes.state c.send.new.self).trace) (sym ended.0) tried
 
 pub loop-node-preserved : goal.loop-node-preserved
 loop-node-preserved g c =
@@ -82,14 +79,12 @@ loop-node-preserved g c =
     record {
       tried = redirects (try_by c.args.part.now c.args.retry.now) (nodes.state c.args.nodes.now).trace (nodes.state c.loop-node.nodes).trace (nodes.state c.send.new.self).trace c.loop-node.retry c.in-Some.node.now
           inv.tried (sym c.in-Some.ensures.target) c.in-Redirected.redirect c.on_redirect.new.self told.1 c.in_default-on_redirect.ensures.named;
-      allowed = allowed_more (nodes.may_refuse c.args.nodes.now) (nodes.may_refuse c.loop-node.nodes) (nodes.state c.args.nodes.now).trace (nodes.state c.loop-node.nodes).trace (nodes.state c.send.new.self).trace c.loop-node.invariant.may_refuse c.loop-node.invariant.allowed
+      allowed = allowed_more (nodes.may_refuse c.args.nodes.now) (nodes.may_refuse c.loop-node.nodes) (nodes.state c.args.nodes.now).trace (nodes.state c.loop-node.nodes).trace (nodes.state c.send.new.self).trace c.loop-node.invariant.frame.may_refuse c.loop-node.invariant.allowed
           (allowed_sent (nodes.may_refuse c.loop-node.nodes) c.send.result (nodes.state c.loop-node.nodes).trace (nodes.state c.send.new.self).trace (nodes.state c.send.new.self).mark c.in-Some.node.now c.args.part.now c.send.ensures.trace c.send.ensures.unanswered);
-      kept = λ now. inv.kept (c.send.ensures.kept now);
-      keyspace = λ now. of_command (λ command. nodes.kept c.send.new.self → (nodes.state c.send.new.self).keyspace ≡ (nodes.state c.loop-node.nodes).keyspace) (multi_key (nodes.registered c.loop-node.nodes) (map Some c.args.part.now)) c.requires.part.command (ap (λ registered. multi_key registered (map Some c.args.part.now)) inv.registered ∙ c.requires.part.command_is) left now
+      frame = frame_more nodes c.args.nodes.now c.loop-node.nodes c.send.new.self inv.frame (record { kept = c.send.ensures.kept; registered = c.send.ensures.registered; may_refuse = c.send.ensures.may_refuse });
+      keyspace = λ now. of_command (λ command. nodes.kept c.send.new.self → (nodes.state c.send.new.self).keyspace ≡ (nodes.state c.loop-node.nodes).keyspace) (multi_key (nodes.registered c.loop-node.nodes) (map Some c.args.part.now)) c.requires.part.command (ap (λ registered. multi_key registered (map Some c.args.part.now)) inv.frame.registered ∙ c.requires.part.command_is) left now
           ∙ inv.keyspace (c.send.ensures.kept now);
-      registered = c.send.ensures.registered ∙ inv.registered;
       gave = λ replies was. c.in-Err.ensures.gave_none replies (inv.gave replies was);
-      may_refuse = λ count ending. (λ may. (inv.may_refuse count ending).0 ((c.send.ensures.may_refuse count ending).0 may), λ may. (c.send.ensures.may_refuse count ending).1 ((inv.may_refuse count ending).1 may));
     }
 
 pub returns-in-Lost-clause-unanswered : goal.returns-in-Lost-clause-unanswered
@@ -102,29 +97,49 @@ returns-in-Lost-clause-unanswered g c =
 pub returns-in-Ok-clause-allowed : goal.returns-in-Ok-clause-allowed
 returns-in-Ok-clause-allowed g c =
     let nodes = g.N.Nodes in
-    allowed_more (nodes.may_refuse c.args.nodes.now) (nodes.may_refuse c.loop-node.nodes) (nodes.state c.args.nodes.now).trace (nodes.state c.loop-node.nodes).trace (nodes.state c.send.new.self).trace c.loop-node.invariant.may_refuse c.loop-node.invariant.allowed
+    allowed_more (nodes.may_refuse c.args.nodes.now) (nodes.may_refuse c.loop-node.nodes) (nodes.state c.args.nodes.now).trace (nodes.state c.loop-node.nodes).trace (nodes.state c.send.new.self).trace c.loop-node.invariant.frame.may_refuse c.loop-node.invariant.allowed
     (allowed_sent (nodes.may_refuse c.loop-node.nodes) c.send.result (nodes.state c.loop-node.nodes).trace (nodes.state c.send.new.self).trace (nodes.state c.send.new.self).mark c.in-Some.node.now c.args.part.now c.send.ensures.trace c.send.ensures.unanswered)
 
 pub returns-then-not-on_failure-clause-allowed : goal.returns-then-not-on_failure-clause-allowed
 returns-then-not-on_failure-clause-allowed g c =
     let nodes = g.N.Nodes in
-    allowed_more (nodes.may_refuse c.args.nodes.now) (nodes.may_refuse c.loop-node.nodes) (nodes.state c.args.nodes.now).trace (nodes.state c.loop-node.nodes).trace (nodes.state c.send.new.self).trace c.loop-node.invariant.may_refuse c.loop-node.invariant.allowed
+    allowed_more (nodes.may_refuse c.args.nodes.now) (nodes.may_refuse c.loop-node.nodes) (nodes.state c.args.nodes.now).trace (nodes.state c.loop-node.nodes).trace (nodes.state c.send.new.self).trace c.loop-node.invariant.frame.may_refuse c.loop-node.invariant.allowed
     (allowed_sent (nodes.may_refuse c.loop-node.nodes) c.send.result (nodes.state c.loop-node.nodes).trace (nodes.state c.send.new.self).trace (nodes.state c.send.new.self).mark c.in-Some.node.now c.args.part.now c.send.ensures.trace c.send.ensures.unanswered)
 
 pub returns-in-Err-on_redirect-clause-allowed : goal.returns-in-Err-on_redirect-clause-allowed
 returns-in-Err-on_redirect-clause-allowed g c =
     let nodes = g.N.Nodes in
-    allowed_more (nodes.may_refuse c.args.nodes.now) (nodes.may_refuse c.loop-node.nodes) (nodes.state c.args.nodes.now).trace (nodes.state c.loop-node.nodes).trace (nodes.state c.send.new.self).trace c.loop-node.invariant.may_refuse c.loop-node.invariant.allowed
+    allowed_more (nodes.may_refuse c.args.nodes.now) (nodes.may_refuse c.loop-node.nodes) (nodes.state c.args.nodes.now).trace (nodes.state c.loop-node.nodes).trace (nodes.state c.send.new.self).trace c.loop-node.invariant.frame.may_refuse c.loop-node.invariant.allowed
     (allowed_sent (nodes.may_refuse c.loop-node.nodes) c.send.result (nodes.state c.loop-node.nodes).trace (nodes.state c.send.new.self).trace (nodes.state c.send.new.self).mark c.in-Some.node.now c.args.part.now c.send.ensures.trace c.send.ensures.unanswered)
 
 pub returns-in-Lost-clause-allowed : goal.returns-in-Lost-clause-allowed
 returns-in-Lost-clause-allowed g c =
     let nodes = g.N.Nodes in
-    allowed_more (nodes.may_refuse c.args.nodes.now) (nodes.may_refuse c.loop-node.nodes) (nodes.state c.args.nodes.now).trace (nodes.state c.loop-node.nodes).trace (nodes.state c.send.new.self).trace c.loop-node.invariant.may_refuse c.loop-node.invariant.allowed
+    allowed_more (nodes.may_refuse c.args.nodes.now) (nodes.may_refuse c.loop-node.nodes) (nodes.state c.args.nodes.now).trace (nodes.state c.loop-node.nodes).trace (nodes.state c.send.new.self).trace c.loop-node.invariant.frame.may_refuse c.loop-node.invariant.allowed
     (allowed_sent (nodes.may_refuse c.loop-node.nodes) c.send.result (nodes.state c.loop-node.nodes).trace (nodes.state c.send.new.self).trace (nodes.state c.send.new.self).mark c.in-Some.node.now c.args.part.now c.send.ensures.trace c.send.ensures.unanswered)
 
 pub returns-in-Memory-clause-allowed : goal.returns-in-Memory-clause-allowed
 returns-in-Memory-clause-allowed g c =
     let nodes = g.N.Nodes in
-    allowed_more (nodes.may_refuse c.args.nodes.now) (nodes.may_refuse c.loop-node.nodes) (nodes.state c.args.nodes.now).trace (nodes.state c.loop-node.nodes).trace (nodes.state c.send.new.self).trace c.loop-node.invariant.may_refuse c.loop-node.invariant.allowed
+    allowed_more (nodes.may_refuse c.args.nodes.now) (nodes.may_refuse c.loop-node.nodes) (nodes.state c.args.nodes.now).trace (nodes.state c.loop-node.nodes).trace (nodes.state c.send.new.self).trace c.loop-node.invariant.frame.may_refuse c.loop-node.invariant.allowed
     (allowed_sent (nodes.may_refuse c.loop-node.nodes) c.send.result (nodes.state c.loop-node.nodes).trace (nodes.state c.send.new.self).trace (nodes.state c.send.new.self).mark c.in-Some.node.now c.args.part.now c.send.ensures.trace c.send.ensures.unanswered)
+
+pub returns-in-Ok-clause-frame : goal.returns-in-Ok-clause-frame
+returns-in-Ok-clause-frame g c =
+    frame_more g.N.Nodes c.args.nodes.now c.loop-node.nodes c.send.new.self c.loop-node.invariant.frame (record { kept = c.send.ensures.kept; registered = c.send.ensures.registered; may_refuse = c.send.ensures.may_refuse })
+
+pub returns-then-not-on_failure-clause-frame : goal.returns-then-not-on_failure-clause-frame
+returns-then-not-on_failure-clause-frame g c =
+    frame_more g.N.Nodes c.args.nodes.now c.loop-node.nodes c.send.new.self c.loop-node.invariant.frame (record { kept = c.send.ensures.kept; registered = c.send.ensures.registered; may_refuse = c.send.ensures.may_refuse })
+
+pub returns-in-Err-on_redirect-clause-frame : goal.returns-in-Err-on_redirect-clause-frame
+returns-in-Err-on_redirect-clause-frame g c =
+    frame_more g.N.Nodes c.args.nodes.now c.loop-node.nodes c.send.new.self c.loop-node.invariant.frame (record { kept = c.send.ensures.kept; registered = c.send.ensures.registered; may_refuse = c.send.ensures.may_refuse })
+
+pub returns-in-Lost-clause-frame : goal.returns-in-Lost-clause-frame
+returns-in-Lost-clause-frame g c =
+    frame_more g.N.Nodes c.args.nodes.now c.loop-node.nodes c.send.new.self c.loop-node.invariant.frame (record { kept = c.send.ensures.kept; registered = c.send.ensures.registered; may_refuse = c.send.ensures.may_refuse })
+
+pub returns-in-Memory-clause-frame : goal.returns-in-Memory-clause-frame
+returns-in-Memory-clause-frame g c =
+    frame_more g.N.Nodes c.args.nodes.now c.loop-node.nodes c.send.new.self c.loop-node.invariant.frame (record { kept = c.send.ensures.kept; registered = c.send.ensures.registered; may_refuse = c.send.ensures.may_refuse })

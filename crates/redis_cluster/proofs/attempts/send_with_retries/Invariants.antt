@@ -1,6 +1,6 @@
-use Rattle.std.proofs.Common.{◌≡◌, ◌↔◌, ℕ, List}
+use Rattle.std.proofs.Common.{◌≡◌, List}
 use Rattle.resp_core.specs.Reply.{Reply}
-use Rattle.redis_cluster.specs.Trace.{Ending}
+use Rattle.redis_cluster.specs.Frame.{SameNodes}
 use Rattle.redis_cluster.specs.Attempts.{AreAllowed}
 use Rattle.redis_cluster.specs.Tries.{try_by}
 use Rattle.redis_cluster.proofs.Trying.{IsTrying}
@@ -13,11 +13,9 @@ invariant-loop-node g l =
     record {
       tried : IsTrying (try_by l.fn.part l.fn.retry) (nodes.state l.fn.nodes).trace (nodes.state l.nodes).trace l.retry;
       allowed : AreAllowed (nodes.may_refuse l.fn.nodes) (nodes.state l.fn.nodes).trace (nodes.state l.nodes).trace;
-      kept : nodes.kept l.nodes → nodes.kept l.fn.nodes;
+      frame : SameNodes nodes l.fn.nodes l.nodes;
       keyspace : nodes.kept l.nodes → (nodes.state l.nodes).keyspace ≡ (nodes.state l.fn.nodes).keyspace;
-      registered : nodes.registered l.nodes ≡ nodes.registered l.fn.nodes;
       gave : (replies : List Reply) → nodes.gave l.fn.nodes replies → nodes.gave l.nodes replies;
-      may_refuse : (count : ℕ) (ending : Ending) → nodes.may_refuse l.nodes count ending ↔ nodes.may_refuse l.fn.nodes count ending;
     }
 
 -- each further target leaves one target less

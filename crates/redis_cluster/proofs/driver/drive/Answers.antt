@@ -1,4 +1,4 @@
-use Rattle.std.proofs.Common.{[], Ok, Err, inl, refl, sym, subst}
+use Rattle.std.proofs.Common.{[], inl, refl, sym, subst}
 use Rattle.std.proofs.lemmas.List.{append-nil}
 use Rattle.std.proofs.lemmas.Result.{IfErr-weaker, IfOk-weaker}
 use Rattle.cluster_slots.specs.Address.{Address}
@@ -8,7 +8,7 @@ use Rattle.redis_routing.specs.Names.{names_of}
 use Rattle.redis_routing.specs.Registry.{Registrations}
 use Rattle.redis_cluster.specs.MultiKey.{MultiKey}
 use Rattle.redis_cluster.specs.Driven.{Request, request}
-use Rattle.redis_cluster.specs.Joined.{IsJoined}
+use Rattle.redis_cluster.specs.Joined.{ReturnsJoined}
 use Rattle.redis_cluster.specs.Faults.{fault_of_plan, IsCauseBeforeSending}
 use Rattle.redis_cluster.specs.declared.fault.DriveFault.{DriveFault}
 use Rattle.redis_routing.specs.Command.{Arguments}
@@ -65,16 +65,8 @@ returns-in-Ok-clause-fault g c =
 pub returns-in-Ok-clause-joined : goal.returns-in-Ok-clause-joined
 returns-in-Ok-clause-joined g c =
     let nodes = g.N.Nodes in
-    IfOk-weaker c.drive_plan.result _ _
-    (λ value. subst (λ (args : Arguments). IsJoined (nodes.registered c.args.nodes.now) args c.args.order.now (nodes.gave c.args.nodes.now) (nodes.gave c.drive_plan.new.nodes) (Ok (view value))) c.in-Ok.ensures.arguments)
+    subst (λ (args : Arguments). ReturnsJoined (nodes.registered c.args.nodes.now) args c.args.order.now (nodes.gave c.args.nodes.now) (nodes.gave c.drive_plan.new.nodes) c.drive_plan.result) c.in-Ok.ensures.arguments
     c.drive_plan.ensures.joined
-
-pub returns-in-Ok-clause-unjoined : goal.returns-in-Ok-clause-unjoined
-returns-in-Ok-clause-unjoined g c =
-    let nodes = g.N.Nodes in
-    IfErr-weaker c.drive_plan.result _ _
-    (λ e is error at. subst (λ (args : Arguments). IsJoined (nodes.registered c.args.nodes.now) args c.args.order.now (nodes.gave c.args.nodes.now) (nodes.gave c.drive_plan.new.nodes) (Err error.kind)) c.in-Ok.ensures.arguments (is error at))
-    c.drive_plan.ensures.unjoined
 
 pub returns-in-Ok-clause-headline : goal.returns-in-Ok-clause-headline
 returns-in-Ok-clause-headline g c =
@@ -135,8 +127,8 @@ returns-in-Err-clause-carried g c =
     λ routes command can all now. carried_fault IsNode g.N.Nodes.step asked old old (g.N.Nodes.may_refuse c.args.nodes.now) routes command can all c.from.result 0
     (inl (is_early, refl, refl))
 
-pub returns-in-Err-clause-unjoined : goal.returns-in-Err-clause-unjoined
-returns-in-Err-clause-unjoined g c = λ error is.
+pub returns-in-Err-clause-joined : goal.returns-in-Err-clause-joined
+returns-in-Err-clause-joined g c = λ error is.
     let asked = request (g.R.Routable.args c.args.command.now) (names_of c.args.read_only.now (g.N.Nodes.registered c.args.nodes.now)) c.args.slot_map.now c.args.order.now in
     let is_early : IsCauseBeforeSending asked c.from.result = subst (λ (f : DriveFault). IsCauseBeforeSending asked f) (sym c.from.ensures) (subst (λ registered. IsCauseBeforeSending (request (g.R.Routable.args c.args.command.now) (names_of c.args.read_only.now registered) c.args.slot_map.now c.args.order.now) (fault_of_plan c.in-Err.fault)) c.registry.ensures
     (early_plan (request (g.R.Routable.args c.args.command.now) (names_of c.args.read_only.now c.registry.result.now) c.args.slot_map.now c.args.order.now) c.in-Err.fault c.in-Err.ensures.fault)) in
@@ -154,7 +146,7 @@ returns-in-Ok-clause-amid g c =
     c.drive_plan.ensures.amid
 
 pub returns-in-Ok-clause-parts : goal.returns-in-Ok-clause-parts
-returns-in-Ok-clause-parts g c = λ command is. parts_act_by_slot g.N.Nodes.Cell command (g.N.Nodes.registered c.args.nodes.now) (g.R.Routable.args c.args.command.now) is
+returns-in-Ok-clause-parts g c = parts_act_by_slot g.N.Nodes.Cell (g.N.Nodes.registered c.args.nodes.now) (g.R.Routable.args c.args.command.now)
 
 pub returns-in-Err-clause-parts : goal.returns-in-Err-clause-parts
-returns-in-Err-clause-parts g c = λ command is. parts_act_by_slot g.N.Nodes.Cell command (g.N.Nodes.registered c.args.nodes.now) (g.R.Routable.args c.args.command.now) is
+returns-in-Err-clause-parts g c = parts_act_by_slot g.N.Nodes.Cell (g.N.Nodes.registered c.args.nodes.now) (g.R.Routable.args c.args.command.now)

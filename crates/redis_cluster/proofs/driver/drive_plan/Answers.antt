@@ -78,8 +78,8 @@ pub returns-in-Ok-false-clause-cut : goal.returns-in-Ok-false-clause-cut
 returns-in-Ok-false-clause-cut g c = λ asked command is.
     inl (bad_order asked c.args.order.now (g.N.Nodes.registered c.args.nodes.now) c.args.plan command is (λ named. absurd (let is : c.in-Ok-false.field-0 ≡ true = c.in-Ok-false.ensures.1 (subst (λ n. NamesOnce n c.args.order.now) (sym c.len.ensures.len) named) in cc (is, c.in-Ok-false.field-0-test))), refl, refl)
 
-pub returns-in-Ok-false-clause-unjoined : goal.returns-in-Ok-false-clause-unjoined
-returns-in-Ok-false-clause-unjoined g c = λ error is. absurd (bad_order_is_no_reply error is)
+pub returns-in-Ok-false-clause-joined : goal.returns-in-Ok-false-clause-joined
+returns-in-Ok-false-clause-joined g c = λ error is. absurd (bad_order_is_no_reply error is)
 
 pub returns-in-Ok-false-clause-given : goal.returns-in-Ok-false-clause-given
 returns-in-Ok-false-clause-given g c =
@@ -91,8 +91,8 @@ returns-in-Err-clause-fault g c = λ asked command is now. inl (tt, refl, refl)
 pub returns-in-Err-clause-cut : goal.returns-in-Err-clause-cut
 returns-in-Err-clause-cut g c = λ asked command is. inl (tt, refl, refl)
 
-pub returns-in-Err-clause-unjoined : goal.returns-in-Err-clause-unjoined
-returns-in-Err-clause-unjoined g c = λ error is. absurd (memory_is_no_reply error is)
+pub returns-in-Err-clause-joined : goal.returns-in-Err-clause-joined
+returns-in-Err-clause-joined g c = λ error is. absurd (memory_is_no_reply error is)
 
 pub returns-in-Err-clause-given : goal.returns-in-Err-clause-given
 returns-in-Err-clause-given g c =
@@ -131,10 +131,10 @@ pub returns-in-Err-clause-carried : goal.returns-in-Err-clause-carried
 returns-in-Err-clause-carried g c = λ asked command is routes can all now. refl
 
 pub returns-in-Ok-true-clause-parts : goal.returns-in-Ok-true-clause-parts
-returns-in-Ok-true-clause-parts g c = λ command is. parts_act_by_slot g.N.Nodes.Cell command (g.N.Nodes.registered c.args.nodes.now) c.args.plan.split.arguments is
+returns-in-Ok-true-clause-parts g c = parts_act_by_slot g.N.Nodes.Cell (g.N.Nodes.registered c.args.nodes.now) c.args.plan.split.arguments
 
 pub returns-in-Ok-false-clause-parts : goal.returns-in-Ok-false-clause-parts
-returns-in-Ok-false-clause-parts g c = λ command is. parts_act_by_slot g.N.Nodes.Cell command (g.N.Nodes.registered c.args.nodes.now) c.args.plan.split.arguments is
+returns-in-Ok-false-clause-parts g c = parts_act_by_slot g.N.Nodes.Cell (g.N.Nodes.registered c.args.nodes.now) c.args.plan.split.arguments
 
 pub returns-in-Err-clause-parts : goal.returns-in-Err-clause-parts
-returns-in-Err-clause-parts g c = λ command is. parts_act_by_slot g.N.Nodes.Cell command (g.N.Nodes.registered c.args.nodes.now) c.args.plan.split.arguments is
+returns-in-Err-clause-parts g c = parts_act_by_slot g.N.Nodes.Cell (g.N.Nodes.registered c.args.nodes.now) c.args.plan.split.arguments

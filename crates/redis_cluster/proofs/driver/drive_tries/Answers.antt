@@ -61,13 +61,13 @@ returns-in-Ok-clause-joined g c =
     (subst IsSplit c.in_default.ensures.plan c.len-answered.ensures.plan.split) c.requires.order (length-map told.values view ∙ told.each) told.gave (Ok (view c.in-Ok.reply))
     (subst (λ (s : Split). IsMadeOfParts s replies (Ok (view c.in-Ok.reply))) c.in_default.ensures.plan (c.in-Ok.ensures.joined told.values told.all_told))
 
-pub returns-in-Err-clause-unjoined : goal.returns-in-Err-clause-unjoined
-returns-in-Err-clause-unjoined g c = λ error is.
+pub returns-in-Err-clause-joined : goal.returns-in-Err-clause-joined
+returns-in-Err-clause-joined g c = λ error is.
     let stopped = c.in-Err.ensures.stopped in
     absurd (no_reply_fault stopped.0 error (sym stopped.1 ∙ is))
 
-pub returns-in-Err-combine-clause-unjoined : goal.returns-in-Err-combine-clause-unjoined
-returns-in-Err-combine-clause-unjoined g c = λ error is.
+pub returns-in-Err-combine-clause-joined : goal.returns-in-Err-combine-clause-joined
+returns-in-Err-combine-clause-joined g c = λ error is.
     let told = c.in_default.ensures.told in
     let nodes = g.N.Nodes in
     let replies = map view told.values in

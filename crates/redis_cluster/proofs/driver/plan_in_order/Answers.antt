@@ -1,4 +1,4 @@
-use Rattle.std.proofs.Common.{◌≡◌, ℕ, List, true, option_map, sym, ap, ◌∙◌, subst, length, map}
+use Rattle.std.proofs.Common.{◌≡◌, ℕ, List, true, sym, ◌∙◌, subst, length, map}
 use Rattle.std.proofs.lemmas.List.{length-map}
 use Rattle.std.proofs.lemmas.List.Elements.{All-map}
 use Rattle.cluster_slots.specs.SlotRoute.{SlotRoute}
@@ -9,12 +9,12 @@ use Rattle.redis_routing.specs.Names.{names_of}
 use Rattle.redis_routing.specs.Registry.{Registrations}
 use Rattle.redis_cluster.specs.MultiKey.{MultiKey}
 use Rattle.redis_cluster.specs.Orders.{NamesOnce}
-use Rattle.redis_cluster.proofs.CommandParts.{routes_are}
+use Rattle.redis_cluster.proofs.CommandParts.{routes_by_command}
 use Rattle.redis_cluster.specs.Driven.{Request, request}
 use Rattle.redis_cluster.specs.Faults.{IsCauseBeforeSending}
 use Rattle.redis_cluster.specs.Ready.{IsReady}
 use Rattle.redis_cluster.specs.declared.fault.DriveFault.TheVariants.{BadOrder}
-use Rattle.redis_cluster.proofs.Planned.{joining_routes, planned, ready}
+use Rattle.redis_cluster.proofs.Planned.{planned, ready}
 use Rattle.redis_cluster.proofs.driver.plan_in_order.Goals as goal
 
 pub returns-in-Ok-true-clause-ready : goal.returns-in-Ok-true-clause-ready
@@ -38,8 +38,8 @@ returns-in-Ok-false-clause-early g c =
       map (λ t. t.0) plan.split.routes,
       found.0,
       record {
-        routes_are = sym (routes_are names args (joining_routes names args plan.split new.routes new.policy c.len.ensures.plan.split)) ∙ ap (λ o. option_map (map (λ t. t.0)) o) (sym new.routes);
         command_is = found.1;
+        routes_are = routes_by_command names args found.0 plan.split.routes found.1 (sym new.routes);
         covered = All-map (λ (route : SlotRoute). IsCovered c.args.slot_map.now route.slot) (λ t. t.0) plan.split.routes new.covered;
       },
       λ once.

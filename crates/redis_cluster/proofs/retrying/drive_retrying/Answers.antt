@@ -6,15 +6,19 @@ use Rattle.std.proofs.Common.{Result, Ok, Err, IfOk}
 use Rattle.std.proofs.lemmas.List.{append-nil}
 use Rattle.std.proofs.lemmas.Result.{IfErr-weaker, IfOk-weaker}
 use Rattle.resp_core.specs.View.{view}
+use Rattle.cluster_slots.specs.SlotRoute.{SlotRoute}
+use Rattle.cluster_map.specs.RouteNode.{IsRouteNode}
 use Rattle.redis_routing.specs.Names.{names_of}
-use Rattle.redis_cluster.specs.Driven.{request}
+use Rattle.redis_cluster.specs.Attempts.{Try}
+use Rattle.redis_cluster.specs.Driven.{Request, request}
+use Rattle.redis_cluster.specs.Retried.{IsTryOf}
 use Rattle.redis_cluster.specs.Faults.{IsCauseBeforeSending}
 use Rattle.redis_cluster.specs.Sends.{targets}
 use Rattle.redis_cluster.specs.Tries.{tries_with}
 use Rattle.redis_cluster.specs.declared.fault.DriveFault.{DriveFault}
 use Rattle.redis_routing.specs.Command.{Arguments}
 use Rattle.redis_cluster.specs.Amid.{IsServedAmid}
-use Rattle.redis_cluster.specs.Joined.{IsJoined}
+use Rattle.redis_cluster.specs.Joined.{ReturnsJoined}
 use Rattle.redis_cluster.proofs.Amid.{parts_act_by_slot}
 use Rattle.redis_cluster.proofs.Gaps.{same_command}
 use Rattle.redis_cluster.proofs.EachTry.{each_try, each_named}
@@ -119,16 +123,8 @@ returns-in-Ok-retries_of-clause-fault g c =
 pub returns-in-Ok-retries_of-clause-joined : goal.returns-in-Ok-retries_of-clause-joined
 returns-in-Ok-retries_of-clause-joined g c =
     let nodes = g.N.Nodes in
-    IfOk-weaker c.drive_tries.result _ _
-    (λ value. subst (λ (args : Arguments). IsJoined (nodes.registered c.args.nodes.now) args c.args.order.now (nodes.gave c.args.nodes.now) (nodes.gave c.drive_tries.new.nodes) (Ok (view value))) c.in-Ok.ensures.arguments)
+    subst (λ (args : Arguments). ReturnsJoined (nodes.registered c.args.nodes.now) args c.args.order.now (nodes.gave c.args.nodes.now) (nodes.gave c.drive_tries.new.nodes) c.drive_tries.result) c.in-Ok.ensures.arguments
     c.drive_tries.ensures.joined
-
-pub returns-in-Ok-retries_of-clause-unjoined : goal.returns-in-Ok-retries_of-clause-unjoined
-returns-in-Ok-retries_of-clause-unjoined g c =
-    let nodes = g.N.Nodes in
-    IfErr-weaker c.drive_tries.result _ _
-    (λ e is error at. subst (λ (args : Arguments). IsJoined (nodes.registered c.args.nodes.now) args c.args.order.now (nodes.gave c.args.nodes.now) (nodes.gave c.drive_tries.new.nodes) (Err error.kind)) c.in-Ok.ensures.arguments (is error at))
-    c.drive_tries.ensures.unjoined
 
 pub returns-in-Ok-retries_of-clause-untouched : goal.returns-in-Ok-retries_of-clause-untouched
 returns-in-Ok-retries_of-clause-untouched g c =
@@ -148,8 +144,8 @@ returns-in-Err-clause-fault g c = λ now. inl (c.in-Err.ensures.early, refl, ref
 pub returns-in-Err-clause-cut : goal.returns-in-Err-clause-cut
 returns-in-Err-clause-cut g c = inl (c.in-Err.ensures.early, refl, refl)
 
-pub returns-in-Err-clause-unjoined : goal.returns-in-Err-clause-unjoined
-returns-in-Err-clause-unjoined g c = λ error is.
+pub returns-in-Err-clause-joined : goal.returns-in-Err-clause-joined
+returns-in-Err-clause-joined g c = λ error is.
     let asked = request (g.R.Routable.args c.args.command.now) (names_of c.args.read_only.now (g.N.Nodes.registered c.args.nodes.now)) c.args.slot_map.now c.args.order.now in
     let old = g.N.Nodes.state c.args.nodes.now in
     absurd (subst (λ (f : DriveFault). IsCauseBeforeSending asked f) is c.in-Err.ensures.early)
@@ -167,8 +163,8 @@ returns-in-Err-retries_of-clause-fault g c = λ now. inl (tt, refl, refl)
 pub returns-in-Err-retries_of-clause-cut : goal.returns-in-Err-retries_of-clause-cut
 returns-in-Err-retries_of-clause-cut g c = inl (tt, refl, refl)
 
-pub returns-in-Err-retries_of-clause-unjoined : goal.returns-in-Err-retries_of-clause-unjoined
-returns-in-Err-retries_of-clause-unjoined g c = λ error is.
+pub returns-in-Err-retries_of-clause-joined : goal.returns-in-Err-retries_of-clause-joined
+returns-in-Err-retries_of-clause-joined g c = λ error is.
     let asked = request (g.R.Routable.args c.args.command.now) (names_of c.args.read_only.now (g.N.Nodes.registered c.args.nodes.now)) c.args.slot_map.now c.args.order.now in
     let old = g.N.Nodes.state c.args.nodes.now in
     absurd (memory_is_no_reply error is)
@@ -199,8 +195,9 @@ returns-in-Ok-retries_of-clause-headline g c =
     let asked = request (g.R.Routable.args c.args.command.now) (names_of c.args.read_only.now (g.N.Nodes.registered c.args.nodes.now)) c.args.slot_map.now c.args.order.now in
     let old = g.N.Nodes.state c.args.nodes.now in
     let new = g.N.Nodes.state c.drive_tries.new.nodes in
+    let IsTry : Request → SlotRoute → Try → Type 0 = IsTryOf (IsRouteNode c.args.strategy (λ s. (goal.ReadRoutingStrategy-dyn g s.now).picks s.now.1) c.args.slot_map.now c.args.pick) c.args.retries in
     λ headline. IfErr-weaker c.drive_tries.result _ _
-    (λ e fault now. headline_retried _ g.N.Nodes.step asked old new (g.N.Nodes.may_refuse c.args.nodes.now) headline c.drive_tries.ensures.allowed e.fault e.answered (fault now))
+    (λ e fault now. headline_retried IsTry g.N.Nodes.step asked old new (g.N.Nodes.may_refuse c.args.nodes.now) headline c.drive_tries.ensures.allowed e.fault e.answered (fault now))
     (returns-in-Ok-retries_of-clause-fault g c)
 
 pub returns-in-Ok-retries_of-clause-carried : goal.returns-in-Ok-retries_of-clause-carried
@@ -208,8 +205,9 @@ returns-in-Ok-retries_of-clause-carried g c =
     let asked = request (g.R.Routable.args c.args.command.now) (names_of c.args.read_only.now (g.N.Nodes.registered c.args.nodes.now)) c.args.slot_map.now c.args.order.now in
     let old = g.N.Nodes.state c.args.nodes.now in
     let new = g.N.Nodes.state c.drive_tries.new.nodes in
+    let IsTry : Request → SlotRoute → Try → Type 0 = IsTryOf (IsRouteNode c.args.strategy (λ s. (goal.ReadRoutingStrategy-dyn g s.now).picks s.now.1) c.args.slot_map.now c.args.pick) c.args.retries in
     λ routes command can all. IfErr-weaker c.drive_tries.result _ _
-    (λ e fault now. carried_retried _ g.N.Nodes.step asked old new (g.N.Nodes.may_refuse c.args.nodes.now) routes command can all e.fault e.answered (fault now))
+    (λ e fault now. carried_retried IsTry g.N.Nodes.step asked old new (g.N.Nodes.may_refuse c.args.nodes.now) routes command can all e.fault e.answered (fault now))
     (returns-in-Ok-retries_of-clause-fault g c)
 
 pub returns-in-Err-clause-allowed : goal.returns-in-Err-clause-allowed
@@ -242,10 +240,10 @@ returns-in-Ok-retries_of-clause-amid g c =
     c.drive_tries.ensures.amid
 
 pub returns-in-Ok-retries_of-clause-parts : goal.returns-in-Ok-retries_of-clause-parts
-returns-in-Ok-retries_of-clause-parts g c = λ command is. parts_act_by_slot g.N.Nodes.Cell command (g.N.Nodes.registered c.args.nodes.now) (g.R.Routable.args c.args.command.now) is
+returns-in-Ok-retries_of-clause-parts g c = parts_act_by_slot g.N.Nodes.Cell (g.N.Nodes.registered c.args.nodes.now) (g.R.Routable.args c.args.command.now)
 
 pub returns-in-Err-clause-parts : goal.returns-in-Err-clause-parts
-returns-in-Err-clause-parts g c = λ command is. parts_act_by_slot g.N.Nodes.Cell command (g.N.Nodes.registered c.args.nodes.now) (g.R.Routable.args c.args.command.now) is
+returns-in-Err-clause-parts g c = parts_act_by_slot g.N.Nodes.Cell (g.N.Nodes.registered c.args.nodes.now) (g.R.Routable.args c.args.command.now)
 
 pub returns-in-Err-retries_of-clause-parts : goal.returns-in-Err-retries_of-clause-parts
-returns-in-Err-retries_of-clause-parts g c = λ command is. parts_act_by_slot g.N.Nodes.Cell command (g.N.Nodes.registered c.args.nodes.now) (g.R.Routable.args c.args.command.now) is
+returns-in-Err-retries_of-clause-parts g c = parts_act_by_slot g.N.Nodes.Cell (g.N.Nodes.registered c.args.nodes.now) (g.R.Routable.args c.args.command.now)

@@ -20,12 +20,13 @@ use Rattle.redis_cluster.proofs.Whole.{keyspace_of_all, keyspace_at_stop, keyspa
 use Rattle.redis_cluster.proofs.Parts.{length-results}
 use Rattle.redis_cluster.specs.Plan.{Plan, tuples_in_split}
 use Rattle.redis_routing.specs.Split.{slots_of, Split}
-use Rattle.redis_cluster.specs.Attempts.{IsTried}
+use Rattle.redis_cluster.specs.Attempts.{AttemptsOf}
 use Rattle.redis_cluster.specs.Ended.{AreStopped}
 use Rattle.redis_cluster.specs.Retry.{Attempt}
 use Rattle.redis_cluster.specs.Sends.{Target, targets, IsPlanOf}
 use Rattle.redis_cluster.specs.Tries.{tries_with, try_with}
 use Rattle.redis_cluster.proofs.Allowed.{allowed_none, allowed_more}
+use Rattle.redis_cluster.proofs.Frame.{frame_more}
 use Rattle.redis_cluster.proofs.Tries.{all_at, try_there, tries_many, tried_more, others_more, same_cause}
 use Rattle.redis_cluster.proofs.Zips.{zip_long}
 use Rattle.redis_cluster.proofs.Sending.{RouteTarget, route_target, none_at, not_yet, AreTold, AreSomeTold, AreUntold, told_more, some_told_more, all_some_told, AreGivenSo, given_more, given_all, untold_less, all_told, left_at, of_one_slot}
@@ -50,7 +51,7 @@ loop-number-init g c =
       split = refl;
       same_targets = refl;
       room = ap length c.requires.untold ∙ length-map plan.split.routes (λ r. None) ∙ sym (many plan);
-      kept = λ now. now;
+      frame = record { kept = λ now. now; registered = refl; may_refuse = λ count ending. (λ may. may, λ may. may) };
       some_told = λ number inside some. absurd (omega (arith, some));
       given = record { values = []; told = refl; gave = λ before was. subst (g.N.Nodes.gave c.args.nodes.now) (sym (append-nil before)) was };
       told = λ command is now number slot at some. absurd (omega (arith, some));
@@ -58,9 +59,7 @@ loop-number-init g c =
       trace = refl;
       allowed = allowed_none (g.N.Nodes.may_refuse c.args.nodes.now) (g.N.Nodes.state c.args.nodes.now).trace (g.N.Nodes.state c.args.nodes.now).trace refl;
       others = λ other none. refl;
-      registered = refl;
       keyspace = λ command is now. refl;
-      may_refuse = λ count ending. (λ may. may, λ may. may);
       answered = refl;
     }
 
@@ -76,7 +75,7 @@ send_part-requires g c =
       there = (
         t.target,
         ap (λ ts. slice_get ts k) c.loop-number.invariant.same_targets ∙ t.target_at,
-        record { command = part_of command t.slot; command_is = ap (λ registered. multi_key registered (map Some t.target.1)) c.loop-number.invariant.registered ∙ t.part; slot = t.slot; of_slot = of_one_slot t.slot command.tuples },
+        record { command = part_of command t.slot; command_is = ap (λ registered. multi_key registered (map Some t.target.1)) c.loop-number.invariant.frame.registered ∙ t.part; slot = t.slot; of_slot = of_one_slot t.slot command.tuples },
       );
       named = λ retry at.
           all_at (λ (r : Attempt). IsSome r.target) c.args.retries.now k retry c.requires.named
@@ -120,18 +119,18 @@ loop-number-preserved g c =
       split = ap (λ (p : Plan). p.split) c.tell_first.ensures ∙ inv.split;
       same_targets = ap targets c.tell_first.ensures ∙ inv.same_targets;
       room = ap length replies_are ∙ length-set c.loop-number.plan.replies k (Some c.in-Ok.reply) ∙ inv.room;
-      kept = λ now. inv.kept (c.send_part.ensures.kept now);
+      frame = frame_more nodes c.args.nodes.now c.loop-number.nodes c.send_part.new.nodes inv.frame c.send_part.ensures.frame;
       some_told = subst (λ rs. AreSomeTold rs order (i + 1) (length slots)) (sym replies_are)
           (some_told_more c.loop-number.plan.replies slots order i k inside refl room (length slots) c.in-Ok.reply inv.some_told);
       given = subst (λ rs. AreGivenSo (nodes.gave c.args.nodes.now) (nodes.gave c.send_part.new.nodes) rs (take (i + 1) order)) (sym replies_are)
           (given_more (nodes.gave c.args.nodes.now) (nodes.gave c.loop-number.nodes) (nodes.gave c.send_part.new.nodes) c.loop-number.plan.replies order i k c.in-Ok.reply inside refl room
           (not_yet (length plan.split.routes) order i c.requires.order inside) c.in-Ok.ensures.gave inv.given);
       told = λ command is now.
-          let was = c.send_part.ensures.kept now in
+          let was = c.send_part.ensures.frame.kept now in
           let own = there command is in
           let reply_of : ℕ → Reply = λ slot. reply_by command.form (items_of_slot slot command.tuples (results_of nodes.step command old)) in
           let says : view c.in-Ok.reply ≡ reply_of own.slot =
-          c.in-Ok.ensures.reply own.target (part_of command own.slot) (at own.target own.target_at) (ap (λ registered. multi_key registered (map Some own.target.1)) inv.registered ∙ own.part) now
+          c.in-Ok.ensures.reply own.target (part_of command own.slot) (at own.target own.target_at) (ap (λ registered. multi_key registered (map Some own.target.1)) inv.frame.registered ∙ own.part) now
           ∙ ap (λ ks. reply_by command.form (results (act_of nodes.step command) (tuples_of_slot own.slot command.tuples) ks)) (inv.keyspace command is was)
           ∙ ap (reply_by command.form) (results_more (act_of nodes.step command) slots order command.tuples old i k own.slot names is.at_most_once inside refl own.slot_at) in
           subst (λ rs. AreTold rs slots order (i + 1) reply_of) (sym replies_are)
@@ -139,20 +138,15 @@ loop-number-preserved g c =
       untold = subst (λ rs. AreUntold rs order (i + 1) (length slots)) (sym replies_are)
           (untold_less c.loop-number.plan.replies slots order i k inside refl room (length slots) c.in-Ok.reply inv.untold);
       trace = tried_more (in_order tries (take i order)) (in_order tries (take (i + 1) order)) (try_with t.target (slice_get retries k)) (nodes.state c.args.nodes.now).trace (nodes.state c.loop-number.nodes).trace (nodes.state c.send_part.new.nodes).trace inv.trace
-          (subst (λ (o : Option Attempt). IsTried (try_with t.target o) (Some answered) (nodes.state c.loop-number.nodes).trace (nodes.state c.send_part.new.nodes).trace) unsent (c.in-Ok.ensures.trace t.target (at t.target t.target_at)))
+          (subst (λ (o : Option Attempt). AttemptsOf (try_with t.target o) (Some answered) (nodes.state c.loop-number.nodes).trace (nodes.state c.send_part.new.nodes).trace) unsent (c.in-Ok.ensures.trace t.target (at t.target t.target_at)))
           (in_order_more tries order i k (try_with t.target (slice_get retries k)) inside refl (try_there (targets plan) retries k t.target t.target_at));
-      allowed = allowed_more (nodes.may_refuse c.args.nodes.now) (nodes.may_refuse c.loop-number.nodes) (nodes.state c.args.nodes.now).trace (nodes.state c.loop-number.nodes).trace (nodes.state c.send_part.new.nodes).trace inv.may_refuse inv.allowed c.send_part.ensures.allowed;
+      allowed = allowed_more (nodes.may_refuse c.args.nodes.now) (nodes.may_refuse c.loop-number.nodes) (nodes.state c.args.nodes.now).trace (nodes.state c.loop-number.nodes).trace (nodes.state c.send_part.new.nodes).trace inv.frame.may_refuse inv.allowed c.send_part.ensures.allowed;
       others = others_more retries c.loop-number.retries c.send_part.new.retries order i k inside refl inv.others c.send_part.ensures.others;
-      registered = c.send_part.ensures.registered ∙ inv.registered;
       keyspace = λ command is now.
           let own = there command is in
-          c.in-Ok.ensures.keyspace own.target (part_of command own.slot) (at own.target own.target_at) (ap (λ registered. multi_key registered (map Some own.target.1)) inv.registered ∙ own.part) now
-          ∙ ap (λ ks. after (act_of nodes.step command) (tuples_of_slot own.slot command.tuples) ks) (inv.keyspace command is (c.send_part.ensures.kept now))
+          c.in-Ok.ensures.keyspace own.target (part_of command own.slot) (at own.target own.target_at) (ap (λ registered. multi_key registered (map Some own.target.1)) inv.frame.registered ∙ own.part) now
+          ∙ ap (λ ks. after (act_of nodes.step command) (tuples_of_slot own.slot command.tuples) ks) (inv.keyspace command is (c.send_part.ensures.frame.kept now))
           ∙ keyspace_more (act_of nodes.step command) slots order command.tuples old i k own.slot inside refl own.slot_at;
-      may_refuse = λ count ending.
-          let now = c.send_part.ensures.may_refuse count ending in
-          let before = inv.may_refuse count ending in
-          (λ may. before.0 (now.0 may), λ may. now.1 (before.1 may));
       answered = omega (arith, inv.answered);
     }
 
@@ -188,16 +182,16 @@ returns-in-Err-clause-stopped g c =
             trace = inv.trace;
             keyspace = λ now.
                 let act = act_of nodes.step command in
-                let was = inv.keyspace command is (c.send_part.ensures.kept now) in
+                let was = inv.keyspace command is (c.send_part.ensures.frame.kept now) in
                 left_at nodes.step act command.tuples (part_of command t.slot) (in_order slots (take i order)) (in_order slots (take (i + 1) order)) old (nodes.state c.loop-number.nodes).keyspace (nodes.state c.send_part.new.nodes).keyspace ending
                 (was ∙ keyspace_at_stop act slots order command.tuples old i names is.at_most_once)
                 (ap (λ ks. after act (tuples_of_slot t.slot command.tuples) ks) was ∙ keyspace_more act slots order command.tuples old i k t.slot inside refl t.slot_at
                 ∙ keyspace_at_stop act slots order command.tuples old (i + 1) names is.at_most_once)
-                (c.in-Err.ensures.left t.target (part_of command t.slot) there (ap (λ registered. multi_key registered (map Some t.target.1)) inv.registered ∙ t.part) now);
+                (c.in-Err.ensures.left t.target (part_of command t.slot) there (ap (λ registered. multi_key registered (map Some t.target.1)) inv.frame.registered ∙ t.part) now);
             try = try;
             next = next;
-            tried = subst (λ (o : Option Attempt). IsTried (try_with t.target o) ending (nodes.state c.loop-number.nodes).trace (nodes.state c.send_part.new.nodes).trace) unsent (c.in-Err.ensures.unanswered t.target there);
-            cause = same_cause (nodes.may_refuse c.args.nodes.now) (nodes.may_refuse c.loop-number.nodes) (length (nodes.state c.send_part.new.nodes).trace) (nodes.state c.send_part.new.nodes).mark ending inv.may_refuse c.in-Err.ensures.cause;
+            tried = subst (λ (o : Option Attempt). AttemptsOf (try_with t.target o) ending (nodes.state c.loop-number.nodes).trace (nodes.state c.send_part.new.nodes).trace) unsent (c.in-Err.ensures.unanswered t.target there);
+            cause = same_cause (nodes.may_refuse c.args.nodes.now) (nodes.may_refuse c.loop-number.nodes) (length (nodes.state c.send_part.new.nodes).trace) (nodes.state c.send_part.new.nodes).mark ending inv.frame.may_refuse c.in-Err.ensures.cause;
           } in
           subst (λ n. AreStopped (nodes.kept c.send_part.new.nodes) nodes.step (nodes.may_refuse c.args.nodes.now) command plan tries order n old (nodes.state c.send_part.new.nodes).keyspace (nodes.state c.args.nodes.now).trace (nodes.state c.send_part.new.nodes).trace (nodes.state c.send_part.new.nodes).mark ending) (sym inv.answered) stopped,
     )
@@ -288,4 +282,7 @@ pub returns-in-Err-clause-allowed : goal.returns-in-Err-clause-allowed
 returns-in-Err-clause-allowed g c =
     let nodes = g.N.Nodes in
     let inv = c.loop-number.invariant in
-    allowed_more (nodes.may_refuse c.args.nodes.now) (nodes.may_refuse c.loop-number.nodes) (nodes.state c.args.nodes.now).trace (nodes.state c.loop-number.nodes).trace (nodes.state c.send_part.new.nodes).trace inv.may_refuse inv.allowed c.send_part.ensures.allowed
+    allowed_more (nodes.may_refuse c.args.nodes.now) (nodes.may_refuse c.loop-number.nodes) (nodes.state c.args.nodes.now).trace (nodes.state c.loop-number.nodes).trace (nodes.state c.send_part.new.nodes).trace inv.frame.may_refuse inv.allowed c.send_part.ensures.allowed
+
+pub returns-in-Err-clause-frame : goal.returns-in-Err-clause-frame
+returns-in-Err-clause-frame g c = frame_more g.N.Nodes c.args.nodes.now c.loop-number.nodes c.send_part.new.nodes c.loop-number.invariant.frame c.send_part.ensures.frame

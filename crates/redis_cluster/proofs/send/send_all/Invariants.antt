@@ -1,15 +1,15 @@
-use Rattle.std.proofs.Common.{◌≡◌, ◌↔◌, ℕ, length, take}
+use Rattle.std.proofs.Common.{◌≡◌, ℕ, length, take}
 use Rattle.std.specs.Prelude.{slice_get}
 use Rattle.redis_cluster.specs.MultiKey.{MultiKey}
 use Rattle.redis_cluster.specs.Orders.{in_order, times}
 use Rattle.redis_cluster.specs.SlotItems.{items_of_slot}
-use Rattle.redis_cluster.specs.Trace.{Ending}
+use Rattle.redis_cluster.specs.Frame.{SameNodes}
 use Rattle.redis_cluster.specs.Unsplit.{act_of, after, reply_by, results_of}
 use Rattle.redis_cluster.proofs.Fold.{joined}
 use Rattle.redis_routing.specs.Split.{slots_of}
 use Rattle.redis_cluster.specs.Sends.{targets, IsPlanOf}
 use Rattle.redis_cluster.specs.Attempts.{AreAllowed}
-use Rattle.redis_cluster.specs.Tries.{tries_with, AllTried}
+use Rattle.redis_cluster.specs.Tries.{tries_with, SentInTurn}
 use Rattle.redis_cluster.proofs.Sending.{AreTold, AreSomeTold, AreGivenSo, AreUntold}
 use Rattle.redis_cluster.proofs.send.send_all.Given as goal
 
@@ -23,16 +23,14 @@ invariant-loop-number g l =
       split : l.plan.split ≡ l.fn.plan.split;
       same_targets : targets l.plan ≡ targets l.fn.plan;
       room : length l.plan.replies ≡ length slots;
-      kept : nodes.kept l.nodes → nodes.kept l.fn.nodes;
+      frame : SameNodes nodes l.fn.nodes l.nodes;
       some_told : AreSomeTold l.plan.replies l.order l.number-index (length slots);
       given : AreGivenSo (nodes.gave l.fn.nodes) (nodes.gave l.nodes) l.plan.replies (take l.number-index l.order);
       told : (command : MultiKey) → IsPlanOf (nodes.registered l.fn.nodes) command l.fn.plan → nodes.kept l.nodes → AreTold l.plan.replies slots l.order l.number-index (λ slot. reply_by command.form (items_of_slot slot command.tuples (results_of nodes.step command old)));
       untold : AreUntold l.plan.replies l.order l.number-index (length slots);
-      trace : AllTried (in_order (tries_with (targets l.fn.plan) l.fn.retries) (take l.number-index l.order)) (nodes.state l.fn.nodes).trace (nodes.state l.nodes).trace;
+      trace : SentInTurn (in_order (tries_with (targets l.fn.plan) l.fn.retries) (take l.number-index l.order)) (nodes.state l.fn.nodes).trace (nodes.state l.nodes).trace;
       allowed : AreAllowed (nodes.may_refuse l.fn.nodes) (nodes.state l.fn.nodes).trace (nodes.state l.nodes).trace;
       others : (other : ℕ) → times other (take l.number-index l.order) ≡ 0 → slice_get l.retries other ≡ slice_get l.fn.retries other;
       keyspace : (command : MultiKey) → IsPlanOf (nodes.registered l.fn.nodes) command l.fn.plan → nodes.kept l.nodes → (nodes.state l.nodes).keyspace ≡ after (act_of nodes.step command) (joined (in_order slots (take l.number-index l.order)) command.tuples) old;
-      registered : nodes.registered l.nodes ≡ nodes.registered l.fn.nodes;
-      may_refuse : (count : ℕ) (ending : Ending) → nodes.may_refuse l.nodes count ending ↔ nodes.may_refuse l.fn.nodes count ending;
       answered : l.answered ≡ l.number-index;
     }

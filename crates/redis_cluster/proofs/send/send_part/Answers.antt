@@ -6,7 +6,7 @@ use Rattle.cluster_slots.specs.Address.{Address}
 use Rattle.redis_cluster.specs.MultiKey.{multi_key, IsPart}
 use Rattle.redis_cluster.specs.Sent.{ending_of}
 use Rattle.redis_cluster.specs.Trace.{answered}
-use Rattle.redis_cluster.specs.Attempts.{IsTried}
+use Rattle.redis_cluster.specs.Attempts.{AttemptsOf}
 use Rattle.redis_cluster.specs.Retry.{Attempt}
 use Rattle.redis_cluster.specs.Sends.{Target}
 use Rattle.redis_cluster.specs.Tries.{try_by, try_once, try_with}
@@ -71,8 +71,8 @@ returns-then-number-retries-clause-trace g c =
     let part_is : c.in-Some.part.now ≡ target.1 = one_of (λ p. p.now) c.part.result c.in-Some.part (slice_get c.args.plan.now.parts c.args.number) target.1 c.part.ensures c.in-Some.is both.1 in
     let own : Attempt = get_or c.args.retries.now c.args.number c.index-retries-number.result in
     let own_is : slice_get c.args.retries.now c.args.number ≡ Some own = slice_get-get_or c.args.retries.now c.args.number c.index-retries-number.result c.if-number-retries.true in
-    subst (λ (o : Option Attempt). IsTried (try_with target o) (Some answered) (g.N.Nodes.state c.args.nodes.now).trace (g.N.Nodes.state c.send_with_retries.new.nodes).trace) (sym own_is)
-    (subst (λ (a : List (List ℕ)). IsTried (try_by a own) (Some answered) (g.N.Nodes.state c.args.nodes.now).trace (g.N.Nodes.state c.send_with_retries.new.nodes).trace) part_is told))
+    subst (λ (o : Option Attempt). AttemptsOf (try_with target o) (Some answered) (g.N.Nodes.state c.args.nodes.now).trace (g.N.Nodes.state c.send_with_retries.new.nodes).trace) (sym own_is)
+    (subst (λ (a : List (List ℕ)). AttemptsOf (try_by a own) (Some answered) (g.N.Nodes.state c.args.nodes.now).trace (g.N.Nodes.state c.send_with_retries.new.nodes).trace) part_is told))
     c.send_with_retries.ensures.answered
 
 pub returns-then-number-retries-clause-unanswered : goal.returns-then-number-retries-clause-unanswered
@@ -82,8 +82,8 @@ returns-then-number-retries-clause-unanswered g c =
     let part_is : c.in-Some.part.now ≡ target.1 = one_of (λ p. p.now) c.part.result c.in-Some.part (slice_get c.args.plan.now.parts c.args.number) target.1 c.part.ensures c.in-Some.is both.1 in
     let own : Attempt = get_or c.args.retries.now c.args.number c.index-retries-number.result in
     let own_is : slice_get c.args.retries.now c.args.number ≡ Some own = slice_get-get_or c.args.retries.now c.args.number c.index-retries-number.result c.if-number-retries.true in
-    subst (λ (o : Option Attempt). IsTried (try_with target o) (ending_of error) (g.N.Nodes.state c.args.nodes.now).trace (g.N.Nodes.state c.send_with_retries.new.nodes).trace) (sym own_is)
-    (subst (λ (a : List (List ℕ)). IsTried (try_by a own) (ending_of error) (g.N.Nodes.state c.args.nodes.now).trace (g.N.Nodes.state c.send_with_retries.new.nodes).trace) part_is told))
+    subst (λ (o : Option Attempt). AttemptsOf (try_with target o) (ending_of error) (g.N.Nodes.state c.args.nodes.now).trace (g.N.Nodes.state c.send_with_retries.new.nodes).trace) (sym own_is)
+    (subst (λ (a : List (List ℕ)). AttemptsOf (try_by a own) (ending_of error) (g.N.Nodes.state c.args.nodes.now).trace (g.N.Nodes.state c.send_with_retries.new.nodes).trace) part_is told))
     c.send_with_retries.ensures.unanswered
 
 pub returns-then-number-retries-clause-left : goal.returns-then-number-retries-clause-left
@@ -117,9 +117,9 @@ returns-clause-trace g c =
     let part_is : c.in-Some.part.now ≡ target.1 = one_of (λ p. p.now) c.part.result c.in-Some.part (slice_get c.args.plan.now.parts c.args.number) target.1 c.part.ensures c.in-Some.is both.1 in
     let node_is : c.in-Some-node.node.now ≡ target.0 = one_of (λ n. n.now) c.node.result c.in-Some-node.node (slice_get c.args.plan.now.nodes c.args.number) target.0 c.node.ensures c.in-Some-node.is both.0 in
     let none : slice_get c.args.retries.now c.args.number ≡ None = none_past c.args.retries.now c.args.number (λ l. absurd (omega (arith, c.if-number-retries.false, l))) in
-    subst (λ (o : Option Attempt). IsTried (try_with target o) (Some answered) (g.N.Nodes.state c.args.nodes.now).trace (g.N.Nodes.state c.send_once.new.nodes).trace) (sym none)
-    (subst (λ (n : Address). IsTried (try_once n target.1) (Some answered) (g.N.Nodes.state c.args.nodes.now).trace (g.N.Nodes.state c.send_once.new.nodes).trace) node_is
-    (subst (λ (a : List (List ℕ)). IsTried (try_once c.in-Some-node.node.now a) (Some answered) (g.N.Nodes.state c.args.nodes.now).trace (g.N.Nodes.state c.send_once.new.nodes).trace) part_is told)))
+    subst (λ (o : Option Attempt). AttemptsOf (try_with target o) (Some answered) (g.N.Nodes.state c.args.nodes.now).trace (g.N.Nodes.state c.send_once.new.nodes).trace) (sym none)
+    (subst (λ (n : Address). AttemptsOf (try_once n target.1) (Some answered) (g.N.Nodes.state c.args.nodes.now).trace (g.N.Nodes.state c.send_once.new.nodes).trace) node_is
+    (subst (λ (a : List (List ℕ)). AttemptsOf (try_once c.in-Some-node.node.now a) (Some answered) (g.N.Nodes.state c.args.nodes.now).trace (g.N.Nodes.state c.send_once.new.nodes).trace) part_is told)))
     c.send_once.ensures.answered
 
 pub returns-clause-unanswered : goal.returns-clause-unanswered
@@ -129,9 +129,9 @@ returns-clause-unanswered g c =
     let part_is : c.in-Some.part.now ≡ target.1 = one_of (λ p. p.now) c.part.result c.in-Some.part (slice_get c.args.plan.now.parts c.args.number) target.1 c.part.ensures c.in-Some.is both.1 in
     let node_is : c.in-Some-node.node.now ≡ target.0 = one_of (λ n. n.now) c.node.result c.in-Some-node.node (slice_get c.args.plan.now.nodes c.args.number) target.0 c.node.ensures c.in-Some-node.is both.0 in
     let none : slice_get c.args.retries.now c.args.number ≡ None = none_past c.args.retries.now c.args.number (λ l. absurd (omega (arith, c.if-number-retries.false, l))) in
-    subst (λ (o : Option Attempt). IsTried (try_with target o) (ending_of error) (g.N.Nodes.state c.args.nodes.now).trace (g.N.Nodes.state c.send_once.new.nodes).trace) (sym none)
-    (subst (λ (n : Address). IsTried (try_once n target.1) (ending_of error) (g.N.Nodes.state c.args.nodes.now).trace (g.N.Nodes.state c.send_once.new.nodes).trace) node_is
-    (subst (λ (a : List (List ℕ)). IsTried (try_once c.in-Some-node.node.now a) (ending_of error) (g.N.Nodes.state c.args.nodes.now).trace (g.N.Nodes.state c.send_once.new.nodes).trace) part_is told)))
+    subst (λ (o : Option Attempt). AttemptsOf (try_with target o) (ending_of error) (g.N.Nodes.state c.args.nodes.now).trace (g.N.Nodes.state c.send_once.new.nodes).trace) (sym none)
+    (subst (λ (n : Address). AttemptsOf (try_once n target.1) (ending_of error) (g.N.Nodes.state c.args.nodes.now).trace (g.N.Nodes.state c.send_once.new.nodes).trace) node_is
+    (subst (λ (a : List (List ℕ)). AttemptsOf (try_once c.in-Some-node.node.now a) (ending_of error) (g.N.Nodes.state c.args.nodes.now).trace (g.N.Nodes.state c.send_once.new.nodes).trace) part_is told)))
     c.send_once.ensures.unanswered
 
 pub returns-clause-left : goal.returns-clause-left

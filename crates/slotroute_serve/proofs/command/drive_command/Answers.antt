@@ -6,6 +6,7 @@ use Rattle.redis_cluster.specs.MultiKey.{MultiKey}
 use Rattle.redis_cluster.specs.Names.{names_of}
 use Rattle.redis_cluster.specs.Ready.{IsPlanFor, IsPlanNode}
 use Rattle.redis_cluster.specs.Registry.{Registrations}
+use Rattle.redis_cluster.proofs.CommandParts.{covered_routes}
 use Rattle.slotroute_serve.specs.Direction.{send_order}
 use Rattle.slotroute_serve.proofs.RunningCommands.{driven_by, plan_order, order_with, why_not_run, good_order, unsent}
 use Rattle.slotroute_serve.proofs.command.drive_command.Goals as goal
@@ -20,7 +21,7 @@ command_fault-requires g c =
     let plan = c.in_ok-plan.plan in
     let asked : Registrations → Request = λ known. request (map Some words) (names_of names known) entries order in
     let ready = subst (λ known. (command : MultiKey) × IsPlanFor (asked known) order known plan command) c.registry.ensures (c.in_ok-plan.ensures.ready order) in
-    let is_order = plan_order c.args.direction.now (names_of names registered) words order plan.split.routes ready.1.0.routes_are (c.deref.ensures.value ∙ c.in_ok-order.ensures ∙ ap (send_order c.args.direction.now) c.len.ensures.len) in
+    let is_order = plan_order c.args.direction.now (names_of names registered) words order plan.split.routes (covered_routes (asked registered) (map (λ t. t.0) plan.split.routes) ready.0 ready.1.0.is_covered) (c.deref.ensures.value ∙ c.in_ok-order.ensures ∙ ap (send_order c.args.direction.now) c.len.ensures.len) in
     let old = state (keyspace_in c.args.nodes.now) (trace_in c.args.nodes.now) (mark_in c.args.nodes.now) in
     let new = state (keyspace_in c.drive_plan.new.nodes) (trace_in c.drive_plan.new.nodes) (mark_in c.drive_plan.new.nodes) in
     let fault = c.in-Err.error.fault in
@@ -38,7 +39,7 @@ returns-in-Ok-clause-driven g c =
     let plan = c.in_ok-plan.plan in
     let asked : Registrations → Request = λ known. request (map Some words) (names_of names known) entries order in
     let ready = subst (λ known. (command : MultiKey) × IsPlanFor (asked known) order known plan command) c.registry.ensures (c.in_ok-plan.ensures.ready order) in
-    let is_order = plan_order c.args.direction.now (names_of names registered) words order plan.split.routes ready.1.0.routes_are (c.deref.ensures.value ∙ c.in_ok-order.ensures ∙ ap (send_order c.args.direction.now) c.len.ensures.len) in
+    let is_order = plan_order c.args.direction.now (names_of names registered) words order plan.split.routes (covered_routes (asked registered) (map (λ t. t.0) plan.split.routes) ready.0 ready.1.0.is_covered) (c.deref.ensures.value ∙ c.in_ok-order.ensures ∙ ap (send_order c.args.direction.now) c.len.ensures.len) in
     let old = state (keyspace_in c.args.nodes.now) (trace_in c.args.nodes.now) (mark_in c.args.nodes.now) in
     let new = state (keyspace_in c.drive_plan.new.nodes) (trace_in c.drive_plan.new.nodes) (mark_in c.drive_plan.new.nodes) in (
       order,
@@ -48,10 +49,10 @@ returns-in-Ok-clause-driven g c =
     )
 
 pub returns-in-Ok-clause-willing : goal.returns-in-Ok-clause-willing
-returns-in-Ok-clause-willing g c = λ count ending may. c.requires.willing count ending ((c.in-Ok.ensures.may_refuse count ending).0 may)
+returns-in-Ok-clause-willing g c = λ count ending may. c.requires.willing count ending ((c.in-Ok.ensures.frame.may_refuse count ending).0 may)
 
 pub returns-clause-willing : goal.returns-clause-willing
-returns-clause-willing g c = λ count ending may. c.requires.willing count ending ((c.in-Err.ensures.may_refuse count ending).0 may)
+returns-clause-willing g c = λ count ending may. c.requires.willing count ending ((c.in-Err.ensures.frame.may_refuse count ending).0 may)
 
 pub returns-clause-refused : goal.returns-clause-refused
 returns-clause-refused g c =
@@ -63,7 +64,7 @@ returns-clause-refused g c =
     let plan = c.in_ok-plan.plan in
     let asked : Registrations → Request = λ known. request (map Some words) (names_of names known) entries order in
     let ready = subst (λ known. (command : MultiKey) × IsPlanFor (asked known) order known plan command) c.registry.ensures (c.in_ok-plan.ensures.ready order) in
-    let is_order = plan_order c.args.direction.now (names_of names registered) words order plan.split.routes ready.1.0.routes_are (c.deref.ensures.value ∙ c.in_ok-order.ensures ∙ ap (send_order c.args.direction.now) c.len.ensures.len) in
+    let is_order = plan_order c.args.direction.now (names_of names registered) words order plan.split.routes (covered_routes (asked registered) (map (λ t. t.0) plan.split.routes) ready.0 ready.1.0.is_covered) (c.deref.ensures.value ∙ c.in_ok-order.ensures ∙ ap (send_order c.args.direction.now) c.len.ensures.len) in
     let old = state (keyspace_in c.args.nodes.now) (trace_in c.args.nodes.now) (mark_in c.args.nodes.now) in
     let new = state (keyspace_in c.drive_plan.new.nodes) (trace_in c.drive_plan.new.nodes) (mark_in c.drive_plan.new.nodes) in
     let fault = c.in-Err.error.fault in
@@ -83,7 +84,7 @@ returns-clause-unsent g c =
     let plan = c.in_ok-plan.plan in
     let asked : Registrations → Request = λ known. request (map Some words) (names_of names known) entries order in
     let ready = subst (λ known. (command : MultiKey) × IsPlanFor (asked known) order known plan command) c.registry.ensures (c.in_ok-plan.ensures.ready order) in
-    let is_order = plan_order c.args.direction.now (names_of names registered) words order plan.split.routes ready.1.0.routes_are (c.deref.ensures.value ∙ c.in_ok-order.ensures ∙ ap (send_order c.args.direction.now) c.len.ensures.len) in
+    let is_order = plan_order c.args.direction.now (names_of names registered) words order plan.split.routes (covered_routes (asked registered) (map (λ t. t.0) plan.split.routes) ready.0 ready.1.0.is_covered) (c.deref.ensures.value ∙ c.in_ok-order.ensures ∙ ap (send_order c.args.direction.now) c.len.ensures.len) in
     let old = state (keyspace_in c.args.nodes.now) (trace_in c.args.nodes.now) (mark_in c.args.nodes.now) in
     let new = state (keyspace_in c.drive_plan.new.nodes) (trace_in c.drive_plan.new.nodes) (mark_in c.drive_plan.new.nodes) in
     let fault = c.in-Err.error.fault in

@@ -3,22 +3,23 @@ use Rattle.std.specs.Prelude.{is_none}
 use Rattle.std.specs.List.{list_any}
 use Rattle.resp_core.specs.View.{view}
 use Rattle.redis_routing.specs.Split.{IsSplit}
-use Rattle.redis_cluster.specs.Plan.{Plan, told}
+use Rattle.redis_cluster.specs.Plan.{Plan, marked_replies}
 use Rattle.redis_cluster.proofs.Amid.{reply_amid}
 use Rattle.redis_cluster.proofs.Made.{IsMadeOr, made_of_parts, unsplit_of_parts}
 use Rattle.redis_cluster.proofs.SplitTuples.{is_split_to}
-use Rattle.redis_cluster.proofs.Told.{all_known, all_set, length-told, none_untold, not_all_told}
+use Rattle.redis_cluster.proofs.Telling.{length-told}
+use Rattle.redis_cluster.proofs.Told.{all_known, all_set, none_untold, not_all_told}
 use Rattle.redis_cluster.proofs.plan.SplitPlan.combine.Goals as goal
 
 pub returns-then-not-all_set-clause-unsplit : goal.returns-then-not-all_set-clause-unsplit
 returns-then-not-all_set-clause-unsplit g c = λ form results are.
-    let is : told c.self.inside.answered.items c.self.inside.replies.items ≡ map Some are.replies = ap (λ (p : Plan). p.replies) c.self.view_is ∙ are.all_told in
+    let is : marked_replies c.self.inside.answered.items c.self.inside.replies.items ≡ map Some are.replies = ap (λ (p : Plan). p.replies) c.self.view_is ∙ are.all_told in
     let set : all_set c.self.inside.answered.items ≡ false = sym (ap all_set c.deref.ensures.value) ∙ sym c.all_set.ensures ∙ c.if-not-all_set.true in
     absurd (not_all_told c.self.inside.answered.items c.self.inside.replies.items are.replies c.self.invariant.1 set is)
 
 pub returns-then-not-all_set-clause-joined : goal.returns-then-not-all_set-clause-joined
 returns-then-not-all_set-clause-joined g c = λ replies all.
-    let is : told c.self.inside.answered.items c.self.inside.replies.items ≡ map Some replies = ap (λ (p : Plan). p.replies) c.self.view_is ∙ all in
+    let is : marked_replies c.self.inside.answered.items c.self.inside.replies.items ≡ map Some replies = ap (λ (p : Plan). p.replies) c.self.view_is ∙ all in
     let set : all_set c.self.inside.answered.items ≡ false = sym (ap all_set c.deref.ensures.value) ∙ sym c.all_set.ensures ∙ c.if-not-all_set.true in
     absurd (not_all_told c.self.inside.answered.items c.self.inside.replies.items replies c.self.invariant.1 set is)
 
@@ -31,7 +32,7 @@ join-requires g c =
 
 pub returns-clause-joined : goal.returns-clause-joined
 returns-clause-joined g c = λ replies all.
-    let is : told c.self.inside.answered.items c.self.inside.replies.items ≡ map Some replies = ap (λ (p : Plan). p.replies) c.self.view_is ∙ all in
+    let is : marked_replies c.self.inside.answered.items c.self.inside.replies.items ≡ map Some replies = ap (λ (p : Plan). p.replies) c.self.view_is ∙ all in
     let set : all_set c.self.inside.answered.items ≡ true = sym (ap all_set c.deref.ensures.value) ∙ sym c.all_set.ensures ∙ c.if-not-all_set.false in
     let known : c.self.inside.replies.items ≡ replies = all_known c.self.inside.answered.items c.self.inside.replies.items replies c.self.invariant.1 set is in
     let split : c.self.inside.split ≡ c.args.self.split = ap (λ (p : Plan). p.split) c.self.view_is in
@@ -59,6 +60,6 @@ returns-clause-amid g c = λ registered command replies is all.
 
 pub returns-clause-untold : goal.returns-clause-untold
 returns-clause-untold g c = λ missing.
-    let is : told c.self.inside.answered.items c.self.inside.replies.items ≡ c.args.self.replies = ap (λ (p : Plan). p.replies) c.self.view_is in
+    let is : marked_replies c.self.inside.answered.items c.self.inside.replies.items ≡ c.args.self.replies = ap (λ (p : Plan). p.replies) c.self.view_is in
     let set : all_set c.self.inside.answered.items ≡ true = sym (ap all_set c.deref.ensures.value) ∙ sym c.all_set.ensures ∙ c.if-not-all_set.false in
     absurd (none_untold c.self.inside.answered.items c.self.inside.replies.items c.self.invariant.1 set (ap (list_any is_none) is ∙ missing))

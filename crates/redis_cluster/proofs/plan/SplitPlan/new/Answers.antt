@@ -18,7 +18,7 @@ use Rattle.redis_cluster.specs.declared.fault.PlanFault.TheVariants.{Memory, Not
 use Rattle.std.proofs.lemmas.List.{length-replicate}
 use Rattle.std.proofs.lemmas.Slice.Zip.{AllZip-long}
 use Rattle.redis_cluster.proofs.Covered.{IsNode, covered_by_nodes, firsts-route_lists}
-use Rattle.redis_cluster.specs.Plan.{Plan, told}
+use Rattle.redis_cluster.specs.Plan.{Plan, marked_replies}
 use Rattle.redis_cluster.specs.MultiKey.{MultiKey}
 use Rattle.redis_cluster.specs.Ready.{IsPlanNode}
 use Rattle.redis_cluster.specs.Sends.{IsPlanOf}
@@ -117,7 +117,7 @@ returns-clause-ready g c = λ order.
     let new = c.in_ok-split.ensures in
     let found = c.in_ok-split.field-0 in
     let whole = (invariant_of-result g c).0 in
-    let plan : Plan = record { split = split; nodes = map (λ n. n.now) c.in_ok-nodes.nodes.items; parts = c.in_ok-parts.parts.items; replies = told c.in_ok-answered.answered.items c.in_ok-replies.replies.items } in
+    let plan : Plan = record { split = split; nodes = map (λ n. n.now) c.in_ok-nodes.nodes.items; parts = c.in_ok-parts.parts.items; replies = marked_replies c.in_ok-answered.answered.items c.in_ok-replies.replies.items } in
     let made = ready (IsPlanNode plan) (request args names c.args.slot_map.now order) plan
     (of_some _ found split c.in-Some.is new.arguments)
     (sym (ap (option_map (λ s. s.routes)) c.in-Some.is) ∙ new.routes) (of_some _ found split c.in-Some.is new.pattern) (of_some _ found split c.in-Some.is new.policy)
@@ -126,6 +126,6 @@ returns-clause-ready g c = λ order.
 
 pub returns-clause-command : goal.returns-clause-command
 returns-clause-command g c = λ registered same.
-    let plan : Plan = record { split = c.in-Some.split; nodes = map (λ n. n.now) c.in_ok-nodes.nodes.items; parts = c.in_ok-parts.parts.items; replies = told c.in_ok-answered.answered.items c.in_ok-replies.replies.items } in
+    let plan : Plan = record { split = c.in-Some.split; nodes = map (λ n. n.now) c.in_ok-nodes.nodes.items; parts = c.in_ok-parts.parts.items; replies = marked_replies c.in_ok-answered.answered.items c.in_ok-replies.replies.items } in
     let made = returns-clause-ready g c [] in
     subst (λ known. (command : MultiKey) × IsPlanOf known command plan) same (made.0, made.1.0.plan_is)

@@ -1,7 +1,7 @@
 use Rattle.std.proofs.Common.{◌≡◌, ◌<◌, ◌∙◌, List, Option, true, false, Some, ap, arith, length, map, refl, set, slice_get, sym}
 use Rattle.std.proofs.lemmas.List.{get_or_read, length-set}
 use Rattle.resp_core.specs.declared.value.Value.{Value}
-use Rattle.redis_cluster.specs.Plan.{Plan, told}
+use Rattle.redis_cluster.specs.Plan.{Plan, marked_replies}
 use Rattle.redis_cluster.proofs.Telling.{told-set, untold, unmarked}
 use Rattle.redis_cluster.proofs.plan.SplitPlan.tell.Goals as goal
 use Rattle.redis_cluster.proofs.plan.SplitPlan.tell.Goals.{then-number-len-via-then-number-len, then-number-len-via-else-number-len+then-index}
@@ -11,7 +11,7 @@ returns-then-number-len-clause-refused g c =
     let plan = c.self.inside in
     let marks = plan.answered.items in
     let long : length marks ≡ length plan.replies.items = c.self.invariant.1 in
-    let replies : told marks plan.replies.items ≡ c.args.self.now.replies = ap (λ (p : Plan). p.replies) c.self.view_is in (
+    let replies : marked_replies marks plan.replies.items ≡ c.args.self.now.replies = ap (λ (p : Plan). p.replies) c.self.view_is in (
       refl,
       refl,
       λ none.
@@ -35,7 +35,7 @@ invariant_of-self g c =
         split = is.split;
         nodes = is.nodes;
         parts = is.parts;
-        replies = ap length (told-set marks replies c.args.number c.args.reply long) ∙ length-set (told marks replies) c.args.number (Some c.args.reply) ∙ is.replies;
+        replies = ap length (told-set marks replies c.args.number c.args.reply long) ∙ length-set (marked_replies marks replies) c.args.number (Some c.args.reply) ∙ is.replies;
       },
       length-set marks c.args.number true ∙ long ∙ sym (length-set replies c.args.number c.args.reply),
     )
@@ -46,7 +46,7 @@ returns-clause-told g c =
     let marks = plan.answered.items in
     let long : length marks ≡ length plan.replies.items = c.self.invariant.1 in
     let within : c.args.number < length marks = omega (arith, plan.answered.ok.0) in
-    let replies : told marks plan.replies.items ≡ c.args.self.now.replies = ap (λ (p : Plan). p.replies) c.self.view_is in (
+    let replies : marked_replies marks plan.replies.items ≡ c.args.self.now.replies = ap (λ (p : Plan). p.replies) c.self.view_is in (
       ap (λ rs. slice_get rs c.args.number) (sym replies)
           ∙ untold marks plan.replies.items c.args.number long within (sym (get_or_read marks c.args.number _ within c.index.ensures true) ∙ c.if-index.false),
       ap (λ (rs : List (Option Value)). record { split = plan.split; nodes = map (λ n. n.now) plan.nodes.items; parts = plan.parts.items; replies = rs }) (told-set marks plan.replies.items c.args.number c.args.reply long)
