@@ -2,13 +2,11 @@
 #![tactic(auto)]
 
 #[cfg(test)]
-mod batched_client;
-#[cfg(test)]
 mod batched_pipelines;
 #[cfg(test)]
-mod client;
+mod batcher;
 #[cfg(test)]
-mod examples;
+mod client;
 #[cfg(test)]
 mod first_drive;
 #[cfg(test)]
