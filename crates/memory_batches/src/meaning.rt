@@ -1,6 +1,5 @@
 ghost use Rattle.std.specs.Prelude.{◌≡◌, Some, IfOk};
-ghost use Rattle.redis_routing.specs.RoutingInfo.{as_routing};
-ghost use Rattle.redis_batches.specs.Taken.{slot_routed};
+ghost use Rattle.redis_routing.specs.RoutingInfo.{as_routing, slot_routed};
 ghost use Rattle.memory_batches.specs.Meaning.{Means};
 
 use redis_routing::{

@@ -1,7 +1,7 @@
 -- What is kept of the commands of a pipeline, and what they mean.
 use Rattle.std.proofs.Common.{◌≡◌, ◌<◌, ◌+◌, ℕ, true, List, [], ◌∷◌, ◌++◌, Option, Some, None, All, refl, sym, ap, subst, ◌∙◌, length, map, take, get_or}
 use Rattle.std.specs.List.{AllZip, flat_map, list_any}
-use Rattle.std.specs.Prelude.{IfSome, nat_eq}
+use Rattle.std.specs.Prelude.{IfSome, nat_eq, option_map, option_or}
 use Rattle.std.proofs.Math.Path.{fun_ext}
 use Rattle.std.proofs.lemmas.List.{map-append, take_more}
 use Rattle.std.proofs.lemmas.List.Elements.{All-map, All-weaker}
@@ -14,22 +14,36 @@ use Rattle.redis_routing.specs.Names.{Names, names_of}
 use Rattle.redis_routing.specs.PresentArguments.{present_arguments}
 use Rattle.redis_routing.specs.Registry.{Registrations}
 use Rattle.redis_routing.specs.Complete.{multi_slot_routes, pattern_by_name}
+use Rattle.redis_routing.specs.CommandSlot.{command_slot}
 use Rattle.redis_routing.specs.Routing.{routing}
+use Rattle.redis_routing.specs.RoutingInfo.{slot_routed}
 use Rattle.redis_routing.specs.Split.{Split, IsSplit, split_part, policy_by_name, slots_of}
+use Rattle.redis_routing.proofs.CommandSlots.{slot_is_routed}
 use Rattle.redis_cluster.specs.MultiKey.{MultiKey, form_by_policy, multi_key, part_by_slot, part_of, slots_in}
 use Rattle.redis_cluster.specs.PlacedTuples.{tuples_of}
 use Rattle.redis_cluster.proofs.CommandParts.{part_by_command}
 use Rattle.redis_cluster.proofs.Constructors.{same_some}
 use Rattle.redis_cluster.proofs.Planned.{joining, part_is}
-use Rattle.redis_cluster.proofs.SplitParts.{command_of_routes, is_made, part_means, pattern_made, policy_made}
-use Rattle.redis_batches.specs.Pipeline.{Task, over_keys}
-use Rattle.redis_batches.specs.Taken.{slot_routed, task_of, task_with}
+use Rattle.redis_cluster.proofs.SplitParts.{command_of_routes, is_made, no_command, part_means, pattern_made, policy_made}
+use Rattle.redis_batches.specs.Pipeline.{Task, in_slot, over_keys}
+use Rattle.redis_batches.specs.Taken.{task_of}
 use Rattle.redis_batches.specs.Tasks.{AreTasksOf, IsSplitOfTask, all_arguments, part_arguments}
 use Rattle.redis_batches.specs.CommandTask.{IsKeptOf, IsTaskFor, SlotPart, slot_parts}
 use Rattle.redis_batches.specs.Pipelined.{IsFirstMeaningless}
 use Rattle.redis_batches.specs.declared.task.CommandTask.{CommandTask}
 use Rattle.redis_batches.proofs.ByNode.{map_map}
 use Rattle.redis_batches.specs.declared.task.CommandTask.TheVariants.{OverKeys}
+
+-- what a command means, by the one over many keys that it may be
+abbrev pub task_by : Registrations → List (List ℕ) → Option MultiKey → Option Task
+task_by registered args command = option_or (option_map over_keys command) (option_map (λ slot. in_slot slot args) (command_slot registered (map Some args)))
+
+-- a command that is not over many keys means what its slot says
+pub means_slot : (registered : Registrations) (args : List (List ℕ)) (slot : Option ℕ) → multi_slot_routes (names_of [] registered) (map Some args) ≡ None
+    → slot_routed (routing (names_of [] registered) (map Some args)) ≡ slot → task_of registered args ≡ option_map (λ s. in_slot s args) slot
+means_slot registered args slot none routed =
+    ap (task_by registered args) (no_command (names_of [] registered) (map Some args) none)
+    ∙ ap (option_map (λ s. in_slot s args)) (sym (slot_is_routed (names_of [] registered) (map Some args)) ∙ routed)
 
 module _ (names : Names) (args : Arguments) (split : Split) (arguments : split.arguments ≡ args) (routes : Some split.routes ≡ multi_slot_routes names args)
     (pattern : Some split.pattern ≡ pattern_by_name names.registered (command_name args)) (policy : Some split.policy ≡ policy_by_name names.registered (command_name args)) (held : IsSplit split) where
@@ -72,7 +86,7 @@ pub kept_split : (names : Names) (args : List (List ℕ)) (split : Split) → sp
 kept_split names args split arguments routes pattern policy held =
     let found = split_of_task names (map Some args) split arguments routes pattern policy held in (
       over_keys found.0,
-      ap (λ m. task_with m (slot_routed (routing (names_of [] names.registered) (map Some args))) args) found.1,
+      ap (task_by names.registered args) found.1,
       (found.0, refl, found.2),
       sym (map_map (λ (part : SlotPart). part.1) (λ slot. (slot, split_part split slot)) (slots_of split.routes)) ∙ found.3,
     )

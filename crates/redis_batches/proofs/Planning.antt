@@ -10,9 +10,8 @@ use Rattle.std.proofs.lemmas.List.Elements.{All-nil, All-cons, All-head, All-tai
 use Rattle.resp_core.proofs.Cases.{by_test, or_second}
 use Rattle.cluster_slots.specs.Address.{Address}
 use Rattle.cluster_slots.specs.KeySlot.{key_slot}
-use Rattle.redis_routing.specs.Names.{Names, names_of}
+use Rattle.redis_routing.specs.Names.{Names}
 use Rattle.redis_routing.specs.Registry.{Registrations}
-use Rattle.redis_routing.specs.Routing.{routing}
 use Rattle.redis_routing.specs.Split.{Split, slots_of, split_part}
 use Rattle.redis_routing.proofs.Cover.{count_firsts}
 use Rattle.redis_routing.proofs.SelfRouting.{all_there}
@@ -22,7 +21,7 @@ use Rattle.redis_cluster.proofs.Constructors.{same_head, same_some, same_tail}
 use Rattle.redis_cluster.proofs.Counts.{same_number}
 use Rattle.redis_batches.specs.Pipeline.{AreSlotsOf, HasSlots, Part, Planned, Task, over_keys, in_slot, part, parts_of}
 use Rattle.redis_batches.specs.Batched.{AreBatches}
-use Rattle.redis_batches.specs.Taken.{slot_routed, task_of, task_with}
+use Rattle.redis_batches.specs.Taken.{task_of}
 use Rattle.redis_batches.specs.Tasks.{IsSplitOfTask, slots_of_task, with_slots}
 use Rattle.redis_batches.specs.CommandTask.{IsKeptOf, IsTaskFor, SlotPart, slot_parts, slots_kept, split_in, split_parts}
 use Rattle.redis_batches.specs.Pipelined.{IsTaskFault}
@@ -39,7 +38,7 @@ use Rattle.redis_batches.specs.declared.task.CommandTask.TheVariants.{InSlot, Ov
 use Rattle.redis_batches.specs.Grouped.{index_of}
 use Rattle.redis_batches.specs.Driven.{node_at}
 use Rattle.redis_batches.proofs.ByNode.{batch_by_node, by_node_batches, node_at_index}
-use Rattle.redis_batches.proofs.Commands.{tasks_from}
+use Rattle.redis_batches.proofs.Commands.{task_by, tasks_from}
 
 -- what is sent is the part of the pipeline
 abbrev IsPartOf : Registrations → SlotPart → Part → Type 0
@@ -78,7 +77,7 @@ parts_of_split registered command split task is of =
     (subst (λ slots. AllZip (IsPartOf registered) (split_parts split) (map own slots)) of.slots
     (zip_maps (IsPartOf registered) sent own (slots_of split.routes)
     (All-weaker (λ slot. multi_key registered (split_part split slot) ≡ Some (part_of command slot)) (λ slot. IsPartOf registered (sent slot) (own slot))
-    (λ slot means. (refl, λ args same. ap (λ m. task_with m (slot_routed (routing (names_of [] registered) (map Some args))) args) (ap (multi_key registered) same ∙ means)))
+    (λ slot means. (refl, λ args same. ap (task_by registered args) (ap (multi_key registered) same ∙ means)))
     (slots_of split.routes) of.parts)))
 
 part_of_kept : (registered : Registrations) (task : Task) (kept : CommandTask) → IsKeptOf registered task kept → AllZip (IsPartOf registered) (slot_parts kept) (parts_of (with_slots task))

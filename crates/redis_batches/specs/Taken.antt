@@ -1,16 +1,14 @@
 -- What a node leaves that took a batch of commands.
-use Rattle.std.specs.Prelude.{◌≡◌, ◌<◌, ◌≤◌, ◌⊎◌, ◌+◌, ℕ, List, [], ◌++◌, Option, None, Some, Result, Ok, Err, true, false, map, length, slice_get}
+use Rattle.std.specs.Prelude.{◌≡◌, ◌<◌, ◌≤◌, ◌⊎◌, ◌+◌, ℕ, List, [], ◌++◌, Option, None, Some, Result, Ok, Err, true, false, map, length, option_map, option_or, slice_get}
 use Rattle.std.specs.Global.{Vec}
 use Rattle.std.specs.List.{zip}
 use Rattle.cluster_slots.specs.Address.{Address}
 use Rattle.resp_core.specs.ErrorParts.{ErrorParts, out_of_memory}
 use Rattle.resp_core.specs.View.{view}
 use Rattle.resp_core.specs.declared.value.Value.{Value}
-use Rattle.redis_routing.specs.Names.{names_of}
 use Rattle.redis_routing.specs.Registry.{Registrations}
-use Rattle.redis_routing.specs.Routing.{routing}
-use Rattle.redis_routing.specs.RoutingInfo.{Routing, specific_node, single_node}
-use Rattle.redis_cluster.specs.MultiKey.{MultiKey, multi_key}
+use Rattle.redis_routing.specs.CommandSlot.{command_slot}
+use Rattle.redis_cluster.specs.MultiKey.{multi_key}
 use Rattle.redis_cluster.specs.Trace.{Entry, Ending, answered, refused, redirected, lost, entry}
 use Rattle.redis_cluster.specs.Unsplit.{Step, Keyspace}
 use Rattle.redis_cluster.specs.declared.nodes.SendError.{SendError}
@@ -29,22 +27,12 @@ answer_of (Err error) = Err error
 abbrev pub Came : Type 0
 Came = Result (Vec (Result Value ErrorParts)) SendError
 
--- the slot that a command goes to, if it goes to a node of one slot
-abbrev pub slot_routed : Option Routing → Option ℕ
-slot_routed (Some (single_node (specific_node route))) = Some route.slot
-slot_routed _ = None
-
-abbrev pub task_with : Option MultiKey → Option ℕ → List (List ℕ) → Option Task
-task_with (Some command) slot args = Some (over_keys command)
-task_with None (Some slot) args = Some (in_slot slot args)
-task_with None None args = None
-
--- What a command means in a pipeline: one over many keys, or one that keeps to the slot that it is
--- routed to. Commands for all nodes, or for any, mean nothing here.
+-- What a command means in a pipeline: one over many keys, or one that keeps to the slot that it goes
+-- to. Commands for all nodes, or for any, mean nothing here.
 abbrev pub task_of : Registrations → List (List ℕ) → Option Task
 task_of registered args =
-    task_with (multi_key registered (map Some args))
-    (slot_routed (routing (names_of [] registered) (map Some args))) args
+    option_or (option_map over_keys (multi_key registered (map Some args)))
+    (option_map (λ slot. in_slot slot args) (command_slot registered (map Some args)))
 
 -- how a command of a batch ended, by the error that it was refused with, if it was
 abbrev pub ending_by : Option ErrorParts → Ending

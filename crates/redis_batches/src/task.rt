@@ -1,9 +1,9 @@
 ghost use Rattle.std.specs.Prelude.{◌≡◌, [], None, Some, map, option_map, IfOk, IfErr, IfSome};
 ghost use Rattle.std.specs.List.{AllZip};
-ghost use Rattle.redis_routing.specs.RoutingInfo.{as_routing};
+ghost use Rattle.redis_routing.specs.RoutingInfo.{as_routing, slot_routed};
 ghost use Rattle.redis_batches.specs.CommandTask.{IsTaskFor};
 ghost use Rattle.redis_batches.specs.Pipelined.{IsTaskFault};
-ghost use Rattle.redis_batches.specs.Taken.{slot_routed, task_of};
+ghost use Rattle.redis_batches.specs.Taken.{task_of};
 
 use crate::fault::PipelineFault;
 use redis_routing::{

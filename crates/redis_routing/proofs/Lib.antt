@@ -1,6 +1,7 @@
 pub mod Agree
 pub mod Arguments
 pub mod CommandNames
+pub mod CommandSlots
 pub mod NameSets
 pub mod NameSpots
 pub mod Patterns

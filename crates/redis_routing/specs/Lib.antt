@@ -26,6 +26,7 @@ pub mod Laws
 pub mod Parts
 pub mod Routing
 pub mod RoutingInfo
+pub mod CommandSlot
 pub mod Split
 pub mod SubCommand
 pub mod RedirectText

@@ -57,3 +57,8 @@ as_multiple_nodes (MultiSlot (routes, pattern)) = multi_slot (route_lists routes
 abbrev pub as_routing : RoutingInfo → Routing
 as_routing (SingleNode info) = single_node (as_single_node info)
 as_routing (MultiNode (info, policy)) = multi_node (as_multiple_nodes info) policy
+
+-- the slot that a command goes to, if it goes to a node of one slot
+abbrev pub slot_routed : Option Routing → Option ℕ
+slot_routed (Some (single_node (specific_node route))) = Some route.slot
+slot_routed _ = None

@@ -2,11 +2,10 @@ use Rattle.std.proofs.Common.{◌≡◌, ◌∙◌, [], None, Some, ap, map, opt
 use Rattle.redis_routing.specs.Complete.{multi_slot_routes}
 use Rattle.redis_routing.specs.Names.{names_in, names_of}
 use Rattle.redis_routing.specs.Routing.{routing}
-use Rattle.redis_cluster.specs.MultiKey.{multi_key}
-use Rattle.redis_cluster.proofs.SplitParts.{no_command}
+use Rattle.redis_routing.specs.RoutingInfo.{slot_routed}
 use Rattle.redis_batches.specs.Pipeline.{in_slot}
-use Rattle.redis_batches.specs.Taken.{slot_routed, task_of, task_with}
-use Rattle.redis_batches.proofs.Commands.{kept_split, of_some}
+use Rattle.redis_batches.specs.Taken.{task_of}
+use Rattle.redis_batches.proofs.Commands.{kept_split, means_slot, of_some}
 use Rattle.redis_batches.proofs.task.task_of.Goals as goal
 
 pub returns-in-Some-clause-some : goal.returns-in-Some-clause-some
@@ -21,18 +20,16 @@ pub returns-in-Some-slot_routed-clause-some : goal.returns-in-Some-slot_routed-c
 returns-in-Some-slot_routed-clause-some c =
     let registered = c.args.names.registry.now in
     let cmd = c.args.command.now in
+    let slot = c.in-Some-slot_routed.slot in
     let no_routes : multi_slot_routes (names_of [] registered) (map Some cmd) ≡ None = search rules in
-    let none : multi_key registered (map Some cmd) ≡ None = no_command (names_of [] registered) (map Some cmd) no_routes in
-    let routed : slot_routed (routing (names_of [] registered) (map Some cmd)) ≡ Some c.in-Some-slot_routed.slot = search rules in
-    let is : task_of registered cmd ≡ Some (in_slot c.in-Some-slot_routed.slot cmd) =
-    ap (λ command. task_with command (slot_routed (routing (names_of [] registered) (map Some cmd))) cmd) none ∙ ap (λ slot. task_with None slot cmd) routed in
-    (in_slot c.in-Some-slot_routed.slot cmd, is, (refl, is), refl)
+    let routed : slot_routed (routing (names_of [] registered) (map Some cmd)) ≡ Some slot = search rules in
+    let is : task_of registered cmd ≡ Some (in_slot slot cmd) = means_slot registered cmd (Some slot) no_routes routed in
+    (in_slot slot cmd, is, (refl, is), refl)
 
 pub returns-clause-none : goal.returns-clause-none
 returns-clause-none c = λ kept.
     let registered = c.args.names.registry.now in
     let cmd = c.args.command.now in
     let no_routes : multi_slot_routes (names_of [] registered) (map Some cmd) ≡ None = search rules in
-    let none : multi_key registered (map Some cmd) ≡ None = no_command (names_of [] registered) (map Some cmd) no_routes in
     let nowhere : slot_routed (routing (names_of [] registered) (map Some cmd)) ≡ None = search rules in
-    ap (λ command. task_with command (slot_routed (routing (names_of [] registered) (map Some cmd))) cmd) none ∙ ap (λ slot. task_with None slot cmd) nowhere
+    means_slot registered cmd None no_routes nowhere

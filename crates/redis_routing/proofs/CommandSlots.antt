@@ -1,0 +1,151 @@
+-- The slot of a command by itself is the one that its routing has.
+use Rattle.std.proofs.Common.{◌≡◌, ℕ, zero, suc, ◌+◌, ◌*◌, ◌/◌, ◌%◌, ◌≤◌, List, [], ◌∷◌, Bool, true, false, cond, Option, Some, None, map, option_map, length, take, get_or, refl, sym, ap, ◌∙◌, arith}
+use Rattle.std.specs.Prelude.{codes, max, nat_eq, nat_lt, option_and_then, option_or, position}
+use Rattle.std.specs.Simd.{first_chunks}
+use Rattle.std.proofs.Math.Seq.{take-length}
+use Rattle.std.proofs.lemmas.Bool.Decides.{nat_tests}
+use Rattle.cluster_slots.specs.KeySlot.{key_slot}
+use Rattle.cluster_slots.specs.Number.{number_in}
+use Rattle.redis_routing.specs.Command.{Arguments, argument, command_name, is_word}
+use Rattle.redis_routing.specs.CommandSlot.{command_slot, firsts_of, keys_among, only_number, slot_by}
+use Rattle.redis_routing.specs.Lookup.{lookup_name}
+use Rattle.redis_routing.specs.Names.{Names, names_of}
+use Rattle.redis_routing.specs.Parts.{first_appearances, slot_of}
+use Rattle.redis_routing.specs.PresentArguments.{present_arguments}
+use Rattle.redis_routing.specs.Registry.{Registered, Registrations, routing_or, tables_with}
+use Rattle.redis_routing.specs.RouteBy.{base_routing}
+use Rattle.redis_routing.specs.Routing.{argument_number, by_count, route_of_slot, routes_of, routing, routing_by, routing_by_name, routing_of_routes, to_key, to_key_after, to_key_or_any, to_slot, to_slots}
+use Rattle.redis_routing.specs.RoutingInfo.{Routing, slot_routed}
+use Rattle.redis_routing.specs.Tuples.{fits, keys_alone, keys_and_two, keys_and_values, tuples_in}
+use Rattle.redis_routing.specs.declared.policy.ResponsePolicy.{ResponsePolicy}
+use Rattle.redis_routing.specs.declared.route_by.MultiSlotArgPattern.{MultiSlotArgPattern}
+use Rattle.redis_routing.specs.declared.route_by.MultiSlotArgPattern.TheVariants.{KeysOnly, KeyValuePairs, KeysAndLastArg, KeyWithTwoArgTriples}
+use Rattle.redis_routing.specs.declared.route_by.RouteBy.{RouteBy}
+use Rattle.redis_routing.specs.declared.route_by.RouteBy.TheVariants as route_by
+
+of_key : (reads : Bool) (key : Option (List ℕ)) → slot_routed (to_key reads key) ≡ option_map key_slot key
+of_key reads None = refl
+of_key reads (Some key) = refl
+
+of_key_or_any : (reads : Bool) (key : Option (List ℕ)) → slot_routed (to_key_or_any reads key) ≡ option_map key_slot key
+of_key_or_any reads None = refl
+of_key_or_any reads (Some key) = refl
+
+of_count : (reads : Bool) (count : Option ℕ) (key : Option (List ℕ)) → slot_routed (by_count reads count key) ≡ option_and_then (λ n. cond (nat_eq n 0) None (option_map key_slot key)) count
+of_count reads None key = refl
+of_count reads (Some zero) key = refl
+of_count reads (Some (suc n)) key = of_key reads key
+
+number_of : (bits : ℕ) (text : Option (List ℕ)) → argument_number bits text ≡ option_and_then (number_in bits) text
+number_of bits None = refl
+number_of bits (Some text) = refl
+
+of_place : (reads : Bool) (args : Arguments) (place : Option ℕ) → slot_routed (to_key_after reads args place) ≡ option_and_then (λ n. option_map key_slot (argument args (n + 1))) place
+of_place reads args None = refl
+of_place reads args (Some place) = of_key reads (argument args (place + 1))
+
+of_test : (b : Bool) (routing : Option Routing) → slot_routed (cond b routing None) ≡ cond b (slot_routed routing) None
+of_test true routing = refl
+of_test false routing = refl
+
+of_slot : (slot : Option ℕ) → slot_routed (to_slot slot) ≡ option_and_then (λ n. cond (nat_lt n 16384) (Some n) None) slot
+of_slot None = refl
+of_slot (Some n) = of_test (nat_lt n 16384) _
+
+-- one route goes to its slot, and several to no single one
+of_routes : (reads : Bool) (policy : Option ResponsePolicy) (pattern : MultiSlotArgPattern) (present : List (List ℕ)) (slots : List ℕ)
+    → slot_routed (Some (routing_of_routes pattern policy (map (route_of_slot reads pattern present) slots))) ≡ only_number slots
+of_routes reads policy pattern present [] = refl
+of_routes reads policy pattern present (slot ∷ []) = refl
+of_routes reads policy pattern present (slot ∷ other ∷ slots) = refl
+
+-- the slot of these keys, if they all have one
+abbrev slot_of_keys : List (List ℕ) → Option ℕ
+slot_of_keys keys = only_number (first_appearances (map key_slot keys))
+
+alone : (place : ℕ) (xs : List (List ℕ)) → map slot_of (keys_alone place xs) ≡ map key_slot xs
+alone place [] = refl
+alone place (x ∷ xs) = ap (λ slots. key_slot x ∷ slots) (alone (place + 1) xs)
+
+pairs : (n place : ℕ) (xs : List (List ℕ)) → length xs ≡ n * 2 → map slot_of (keys_and_values place xs) ≡ map key_slot (map (λ group. get_or group 0 []) (first_chunks 2 n xs))
+pairs zero place [] fit = refl
+pairs zero place (x ∷ xs) fit = absurd (omega arith)
+pairs (suc n) place [] fit = absurd (omega arith)
+pairs (suc n) place (x ∷ []) fit = absurd (omega arith)
+pairs (suc n) place (x ∷ y ∷ xs) fit = ap (λ slots. key_slot x ∷ slots) (pairs n (place + 2) xs (omega arith))
+
+triples : (n place : ℕ) (xs : List (List ℕ)) → length xs ≡ n * 3 → map slot_of (keys_and_two place xs) ≡ map key_slot (map (λ group. get_or group 0 []) (first_chunks 3 n xs))
+triples zero place [] fit = refl
+triples zero place (x ∷ xs) fit = absurd (omega arith)
+triples (suc n) place [] fit = absurd (omega arith)
+triples (suc n) place (x ∷ []) fit = absurd (omega arith)
+triples (suc n) place (x ∷ y ∷ []) fit = absurd (omega arith)
+triples (suc n) place (x ∷ y ∷ z ∷ xs) fit = ap (λ slots. key_slot x ∷ slots) (triples n (place + 3) xs (omega arith))
+
+module _ (xs : List (List ℕ)) where
+  by_pairs : (b : Bool) → nat_eq (length xs % 2) 0 ≡ b → cond b (only_number (first_appearances (map slot_of (keys_and_values 0 (take (length xs) xs))))) None
+      ≡ slot_of_keys (cond b (map (λ group. get_or group 0 []) (first_chunks 2 (length xs / 2) xs)) [])
+  by_pairs true whole =
+      let even : length xs % 2 ≡ 0 = grind (arith, nat_tests) in
+      ap (λ ys. only_number (first_appearances (map slot_of (keys_and_values 0 ys)))) (take-length xs)
+      ∙ ap (λ slots. only_number (first_appearances slots)) (pairs (length xs / 2) 0 xs (omega (arith, even)))
+  by_pairs false whole = refl
+
+  by_triples : (b : Bool) → nat_eq (length xs % 3) 0 ≡ b → cond b (only_number (first_appearances (map slot_of (keys_and_two 0 (take (length xs) xs))))) None
+      ≡ slot_of_keys (cond b (map (λ group. get_or group 0 []) (first_chunks 3 (length xs / 3) xs)) [])
+  by_triples true whole =
+      let third : length xs % 3 ≡ 0 = grind (arith, nat_tests) in
+      ap (λ ys. only_number (first_appearances (map slot_of (keys_and_two 0 ys)))) (take-length xs)
+      ∙ ap (λ slots. only_number (first_appearances slots)) (triples (length xs / 3) 0 xs (omega (arith, third)))
+  by_triples false whole = refl
+
+-- the slot of the tuples, if they are whole
+of_tuples : (pattern : MultiSlotArgPattern) (present : List (List ℕ)) → cond (fits pattern (length present)) (only_number (first_appearances (map slot_of (tuples_in pattern present)))) None ≡ slot_of_keys (keys_among pattern present)
+of_tuples KeysOnly [] = refl
+of_tuples KeysOnly (x ∷ xs) =
+    ap (λ slots. only_number (first_appearances slots)) (alone 0 (take (length (x ∷ xs)) (x ∷ xs)) ∙ ap (map key_slot) (take-length (x ∷ xs)))
+of_tuples KeyValuePairs [] = refl
+of_tuples KeyValuePairs (x ∷ xs) = by_pairs (x ∷ xs) (nat_eq (length (x ∷ xs) % 2) 0) refl
+of_tuples KeysAndLastArg [] = refl
+of_tuples KeysAndLastArg (x ∷ []) = refl
+of_tuples KeysAndLastArg (x ∷ y ∷ xs) = ap (λ slots. only_number (first_appearances slots)) (alone 0 (take (length (y ∷ xs)) (x ∷ y ∷ xs)))
+of_tuples KeyWithTwoArgTriples [] = refl
+of_tuples KeyWithTwoArgTriples (x ∷ xs) = by_triples (x ∷ xs) (nat_eq (length (x ∷ xs) % 3) 0) refl
+
+of_slots : (reads : Bool) (policy : Option ResponsePolicy) (pattern : MultiSlotArgPattern) (present : List (List ℕ)) → slot_routed (to_slots reads policy pattern present) ≡ slot_of_keys (keys_among pattern present)
+of_slots reads policy pattern present =
+    of_test (fits pattern (length present)) (Some (routing_of_routes pattern policy (routes_of reads pattern present)))
+    ∙ ap (λ slot. cond (fits pattern (length present)) slot None) (of_routes reads policy pattern present (first_appearances (map slot_of (tuples_in pattern present))))
+    ∙ of_tuples pattern present
+
+of_way : (policy : Option ResponsePolicy) (reads : Bool) (args : Arguments) (way : Option RouteBy) → slot_routed (routing_by policy reads args way) ≡ slot_by args way
+of_way policy reads args None = of_key_or_any reads (argument args 1)
+of_way policy reads args (Some route_by.AllNodes) = refl
+of_way policy reads args (Some route_by.AllMasters) = refl
+of_way policy reads args (Some (route_by.MultiSlot pattern)) = of_slots reads policy pattern (present_arguments args)
+of_way policy reads args (Some route_by.Undefined) = refl
+of_way policy reads args (Some (route_by.CountAt n)) =
+    of_count reads (argument_number 64 (argument args n)) (argument args (n + 1))
+    ∙ ap (option_and_then (λ count. cond (nat_eq count 0) None (option_map key_slot (argument args (n + 1))))) (number_of 64 (argument args n))
+of_way policy reads args (Some (route_by.KeyAt n)) = of_key reads (argument args n)
+of_way policy reads args (Some route_by.KeyAfterStreams) = of_place reads args (position (is_word (codes "STREAMS")) args)
+of_way policy reads args (Some route_by.Random) = refl
+of_way policy reads args (Some (route_by.SlotAt n)) =
+    of_slot (argument_number 16 (argument args n))
+    ∙ ap (option_and_then (λ slot. cond (nat_lt slot 16384) (Some slot) None)) (number_of 16 (argument args n))
+
+same_way : (way : Option RouteBy) (row : Option Registered) → routing_or way row ≡ option_or way (option_map (λ split. route_by.MultiSlot split.0) row)
+same_way None row = refl
+same_way (Some way) row = refl
+
+of_name : (names : Names) (args : Arguments) (name : Option (List ℕ)) → slot_routed (routing_by_name names args name)
+    ≡ option_and_then (λ name. slot_by args (option_or (base_routing name) (option_map (λ split. route_by.MultiSlot split.0) (lookup_name names.registered name)))) name
+of_name names args None = refl
+of_name names args (Some name) =
+    of_way ((tables_with names.registered).policy name) (names.only_reads name) args ((tables_with names.registered).route_by name)
+    ∙ ap (slot_by args) (same_way (base_routing name) (lookup_name names.registered name))
+
+-- whichever names only read
+pub slot_is_routed : (names : Names) (args : Arguments) → slot_routed (routing names args) ≡ command_slot names.registered args
+unfolding command_slot
+slot_is_routed names args = of_name names args (command_name args)
