@@ -10,7 +10,7 @@ use Rattle.redis_cluster.specs.Trace.{Ending, entry}
 use Rattle.redis_cluster.specs.Unsplit.{Keyspace, Step}
 use Rattle.redis_cluster.specs.State.{State}
 use Rattle.redis_batches.specs.Pipeline.{Answer, Serve, Task, in_slot, over_keys, run_ended}
-use Rattle.redis_batches.specs.Taken.{IsBegunAtMost, IsBrokenOff, IsTaken, ending_by, task_of}
+use Rattle.redis_batches.specs.Taken.{IsBegunAtMost, IsTaken, ending_by, task_of}
 use Rattle.redis_batches.specs.Turns.{all_after}
 use Rattle.memory_nodes.specs.Steps.{step}
 use Rattle.memory_batches.specs.Nodes.{IsBegun, MayRefuse, keyspace_in, registered_in, state_in, trace_in}
@@ -62,7 +62,7 @@ module _ {C : Type 0} (step : Step C) (serve : Serve C) (registered : Registrati
       let served = taken.served keep (take i tasks) front in
       served.keyspace ∙ ap (λ l. all_after (run_ended step serve) l old.keyspace) (zip_take i tasks taken.ends long)
 
-  broken_off : i ≤ length batch → (new : Keyspace C) → IsBegunAtMost (slice_get tasks i) between.keyspace new → IsBrokenOff step serve tasks taken.ends old.keyspace new
+  broken_off : i ≤ length batch → (new : Keyspace C) → IsBegunAtMost (slice_get tasks i) between.keyspace new → IsBegunAtMost (slice_get tasks (length taken.ends)) (all_after (run_ended step serve) (zip tasks taken.ends) old.keyspace) new
   broken_off within new begun =
       let many : length taken.ends ≡ i = taken.long ∙ length-take-le i batch within in
       subst (λ n. IsBegunAtMost (slice_get tasks n) (all_after (run_ended step serve) (zip tasks taken.ends) old.keyspace) new) (sym many)

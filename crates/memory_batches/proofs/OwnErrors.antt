@@ -1,7 +1,7 @@
 -- No error that these nodes answer of themselves sends a command on.
 use Rattle.std.proofs.Common.{◌≡◌, ℕ, List, [], ◌∷◌, ◌++◌, Option, None, Some, Err, inl, inr, false, ap, arith, get_or, refl, sym, subst, ◌∙◌, map}
 use Rattle.std.specs.Prelude.{◌+ℤ◌, codes, nat_eq, pos}
-use Rattle.std.specs.Option.{option_map_or}
+use Rattle.std.specs.Option.{unwrap_or}
 use Rattle.std.proofs.lemmas.Bool.Decides.{nat_tests}
 use Rattle.resp_core.proofs.Cases.{by_test}
 use Rattle.resp_core.specs.ErrorParts.{ErrorParts}
@@ -12,7 +12,7 @@ use Rattle.redis_routing.specs.declared.info.Redirect.{Redirect}
 use Rattle.redis_routing.specs.declared.info.Redirect.TheVariants.{Moved, Ask}
 use Rattle.redis_cluster.specs.Unsplit.{Keyspace}
 use Rattle.redis_batches.specs.Pipeline.{Answer, Task, in_slot, over_keys}
-use Rattle.redis_batches.specs.Rounds.{OwnErrorsStay, SendsOn, StaysHere, server_text}
+use Rattle.redis_batches.specs.Rounds.{SendsOn, StaysHere}
 use Rattle.memory_nodes.specs.Cells.{Cell}
 use Rattle.redis_routing.specs.Command.{command_name}
 use Rattle.memory_batches.specs.Strings.{arguments_of, by_verb, counted, fails, holds_list, in_64_bits, length_at, list_length, number_at, one_more, own_error, pushed, raised_from, renamed, serve, string_at, verb_in}
@@ -38,17 +38,17 @@ abbrev AnswersOwn : Answer → Type 0
 AnswersOwn answer = (error : ErrorParts) → answer ≡ Err error → (error.detail ≡ None) × IsOwn error.desc
 
 -- such an error sends nothing on
-stays : (answer : Answer) → AnswersOwn answer → (error : ErrorParts) (node target : Address) → answer ≡ Err error → SendsOn node (server_text error) target → ⊥
+stays : (answer : Answer) → AnswersOwn answer → (error : ErrorParts) (node target : Address) → answer ≡ Err error → SendsOn node (unwrap_or error.detail error.desc) target → ⊥
 stays answer own error node target is on = sent on
   where
-    text_is : server_text error ≡ error.desc
-    text_is = ap (λ detail. option_map_or (λ d. d) detail error.desc) (own error is).0
+    text_is : unwrap_or error.detail error.desc ≡ error.desc
+    text_is = ap (λ detail. unwrap_or detail error.desc) (own error is).0
 
-    by_redirect : (redirect : Redirect) (slot : ℕ) → IsRedirectText node.host (server_text error) slot redirect → ⊥
+    by_redirect : (redirect : Redirect) (slot : ℕ) → IsRedirectText node.host (unwrap_or error.detail error.desc) slot redirect → ⊥
     by_redirect (Moved address) slot names = ((own error is).1 names.0).0 (sym text_is ∙ names.1)
     by_redirect (Ask address) slot names = ((own error is).1 names.0).1 (sym text_is ∙ names.1)
 
-    sent : SendsOn node (server_text error) target → ⊥
+    sent : SendsOn node (unwrap_or error.detail error.desc) target → ⊥
     sent (inl named) = by_redirect named.1 named.0 named.2
     sent (inr again) = ((own error is).1 again.0.0).2 (sym text_is ∙ again.0.1)
 
@@ -111,5 +111,5 @@ task_stays (in_slot slot args) = λ keyspace error node target is.
     stays (serve args keyspace).reply (by_verb_own keyspace (verb_in (command_name (map Some args))) (arguments_of args)) error node target is
 
 -- So over these nodes a pipeline that is sent in rounds is answered as by one server.
-pub own_errors_stay : (tasks : List Task) → OwnErrorsStay serve tasks
+pub own_errors_stay : (tasks : List Task) → All (StaysHere serve) tasks
 own_errors_stay tasks = λ i d inside. task_stays _

@@ -1,13 +1,15 @@
 -- What nodes in memory that take batches hold, have been sent, and refuse.
 use Rattle.std.specs.Prelude.{◌≡◌, ◌≤◌, ◌++◌, ℕ, ◌-◌, List, Bool, Option, None, Some, cond, length, map, nat_le, slice_get}
+use Rattle.std.specs.List.{zip}
 use Rattle.cluster_slots.specs.Address.{Address}
 use Rattle.resp_core.specs.ErrorParts.{ErrorParts}
 use Rattle.redis_routing.specs.Registry.{Registrations}
 use Rattle.redis_cluster.specs.Trace.{Entry, Ending, refused, entry}
 use Rattle.redis_cluster.specs.State.{State, state}
 use Rattle.redis_cluster.specs.Unsplit.{Keyspace}
-use Rattle.redis_batches.specs.Pipeline.{Task}
-use Rattle.redis_batches.specs.Taken.{AreAllowed, IsBrokenOff, batch_entries, ending_by, task_of}
+use Rattle.redis_batches.specs.Pipeline.{Task, run_ended}
+use Rattle.redis_batches.specs.Taken.{AreAllowed, IsBegunAtMost, batch_entries, ending_by, task_of}
+use Rattle.redis_batches.specs.Turns.{all_after}
 use Rattle.memory_nodes.specs.Cells.{Cell}
 use Rattle.memory_nodes.specs.Nodes as store
 use Rattle.memory_nodes.specs.Steps.{step}
@@ -73,4 +75,5 @@ pub record IsBegun (node : Address) (batch : List (List (List ℕ))) (old new : 
   pub grew : trace_in new ≡ trace_in old ++ batch_entries node batch ends
   pub allowed : AreAllowed (MayRefuse old) (length (trace_in old)) ends
   pub keyspace : (tasks : List Task) → map (task_of (registered_in old)) batch ≡ map Some tasks
-      → IsBrokenOff step serve tasks ends (keyspace_in old) (keyspace_in new)
+      → IsBegunAtMost (slice_get tasks (length ends))
+      (all_after (run_ended step serve) (zip tasks ends) (keyspace_in old)) (keyspace_in new)

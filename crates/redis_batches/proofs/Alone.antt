@@ -15,13 +15,14 @@ use Rattle.redis_cluster.specs.Unsplit.{Step, Keyspace}
 use Rattle.redis_cluster.proofs.Constructors.{same_head, same_tail}
 use Rattle.redis_cluster.proofs.Counts.{times_here, times_there}
 use Rattle.redis_batches.specs.Turns.{all_after, answers}
-use Rattle.redis_batches.specs.Pipeline.{Answer, AreSlotsOf, Numbered, Part, Planned, Refusals, Serve, Task, ended, in_slot, numbered, over_keys, part, parts_of, piece, pieces, refused_by, slot_of}
+use Rattle.redis_batches.specs.Pipeline.{Answer, AreSlotsOf, Numbered, Part, Planned, Refusals, Serve, Task, ended, in_slot, numbered, over_keys, part, parts_of, pieces, refused_by, slot_of}
 use Rattle.redis_batches.specs.Rounds.{alone}
 use Rattle.redis_batches.specs.Taken.{task_of}
 use Rattle.redis_batches.specs.Sent.{AreApart}
 use Rattle.redis_batches.proofs.Ends.{end_of, ends_found}
 use Rattle.redis_batches.proofs.KeptSlots.{all_numbered}
 use Rattle.redis_batches.proofs.Lists.{filter_inside}
+use Rattle.redis_batches.proofs.Whole.{piece}
 
 -- the part of a slot is a command of this slot alone
 pub record IsOwnPart (q : Part) : Type 0 where

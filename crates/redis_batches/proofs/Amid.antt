@@ -9,12 +9,13 @@ use Rattle.redis_cluster.specs.MultiKey.{MultiKey, slots_in}
 use Rattle.redis_cluster.specs.Unsplit.{Step, Keyspace, reply_to}
 use Rattle.redis_cluster.proofs.Amid.{acts_by_slot, outcome_amid}
 use Rattle.redis_cluster.proofs.SplitTuples.{ShareOut}
-use Rattle.redis_batches.specs.Amid.{AreServedAmid, own_answers}
+use Rattle.redis_batches.specs.Amid.{AreServedAmid}
 use Rattle.redis_batches.specs.Pipeline.{Answer, Task, over_keys}
 use Rattle.redis_batches.specs.PipelinePlan.{pieces_of}
 use Rattle.redis_batches.specs.Tasks.{slots_of_task}
-use Rattle.redis_batches.specs.Replies.{AreRepliesTo, IsReplyByParts, all_replies, as_outcome, with_reply}
-use Rattle.redis_batches.proofs.ServerReplies.{IsShared, answer_is}
+use Rattle.redis_batches.specs.Replies.{AreRepliesTo, all_replies, as_outcome}
+use Rattle.redis_batches.proofs.Answered.{with_reply}
+use Rattle.redis_batches.proofs.ServerReplies.{IsReplyByParts, IsShared, answer_is}
 use Rattle.redis_batches.proofs.Untouched.{pieces_more}
 
 -- replies that are all there
@@ -32,7 +33,7 @@ module _ {C : Type 0} (step : Step C) where
       (subst (λ found. IsReplyByParts command found reply) (all_given (replies_by step command held)) made))
 
   amid_at : (before later : List Task) (command : MultiKey) (given replies : List Answer) → AllByRecursion IsShared (before ++ over_keys command ∷ later) → AreRepliesTo (before ++ over_keys command ∷ later) given replies
-      → (held : HeldBySlot C) (one : Keyspace C) → IsAssembled command held one → own_answers before command given ≡ map Ok (replies_by step command held)
+      → (held : HeldBySlot C) (one : Keyspace C) → IsAssembled command held one → take (length (slots_in command)) (drop (length (pieces_of before)) given) ≡ map Ok (replies_by step command held)
       → slice_get replies (length before) ≡ Some (Ok (reply_to step command one))
   amid_at [] later command given [] share made held one assembled own = absurd made
   amid_at [] later command given (reply ∷ replies) share made held one assembled own =

@@ -2,6 +2,7 @@
 use Rattle.std.proofs.Common.{◌≡◌, ◌<◌, ◌≤◌, ℕ, List, [], ◌∷◌, ◌++◌, Ok, Err, Result, refl, sym, ap, ◌∙◌, arith, length, map, reverse, append_assoc, length-append}
 use Rattle.std.proofs.lemmas.List.{length-map, reverse-append, length-reverse}
 use Rattle.std.specs.declared.alloc.Global.{Global}
+use Rattle.std.specs.Result.{result_map_both}
 use Rattle.std.specs.declared.vec.Vec.{Vec}
 use Rattle.resp_core.specs.ErrorParts.{ErrorParts}
 use Rattle.resp_core.specs.Reply.{Reply}
@@ -9,7 +10,7 @@ use Rattle.resp_core.specs.View.{view}
 use Rattle.resp_core.specs.declared.value.Value.{Value}
 use Rattle.redis_batches.specs.Pipeline.{Answer}
 use Rattle.redis_batches.specs.Taken.{answer_of}
-use Rattle.redis_batches.specs.Replies.{all_replies, values_among, with_reply}
+use Rattle.redis_batches.specs.Replies.{all_replies, values_among}
 
 -- one more was taken out
 pub taken_out : {X : Type 0} (all left rest own more : List X) (x : X) → all ≡ left ++ reverse own → left ≡ rest ++ x ∷ [] → more ≡ own ++ x ∷ [] → all ≡ rest ++ reverse more
@@ -21,6 +22,10 @@ taken_out all left rest own more x is next push =
 pub none_left : {X : Type 0} (all left own : List X) (count : ℕ) → all ≡ left ++ reverse own → left ≡ [] → length own < count → count ≤ length all → ⊥
 none_left all left own count is none few room =
     omega (arith, room, few, ap length is, length-append left (reverse own), ap length none, length-reverse own)
+
+-- one reply more in front, unless there was an error
+abbrev pub with_reply : Reply → Result (List Reply) ErrorParts → Result (List Reply) ErrorParts
+with_reply reply later = result_map_both (λ replies. reply ∷ replies) (λ error. error) later
 
 -- replies in front of others, unless there was an error
 abbrev pub replies_then : List Reply → Result (List Reply) ErrorParts → Result (List Reply) ErrorParts

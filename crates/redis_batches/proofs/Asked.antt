@@ -4,7 +4,7 @@ use Rattle.std.specs.Prelude.{OnErr}
 use Rattle.std.proofs.lemmas.List.{append-nil, map_more}
 use Rattle.redis_cluster.specs.Orders.{in_order}
 use Rattle.redis_cluster.specs.declared.nodes.SendError.{SendError}
-use Rattle.redis_batches.specs.Driven.{Grew, HaveAnswered, WereAsked, WereAskedUntil, batch_at, node_at}
+use Rattle.redis_batches.specs.Driven.{Grew, HaveAnswered, WereAskedUntil, batch_at, node_at}
 use Rattle.redis_batches.specs.Pipeline.{Answer}
 use Rattle.redis_batches.specs.Plan.{Batches}
 use Rattle.redis_batches.specs.Taken.{Batch, batch_for}
@@ -23,10 +23,10 @@ pub asked_more : {X : Type 0} (old between new : List X → Type 0) (sent others
 asked_more old between new sent others one other before was = subst new (append_assoc before sent others) (other (before ++ sent) (one before was))
 
 -- some, and then others up to one that was not taken
-pub asked_until_more : (old between new : List Batch → Type 0) (sent others : List Batch) (last : Batch) (error : SendError) → WereAsked old between sent → WereAskedUntil between new others last error
+pub asked_until_more : (old between new : List Batch → Type 0) (sent others : List Batch) (last : Batch) (error : SendError) → Grew old between sent → WereAskedUntil between new others last error
     → WereAskedUntil old new (sent ++ others) last error
 asked_until_more old between new sent others last error one (inl all) =
-    inl (all.0, subst (WereAsked old new) (sym (append_assoc sent others (last ∷ []))) (asked_more old between new sent (others ++ last ∷ []) one all.1))
+    inl (all.0, subst (Grew old new) (sym (append_assoc sent others (last ∷ []))) (asked_more old between new sent (others ++ last ∷ []) one all.1))
 asked_until_more old between new sent others last error one (inr none) = inr (none.0, asked_more old between new sent others one none.1)
 
 -- answers, and then those to so many batches more
@@ -45,17 +45,17 @@ same_batch now plan k nodes places parts =
     ∙ ap (λ ps. batch_for (node_at plan.nodes k) (in_order ps (get_or plan.places k []))) parts
 
 module _ (old between new : List Batch → Type 0) (plan : Batches) (order : List ℕ) (i : ℕ) (last : Batch) (same : last ≡ batch_at plan (get_or order i 0))
-    (so_far : WereAsked old between (map (batch_at plan) (take i order))) where
+    (so_far : Grew old between (map (batch_at plan) (take i order))) where
   -- one more
-  pub asked_next : i < length order → WereAsked between new (last ∷ []) → WereAsked old new (map (batch_at plan) (take (i + 1) order))
+  pub asked_next : i < length order → Grew between new (last ∷ []) → Grew old new (map (batch_at plan) (take (i + 1) order))
   asked_next inside one =
-      let own : WereAsked between new (batch_at plan (get_or order i 0) ∷ []) = subst (λ b. WereAsked between new (b ∷ [])) same one in
-      subst (WereAsked old new) (sym (map_more (batch_at plan) order i 0 inside)) (asked_more old between new (map (batch_at plan) (take i order)) (batch_at plan (get_or order i 0) ∷ []) so_far own)
+      let own : Grew between new (batch_at plan (get_or order i 0) ∷ []) = subst (λ b. Grew between new (b ∷ [])) same one in
+      subst (Grew old new) (sym (map_more (batch_at plan) order i 0 inside)) (asked_more old between new (map (batch_at plan) (take i order)) (batch_at plan (get_or order i 0) ∷ []) so_far own)
 
   -- or one that was not taken
   pub asked_last : (error : SendError) → WereAskedUntil between new [] last error → WereAskedUntil old new (map (batch_at plan) (take i order)) (batch_at plan (get_or order i 0)) error
   asked_last error (inl one) =
-      let own : WereAsked between new (batch_at plan (get_or order i 0) ∷ []) = subst (λ b. WereAsked between new (b ∷ [])) same one.1 in
+      let own : Grew between new (batch_at plan (get_or order i 0) ∷ []) = subst (λ b. Grew between new (b ∷ [])) same one.1 in
       inl (one.0, asked_more old between new (map (batch_at plan) (take i order)) (batch_at plan (get_or order i 0) ∷ []) so_far own)
   asked_last error (inr none) =
-      inr (none.0, subst (WereAsked old new) (append-nil (map (batch_at plan) (take i order))) (asked_more old between new (map (batch_at plan) (take i order)) [] so_far none.1))
+      inr (none.0, subst (Grew old new) (append-nil (map (batch_at plan) (take i order))) (asked_more old between new (map (batch_at plan) (take i order)) [] so_far none.1))

@@ -16,7 +16,7 @@ use Rattle.redis_routing.specs.Registry.{Registrations}
 use Rattle.redis_batches.specs.Pipeline.{Planned, Part, pieces}
 use Rattle.redis_batches.specs.Batched.{AreBatches, numbers_in}
 use Rattle.redis_batches.specs.Taken.{task_of}
-use Rattle.redis_batches.specs.Plan.{Batches, IsByNode}
+use Rattle.redis_batches.specs.Plan.{Batches, IsByNode, batch_of}
 use Rattle.redis_batches.proofs.Sends.{all_unmap, numbers_below}
 use Rattle.redis_batches.proofs.Putting.{set_here, set_there, get_front, get_last}
 use Rattle.redis_batches.specs.Grouped.{AreNumbered, index_of, number_in, places_in}
@@ -224,20 +224,29 @@ pub map_map : {X Y Z : Type 0} (f : Y → Z) (h : X → Y) (xs : List X) → map
 map_map f h [] = refl
 map_map f h (x ∷ xs) = ap (λ l. f (h x) ∷ l) (map_map f h xs)
 
--- Where the slot of a part decides its node, the batches by node are batches of the pipeline.
-pub by_node_batches : (registered : Registrations) (ps : List Planned) (batches : Batches) (nodes : List Address) (node_of : ℕ → Address) → nodes ≡ map (λ q. node_of q.slot) (pieces ps)
-    → map (task_of registered) batches.parts ≡ map (λ q. Some q.task) (pieces ps) → length batches.places ≡ length batches.nodes → IsByNode batches nodes → AreBatches registered ps batches.parts batches.places
-by_node_batches registered ps batches nodes node_of by_slot tasks long is =
-    let batch : ℕ → ℕ = λ slot. index_of (node_of slot) batches.nodes in
-    let numbers : is.numbers ≡ map (λ q. batch q.slot) (pieces ps) =
-    is.numbered.numbers_are ∙ ap (map (λ node. index_of node batches.nodes)) by_slot ∙ sym (map_map (λ node. index_of node batches.nodes) (λ q. node_of q.slot) (pieces ps)) in
-    record {
-      tasks = tasks;
-      batch = batch;
-      below = all_unmap (λ (q : Part). batch q.slot) (λ n. n < length batches.places) (pieces ps)
-          (subst (All (λ n. n < length batches.places)) numbers (λ j d inside. omega (arith, long, is.numbered.below j d inside)));
-      places_are = λ k below. is.places k (omega (arith, below, long)) ∙ ap Some (places_are_batch ps batch is.numbers numbers k);
-    }
+module _ (ps : List Planned) (batches : Batches) (nodes : List Address) (node_of : ℕ → Address) (by_slot : nodes ≡ map (λ q. node_of q.slot) (pieces ps)) (is : IsByNode batches nodes) where
+  slot_numbers : is.numbers ≡ map (λ q. batch_of node_of batches q.slot) (pieces ps)
+  slot_numbers =
+      is.numbered.numbers_are ∙ ap (map (λ node. index_of node batches.nodes)) by_slot ∙ sym (map_map (λ node. index_of node batches.nodes) (λ q. node_of q.slot) (pieces ps))
+
+  -- Where the slot of a part decides its node, each part has a batch,
+  pub by_node_below : All (λ q. batch_of node_of batches q.slot < length batches.places) (pieces ps)
+  by_node_below = all_unmap (λ (q : Part). batch_of node_of batches q.slot) (λ n. n < length batches.places) (pieces ps)
+      (subst (All (λ n. n < length batches.places)) slot_numbers (λ j d inside. omega (arith, is.each, is.numbered.below j d inside)))
+
+  -- and a batch has the parts of its slots.
+  pub by_node_places : (k : ℕ) → k < length batches.places → slice_get batches.places k ≡ Some (numbers_in (batch_of node_of batches) ps k)
+  by_node_places k below = is.places k (omega (arith, below, is.each)) ∙ ap Some (places_are_batch ps (batch_of node_of batches) is.numbers slot_numbers k)
+
+-- So the batches by node are batches of the pipeline.
+abbrev pub by_node_batches : (registered : Registrations) (ps : List Planned) (batches : Batches) (nodes : List Address) (node_of : ℕ → Address) → nodes ≡ map (λ q. node_of q.slot) (pieces ps)
+    → map (task_of registered) batches.parts ≡ map (λ q. Some q.task) (pieces ps) → IsByNode batches nodes → AreBatches registered ps batches.parts batches.places
+by_node_batches registered ps batches nodes node_of by_slot tasks is = record {
+  tasks = tasks;
+  batch = batch_of node_of batches;
+  below = by_node_below ps batches nodes node_of by_slot is;
+  places_are = by_node_places ps batches nodes node_of by_slot is;
+}
 
 -- the number in a tree is that of the node, and nodes that it doesn't have are not there
 abbrev pub HasNumber : List Address → Address → Option ℕ → Type 0
@@ -282,13 +291,6 @@ numbers_known old new found node number told is there has = λ other. number_kno
 pub numbers_new : (old new : List (Bor Address × ℕ)) (found : List Address) (node : Bor Address) (number : ℕ) → ((other : Bor Address) → number_in new other.now ≡ cond (same_address node.now other.now) (Some number) (number_in old other.now))
     → number ≡ index_of node.now found → number ≡ length found → HasNumbers old found → HasNumbers new (found ++ node.now ∷ [])
 numbers_new old new found node number told is none has = λ other. number_new found node.now number (number_in old other.now) (number_in new other.now) other.now (told other) (has other) is none
-
--- the batch of a slot is the number of its node
-pub batch_by_node : (registered : Registrations) (ps : List Planned) (batches : Batches) (nodes : List Address) (node_of : ℕ → Address) (by_slot : nodes ≡ map (λ q. node_of q.slot) (pieces ps))
-    (tasks : map (task_of registered) batches.parts ≡ map (λ q. Some q.task) (pieces ps)) (long : length batches.places ≡ length batches.nodes) (is : IsByNode batches nodes) (slot : ℕ)
-    → (by_node_batches registered ps batches nodes node_of by_slot tasks long is).batch slot ≡ index_of (node_of slot) batches.nodes
-unfolding by_node_batches
-batch_by_node registered ps batches nodes node_of by_slot tasks long is slot = refl
 
 -- at its number stands the node
 pub node_at_index : (node : Address) (nodes : List Address) (other : Address) → index_of node nodes < length nodes → get_or nodes (index_of node nodes) other ≡ node

@@ -11,18 +11,18 @@ use Rattle.redis_cluster.specs.State.{State}
 use Rattle.redis_cluster.specs.Trace.{Ending, refused}
 use Rattle.redis_cluster.specs.Unsplit.{Step, Keyspace}
 use Rattle.redis_batches.specs.Batched.{put_at}
-use Rattle.redis_batches.specs.Driven.{Grew, HaveAnswered, WereAsked}
+use Rattle.redis_batches.specs.Driven.{Grew, HaveAnswered}
 use Rattle.redis_batches.specs.DrivenPipeline.{IsBeforeSending}
 use Rattle.redis_batches.specs.InRounds.{AreSentAgain, IsAgainFault, Stands, fault_behind}
 use Rattle.redis_batches.specs.Outgoing.{ArePutAt, GoesBehind, IsNextFault, IsNextServed}
 use Rattle.redis_batches.specs.Pipeline.{Answer, AreSlotsOf, Numbered, Planned, Refusals, Serve, ended, numbered, slot_of}
-use Rattle.redis_batches.specs.Rounds.{AreRounds, AreSentOn, Follows, IsLast, IsRoundServed, IsRoundStopped, IsSentOn, OwnErrorsStay, Round, StaysHere, after_round, after_rounds, batch_after, batches_before, go_on, last_round, latest_answers, round_answers, round_batches}
+use Rattle.redis_batches.specs.Rounds.{AreRounds, AreSentOn, Follows, IsLast, IsRoundServed, IsRoundStopped, IsSentOn, Round, StaysHere, after_rounds, batch_after, batches_before, go_on, last_round, latest_answers, round_answers, round_batches}
 use Rattle.redis_batches.specs.Sent.{AreLast}
 use Rattle.redis_batches.specs.Taken.{Batch, answer_of}
 use Rattle.redis_batches.specs.Turns.{all_after, answers}
 use Rattle.redis_batches.specs.declared.going.Outgoing.{Outgoing}
 use Rattle.redis_batches.specs.declared.send.Stopped.{Stopped}
-use Rattle.redis_batches.proofs.Again.{IsRefusedBy, from_all, put_back, replies_for, round_leaves, same_sent}
+use Rattle.redis_batches.proofs.Again.{IsRefusedBy, from_all, put_back, replies_for, round_leaves, same_sent, after_round}
 use Rattle.redis_batches.proofs.Alone.{IsOwnPart, alone_answers, alone_leaves, numbered_own}
 use Rattle.redis_batches.proofs.Asked.{answered_more, asked_more, asked_none, asked_until_more}
 use Rattle.redis_batches.specs.declared.fault.PipelineError.{PipelineError}
@@ -213,11 +213,11 @@ module _ {C : Type 0} (step : Step C) (serve : Serve C) (may : ℕ → Ending �
     pub rounds : List Round
     pub many : length rounds ≡ k
     pub again : AreRounds step serve kept may registered arguments round rounds start now
-    pub asked : WereAsked asked_start asked_now (flat_map round_batches rounds)
+    pub asked : Grew asked_start asked_now (flat_map round_batches rounds)
     pub gave : Grew gave_start gave_now (flat_map round_answers rounds)
     pub behind : GoesBehind ps (last_round round rounds) out
     pub latest : map answer_of all ≡ latest_answers (map answer_of before) rounds
-    pub stands : kept → OwnErrorsStay serve (map (λ p. p.task) ps) → (ks : Keyspace C) (refusals : Refusals) → Stands step serve ps refusals round ks start.keyspace before
+    pub stands : kept → All (StaysHere serve) (map (λ p. p.task) ps) → (ks : Keyspace C) (refusals : Refusals) → Stands step serve ps refusals round ks start.keyspace before
         → Stands step serve ps (after_rounds refusals rounds) (last_round round rounds) ks now.keyspace all
 
   pub none_so_far : (kept : Type 0) (out : Outgoing) → GoesBehind ps round out → IsSoFar kept 0 start asked_start gave_start before out
@@ -248,7 +248,7 @@ module _ {C : Type 0} (step : Step C) (serve : Serve C) (may : ℕ → Ending �
           many = length_push so_far.rounds is.next ∙ ap (λ n. n + 1) so_far.many;
           again = rounds_more step serve registered arguments kept may round so_far.rounds is.next start now new
               (rounds_wider step serve registered arguments kept_then kept earlier may may (λ count ending is. is) round so_far.rounds start now so_far.again) is.follows is.served;
-          asked = subst (WereAsked asked_start asked_new) (sym (one_more round_batches so_far.rounds is.next)) (asked_more asked_start asked_now asked_new (flat_map round_batches so_far.rounds) (round_batches is.next) so_far.asked is.asked);
+          asked = subst (Grew asked_start asked_new) (sym (one_more round_batches so_far.rounds is.next)) (asked_more asked_start asked_now asked_new (flat_map round_batches so_far.rounds) (round_batches is.next) so_far.asked is.asked);
           gave = subst (Grew gave_start gave_new) (sym (one_more round_answers so_far.rounds is.next)) (asked_more gave_start gave_now gave_new (flat_map round_answers so_far.rounds) (round_answers is.next) so_far.gave is.gave);
           behind = subst (λ r. GoesBehind ps r later) (sym last) is.behind;
           latest = is.put.all_are ∙ ap (λ l. put_at l (map (λ (x : Numbered). x.0) is.next.sent) is.next.given) so_far.latest ∙ sym (latest_more (map answer_of before) so_far.rounds is.next);
@@ -293,14 +293,14 @@ module _ {C : Type 0} (step : Step C) (serve : Serve C) (may : ℕ → Ending �
           so_far.rounds,
           omega (arith, few, so_far.many),
           subst (λ s. AreRounds step serve kept may registered arguments round so_far.rounds start s) (sym same.0) were,
-          subst (WereAsked asked_start asked_new) (append-nil (flat_map round_batches so_far.rounds)) (asked_more asked_start asked_now asked_new (flat_map round_batches so_far.rounds) [] so_far.asked same.1),
+          subst (Grew asked_start asked_new) (append-nil (flat_map round_batches so_far.rounds)) (asked_more asked_start asked_now asked_new (flat_map round_batches so_far.rounds) [] so_far.asked same.1),
           subst (Grew gave_start gave_new) (append-nil (flat_map round_answers so_far.rounds)) (asked_more gave_start gave_now gave_new (flat_map round_answers so_far.rounds) [] so_far.gave same.2),
         )
         by_error driven.Memory (inr is) = (
           so_far.rounds ++ is.0 ∷ [],
           omega (arith, few, so_far.many, length_push so_far.rounds is.0),
           rounds_more step serve registered arguments kept may round so_far.rounds is.0 start now new were is.1 is.2,
-          subst (WereAsked asked_start asked_new) (sym (one_more round_batches so_far.rounds is.0)) (asked_more asked_start asked_now asked_new (flat_map round_batches so_far.rounds) (round_batches is.0) so_far.asked is.3),
+          subst (Grew asked_start asked_new) (sym (one_more round_batches so_far.rounds is.0)) (asked_more asked_start asked_now asked_new (flat_map round_batches so_far.rounds) (round_batches is.0) so_far.asked is.3),
           subst (Grew gave_start gave_new) (sym (one_more round_answers so_far.rounds is.0)) (asked_more gave_start gave_now gave_new (flat_map round_answers so_far.rounds) (round_answers is.0) so_far.gave is.4),
         )
 

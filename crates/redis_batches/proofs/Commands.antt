@@ -1,7 +1,8 @@
 -- What is kept of the commands of a pipeline, and what they mean.
 use Rattle.std.proofs.Common.{◌≡◌, ◌<◌, ◌+◌, ℕ, true, List, [], ◌∷◌, ◌++◌, Option, Some, None, All, refl, sym, ap, subst, ◌∙◌, length, map, take, get_or}
-use Rattle.std.specs.List.{AllZip, flat_map, list_any}
-use Rattle.std.specs.Prelude.{IfSome, nat_eq, option_map, option_or}
+use Rattle.std.specs.List.{AllZip, flat_map, list_any, zip}
+use Rattle.std.specs.Option.{option_or}
+use Rattle.std.specs.Prelude.{IfSome, nat_eq, option_map}
 use Rattle.std.proofs.Math.Path.{fun_ext}
 use Rattle.std.proofs.lemmas.List.{map-append, take_more}
 use Rattle.std.proofs.lemmas.List.Elements.{All-map, All-weaker}
@@ -27,7 +28,7 @@ use Rattle.redis_cluster.proofs.Planned.{joining, part_is}
 use Rattle.redis_cluster.proofs.SplitParts.{command_of_routes, is_made, no_command, part_means, pattern_made, policy_made}
 use Rattle.redis_batches.specs.Pipeline.{Task, in_slot, over_keys}
 use Rattle.redis_batches.specs.Taken.{task_of}
-use Rattle.redis_batches.specs.Tasks.{AreTasksOf, IsSplitOfTask, all_arguments, part_arguments}
+use Rattle.redis_batches.specs.Tasks.{AreTasksOf, IsSplitOfTask, part_arguments}
 use Rattle.redis_batches.specs.CommandTask.{IsKeptOf, IsTaskFor, SlotPart, slot_parts}
 use Rattle.redis_batches.specs.Pipelined.{IsFirstMeaningless}
 use Rattle.redis_batches.specs.declared.task.CommandTask.{CommandTask}
@@ -104,7 +105,7 @@ kept_next R xs ys more i x y inside is push so_far next =
 
 -- commands of which something is kept mean something
 pub tasks_from : (registered : Registrations) (commands : List (List (List ℕ))) (kept : List CommandTask) → AllZip (IsTaskFor registered) commands kept
-    → (tasks : List Task) × AreTasksOf registered commands tasks × AllZip (IsKeptOf registered) tasks kept × (map (λ part. part.1) (flat_map slot_parts kept) ≡ all_arguments registered commands tasks)
+    → (tasks : List Task) × AreTasksOf registered commands tasks × AllZip (IsKeptOf registered) tasks kept × (map (λ part. part.1) (flat_map slot_parts kept) ≡ flat_map (λ x. part_arguments registered x.0 x.1) (zip commands tasks))
 tasks_from registered [] [] each = ([], refl, tt, refl)
 tasks_from registered [] (k ∷ kept) each = absurd each
 tasks_from registered (a ∷ commands) [] each = absurd each

@@ -11,7 +11,8 @@ use Rattle.redis_cluster.specs.Unsplit.{Step, Keyspace}
 use Rattle.redis_cluster.proofs.Counts.{same_number, times_here, times_there}
 use Rattle.redis_batches.specs.Sent.{AreApart}
 use Rattle.redis_batches.specs.Turns.{all_after, answers, of_slot, batch_by_batch}
-use Rattle.redis_batches.specs.Pipeline.{Serve, Part, Numbered, Refusals, refused_by, piece_of, ended}
+use Rattle.redis_batches.specs.Pipeline.{Serve, Part, Numbered, Refusals, refused_by, ended}
+use Rattle.redis_batches.proofs.Whole.{piece_of}
 
 -- the end at the place of a number, or none
 abbrev pub end_of : List ℕ → List (Option ErrorParts) → ℕ → Option ErrorParts

@@ -1,28 +1,27 @@
 -- The round that follows another one: its parts, their nodes and its batches.
-use Rattle.std.proofs.Common.{◌≡◌, ◌<◌, ℕ, List, [], Option, None, Some, IsSome, All, refl, sym, ap, subst, ◌∙◌, arith, map, length, get_or}
-use Rattle.std.specs.List.{AllZip, zip}
+use Rattle.std.proofs.Common.{◌≡◌, ◌<◌, ℕ, List, [], Option, None, Some, IsSome, All, refl, sym, ap, subst, ◌∙◌, map, length, get_or}
+use Rattle.std.specs.List.{AllZip, zip, range_with_len}
 use Rattle.std.specs.Option.{unwrap_or}
 use Rattle.std.proofs.lemmas.List.{length-map}
-use Rattle.std.proofs.lemmas.List.Elements.{All-map, All-weaker}
+use Rattle.std.proofs.lemmas.List.Elements.{All-map}
 use Rattle.cluster_slots.specs.Address.{Address}
 use Rattle.redis_routing.specs.Registry.{Registrations}
 use Rattle.redis_cluster.specs.State.{State}
 use Rattle.redis_cluster.specs.Trace.{Ending}
 use Rattle.redis_cluster.specs.Unsplit.{Step}
 use Rattle.redis_batches.specs.Batched.{AreBatches}
-use Rattle.redis_batches.specs.Driven.{IsServed, WasStopped, node_at}
-use Rattle.redis_batches.specs.Grouped.{index_of}
+use Rattle.redis_batches.specs.Driven.{IsServed, WasStopped}
 use Rattle.redis_batches.specs.Outgoing.{ArePartsOf, GoesBehind, IsNext, node_for, node_in, slot_at}
 use Rattle.redis_batches.specs.Pipeline.{Answer, AreSlotsOf, Numbered, Part, Planned, Serve, numbered, pieces, slot_of}
 use Rattle.redis_batches.specs.Plan.{Batches, IsByNode, IsPlan}
-use Rattle.redis_batches.specs.Rounds.{Follows, IsPrepared, IsRoundServed, IsRoundStopped, IsSentOn, Round, alone, ascending, go_on, goes_to}
+use Rattle.redis_batches.specs.Rounds.{Follows, IsRoundServed, IsRoundStopped, IsSentOn, Round, alone, go_on, goes_to}
 use Rattle.redis_batches.specs.Sent.{AreApart, AreLast}
 use Rattle.redis_batches.specs.Taken.{task_of}
 use Rattle.redis_batches.specs.declared.going.Outgoing.{Outgoing}
 use Rattle.redis_batches.specs.declared.send.Stopped.{Stopped}
 use Rattle.redis_batches.proofs.Again.{from_all, last_of_last}
 use Rattle.redis_batches.proofs.Alone.{IsOwnPart, alone_parts, alone_slots, as_own, as_own_are, numbered_own, numbers_at, parts_at, slots_at, tasks_alone}
-use Rattle.redis_batches.proofs.ByNode.{batch_by_node, by_node_batches, map_map, node_at_index}
+use Rattle.redis_batches.proofs.ByNode.{by_node_batches, map_map}
 use Rattle.redis_batches.proofs.Entries.{map_agree_on}
 use Rattle.redis_batches.proofs.GoOn.{go_apart, go_are_last, go_by, go_somewhere, goes_by, zip_fronts}
 use Rattle.redis_batches.proofs.Written.{zip_long}
@@ -101,52 +100,38 @@ module _ (registered : Registrations) (ps : List Planned) (arguments : List (Lis
   }
 
   module _ (plan : Batches) (whole : IsPlan plan) (nodes : List Address) (nodes_are : nodes ≡ map (λ x. node_of (slot_of x)) xs) (by_node : IsByNode plan nodes) (parts_are : plan.parts ≡ map (λ x. get_or arguments x.0 []) xs) where
-    tasks_are : map (task_of registered) plan.parts ≡ map (λ q. Some q.task) (pieces (alone xs))
+    pub tasks_are : map (task_of registered) plan.parts ≡ map (λ q. Some q.task) (pieces (alone xs))
     tasks_are =
         ap (map (task_of registered)) parts_are
         ∙ tasks_alone registered arguments xs xs_own
         (from_all (λ x. task_of registered (get_or arguments x.0 []) ≡ Some x.1.task) xs (numbered ps) xs_last (parts_at ps registered arguments of.tasks))
 
-    by_slot : nodes ≡ map (λ q. node_of q.slot) (pieces (alone xs))
+    pub by_slot : nodes ≡ map (λ q. node_of q.slot) (pieces (alone xs))
     by_slot = nodes_are ∙ map_map (λ (q : Part). node_of q.slot) (λ (x : Numbered). x.1) xs ∙ ap (map (λ (q : Part). node_of q.slot)) (sym (alone_parts xs xs_own))
 
     -- its batches are those of a pipeline of its own
-    pub has_batches : AreBatches registered (alone xs) plan.parts plan.places
-    has_batches = by_node_batches registered (alone xs) plan nodes node_of by_slot tasks_are (sym whole.nodes) by_node
-
-    has_nodes : All (λ q. node_at plan.nodes (has_batches.batch q.slot) ≡ node_of q.slot) (pieces (alone xs))
-    unfolding has_batches
-    has_nodes =
-        let number : (slot : ℕ) → has_batches.batch slot ≡ index_of (node_of slot) plan.nodes =
-        λ slot. batch_by_node registered (alone xs) plan nodes node_of by_slot tasks_are (sym whole.nodes) by_node slot in
-        All-weaker (λ (q : Part). has_batches.batch q.slot < length plan.places) (λ q. node_at plan.nodes (has_batches.batch q.slot) ≡ node_of q.slot)
-        (λ q below. ap (node_at plan.nodes) (number q.slot) ∙ node_at_index (node_of q.slot) plan.nodes (record { host = []; port = 0 }) (omega (arith, below, number q.slot, whole.nodes)))
-        (pieces (alone xs)) has_batches.below
+    abbrev pub has_batches : AreBatches registered (alone xs) plan.parts plan.places
+    has_batches = by_node_batches registered (alone xs) plan nodes node_of by_slot tasks_are by_node
 
     pub own_slots : All (λ p. AreSlotsOf p.task p.slots) (alone xs)
     own_slots = alone_slots xs xs_own
 
-    pub prepared : (given : List Answer) (refusals : _) → IsPrepared registered arguments (record { sent = xs; node_of = node_of; batches = plan; given = given; refusals = refusals })
-    prepared given refusals = record {
-      by_node = subst (IsByNode plan) nodes_are by_node;
-      arguments_are = parts_are;
-      has = has_batches;
-      nodes = has_nodes;
-    }
+    -- one for each node
+    own_node : IsByNode plan (map (λ x. node_of (slot_of x)) xs)
+    own_node = subst (IsByNode plan) nodes_are by_node
 
-    module _ {C : Type 0} (step : Step C) (serve : Serve C) (kept : Type 0) (may_refuse : ℕ → Ending → Type 0) (order : List ℕ) (order_is : order ≡ ascending (length plan.places)) (old new : State C) where
+    module _ {C : Type 0} (step : Step C) (serve : Serve C) (kept : Type 0) (may_refuse : ℕ → Ending → Type 0) (order : List ℕ) (order_is : order ≡ range_with_len 0 (length plan.places)) (old new : State C) where
       -- it was served
       module _ (given : List Answer) (all_served : IsServed step serve kept may_refuse (alone xs) plan.parts plan.nodes has_batches.batch order old new given) where
-        abbrev served : IsServed step serve kept may_refuse (alone xs) plan.parts plan.nodes has_batches.batch (ascending (length plan.places)) old new given
+        abbrev served : IsServed step serve kept may_refuse (alone xs) plan.parts plan.nodes has_batches.batch (range_with_len 0 (length plan.places)) old new given
         served = subst (λ o. IsServed step serve kept may_refuse (alone xs) plan.parts plan.nodes has_batches.batch o old new given) order_is all_served
 
         abbrev pub next : Round
         next = record { sent = xs; node_of = node_of; batches = plan; given = given; refusals = as_own xs served.refusals }
 
         pub next_served : length given ≡ length xs → IsRoundServed step serve kept may_refuse registered arguments next old new
-        unfolding prepared
         next_served long = record {
-          prepared = prepared given (as_own xs served.refusals);
+          prepared = record { by_node = own_node; arguments_are = parts_are };
           long = long;
           served = served;
           refusals_are = as_own_are xs xs_own xs_apart served.refusals;
@@ -167,8 +152,7 @@ module _ (registered : Registrations) (ps : List Planned) (arguments : List (Lis
       -- or it stopped
       pub next_stopped : (stop : Stopped) → WasStopped step serve registered kept may_refuse (alone xs) plan.parts plan.nodes has_batches.batch order old new stop.answered stop.error
           → IsRoundStopped step serve kept may_refuse registered arguments (record { sent = xs; node_of = node_of; batches = plan; given = []; refusals = λ x. None }) old new stop
-      unfolding prepared
       next_stopped stop stopped = record {
-        prepared = prepared [] (λ x. None);
+        prepared = record { by_node = own_node; arguments_are = parts_are };
         stopped = subst (λ o. WasStopped step serve registered kept may_refuse (alone xs) plan.parts plan.nodes has_batches.batch o old new stop.answered stop.error) order_is stopped;
       }

@@ -2,7 +2,7 @@
 use Rattle.std.proofs.Common.{◌≡◌, ℕ, List, [], ◌∷◌, ◌++◌, true, false, cond, Option, None, Some, IsSome, Ok, Err, All, refl, sym, ap, subst, ◌∙◌, arith, get_or, map, length}
 use Rattle.std.specs.Prelude.{nat_eq}
 use Rattle.std.specs.List.{AllZip, zip}
-use Rattle.std.specs.Option.{option_or}
+use Rattle.std.specs.Option.{option_or, unwrap_or}
 use Rattle.std.proofs.lemmas.Bool.{eqb-true}
 use Rattle.std.proofs.lemmas.List.Elements.{All-nil, All-cons, All-head, All-tail}
 use Rattle.cluster_slots.specs.Address.{Address}
@@ -11,10 +11,11 @@ use Rattle.resp_core.proofs.Cases.{by_test}
 use Rattle.redis_cluster.specs.Unsplit.{Step, Keyspace}
 use Rattle.redis_cluster.proofs.Counts.{same_number}
 use Rattle.redis_batches.specs.Turns.{answers, of_slot}
-use Rattle.redis_batches.specs.Pipeline.{Answer, Numbered, Refusals, Serve, Task, ended, in_slot, over_keys, piece_of, refused_by, run, slot_of}
-use Rattle.redis_batches.specs.Rounds.{IsSentOn, SendsOn, StaysHere, go_on, goes_to, is_settled, server_text}
+use Rattle.redis_batches.specs.Pipeline.{Answer, Numbered, Refusals, Serve, Task, ended, in_slot, over_keys, refused_by, run, slot_of}
+use Rattle.redis_batches.specs.Rounds.{IsSentOn, SendsOn, StaysHere, go_on, goes_to, is_settled}
 use Rattle.redis_batches.specs.Sent.{AreApart, AreLast}
 use Rattle.redis_batches.proofs.Again.{IsRefusedBy}
+use Rattle.redis_batches.proofs.Whole.{piece_of}
 
 module _ {X : Type 0} (slot : X → ℕ) where
   -- where no part of a slot was settled all of it go on
@@ -144,7 +145,7 @@ module _ {X : Type 0} (name : X → ℕ) (slot : X → ℕ) (named : ℕ → ℕ
 
 module _ {C : Type 0} (step : Step C) (serve : Serve C) where
   -- an error of a command's own sends it nowhere
-  stays_by : (answer : Answer) (node target : Address) → ((error : ErrorParts) → answer ≡ Err error → SendsOn node (server_text error) target → ⊥) → IsSentOn node answer (Some target) → ⊥
+  stays_by : (answer : Answer) (node target : Address) → ((error : ErrorParts) → answer ≡ Err error → SendsOn node (unwrap_or error.detail error.desc) target → ⊥) → IsSentOn node answer (Some target) → ⊥
   stays_by (Ok reply) node target stays is = cc is
   stays_by (Err error) node target stays is = stays error refl is
 

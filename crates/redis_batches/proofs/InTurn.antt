@@ -1,7 +1,7 @@
 -- The parts of a slot go out in the order of the pipeline, and their last answers come in it.
 use Rattle.std.proofs.Common.{◌≡◌, ◌<◌, ℕ, ◌+◌, suc, List, [], ◌∷◌, ◌++◌, Bool, true, false, not, Option, Some, All, refl, sym, ap, subst, ◌∙◌, arith, filter, map, length, get_or, zero-add}
 use Rattle.std.specs.Prelude.{nat_eq, slice_get}
-use Rattle.std.specs.List.{enumerate_from, zip}
+use Rattle.std.specs.List.{enumerate_from, zip, range_with_len}
 use Rattle.std.specs.Option.{option_to_list}
 use Rattle.std.proofs.lemmas.List.{append-nil}
 use Rattle.std.proofs.lemmas.List.Elements.{All-head, All-tail, All-filter, All-map, filter-append}
@@ -17,18 +17,23 @@ use Rattle.redis_cluster.proofs.Constructors.{same_head, same_tail}
 use Rattle.redis_batches.specs.Batched.{AreBatches, numbers_in}
 use Rattle.redis_batches.specs.Driven.{AreInTurn, parts_by_batch}
 use Rattle.redis_batches.specs.Pipeline.{Numbered, Part, Planned, Serve, numbered, pieces, slot_of}
-use Rattle.redis_batches.specs.Plan.{Batches}
-use Rattle.redis_batches.specs.Rounds.{AreRounds, Follows, Round, alone, ascending, by_last_answer, go_on, is_among, round_parts}
+use Rattle.redis_batches.specs.Plan.{Batches, batch_of}
+use Rattle.redis_batches.specs.Rounds.{AreRounds, Follows, Round, alone, by_last_answer, go_on, is_among}
 use Rattle.redis_batches.specs.Sent.{AreApart, AreLast}
 use Rattle.redis_batches.specs.Turns.{batch_by_batch, of_slot}
 use Rattle.redis_batches.proofs.Again.{among_own, none_among}
 use Rattle.redis_batches.proofs.Ascending.{each_once}
+use Rattle.redis_batches.proofs.ByNode.{by_node_below, by_node_places, map_map}
 use Rattle.redis_batches.proofs.Chain.{fronts_of}
 use Rattle.redis_batches.proofs.Entries.{get_there}
 use Rattle.redis_batches.proofs.GoOn.{go_apart, go_are_last}
 use Rattle.redis_batches.proofs.KeptSlots.{all_keep_slots}
 use Rattle.redis_batches.proofs.Lists.{filter_dropped, filter_first, filter_kept, filter_later, filter_swap}
 use Rattle.redis_batches.proofs.Sends.{all_unmap}
+
+-- the parts of a round, batch after batch
+abbrev round_parts : Round → List Numbered
+round_parts round = parts_by_batch round.batches round.sent (range_with_len 0 (length round.batches.places))
 
 -- the slots of parts beside their numbers
 numbered_slots : (n : ℕ) (qs : List Part) → map (λ q. q.slot) qs ≡ map slot_of (enumerate_from n qs)
@@ -57,29 +62,30 @@ picked_by test all n (x ∷ xs) (q ∷ qs) same at =
     ∙ ap (λ o. option_to_list o ++ in_order all (map (λ (y : Numbered). y.0) (filter has behind))) first ∙ ap (λ l. x ∷ l) rest ∙ sym (filter_first has x xs here))
     (λ there. ap (λ l. in_order all (map (λ (y : Numbered). y.0) l)) (filter_later has (n, q) behind (own ∙ there)) ∙ rest ∙ sym (filter_later has x xs there))
 
-module _ (registered : Registrations) (ps : List Planned) (plan : Batches) (has : AreBatches registered ps plan.parts plan.places) (xs : List Numbered) (slots : map (λ q. q.slot) (pieces ps) ≡ map slot_of xs) where
+module _ (ps : List Planned) (plan : Batches) (batch : ℕ → ℕ) (within : All (λ q. batch q.slot < length plan.places) (pieces ps)) (places_are : (k : ℕ) → k < length plan.places → slice_get plan.places k ≡ Some (numbers_in batch ps k))
+    (xs : List Numbered) (slots : map (λ q. q.slot) (pieces ps) ≡ map slot_of xs) where
   -- a batch has the parts of its slots, in their order
-  batch_has : (k : ℕ) → k < length plan.places → in_order xs (get_or plan.places k []) ≡ of_slot (λ x. has.batch (slot_of x)) k xs
-  batch_has k within =
-      ap (in_order xs) (same_Some (get_or plan.places k []) (numbers_in has.batch ps k) (sym (get_there plan.places k [] within) ∙ has.places_are k within))
-      ∙ picked_by (λ t. nat_eq (has.batch t) k) xs 0 xs (pieces ps) slots (λ j. ap (slice_get xs) (zero-add j))
+  batch_has : (k : ℕ) → k < length plan.places → in_order xs (get_or plan.places k []) ≡ of_slot (λ x. batch (slot_of x)) k xs
+  batch_has k inside =
+      ap (in_order xs) (same_Some (get_or plan.places k []) (numbers_in batch ps k) (sym (get_there plan.places k [] inside) ∙ places_are k inside))
+      ∙ picked_by (λ t. nat_eq (batch t) k) xs 0 xs (pieces ps) slots (λ j. ap (slice_get xs) (zero-add j))
 
-  batches_have : (order : List ℕ) → All (λ k. k < length plan.places) order → parts_by_batch plan xs order ≡ batch_by_batch (λ x. has.batch (slot_of x)) order xs
+  batches_have : (order : List ℕ) → All (λ k. k < length plan.places) order → parts_by_batch plan xs order ≡ batch_by_batch (λ x. batch (slot_of x)) order xs
   batches_have [] below = refl
   batches_have (k ∷ order) below =
       ap (λ l. l ++ parts_by_batch plan xs order) (batch_has k (All-head (λ j. j < length plan.places) k order below))
-      ∙ ap (λ l. of_slot (λ x. has.batch (slot_of x)) k xs ++ l) (batches_have order (All-tail (λ j. j < length plan.places) k order below))
+      ∙ ap (λ l. of_slot (λ x. batch (slot_of x)) k xs ++ l) (batches_have order (All-tail (λ j. j < length plan.places) k order below))
 
   -- So batches in an order that names each once have the parts of each slot in their order.
   pub sent_in_turn : (order : List ℕ) → NamesOnce (length plan.places) order → (s : ℕ) → of_slot slot_of s xs ≡ of_slot slot_of s (parts_by_batch plan xs order)
   sent_in_turn order names s =
-      let Below : ℕ → Type 0 = λ t. has.batch t < length plan.places in
-      all_keep_slots has.batch (length plan.places) order names xs (all_unmap slot_of Below xs (subst (All Below) slots (All-map Below (λ q. q.slot) (pieces ps) has.below))) s
+      let Below : ℕ → Type 0 = λ t. batch t < length plan.places in
+      all_keep_slots batch (length plan.places) order names xs (all_unmap slot_of Below xs (subst (All Below) slots (All-map Below (λ q. q.slot) (pieces ps) within))) s
       ∙ ap (of_slot slot_of s) (sym (batches_have order names.below))
 
 -- the parts of a pipeline go out so
 pub pipeline_in_turn : (registered : Registrations) (ps : List Planned) (plan : Batches) (order : List ℕ) → AreBatches registered ps plan.parts plan.places → NamesOnce (length plan.places) order → AreInTurn plan ps order
-pipeline_in_turn registered ps plan order has names = sent_in_turn registered ps plan has (numbered ps) (numbered_slots 0 (pieces ps)) order names
+pipeline_in_turn registered ps plan order has names = sent_in_turn ps plan has.batch has.below has.places_are (numbered ps) (numbered_slots 0 (pieces ps)) order names
 
 -- numbers that are apart stay so where some are left out
 apart_filter : (p : Numbered → Bool) (xs : List Numbered) → AreApart xs → AreApart (filter p xs)
@@ -138,6 +144,12 @@ module _ {C : Type 0} (step : Step C) (serve : Serve C) (kept : Type 0) (may : �
   last_in_turn round [] parts old new again long apart same s = same s
   last_in_turn round (next ∷ rounds) parts old new again long apart same s =
       let count : ℕ = length next.batches.places in
+      let own : ℕ → Address = next.node_of in
+      let by_slot : map (λ (x : Numbered). own (slot_of x)) next.sent ≡ map (λ (q : Part). own q.slot) (pieces (alone next.sent)) =
+      map_map own slot_of next.sent ∙ ap (map own) (sym (slots_alone next.sent)) ∙ sym (map_map own (λ (q : Part). q.slot) (pieces (alone next.sent))) in
+      let nodes : List Address = map (λ (x : Numbered). own (slot_of x)) next.sent in
       one_round round next again.0 long apart s parts (same s) (by_last_answer (round_parts next) rounds)
       (last_in_turn next rounds (round_parts next) again.1 new again.3 again.2.long (next_apart round next again.0 long apart)
-      (sent_in_turn registered (alone next.sent) next.batches again.2.prepared.has next.sent (slots_alone next.sent) (ascending count) (each_once count)) s)
+      (sent_in_turn (alone next.sent) next.batches (batch_of own next.batches)
+      (by_node_below (alone next.sent) next.batches nodes own by_slot again.2.prepared.by_node) (by_node_places (alone next.sent) next.batches nodes own by_slot again.2.prepared.by_node)
+      next.sent (slots_alone next.sent) (range_with_len 0 count) (each_once count)) s)

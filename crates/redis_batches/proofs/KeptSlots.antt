@@ -11,10 +11,10 @@ use Rattle.redis_cluster.specs.Unsplit.{Step, Keyspace}
 use Rattle.redis_cluster.proofs.Counts.{same_number, times_here, times_there}
 use Rattle.redis_batches.specs.Served.{IsLocal}
 use Rattle.redis_batches.specs.Turns.{all_after, answers, of_slot, batch_by_batch}
-use Rattle.redis_batches.specs.Pipeline.{piece, piece_of, Answer, Serve, run, AreSlotsOf, Planned, Part, pieces, piece_answers, Numbered, numbered, slot_of, IsInterleaved, KeepsSlots}
+use Rattle.redis_batches.specs.Pipeline.{Answer, Serve, run, AreSlotsOf, Planned, Part, pieces, piece_answers, Numbered, numbered, slot_of, IsInterleaved, KeepsSlots}
 use Rattle.redis_batches.proofs.Lists.{filter_inside, filter_apart, all_by_slot}
 use Rattle.redis_batches.proofs.Schedule.{one_keyspace, answers_hold}
-use Rattle.redis_batches.proofs.Whole.{pieces_leave, pieces_answer, pieces_local}
+use Rattle.redis_batches.proofs.Whole.{pieces_leave, pieces_answer, pieces_local, piece, piece_of}
 
 module _ {X : Type 0} (slot : X → ℕ) (batch : ℕ → ℕ) where
   -- what has the slot is in the batch of the slot

@@ -17,7 +17,7 @@ use Rattle.redis_routing.specs.RoutingInfo.{route_lists}
 use Rattle.redis_routing.specs.Split.{Split, route_part, slots_of, split_part}
 use Rattle.redis_batches.specs.CommandTask.{SlotPart, slot_parts, slots_kept, split_parts}
 use Rattle.redis_batches.specs.PartArguments.{sent_args}
-use Rattle.redis_batches.specs.Placed.{ArePlaced, IsFirstUncovered, IsFirstWithout, IsOwnFault, IsPartFault, IsSlotFault, Ranges}
+use Rattle.redis_batches.specs.Placed.{ArePlaced, IsFirstWithoutNode, IsOwnFault, IsPartFault, IsSlotFault, Ranges}
 use Rattle.redis_batches.specs.Chosen.{AreIn, AreStill, IsChosen}
 use Rattle.redis_batches.specs.declared.part.PartCommand.{PartCommand}
 use Rattle.redis_batches.specs.declared.parts.Placed.{Placed}
@@ -96,11 +96,13 @@ covered_next ranges slot xs i x at here before =
     (All-append (IsCovered ranges) (take i (map slot xs)) (slot x ∷ []) before (All-cons (IsCovered ranges) (slot x) [] here (All-nil (IsCovered ranges))))
 
 -- the first that is not
-pub first_without : (ranges : Ranges) {X : Type 0} (slot : X → ℕ) (xs : List X) (i : ℕ) (x : X) → slice_get xs i ≡ Some x → All (IsCovered ranges) (take i (map slot xs)) → IsUncovered ranges (slot x) → IsFirstWithout ranges (map slot xs) (slot x)
+pub first_without : (ranges : Ranges) {X : Type 0} (slot : X → ℕ) (xs : List X) (i : ℕ) (x : X) → slice_get xs i ≡ Some x → All (IsCovered ranges) (take i (map slot xs)) → IsUncovered ranges (slot x)
+    → IsFirstWithoutNode ranges (map slot xs ∷ []) 0 (slot x)
 first_without ranges slot xs i x at covered uncovered = record {
+  earlier = All-nil (All (IsCovered ranges));
   before = take i (map slot xs);
   rest = drop (i + 1) (map slot xs);
-  slots_are = sym (take-append-drop i (map slot xs)) ∙ ap (λ l. take i (map slot xs) ++ l) (at_drop slot xs i x at);
+  own = ap Some (sym (take-append-drop i (map slot xs)) ∙ ap (λ l. take i (map slot xs) ++ l) (at_drop slot xs i x at));
   covered = covered;
   uncovered = uncovered;
 }
@@ -117,7 +119,7 @@ pub own_fault : (ranges : Ranges) (number : ℕ) {X : Type 0} (slot : X → ℕ)
 own_fault ranges number slot xs i x (NotRoutable other) at covered is = absurd is
 own_fault ranges number slot xs i x Memory at covered is = tt
 own_fault ranges number slot xs i x (NotCovered other own) at covered is =
-    (is.0, subst (IsFirstWithout ranges (map slot xs)) (sym is.1) (first_without ranges slot xs i x at covered is.2))
+    (is.0, subst (IsFirstWithoutNode ranges (map slot xs ∷ []) 0) (sym is.1) (first_without ranges slot xs i x at covered is.2))
 
 -- why the parts of one command can't be placed, after those that could be
 pub fault_of_command : (ranges : Ranges) (tasks : List CommandTask) (i : ℕ) (task : CommandTask) (fault : PipelineFault) → i < length tasks → task ≡ get_or tasks i task
@@ -125,11 +127,13 @@ pub fault_of_command : (ranges : Ranges) (tasks : List CommandTask) (i : ℕ) (t
 fault_of_command ranges tasks i task (NotRoutable number) within is covered own = absurd own
 fault_of_command ranges tasks i task Memory within is covered own = tt
 fault_of_command ranges tasks i task (NotCovered number slot) within is covered own =
-    subst (λ n. IsFirstUncovered ranges (map slots_kept tasks) n slot) (sym own.0) (record {
-      covered = subst (All (All (IsCovered ranges))) (sym (take-map slots_kept i tasks)) (All-map (All (IsCovered ranges)) slots_kept (take i tasks) covered);
-      own = slots_kept task;
-      own_are = slice_get-map slots_kept tasks i ∙ ap (option_map slots_kept) (slice_get_read tasks (length tasks) i task refl within is);
-      first = own.1;
+    subst (λ n. IsFirstWithoutNode ranges (map slots_kept tasks) n slot) (sym own.0) (record {
+      earlier = subst (All (All (IsCovered ranges))) (sym (take-map slots_kept i tasks)) (All-map (All (IsCovered ranges)) slots_kept (take i tasks) covered);
+      before = own.1.before;
+      rest = own.1.rest;
+      own = slice_get-map slots_kept tasks i ∙ ap (option_map slots_kept) (slice_get_read tasks (length tasks) i task refl within is) ∙ own.1.own;
+      covered = own.1.covered;
+      uncovered = own.1.uncovered;
     })
 
 -- one command more

@@ -1,5 +1,5 @@
 -- The plan of a pipeline over commands: what its parts mean, and the one node of each slot.
-use Rattle.std.proofs.Common.{◌≡◌, ◌<◌, ◌≤◌, ◌+◌, ℕ, zero, suc, List, [], ◌∷◌, ◌++◌, Bool, true, false, cond, Some, All, refl, sym, ap, subst, ◌∙◌, arith, map, length, get_or}
+use Rattle.std.proofs.Common.{◌≡◌, ◌≤◌, ◌+◌, ℕ, zero, suc, List, [], ◌∷◌, ◌++◌, Bool, true, false, cond, Some, All, refl, sym, ap, subst, ◌∙◌, arith, map, length, get_or}
 use Rattle.std.specs.Prelude.{nat_eq}
 use Rattle.std.specs.List.{AllZip, flat_map, list_any, sum_by}
 use Rattle.std.specs.Option.{option_map_or}
@@ -26,18 +26,16 @@ use Rattle.redis_batches.specs.Tasks.{IsSplitOfTask, slots_of_task, with_slots}
 use Rattle.redis_batches.specs.CommandTask.{IsKeptOf, IsTaskFor, SlotPart, slot_parts, slots_kept, split_in, split_parts}
 use Rattle.redis_batches.specs.Pipelined.{IsTaskFault}
 use Rattle.redis_batches.specs.Placed.{ArePlaced, IsPartFault, Ranges}
-use Rattle.redis_batches.specs.Reads.{only_reads, slots_of_command, slots_written}
+use Rattle.redis_batches.specs.Reads.{only_reads, slots_written}
 use Rattle.redis_batches.specs.Chosen.{all_written}
 use Rattle.redis_batches.specs.PipelinePlan.{IsPlanFault, IsPlanOfCommands, PipelineBatches, pieces_of}
-use Rattle.redis_batches.specs.Plan.{Batches, IsByNode, IsPlan}
+use Rattle.redis_batches.specs.Plan.{Batches, IsByNode}
 use Rattle.redis_batches.specs.Replies.{part_count}
 use Rattle.redis_batches.specs.declared.fault.PipelineFault.{PipelineFault}
 use Rattle.redis_batches.specs.declared.fault.PipelineFault.TheVariants.{NotRoutable, NotCovered, Memory}
 use Rattle.redis_batches.specs.declared.task.CommandTask.{CommandTask}
 use Rattle.redis_batches.specs.declared.task.CommandTask.TheVariants.{InSlot, OverKeys}
-use Rattle.redis_batches.specs.Grouped.{index_of}
-use Rattle.redis_batches.specs.Driven.{node_at}
-use Rattle.redis_batches.proofs.ByNode.{batch_by_node, by_node_batches, node_at_index}
+use Rattle.redis_batches.proofs.ByNode.{by_node_batches}
 use Rattle.redis_batches.proofs.Commands.{task_by, tasks_from}
 
 -- what is sent is the part of the pipeline
@@ -199,7 +197,7 @@ written_is names [] [] each = refl
 written_is names [] (k ∷ kept) each = absurd each
 written_is names (a ∷ commands) [] each = absurd each
 written_is names (a ∷ commands) (k ∷ kept) each =
-    let slots : slots_kept k ≡ slots_of_command names.registered a = slots_of_kept names.registered each.0.0 k each.0.2 ∙ sym (ap (λ t. option_map_or slots_of_task t []) each.0.1) in
+    let slots : slots_kept k ≡ option_map_or slots_of_task (task_of names.registered a) [] = slots_of_kept names.registered each.0.0 k each.0.2 ∙ sym (ap (λ t. option_map_or slots_of_task t []) each.0.1) in
     ap (λ own. cond (only_reads names.only_reads a) [] own ++ all_written names.only_reads commands kept) slots ∙ ap (λ l. slots_written names a ++ l) (written_is names commands kept each.1)
 
 -- the slots of the parts of a command are its own
@@ -285,20 +283,7 @@ slots_of_all [] = All-nil (λ (p : Planned). AreSlotsOf p.task p.slots)
 slots_of_all (task ∷ tasks) = All-cons (λ (p : Planned). AreSlotsOf p.task p.slots) (with_slots task) (map with_slots tasks) (slots_of_one task) (slots_of_all tasks)
 
 -- A plan of commands has the batches of the pipeline, so it can be sent.
-pub plan_has_batches : (registered : Registrations) (is_node : ℕ → Address → Type 0) (commands : List (List (List ℕ))) (plan : PipelineBatches) → IsPlan plan.batches → (is : IsPlanOfCommands registered is_node commands plan)
+abbrev pub plan_has_batches : (registered : Registrations) (is_node : ℕ → Address → Type 0) (commands : List (List (List ℕ))) (plan : PipelineBatches) (is : IsPlanOfCommands registered is_node commands plan)
     → AreBatches registered (map with_slots is.tasks) plan.batches.parts plan.batches.places
-plan_has_batches registered is_node commands plan whole is =
-    by_node_batches registered (map with_slots is.tasks) plan.batches (map (λ q. is.node_of q.slot) (pieces_of is.tasks)) is.node_of refl is.parts_are (sym whole.nodes) is.by_node
-
--- The batch of a part's slot goes to the node of the slot.
-pub own_nodes : (registered : Registrations) (is_node : ℕ → Address → Type 0) (commands : List (List (List ℕ))) (plan : PipelineBatches) (whole : IsPlan plan.batches) (is : IsPlanOfCommands registered is_node commands plan)
-    → All (λ q. node_at plan.batches.nodes ((plan_has_batches registered is_node commands plan whole is).batch q.slot) ≡ is.node_of q.slot) (pieces_of is.tasks)
-unfolding plan_has_batches
-own_nodes registered is_node commands plan whole is =
-    let nodes = plan.batches.nodes in
-    let batches = plan_has_batches registered is_node commands plan whole is in
-    let number : (slot : ℕ) → batches.batch slot ≡ index_of (is.node_of slot) nodes =
-    λ slot. batch_by_node registered (map with_slots is.tasks) plan.batches (map (λ q. is.node_of q.slot) (pieces_of is.tasks)) is.node_of refl is.parts_are (sym whole.nodes) is.by_node slot in
-    All-weaker (λ (q : Part). batches.batch q.slot < length plan.batches.places) (λ q. node_at nodes (batches.batch q.slot) ≡ is.node_of q.slot)
-    (λ q below. ap (node_at nodes) (number q.slot) ∙ node_at_index (is.node_of q.slot) nodes (record { host = []; port = 0 }) (omega (arith, below, number q.slot, whole.nodes)))
-    (pieces_of is.tasks) batches.below
+plan_has_batches registered is_node commands plan is =
+    by_node_batches registered (map with_slots is.tasks) plan.batches (map (λ q. is.node_of q.slot) (pieces_of is.tasks)) is.node_of refl is.parts_are is.by_node

@@ -2,6 +2,7 @@
 use Rattle.std.proofs.Common.{◌≡◌, ℕ, Bool, true, false, not, List}
 use Rattle.std.proofs.lemmas.List.Elements.{All-weaker}
 use Rattle.cluster_slots.specs.Address.{Address}
+use Rattle.cluster_slots.specs.SlotRoute.{SlotRoute}
 use Rattle.cluster_map.specs.RouteNode.{IsNodeFor, IsNodeOfRoute}
 use Rattle.cluster_map.specs.SlotNodes.{SlotNodes}
 use Rattle.redis_routing.specs.Names.{Names}
@@ -14,7 +15,11 @@ use Rattle.redis_batches.specs.DrivenPipeline.{IsPipelineServed, IsSendable}
 use Rattle.redis_batches.specs.Pipeline.{Answer, Part, Serve}
 use Rattle.redis_batches.specs.Placed.{IsPrimaryOf, Ranges}
 use Rattle.redis_batches.specs.PipelinePlan.{IsPlanOfCommands, PipelineBatches, pieces_of}
-use Rattle.redis_batches.specs.Reads.{is_written, pipeline_route}
+use Rattle.redis_batches.specs.Reads.{is_written}
+
+-- the route of a slot in a pipeline
+abbrev pipeline_route : Names → List (List (List ℕ)) → ℕ → SlotRoute
+pipeline_route names commands slot = record { slot = slot; addr = nodes_for (not (is_written names commands slot)) }
 
 primary_for : (reads : Bool) (nodes : SlotNodes) (address : Address) → IsNodeFor nodes (nodes_for reads) 0 address → address ≡ nodes.primary
 primary_for true nodes address is = is
@@ -47,8 +52,6 @@ unfolding plan_with
 sendable_with registered one other weaker commands order plan is = record {
   of_commands = plan_with registered one other weaker commands plan is.of_commands;
   order_is = is.order_is;
-  batches = is.batches;
-  nodes = is.nodes;
 }
 
 -- and what was sent and answered

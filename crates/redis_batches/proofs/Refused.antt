@@ -1,15 +1,15 @@
 -- Where nodes refuse some parts: what stands, and what is answered, is as if one server had taken the others alone.
-use Rattle.std.proofs.Common.{◌≡◌, ℕ, List, [], ◌∷◌, Bool, cond, Option, None, Some, All, refl, sym, subst, filter}
-use Rattle.std.specs.Prelude.{nat_eq, is_none}
+use Rattle.std.proofs.Common.{◌≡◌, ℕ, List, [], ◌∷◌, Bool, Option, None, Some, All, refl, sym, subst, filter}
+use Rattle.std.specs.Prelude.{nat_eq}
 use Rattle.std.proofs.lemmas.List.Elements.{All-nil, All-cons, All-head, All-tail, All-filter}
 use Rattle.resp_core.specs.ErrorParts.{ErrorParts}
 use Rattle.redis_cluster.specs.Unsplit.{Step, Keyspace}
 use Rattle.redis_batches.specs.Served.{Effect, IsLocal}
 use Rattle.redis_batches.specs.Turns.{all_after, answers, of_slot}
-use Rattle.redis_batches.specs.Pipeline.{piece_of, ended, Answer, Serve, AreSlotsOf, Planned, pieces, Numbered, numbered, slot_of, KeepsSlots, Refusals, refused_by, is_taken}
+use Rattle.redis_batches.specs.Pipeline.{ended, Answer, Serve, AreSlotsOf, Planned, pieces, Numbered, numbered, slot_of, KeepsSlots, Refusals, refused_by}
 use Rattle.redis_batches.proofs.Lists.{all_by_slot}
 use Rattle.redis_batches.proofs.Schedule.{one_keyspace, answers_hold}
-use Rattle.redis_batches.proofs.Whole.{pieces_local}
+use Rattle.redis_batches.proofs.Whole.{pieces_local, piece_of}
 use Rattle.redis_batches.proofs.KeptSlots.{numbered_local}
 
 -- a refusal touches no slot
@@ -28,18 +28,6 @@ module _ {C : Type 0} (step : Step C) (serve : Serve C) (refusals : Refusals) wh
       All-cons (λ y. IsLocal (slot_of y) ((ended step serve refusals) y)) x xs
       (refused_local (slot_of x) (piece_of step serve x) (refusals x) (All-head (λ y. IsLocal (slot_of y) (piece_of step serve y)) x xs local))
       (ended_local xs (All-tail (λ y. IsLocal (slot_of y) (piece_of step serve y)) x xs local))
-
-  -- one part, by whether it is refused
-  taken_one : (o : Option ErrorParts) (x : Numbered) (xs : List Numbered) → ((k : Keyspace C) → all_after (ended step serve refusals) xs k ≡ all_after (piece_of step serve) (filter (is_taken refusals) xs) k)
-      → (ks : Keyspace C) → all_after (ended step serve refusals) xs (refused_by o (piece_of step serve x) ks).keys
-      ≡ all_after (piece_of step serve) (cond (is_none o) (x ∷ filter (is_taken refusals) xs) (filter (is_taken refusals) xs)) ks
-  taken_one None x xs rest ks = rest (piece_of step serve x ks).keys
-  taken_one (Some error) x xs rest ks = rest ks
-
-  -- refused parts may be left out
-  pub taken_alone : (xs : List Numbered) (ks : Keyspace C) → all_after (ended step serve refusals) xs ks ≡ all_after (piece_of step serve) (filter (is_taken refusals) xs) ks
-  taken_alone [] ks = refl
-  taken_alone (x ∷ xs) ks = taken_one (refusals x) x xs (taken_alone xs) ks
 
   module _ (ps : List Planned) (are : All (λ p. AreSlotsOf p.task p.slots) ps) (sent : List Numbered) (keeps : KeepsSlots ps sent) (ks : Keyspace C) where
     local_all : All (λ x. IsLocal (slot_of x) ((ended step serve refusals) x)) (numbered ps)

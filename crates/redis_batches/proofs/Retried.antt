@@ -10,16 +10,16 @@ use Rattle.redis_routing.specs.Registry.{Registrations}
 use Rattle.redis_cluster.specs.State.{State}
 use Rattle.redis_cluster.specs.Trace.{Ending}
 use Rattle.redis_cluster.specs.Unsplit.{Step}
-use Rattle.redis_batches.specs.Driven.{Grew, IsServed, WereAsked, WereAskedUntil, answers_in, batch_at, parts_by_batch}
-use Rattle.redis_batches.specs.DrivenInRounds.{AreServedInRounds, IsRoundsFault, SentSoFar, WereSent, all_at_once}
+use Rattle.redis_batches.specs.Driven.{Grew, IsServed, WereAskedUntil, answers_in, batch_at, parts_by_batch}
+use Rattle.redis_batches.specs.DrivenInRounds.{AreServedInRounds, IsRoundsFault, SentSoFar, WereSent}
 use Rattle.redis_batches.specs.DrivenPipeline.{AreAllTaken, IsOneServer, IsSendable}
 use Rattle.redis_batches.specs.InRounds.{AreSentAgain, IsAgainFault, Stands}
 use Rattle.redis_batches.specs.Outgoing.{ArePartsOf, GoesBehind, IsNext, slot_at}
 use Rattle.redis_batches.specs.Pipeline.{Answer, Numbered, Part, Planned, Refusals, Serve, numbered, pieces, slot_of}
 use Rattle.redis_batches.specs.PipelinePlan.{PipelineBatches}
-use Rattle.redis_batches.specs.Plan.{Batches}
+use Rattle.redis_batches.specs.Plan.{Batches, batch_of}
 use Rattle.redis_batches.specs.Replies.{AreRepliesTo}
-use Rattle.redis_batches.specs.Rounds.{AreRounds, IsAsOne, IsSentOn, OwnErrorsStay, Round, after_rounds, batch_after, batches_before, by_last_answer, go_on, goes_to, latest_answers, round_answers, round_batches}
+use Rattle.redis_batches.specs.Rounds.{AreRounds, IsAsOne, IsSentOn, Round, after_rounds, batch_after, batches_before, by_last_answer, go_on, goes_to, latest_answers, round_answers, round_batches, StaysHere}
 use Rattle.redis_batches.specs.Sent.{AreApart}
 use Rattle.redis_batches.specs.Taken.{Batch, answer_of, task_of}
 use Rattle.redis_batches.specs.Tasks.{with_slots}
@@ -36,8 +36,8 @@ use Rattle.redis_batches.proofs.Ends.{after_agree, answers_agree, numbers_apart}
 use Rattle.redis_batches.proofs.GoOn.{go_by, goes_by}
 use Rattle.redis_batches.proofs.InTurn.{last_in_turn, pipeline_in_turn}
 use Rattle.redis_batches.proofs.KeptSlots.{numbered_after, numbered_list}
-use Rattle.redis_batches.proofs.Planning.{slots_of_all}
-use Rattle.redis_batches.proofs.ServerReplies.{IsShared, server_replies}
+use Rattle.redis_batches.proofs.Planning.{plan_has_batches, slots_of_all}
+use Rattle.redis_batches.proofs.ServerReplies.{IsShared, server_replies, slots_leave}
 use Rattle.redis_batches.proofs.StayHere.{tasks_stay}
 use Rattle.redis_batches.proofs.Untouched.{replies_untouched}
 use Rattle.redis_batches.proofs.Whole.{pieces_answer, pieces_leave}
@@ -106,14 +106,14 @@ module _ {C : Type 0} (step : Step C) (serve : Serve C) (may : ℕ → Ending �
 
   -- the first round was served
   pub first_served : (batches : Batches) → batches ≡ plan.batches → (kept_then : Type 0) (given : List Answer) → ServesAll step serve kept_then may registered is_node commands order old between given batches
-      → IsServed step serve kept_then may ps plan.batches.parts plan.batches.nodes sendable.batches.batch order old between given
+      → IsServed step serve kept_then may ps plan.batches.parts plan.batches.nodes (batch_of sendable.of_commands.node_of plan.batches) order old between given
   first_served batches same kept_then given serves =
-      subst (ServesAll step serve kept_then may registered is_node commands order old between given) same serves ps (slots_of_all sendable.of_commands.tasks) sendable.batches
+      subst (ServesAll step serve kept_then may registered is_node commands order old between given) same serves ps (slots_of_all sendable.of_commands.tasks) (plan_has_batches registered is_node commands plan sendable.of_commands)
 
-  module _ (kept_then : Type 0) (given : List Answer) (served : IsServed step serve kept_then may ps plan.batches.parts plan.batches.nodes sendable.batches.batch order old between given) where
+  module _ (kept_then : Type 0) (given : List Answer) (served : IsServed step serve kept_then may ps plan.batches.parts plan.batches.nodes (batch_of sendable.of_commands.node_of plan.batches) order old between given) where
     -- the first round
     abbrev pub first : Round
-    first = all_at_once sendable.of_commands.tasks sendable.of_commands.node_of plan.batches given served.refusals
+    first = record { sent = numbered ps; node_of = sendable.of_commands.node_of; batches = plan.batches; given = given; refusals = served.refusals }
 
     -- what follows it is found
     pub first_behind : (slots : List ℕ) (nodes : List Address) (out : Outgoing) → slots ≡ plan.slots → nodes ≡ plan.targets → length given ≡ length (pieces ps) → IsNext slots (range_with_len 0 (length slots)) nodes given out → GoesBehind ps first out
@@ -146,10 +146,10 @@ module _ {C : Type 0} (step : Step C) (serve : Serve C) (may : ℕ → Ending �
         again = again;
       }
 
-      module _ (asked_old asked_between asked_new : List Batch → Type 0) (asked : WereAsked asked_old asked_between (map (batch_at plan.batches) order)) (long : length given ≡ length plan.batches.parts)
+      module _ (asked_old asked_between asked_new : List Batch → Type 0) (asked : Grew asked_old asked_between (map (batch_at plan.batches) order)) (long : length given ≡ length plan.batches.parts)
           (gave_old gave_between gave_new : List (List Answer) → Type 0) (gave : Grew gave_old gave_between (answers_in plan.batches given order)) where
         -- no more than retries, and nothing else
-        pub were_sent : (rounds : List Round) → length rounds ≤ retries → AreRounds step serve kept may registered plan.batches.parts first rounds between new → WereAsked asked_between asked_new (flat_map round_batches rounds)
+        pub were_sent : (rounds : List Round) → length rounds ≤ retries → AreRounds step serve kept may registered plan.batches.parts first rounds between new → Grew asked_between asked_new (flat_map round_batches rounds)
             → Grew gave_between gave_new (flat_map round_answers rounds) → WereSent step serve kept may registered is_node commands order retries asked_old asked_new gave_old gave_new old new
         unfolding taken so_far
         were_sent rounds few again more further = record {
@@ -195,17 +195,17 @@ module _ {C : Type 0} (step : Step C) (serve : Serve C) (may : ℕ → Ending �
           given_are = served.answers_are (earlier keep);
         }
 
-        module _ (again : AreSentAgain step serve kept may registered plan.batches.parts ps first retries between new asked_between asked_new gave_between gave_new before after) (asked : WereAsked asked_old asked_between (map (batch_at plan.batches) order))
+        module _ (again : AreSentAgain step serve kept may registered plan.batches.parts ps first retries between new asked_between asked_new gave_between gave_new before after) (asked : Grew asked_old asked_between (map (batch_at plan.batches) order))
             (many : length before ≡ length plan.batches.parts) (gave : Grew gave_old gave_between (answers_in plan.batches given order))
             (replies : List Answer) (share : AllByRecursion IsShared sendable.of_commands.tasks) (made : AreRepliesTo sendable.of_commands.tasks (map answer_of after) replies) where
           -- which parts were refused at last
           abbrev last : Refusals
           last = after_rounds served.refusals again.rounds
 
-          as_one : kept → OwnErrorsStay serve sendable.of_commands.tasks → IsAsOne step serve ps last old.keyspace new.keyspace (map answer_of after)
+          as_one : kept → All (StaysHere serve) sendable.of_commands.tasks → IsAsOne step serve ps last old.keyspace new.keyspace (map answer_of after)
           as_one keep own = again.as_one keep (tasks_stay serve sendable.of_commands.tasks own) old.keyspace served.refusals (stands keep)
 
-          as_one_server : kept → OwnErrorsStay serve sendable.of_commands.tasks → All (λ x. last x ≡ None) (numbered ps) → IsOneServer step serve registered commands old new replies
+          as_one_server : kept → All (StaysHere serve) sendable.of_commands.tasks → All (λ x. last x ≡ None) (numbered ps) → IsOneServer step serve registered commands old new replies
           unfolding none
           as_one_server keep own all =
               let tasks = sendable.of_commands.tasks in
@@ -214,7 +214,8 @@ module _ {C : Type 0} (step : Step C) (serve : Serve C) (may : ℕ → Ending �
               let same : All (λ x. last x ≡ none x) (numbered ps) = all in (
                 tasks,
                 sendable.of_commands.tasks_are,
-                is.keyspace ∙ after_agree step serve last none (numbered ps) same old.keyspace ∙ numbered_after step serve 0 (pieces ps) old.keyspace ∙ pieces_leave step serve ps are old.keyspace,
+                is.keyspace ∙ after_agree step serve last none (numbered ps) same old.keyspace ∙ numbered_after step serve 0 (pieces ps) old.keyspace ∙ pieces_leave step serve ps are old.keyspace
+                    ∙ slots_leave step serve tasks old.keyspace,
                 server_replies step serve tasks share old.keyspace replies
                     (subst (λ l. AreRepliesTo tasks l replies)
                     (is.answers_are ∙ ap (map (λ (a : Numbered × Answer). a.1)) (answers_agree step serve last none (numbered ps) same old.keyspace)
@@ -225,7 +226,7 @@ module _ {C : Type 0} (step : Step C) (serve : Serve C) (may : ℕ → Ending �
           in_turn : (s : ℕ) → of_slot slot_of s (numbered ps) ≡ of_slot slot_of s (by_last_answer (parts_by_batch plan.batches (numbered ps) order) again.rounds)
           in_turn =
               last_in_turn step serve kept may registered plan.batches.parts first again.rounds (parts_by_batch plan.batches (numbered ps) order) between new again.again
-              (ap length given_are ∙ answers_many before many ∙ sym (length-enumerate_from 0 (pieces ps))) (all_apart (pieces ps)) (pipeline_in_turn registered ps plan.batches order sendable.batches sendable.order_is)
+              (ap length given_are ∙ answers_many before many ∙ sym (length-enumerate_from 0 (pieces ps))) (all_apart (pieces ps)) (pipeline_in_turn registered ps plan.batches order (plan_has_batches registered is_node commands plan sendable.of_commands) sendable.order_is)
 
           -- The pipeline was served in rounds.
           pub served_in_rounds : AreServedInRounds step serve kept may registered is_node commands order retries asked_old asked_new gave_old gave_new old new replies

@@ -11,11 +11,11 @@ use Rattle.redis_cluster.specs.State.{State}
 use Rattle.redis_cluster.specs.Trace.{Ending}
 use Rattle.redis_cluster.specs.Unsplit.{Step}
 use Rattle.redis_batches.specs.Batched.{AreBatches, AreFor, IsRight, put_at}
-use Rattle.redis_batches.specs.Driven.{Grew, HaveAnswered, IsServed, WasStopped, WereAsked, WereAskedUntil, answers_in, batch_at}
+use Rattle.redis_batches.specs.Driven.{Grew, HaveAnswered, IsServed, WasStopped, WereAskedUntil, answers_in, batch_at}
 use Rattle.redis_batches.specs.Outgoing.{ArePartsOf, GoesBehind, IsNext, IsNextServed, slot_at}
 use Rattle.redis_batches.specs.Pipeline.{Answer, AreSlotsOf, Numbered, Planned, Serve, slot_of}
 use Rattle.redis_batches.specs.Plan.{Batches, IsByNode, IsPlan}
-use Rattle.redis_batches.specs.Rounds.{Follows, IsRoundServed, IsRoundStopped, Round, alone, ascending, batch_after, batches_before, round_answers, round_batches}
+use Rattle.redis_batches.specs.Rounds.{Follows, IsRoundServed, IsRoundStopped, Round, alone, batch_after, batches_before, round_answers, round_batches}
 use Rattle.redis_batches.specs.Taken.{Batch, answer_of}
 use Rattle.redis_batches.specs.declared.going.Outgoing.{Outgoing}
 use Rattle.redis_batches.specs.declared.send.Stopped.{Stopped}
@@ -62,7 +62,7 @@ module _ (registered : Registrations) (ps : List Planned) (arguments : List (Lis
     sendable = (alone sent, planned_slots, batches)
 
     module _ {C : Type 0} (step : Step C) (serve : Serve C) (kept : Type 0) (may_refuse : ℕ → Ending → Type 0) (count : ℕ) (order : List ℕ) (order_is : order ≡ range_with_len 0 count) (counted : count ≡ length plan.places) (old new : State C) where
-      in_order : order ≡ ascending (length plan.places)
+      in_order : order ≡ range_with_len 0 (length plan.places)
       in_order = order_is ∙ ap (range_with_len 0) counted
 
       pub stopped : (asked_old asked_new : List Batch → Type 0) (gave_old gave_new : List (List Answer) → Type 0) (stop : Stopped) → WasStopped step serve registered kept may_refuse (alone sent) plan.parts plan.nodes batches.batch order old new stop.answered stop.error
@@ -81,19 +81,19 @@ module _ (registered : Registrations) (ps : List Planned) (arguments : List (Lis
         as_many : length given ≡ length plan.parts → length given ≡ length sent
         as_many many = many ∙ ap length own_parts ∙ length-map sent (λ x. get_or arguments x.0 [])
 
-        pub served : length given ≡ length plan.parts → (asked_old asked_new : List Batch → Type 0) → WereAsked asked_old asked_new (map (batch_at plan) order) → (gave_old gave_new : List (List Answer) → Type 0) → Grew gave_old gave_new (answers_in plan given order)
-            → (x : Round) × Follows round x × IsRoundServed step serve kept may_refuse registered arguments x old new × WereAsked asked_old asked_new (round_batches x) × Grew gave_old gave_new (round_answers x)
+        pub served : length given ≡ length plan.parts → (asked_old asked_new : List Batch → Type 0) → Grew asked_old asked_new (map (batch_at plan) order) → (gave_old gave_new : List (List Answer) → Type 0) → Grew gave_old gave_new (answers_in plan given order)
+            → (x : Round) × Follows round x × IsRoundServed step serve kept may_refuse registered arguments x old new × Grew asked_old asked_new (round_batches x) × Grew gave_old gave_new (round_answers x)
         unfolding batches
         served many asked_old asked_new asked gave_old gave_new gave = (
           next registered ps arguments slots of round out gone plan whole nodes own_nodes by_node own_parts step serve kept may_refuse order in_order old new given all_served,
           follows registered ps arguments slots of round out gone plan given (next registered ps arguments slots of round out gone plan whole nodes own_nodes by_node own_parts step serve kept may_refuse order in_order old new given all_served).refusals,
           next_served registered ps arguments slots of round out gone plan whole nodes own_nodes by_node own_parts step serve kept may_refuse order in_order old new given all_served (as_many many),
-          subst (λ o. WereAsked asked_old asked_new (map (batch_at plan) o)) in_order asked,
+          subst (λ o. Grew asked_old asked_new (map (batch_at plan) o)) in_order asked,
           subst (λ o. Grew gave_old gave_new (answers_in plan given o)) in_order gave,
         )
 
         -- and its answers were put at their places
-        pub next_is : (asked_old asked_new : List Batch → Type 0) → WereAsked asked_old asked_new (map (batch_at plan) order) → (gave_old gave_new : List (List Answer) → Type 0) → Grew gave_old gave_new (answers_in plan given order) → (replies before after : List (Result Value ErrorParts)) → given ≡ map answer_of replies → after ≡ put_at before ns replies → length after ≡ length before → length given ≡ length plan.parts
+        pub next_is : (asked_old asked_new : List Batch → Type 0) → Grew asked_old asked_new (map (batch_at plan) order) → (gave_old gave_new : List (List Answer) → Type 0) → Grew gave_old gave_new (answers_in plan given order) → (replies before after : List (Result Value ErrorParts)) → given ≡ map answer_of replies → after ≡ put_at before ns replies → length after ≡ length before → length given ≡ length plan.parts
             → ((all : List Answer) → AreFor all ns replies → All (IsRight after all) ns) → ((all : List Answer) → AreFor all ns replies → (place : ℕ) → IsRight before all place → IsRight after all place)
             → (later : Outgoing) → IsNext slots ns nodes given later → IsNextServed step serve kept may_refuse registered arguments ps round old new asked_old asked_new gave_old gave_new before after later
         unfolding batches
@@ -102,7 +102,7 @@ module _ (registered : Registrations) (ps : List Planned) (arguments : List (Lis
           follows = follows registered ps arguments slots of round out gone plan given (next registered ps arguments slots of round out gone plan whole nodes own_nodes by_node own_parts step serve kept may_refuse order in_order old new given all_served).refusals;
           served = next_served registered ps arguments slots of round out gone plan whole nodes own_nodes by_node own_parts step serve kept may_refuse order in_order old new given all_served (as_many many);
           gave = subst (λ o. Grew gave_old gave_new (answers_in plan given o)) in_order gave;
-          asked = subst (λ o. WereAsked asked_old asked_new (map (batch_at plan) o)) in_order asked;
+          asked = subst (λ o. Grew asked_old asked_new (map (batch_at plan) o)) in_order asked;
           replies = replies;
           put = record {
             given_are = given_are;

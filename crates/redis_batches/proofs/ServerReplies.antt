@@ -6,6 +6,8 @@ use Rattle.resp_core.specs.ErrorParts.{ErrorParts}
 use Rattle.resp_core.specs.Reply.{Reply}
 use Rattle.redis_routing.specs.Registry.{Registrations}
 use Rattle.redis_routing.specs.Split.{Split}
+use Rattle.std.specs.Prelude.{MatchResult}
+use Rattle.redis_cluster.specs.Joined.{IsOutcome}
 use Rattle.redis_cluster.specs.MultiKey.{MultiKey, slots_in}
 use Rattle.redis_cluster.specs.SlotItems.{items_of_slot}
 use Rattle.redis_cluster.specs.Unsplit.{Step, Keyspace, act_of, reply_by, reply_to, results_of}
@@ -14,12 +16,14 @@ use Rattle.redis_cluster.proofs.Joined.{outcome_is}
 use Rattle.redis_cluster.proofs.Made.{made_of_command}
 use Rattle.redis_cluster.proofs.Parts.{length-results}
 use Rattle.redis_cluster.proofs.SplitTuples.{ShareOut, command_shares}
-use Rattle.redis_batches.specs.Pipeline.{Answer, Serve, Task, over_keys, in_slot, run, part_answer, piece_answers, one_server_answers}
+use Rattle.redis_batches.specs.Pipeline.{Answer, Serve, Task, over_keys, in_slot, run, part_answer, piece_answers}
+use Rattle.redis_batches.specs.Turns.{all_after, answers}
 use Rattle.redis_batches.specs.Tasks.{AreSplitsFor, AreSplitsOf, IsSplitAs, IsSplitOfTask, slots_of_task, with_slots}
 use Rattle.redis_batches.specs.CommandTask.{IsKeptOf, IsTaskFor, split_in}
 use Rattle.redis_batches.specs.declared.task.CommandTask.{CommandTask}
 use Rattle.redis_batches.specs.declared.task.CommandTask.TheVariants.{InSlot, OverKeys}
-use Rattle.redis_batches.specs.Replies.{AreRepliesTo, IsReplyByParts, IsReplyTo, IsSplitReply, all_replies, as_outcome, part_count, with_reply}
+use Rattle.redis_batches.proofs.Answered.{with_reply}
+use Rattle.redis_batches.specs.Replies.{AreRepliesTo, IsReplyTo, IsSplitReply, all_replies, as_outcome, part_count}
 
 -- what is kept of a command has its split
 split_of_kept : (registered : Registrations) (task : Task) (kept : CommandTask) → IsKeptOf registered task kept → IsSplitAs registered (split_in kept) task
@@ -53,6 +57,11 @@ as_many_parts registered (Some split) (over_keys command) is = ap length (sym is
 pub answer_is : (answer : Answer) (reply : Reply) → as_outcome answer ≡ Ok reply → answer ≡ Ok reply
 answer_is (Ok other) reply is = cc
 answer_is (Err error) reply is = absurd (cc is)
+
+-- the reply to a command over many keys, by those to its parts, or the first error among the answers
+abbrev pub IsReplyByParts : MultiKey → Result (List Reply) ErrorParts → Answer → Type 0
+IsReplyByParts command found answer =
+    MatchResult found (λ replies. IsOutcome command.tuples (slots_in command) replies command.form (as_outcome answer)) (λ error. answer ≡ Err error)
 
 -- The reply to a command is made of the answers to its parts, if it is made so by its split.
 pub split_reply : (registered : Registrations) (split : Split) (command : MultiKey) → IsSplitOfTask registered command split → (found : Result (List Reply) ErrorParts) (answer : Answer)
@@ -97,7 +106,7 @@ module _ {C : Type 0} (step : Step C) (serve : Serve C) where
 
   -- Where the parts of a pipeline answer what they do on one server, its replies are those of the server, each on the keyspace that the commands before it left.
   pub server_replies : (tasks : List Task) → AllByRecursion IsShared tasks → (keyspace : Keyspace C) (replies : List Answer)
-      → AreRepliesTo tasks (piece_answers step serve (map with_slots tasks) keyspace) replies → replies ≡ one_server_answers step serve (map with_slots tasks) keyspace
+      → AreRepliesTo tasks (piece_answers step serve (map with_slots tasks) keyspace) replies → replies ≡ map (λ a. a.1) (answers (run step serve) tasks keyspace)
   server_replies [] share keyspace replies made = made.1
   server_replies (task ∷ tasks) share keyspace [] made = absurd made
   server_replies (task ∷ tasks) share keyspace (reply ∷ replies) made =
@@ -111,3 +120,8 @@ module _ {C : Type 0} (step : Step C) (serve : Serve C) where
       ap (λ r. r ∷ replies) first
       ∙ ap (λ l. (run step serve task keyspace).reply ∷ l)
       (server_replies tasks share.1 next replies (subst (λ l. AreRepliesTo tasks l replies) (drop_at own later count long) made.1))
+
+  -- with their slots they leave the same
+  pub slots_leave : (tasks : List Task) (keyspace : Keyspace C) → all_after (λ p. run step serve p.task) (map with_slots tasks) keyspace ≡ all_after (run step serve) tasks keyspace
+  slots_leave [] keyspace = refl
+  slots_leave (task ∷ tasks) keyspace = slots_leave tasks (run step serve task keyspace).keys

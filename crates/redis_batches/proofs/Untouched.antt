@@ -8,12 +8,11 @@ use Rattle.std.proofs.lemmas.List.FromFn.{length-enumerate_from}
 use Rattle.redis_cluster.specs.Unsplit.{Step, Keyspace}
 use Rattle.redis_batches.specs.Served.{Effect}
 use Rattle.redis_batches.specs.Turns.{all_after, answers}
-use Rattle.redis_batches.specs.Pipeline.{Answer, Serve, Task, run, AreSlotsOf, Planned, parts_of, pieces, part_answer, Numbered, numbered, numbered_behind, Refusals, ended, ended_answers, after_taken}
+use Rattle.redis_batches.specs.Pipeline.{Answer, Serve, Task, run, AreSlotsOf, Planned, parts_of, pieces, part_answer, Numbered, numbered, Refusals, ended, ended_answers}
 use Rattle.redis_batches.specs.Tasks.{slots_of_task, with_slots}
 use Rattle.redis_batches.specs.Replies.{AreRepliesTo, AreUntouched, IsMadeOf, IsReplyTo}
 use Rattle.redis_batches.proofs.Ends.{answers_agree}
 use Rattle.redis_batches.proofs.KeptSlots.{numbered_list}
-use Rattle.redis_batches.proofs.Refused.{taken_alone}
 use Rattle.redis_batches.proofs.ServerReplies.{IsShared, server_reply}
 use Rattle.redis_batches.proofs.Whole.{answers-append, task_answers}
 
@@ -73,7 +72,7 @@ module _ {C : Type 0} (step : Step C) (serve : Serve C) (refusals : Refusals) (b
   earlier = map with_slots before
 
   abbrev own : List Numbered
-  own = numbered_behind earlier (with_slots task)
+  own = enumerate_from (length (pieces earlier)) (parts_of (with_slots task))
 
   abbrev rest : List Numbered
   rest = enumerate_from (length (pieces earlier) + length (parts_of (with_slots task))) (pieces (map with_slots later))
@@ -118,7 +117,7 @@ module _ {C : Type 0} (step : Step C) (serve : Serve C) (refusals : Refusals) (b
   one_untouched : IsShared task → AreSlotsOf task (slots_of_task task)
       → All (λ x. refusals x ≡ None) own → (replies : List Answer)
       → AreRepliesTo (before ++ task ∷ later) (ended_answers step serve refusals (map with_slots (before ++ task ∷ later)) keyspace) replies
-      → slice_get replies (length before) ≡ Some (run step serve task (after_taken step serve refusals earlier keyspace)).reply
+      → slice_get replies (length before) ≡ Some (run step serve task left).reply
   one_untouched share slots taken replies made =
       let first = given (numbered earlier) keyspace in
       let answered = own_answers slots taken in
@@ -128,8 +127,7 @@ module _ {C : Type 0} (step : Step C) (serve : Serve C) (refusals : Refusals) (b
       let found = own_reply before later task first (given own left) (given rest (all_after effect own left)) replies as_many long
       (subst (λ l. AreRepliesTo (before ++ task ∷ later) l replies) three_answers made) in
       found.1
-      ∙ ap Some (server_reply step serve task share left found.0 (subst (λ l. IsReplyTo task l found.0) answered found.2)
-      ∙ ap (λ (k : Keyspace C). (run step serve task k).reply) (taken_alone step serve refusals (numbered earlier) keyspace))
+      ∙ ap Some (server_reply step serve task share left found.0 (subst (λ l. IsReplyTo task l found.0) answered found.2))
 
 -- Where nodes refused some parts of a pipeline, each command none of whose parts was refused has the reply of one server that takes the others alone.
 pub replies_untouched : {C : Type 0} (step : Step C) (serve : Serve C) (refusals : Refusals) (tasks : List Task) → AllByRecursion IsShared tasks

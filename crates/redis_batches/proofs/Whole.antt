@@ -12,7 +12,7 @@ use Rattle.redis_cluster.proofs.Parts.{one_part_more, results_one_more}
 use Rattle.redis_cluster.proofs.Whole.{names_slots_from}
 use Rattle.redis_batches.specs.Served.{Effect, IsLocal}
 use Rattle.redis_batches.specs.Turns.{all_after, answers}
-use Rattle.redis_batches.specs.Pipeline.{piece, Answer, Serve, Task, over_keys, in_slot, run, AreSlotsOf, Planned, Part, parts_of, pieces, part_answer, piece_answers}
+use Rattle.redis_batches.specs.Pipeline.{Answer, Serve, Task, over_keys, in_slot, run, AreSlotsOf, Planned, Part, parts_of, pieces, part_answer, piece_answers, Numbered}
 use Rattle.redis_batches.proofs.Local.{shelf_local, part_local}
 
 module _ {C R X : Type 0} (effect : X → Effect C R) where
@@ -24,6 +24,14 @@ module _ {C R X : Type 0} (effect : X → Effect C R) where
   pub answers-append : (xs ys : List X) (ks : Keyspace C) → answers effect (xs ++ ys) ks ≡ answers effect xs ks ++ answers effect ys (all_after effect xs ks)
   answers-append [] ys ks = refl
   answers-append (x ∷ xs) ys ks = ap (λ l. (x, (effect x ks).reply) ∷ l) (answers-append xs ys (effect x ks).keys)
+
+module _ {C : Type 0} (step : Step C) (serve : Serve C) where
+  -- what a part does
+  abbrev pub piece : Part → Effect C Answer
+  piece p = run step serve p.task
+
+  abbrev pub piece_of : Numbered → Effect C Answer
+  piece_of x = piece x.1
 
 -- the part of a slot, as one of a pipeline
 abbrev pub slot_part : MultiKey → ℕ → Part

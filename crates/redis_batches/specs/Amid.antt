@@ -7,11 +7,6 @@ use Rattle.redis_cluster.specs.Unsplit.{Step, Keyspace, reply_to}
 use Rattle.redis_batches.specs.Pipeline.{Answer, Task, over_keys}
 use Rattle.redis_batches.specs.PipelinePlan.{pieces_of}
 
--- the answers to the parts of the command after these, among the answers to all parts
-abbrev pub own_answers : List Task → MultiKey → List Answer → List Answer
-own_answers before command given =
-    take (length (slots_in command)) (drop (length (pieces_of before)) given)
-
 -- Take any meaning of commands, and any keyspace that has, at each key of a command, what the key's
 -- node held when it ran the key's part. If each node answered by what it held, the reply is that of the
 -- unsplit command on this keyspace. What the unsplit command leaves there is, at each key, what the
@@ -23,6 +18,7 @@ abbrev pub AreServedAmid : Type 0 → List Task → (given replies : List Answer
 AreServedAmid C tasks given replies =
     (before later : List Task) (command : MultiKey) → tasks ≡ before ++ over_keys command ∷ later
     → ((step : Step C) (held : HeldBySlot C) (one : Keyspace C) → IsAssembled command held one
-    → own_answers before command given ≡ map Ok (replies_by step command held)
+    → take (length (slots_in command)) (drop (length (pieces_of before)) given)
+    ≡ map Ok (replies_by step command held)
     → slice_get replies (length before) ≡ Some (Ok (reply_to step command one)))
     × ActsBySlot C command

@@ -78,13 +78,10 @@ pub record WasStopped {C : Type 0} (step : Step C) (serve : Serve C) (registered
 abbrev pub batch_at : Batches → ℕ → Batch
 batch_at plan k = batch_for (node_at plan.nodes k) (in_order plan.parts (get_or plan.places k []))
 
--- What may be a list so far has grown by these.
+-- What may be a list so far has grown by these: of batches that were sent these, one after the other,
+-- each once, and no others.
 abbrev pub Grew : {X : Type 0} → (old new : List X → Type 0) → List X → Type 0
 Grew {X} old new more = (before : List X) → old before → new (before ++ more)
-
--- These batches were sent, one after the other, each once, and no others.
-abbrev pub WereAsked : (old new : List Batch → Type 0) → List Batch → Type 0
-WereAsked old new sent = Grew old new sent
 
 -- the parts in the order in which they go out, batch after batch
 abbrev pub parts_by_batch : Batches → List Numbered → List ℕ → List Numbered
@@ -112,5 +109,5 @@ pub record HaveAnswered (old new : List (List Answer) → Type 0) (these : List 
 -- These were sent, and then this one, unless memory ran out before.
 abbrev pub WereAskedUntil : (old new : List Batch → Type 0) → List Batch → Batch → SendError → Type 0
 WereAskedUntil old new sent last error =
-    ((error ≡ Memory → ⊥) × WereAsked old new (sent ++ last ∷ []))
-    ⊎ ((error ≡ Memory) × WereAsked old new sent)
+    ((error ≡ Memory → ⊥) × Grew old new (sent ++ last ∷ []))
+    ⊎ ((error ≡ Memory) × Grew old new sent)

@@ -7,28 +7,32 @@ use Rattle.redis_cluster.specs.Trace.{Ending}
 use Rattle.redis_cluster.specs.Unsplit.{Step}
 use Rattle.redis_cluster.specs.State.{State}
 use Rattle.redis_batches.specs.Amid.{AreServedAmid}
-use Rattle.redis_batches.specs.Pipeline.{Answer, KeepsSlots, Numbered, Refusals, Serve, Task, numbered}
-use Rattle.redis_batches.specs.Driven.{Grew, HaveAnswered, WereAsked, WereAskedUntil, answers_in, batch_at, parts_by_batch}
-use Rattle.redis_batches.specs.DrivenPipeline.{AreAllTaken, AreAskedUntil, IsEarlyFault, IsLateFault, IsOneServer}
+use Rattle.redis_batches.specs.Pipeline.{Answer, KeepsSlots, Refusals, Serve, Task, numbered}
+use Rattle.redis_batches.specs.Driven.{Grew, HaveAnswered, WereAskedUntil, answers_in, batch_at, parts_by_batch}
+use Rattle.redis_batches.specs.DrivenPipeline.{AreAllTaken, AreAskedBefore, IsEarlyFault, IsOneServer, IsPipelineFault}
 use Rattle.redis_batches.specs.Placed.{Ranges}
-use Rattle.redis_batches.specs.Plan.{Batches}
 use Rattle.redis_batches.specs.Replies.{AreRepliesTo, AreUntouched}
-use Rattle.redis_batches.specs.Rounds.{AreRounds, Follows, IsAsOne, IsLast, IsRoundStopped, OwnErrorsStay, Round, after_rounds, batch_after, batches_before, by_last_answer, last_round, latest_answers, round_answers, round_batches}
+use Rattle.redis_batches.specs.Rounds.{AreRounds, Follows, IsAsOne, IsLast, IsRoundStopped, Round, StaysHere, after_rounds, batch_after, batches_before, by_last_answer, last_round, latest_answers, round_answers, round_batches}
 use Rattle.redis_batches.specs.Taken.{Batch}
 use Rattle.redis_batches.specs.Tasks.{with_slots}
 use Rattle.redis_batches.specs.declared.fault.PipelineError.{PipelineError}
 use Rattle.redis_batches.specs.declared.send.Stopped.{Stopped}
-use Rattle.redis_batches.specs.declared.fault.PipelineError.TheVariants.{Plan, BadOrder, Node, Memory}
+use Rattle.redis_batches.specs.declared.fault.PipelineError.TheVariants.{Node, Memory}
 
--- the first round: all parts of commands that mean this
-abbrev pub all_at_once : List Task → (ℕ → Address) → Batches → List Answer → Refusals → Round
-all_at_once tasks node_of batches given refusals = record {
-  sent = numbered (map with_slots tasks);
-  node_of = node_of;
-  batches = batches;
-  given = given;
-  refusals = refusals;
-}
+module _ {C : Type 0} {step : Step C} {serve : Serve C} {kept : Type 0}
+    {may_refuse : ℕ → Ending → Type 0} {registered : Registrations}
+    {is_node : ℕ → Address → Type 0} {commands : List (List (List ℕ))} {order : List ℕ}
+    {old between : State C} {given : List Answer} (taken : AreAllTaken step serve kept may_refuse
+    registered is_node commands order old between given) where
+  -- the first round: all parts of the commands
+  abbrev pub first_round : Round
+  first_round = record {
+    sent = numbered (map with_slots taken.sendable.of_commands.tasks);
+    node_of = taken.sendable.of_commands.node_of;
+    batches = taken.plan.batches;
+    given = given;
+    refusals = taken.served.refusals;
+  }
 
 module _ {C : Type 0} (step : Step C) (serve : Serve C) (kept : Type 0)
     (may_refuse : ℕ → Ending → Type 0) (registered : Registrations)
@@ -43,48 +47,34 @@ module _ {C : Type 0} (step : Step C) (serve : Serve C) (kept : Type 0)
         given
     pub rounds : List Round
     pub again : AreRounds step serve kept may_refuse registered taken.plan.batches.parts
-        (all_at_once taken.sendable.of_commands.tasks taken.sendable.of_commands.node_of
-        taken.plan.batches given taken.served.refusals) rounds between now
+        (first_round taken) rounds between now
 
 module _ {C : Type 0} {step : Step C} {serve : Serve C} {kept : Type 0}
     {may_refuse : ℕ → Ending → Type 0} {registered : Registrations}
     {is_node : ℕ → Address → Type 0} {commands : List (List (List ℕ))} {order : List ℕ}
-    {old now : State C} where
+    {old now : State C}
+    (sent : SentSoFar step serve kept may_refuse registered is_node commands order old now) where
   -- what the commands mean
-  abbrev pub tasks_sent : SentSoFar step serve kept may_refuse registered is_node commands order old now
-      → List Task
-  tasks_sent sent = sent.taken.sendable.of_commands.tasks
+  abbrev pub tasks_sent : List Task
+  tasks_sent = sent.taken.sendable.of_commands.tasks
 
   -- the batches, in the order in which they were sent
-  abbrev pub batches_sent : SentSoFar step serve kept may_refuse registered is_node commands order old now
-      → List Batch
-  batches_sent sent =
+  abbrev pub batches_sent : List Batch
+  batches_sent =
       map (batch_at sent.taken.plan.batches) order ++ flat_map round_batches sent.rounds
 
   -- and the answers to them
-  abbrev pub answers_sent : SentSoFar step serve kept may_refuse registered is_node commands order old now
-      → List (List Answer)
-  answers_sent sent =
+  abbrev pub answers_sent : List (List Answer)
+  answers_sent =
       answers_in sent.taken.plan.batches sent.given order ++ flat_map round_answers sent.rounds
 
-  -- the parts, in the order of their last answers
-  abbrev pub parts_at_last : SentSoFar step serve kept may_refuse registered is_node commands order old now
-      → List Numbered
-  parts_at_last sent =
-      by_last_answer (parts_by_batch sent.taken.plan.batches
-      (numbered (map with_slots (tasks_sent sent))) order) sent.rounds
-
   -- the last round
-  abbrev pub last_sent : SentSoFar step serve kept may_refuse registered is_node commands order old now
-      → Round
-  last_sent sent =
-      last_round (all_at_once (tasks_sent sent) sent.taken.sendable.of_commands.node_of
-      sent.taken.plan.batches sent.given sent.taken.served.refusals) sent.rounds
+  abbrev pub last_sent : Round
+  last_sent = last_round (first_round sent.taken) sent.rounds
 
   -- which parts were refused at last
-  abbrev pub refused_at_last : SentSoFar step serve kept may_refuse registered is_node commands order old now
-      → Refusals
-  refused_at_last sent = after_rounds sent.taken.served.refusals sent.rounds
+  abbrev pub refused_at_last : Refusals
+  refused_at_last = after_rounds sent.taken.served.refusals sent.rounds
 
 module _ {C : Type 0} (step : Step C) (serve : Serve C) (kept : Type 0)
     (may_refuse : ℕ → Ending → Type 0) (registered : Registrations)
@@ -96,7 +86,7 @@ module _ {C : Type 0} (step : Step C) (serve : Serve C) (kept : Type 0)
   pub record WereSent : Type 0 where
     pub so_far : SentSoFar step serve kept may_refuse registered is_node commands order old new
     pub few : length so_far.rounds ≤ retries
-    pub asked : WereAsked asked_old asked_new (batches_sent so_far)
+    pub asked : Grew asked_old asked_new (batches_sent so_far)
     pub long : length so_far.given ≡ length so_far.taken.plan.batches.parts
     pub gave : Grew gave_old gave_new (answers_sent so_far)
 
@@ -113,14 +103,16 @@ module _ {C : Type 0} (step : Step C) (serve : Serve C) (kept : Type 0)
     pub latest : answers ≡ latest_answers sent.so_far.given sent.so_far.rounds
     pub replies_are : AreRepliesTo (tasks_sent sent.so_far) answers replies
     pub amid : AreServedAmid C (tasks_sent sent.so_far) answers replies
-    pub in_turn : KeepsSlots (map with_slots (tasks_sent sent.so_far)) (parts_at_last sent.so_far)
-    pub as_one : kept → OwnErrorsStay serve (tasks_sent sent.so_far)
+    pub in_turn : KeepsSlots (map with_slots (tasks_sent sent.so_far))
+        (by_last_answer (parts_by_batch sent.so_far.taken.plan.batches
+        (numbered (map with_slots (tasks_sent sent.so_far))) order) sent.so_far.rounds)
+    pub as_one : kept → All (StaysHere serve) (tasks_sent sent.so_far)
         → IsAsOne step serve (map with_slots (tasks_sent sent.so_far)) (refused_at_last sent.so_far)
         old.keyspace new.keyspace answers
-    pub untouched : kept → OwnErrorsStay serve (tasks_sent sent.so_far)
+    pub untouched : kept → All (StaysHere serve) (tasks_sent sent.so_far)
         → AreUntouched step serve (refused_at_last sent.so_far) (tasks_sent sent.so_far) old.keyspace
         replies
-    pub one_server : kept → OwnErrorsStay serve (tasks_sent sent.so_far)
+    pub one_server : kept → All (StaysHere serve) (tasks_sent sent.so_far)
         → All (λ x. refused_at_last sent.so_far x ≡ None)
         (numbered (map with_slots (tasks_sent sent.so_far)))
         → IsOneServer step serve registered commands old new replies
@@ -144,12 +136,10 @@ module _ {C : Type 0} (step : Step C) (serve : Serve C) (kept : Type 0)
 
   -- why there are no replies
   abbrev pub IsRoundsFault : Ranges → PipelineError → Type 0
-  IsRoundsFault ranges (Plan fault) =
-      IsEarlyFault registered ranges is_node commands order (Plan fault)
-  IsRoundsFault ranges BadOrder = IsEarlyFault registered ranges is_node commands order BadOrder
   IsRoundsFault ranges (Node stop) =
-      (IsLateFault step serve kept may_refuse registered is_node commands order old new (Node stop)
-      × AreAskedUntil registered is_node commands order asked_old asked_new (Node stop)
+      (IsPipelineFault step serve kept may_refuse registered is_node commands order old new ranges
+      (Node stop) × AreAskedBefore registered is_node commands order asked_old asked_new stop
       × HaveAnswered gave_old gave_new [] stop.answered)
       ⊎ StoppedInRounds stop
   IsRoundsFault ranges Memory = WereSent
+  IsRoundsFault ranges fault = IsEarlyFault registered ranges is_node commands order fault

@@ -1,6 +1,5 @@
 -- How a pipeline was sent batch by batch, and its replies.
 use Rattle.std.specs.Prelude.{◌≡◌, ◌<◌, ◌⊎◌, ℕ, List, [], Bool, true, map, length, take, get_or}
-use Rattle.std.specs.List.{All}
 use Rattle.cluster_slots.specs.Address.{Address}
 use Rattle.redis_routing.specs.Registry.{Registrations}
 use Rattle.redis_cluster.specs.Orders.{NamesOnce}
@@ -8,38 +7,33 @@ use Rattle.redis_cluster.specs.Trace.{Ending}
 use Rattle.redis_cluster.specs.Unsplit.{Step}
 use Rattle.redis_cluster.specs.State.{State}
 use Rattle.redis_batches.specs.Amid.{AreServedAmid}
-use Rattle.redis_batches.specs.Turns.{all_after}
-use Rattle.redis_batches.specs.Pipeline.{Answer, Serve, Task, one_server_answers, run}
+use Rattle.redis_batches.specs.Turns.{all_after, answers}
+use Rattle.redis_batches.specs.Pipeline.{Answer, Serve, Task, run}
 use Rattle.redis_batches.specs.Tasks.{AreTasksOf, with_slots}
-use Rattle.redis_batches.specs.Batched.{AreBatches}
-use Rattle.redis_batches.specs.Driven.{AreInTurn, Grew, HaveAnswered, IsServed, WasStopped, WereAsked, WereAskedUntil, answers_in, batch_at, node_at}
+use Rattle.redis_batches.specs.Driven.{AreInTurn, Grew, HaveAnswered, IsServed, WasStopped, WereAskedUntil, answers_in, batch_at}
 use Rattle.redis_batches.specs.Placed.{Ranges}
-use Rattle.redis_batches.specs.PipelinePlan.{IsPlanFault, IsPlanOfCommands, PipelineBatches, pieces_of}
+use Rattle.redis_batches.specs.Plan.{batch_of}
+use Rattle.redis_batches.specs.PipelinePlan.{IsPlanFault, IsPlanOfCommands, PipelineBatches}
 use Rattle.redis_batches.specs.Replies.{AreRepliesTo, AreUntouched}
 use Rattle.redis_batches.specs.Taken.{Batch}
 use Rattle.redis_cluster.specs.declared.nodes.SendError.TheVariants as sent
+use Rattle.redis_batches.specs.declared.send.Stopped.{Stopped}
 use Rattle.redis_batches.specs.declared.fault.PipelineError.{PipelineError}
 use Rattle.redis_batches.specs.declared.fault.PipelineError.TheVariants.{Plan, BadOrder, Node, Memory}
 
--- A plan of commands can be sent in an order that names each of its batches once. The batch of a
--- slot goes to the node of the slot.
+-- A plan of commands can be sent in an order that names each of its batches once.
 pub record IsSendable (registered : Registrations) (is_node : ℕ → Address → Type 0)
     (commands : List (List (List ℕ))) (order : List ℕ) (plan : PipelineBatches) : Type 0 where
   pub of_commands : IsPlanOfCommands registered is_node commands plan
   pub order_is : NamesOnce (length plan.batches.places) order
-  pub batches : AreBatches registered (map with_slots of_commands.tasks) plan.batches.parts
-      plan.batches.places
-  pub nodes : All
-      (λ q. node_at plan.batches.nodes (batches.batch q.slot) ≡ of_commands.node_of q.slot)
-      (pieces_of of_commands.tasks)
 
 -- One server takes the commands one after the other: keyspace and replies are its own.
 abbrev pub IsOneServer : {C : Type 0} → Step C → Serve C → Registrations → List (List (List ℕ))
     → (old new : State C) → List Answer → Type 0
 IsOneServer step serve registered commands old new replies =
     (tasks : List Task) × AreTasksOf registered commands tasks
-    × (new.keyspace ≡ all_after (λ p. run step serve p.task) (map with_slots tasks) old.keyspace)
-    × (replies ≡ one_server_answers step serve (map with_slots tasks) old.keyspace)
+    × (new.keyspace ≡ all_after (run step serve) tasks old.keyspace)
+    × (replies ≡ map (λ a. a.1) (answers (run step serve) tasks old.keyspace))
 
 -- why nothing is sent: there is no plan, or the order does not name each of its batches once
 abbrev pub IsEarlyFault : Registrations → Ranges → (ℕ → Address → Type 0)
@@ -49,8 +43,7 @@ IsEarlyFault registered ranges is_node commands order (Plan fault) =
 IsEarlyFault registered ranges is_node commands order BadOrder =
     (plan : PipelineBatches) × IsPlanOfCommands registered is_node commands plan
     × (NamesOnce (length plan.batches.places) order → ⊥)
-IsEarlyFault registered ranges is_node commands order (Node stop) = ⊥
-IsEarlyFault registered ranges is_node commands order Memory = ⊥
+IsEarlyFault registered ranges is_node commands order _ = ⊥
 
 module _ {C : Type 0} (step : Step C) (serve : Serve C) (kept : Type 0)
     (may_refuse : ℕ → Ending → Type 0) (registered : Registrations)
@@ -61,7 +54,8 @@ module _ {C : Type 0} (step : Step C) (serve : Serve C) (kept : Type 0)
     pub plan : PipelineBatches
     pub sendable : IsSendable registered is_node commands order plan
     pub served : IsServed step serve kept may_refuse (map with_slots sendable.of_commands.tasks)
-        plan.batches.parts plan.batches.nodes sendable.batches.batch order old new given
+        plan.batches.parts plan.batches.nodes
+        (batch_of sendable.of_commands.node_of plan.batches) order old new given
 
   -- And these are the replies to the commands. If nodes keep to the meaning, a command with no refused
   -- part has the reply of one server. It takes the parts that were not refused.
@@ -72,41 +66,37 @@ module _ {C : Type 0} (step : Step C) (serve : Serve C) (kept : Type 0)
     pub untouched : kept → AreUntouched step serve taken.served.refusals
         taken.sendable.of_commands.tasks old.keyspace replies
 
-  -- all batches before the one that was not taken were taken, or all batches were
-  abbrev pub IsLateFault : PipelineError → Type 0
-  IsLateFault (Plan fault) = ⊥
-  IsLateFault BadOrder = ⊥
-  IsLateFault (Node stop) =
+  -- Why there are no replies. All batches before the one that was not taken were taken, or all
+  -- batches were.
+  abbrev pub IsPipelineFault : Ranges → PipelineError → Type 0
+  IsPipelineFault ranges (Node stop) =
       (plan : PipelineBatches) × (sendable : IsSendable registered is_node commands order plan)
       × (stop.answered < length order) × (stop.rounds ≡ 0)
       × WasStopped step serve registered kept may_refuse (map with_slots sendable.of_commands.tasks)
-      plan.batches.parts plan.batches.nodes sendable.batches.batch order old new stop.answered
-      stop.error
-  IsLateFault Memory = (given : List Answer) × AreAllTaken given
-
-  -- why there are no replies
-  abbrev pub IsPipelineFault : Ranges → PipelineError → Type 0
-  IsPipelineFault ranges (Plan fault) = IsEarlyFault registered ranges is_node commands order (Plan fault)
-  IsPipelineFault ranges BadOrder = IsEarlyFault registered ranges is_node commands order BadOrder
-  IsPipelineFault ranges (Node stop) = IsLateFault (Node stop)
-  IsPipelineFault ranges Memory = IsLateFault Memory
+      plan.batches.parts plan.batches.nodes (batch_of sendable.of_commands.node_of plan.batches)
+      order old new stop.answered stop.error
+  IsPipelineFault ranges Memory = (given : List Answer) × AreAllTaken given
+  IsPipelineFault ranges fault = IsEarlyFault registered ranges is_node commands order fault
 
 module _ (registered : Registrations) (is_node : ℕ → Address → Type 0)
     (commands : List (List (List ℕ))) (order : List ℕ) (old new : List Batch → Type 0) where
   -- Each batch of a plan of the commands was sent once, in the order given, and no other was.
   abbrev pub AreAllAsked : Type 0
   AreAllAsked = (plan : PipelineBatches) × IsSendable registered is_node commands order plan
-      × WereAsked old new (map (batch_at plan.batches) order)
+      × Grew old new (map (batch_at plan.batches) order)
 
   -- So were the batches up to the one that was not taken.
-  abbrev pub AreAskedUntil : PipelineError → Type 0
-  AreAskedUntil (Plan fault) = Unit {0}
-  AreAskedUntil BadOrder = Unit {0}
-  AreAskedUntil (Node stop) =
+  abbrev pub AreAskedBefore : Stopped → Type 0
+  AreAskedBefore stop =
       (plan : PipelineBatches) × IsSendable registered is_node commands order plan
       × WereAskedUntil old new (map (batch_at plan.batches) (take stop.answered order))
       (batch_at plan.batches (get_or order stop.answered 0)) stop.error
+
+  -- what was sent if there are no replies
+  abbrev pub AreAskedUntil : PipelineError → Type 0
+  AreAskedUntil (Node stop) = AreAskedBefore stop
   AreAskedUntil Memory = AreAllAsked
+  AreAskedUntil _ = Unit {0}
 
 module _ (registered : Registrations) (is_node : ℕ → Address → Type 0)
     (commands : List (List (List ℕ))) (order : List ℕ) (asked_old asked_new : List Batch → Type 0)
@@ -117,7 +107,7 @@ module _ (registered : Registrations) (is_node : ℕ → Address → Type 0)
   pub record AreAllGiven (given : List Answer) : Type 0 where
     pub plan : PipelineBatches
     pub sendable : IsSendable registered is_node commands order plan
-    pub asked : WereAsked asked_old asked_new (map (batch_at plan.batches) order)
+    pub asked : Grew asked_old asked_new (map (batch_at plan.batches) order)
     pub in_turn : AreInTurn plan.batches (map with_slots sendable.of_commands.tasks) order
     pub long : length given ≡ length plan.batches.parts
     pub gave : Grew gave_old gave_new (answers_in plan.batches given order)
@@ -134,21 +124,18 @@ module _ (registered : Registrations) (is_node : ℕ → Address → Type 0)
   -- What the nodes gave if there are no replies: the answers to the batches before the one that was not
   -- taken, or to all.
   abbrev pub AreGivenUntil : PipelineError → Type 0
-  AreGivenUntil (Plan fault) = Unit {0}
-  AreGivenUntil BadOrder = Unit {0}
   AreGivenUntil (Node stop) = HaveAnswered gave_old gave_new [] stop.answered
   AreGivenUntil Memory = (given : List Answer) × AreAllGiven given
+  AreGivenUntil _ = Unit {0}
 
 -- memory ran out: at the nodes, as the mark says, or here
 abbrev pub IsWantOfMemory : Bool → PipelineError → Type 0
-IsWantOfMemory mark (Plan fault) = ⊥
-IsWantOfMemory mark BadOrder = ⊥
 IsWantOfMemory mark (Node stop) = (stop.error ≡ sent.Memory) ⊎ (mark ≡ true)
 IsWantOfMemory mark Memory = Unit {0}
+IsWantOfMemory mark _ = ⊥
 
 -- nothing was sent
 abbrev pub IsBeforeSending : PipelineError → Type 0
-IsBeforeSending (Plan fault) = Unit {0}
-IsBeforeSending BadOrder = Unit {0}
 IsBeforeSending (Node stop) = ⊥
 IsBeforeSending Memory = ⊥
+IsBeforeSending _ = Unit {0}

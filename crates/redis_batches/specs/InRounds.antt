@@ -7,9 +7,9 @@ use Rattle.redis_routing.specs.Registry.{Registrations}
 use Rattle.redis_cluster.specs.State.{State}
 use Rattle.redis_cluster.specs.Trace.{Ending}
 use Rattle.redis_cluster.specs.Unsplit.{Keyspace, Step}
-use Rattle.redis_batches.specs.Driven.{Grew, HaveAnswered, WereAsked, WereAskedUntil}
+use Rattle.redis_batches.specs.Driven.{Grew, HaveAnswered, WereAskedUntil}
 use Rattle.redis_batches.specs.Pipeline.{Answer, Planned, Refusals, Serve, ended}
-use Rattle.redis_batches.specs.Rounds.{AreRounds, Follows, IsAsOne, IsLast, IsRoundStopped, OwnErrorsStay, Round, after_rounds, batch_after, batches_before, last_round, latest_answers, round_answers, round_batches}
+use Rattle.redis_batches.specs.Rounds.{AreRounds, Follows, IsAsOne, IsLast, IsRoundStopped, Round, after_rounds, batch_after, batches_before, last_round, latest_answers, round_answers, round_batches, StaysHere}
 use Rattle.redis_batches.specs.Taken.{Batch, answer_of}
 use Rattle.redis_batches.specs.Turns.{answers}
 use Rattle.redis_batches.specs.declared.fault.PipelineError.{PipelineError}
@@ -43,11 +43,11 @@ module _ {C : Type 0} (step : Step C) (serve : Serve C) (kept : Type 0)
     pub rounds : List Round
     pub few : length rounds ≤ retries
     pub again : AreRounds step serve kept may_refuse registered arguments round rounds old new
-    pub asked : WereAsked asked_old asked_new (flat_map round_batches rounds)
+    pub asked : Grew asked_old asked_new (flat_map round_batches rounds)
     pub gave : Grew gave_old gave_new (flat_map round_answers rounds)
     pub done : (length rounds ≡ retries) ⊎ IsLast (last_round round rounds)
     pub latest : map answer_of after ≡ latest_answers (map answer_of before) rounds
-    pub as_one : kept → OwnErrorsStay serve (map (λ p. p.task) ps) → (start : Keyspace C) (refusals : Refusals)
+    pub as_one : kept → All (StaysHere serve) (map (λ p. p.task) ps) → (start : Keyspace C) (refusals : Refusals)
         → Stands step serve ps refusals round start old.keyspace before
         → IsAsOne step serve ps (after_rounds refusals rounds) start new.keyspace (map answer_of after)
 
@@ -69,5 +69,5 @@ module _ {C : Type 0} (step : Step C) (serve : Serve C) (kept : Type 0)
   IsAgainFault asked_old asked_new gave_old gave_new Memory =
       (rounds : List Round) × (length rounds ≤ retries)
       × AreRounds step serve kept may_refuse registered arguments round rounds old new
-      × WereAsked asked_old asked_new (flat_map round_batches rounds)
+      × Grew asked_old asked_new (flat_map round_batches rounds)
       × Grew gave_old gave_new (flat_map round_answers rounds)

@@ -13,7 +13,7 @@ use Rattle.redis_cluster.specs.Trace.{Ending}
 use Rattle.redis_cluster.specs.Unsplit.{Step}
 use Rattle.redis_batches.specs.Batched.{AreFor, IsRight, put_at}
 use Rattle.redis_batches.specs.Chosen.{has_slot}
-use Rattle.redis_batches.specs.Driven.{Grew, HaveAnswered, WereAsked, WereAskedUntil}
+use Rattle.redis_batches.specs.Driven.{Grew, HaveAnswered, WereAskedUntil}
 use Rattle.redis_batches.specs.Pipeline.{Answer, AreSlotsOf, Planned, Serve, numbered, pieces, slot_of}
 use Rattle.redis_batches.specs.Rounds.{AreSentOn, Follows, IsRoundServed, IsRoundStopped, IsSentOn, Round, batch_after, batches_before, go_on, goes_to, is_settled, round_answers, round_batches}
 use Rattle.redis_batches.specs.Sent.{AreApart, AreLast}
@@ -86,7 +86,7 @@ module _ {C : Type 0} (step : Step C) (serve : Serve C) (kept : Type 0)
     pub next : Round
     pub follows : Follows round next
     pub served : IsRoundServed step serve kept may_refuse registered arguments next old new
-    pub asked : WereAsked asked_old asked_new (round_batches next)
+    pub asked : Grew asked_old asked_new (round_batches next)
     pub gave : Grew gave_old gave_new (round_answers next)
     pub replies : List (Result Value ErrorParts)
     pub put : ArePutAt next replies before after
@@ -103,8 +103,8 @@ module _ {C : Type 0} (step : Step C) (serve : Serve C) (kept : Type 0)
       (batch_after next stop.answered) stop.error
       × HaveAnswered gave_old gave_new [] stop.answered
   IsNextFault asked_old asked_new gave_old gave_new Memory =
-      ((new ≡ old) × WereAsked asked_old asked_new [] × Grew gave_old gave_new [])
+      ((new ≡ old) × Grew asked_old asked_new [] × Grew gave_old gave_new [])
       ⊎ ((next : Round) × Follows round next
       × IsRoundServed step serve kept may_refuse registered arguments next old new
-      × WereAsked asked_old asked_new (round_batches next)
+      × Grew asked_old asked_new (round_batches next)
       × Grew gave_old gave_new (round_answers next))

@@ -1,5 +1,5 @@
 -- What a pipeline means: one server takes its commands one after the other.
-use Rattle.std.specs.Prelude.{◌≡◌, ◌≤◌, ℕ, List, [], ◌∷◌, ◌++◌, filter, length, map, Option, None, Some, is_none, Bool, Result, Ok, Err}
+use Rattle.std.specs.Prelude.{◌≡◌, ◌≤◌, ℕ, List, [], ◌∷◌, ◌++◌, map, Option, None, Some, Result, Ok, Err}
 use Rattle.std.specs.List.{All, enumerate_from}
 use Rattle.cluster_slots.specs.KeySlot.{key_slot}
 use Rattle.resp_core.specs.ErrorParts.{ErrorParts}
@@ -9,7 +9,7 @@ use Rattle.redis_cluster.specs.Orders.{times}
 use Rattle.redis_cluster.specs.SlotItems.{items_of_slot}
 use Rattle.redis_cluster.specs.Unsplit.{Step, Keyspace, keyspace_after, reply_to, reply_by, results_of}
 use Rattle.redis_batches.specs.Served.{Effect, in_shelf}
-use Rattle.redis_batches.specs.Turns.{all_after, answers, of_slot}
+use Rattle.redis_batches.specs.Turns.{answers, of_slot}
 
 -- what a command answers: a reply, or an error of its own, such as that of a wrong type
 abbrev pub Answer : Type 0
@@ -80,10 +80,6 @@ module _ {C : Type 0} (step : Step C) (serve : Serve C) where
   piece_answers (p ∷ ps) keyspace =
       map (part_answer p.task keyspace) p.slots ++ piece_answers ps (run step serve p.task keyspace).keys
 
-  -- what one server answers to the commands, one after the other
-  abbrev pub one_server_answers : List Planned → Keyspace C → List Answer
-  one_server_answers ps keyspace = map (λ a. a.1) (answers (λ p. run step serve p.task) ps keyspace)
-
 -- a part beside its number in the pipeline
 abbrev pub Numbered : Type 0
 Numbered = ℕ × Part
@@ -91,10 +87,6 @@ Numbered = ℕ × Part
 -- the parts of a pipeline beside their numbers, counted from 0
 abbrev pub numbered : List Planned → List Numbered
 numbered ps = enumerate_from 0 (pieces ps)
-
--- the parts of a command after others, beside their numbers in the pipeline
-abbrev pub numbered_behind : List Planned → Planned → List Numbered
-numbered_behind before p = enumerate_from (length (pieces before)) (parts_of p)
 
 -- the slot of a numbered part
 abbrev pub slot_of : Numbered → ℕ
@@ -119,36 +111,16 @@ abbrev pub refused_by : {C : Type 0} → Option ErrorParts → Effect C Answer �
 refused_by None effect = effect
 refused_by (Some error) effect = λ keyspace. record { keys = keyspace; reply = Err error }
 
--- whether it was not refused
-abbrev pub is_taken : Refusals → Numbered → Bool
-is_taken refusals x = is_none (refusals x)
-
 module _ {C : Type 0} (step : Step C) (serve : Serve C) where
-  -- what a part does
-  abbrev pub piece : Part → Effect C Answer
-  piece p = run step serve p.task
-
-  abbrev pub piece_of : Numbered → Effect C Answer
-  piece_of x = piece x.1
-
   -- what a part does that may be refused
   abbrev pub ended : Refusals → Numbered → Effect C Answer
-  ended refusals x = refused_by (refusals x) (piece_of x)
+  ended refusals x = refused_by (refusals x) (run step serve x.1.task)
 
   -- what the parts of a pipeline answer, of which some were refused
   abbrev pub ended_answers : Refusals → List Planned → Keyspace C → List Answer
   ended_answers refusals ps keyspace =
       map (λ a. a.1) (answers (ended refusals) (numbered ps) keyspace)
 
-  -- the keyspace after the parts that were not refused, one after the other
-  abbrev pub after_taken : Refusals → List Planned → Keyspace C → Keyspace C
-  after_taken refusals ps keyspace =
-      all_after piece_of (filter (is_taken refusals) (numbered ps)) keyspace
-
--- a command of a batch, and the error that it was refused with, if it was
-abbrev pub Ended : Type 0
-Ended = Task × Option ErrorParts
-
-module _ {C : Type 0} (step : Step C) (serve : Serve C) where
-  abbrev pub run_ended : Ended → Effect C Answer
+  -- what a command does beside the error that it was refused with, if it was
+  abbrev pub run_ended : Task × Option ErrorParts → Effect C Answer
   run_ended x = refused_by x.1 (run step serve x.0)

@@ -1,14 +1,14 @@
 -- The plan of a pipeline over commands.
 use Rattle.std.specs.Prelude.{◌≡◌, ℕ, List, Option, Some, map, length}
-use Rattle.std.specs.List.{All, sum_by}
+use Rattle.std.specs.List.{All, flat_map, sum_by, zip}
 use Rattle.cluster_slots.specs.Address.{Address}
 use Rattle.redis_routing.specs.Registry.{Registrations}
 use Rattle.redis_routing.specs.Split.{Split}
 use Rattle.redis_batches.specs.Pipeline.{Part, Task, pieces}
 use Rattle.redis_batches.specs.Taken.{task_of}
-use Rattle.redis_batches.specs.Tasks.{AreTasksOf, all_arguments, slots_of_task, with_slots}
+use Rattle.redis_batches.specs.Tasks.{AreTasksOf, part_arguments, slots_of_task, with_slots}
 use Rattle.redis_batches.specs.Pipelined.{IsFirstMeaningless}
-use Rattle.redis_batches.specs.Placed.{IsFirstUncovered, Ranges}
+use Rattle.redis_batches.specs.Placed.{IsFirstWithoutNode, Ranges}
 use Rattle.redis_batches.specs.Plan.{Batches, IsByNode}
 use Rattle.redis_batches.specs.Replies.{part_count}
 use Rattle.redis_batches.specs.declared.fault.PipelineFault.{PipelineFault}
@@ -39,7 +39,8 @@ pub record IsPlanOfCommands (registered : Registrations) (is_node : ℕ → Addr
   pub tasks_are : AreTasksOf registered commands tasks
   pub parts_are : map (task_of registered) plan.batches.parts
       ≡ map (λ q. Some q.task) (pieces_of tasks)
-  pub arguments : map (map Some) plan.batches.parts ≡ all_arguments registered commands tasks
+  pub arguments : map (map Some) plan.batches.parts
+      ≡ flat_map (λ x. part_arguments registered x.0 x.1) (zip commands tasks)
   pub node_of : ℕ → Address
   pub nodes_are : All (λ q. is_node q.slot (node_of q.slot)) (pieces_of tasks)
   pub by_node : IsByNode plan.batches (map (λ q. node_of q.slot) (pieces_of tasks))
@@ -52,5 +53,5 @@ IsPlanFault registered ranges commands (NotRoutable number) =
     IsFirstMeaningless registered commands number
 IsPlanFault registered ranges commands (NotCovered number slot) =
     (tasks : List Task) × AreTasksOf registered commands tasks
-    × IsFirstUncovered ranges (map slots_of_task tasks) number slot
+    × IsFirstWithoutNode ranges (map slots_of_task tasks) number slot
 IsPlanFault registered ranges commands Memory = Unit {0}

@@ -1,5 +1,5 @@
 -- The parts of commands, and the node of each.
-use Rattle.std.specs.Prelude.{◌≡◌, ◌++◌, ◌∷◌, ℕ, List, Some, map, take, slice_get}
+use Rattle.std.specs.Prelude.{◌≡◌, ◌++◌, ◌∷◌, ℕ, List, [], Some, map, take, slice_get}
 use Rattle.std.specs.List.{All, AllZip}
 use Rattle.cluster_slots.specs.Address.{Address}
 use Rattle.cluster_map.specs.SlotNodes.{SlotNodes}
@@ -24,22 +24,16 @@ pub record ArePlaced (is_node : ℕ → Address → Type 0) (of : List SlotPart)
   pub parts_are : map (map Some) parts ≡ map (λ part. part.1) of
   pub nodes_are : AllZip (λ part node. is_node part.0 node) of nodes
 
--- Of these slots this is the first that no range holds for.
-pub record IsFirstWithout (ranges : Ranges) (slots : List ℕ) (slot : ℕ) : Type 0 where
-  pub before : List ℕ
-  pub rest : List ℕ
-  pub slots_are : slots ≡ before ++ slot ∷ rest
-  pub covered : All (IsCovered ranges) before
-  pub uncovered : IsUncovered ranges slot
-
 -- Of the slots of commands, command by command, this one of this command is the first that no range
 -- holds for.
-pub record IsFirstUncovered (ranges : Ranges) (slots : List (List ℕ)) (number slot : ℕ)
+pub record IsFirstWithoutNode (ranges : Ranges) (slots : List (List ℕ)) (number slot : ℕ)
     : Type 0 where
-  pub covered : All (All (IsCovered ranges)) (take number slots)
-  pub own : List ℕ
-  pub own_are : slice_get slots number ≡ Some own
-  pub first : IsFirstWithout ranges own slot
+  pub earlier : All (All (IsCovered ranges)) (take number slots)
+  pub before : List ℕ
+  pub rest : List ℕ
+  pub own : slice_get slots number ≡ Some (before ++ slot ∷ rest)
+  pub covered : All (IsCovered ranges) before
+  pub uncovered : IsUncovered ranges slot
 
 -- why a part of the command of this number, which keeps to this slot, can't be placed
 abbrev pub IsSlotFault : Ranges → ℕ → ℕ → PipelineFault → Type 0
@@ -52,11 +46,11 @@ IsSlotFault ranges slot number Memory = Unit {0}
 abbrev pub IsOwnFault : Ranges → List ℕ → ℕ → PipelineFault → Type 0
 IsOwnFault ranges slots number (NotRoutable other) = ⊥
 IsOwnFault ranges slots number (NotCovered other slot) =
-    (other ≡ number) × IsFirstWithout ranges slots slot
+    (other ≡ number) × IsFirstWithoutNode ranges (slots ∷ []) 0 slot
 IsOwnFault ranges slots number Memory = Unit {0}
 
 -- why the parts of commands that have these slots can't be placed
 abbrev pub IsPartFault : Ranges → List (List ℕ) → PipelineFault → Type 0
 IsPartFault ranges slots (NotRoutable number) = ⊥
-IsPartFault ranges slots (NotCovered number slot) = IsFirstUncovered ranges slots number slot
+IsPartFault ranges slots (NotCovered number slot) = IsFirstWithoutNode ranges slots number slot
 IsPartFault ranges slots Memory = Unit {0}

@@ -5,7 +5,7 @@ use Rattle.resp_core.specs.ErrorParts.{ErrorParts}
 use Rattle.resp_core.specs.declared.value.Value.{Value}
 use Rattle.cluster_slots.specs.Address.{Address}
 use Rattle.cluster_map.specs.EachOnce.{each_once}
-use Rattle.redis_batches.specs.Grouped.{AreNumbered, places_in}
+use Rattle.redis_batches.specs.Grouped.{AreNumbered, index_of, places_in}
 
 -- the node of each batch, the numbers of its parts, and whether it has its answers; the parts, and
 -- the answer to each, which is nil until its batch has its answers
@@ -31,6 +31,10 @@ pub record IsByNode (batches : Batches) (nodes : List Address) : Type 0 where
   pub each : length batches.places ≡ length batches.nodes
   pub places : (k : ℕ) → k < length batches.nodes
       → slice_get batches.places k ≡ Some (places_in numbers k)
+
+-- The number of a slot's batch: that of the slot's node among the nodes of the batches.
+abbrev pub batch_of : (ℕ → Address) → Batches → ℕ → ℕ
+batch_of node_of batches = λ slot. index_of (node_of slot) batches.nodes
 
 -- There are as many batches as the parts have different nodes: each part has the node of its batch,
 -- and the batches have these nodes each once.

@@ -3,12 +3,10 @@ use Rattle.std.specs.Prelude.{ℕ, Bool, false, not, cond, List, [], Option, Som
 use Rattle.std.specs.List.{flat_map, list_any}
 use Rattle.std.specs.Option.{option_map_or}
 use Rattle.cluster_slots.specs.Address.{Address}
-use Rattle.cluster_slots.specs.SlotRoute.{SlotRoute}
 use Rattle.cluster_map.specs.Candidates.{Candidates}
 use Rattle.cluster_map.specs.RouteNode.{IsRouteNode}
 use Rattle.redis_routing.specs.Command.{command_name}
 use Rattle.redis_routing.specs.Names.{Names}
-use Rattle.redis_routing.specs.Registry.{Registrations}
 use Rattle.redis_routing.specs.Routing.{nodes_for}
 use Rattle.redis_batches.specs.Placed.{Ranges}
 use Rattle.redis_batches.specs.Taken.{task_of}
@@ -18,27 +16,21 @@ use Rattle.redis_batches.specs.Tasks.{slots_of_task}
 abbrev pub only_reads : (List ℕ → Bool) → List (List ℕ) → Bool
 only_reads reads args = option_map_or reads (command_name (map Some args)) false
 
--- the slots of a command of a pipeline
-abbrev pub slots_of_command : Registrations → List (List ℕ) → List ℕ
-slots_of_command registered args = option_map_or slots_of_task (task_of registered args) []
-
 -- the slots that a command may write to: none if it only reads
 abbrev pub slots_written : Names → List (List ℕ) → List ℕ
 slots_written names args =
-    cond (only_reads names.only_reads args) [] (slots_of_command names.registered args)
+    cond (only_reads names.only_reads args) []
+    (option_map_or slots_of_task (task_of names.registered args) [])
 
 -- whether a command of the pipeline may write to this slot
 abbrev pub is_written : Names → List (List (List ℕ)) → ℕ → Bool
 is_written names commands slot =
     list_any (λ other. nat_eq other slot) (flat_map (slots_written names) commands)
 
--- The route of a slot in a pipeline. Where all of its commands only read, a replica may serve it.
-abbrev pub pipeline_route : Names → List (List (List ℕ)) → ℕ → SlotRoute
-pipeline_route names commands slot =
-    record { slot = slot; addr = nodes_for (not (is_written names commands slot)) }
-
--- the node of a slot in a pipeline: one that its route has by the map and the strategy
+-- The node of a slot in a pipeline: one that its route has by the map and the strategy. If all of the
+-- slot's commands only read, a replica may serve it.
 abbrev pub IsSlotNode : {S : Type 0} → Option S → (S → Candidates → Address → Type 0) → Ranges
     → Names → List (List (List ℕ)) → ℕ → Address → Type 0
 IsSlotNode strategy picks_of ranges names commands slot address =
-    IsRouteNode strategy picks_of ranges 0 (pipeline_route names commands slot) address
+    IsRouteNode strategy picks_of ranges 0
+    (record { slot = slot; addr = nodes_for (not (is_written names commands slot)) }) address

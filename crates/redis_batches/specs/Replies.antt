@@ -1,6 +1,7 @@
 -- The reply to each command of a pipeline, by the answers to its parts.
-use Rattle.std.specs.Prelude.{◌≡◌, ℕ, List, [], ◌∷◌, ◌++◌, Option, None, Some, Result, Ok, Err, map, length, take, drop, slice_get}
-use Rattle.std.specs.List.{All}
+use Rattle.std.specs.Prelude.{◌≡◌, ℕ, List, [], ◌∷◌, ◌++◌, Option, None, Some, Result, Ok, Err, MatchResult, map, length, take, drop, slice_get}
+use Rattle.std.specs.Result.{result_map_both}
+use Rattle.std.specs.List.{All, enumerate_from}
 use Rattle.std.specs.declared.alloc.Global.{Global}
 use Rattle.std.specs.declared.vec.Vec.{Vec}
 use Rattle.resp_core.specs.ErrorParts.{ErrorParts}
@@ -11,22 +12,19 @@ use Rattle.resp_core.specs.declared.value.Value.{Value}
 use Rattle.redis_routing.specs.Registry.{Registrations}
 use Rattle.redis_routing.specs.Split.{Split}
 use Rattle.redis_cluster.specs.Joined.{IsOutcome}
-use Rattle.redis_cluster.specs.MultiKey.{MultiKey, slots_in}
+use Rattle.redis_cluster.specs.MultiKey.{slots_in}
 use Rattle.redis_cluster.specs.Plan.{IsMadeOfParts}
 use Rattle.redis_cluster.specs.Unsplit.{Step, Keyspace}
-use Rattle.redis_batches.specs.Pipeline.{Answer, Refusals, Serve, Task, in_slot, over_keys, after_taken, numbered_behind, run}
+use Rattle.redis_batches.specs.Pipeline.{Answer, Refusals, Serve, Task, in_slot, over_keys, run, ended, numbered, parts_of, pieces}
+use Rattle.redis_batches.specs.Turns.{all_after}
 use Rattle.redis_batches.specs.Taken.{answer_of}
 use Rattle.redis_batches.specs.Tasks.{AreSplitsOf, IsSplitAs, slots_of_task, with_slots}
-
--- one reply more in front, unless there was an error
-abbrev pub with_reply : Reply → Result (List Reply) ErrorParts → Result (List Reply) ErrorParts
-with_reply reply (Ok replies) = Ok (reply ∷ replies)
-with_reply reply (Err error) = Err error
 
 -- the replies among some answers, or else the first error
 abbrev pub all_replies : List Answer → Result (List Reply) ErrorParts
 all_replies [] = Ok []
-all_replies (Ok reply ∷ answers) = with_reply reply (all_replies answers)
+all_replies (Ok reply ∷ answers) =
+    result_map_both (λ replies. reply ∷ replies) (λ error. error) (all_replies answers)
 all_replies (Err error ∷ answers) = Err error
 
 -- the values that were found, as replies, or the error
@@ -49,19 +47,16 @@ abbrev pub IsSplitReply : Split → Result (List Reply) ErrorParts → Answer �
 IsSplitReply split (Ok replies) answer = IsMadeOfParts split replies (as_outcome answer)
 IsSplitReply split (Err error) answer = answer ≡ Err error
 
--- the reply to a command over many keys, by those to its parts, or the first error among the answers
-abbrev pub IsReplyByParts : MultiKey → Result (List Reply) ErrorParts → Answer → Type 0
-IsReplyByParts command (Ok replies) answer =
-    IsOutcome command.tuples (slots_in command) replies command.form (as_outcome answer)
-IsReplyByParts command (Err error) answer = answer ≡ Err error
-
 -- A command of one slot has its own answer. One over many keys has the first error of its parts, in
 -- the order of its slots. Else it has what the replies make, or an error of that kind.
 --
 -- `SET a 1`, `DEL a b`, `GET b`, whose parts answer OK, 1, 0 and nil: OK, 1 and nil
 abbrev pub IsReplyTo : Task → List Answer → Answer → Type 0
 IsReplyTo (in_slot slot args) answers answer = answers ≡ answer ∷ []
-IsReplyTo (over_keys command) answers answer = IsReplyByParts command (all_replies answers) answer
+IsReplyTo (over_keys command) answers answer =
+    MatchResult (all_replies answers)
+    (λ replies. IsOutcome command.tuples (slots_in command) replies command.form (as_outcome answer))
+    (λ error. answer ≡ Err error)
 
 -- the replies to commands, by the answers to their parts, one command after the other
 abbrev pub AreRepliesTo : List Task → List Answer → List Answer → Type 0
@@ -98,6 +93,8 @@ abbrev pub AreUntouched : {C : Type 0} → Step C → Serve C → Refusals → L
     → List Answer → Type 0
 AreUntouched step serve refusals tasks keyspace replies =
     (before later : List Task) (task : Task) → tasks ≡ before ++ task ∷ later
-    → All (λ x. refusals x ≡ None) (numbered_behind (map with_slots before) (with_slots task))
+    → All (λ x. refusals x ≡ None)
+    (enumerate_from (length (pieces (map with_slots before))) (parts_of (with_slots task)))
     → slice_get replies (length before) ≡ Some
-    (run step serve task (after_taken step serve refusals (map with_slots before) keyspace)).reply
+    (run step serve task
+    (all_after (ended step serve refusals) (numbered (map with_slots before)) keyspace)).reply

@@ -1,7 +1,7 @@
 -- Parts that nodes sent on are sent again, in rounds, as long as the order of each slot stays.
 use Rattle.std.specs.Prelude.{◌≡◌, ◌⊎◌, ◌++◌, ◌∷◌, ◌&&◌, ℕ, Bool, not, cond, List, [], Option, None, Some, MatchOption, Ok, Err, codes, filter, is_none, is_some, length, map, get_or, nat_eq, take}
 use Rattle.std.specs.List.{All, AllZip, list_any, range_with_len, zip}
-use Rattle.std.specs.Option.{option_map_or, option_or}
+use Rattle.std.specs.Option.{option_or, unwrap_or}
 use Rattle.resp_core.specs.ErrorParts.{ErrorParts}
 use Rattle.cluster_slots.specs.Address.{Address}
 use Rattle.redis_routing.specs.RedirectText.{IsRedirectText, redirect_address}
@@ -11,49 +11,40 @@ use Rattle.redis_cluster.specs.Trace.{Ending}
 use Rattle.redis_cluster.specs.Unsplit.{Keyspace, Step}
 use Rattle.redis_cluster.specs.State.{State}
 use Rattle.redis_batches.specs.Turns.{all_after, of_slot}
-use Rattle.redis_batches.specs.Pipeline.{Answer, Numbered, Planned, Refusals, Serve, Task, over_keys, in_slot, ended, ended_answers, numbered, pieces, slot_of}
-use Rattle.redis_batches.specs.Batched.{AreBatches, put_at}
-use Rattle.redis_batches.specs.Plan.{Batches, IsByNode}
-use Rattle.redis_batches.specs.Driven.{IsServed, WasStopped, answers_in, batch_at, node_at, parts_by_batch}
+use Rattle.redis_batches.specs.Pipeline.{Answer, Numbered, Planned, Refusals, Serve, Task, over_keys, in_slot, ended, ended_answers, numbered, slot_of}
+use Rattle.redis_batches.specs.Batched.{put_at}
+use Rattle.redis_batches.specs.Plan.{Batches, IsByNode, batch_of}
+use Rattle.redis_batches.specs.Driven.{IsServed, WasStopped, answers_in, batch_at, parts_by_batch}
 use Rattle.redis_batches.specs.Taken.{Batch}
 use Rattle.redis_batches.specs.declared.send.Stopped.{Stopped}
 
--- what a server wrote of an error: the detail if there is one, and else the text
-abbrev pub server_text : ErrorParts → List ℕ
-server_text error = option_map_or (λ detail. detail) error.detail error.desc
-
--- some keys of the command have moved to another node, and others have not yet
-abbrev pub IsTryAgain : List ℕ → Type 0
-IsTryAgain text = (rest : List ℕ) × (text ≡ codes "TRYAGAIN " ++ rest)
-
 -- The text of a node's error sends a command on to this address. `MOVED` and `ASK` name the address.
--- By `TRYAGAIN` it is the address of the node itself.
+-- By `TRYAGAIN` it is the address of the node itself: some keys of the command have moved to another
+-- node, and others have not yet.
 abbrev pub SendsOn : Address → List ℕ → Address → Type 0
 SendsOn node text target =
     ((slot : ℕ) × (redirect : Redirect)
     × IsRedirectText node.host text slot redirect × (target ≡ redirect_address redirect))
-    ⊎ (IsTryAgain text × (target ≡ node))
+    ⊎ (((rest : List ℕ) × (text ≡ codes "TRYAGAIN " ++ rest)) × (target ≡ node))
 
 -- where it sends it on to, if it does
 abbrev pub IsNamedBy : Address → List ℕ → Option Address → Type 0
 IsNamedBy node text on =
     MatchOption on ((target : Address) → SendsOn node text target → ⊥) (SendsOn node text)
 
--- where the answer of a node sends a command on, if it does
+-- Where the answer of a node sends a command on, if it does. What a server wrote of an error is the
+-- detail if there is one, and else the text.
 abbrev pub IsSentOn : Address → Answer → Option Address → Type 0
 IsSentOn node (Ok reply) on = on ≡ None
-IsSentOn node (Err error) on = IsNamedBy node (server_text error) on
+IsSentOn node (Err error) on = IsNamedBy node (unwrap_or error.detail error.desc) on
 
 -- An error of its own, which some commands answer, sends a command nowhere.
 abbrev pub StaysHere : {C : Type 0} → Serve C → Task → Type 0
 StaysHere serve (over_keys command) = Unit {0}
 StaysHere {C} serve (in_slot slot args) =
     (keyspace : Keyspace C) (error : ErrorParts) (node target : Address)
-    → (serve args keyspace).reply ≡ Err error → SendsOn node (server_text error) target → ⊥
-
--- So it is with each of these commands.
-abbrev pub OwnErrorsStay : {C : Type 0} → Serve C → List Task → Type 0
-OwnErrorsStay serve tasks = All (StaysHere serve) tasks
+    → (serve args keyspace).reply ≡ Err error
+    → SendsOn node (unwrap_or error.detail error.desc) target → ⊥
 
 module _ {X : Type 0} (slot : X → ℕ) where
   -- whether a part of this slot was not sent on
@@ -105,31 +96,21 @@ IsLast round =
 abbrev pub alone : List Numbered → List Planned
 alone parts = map (λ x. record { task = x.1.task; slots = slot_of x ∷ [] }) parts
 
--- the numbers of `count` batches, in ascending order
-abbrev pub ascending : ℕ → List ℕ
-ascending count = range_with_len 0 count
-
--- A round is prepared: a batch for each node, with the arguments of the parts, and the parts are
--- those of a pipeline of their own.
-pub record IsPrepared (registered : Registrations) (arguments : List (List (List ℕ)))
-    (round : Round) : Type 0 where
+-- A round is prepared: a batch for each node, with the arguments of the parts.
+pub record IsPrepared (arguments : List (List (List ℕ))) (round : Round) : Type 0 where
   pub by_node : IsByNode round.batches (map (λ x. round.node_of (slot_of x)) round.sent)
   pub arguments_are : round.batches.parts ≡ map (λ x. get_or arguments x.0 []) round.sent
-  pub has : AreBatches registered (alone round.sent) round.batches.parts round.batches.places
-  pub nodes : All
-      (λ q. node_at round.batches.nodes (has.batch q.slot) ≡ round.node_of q.slot)
-      (pieces (alone round.sent))
 
 module _ {C : Type 0} (step : Step C) (serve : Serve C) (kept : Type 0)
     (may_refuse : ℕ → Ending → Type 0) (registered : Registrations)
     (arguments : List (List (List ℕ))) where
   -- A round was served, as a pipeline of its own: each of its parts once, batch after batch.
   pub record IsRoundServed (round : Round) (old new : State C) : Type 0 where
-    pub prepared : IsPrepared registered arguments round
+    pub prepared : IsPrepared arguments round
     pub long : length round.given ≡ length round.sent
     pub served : IsServed step serve kept may_refuse (alone round.sent) round.batches.parts
-        round.batches.nodes prepared.has.batch (ascending (length round.batches.places)) old new
-        round.given
+        round.batches.nodes (batch_of round.node_of round.batches)
+        (range_with_len 0 (length round.batches.places)) old new round.given
     pub refusals_are : map round.refusals round.sent
         ≡ map served.refusals (numbered (alone round.sent))
 
@@ -142,34 +123,29 @@ module _ {C : Type 0} (step : Step C) (serve : Serve C) (kept : Type 0)
 
   -- a round stopped before a batch that was not taken
   pub record IsRoundStopped (round : Round) (old new : State C) (stop : Stopped) : Type 0 where
-    pub prepared : IsPrepared registered arguments round
+    pub prepared : IsPrepared arguments round
     pub stopped : WasStopped step serve registered kept may_refuse (alone round.sent)
-        round.batches.parts round.batches.nodes prepared.has.batch
-        (ascending (length round.batches.places)) old new stop.answered stop.error
+        round.batches.parts round.batches.nodes (batch_of round.node_of round.batches)
+        (range_with_len 0 (length round.batches.places)) old new stop.answered stop.error
 
 -- the batches of a round, each once
 abbrev pub round_batches : Round → List Batch
 round_batches round =
-    map (batch_at round.batches) (ascending (length round.batches.places))
+    map (batch_at round.batches) (range_with_len 0 (length round.batches.places))
 
 -- the answers to them, batch after batch
 abbrev pub round_answers : Round → List (List Answer)
 round_answers round =
-    answers_in round.batches round.given (ascending (length round.batches.places))
-
--- the parts of a round, batch after batch
-abbrev pub round_parts : Round → List Numbered
-round_parts round =
-    parts_by_batch round.batches round.sent (ascending (length round.batches.places))
+    answers_in round.batches round.given (range_with_len 0 (length round.batches.places))
 
 -- the batches of a round before the one of this number, and that one
 abbrev pub batches_before : Round → ℕ → List Batch
 batches_before round many =
-    map (batch_at round.batches) (take many (ascending (length round.batches.places)))
+    map (batch_at round.batches) (take many (range_with_len 0 (length round.batches.places)))
 
 abbrev pub batch_after : Round → ℕ → Batch
 batch_after round many =
-    batch_at round.batches (get_or (ascending (length round.batches.places)) many 0)
+    batch_at round.batches (get_or (range_with_len 0 (length round.batches.places)) many 0)
 
 -- the answer to each part after more rounds: that of the last round that sent the part
 abbrev pub latest_answers : List Answer → List Round → List Answer
@@ -192,17 +168,14 @@ is_among parts x = list_any (λ y. nat_eq y.0 x.0) (of_slot slot_of (slot_of x) 
 abbrev pub by_last_answer : List Numbered → List Round → List Numbered
 by_last_answer parts [] = parts
 by_last_answer parts (next ∷ rounds) =
-    filter (λ x. not (is_among next.sent x)) parts ++ by_last_answer (round_parts next) rounds
+    filter (λ x. not (is_among next.sent x)) parts ++ by_last_answer (parts_by_batch next.batches
+    next.sent (range_with_len 0 (length next.batches.places))) rounds
 
--- which parts are refused after one more round: of its own parts those that it refused, and others
--- as before
-abbrev pub after_round : Refusals → Round → Refusals
-after_round refusals round x =
-    cond (is_among round.sent x) (round.refusals x) (refusals x)
-
+-- which parts are refused after more rounds: each round decides for its own parts
 abbrev pub after_rounds : Refusals → List Round → Refusals
 after_rounds refusals [] = refusals
-after_rounds refusals (round ∷ rounds) = after_rounds (after_round refusals round) rounds
+after_rounds refusals (round ∷ rounds) =
+    after_rounds (λ x. cond (is_among round.sent x) (round.refusals x) (refusals x)) rounds
 
 -- Keyspace and answers are those of one server that takes the parts in the order of the pipeline,
 -- except those that were refused.

@@ -1,5 +1,6 @@
 -- What a node leaves that took a batch of commands.
-use Rattle.std.specs.Prelude.{◌≡◌, ◌<◌, ◌≤◌, ◌⊎◌, ◌+◌, ℕ, List, [], ◌++◌, Option, None, Some, Result, Ok, Err, true, false, map, length, option_map, option_or, slice_get}
+use Rattle.std.specs.Prelude.{◌≡◌, ◌<◌, ◌≤◌, ◌⊎◌, ◌+◌, ℕ, List, [], ◌++◌, Option, None, Some, Result, Ok, Err, true, false, map, length, option_map, slice_get}
+use Rattle.std.specs.Option.{option_or}
 use Rattle.std.specs.Global.{Vec}
 use Rattle.std.specs.List.{zip}
 use Rattle.cluster_slots.specs.Address.{Address}
@@ -107,13 +108,6 @@ IsBegunAtMost None old new = new ≡ old
 IsBegunAtMost (Some (over_keys command)) old new = new ≡ old
 IsBegunAtMost (Some (in_slot slot args)) old new = AgreeElsewhere slot old new
 
--- One server took those of these commands that have an end, and the next one was begun at most.
-abbrev pub IsBrokenOff : {C : Type 0} → Step C → Serve C → List Task → List (Option ErrorParts)
-    → (old new : Keyspace C) → Type 0
-IsBrokenOff step serve tasks ends old new =
-    IsBegunAtMost (slice_get tasks (length ends))
-    (all_after (run_ended step serve) (zip tasks ends) old) new
-
 -- the entries of a batch whose answers were lost
 abbrev pub lost_entries : Address → List (List (List ℕ)) → ErrorParts → List Entry
 lost_entries node batch error = map (λ args. entry node args (lost error)) batch
@@ -156,7 +150,8 @@ module _ {C : Type 0} (step : Step C) (serve : Serve C) (registered : Registrati
     pub trace : new.trace ≡ old.trace ++ batch_entries node batch ends
     pub allowed : AreAllowed may_refuse (length old.trace) ends
     pub keyspace : kept → (tasks : List Task) → map (task_of registered) batch ≡ map Some tasks
-        → IsBrokenOff step serve tasks ends old.keyspace new.keyspace
+        → IsBegunAtMost (slice_get tasks (length ends))
+        (all_after (run_ended step serve) (zip tasks ends) old.keyspace) new.keyspace
 
   -- why a batch was not taken, and what stands then
   abbrev pub IsUntaken : SendError → Type 0

@@ -1,5 +1,5 @@
 -- What the commands of a pipeline mean, each with its slots, and how one over many keys is split.
-use Rattle.std.specs.Prelude.{◌≡◌, ℕ, List, [], ◌∷◌, ◌++◌, Option, None, Some, map}
+use Rattle.std.specs.Prelude.{◌≡◌, ℕ, List, [], ◌∷◌, Option, None, Some, map}
 use Rattle.std.specs.List.{All, AllZip}
 use Rattle.redis_routing.specs.Command.{Arguments}
 use Rattle.redis_routing.specs.Registry.{Registrations}
@@ -28,13 +28,6 @@ abbrev pub part_arguments : Registrations → List (List ℕ) → Task → List 
 part_arguments registered args (over_keys command) =
     map (part_by_slot registered (map Some args)) (slots_in command)
 part_arguments registered args (in_slot slot own) = map Some args ∷ []
-
--- those of commands, one command after the other
-abbrev pub all_arguments : Registrations → List (List (List ℕ)) → List Task → List Arguments
-all_arguments registered [] tasks = []
-all_arguments registered (args ∷ commands) [] = []
-all_arguments registered (args ∷ commands) (task ∷ tasks) =
-    part_arguments registered args task ++ all_arguments registered commands tasks
 
 -- The split of a command over many keys: a route for each of its slots, whose part is that of the
 -- slot.

@@ -1,10 +1,10 @@
 ghost use Rattle.std.specs.Prelude.{◌≡◌, ◌<◌, ◌++◌, ◌∷◌, [], ℕ, List, Option, None, Some, cond, map, length, nat_eq, IfOk, OnOk};
 ghost use Rattle.std.specs.List.{All};
-ghost use Rattle.std.specs.Option.{option_or};
+ghost use Rattle.std.specs.Option.{option_or, unwrap_or};
 ghost use Rattle.cluster_slots.specs.Address.{Address};
 ghost use Rattle.redis_batches.specs.Chosen.{has_slot};
 ghost use Rattle.redis_batches.specs.Outgoing.{IsNext, IsWalked, node_in, slot_at};
-ghost use Rattle.redis_batches.specs.Rounds.{IsNamedBy, IsSentOn, server_text};
+ghost use Rattle.redis_batches.specs.Rounds.{IsNamedBy, IsSentOn};
 ghost use Rattle.redis_batches.specs.Taken.{answer_of};
 
 use cluster_slots::NodeAddress;
@@ -33,7 +33,7 @@ struct Walk {
 
 /// What the server wrote of an error.
 fn server_text(error: &RedisError) -> &str
-    ensures { result.now ≡ server_text error.now }
+    ensures { result.now ≡ unwrap_or error.now.detail error.now.desc }
 {
     match error.detail() {
         Some(detail) => detail,

@@ -6,7 +6,7 @@ ghost use Rattle.redis_cluster.specs.Sent.{IsIdleIfRefused};
 ghost use Rattle.redis_cluster.specs.Trace.{Ending};
 ghost use Rattle.redis_cluster.specs.Unsplit.{Step};
 ghost use Rattle.redis_cluster.specs.State.{State};
-ghost use Rattle.redis_batches.specs.Driven.{WereAsked, WereAskedUntil};
+ghost use Rattle.redis_batches.specs.Driven.{Grew, WereAskedUntil};
 ghost use Rattle.redis_batches.specs.Pipeline.{Answer, Serve};
 ghost use Rattle.redis_batches.specs.Taken.{answer_of, AreAnswered, AreServed, AreTasks, Batch, Came, IsTaken, IsUntaken, batch_entries, batch_for};
 
@@ -95,7 +95,7 @@ pub trait BatchNodes {
             (state self.old) (state self.new) error) }
         ensures mark { OnOk result ((state self.new).mark ≡ false) }
         // The batch was sent once,
-        ensures asked { OnOk result (WereAsked (asked self.old) (asked self.new)
+        ensures asked { OnOk result (Grew (asked self.old) (asked self.new)
             (batch_for node.now (map (λ cmd. cmd.now) batch.now) ∷ [])) }
         // also if it was not taken, unless memory ran out before.
         ensures asked_untaken { IfErr result (λ error. WereAskedUntil (asked self.old) (asked self.new)

@@ -5,7 +5,7 @@ ghost use Rattle.redis_cluster.specs.Trace.{Ending};
 ghost use Rattle.redis_batches.specs.Pipeline.{Answer, AreSlotsOf, Planned};
 ghost use Rattle.redis_batches.specs.Batched.{AreBatches, AreFor, IsRight, put_at};
 ghost use Rattle.redis_batches.specs.Taken.{answer_of, IsTaken, IsNotTaken};
-ghost use Rattle.redis_batches.specs.Driven.{Grew, HaveAnswered, answers_in, batch_at, node_at, IsServed, WasStopped, WereAsked, WereAskedUntil};
+ghost use Rattle.redis_batches.specs.Driven.{Grew, HaveAnswered, answers_in, batch_at, node_at, IsServed, WasStopped, WereAskedUntil};
 ghost use Rattle.redis_batches.specs.Plan.{IsPlan};
 
 use crate::nodes::BatchNodes;
@@ -79,7 +79,7 @@ pub fn send_batches<N: BatchNodes>(
         ps plan.old.parts plan.old.nodes is.batch order.now
         (N.state nodes.old) (N.state nodes.new) stop.answered stop.error) }
     // Each batch was sent once, in the order given, up to the one that was not taken.
-    ensures asked { OnOk result (WereAsked (N.asked nodes.old) (N.asked nodes.new)
+    ensures asked { OnOk result (Grew (N.asked nodes.old) (N.asked nodes.new)
         (map (batch_at plan.old) order.now)) }
     ensures asked_until { IfErr result (λ stop. WereAskedUntil (N.asked nodes.old) (N.asked nodes.new)
         (map (batch_at plan.old) (take stop.answered order.now))
@@ -137,7 +137,7 @@ fn send_one<N: BatchNodes>(
         → IsNotTaken N.step N.serve (N.registered nodes.old) (N.kept nodes.new) (N.may_refuse nodes.old)
         (node_at plan.now.nodes number) (in_order plan.now.parts places)
         (N.state nodes.old) (N.state nodes.new) error) }
-    ensures asked { OnOk result (WereAsked (N.asked nodes.old) (N.asked nodes.new)
+    ensures asked { OnOk result (Grew (N.asked nodes.old) (N.asked nodes.new)
         (batch_at plan.now number ∷ [])) }
     ensures asked_until { IfErr result (λ error. WereAskedUntil (N.asked nodes.old) (N.asked nodes.new)
         [] (batch_at plan.now number) error) }

@@ -1,18 +1,19 @@
 -- The slot of a command by itself is the one that its routing has.
-use Rattle.std.proofs.Common.{◌≡◌, ℕ, zero, suc, ◌+◌, ◌*◌, ◌/◌, ◌%◌, ◌≤◌, List, [], ◌∷◌, Bool, true, false, cond, Option, Some, None, map, option_map, length, take, get_or, refl, sym, ap, ◌∙◌, arith}
-use Rattle.std.specs.Prelude.{codes, max, nat_eq, nat_lt, option_and_then, option_or, position}
+use Rattle.std.proofs.Common.{◌≡◌, ℕ, zero, suc, ◌+◌, ◌*◌, ◌/◌, ◌%◌, List, [], ◌∷◌, Bool, true, false, cond, Option, Some, None, map, option_map, length, take, get_or, refl, ap, ◌∙◌, arith, sym, ◌-◌}
+use Rattle.std.specs.Prelude.{codes, nat_eq, nat_lt, option_and_then, position, max, ◌&&◌}
+use Rattle.std.specs.Option.{option_or}
 use Rattle.std.specs.Simd.{first_chunks}
 use Rattle.std.proofs.Math.Seq.{take-length}
 use Rattle.std.proofs.lemmas.Bool.Decides.{nat_tests}
 use Rattle.cluster_slots.specs.KeySlot.{key_slot}
 use Rattle.cluster_slots.specs.Number.{number_in}
 use Rattle.redis_routing.specs.Command.{Arguments, argument, command_name, is_word}
-use Rattle.redis_routing.specs.CommandSlot.{command_slot, firsts_of, keys_among, only_number, slot_by}
+use Rattle.redis_routing.specs.CommandSlot.{command_slot, keys_among, only_number, slot_by}
 use Rattle.redis_routing.specs.Lookup.{lookup_name}
-use Rattle.redis_routing.specs.Names.{Names, names_of}
+use Rattle.redis_routing.specs.Names.{Names}
 use Rattle.redis_routing.specs.Parts.{first_appearances, slot_of}
 use Rattle.redis_routing.specs.PresentArguments.{present_arguments}
-use Rattle.redis_routing.specs.Registry.{Registered, Registrations, routing_or, tables_with}
+use Rattle.redis_routing.specs.Registry.{Registered, routing_or, tables_with}
 use Rattle.redis_routing.specs.RouteBy.{base_routing}
 use Rattle.redis_routing.specs.Routing.{argument_number, by_count, route_of_slot, routes_of, routing, routing_by, routing_by_name, routing_of_routes, to_key, to_key_after, to_key_or_any, to_slot, to_slots}
 use Rattle.redis_routing.specs.RoutingInfo.{Routing, slot_routed}
@@ -34,7 +35,9 @@ of_key_or_any reads (Some key) = refl
 of_count : (reads : Bool) (count : Option ℕ) (key : Option (List ℕ)) → slot_routed (by_count reads count key) ≡ option_and_then (λ n. cond (nat_eq n 0) None (option_map key_slot key)) count
 of_count reads None key = refl
 of_count reads (Some zero) key = refl
-of_count reads (Some (suc n)) key = of_key reads key
+of_count reads (Some (suc n)) key =
+    let some : nat_eq (suc n) 0 ≡ false = grind (arith, nat_tests) in
+    of_key reads key ∙ sym (ap (λ b. cond b None (option_map key_slot key)) some)
 
 number_of : (bits : ℕ) (text : Option (List ℕ)) → argument_number bits text ≡ option_and_then (number_in bits) text
 number_of bits None = refl
@@ -99,18 +102,41 @@ module _ (xs : List (List ℕ)) where
       ∙ ap (λ slots. only_number (first_appearances slots)) (triples (length xs / 3) 0 xs (omega (arith, third)))
   by_triples false whole = refl
 
+-- the slot of keys alone
+of_alone : (keys : List (List ℕ)) → only_number (first_appearances (map slot_of (keys_alone 0 keys))) ≡ slot_of_keys keys
+of_alone keys = ap (λ slots. only_number (first_appearances slots)) (alone 0 keys)
+
 -- the slot of the tuples, if they are whole
 of_tuples : (pattern : MultiSlotArgPattern) (present : List (List ℕ)) → cond (fits pattern (length present)) (only_number (first_appearances (map slot_of (tuples_in pattern present)))) None ≡ slot_of_keys (keys_among pattern present)
 of_tuples KeysOnly [] = refl
 of_tuples KeysOnly (x ∷ xs) =
-    ap (λ slots. only_number (first_appearances slots)) (alone 0 (take (length (x ∷ xs)) (x ∷ xs)) ∙ ap (map key_slot) (take-length (x ∷ xs)))
+    let present : List (List ℕ) = x ∷ xs in
+    let some : nat_lt 0 (length present) ≡ true = grind (arith, nat_tests) in
+    ap (λ b. cond b (only_number (first_appearances (map slot_of (keys_alone 0 (take (length present) present))))) None) some
+    ∙ of_alone (take (length present) present) ∙ ap slot_of_keys (take-length present)
 of_tuples KeyValuePairs [] = refl
-of_tuples KeyValuePairs (x ∷ xs) = by_pairs (x ∷ xs) (nat_eq (length (x ∷ xs) % 2) 0) refl
+of_tuples KeyValuePairs (x ∷ xs) =
+    let present : List (List ℕ) = x ∷ xs in
+    let some : nat_lt 0 (length present) ≡ true = grind (arith, nat_tests) in
+    ap (λ b. cond (b && nat_eq (length present % 2) 0) (only_number (first_appearances (map slot_of (keys_and_values 0 (take (length present) present))))) None) some
+    ∙ by_pairs present (nat_eq (length present % 2) 0) refl
 of_tuples KeysAndLastArg [] = refl
 of_tuples KeysAndLastArg (x ∷ []) = refl
-of_tuples KeysAndLastArg (x ∷ y ∷ xs) = ap (λ slots. only_number (first_appearances slots)) (alone 0 (take (length (y ∷ xs)) (x ∷ y ∷ xs)))
+of_tuples KeysAndLastArg (x ∷ y ∷ xs) =
+    let present : List (List ℕ) = x ∷ y ∷ xs in
+    let m : ℕ = length present in
+    let some : nat_lt 0 m ≡ true = grind (arith, nat_tests) in
+    let two : nat_lt 1 m ≡ true = grind (arith, nat_tests) in
+    let most : max 1 (m - 1) ≡ m - 1 = omega arith in
+    ap (λ b. cond b (only_number (first_appearances (map slot_of (tuples_in KeysAndLastArg present)))) None) some
+    ∙ ap (λ b. only_number (first_appearances (map slot_of (keys_alone 0 (take (cond b (m - 1) m) present))))) two
+    ∙ of_alone (take (m - 1) present) ∙ ap (λ n. slot_of_keys (take n present)) (sym most)
 of_tuples KeyWithTwoArgTriples [] = refl
-of_tuples KeyWithTwoArgTriples (x ∷ xs) = by_triples (x ∷ xs) (nat_eq (length (x ∷ xs) % 3) 0) refl
+of_tuples KeyWithTwoArgTriples (x ∷ xs) =
+    let present : List (List ℕ) = x ∷ xs in
+    let some : nat_lt 0 (length present) ≡ true = grind (arith, nat_tests) in
+    ap (λ b. cond (b && nat_eq (length present % 3) 0) (only_number (first_appearances (map slot_of (keys_and_two 0 (take (length present) present))))) None) some
+    ∙ by_triples present (nat_eq (length present % 3) 0) refl
 
 of_slots : (reads : Bool) (policy : Option ResponsePolicy) (pattern : MultiSlotArgPattern) (present : List (List ℕ)) → slot_routed (to_slots reads policy pattern present) ≡ slot_of_keys (keys_among pattern present)
 of_slots reads policy pattern present =

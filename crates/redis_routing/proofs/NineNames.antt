@@ -7,7 +7,8 @@ use Rattle.redis_routing.specs.Lookup.{lookup_name}
 use Rattle.redis_routing.specs.Policies.{policy_of}
 use Rattle.redis_routing.specs.Registry.{Registered, Registrations, is_registrable, is_bad_name, is_bad_policy}
 use Rattle.redis_routing.specs.RouteBy.{base_routing, pattern_of}
-use Rattle.redis_routing.specs.MultiKeyNames.{multi_key_names, split_of, registered_as}
+use Rattle.redis_routing.specs.MultiKeyNames.{split_of, registered_as}
+use Rattle.redis_routing.specs.MultiKeyRows.{multi_key_names}
 use Rattle.redis_routing.specs.declared.policy.ResponsePolicy.{ResponsePolicy}
 use Rattle.redis_routing.specs.declared.route_by.MultiSlotArgPattern.{MultiSlotArgPattern}
 use Rattle.redis_routing.specs.declared.route_by.RouteBy.{RouteBy}

@@ -34,11 +34,11 @@ same_cut answering text number node slot host port e none t = first_cut 32 numbe
 
 -- the node
 pub no_node : (answering text : List ℕ) → IsNoAddress text → ((rest : List ℕ) → text ≢ 58 ∷ rest) → (host : List ℕ) (port : ℕ) → ¬ (IsNodeText answering text host port)
-no_node answering text none bare host port (inl named) = none host port named.address
+no_node answering text none bare host port (inl named) = none host port named.0
 no_node answering text none bare host port (inr alone) = bare alone.digits alone.whole
 
 pub no_port : (answering text rest : List ℕ) → IsNoAddress text → text ≡ 58 ∷ rest → None ≡ number_in 16 rest → (host : List ℕ) (port : ℕ) → ¬ (IsNodeText answering text host port)
-no_port answering text rest none e bad host port (inl named) = none host port named.address
+no_port answering text rest none e bad host port (inl named) = none host port named.0
 no_port answering text rest none e bad host port (inr alone) =
     let same : 58 ∷ rest ≡ 58 ∷ alone.digits = sym e ∙ alone.whole in
     let tail : rest ≡ alone.digits = cc in
@@ -47,7 +47,7 @@ no_port answering text rest none e bad host port (inr alone) =
 
 -- a port alone names none where the node that answered has no host
 pub no_answering : (answering text : List ℕ) → IsNoAddress text → answering ≡ [] → (host : List ℕ) (port : ℕ) → ¬ (IsNodeText answering text host port)
-no_answering answering text none empty host port (inl named) = none host port named.address
+no_answering answering text none empty host port (inl named) = none host port named.0
 no_answering answering text none empty host port (inr alone) = alone.some (alone.same ∙ empty)
 
 -- the text of an unknown host begins with it, or with a bracket
@@ -61,7 +61,7 @@ unknown_first (suc opens) closes right rest e =
 
 -- an address with an unknown host names no node
 pub no_host : (answering text known : List ℕ) (number : ℕ) → IsAddressText text known number → known ≡ unknown_host → (host : List ℕ) (port : ℕ) → ¬ (IsNodeText answering text host port)
-no_host answering text known number read same host port (inl named) = named.known ((one_address text host known port number named.address read).0 ∙ same)
+no_host answering text known number read same host port (inl named) = named.1 ((one_address text host known port number named.0 read).0 ∙ same)
 no_host answering text known number (left, right, reads) same host port (inr alone) =
     let bracketed = reads.bracketed in
     let left_is = bracketed.2.whole ∙ ap (λ (h : List ℕ). replicate bracketed.0 91 ++ h ++ replicate bracketed.1 93) same in

@@ -1,5 +1,6 @@
 -- The slot that a command goes to, if it goes to a node of one slot.
-use Rattle.std.specs.Prelude.{ℕ, ◌+◌, ◌-◌, ◌/◌, ◌%◌, List, [], Option, None, Some, codes, cond, get_or, length, map, max, nat_eq, nat_lt, option_and_then, option_map, option_or, position, slice_get, take}
+use Rattle.std.specs.Prelude.{ℕ, ◌+◌, ◌-◌, ◌/◌, ◌%◌, List, [], Option, None, Some, codes, cond, get_or, length, map, max, nat_eq, nat_lt, option_and_then, option_map, position, take, ◌∷◌}
+use Rattle.std.specs.Option.{option_or}
 use Rattle.std.specs.Simd.{first_chunks}
 use Rattle.cluster_slots.specs.KeySlot.{key_slot}
 use Rattle.cluster_slots.specs.Number.{number_in}
@@ -30,7 +31,8 @@ keys_among KeyWithTwoArgTriples present = firsts_of 3 present
 
 -- a number, if it is the only one
 abbrev pub only_number : List ℕ → Option ℕ
-only_number numbers = cond (nat_eq (length numbers) 1) (slice_get numbers 0) None
+only_number (number ∷ []) = Some number
+only_number _ = None
 
 -- The slot of a command by how its name is routed.
 abbrev pub slot_by : Arguments → Option RouteBy → Option ℕ

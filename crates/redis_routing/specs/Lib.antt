@@ -5,6 +5,7 @@ pub mod Command
 pub mod Lists
 pub mod Names
 pub mod MultiKeyNames
+pub mod MultiKeyRows
 pub mod NameTables
 pub mod NameWords
 pub mod Places

@@ -27,11 +27,6 @@ pub record IsSlotText (text : List ℕ) (slot : ℕ) : Type 0 where
 abbrev pub unknown_host : List ℕ
 unknown_host = codes "?"
 
--- the text is an address, and its host is known
-pub record HasHost (text host : List ℕ) (port : ℕ) : Type 0 where
-  pub address : IsAddressText text host port
-  pub known : host ≢ unknown_host
-
 -- the text is a colon and a port, and the host is that of the node which answered, if it has one
 pub record HasNoHost (answering text host : List ℕ) (port : ℕ) : Type 0 where
   pub digits : List ℕ
@@ -40,9 +35,10 @@ pub record HasNoHost (answering text host : List ℕ) (port : ℕ) : Type 0 wher
   pub same : host ≡ answering
   pub some : host ≢ []
 
--- the text names a node: by its address, or by its port alone
+-- the text names a node: by an address whose host is known, or by its port alone
 abbrev pub IsNodeText : List ℕ → List ℕ → List ℕ → ℕ → Type 0
-IsNodeText answering text host port = HasHost text host port ⊎ HasNoHost answering text host port
+IsNodeText answering text host port =
+    (IsAddressText text host port × (host ≢ unknown_host)) ⊎ HasNoHost answering text host port
 
 -- the text is a slot, one space and a node, with no other space
 pub record TellsNode (answering text : List ℕ) (slot : ℕ) (host : List ℕ) (port : ℕ) : Type 0 where

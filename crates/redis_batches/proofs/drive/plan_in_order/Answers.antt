@@ -6,17 +6,16 @@ use Rattle.redis_cluster.specs.Orders.{NamesOnce}
 use Rattle.redis_batches.specs.PipelinePlan.{IsPlanOfCommands}
 use Rattle.redis_batches.specs.Reads.{IsSlotNode}
 use Rattle.redis_batches.specs.Tasks.{AreSplitsFor}
-use Rattle.redis_batches.proofs.Driving.{sendable_plan}
 use Rattle.redis_batches.proofs.drive.plan_in_order.Goals as goal
 
 pub returns-in-Ok-true-clause-sendable : goal.returns-in-Ok-true-clause-sendable
 returns-in-Ok-true-clause-sendable g c =
-    let registered = g.N.BatchNodes.registered c.args.nodes.now in
     let is_node : Registrations → ℕ → Address → Type 0 =
     λ r. IsSlotNode c.args.strategy (λ s. (goal.ReadRoutingStrategy-dyn g s.now).picks s.now.1) c.args.slot_map.now (names_of c.args.read_only.now r) c.args.commands.now in
-    sendable_plan registered (is_node registered) c.args.commands.now c.args.order.now c.in-Ok.plan c.len.ensures.plan
-    (subst (λ r. IsPlanOfCommands r (is_node r) c.args.commands.now c.in-Ok.plan) c.registry.ensures c.in-Ok.ensures.plan)
-    (subst (λ n. NamesOnce n c.args.order.now) c.len.ensures.len (c.in-Ok-true.ensures.0 c.in-Ok-true.field-0-test))
+    record {
+      of_commands = subst (λ r. IsPlanOfCommands r (is_node r) c.args.commands.now c.in-Ok.plan) c.registry.ensures c.in-Ok.ensures.plan;
+      order_is = subst (λ n. NamesOnce n c.args.order.now) c.len.ensures.len (c.in-Ok-true.ensures.0 c.in-Ok-true.field-0-test);
+    }
 
 pub returns-in-Ok-true-clause-splits : goal.returns-in-Ok-true-clause-splits
 returns-in-Ok-true-clause-splits g c = subst (λ (r : Registrations). AreSplitsFor r c.args.commands.now c.in-Ok.plan.splits) c.registry.ensures c.in-Ok.ensures.splits

@@ -6,7 +6,7 @@ use Rattle.redis_routing.specs.Names.{names_of}
 use Rattle.redis_cluster.specs.Trace.{Ending}
 use Rattle.redis_batches.specs.Batched.{AreBatches}
 use Rattle.redis_batches.specs.CommandTask.{slots_kept, split_in}
-use Rattle.redis_batches.specs.Driven.{Grew, WereAsked, WereAskedUntil, answers_in, batch_at}
+use Rattle.redis_batches.specs.Driven.{Grew, WereAskedUntil, answers_in, batch_at}
 use Rattle.redis_batches.specs.InRounds.{AreSentAgain, IsAgainFault}
 use Rattle.redis_batches.specs.Outgoing.{ArePartsOf, IsNext}
 use Rattle.redis_batches.specs.PartArguments.{sent_args}
@@ -18,16 +18,17 @@ use Rattle.redis_batches.specs.Tasks.{AreSplitsOf, with_slots}
 use Rattle.redis_batches.proofs.Asked.{asked_none}
 use Rattle.redis_batches.proofs.Chain as chain
 use Rattle.redis_batches.proofs.Driving.{pipeline_stopped}
-use Rattle.redis_batches.proofs.Planning.{slots_of_all}
+use Rattle.redis_batches.proofs.Planning.{plan_has_batches, slots_of_all}
 use Rattle.redis_batches.proofs.Retried as retried
 use Rattle.redis_batches.proofs.ServerReplies.{shared_by_splits}
 use Rattle.redis_batches.proofs.retrying.drive_pipeline_retrying.Goals as goal
 
 pub send_batches-requires-clause-batches : goal.send_batches-requires-clause-batches
 send_batches-requires-clause-batches g c =
+    let is_node : ℕ → Address → Type 0 = (IsSlotNode c.args.strategy (λ s. (goal.ReadRoutingStrategy-dyn g s.now).picks s.now.1) c.args.slot_map.now (names_of c.args.read_only.now (g.N.BatchNodes.registered c.args.nodes.now)) c.args.commands.now) in
     let sendable = c.in-Ok.ensures.sendable in
     let ps = map with_slots sendable.of_commands.tasks in
-    (ps, slots_of_all sendable.of_commands.tasks, subst (λ b. AreBatches (g.N.BatchNodes.registered c.args.nodes.now) ps b.parts b.places) (sym c.into_placed-tasks.ensures.batches) sendable.batches)
+    (ps, slots_of_all sendable.of_commands.tasks, subst (λ b. AreBatches (g.N.BatchNodes.registered c.args.nodes.now) ps b.parts b.places) (sym c.into_placed-tasks.ensures.batches) (plan_has_batches (g.N.BatchNodes.registered c.args.nodes.now) is_node c.args.commands.now c.in-Ok.plan sendable.of_commands))
 
 pub returns-in-Err-send_batches-clause-fault : goal.returns-in-Err-send_batches-clause-fault
 returns-in-Err-send_batches-clause-fault g c =
@@ -41,7 +42,7 @@ returns-in-Err-send_batches-clause-fault g c =
     inl (
       pipeline_stopped nodes.step nodes.serve (nodes.kept c.send_batches.new.nodes) (nodes.may_refuse c.args.nodes.now) (nodes.registered c.args.nodes.now) is_node c.args.commands.now c.args.order.now
           (nodes.state c.args.nodes.now) (nodes.state c.send_batches.new.nodes) c.in-Ok.plan c.into_placed-tasks.result.1 c.into_placed-tasks.ensures.batches c.in-Ok.ensures.sendable stop
-          c.in-Err-send_batches.ensures.within c.in-Err-send_batches.ensures.first_round c.in-Err-send_batches.ensures.stopped,
+          c.in-Err-send_batches.ensures.within c.in-Err-send_batches.ensures.first_round c.in-Err-send_batches.ensures.stopped c.args.slot_map.now,
       (c.in-Ok.plan, c.in-Ok.ensures.sendable, asked),
       c.in-Err-send_batches.ensures.gave_until,
     )
@@ -64,7 +65,7 @@ returns-in_default-all_slots-clause-fault g c =
     let served = retried.first_served nodes.step nodes.serve may registered is_node commands order retries old between plan sendable c.into_placed-tasks.result.1 c.into_placed-tasks.ensures.batches kept_then given c.in_default.ensures.served in
     retried.were_sent nodes.step nodes.serve may registered is_node commands order retries old between plan sendable kept_then given served kept_then (λ keep. keep) between
     (nodes.asked c.args.nodes.now) (nodes.asked c.send_batches.new.nodes) (nodes.asked c.send_batches.new.nodes)
-    (subst (λ b. WereAsked (nodes.asked c.args.nodes.now) (nodes.asked c.send_batches.new.nodes) (map (batch_at b) order)) c.into_placed-tasks.ensures.batches c.in_default.ensures.asked)
+    (subst (λ b. Grew (nodes.asked c.args.nodes.now) (nodes.asked c.send_batches.new.nodes) (map (batch_at b) order)) c.into_placed-tasks.ensures.batches c.in_default.ensures.asked)
     (length-map c.send_batches.new.plan.answers answer_of ∙ c.send_batches.ensures.room ∙ ap (λ (b : Batches). length b.parts) c.into_placed-tasks.ensures.batches)
     (nodes.gave c.args.nodes.now) (nodes.gave c.send_batches.new.nodes) (nodes.gave c.send_batches.new.nodes)
     (subst (λ b. Grew (nodes.gave c.args.nodes.now) (nodes.gave c.send_batches.new.nodes) (answers_in b given order)) c.into_placed-tasks.ensures.batches c.in_default.ensures.gave)
@@ -132,7 +133,7 @@ returns-in_default-first_parts-clause-fault g c =
     let served = retried.first_served nodes.step nodes.serve may registered is_node commands order retries old between plan sendable c.into_placed-tasks.result.1 c.into_placed-tasks.ensures.batches kept_then given c.in_default.ensures.served in
     retried.were_sent nodes.step nodes.serve may registered is_node commands order retries old between plan sendable kept_then given served kept_then (λ keep. keep) between
     (nodes.asked c.args.nodes.now) (nodes.asked c.send_batches.new.nodes) (nodes.asked c.send_batches.new.nodes)
-    (subst (λ b. WereAsked (nodes.asked c.args.nodes.now) (nodes.asked c.send_batches.new.nodes) (map (batch_at b) order)) c.into_placed-tasks.ensures.batches c.in_default.ensures.asked)
+    (subst (λ b. Grew (nodes.asked c.args.nodes.now) (nodes.asked c.send_batches.new.nodes) (map (batch_at b) order)) c.into_placed-tasks.ensures.batches c.in_default.ensures.asked)
     (length-map c.send_batches.new.plan.answers answer_of ∙ c.send_batches.ensures.room ∙ ap (λ (b : Batches). length b.parts) c.into_placed-tasks.ensures.batches)
     (nodes.gave c.args.nodes.now) (nodes.gave c.send_batches.new.nodes) (nodes.gave c.send_batches.new.nodes)
     (subst (λ b. Grew (nodes.gave c.args.nodes.now) (nodes.gave c.send_batches.new.nodes) (answers_in b given order)) c.into_placed-tasks.ensures.batches c.in_default.ensures.gave)
@@ -225,7 +226,7 @@ returns-in-Err-send_again-clause-fault g c =
     (subst (λ r. IsAgainFault nodes.step nodes.serve kept (nodes.may_refuse c.send_batches.new.nodes) r arguments ps first retries between new asked_between asked_new gave_between gave_new error) c.send_batches.ensures.registered
     (c.in-Err-send_again.ensures.fault ps first later gone)) in
     retried.later_fault nodes.step nodes.serve may registered is_node commands order retries old between plan sendable kept_then given served kept c.send_again.ensures.kept new asked_old asked_between asked_new
-    (subst (λ b. WereAsked asked_old asked_between (map (batch_at b) order)) c.into_placed-tasks.ensures.batches c.in_default.ensures.asked) (length-map c.send_batches.new.plan.answers answer_of ∙ room) gave_old gave_between gave_new
+    (subst (λ b. Grew asked_old asked_between (map (batch_at b) order)) c.into_placed-tasks.ensures.batches c.in_default.ensures.asked) (length-map c.send_batches.new.plan.answers answer_of ∙ room) gave_old gave_between gave_new
     (subst (λ b. Grew gave_old gave_between (answers_in b given order)) c.into_placed-tasks.ensures.batches c.in_default.ensures.gave) c.args.slot_map.now error
     (chain.again_fault_wider nodes.step nodes.serve registered plan.batches.parts kept (nodes.may_refuse c.send_batches.new.nodes) may more ps first retries between new asked_between asked_new gave_between gave_new error named)
 
@@ -326,7 +327,7 @@ returns-in-Ok-replies_of-clause-served g c =
     retried.served_in_rounds nodes.step nodes.serve may registered is_node commands order retries old between plan sendable kept_then given served kept c.send_again.ensures.kept new asked_old asked_between asked_new gave_old gave_between gave_new before after
     (ap (map answer_of) (sym c.into_rest-parts.ensures.answers))
     (chain.again_wider nodes.step nodes.serve registered plan.batches.parts kept (nodes.may_refuse c.send_batches.new.nodes) may more ps first retries between new asked_between asked_new gave_between gave_new before after named)
-    (subst (λ b. WereAsked asked_old asked_between (map (batch_at b) order)) c.into_placed-tasks.ensures.batches c.in_default.ensures.asked)
+    (subst (λ b. Grew asked_old asked_between (map (batch_at b) order)) c.into_placed-tasks.ensures.batches c.in_default.ensures.asked)
     (ap length c.into_rest-parts.ensures.answers ∙ room) (subst (λ b. Grew gave_old gave_between (answers_in b given order)) c.into_placed-tasks.ensures.batches c.in_default.ensures.gave) replies share made
 
 pub returns-clause-fault : goal.returns-clause-fault
@@ -374,7 +375,7 @@ returns-clause-fault g c =
     let wide = chain.again_wider nodes.step nodes.serve registered plan.batches.parts kept (nodes.may_refuse c.send_batches.new.nodes) may more ps first retries between new (nodes.asked c.send_batches.new.nodes) (nodes.asked c.send_again.new.nodes) (nodes.gave c.send_batches.new.nodes) (nodes.gave c.send_again.new.nodes) c.into_rest-parts.result.1.items c.send_again.new.answers.items named in
     retried.were_sent nodes.step nodes.serve may registered is_node commands order retries old between plan sendable kept_then given served kept c.send_again.ensures.kept new
     (nodes.asked c.args.nodes.now) (nodes.asked c.send_batches.new.nodes) (nodes.asked c.send_again.new.nodes)
-    (subst (λ b. WereAsked (nodes.asked c.args.nodes.now) (nodes.asked c.send_batches.new.nodes) (map (batch_at b) order)) c.into_placed-tasks.ensures.batches c.in_default.ensures.asked)
+    (subst (λ b. Grew (nodes.asked c.args.nodes.now) (nodes.asked c.send_batches.new.nodes) (map (batch_at b) order)) c.into_placed-tasks.ensures.batches c.in_default.ensures.asked)
     (length-map c.send_batches.new.plan.answers answer_of ∙ room) (nodes.gave c.args.nodes.now) (nodes.gave c.send_batches.new.nodes) (nodes.gave c.send_again.new.nodes)
     (subst (λ b. Grew (nodes.gave c.args.nodes.now) (nodes.gave c.send_batches.new.nodes) (answers_in b given order)) c.into_placed-tasks.ensures.batches c.in_default.ensures.gave)
     wide.rounds wide.few wide.again wide.asked wide.gave

@@ -13,7 +13,7 @@ use Rattle.redis_routing.specs.Registry.{Registrations}
 use Rattle.redis_batches.specs.Pipeline.{Answer, Serve}
 use Rattle.redis_batches.specs.Batched.{AreFor, numbers_in, put_at}
 use Rattle.redis_batches.specs.Taken.{answer_of, IsNotTaken, IsTaken}
-use Rattle.redis_batches.specs.Driven.{Grew, WereAsked, WereAskedUntil, answers_in, batch_at, node_at}
+use Rattle.redis_batches.specs.Driven.{Grew, WereAskedUntil, answers_in, batch_at, node_at}
 use Rattle.redis_batches.proofs.Asked.{asked_last, asked_more, asked_next, asked_none, same_batch}
 use Rattle.redis_batches.proofs.Untaken.{not_taken_wider}
 use Rattle.redis_batches.proofs.Entries.{get_there}
@@ -220,7 +220,7 @@ pub returns-clause-asked : goal.returns-clause-asked
 returns-clause-asked g c =
     let nodes = g.N.BatchNodes in
     let order = c.args.order.now in
-    subst (λ o. WereAsked (nodes.asked c.args.nodes.now) (nodes.asked c.loop-number.nodes) (map (batch_at c.args.plan.now) o)) (take_all c.loop-number.number-index order (omega (arith, c.loop-number-test.false))) c.loop-number.invariant.asked
+    subst (λ o. Grew (nodes.asked c.args.nodes.now) (nodes.asked c.loop-number.nodes) (map (batch_at c.args.plan.now) o)) (take_all c.loop-number.number-index order (omega (arith, c.loop-number-test.false))) c.loop-number.invariant.asked
 
 pub returns-in-Err-clause-asked_until : goal.returns-in-Err-clause-asked_until
 returns-in-Err-clause-asked_until g c =

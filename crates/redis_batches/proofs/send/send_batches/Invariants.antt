@@ -4,7 +4,7 @@ use Rattle.redis_cluster.specs.Orders.{NamesOnce, times}
 use Rattle.redis_cluster.specs.Trace.{Ending}
 use Rattle.redis_batches.specs.Pipeline.{AreSlotsOf, Planned}
 use Rattle.redis_batches.specs.Batched.{AreBatches}
-use Rattle.redis_batches.specs.Driven.{Grew, WereAsked, answers_in, batch_at}
+use Rattle.redis_batches.specs.Driven.{Grew, answers_in, batch_at}
 use Rattle.redis_batches.specs.Taken.{answer_of}
 use Rattle.redis_batches.proofs.Round.{IsSoFar}
 use Rattle.redis_batches.proofs.send.send_batches.Given as goal
@@ -25,7 +25,7 @@ invariant-loop-number g l =
       kept : nodes.kept l.nodes → nodes.kept l.fn.nodes;
       may_refuse : (count : ℕ) (ending : Ending) → nodes.may_refuse l.nodes count ending ↔ nodes.may_refuse l.fn.nodes count ending;
       registered : nodes.registered l.nodes ≡ nodes.registered l.fn.nodes;
-      asked : WereAsked (nodes.asked l.fn.nodes) (nodes.asked l.nodes) (map (batch_at l.fn.plan) (take l.number-index l.order));
+      asked : Grew (nodes.asked l.fn.nodes) (nodes.asked l.nodes) (map (batch_at l.fn.plan) (take l.number-index l.order));
       given : Grew (nodes.gave l.fn.nodes) (nodes.gave l.nodes) (answers_in l.fn.plan (map answer_of l.plan.answers) (take l.number-index l.order));
       answered : l.answered ≡ l.number-index;
     }

@@ -4,7 +4,7 @@ use Rattle.std.proofs.lemmas.Option.{same_Some}
 use Rattle.std.proofs.lemmas.Result.{IfErr-weaker, IfOk-weaker}
 use Rattle.redis_cluster.specs.Orders.{in_order}
 use Rattle.redis_batches.specs.Taken.{answer_of, IsNotTaken, IsTaken, batch_for}
-use Rattle.redis_batches.specs.Driven.{WereAsked, WereAskedUntil, batch_at, node_at}
+use Rattle.redis_batches.specs.Driven.{Grew, WereAskedUntil, batch_at, node_at}
 use Rattle.redis_batches.specs.Plan.{Batches, IsPlan}
 use Rattle.redis_batches.proofs.Asked.{asked_none, none_more}
 use Rattle.redis_batches.proofs.Entries.{get_there}
@@ -76,7 +76,7 @@ returns-clause-asked g c =
     (sym (ap (option_map (λ v. map (λ part. part.now) v.items)) c.in-Some.is) ∙ c.in-Ok.ensures ∙ ap (option_map (in_order plan.parts)) at) in
     let own : batch_for c.in-Some-node.node.now sent ≡ batch_at plan c.args.number =
     ap (λ n. batch_for n sent) node ∙ ap (batch_for (node_at plan.nodes c.args.number)) (batch (get_or plan.places c.args.number []) (get_there plan.places c.args.number [] c.requires.within)) in
-    subst (λ b. OnOk c.send_batch.result (WereAsked (nodes.asked c.args.nodes.now) (nodes.asked c.send_batch.new.self) (b ∷ []))) own c.send_batch.ensures.asked
+    subst (λ b. OnOk c.send_batch.result (Grew (nodes.asked c.args.nodes.now) (nodes.asked c.send_batch.new.self) (b ∷ []))) own c.send_batch.ensures.asked
 
 pub returns-clause-asked_until : goal.returns-clause-asked_until
 returns-clause-asked_until g c =

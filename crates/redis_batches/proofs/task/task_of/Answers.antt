@@ -33,3 +33,11 @@ returns-clause-none c = λ kept.
     let no_routes : multi_slot_routes (names_of [] registered) (map Some cmd) ≡ None = search rules in
     let nowhere : slot_routed (routing (names_of [] registered) (map Some cmd)) ≡ None = search rules in
     means_slot registered cmd None no_routes nowhere
+
+pub returns-in_default-info-clause-none : goal.returns-in_default-info-clause-none
+returns-in_default-info-clause-none c = λ kept.
+    let registered = c.args.names.registry.now in
+    let cmd = c.args.command.now in
+    let no_routes : multi_slot_routes (names_of [] registered) (map Some cmd) ≡ None = search rules in
+    let nowhere : slot_routed (routing (names_of [] registered) (map Some cmd)) ≡ None = search rules in
+    means_slot registered cmd None no_routes nowhere
