@@ -13,7 +13,7 @@ use Rattle.redis_batches.specs.Pipeline.{Answer, Serve, Task, in_slot, over_keys
 use Rattle.redis_batches.specs.Taken.{IsBegunAtMost, IsTaken, ending_by, task_of}
 use Rattle.redis_batches.specs.Turns.{all_after}
 use Rattle.memory_nodes.specs.Steps.{step}
-use Rattle.memory_batches.specs.Nodes.{IsBegun, MayRefuse, keyspace_in, registered_in, state_in, trace_in}
+use Rattle.memory_batches.specs.Nodes.{IsBegun, MayRefuseCommand, batch_keyspace, batch_registered, batch_state, batch_trace}
 use Rattle.memory_batches.specs.Strings.{serve}
 use Rattle.memory_batches.specs.declared.nodes.MemoryBatchNodes.{MemoryBatchNodes}
 use Rattle.memory_batches.proofs.Batches.{tasks_long}
@@ -70,12 +70,12 @@ module _ {C : Type 0} (step : Step C) (serve : Serve C) (registered : Registrati
 
 -- so it is with nodes in memory
 pub begun_by : (node : Address) (batch : List (List (List ℕ))) (i : ℕ) (old between new : MemoryBatchNodes) (given : List Answer)
-    → IsTaken step serve (registered_in old) (Unit {0}) (MayRefuse old) node (take i batch) (state_in old) (state_in between) given → i ≤ length batch → trace_in new ≡ trace_in between
-    → ((tasks : List Task) → map (task_of (registered_in old)) batch ≡ map Some tasks → IsBegunAtMost (slice_get tasks i) (keyspace_in between) (keyspace_in new)) → IsBegun node batch old new
+    → IsTaken step serve (batch_registered old) (Unit {0}) (MayRefuseCommand old) node (take i batch) (batch_state old) (batch_state between) given → i ≤ length batch → batch_trace new ≡ batch_trace between
+    → ((tasks : List Task) → map (task_of (batch_registered old)) batch ≡ map Some tasks → IsBegunAtMost (slice_get tasks i) (batch_keyspace between) (batch_keyspace new)) → IsBegun node batch old new
 begun_by node batch i old between new given taken within same begins = record {
   ends = taken.ends;
   within = omega (arith, taken.long, length-take-le i batch within, within);
-  grew = same ∙ taken.trace ∙ ap (λ l. trace_in old ++ map (λ x. entry node x.0 (ending_by x.1)) l) (zip_take i batch taken.ends taken.long);
+  grew = same ∙ taken.trace ∙ ap (λ l. batch_trace old ++ map (λ x. entry node x.0 (ending_by x.1)) l) (zip_take i batch taken.ends taken.long);
   allowed = taken.allowed;
-  keyspace = λ tasks are. broken_off step serve (registered_in old) (Unit {0}) (MayRefuse old) node batch i (state_in old) (state_in between) given taken tt tasks are within (keyspace_in new) (begins tasks are);
+  keyspace = λ tasks are. broken_off step serve (batch_registered old) (Unit {0}) (MayRefuseCommand old) node batch i (batch_state old) (batch_state between) given taken tt tasks are within (batch_keyspace new) (begins tasks are);
 }

@@ -13,9 +13,9 @@ use Rattle.redis_routing.specs.Command.{command_name}
 use Rattle.redis_cluster.specs.Unsplit.{Keyspace, put}
 use Rattle.redis_batches.specs.Served.{in_shelf, shelf, with_shelf}
 use Rattle.memory_nodes.specs.Cells.{Cell, value_at}
-use Rattle.memory_nodes.specs.Steps.{alone, written}
+use Rattle.memory_nodes.specs.Steps.{single_value, written}
 use Rattle.memory_batches.specs.Meaning.{IsDone}
-use Rattle.memory_batches.specs.Strings.{arguments_of, by_verb, counted, cross_slot, fails, in_64_bits, length_at, length_of, list_length, lpush, number_at, one_more, own_error, pushed, raised, raised_from, rename, rename_in_slot, renamed, serve, string_at, verb_in, with_length, with_string}
+use Rattle.memory_batches.specs.Strings.{arguments_after_name, by_verb, incremented, cross_slot, fails, in_64_bits, list_length_at, length_of, list_length, lpush, integer_at, one_more, own_error, pushed, raised, raised_from, rename, rename_in_slot, renamed, serve, string_at, verb_in, with_length, with_string}
 use Rattle.memory_batches.specs.declared.verb.Verb.{Verb}
 use Rattle.memory_batches.proofs.Shelves.{put_elsewhere, put_here, put_more, shelf_back}
 use Rattle.memory_batches.proofs.Verbs.{wrong_number}
@@ -25,12 +25,12 @@ module _ (slot : ℕ) (ks : Keyspace Cell) where
   pub written_here : (number : ℕ) (key string : List ℕ) → number ≡ key_slot key → number ≡ slot → with_string key string ks ≡ with_shelf slot (with_string key string (shelf slot ks)) ks
   written_here number key string is same =
       let own : nat_eq (key_slot key) slot ≡ true = grind (arith, nat_tests) in
-      sym (put_here slot ks key (Some (alone string)) own)
+      sym (put_here slot ks key (Some (single_value string)) own)
 
   pub written_elsewhere : (number : ℕ) (key string : List ℕ) → number ≡ key_slot key → (number ≡ slot → ⊥) → ks ≡ with_shelf slot (with_string key string (shelf slot ks)) ks
   written_elsewhere number key string is differs =
       let other : nat_eq (key_slot key) slot ≡ false = grind (arith, nat_tests) in
-      sym (put_elsewhere slot ks key (Some (alone string)) other)
+      sym (put_elsewhere slot ks key (Some (single_value string)) other)
 
   -- a length at a key of the slot, and at one of another slot
   pub length_here : (number : ℕ) (key text : List ℕ) → number ≡ key_slot key → number ≡ slot → with_length key text ks ≡ with_shelf slot (with_length key text (shelf slot ks)) ks
@@ -45,7 +45,7 @@ module _ (slot : ℕ) (ks : Keyspace Cell) where
       sym (put_elsewhere slot ks key (Some (written (codes "length") text (shelf slot ks key))) other)
 
   -- a list that is one longer
-  pub pushed_done : (key text : List ℕ) (n m : ℤ) (new : Keyspace Cell) → one_more (list_length (string_at (shelf slot ks) key) (length_at (shelf slot ks) key)) ≡ Some n → text ≡ signed_decimal n → m ≡ n
+  pub pushed_done : (key text : List ℕ) (n m : ℤ) (new : Keyspace Cell) → one_more (list_length (string_at (shelf slot ks) key) (list_length_at (shelf slot ks) key)) ≡ Some n → text ≡ signed_decimal n → m ≡ n
       → new ≡ with_shelf slot (with_length key text (shelf slot ks)) ks → IsDone (in_shelf slot (lpush key)) ks new (Ok (value.Int m))
   pushed_done key text n m new is text_is same grew =
       let effect = ap (λ o. pushed key o (shelf slot ks)) is in
@@ -63,14 +63,14 @@ module _ (slot : ℕ) (ks : Keyspace Cell) where
       → IsDone (in_shelf slot (serve args)) ks ks (Err error)
   not_served args verb error named differs is =
       subst (λ effect. IsDone (in_shelf slot effect) ks ks (Err error))
-      (sym (ap (λ v. by_verb v (arguments_of args)) named ∙ wrong_number verb args differs))
+      (sym (ap (λ v. by_verb v (arguments_after_name args)) named ∙ wrong_number verb args differs))
       (fails_done (codes "ERR unknown command") error is)
 
   -- a number that is one more
-  pub incr_done : (key text : List ℕ) (old n m : ℤ) (new : Keyspace Cell) → number_at (string_at (shelf slot ks) key) ≡ Some old → in_64_bits (old +ℤ pos 1) ≡ Some n → text ≡ signed_decimal n → m ≡ n
+  pub incr_done : (key text : List ℕ) (old n m : ℤ) (new : Keyspace Cell) → integer_at (string_at (shelf slot ks) key) ≡ Some old → in_64_bits (old +ℤ pos 1) ≡ Some n → text ≡ signed_decimal n → m ≡ n
       → new ≡ with_shelf slot (with_string key text (shelf slot ks)) ks → IsDone (in_shelf slot (raised key)) ks new (Ok (value.Int m))
   incr_done key text old n m new there is text_is same written =
-      let effect = ap (λ o. raised_from key o (shelf slot ks)) there ∙ ap (λ o. counted key o (shelf slot ks)) is in
+      let effect = ap (λ o. raised_from key o (shelf slot ks)) there ∙ ap (λ o. incremented key o (shelf slot ks)) is in
       record {
         keyspace = written ∙ ap (λ t. with_shelf slot (with_string key t (shelf slot ks)) ks) text_is ∙ sym (ap (λ s. with_shelf slot s.keys ks) effect);
         reply = ap Ok (view-Int m ∙ ap int same) ∙ sym (ap (λ s. s.reply) effect);
@@ -88,7 +88,7 @@ module _ (slot : ℕ) (ks : Keyspace Cell) where
       let own : nat_eq (key_slot key) slot ≡ true = own_key key string there in
       let own_new : nat_eq (key_slot new) slot ≡ true = grind (arith, nat_tests) in
       let effect = ap (λ b. cond b (rename key new) cross_slot (shelf slot ks)) one ∙ ap (λ o. renamed key new o (shelf slot ks)) there in
-      let kept = put_more slot ks new (Some (alone string)) own_new (put key None (shelf slot ks)) ∙ ap (put new (Some (alone string))) (put_here slot ks key None own) in
+      let kept = put_more slot ks new (Some (single_value string)) own_new (put key None (shelf slot ks)) ∙ ap (put new (Some (single_value string))) (put_here slot ks key None own) in
       record {
         keyspace = is_left ∙ sym (ap (λ s. with_shelf slot s.keys ks) effect ∙ kept);
         reply = ap Ok view-Okay ∙ sym (ap (λ s. s.reply) effect);

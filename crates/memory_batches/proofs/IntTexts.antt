@@ -8,7 +8,7 @@ use Rattle.std.specs.Fmt.{signed_decimal}
 use Rattle.std.specs.Str.{bytes_eq, IsUtf8}
 use Rattle.std.specs.Str.Parse.{ParsesSigned, signed_digits_value}
 use Rattle.resp_core.proofs.Cases.{by_test}
-use Rattle.memory_batches.specs.Strings.{has_64_bits, in_64_bits, number_in}
+use Rattle.memory_batches.specs.Strings.{has_64_bits, in_64_bits, integer_in}
 
 fits_by_test : (z : ℤ) → has_64_bits z ≡ true → FitsSigned w64 z
 fits_by_test (pos n) e = record { sfits = grind (arith, nat_tests) }
@@ -29,26 +29,26 @@ module _ (text : List ℕ) where
   value = signed_digits_value 10 text
 
   -- where there is no number it is not written so, or does not fit
-  pub no_number : (signed_decimal value ≡ text → FitsSigned w64 value → ⊥) → number_in text ≡ None
+  pub no_number : (signed_decimal value ≡ text → FitsSigned w64 value → ⊥) → integer_in text ≡ None
   no_number none =
       by_test (bytes_eq (signed_decimal value) text)
       (λ same. ap (λ b. cond b (in_64_bits value) None) same ∙ in_64_bits_none value (none ((bytes_eq-Decides (signed_decimal value) text).0 same)))
       (λ differs. ap (λ b. cond b (in_64_bits value) None) differs)
 
   -- a text that is none
-  pub not_text : (IsUtf8 text → ⊥) → number_in text ≡ None
+  pub not_text : (IsUtf8 text → ⊥) → integer_in text ≡ None
   not_text none = no_number (λ same fits. none (subst IsUtf8 same (IsUtf8-from_ascii (signed_decimal value) (IsAscii-signed value fits.sfits))))
 
   -- a text that is not read as a number
-  pub not_read : {E : Type 0} (e : E) → ParsesSigned w64 10 text (Err e) → number_in text ≡ None
+  pub not_read : {E : Type 0} (e : E) → ParsesSigned w64 10 text (Err e) → integer_in text ≡ None
   not_read e parses = no_number (λ same fits. absurd (cc (parse-signed_decimal w64 value text (Err e) fits fits.sfits (sym same) parses)))
 
   -- a text that is written otherwise
-  pub written_otherwise : (n : ℤ) → n ≡ value → (signed_decimal n ≡ text → ⊥) → number_in text ≡ None
+  pub written_otherwise : (n : ℤ) → n ≡ value → (signed_decimal n ≡ text → ⊥) → integer_in text ≡ None
   written_otherwise n is differs = no_number (λ same fits. differs (ap signed_decimal is ∙ same))
 
   -- a text that is a number
-  pub is_number : (n : ℤ) → n ≡ value → FitsSigned w64 value → signed_decimal n ≡ text → number_in text ≡ Some n
+  pub is_number : (n : ℤ) → n ≡ value → FitsSigned w64 value → signed_decimal n ≡ text → integer_in text ≡ Some n
   is_number n is fits same =
       ap (λ b. cond b (in_64_bits value) None) ((bytes_eq-Decides (signed_decimal value) text).1 (ap signed_decimal (sym is) ∙ same))
       ∙ in_64_bits_some value fits ∙ ap Some (sym is)

@@ -15,7 +15,7 @@ use Rattle.redis_batches.specs.Pipeline.{Answer, Task, in_slot, over_keys}
 use Rattle.redis_batches.specs.Rounds.{SendsOn, StaysHere}
 use Rattle.memory_nodes.specs.Cells.{Cell}
 use Rattle.redis_routing.specs.Command.{command_name}
-use Rattle.memory_batches.specs.Strings.{arguments_of, by_verb, counted, fails, holds_list, in_64_bits, length_at, list_length, number_at, one_more, own_error, pushed, raised_from, renamed, serve, string_at, verb_in}
+use Rattle.memory_batches.specs.Strings.{arguments_after_name, by_verb, incremented, fails, holds_list, in_64_bits, list_length_at, list_length, integer_at, one_more, own_error, pushed, raised_from, renamed, serve, string_at, verb_in}
 use Rattle.memory_batches.specs.declared.verb.Verb.{Verb}
 use Rattle.memory_batches.specs.declared.verb.Verb.TheVariants.{Get, Set, Incr, Rename, Lpush}
 
@@ -64,7 +64,7 @@ module _ (ks : Keyspace Cell) where
   unknown : AnswersOwn (fails (codes "ERR unknown command") ks).reply
   unknown = fails_own (codes "ERR unknown command") (by_first _ refl refl refl)
 
-  counted_own : (key : List ℕ) (number : Option _) → AnswersOwn (counted key number ks).reply
+  counted_own : (key : List ℕ) (number : Option _) → AnswersOwn (incremented key number ks).reply
   counted_own key None = fails_own (codes "ERR increment or decrement would overflow") (by_first _ refl refl refl)
   counted_own key (Some n) = λ error is. absurd (cc is)
 
@@ -92,7 +92,7 @@ module _ (ks : Keyspace Cell) where
   by_verb_own (Some Set) (key ∷ value ∷ other ∷ more) = unknown
   by_verb_own (Some Incr) [] = unknown
   by_verb_own (Some Incr) (key ∷ []) =
-      by_test (holds_list ks key) (λ list. rw list wrong) (λ other. rw other (raised_own key (number_at (string_at ks key))))
+      by_test (holds_list ks key) (λ list. rw list wrong) (λ other. rw other (raised_own key (integer_at (string_at ks key))))
   by_verb_own (Some Incr) (key ∷ other ∷ more) = unknown
   by_verb_own (Some Rename) [] = unknown
   by_verb_own (Some Rename) (key ∷ []) = unknown
@@ -102,13 +102,13 @@ module _ (ks : Keyspace Cell) where
   by_verb_own (Some Rename) (key ∷ new ∷ other ∷ more) = unknown
   by_verb_own (Some Lpush) [] = unknown
   by_verb_own (Some Lpush) (key ∷ []) = unknown
-  by_verb_own (Some Lpush) (key ∷ element ∷ []) = pushed_own key (one_more (list_length (string_at ks key) (length_at ks key)))
+  by_verb_own (Some Lpush) (key ∷ element ∷ []) = pushed_own key (one_more (list_length (string_at ks key) (list_length_at ks key)))
   by_verb_own (Some Lpush) (key ∷ element ∷ other ∷ more) = unknown
 
 task_stays : (task : Task) → StaysHere serve task
 task_stays (over_keys command) = tt
 task_stays (in_slot slot args) = λ keyspace error node target is.
-    stays (serve args keyspace).reply (by_verb_own keyspace (verb_in (command_name (map Some args))) (arguments_of args)) error node target is
+    stays (serve args keyspace).reply (by_verb_own keyspace (verb_in (command_name (map Some args))) (arguments_after_name args)) error node target is
 
 -- So over these nodes a pipeline that is sent in rounds is answered as by one server.
 pub own_errors_stay : (tasks : List Task) → All (StaysHere serve) tasks

@@ -9,7 +9,7 @@ use Rattle.resp_core.specs.ErrorParts.{ErrorParts}
 use Rattle.redis_cluster.specs.Trace.{Entry, refused, entry}
 use Rattle.redis_batches.specs.Taken.{ending_by}
 use Rattle.redis_batches.proofs.Putting.{get_front, get_last}
-use Rattle.memory_batches.specs.Nodes.{AreAsPlanned, entry_of, MayRefuse, may_end, refusal_for, refusal_in, trace_in}
+use Rattle.memory_batches.specs.Nodes.{AreAsPlanned, command_entry, MayRefuseCommand, may_end, refusal_for, refusal_in, batch_trace}
 use Rattle.memory_batches.specs.declared.nodes.MemoryBatchNodes.{MemoryBatchNodes}
 use Rattle.memory_batches.specs.declared.trace_entry.BatchEntry.{BatchEntry}
 
@@ -20,18 +20,18 @@ on_err_always (Err error) is = is
 
 -- an entry more
 pub noted : (items more : List BatchEntry) (e : BatchEntry) (node : Address) (args : List (List ℕ)) (end : Option ErrorParts) → more ≡ items ++ e ∷ [] → e.node ≡ node → e.command ≡ args → e.refusal ≡ end
-    → map entry_of more ≡ map entry_of items ++ entry node args (ending_by end) ∷ []
+    → map command_entry more ≡ map command_entry items ++ entry node args (ending_by end) ∷ []
 noted items more e node args end is node_is args_are end_is =
-    ap (map entry_of) is
-    ∙ map-append entry_of items (e ∷ [])
-    ∙ ap (λ l. map entry_of items ++ l ∷ []) (ap (λ n. entry n e.command (ending_by e.refusal)) node_is ∙ ap (λ a. entry node a (ending_by e.refusal)) args_are ∙ ap (λ o. entry node args (ending_by o)) end_is)
+    ap (map command_entry) is
+    ∙ map-append command_entry items (e ∷ [])
+    ∙ ap (λ l. map command_entry items ++ l ∷ []) (ap (λ n. entry n e.command (ending_by e.refusal)) node_is ∙ ap (λ a. entry node a (ending_by e.refusal)) args_are ∙ ap (λ o. entry node args (ending_by o)) end_is)
 
 -- what is planned may happen
-pub as_planned : (nodes : MemoryBatchNodes) (end : Option ErrorParts) → end ≡ refusal_in nodes (length (trace_in nodes)) → (error : ErrorParts) → end ≡ Some error → MayRefuse nodes (length (trace_in nodes)) (refused error)
+pub as_planned : (nodes : MemoryBatchNodes) (end : Option ErrorParts) → end ≡ refusal_in nodes (length (batch_trace nodes)) → (error : ErrorParts) → end ≡ Some error → MayRefuseCommand nodes (length (batch_trace nodes)) (refused error)
 as_planned nodes end planned error is = (error, sym planned ∙ is, refl)
 
 -- nodes of one plan may refuse the same
-pub same_plan : (nodes other : MemoryBatchNodes) → nodes.plan ≡ other.plan → nodes.base ≡ other.base → MayRefuse nodes ≡ MayRefuse other
+pub same_plan : (nodes other : MemoryBatchNodes) → nodes.plan ≡ other.plan → nodes.base ≡ other.base → MayRefuseCommand nodes ≡ MayRefuseCommand other
 same_plan nodes other plan base = ap (λ p. may_end p.items nodes.base) plan ∙ ap (may_end other.plan.items) base
 
 -- what is planned is the same
@@ -54,12 +54,12 @@ end_so_next planned from trace last are is place e later at =
 
 -- no entry yet
 pub planned_none : (nodes : MemoryBatchNodes) → AreAsPlanned nodes nodes
-planned_none nodes place e later at = let below : place < length (trace_in nodes) = slice_get_within (trace_in nodes) place e at in absurd (omega (arith, later, below))
+planned_none nodes place e later at = let below : place < length (batch_trace nodes) = slice_get_within (batch_trace nodes) place e at in absurd (omega (arith, later, below))
 
 -- one entry more
 pub planned_next : (first now later : MemoryBatchNodes) (node : Address) (args : List (List ℕ)) → now.plan ≡ first.plan → now.base ≡ first.base → AreAsPlanned first now
-    → trace_in later ≡ trace_in now ++ entry node args (ending_by (refusal_in now (length (trace_in now)))) ∷ [] → AreAsPlanned first later
+    → batch_trace later ≡ batch_trace now ++ entry node args (ending_by (refusal_in now (length (batch_trace now)))) ∷ [] → AreAsPlanned first later
 planned_next first now later node args plan base are grew =
-    let last : Entry = entry node args (ending_by (refusal_in now (length (trace_in now)))) in
-    subst (EndSo (refusal_in first) (length (trace_in first))) (sym grew)
-    (end_so_next (refusal_in first) (length (trace_in first)) (trace_in now) last are (ap ending_by (same_refusal now first (length (trace_in now)) plan base)))
+    let last : Entry = entry node args (ending_by (refusal_in now (length (batch_trace now)))) in
+    subst (EndSo (refusal_in first) (length (batch_trace first))) (sym grew)
+    (end_so_next (refusal_in first) (length (batch_trace first)) (batch_trace now) last are (ap ending_by (same_refusal now first (length (batch_trace now)) plan base)))

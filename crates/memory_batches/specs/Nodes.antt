@@ -18,25 +18,25 @@ use Rattle.memory_batches.specs.declared.nodes.MemoryBatchNodes.{MemoryBatchNode
 use Rattle.memory_batches.specs.declared.trace_entry.BatchEntry.{BatchEntry}
 
 -- the trace entry of one command
-abbrev pub entry_of : BatchEntry → Entry
-entry_of e = entry e.node e.command (ending_by e.refusal)
+abbrev pub command_entry : BatchEntry → Entry
+command_entry e = entry e.node e.command (ending_by e.refusal)
 
-abbrev pub keyspace_in : MemoryBatchNodes → Keyspace Cell
-keyspace_in nodes = store.keyspace_in nodes.store
+abbrev pub batch_keyspace : MemoryBatchNodes → Keyspace Cell
+batch_keyspace nodes = store.keyspace_in nodes.store
 
 -- the names that commands may have beside the names of the tables
-abbrev pub registered_in : MemoryBatchNodes → Registrations
-registered_in nodes = store.registered_in nodes.store
+abbrev pub batch_registered : MemoryBatchNodes → Registrations
+batch_registered nodes = store.registered_in nodes.store
 
-abbrev pub trace_in : MemoryBatchNodes → List Entry
-trace_in nodes = map entry_of nodes.trace.items
+abbrev pub batch_trace : MemoryBatchNodes → List Entry
+batch_trace nodes = map command_entry nodes.trace.items
 
 -- whether the last batch ran out of memory
-abbrev pub mark_in : MemoryBatchNodes → Bool
-mark_in nodes = nodes.mark
+abbrev pub batch_mark : MemoryBatchNodes → Bool
+batch_mark nodes = nodes.mark
 
-abbrev pub state_in : MemoryBatchNodes → State Cell
-state_in nodes = state (keyspace_in nodes) (trace_in nodes) (mark_in nodes)
+abbrev pub batch_state : MemoryBatchNodes → State Cell
+batch_state nodes = state (batch_keyspace nodes) (batch_trace nodes) (batch_mark nodes)
 
 -- an entry of a plan, or none after the last
 abbrev pub listed : Option (Option ErrorParts) → Option ErrorParts
@@ -53,8 +53,8 @@ abbrev pub may_end : List (Option ErrorParts) → (base count : ℕ) → Ending 
 may_end plan base count ending =
     (error : ErrorParts) × (refusal_for plan base count ≡ Some error) × (ending ≡ refused error)
 
-abbrev pub MayRefuse : MemoryBatchNodes → ℕ → Ending → Type 0
-MayRefuse nodes = may_end nodes.plan.items nodes.base
+abbrev pub MayRefuseCommand : MemoryBatchNodes → ℕ → Ending → Type 0
+MayRefuseCommand nodes = may_end nodes.plan.items nodes.base
 
 -- the error that is planned for the command that finds `count` entries in the trace
 abbrev pub refusal_in : MemoryBatchNodes → ℕ → Option ErrorParts
@@ -63,7 +63,7 @@ refusal_in nodes count = refusal_for nodes.plan.items nodes.base count
 -- Each new entry of the trace ended as was planned for its index.
 abbrev pub AreAsPlanned : (old new : MemoryBatchNodes) → Type 0
 AreAsPlanned old new =
-    (place : ℕ) (e : Entry) → length (trace_in old) ≤ place → slice_get (trace_in new) place ≡ Some e
+    (place : ℕ) (e : Entry) → length (batch_trace old) ≤ place → slice_get (batch_trace new) place ≡ Some e
     → e.ending ≡ ending_by (refusal_in old place)
 
 -- The first commands of a batch were served, except those that the plan refused, and the trace grew
@@ -72,8 +72,8 @@ pub record IsBegun (node : Address) (batch : List (List (List ℕ))) (old new : 
     : Type 0 where
   pub ends : List (Option ErrorParts)
   pub within : length ends ≤ length batch
-  pub grew : trace_in new ≡ trace_in old ++ batch_entries node batch ends
-  pub allowed : AreAllowed (MayRefuse old) (length (trace_in old)) ends
-  pub keyspace : (tasks : List Task) → map (task_of (registered_in old)) batch ≡ map Some tasks
+  pub grew : batch_trace new ≡ batch_trace old ++ batch_entries node batch ends
+  pub allowed : AreAllowed (MayRefuseCommand old) (length (batch_trace old)) ends
+  pub keyspace : (tasks : List Task) → map (task_of (batch_registered old)) batch ≡ map Some tasks
       → IsBegunAtMost (slice_get tasks (length ends))
-      (all_after (run_ended step serve) (zip tasks ends) (keyspace_in old)) (keyspace_in new)
+      (all_after (run_ended step serve) (zip tasks ends) (batch_keyspace old)) (batch_keyspace new)

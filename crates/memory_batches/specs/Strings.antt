@@ -13,7 +13,7 @@ use Rattle.redis_cluster.specs.Unsplit.{Keyspace, put}
 use Rattle.redis_batches.specs.Served.{Effect}
 use Rattle.redis_batches.specs.Pipeline.{Answer, Serve}
 use Rattle.memory_nodes.specs.Cells.{Cell, value_at}
-use Rattle.memory_nodes.specs.Steps.{alone, shown, written}
+use Rattle.memory_nodes.specs.Steps.{single_value, shown, written}
 use Rattle.memory_batches.specs.declared.verb.Verb.{Verb}
 use Rattle.memory_batches.specs.declared.verb.Verb.TheVariants.{Get, Set, Incr, Rename, Lpush}
 
@@ -23,7 +23,7 @@ string_at keyspace key = value_at (keyspace key) []
 
 -- the keyspace after a key got this string, and no other value
 abbrev pub with_string : List ℕ → List ℕ → Keyspace Cell → Keyspace Cell
-with_string key string keyspace = put key (Some (alone string)) keyspace
+with_string key string keyspace = put key (Some (single_value string)) keyspace
 
 -- an error of a command, by its text
 abbrev pub own_error : List ℕ → ErrorParts
@@ -34,8 +34,8 @@ abbrev pub fails : List ℕ → Effect Cell Answer
 fails text = λ keyspace. record { keys = keyspace; reply = Err (own_error text) }
 
 -- the value at the path `length` of a key: the length of its list, in decimal digits
-abbrev pub length_at : Keyspace Cell → List ℕ → Option (List ℕ)
-length_at keyspace key = value_at (keyspace key) (codes "length")
+abbrev pub list_length_at : Keyspace Cell → List ℕ → Option (List ℕ)
+list_length_at keyspace key = value_at (keyspace key) (codes "length")
 
 -- the keyspace after a key got this length, and kept its values at other paths
 abbrev pub with_length : List ℕ → List ℕ → Keyspace Cell → Keyspace Cell
@@ -48,7 +48,7 @@ is_list (Some string) length = false
 is_list None length = is_some length
 
 abbrev pub holds_list : Keyspace Cell → List ℕ → Bool
-holds_list keyspace key = is_list (string_at keyspace key) (length_at keyspace key)
+holds_list keyspace key = is_list (string_at keyspace key) (list_length_at keyspace key)
 
 abbrev pub wrong_type : Effect Cell Answer
 wrong_type = fails (codes "WRONGTYPE Operation against a key holding the wrong kind of value")
@@ -77,33 +77,33 @@ abbrev pub in_64_bits : ℤ → Option ℤ
 in_64_bits n = cond (has_64_bits n) (Some n) None
 
 -- The 64-bit number that a text writes as a server does: without a plus, a space or a leading zero.
-abbrev pub number_in : List ℕ → Option ℤ
-number_in text =
+abbrev pub integer_in : List ℕ → Option ℤ
+integer_in text =
     cond (bytes_eq (signed_decimal (signed_digits_value 10 text)) text)
     (in_64_bits (signed_digits_value 10 text)) None
 
 -- the number at a key, which is 0 if the key is absent
-abbrev pub number_at : Option (List ℕ) → Option ℤ
-number_at None = Some (pos 0)
-number_at (Some text) = number_in text
+abbrev pub integer_at : Option (List ℕ) → Option ℤ
+integer_at None = Some (pos 0)
+integer_at (Some text) = integer_in text
 
 abbrev pub one_more : Option ℤ → Option ℤ
 one_more number = option_and_then (λ n. in_64_bits (n +ℤ pos 1)) number
 
 -- INCR key: adds one to the number at the key and answers the sum, if it has 64 bits
-abbrev pub counted : List ℕ → Option ℤ → Effect Cell Answer
-counted key None = fails (codes "ERR increment or decrement would overflow")
-counted key (Some n) = λ keyspace. record {
+abbrev pub incremented : List ℕ → Option ℤ → Effect Cell Answer
+incremented key None = fails (codes "ERR increment or decrement would overflow")
+incremented key (Some n) = λ keyspace. record {
   keys = with_string key (signed_decimal n) keyspace;
   reply = Ok (int n);
 }
 
 abbrev pub raised_from : List ℕ → Option ℤ → Effect Cell Answer
 raised_from key None = fails (codes "ERR value is not an integer or out of range")
-raised_from key (Some n) = counted key (in_64_bits (n +ℤ pos 1))
+raised_from key (Some n) = incremented key (in_64_bits (n +ℤ pos 1))
 
 abbrev pub raised : List ℕ → Effect Cell Answer
-raised key = λ keyspace. raised_from key (number_at (string_at keyspace key)) keyspace
+raised key = λ keyspace. raised_from key (integer_at (string_at keyspace key)) keyspace
 
 abbrev pub incr : List ℕ → Effect Cell Answer
 incr key = unless_list key (raised key)
@@ -111,7 +111,7 @@ incr key = unless_list key (raised key)
 -- the length of the list at a key: 0 if the key is absent, and none if it holds a string
 abbrev pub list_length : (string length : Option (List ℕ)) → Option ℤ
 list_length (Some string) length = None
-list_length None length = number_at length
+list_length None length = integer_at length
 
 -- LPUSH key element: adds one to the length of the list at the key, and answers the new length
 abbrev pub pushed : List ℕ → Option ℤ → Effect Cell Answer
@@ -123,7 +123,7 @@ pushed key (Some n) = λ keyspace. record {
 
 abbrev pub lpush : List ℕ → Effect Cell Answer
 lpush key = λ keyspace.
-    pushed key (one_more (list_length (string_at keyspace key) (length_at keyspace key))) keyspace
+    pushed key (one_more (list_length (string_at keyspace key) (list_length_at keyspace key))) keyspace
 
 -- RENAME key new: moves the string of the key to the new key, whatever that held. Unlike Redis, it
 -- answers for a list that there is no such key.
@@ -177,10 +177,10 @@ by_verb (Some Rename) (key ∷ new ∷ []) = rename_in_slot key new
 by_verb (Some Lpush) (key ∷ element ∷ []) = lpush key
 by_verb verb arguments = unknown_command
 
-abbrev pub arguments_of : List (List ℕ) → List (List ℕ)
-arguments_of [] = []
-arguments_of (name ∷ arguments) = arguments
+abbrev pub arguments_after_name : List (List ℕ) → List (List ℕ)
+arguments_after_name [] = []
+arguments_after_name (name ∷ arguments) = arguments
 
 -- what a command does to the keys of its slot, and answers; its name is read in upper case
 abbrev pub serve : Serve Cell
-serve args = by_verb (verb_in (command_name (map Some args))) (arguments_of args)
+serve args = by_verb (verb_in (command_name (map Some args))) (arguments_after_name args)

@@ -4,7 +4,7 @@ ghost use Rattle.redis_batches.specs.Pipeline.{Task};
 ghost use Rattle.redis_batches.specs.Taken.{answer_of, ending_by, task_of, IsBegunAtMost, IsTaken, IsUntaken};
 ghost use Rattle.memory_nodes.specs.Cells.{Cell, value_at};
 ghost use Rattle.memory_nodes.specs.Steps.{step};
-ghost use Rattle.memory_batches.specs.Nodes.{registered_in, keyspace_in, trace_in, mark_in, state_in, refusal_in, may_end, MayRefuse, entry_of, AreAsPlanned, IsBegun};
+ghost use Rattle.memory_batches.specs.Nodes.{batch_registered, batch_keyspace, batch_trace, batch_mark, batch_state, refusal_in, may_end, MayRefuseCommand, command_entry, AreAsPlanned, IsBegun};
 ghost use Rattle.memory_batches.specs.Strings.{serve};
 
 use crate::answering::answer_or_refuse;
@@ -44,11 +44,11 @@ pub struct MemoryBatchNodes {
 impl MemoryBatchNodes {
     /// Nodes with no key, no entry in the trace, no plan and no registered name. Takes no memory.
     pub fn new(alloc: Global) -> MemoryBatchNodes
-        ensures registered { registered_in result ≡ [] }
-        ensures keyspace { keyspace_in result ≡ (λ key. None) }
-        ensures trace { trace_in result ≡ [] }
-        ensures mark { mark_in result ≡ false }
-        ensures may_refuse { (count : ℕ) (ending : Ending) → ¬ (MayRefuse result count ending) }
+        ensures registered { batch_registered result ≡ [] }
+        ensures keyspace { batch_keyspace result ≡ (λ key. None) }
+        ensures trace { batch_trace result ≡ [] }
+        ensures mark { batch_mark result ≡ false }
+        ensures may_refuse { (count : ℕ) (ending : Ending) → ¬ (MayRefuseCommand result count ending) }
     {
         MemoryBatchNodes::with_registry(alloc, Registry::new(alloc))
     }
@@ -56,11 +56,11 @@ impl MemoryBatchNodes {
     /// `new` for nodes that know registered names, too, as `MemoryNodes::with_registry` does. Takes
     /// no memory.
     pub fn with_registry(alloc: Global, registry: Registry) -> MemoryBatchNodes
-        ensures registered { registered_in result ≡ registry }
-        ensures keyspace { keyspace_in result ≡ (λ key. None) }
-        ensures trace { trace_in result ≡ [] }
-        ensures mark { mark_in result ≡ false }
-        ensures may_refuse { (count : ℕ) (ending : Ending) → ¬ (MayRefuse result count ending) }
+        ensures registered { batch_registered result ≡ registry }
+        ensures keyspace { batch_keyspace result ≡ (λ key. None) }
+        ensures trace { batch_trace result ≡ [] }
+        ensures mark { batch_mark result ≡ false }
+        ensures may_refuse { (count : ℕ) (ending : Ending) → ¬ (MayRefuseCommand result count ending) }
     {
         MemoryBatchNodes {
             alloc,
@@ -78,12 +78,12 @@ impl MemoryBatchNodes {
     /// without one it is answered. So are all commands after the last entry. `[None, Some(error)]`
     /// refuses the second command from now on.
     pub fn plan(&mut self, plan: Vec<Option<RedisError>>)
-        ensures registered { registered_in self.new ≡ registered_in self.old }
-        ensures keyspace { keyspace_in self.new ≡ keyspace_in self.old }
-        ensures trace { trace_in self.new ≡ trace_in self.old }
-        ensures mark { mark_in self.new ≡ mark_in self.old }
-        ensures may_refuse { (count : ℕ) (ending : Ending) → MayRefuse self.new count ending
-            ↔ may_end plan.items (length (trace_in self.old)) count ending }
+        ensures registered { batch_registered self.new ≡ batch_registered self.old }
+        ensures keyspace { batch_keyspace self.new ≡ batch_keyspace self.old }
+        ensures trace { batch_trace self.new ≡ batch_trace self.old }
+        ensures mark { batch_mark self.new ≡ batch_mark self.old }
+        ensures may_refuse { (count : ℕ) (ending : Ending) → MayRefuseCommand self.new count ending
+            ↔ may_end plan.items (length (batch_trace self.old)) count ending }
     {
         self.base = self.trace.len();
         self.plan = plan;
@@ -91,21 +91,21 @@ impl MemoryBatchNodes {
 
     /// The value at a path of a key. A value written without a path is at the empty path.
     pub fn get(&self, key: &[u8], path: &[u8]) -> Option<&[u8]>
-        ensures { option_copied result ≡ value_at (keyspace_in self.now key.now) path.now }
+        ensures { option_copied result ≡ value_at (batch_keyspace self.now key.now) path.now }
     {
         self.store.get(key, path)
     }
 
     /// The commands so far, in order.
     pub fn trace(&self) -> &[BatchEntry]
-        ensures { map entry_of result.now ≡ trace_in self.now }
+        ensures { map command_entry result.now ≡ batch_trace self.now }
     {
         self.trace.as_slice()
     }
 
     /// The error that is planned for the next command, if it is to be refused.
     fn next_refusal(&self) -> Result<Option<RedisError>, AllocError>
-        ensures { IfOk result (λ refusal. refusal ≡ refusal_in self.now (length (trace_in self.now))) }
+        ensures { IfOk result (λ refusal. refusal ≡ refusal_in self.now (length (batch_trace self.now))) }
     {
         planned_refusal(self.alloc, &self.plan, self.base, self.trace.len())
     }
@@ -116,19 +116,19 @@ impl MemoryBatchNodes {
         node: &NodeAddress,
         cmd: &Cmd,
     ) -> Result<Result<Value, RedisError>, AllocError>
-        ensures taken { IfOk result (λ answer. IsTaken step serve (registered_in self.old) (Unit {0})
-            (MayRefuse self.old) node.now (cmd.now ∷ [])
-            (state_in self.old) (state_in self.new)
+        ensures taken { IfOk result (λ answer. IsTaken step serve (batch_registered self.old) (Unit {0})
+            (MayRefuseCommand self.old) node.now (cmd.now ∷ [])
+            (batch_state self.old) (batch_state self.new)
             (answer_of answer ∷ [])) }
-        ensures noted { OnOk result (trace_in self.new ≡ trace_in self.old ++ entry node.now cmd.now
-            (ending_by (refusal_in self.old (length (trace_in self.old)))) ∷ []) }
-        ensures untaken { OnErr result (trace_in self.new ≡ trace_in self.old) }
+        ensures noted { OnOk result (batch_trace self.new ≡ batch_trace self.old ++ entry node.now cmd.now
+            (ending_by (refusal_in self.old (length (batch_trace self.old)))) ∷ []) }
+        ensures untaken { OnErr result (batch_trace self.new ≡ batch_trace self.old) }
         ensures begun { OnErr result ((task : Task)
-            → task_of (registered_in self.old) cmd.now ≡ Some task
-            → IsBegunAtMost (Some task) (keyspace_in self.old) (keyspace_in self.new)) }
+            → task_of (batch_registered self.old) cmd.now ≡ Some task
+            → IsBegunAtMost (Some task) (batch_keyspace self.old) (batch_keyspace self.new)) }
         ensures plan { self.new.plan ≡ self.old.plan }
         ensures base { self.new.base ≡ self.old.base }
-        ensures registered { registered_in self.new ≡ registered_in self.old }
+        ensures registered { batch_registered self.new ≡ batch_registered self.old }
     {
         let refusal = self.next_refusal()?;
         let noted = self.next_refusal()?;
@@ -148,16 +148,16 @@ impl MemoryBatchNodes {
     ) -> Result<(), AllocError>
         requires none { answers.old.items ≡ [] }
         ensures answers { OnOk result (length answers.new.items ≡ length batch.now) }
-        ensures taken { OnOk result (IsTaken step serve (registered_in self.old) (Unit {0})
-            (MayRefuse self.old) node.now (map (λ cmd. cmd.now) batch.now)
-            (state_in self.old) (state_in self.new)
+        ensures taken { OnOk result (IsTaken step serve (batch_registered self.old) (Unit {0})
+            (MayRefuseCommand self.old) node.now (map (λ cmd. cmd.now) batch.now)
+            (batch_state self.old) (batch_state self.new)
             (map answer_of answers.new.items)) }
         ensures as_planned { OnOk result (AreAsPlanned self.old self.new) }
         ensures begun { OnErr result (IsBegun node.now (map (λ cmd. cmd.now) batch.now)
             self.old self.new) }
         ensures plan { self.new.plan ≡ self.old.plan }
         ensures base { self.new.base ≡ self.old.base }
-        ensures registered { registered_in self.new ≡ registered_in self.old }
+        ensures registered { batch_registered self.new ≡ batch_registered self.old }
     {
         for cmd in batch {
             let answer = self.take(node, *cmd)?;
@@ -174,11 +174,11 @@ impl BatchNodes for MemoryBatchNodes {
 
     ghost serve = { serve };
 
-    ghost registered = { registered_in };
+    ghost registered = { batch_registered };
 
-    ghost state = { state_in };
+    ghost state = { batch_state };
 
-    ghost may_refuse = { MayRefuse };
+    ghost may_refuse = { MayRefuseCommand };
 
     fn registry(&self) -> &Registry {
         self.store.registry()
@@ -193,22 +193,22 @@ impl BatchNodes for MemoryBatchNodes {
         batch: &[&Cmd],
     ) -> Result<Vec<Result<Value, RedisError>>, SendError>
         ensures answers { IfOk result (λ answers. length answers.items ≡ length batch.now) }
-        ensures taken { IfOk result (λ answers. IsTaken step serve (registered_in self.old) (Unit {0})
-            (MayRefuse self.old) node.now (map (λ cmd. cmd.now) batch.now)
-            (state_in self.old) (state_in self.new)
+        ensures taken { IfOk result (λ answers. IsTaken step serve (batch_registered self.old) (Unit {0})
+            (MayRefuseCommand self.old) node.now (map (λ cmd. cmd.now) batch.now)
+            (batch_state self.old) (batch_state self.new)
             (map answer_of answers.items)) }
         // Exactly the commands were refused that the plan refuses.
         ensures as_planned { OnOk result (AreAsPlanned self.old self.new) }
-        ensures mark { OnOk result (mark_in self.new ≡ false) }
+        ensures mark { OnOk result (batch_mark self.new ≡ false) }
         // A batch fails only if memory runs out.
-        ensures only { OnErr result (mark_in self.new ≡ true) }
-        ensures untaken { IfErr result (λ error. IsUntaken step serve (registered_in self.old)
-            (Unit {0}) (MayRefuse self.old) node.now (map (λ cmd. cmd.now) batch.now)
-            (state_in self.old) (state_in self.new) error) }
+        ensures only { OnErr result (batch_mark self.new ≡ true) }
+        ensures untaken { IfErr result (λ error. IsUntaken step serve (batch_registered self.old)
+            (Unit {0}) (MayRefuseCommand self.old) node.now (map (λ cmd. cmd.now) batch.now)
+            (batch_state self.old) (batch_state self.new) error) }
         ensures planned { (count : ℕ) → refusal_in self.new count ≡ refusal_in self.old count }
-        ensures may_refuse { (count : ℕ) (ending : Ending) → MayRefuse self.new count ending
-            ↔ MayRefuse self.old count ending }
-        ensures registered { registered_in self.new ≡ registered_in self.old }
+        ensures may_refuse { (count : ℕ) (ending : Ending) → MayRefuseCommand self.new count ending
+            ↔ MayRefuseCommand self.old count ending }
+        ensures registered { batch_registered self.new ≡ batch_registered self.old }
     {
         let Ok(mut answers) = Vec::with_capacity(self.alloc, batch.len()) else {
             self.mark = true;

@@ -1,12 +1,12 @@
 ghost use Rattle.std.specs.Prelude.{◌≡◌, pos, ◌+ℤ◌, IfOk, string_bytes};
 ghost use Rattle.std.specs.Fmt.{signed_decimal};
-ghost use Rattle.memory_batches.specs.Strings.{number_in, in_64_bits};
+ghost use Rattle.memory_batches.specs.Strings.{integer_in, in_64_bits};
 
 use std::alloc::{AllocError, Global};
 
 /// The number that a text is, written as a server writes it: `10`, and neither `+10` nor `010`.
 pub(super) fn number_in(alloc: Global, text: &[u8]) -> Result<Option<i64>, AllocError>
-    ensures { IfOk result (λ number. number ≡ number_in text.now) }
+    ensures { IfOk result (λ number. number ≡ integer_in text.now) }
 {
     let Ok(written) = str::from_utf8(text) else {
         return Ok(None);

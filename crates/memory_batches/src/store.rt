@@ -2,7 +2,7 @@ ghost use Rattle.std.specs.Prelude.{◌≡◌, None, OnErr, OnOk, option_copied}
 ghost use Rattle.redis_cluster.specs.Unsplit.{put};
 ghost use Rattle.memory_nodes.specs.Nodes.{keyspace_in, registered_in};
 ghost use Rattle.redis_batches.specs.Served.{shelf, with_shelf};
-ghost use Rattle.memory_batches.specs.Strings.{string_at, with_string, length_at, with_length, holds_list};
+ghost use Rattle.memory_batches.specs.Strings.{string_at, with_string, list_length_at, with_length, holds_list};
 
 use cluster_slots::{NodeAddress, Slot};
 use memory_nodes::MemoryNodes;
@@ -22,7 +22,7 @@ pub(super) fn string_in<'a>(store: &'a MemoryNodes, slot: u16, key: &[u8]) -> Op
 
 /// The length of the list at a key, in decimal digits, if the key has this slot.
 pub(super) fn length_in<'a>(store: &'a MemoryNodes, slot: u16, key: &[u8]) -> Option<&'a [u8]>
-    ensures { option_copied result ≡ length_at (shelf slot (keyspace_in store.now)) key.now }
+    ensures { option_copied result ≡ list_length_at (shelf slot (keyspace_in store.now)) key.now }
 {
     if Slot::for_key(key).number() != slot {
         return None;

@@ -3,7 +3,7 @@ ghost use Rattle.resp_core.specs.View.{view};
 ghost use Rattle.memory_nodes.specs.Nodes.{keyspace_in, registered_in};
 ghost use Rattle.redis_batches.specs.Served.{AgreeElsewhere, in_shelf, shelf};
 ghost use Rattle.redis_batches.specs.Taken.{answer_of};
-ghost use Rattle.memory_batches.specs.Strings.{get, got, set, incr, raised, lpush, rename_in_slot, serve, own_error, string_at, length_at, list_length, number_at, one_more};
+ghost use Rattle.memory_batches.specs.Strings.{get, got, set, incr, raised, lpush, rename_in_slot, serve, own_error, string_at, list_length_at, list_length, integer_at, one_more};
 ghost use Rattle.memory_batches.specs.Meaning.{IsDone};
 ghost use Rattle.std.specs.Prelude.{codes};
 
@@ -166,7 +166,7 @@ fn number_at(
     key: &[u8],
 ) -> Result<Option<i64>, AllocError>
     ensures { IfOk result (λ number. number
-        ≡ number_at (string_at (shelf slot (keyspace_in store.now)) key.now)) }
+        ≡ integer_at (string_at (shelf slot (keyspace_in store.now)) key.now)) }
 {
     match string_in(store, slot, key) {
         Some(string) => number_in(alloc, string),
@@ -204,7 +204,7 @@ fn next_length(
 ) -> Result<Option<i64>, AllocError>
     ensures { IfOk result (λ number. number ≡ one_more (list_length
         (string_at (shelf slot (keyspace_in store.now)) key.now)
-        (length_at (shelf slot (keyspace_in store.now)) key.now))) }
+        (list_length_at (shelf slot (keyspace_in store.now)) key.now))) }
 {
     if string_in(store, slot, key).is_some() {
         return Ok(None);

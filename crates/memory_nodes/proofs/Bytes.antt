@@ -11,7 +11,7 @@ use Rattle.std.proofs.lemmas.Map.Text.{is_eq-slice_cmp}
 use Rattle.std.proofs.lemmas.Slice.Eq.{bytes_eq-Decides}
 use Rattle.resp_core.proofs.Cases.{by_test}
 use Rattle.redis_cluster.specs.Unsplit.{put}
-use Rattle.memory_nodes.specs.Cells.{found}
+use Rattle.memory_nodes.specs.Cells.{tree_value}
 
 -- bytes that differ are not equal to one key
 apart : (bs cs key : List ℕ) → bytes_eq bs cs ≡ false → is_eq (slice_cmp nat_cmp bs key) ≡ true → is_eq (slice_cmp nat_cmp cs key) ≡ false
@@ -25,20 +25,20 @@ others eq test old new h = h
 
 module _ {X : Type 0} where
   -- what a tree has at each key after a change at one
-  pub found-updates : (bs : List ℕ) (m n : BTreeMap (Vec ℕ Global) X) (w : Option X) → UpdatesBy (λ x y. slice_cmp nat_cmp x.items y.items) (λ key. slice_cmp nat_cmp bs key.items) m n w → (cs : List ℕ) → found n cs ≡ cond (bytes_eq bs cs) w (found m cs)
+  pub found-updates : (bs : List ℕ) (m n : BTreeMap (Vec ℕ Global) X) (w : Option X) → UpdatesBy (λ x y. slice_cmp nat_cmp x.items y.items) (λ key. slice_cmp nat_cmp bs key.items) m n w → (cs : List ℕ) → tree_value n cs ≡ cond (bytes_eq bs cs) w (tree_value m cs)
   found-updates bs m n w h cs =
       by_test (bytes_eq bs cs)
-      (λ e. rw e (ap (found n) (sym ((bytes_eq-Decides bs cs).0 e)) ∙ h.1))
+      (λ e. rw e (ap (tree_value n) (sym ((bytes_eq-Decides bs cs).0 e)) ∙ h.1))
       (λ e. rw e (others _ _ m.entries n.entries h.3 (λ key. is_eq (slice_cmp nat_cmp cs key.items)) (λ x y. (eq_by_cmp_equiv nat_list_cmp_total).congr cs x.items y.items) (λ key. apart bs cs key.items e)))
 
   -- the same as one `put`
-  pub found-put : (bs : List ℕ) (m n : BTreeMap (Vec ℕ Global) X) (w : Option X) → UpdatesBy (λ x y. slice_cmp nat_cmp x.items y.items) (λ key. slice_cmp nat_cmp bs key.items) m n w → found n ≡ put bs w (found m)
+  pub found-put : (bs : List ℕ) (m n : BTreeMap (Vec ℕ Global) X) (w : Option X) → UpdatesBy (λ x y. slice_cmp nat_cmp x.items y.items) (λ key. slice_cmp nat_cmp bs key.items) m n w → tree_value n ≡ put bs w (tree_value m)
   found-put bs m n w h = λ i cs. found-updates bs m n w h cs i
 
   -- trees of the same entries have the same at all bytes
-  pub found-same : (m n : BTreeMap (Vec ℕ Global) X) → n.entries ≡ m.entries → found n ≡ found m
+  pub found-same : (m n : BTreeMap (Vec ℕ Global) X) → n.entries ≡ m.entries → tree_value n ≡ tree_value m
   found-same m n h = ap (λ es. λ bs. lookup (is_at (λ key. slice_cmp nat_cmp bs key.items)) es) h
 
   -- what `get_mut` lent was there
-  pub found-lent : (bs : List ℕ) (m n : BTreeMap (Vec ℕ Global) X) (now w : X) → Some now ≡ found m bs → WritesThrough (λ x y. slice_cmp nat_cmp x.items y.items) (λ key. slice_cmp nat_cmp bs key.items) m w n → found n ≡ put bs (Some w) (found m)
+  pub found-lent : (bs : List ℕ) (m n : BTreeMap (Vec ℕ Global) X) (now w : X) → Some now ≡ tree_value m bs → WritesThrough (λ x y. slice_cmp nat_cmp x.items y.items) (λ key. slice_cmp nat_cmp bs key.items) m w n → tree_value n ≡ put bs (Some w) (tree_value m)
   found-lent bs m n now w there h = found-put bs m n (Some w) (h.3 (subst IsSome there refl))

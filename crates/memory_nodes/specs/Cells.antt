@@ -17,14 +17,14 @@ value_at None path = None
 value_at (Some cell) path = cell path
 
 -- what a tree has at some bytes
-abbrev pub found : {X : Type 0} → BTreeMap (Vec ℕ Global) X → List ℕ → Option X
-found tree bytes = get_by (λ key. slice_cmp nat_cmp bytes key.items) tree
+abbrev pub tree_value : {X : Type 0} → BTreeMap (Vec ℕ Global) X → List ℕ → Option X
+tree_value tree bytes = get_by (λ key. slice_cmp nat_cmp bytes key.items) tree
 
 -- the cell that a tree from paths to values keeps
 abbrev pub cell_of : BTreeMap (Vec ℕ Global) (Vec ℕ Global) → Cell
-cell_of values path = option_map (λ value. value.items) (found values path)
+cell_of values path = option_map (λ value. value.items) (tree_value values path)
 
 -- the keyspace that a tree of such trees keeps
 abbrev pub keyspace_of : BTreeMap (Vec ℕ Global) (BTreeMap (Vec ℕ Global) (Vec ℕ Global))
     → Keyspace Cell
-keyspace_of cells key = option_map cell_of (found cells key)
+keyspace_of cells key = option_map cell_of (tree_value cells key)

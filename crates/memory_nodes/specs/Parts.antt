@@ -14,9 +14,9 @@ use Rattle.memory_nodes.specs.declared.name.Name.TheVariants.{Given, Made}
 use Rattle.memory_nodes.specs.declared.whole_command.WholeCommand.{WholeCommand}
 
 -- a name as its bytes
-abbrev pub bytes_of : Name → List ℕ
-bytes_of (Given name) = name.now
-bytes_of (Made name) = name.items
+abbrev pub name_bytes : Name → List ℕ
+name_bytes (Given name) = name.now
+name_bytes (Made name) = name.items
 
 -- arguments as their bytes
 abbrev pub words : List (Vec ℕ Global) → List (List ℕ)

@@ -53,8 +53,8 @@ shown None = nil
 shown (Some value) = bulk value
 
 -- one value at the empty path, and no other
-abbrev pub alone : List ℕ → Cell
-alone value = put [] (Some value) (λ path. None)
+abbrev pub single_value : List ℕ → Cell
+single_value value = put [] (Some value) (λ path. None)
 
 -- one value at a path, and the old values at other paths
 abbrev pub written : List ℕ → List ℕ → Option Cell → Cell
@@ -79,7 +79,7 @@ act ReadAtShared shared extras cell = gives cell (shown (value_at cell (unwrap_o
 act Count shared extras cell = counted cell (is_some cell)
 act Remove shared extras cell = counted None (is_some cell)
 act Leave shared extras cell = counted cell false
-act Write shared extras cell = counted (Some (alone (extra extras 0))) false
+act Write shared extras cell = counted (Some (single_value (extra extras 0))) false
 act WriteAtPath shared extras cell =
     counted (Some (written (extra extras 0) (extra extras 1) cell)) false
 

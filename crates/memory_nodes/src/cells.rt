@@ -1,7 +1,7 @@
 ghost use Rattle.std.specs.Prelude.{◌≡◌, None, Some, IfOk, OnOk, OnErr, is_some, option_copied, option_map};
 ghost use Rattle.redis_cluster.specs.Unsplit.{put};
 ghost use Rattle.memory_nodes.specs.Cells.{cell_of, keyspace_of, value_at};
-ghost use Rattle.memory_nodes.specs.Steps.{alone, written};
+ghost use Rattle.memory_nodes.specs.Steps.{single_value, written};
 ghost use Rattle.memory_nodes.specs.Undo.{undone};
 
 use crate::change::{Before, Change};
@@ -46,7 +46,7 @@ pub(super) fn write<'a>(
     value: &[u8],
 ) -> Result<Change<'a>, AllocError>
     ensures cells { OnOk result
-        (keyspace_of cells.new ≡ put key.now (Some (alone value.now)) (keyspace_of cells.old)) }
+        (keyspace_of cells.new ≡ put key.now (Some (single_value value.now)) (keyspace_of cells.old)) }
     ensures undo { IfOk result
         (λ change. undone change (keyspace_of cells.new) ≡ keyspace_of cells.old) }
     ensures memory { OnErr result (keyspace_of cells.new ≡ keyspace_of cells.old) }

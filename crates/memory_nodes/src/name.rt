@@ -1,7 +1,7 @@
 ghost use Rattle.std.specs.Prelude.{◌≡◌, Some, IfOk, IfSome, IsSome, IsTrue, map};
 ghost use Rattle.redis_routing.specs.Command.{command_name};
 ghost use Rattle.redis_routing.specs.Upper.{upper};
-ghost use Rattle.memory_nodes.specs.Parts.{bytes_of};
+ghost use Rattle.memory_nodes.specs.Parts.{name_bytes};
 
 use redis_routing::{Routable, name_words};
 use resp_core::Cmd;
@@ -20,7 +20,7 @@ impl<'a> Name<'a> {
     /// The name of a command. Takes no memory if it is one word in upper case.
     pub(super) fn of(alloc: Global, cmd: &'a Cmd) -> Result<Self, AllocError>
         requires named { IsSome (command_name (map Some cmd.now)) }
-        ensures name { IfOk result (λ name. command_name (map Some cmd.now) ≡ Some (bytes_of name)) }
+        ensures name { IfOk result (λ name. command_name (map Some cmd.now) ≡ Some (name_bytes name)) }
     {
         if let Some(name) = plain_name(cmd) {
             return Ok(Name::Given(name));
@@ -33,7 +33,7 @@ impl<'a> Name<'a> {
 
     /// The bytes of the name.
     pub(super) fn as_slice(&self) -> &[u8]
-        ensures { result.now ≡ bytes_of self.now }
+        ensures { result.now ≡ name_bytes self.now }
     {
         match self {
             Name::Given(name) => name,

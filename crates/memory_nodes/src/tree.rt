@@ -1,6 +1,6 @@
 ghost use Rattle.std.specs.Prelude.{◌≡◌, Some, IfOk, OnOk, OnErr};
 ghost use Rattle.redis_cluster.specs.Unsplit.{put};
-ghost use Rattle.memory_nodes.specs.Cells.{found};
+ghost use Rattle.memory_nodes.specs.Cells.{tree_value};
 ghost use Rattle.memory_nodes.specs.Undo.{back};
 
 use std::alloc::{AllocError, Global};
@@ -16,9 +16,9 @@ pub(super) fn put_at<V: Drop>(
     bytes: &[u8],
     value: V,
 ) -> Result<Option<V>, AllocError>
-    ensures tree { OnOk result (found tree.new ≡ put bytes.now (Some value) (found tree.old)) }
-    ensures before { IfOk result (λ before. before ≡ found tree.old bytes.now) }
-    ensures memory { OnErr result (found tree.new ≡ found tree.old) }
+    ensures tree { OnOk result (tree_value tree.new ≡ put bytes.now (Some value) (tree_value tree.old)) }
+    ensures before { IfOk result (λ before. before ≡ tree_value tree.old bytes.now) }
+    ensures memory { OnErr result (tree_value tree.new ≡ tree_value tree.old) }
 {
     let before = tree.insert(bytes.to_vec(alloc)?, value)?;
     Ok(before)
@@ -26,8 +26,8 @@ pub(super) fn put_at<V: Drop>(
 
 /// Puts back the value that some bytes had before. Takes no memory.
 pub(super) fn put_back<V: Drop>(tree: &mut Tree<V>, bytes: &[u8], before: Option<V>)
-    ensures { found tree.new
-        ≡ put bytes.now (back before (found tree.old bytes.now)) (found tree.old) }
+    ensures { tree_value tree.new
+        ≡ put bytes.now (back before (tree_value tree.old bytes.now)) (tree_value tree.old) }
 {
     match before {
         Some(before) => {

@@ -26,9 +26,9 @@ use Rattle.redis_batches.proofs.Putting.{set_there}
 use Rattle.redis_batch_bytes.specs.declared.fault.BatchFault.{BatchFault}
 use Rattle.redis_batch_bytes.specs.declared.fault.BatchFault.TheVariants as faults
 use Rattle.redis_batch_bytes.specs.Plans.{EachIsSent}
-use Rattle.redis_batch_bytes.specs.Replies.{AreAnswered, AreByBatch, AreTold, AreUnwritten, IsSameBut, IsToldBatch, IsUncombinedBy, StandAsTold}
-use Rattle.redis_batch_bytes.specs.Told.{told}
-use Rattle.redis_batch_bytes.specs.Unread.{AreFollowed, AreUnreadAnswers, IsFirstNoAnswer, IsFirstUnreadBatch, IsUnreadAnswer}
+use Rattle.redis_batch_bytes.specs.Replies.{BatchesAreAnswered, AreByBatch, AreTold, AreUnwritten, IsSameBut, IsToldBatch, IsUncombinedBy, StandAsTold}
+use Rattle.redis_batch_bytes.specs.Told.{answer_of_wire}
+use Rattle.redis_batch_bytes.specs.Unread.{AnswersAreFollowed, AreUnreadAnswers, IsFirstNoAnswer, IsFirstUnreadBatch, IsUnreadAnswer}
 use Rattle.redis_batch_bytes.proofs.Fronts.{more_stand}
 use Rattle.redis_batch_bytes.proofs.Lists.{concat_more, same_lists, split_right, within}
 
@@ -41,7 +41,7 @@ more_told bytes rest after given own so_far next =
       front = both.front;
       bytes_are = both.bytes_are;
       are = both.are;
-      given_are = ap (λ (l : List Answer). l ++ own) so_far.given_are ∙ ap (λ (l : List Answer). map told so_far.said ++ l) next.given_are ∙ sym (map-append told so_far.said next.said);
+      given_are = ap (λ (l : List Answer). l ++ own) so_far.given_are ∙ ap (λ (l : List Answer). map answer_of_wire so_far.said ++ l) next.given_are ∙ sym (map-append answer_of_wire so_far.said next.said);
     }
 
 pub none_told : (bytes : List ℕ) → StandAsTold bytes bytes []
@@ -49,7 +49,7 @@ none_told bytes = record { said = []; front = []; bytes_are = refl; are = refl; 
 
 -- how many were said
 pub said_long : (bytes rest : List ℕ) (given : List Answer) (stand : StandAsTold bytes rest given) → length stand.said ≡ length given
-said_long bytes rest given stand = sym (ap length stand.given_are ∙ length-map stand.said told)
+said_long bytes rest given stand = sym (ap length stand.given_are ∙ length-map stand.said answer_of_wire)
 
 -- after so many batches
 pub record SoFar (old now : PipelineBatches) (count : ℕ) (bytes rest : List ℕ) : Type 0 where
@@ -61,7 +61,7 @@ pub record SoFar (old now : PipelineBatches) (count : ℕ) (bytes rest : List �
       → slice_get old.batches.places batch ≡ Some places → All (IsRight now.batches.answers all) places
   pub untold : (batch : ℕ) → count ≤ batch → batch < length old.batches.places → slice_get now.batches.told batch ≡ Some false
 
-pub none_so_far : (old : PipelineBatches) (bytes : List ℕ) → IsPlan old.batches → All (λ told. told ≡ false) old.batches.told → SoFar old old 0 bytes bytes
+pub none_so_far : (old : PipelineBatches) (bytes : List ℕ) → IsPlan old.batches → All (λ answer_of_wire. answer_of_wire ≡ false) old.batches.told → SoFar old old 0 bytes bytes
 none_so_far old bytes plan none = record {
   same = (refl, refl, refl, refl, refl);
   given = [];
@@ -165,7 +165,7 @@ unread old now count bytes rest own (faults.AfterReplies n) so_far at next = abs
 unread old now count bytes rest own (faults.NoForm n) so_far at next = first_unread old now count bytes rest own (faults.NoForm n) so_far at next
 
 pub followed : (old now : PipelineBatches) (count : ℕ) (bytes rest : List ℕ) → SoFar old now count bytes rest → length old.batches.places ≤ count → 0 < length rest
-    → AreFollowed old.batches.places bytes (length bytes - length rest)
+    → AnswersAreFollowed old.batches.places bytes (length bytes - length rest)
 followed old now count bytes rest so_far every some = record {
   said = so_far.stand.said;
   front = so_far.stand.front;
@@ -182,7 +182,7 @@ followed old now count bytes rest so_far every some = record {
 module _ (old new : PipelineBatches) (bytes : List ℕ) (told_are : AreTold old new bytes) (sent : EachIsSent old.batches) (room : length new.batches.answers ≡ length old.batches.parts)
     (splits : new.splits ≡ old.splits) (found : List Answer) (are : AreRepliesFor new.splits (map answer_of new.batches.answers) found) where
   -- the replies that were found are those to the answers in the bytes
-  pub answered : (AreSo : List Answer → Type 0) → AreSo found → AreAnswered old bytes AreSo
+  pub answered : (AreSo : List Answer → Type 0) → AreSo found → BatchesAreAnswered old bytes AreSo
   answered AreSo so = record {
     given = told_are.given;
     stand = told_are.stand;

@@ -11,7 +11,7 @@ use Rattle.cluster_map.specs.RangeMap.{Holds, IsAnswerAt, RangeEntry, end_of, va
 use Rattle.cluster_map.specs.SlotNodes.{RangeNodes, SlotNodes, range_entry}
 use Rattle.redis_batches.proofs.Entries.{get_there}
 use Rattle.redis_batches.specs.Placed.{Ranges}
-use Rattle.redis_batch_bytes.specs.Numbered.{AreRuns, IsNumberedMap, number_at, numbered}
+use Rattle.redis_batch_bytes.specs.Numbered.{AreRuns, IsNumberedMap, number_at, address_of_number}
 
 abbrev Entry : Type 0
 Entry = RangeEntry SlotNodes
@@ -43,7 +43,7 @@ module _ (numbers : List ℕ) (start end : ℕ) (entries : List Entry) (so_far :
         absurd (some (same slot low (omega (arith, below)) ∙ none)));
   }
 
-  module _ (nodes : SlotNodes) (some : number_at numbers end ≢ 65535) (primary : nodes.primary ≡ numbered (number_at numbers end)) where
+  module _ (nodes : SlotNodes) (some : number_at numbers end ≢ 65535) (primary : nodes.primary ≡ address_of_number (number_at numbers end)) where
     abbrev run : Entry
     run = (start, end, nodes)
 
@@ -72,13 +72,13 @@ module _ (numbers : List ℕ) (start end : ℕ) (entries : List Entry) (so_far :
     below e (inl there) = omega (arith, so_far.below e there, straight)
     below e (inr is) = subst (λ (f : Entry). end_of f < end + 1) is (omega arith)
 
-    right : (e : Entry) (slot : ℕ) → Contains entries e ⊎ (run ≡ e) → Holds e slot → (number_at numbers slot ≢ 65535) × ((value_of e).primary ≡ numbered (number_at numbers slot))
+    right : (e : Entry) (slot : ℕ) → Contains entries e ⊎ (run ≡ e) → Holds e slot → (number_at numbers slot ≢ 65535) × ((value_of e).primary ≡ address_of_number (number_at numbers slot))
     right e slot (inl there) holds = so_far.right e slot there holds
     right e slot (inr is) holds =
         let own = held e slot is holds in
         let one = same slot own.0 own.1 in
-        subst (λ (f : Entry). (number_at numbers slot ≢ 65535) × ((value_of f).primary ≡ numbered (number_at numbers slot))) is
-        ((λ none. some (sym one ∙ none)), primary ∙ ap numbered (sym one))
+        subst (λ (f : Entry). (number_at numbers slot ≢ 65535) × ((value_of f).primary ≡ address_of_number (number_at numbers slot))) is
+        ((λ none. some (sym one ∙ none)), primary ∙ ap address_of_number (sym one))
 
     -- a run that has one
     pub run_more : AreRuns numbers (end + 1) (entries ++ run ∷ [])
@@ -127,7 +127,7 @@ module _ (numbers slots : List ℕ) (ranges : Ranges) (entries : List Entry) (ru
   }
 
   -- what answers for a slot is the node of its number
-  own : (slot : ℕ) (nodes : SlotNodes) → IsAnswerAt ranges slot nodes → (number_at slots slot ≢ 65535) × (nodes.primary ≡ numbered (number_at slots slot))
+  own : (slot : ℕ) (nodes : SlotNodes) → IsAnswerAt ranges slot nodes → (number_at slots slot ≢ 65535) × (nodes.primary ≡ address_of_number (number_at slots slot))
   own slot nodes answer =
       let e : Entry = (answer.start, answer.end, nodes) in
       runs.right e slot ((kept e).0 answer.there) (answer.after_start, answer.before_end)
@@ -140,9 +140,9 @@ module _ (numbers slots : List ℕ) (ranges : Ranges) (entries : List Entry) (ru
         by_test (nat_lt slot (length slots))
         (λ inside.
         let found = runs.all slot (grind (arith, nat_tests)) there in
-        (value_of found.0, answers found.0 slot found.1 found.2, ap numbered (sym one) ∙ sym (runs.right found.0 slot found.1 found.2).1))
+        (value_of found.0, answers found.0 slot found.1 found.2, ap address_of_number (sym one) ∙ sym (runs.right found.0 slot found.1 found.2).1))
         (λ past. absurd (there (get_or_past slots slot 65535 (grind (arith, nat_tests)))));
-    only = λ slot address small primary. primary.2 ∙ (own slot primary.0 primary.1).1 ∙ ap numbered (same slot small);
+    only = λ slot address small primary. primary.2 ∙ (own slot primary.0 primary.1).1 ∙ ap address_of_number (same slot small);
     none = λ slot small none nodes answer. (own slot nodes answer).0 (same slot small ∙ none);
   }
 
@@ -179,7 +179,7 @@ run_goes_on numbers start slot entries so_far inside next = record {
 
 -- where it has not, the run has ended
 pub run_ended : (numbers : List ℕ) (start slot number : ℕ) (old new : List RangeNodes) → GoesOn numbers start slot (map range_entry old) → number_at numbers slot ≡ number → (number ≡ 65535 → new ≡ old)
-    → (number ≢ 65535 → new ≡ old ++ record { start = start; end = slot; master = numbered number; replicas = [] } ∷ []) → GoesOn numbers (slot + 1) (slot + 1) (map range_entry new)
+    → (number ≢ 65535 → new ≡ old ++ record { start = start; end = slot; master = address_of_number number; replicas = [] } ∷ []) → GoesOn numbers (slot + 1) (slot + 1) (map range_entry new)
 run_ended numbers start slot number old new so_far is none some = record {
   low = omega arith;
   runs = by_test (nat_eq number 65535)
@@ -189,10 +189,10 @@ run_ended numbers start slot number old new so_far is none some = record {
       (none_more numbers start slot (map range_entry old) so_far.runs so_far.low same (is ∙ no)))
       (λ with'.
       let yes : number ≢ 65535 = grind (arith, nat_tests) in
-      let nodes : SlotNodes = record { primary = numbered number; replicas = [] } in
+      let nodes : SlotNodes = record { primary = address_of_number number; replicas = [] } in
       subst (AreRuns numbers (slot + 1))
-      (sym (ap (map range_entry) (some yes) ∙ map_push range_entry old (record { start = start; end = slot; master = numbered number; replicas = [] })))
-      (run_more numbers start slot (map range_entry old) so_far.runs so_far.low same nodes (λ no. yes (sym is ∙ no)) (ap numbered (sym is))));
+      (sym (ap (map range_entry) (some yes) ∙ map_push range_entry old (record { start = start; end = slot; master = address_of_number number; replicas = [] })))
+      (run_more numbers start slot (map range_entry old) so_far.runs so_far.low same nodes (λ no. yes (sym is ∙ no)) (ap address_of_number (sym is))));
   same = λ before low less. absurd (omega (arith, low, less));
 }
   where

@@ -30,7 +30,7 @@ IsUnreadAt number before bytes (Request n fault) = (n ≡ number) × IsNoRequest
 IsUnreadAt number before bytes _ = ⊥
 
 -- Requests stand at the front, and then bytes that are no whole request.
-pub record IsFirstUnread (bytes : List ℕ) (fault : BatchFault) : Type 0 where
+pub record IsFirstUnreadRequest (bytes : List ℕ) (fault : BatchFault) : Type 0 where
   pub commands : List Words
   pub front : List ℕ
   pub rest : List ℕ
@@ -40,6 +40,6 @@ pub record IsFirstUnread (bytes : List ℕ) (fault : BatchFault) : Type 0 where
   pub next : IsUnreadAt (length commands) (length front) rest fault
 
 -- why the bytes are not requests
-abbrev pub AreUnread : List ℕ → BatchFault → Type 0
-AreUnread bytes Memory = Unit {0}
-AreUnread bytes fault = IsFirstUnread bytes fault
+abbrev pub RequestsAreUnread : List ℕ → BatchFault → Type 0
+RequestsAreUnread bytes Memory = Unit {0}
+RequestsAreUnread bytes fault = IsFirstUnreadRequest bytes fault

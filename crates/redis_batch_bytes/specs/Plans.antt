@@ -3,13 +3,13 @@ use Rattle.std.specs.Prelude.{◌≡◌, ◌<◌, ℕ, List, Some, Contains, len
 use Rattle.redis_routing.specs.Registry.{Registrations}
 use Rattle.redis_batches.specs.Placed.{IsPrimaryOf, Ranges}
 use Rattle.redis_batches.specs.Plan.{Batches}
-use Rattle.redis_batches.specs.PipelinePlan.{IsPlanFault, IsPlanOfCommands, PipelineBatches}
+use Rattle.redis_batches.specs.PipelinePlan.{IsPipelinePlanFault, IsPlanOfCommands, PipelineBatches}
 use Rattle.redis_batches.specs.Tasks.{AreSplitsFor}
 use Rattle.redis_batches.specs.declared.fault.PipelineFault.TheVariants as plan
 use Rattle.redis_bytes.specs.Requests.{Words}
 use Rattle.redis_batch_bytes.specs.declared.fault.BatchFault.{BatchFault}
 use Rattle.redis_batch_bytes.specs.declared.fault.BatchFault.TheVariants.{Memory, NotCovered, NotRoutable}
-use Rattle.redis_batch_bytes.specs.Commands.{AreRequests, AreUnread}
+use Rattle.redis_batch_bytes.specs.Commands.{AreRequests, RequestsAreUnread}
 
 -- The bytes are requests, and this is a plan of their commands.
 pub record IsPlanOfRequests (registered : Registrations) (ranges : Ranges) (bytes : List ℕ)
@@ -23,9 +23,9 @@ pub record IsPlanOfRequests (registered : Registrations) (ranges : Ranges) (byte
 abbrev pub HaveNoPlan : Registrations → Ranges → List Words → BatchFault → Type 0
 HaveNoPlan registered ranges commands Memory = Unit {0}
 HaveNoPlan registered ranges commands (NotRoutable number) =
-    IsPlanFault registered ranges commands (plan.NotRoutable number)
+    IsPipelinePlanFault registered ranges commands (plan.NotRoutable number)
 HaveNoPlan registered ranges commands (NotCovered number slot) =
-    IsPlanFault registered ranges commands (plan.NotCovered number slot)
+    IsPipelinePlanFault registered ranges commands (plan.NotCovered number slot)
 HaveNoPlan registered ranges commands _ = ⊥
 
 -- why bytes are not planned: they are not requests, or their commands have no plan
@@ -34,7 +34,7 @@ IsUnplanned registered ranges bytes (NotRoutable number) = (commands : List Word
     × AreRequests commands bytes × HaveNoPlan registered ranges commands (NotRoutable number)
 IsUnplanned registered ranges bytes (NotCovered number slot) = (commands : List Words)
     × AreRequests commands bytes × HaveNoPlan registered ranges commands (NotCovered number slot)
-IsUnplanned registered ranges bytes fault = AreUnread bytes fault
+IsUnplanned registered ranges bytes fault = RequestsAreUnread bytes fault
 
 -- each part is in a batch
 abbrev pub EachIsSent : Batches → Type 0

@@ -15,7 +15,7 @@ use Rattle.redis_batches.specs.Replies.{AreRepliesFor}
 use Rattle.redis_batch_bytes.specs.declared.fault.BatchFault.{BatchFault}
 use Rattle.redis_batch_bytes.specs.declared.fault.BatchFault.TheVariants.{Memory, NoForm}
 use Rattle.redis_batch_bytes.specs.Plans.{IsPlanOfRequests, IsUnplanned}
-use Rattle.redis_batch_bytes.specs.Told.{WireAnswer, answer_form, told}
+use Rattle.redis_batch_bytes.specs.Told.{WireAnswer, answer_form, answer_of_wire}
 use Rattle.redis_batch_bytes.specs.Unread.{AreUnreadAnswers}
 
 -- Answers are at the front, followed by `rest`, and a plan takes `given` of them.
@@ -24,7 +24,7 @@ pub record StandAsTold (bytes rest : List ℕ) (given : List Answer) : Type 0 wh
   pub front : List ℕ
   pub bytes_are : bytes ≡ front ++ rest
   pub are : InOrder IsAnswer said front
-  pub given_are : given ≡ map told said
+  pub given_are : given ≡ map answer_of_wire said
 
 -- `given` has the answers of `all`, which has one for each part, batch after batch
 abbrev pub AreByBatch : Batches → List Answer → List Answer → Type 0
@@ -33,7 +33,7 @@ AreByBatch batches all given =
 
 -- The bytes are an answer to each command of each batch, batch after batch. If these are the nodes'
 -- answers to the parts, the replies to the commands fulfil `AreSo`.
-pub record AreAnswered (plan : PipelineBatches) (bytes : List ℕ) (AreSo : List Answer → Type 0)
+pub record BatchesAreAnswered (plan : PipelineBatches) (bytes : List ℕ) (AreSo : List Answer → Type 0)
     : Type 0 where
   pub given : List Answer
   pub stand : StandAsTold bytes [] given
@@ -42,9 +42,9 @@ pub record AreAnswered (plan : PipelineBatches) (bytes : List ℕ) (AreSo : List
       → (replies : List Answer) × AreRepliesFor plan.splits all replies × AreSo replies
 
 -- `combined` has the replies to the commands, one after another.
-abbrev pub AreCombined : PipelineBatches → List ℕ → List ℕ → Type 0
-AreCombined plan bytes combined =
-    AreAnswered plan bytes (λ replies. combined ≡ flat_map answer_form replies)
+abbrev pub RepliesAreWritten : PipelineBatches → List ℕ → List ℕ → Type 0
+RepliesAreWritten plan bytes combined =
+    BatchesAreAnswered plan bytes (λ replies. combined ≡ flat_map answer_form replies)
 
 -- why replies are not written: one has no form
 abbrev pub AreUnwritten : List Answer → BatchFault → Type 0
@@ -56,13 +56,13 @@ AreUnwritten replies _ = ⊥
 -- why the answers to the batches of a plan make no replies in bytes
 abbrev pub IsUncombinedBy : PipelineBatches → List ℕ → BatchFault → Type 0
 IsUncombinedBy plan bytes (NoForm number) =
-    AreAnswered plan bytes (λ replies. AreUnwritten replies (NoForm number))
+    BatchesAreAnswered plan bytes (λ replies. AreUnwritten replies (NoForm number))
 IsUncombinedBy plan bytes fault = AreUnreadAnswers plan.batches.places bytes fault
 
 -- why replies to a pipeline are not combined: it has no plan, or the bytes are not the answers to
 -- its batches
-abbrev pub IsUncombined : Registrations → Ranges → List ℕ → List ℕ → BatchFault → Type 0
-IsUncombined registered ranges requests bytes fault = IsUnplanned registered ranges requests fault
+abbrev pub PipelineIsUncombined : Registrations → Ranges → List ℕ → List ℕ → BatchFault → Type 0
+PipelineIsUncombined registered ranges requests bytes fault = IsUnplanned registered ranges requests fault
     ⊎ ((plan : PipelineBatches) × IsPlanOfRequests registered ranges requests plan
     × IsUncombinedBy plan bytes fault)
 

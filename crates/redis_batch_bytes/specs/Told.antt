@@ -16,17 +16,17 @@ abbrev pub error_of : List ℕ → ErrorParts
 error_of text = record { kind = Client; desc = []; detail = Some (utf8_lossy text) }
 
 -- what a plan takes of an answer
-abbrev pub told : WireAnswer → Answer
-told (Ok reply) = Ok reply
-told (Err text) = Err (error_of text)
+abbrev pub answer_of_wire : WireAnswer → Answer
+answer_of_wire (Ok reply) = Ok reply
+answer_of_wire (Err text) = Err (error_of text)
 
 -- the text of an error: a node's, or a fixed one if the replies to the parts make no one reply
-abbrev pub said_by : List ℕ → Option (List ℕ) → List ℕ
-said_by [] (Some text) = text
-said_by desc detail = codes "ERR the replies to the parts make no one reply"
+abbrev pub error_line : List ℕ → Option (List ℕ) → List ℕ
+error_line [] (Some text) = text
+error_line desc detail = codes "ERR the replies to the parts make no one reply"
 
 abbrev pub said_of : ErrorParts → List ℕ
-said_of error = said_by error.desc error.detail
+said_of error = error_line error.desc error.detail
 
 -- the bytes of the reply to a command: the form of a value, or the line of an error
 abbrev pub answer_form : Answer → List ℕ

@@ -46,7 +46,7 @@ pub record IsFirstUnreadBatch (places : List (List ℕ)) (bytes : List ℕ) (fau
   pub next : IsFirstNoAnswer batch (length own) rest fault
 
 -- The answers to all batches are at the front and end at index `end`, and more bytes follow.
-pub record AreFollowed (places : List (List ℕ)) (bytes : List ℕ) (end : ℕ) : Type 0 where
+pub record AnswersAreFollowed (places : List (List ℕ)) (bytes : List ℕ) (end : ℕ) : Type 0 where
   pub said : List WireAnswer
   pub front : List ℕ
   pub rest : List ℕ
@@ -59,5 +59,5 @@ pub record AreFollowed (places : List (List ℕ)) (bytes : List ℕ) (end : ℕ)
 -- why bytes are not the answers to the parts at these indices, batch after batch
 abbrev pub AreUnreadAnswers : List (List ℕ) → List ℕ → BatchFault → Type 0
 AreUnreadAnswers places bytes Memory = Unit {0}
-AreUnreadAnswers places bytes (AfterReplies end) = AreFollowed places bytes end
+AreUnreadAnswers places bytes (AfterReplies end) = AnswersAreFollowed places bytes end
 AreUnreadAnswers places bytes fault = IsFirstUnreadBatch places bytes fault

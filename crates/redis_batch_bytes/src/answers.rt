@@ -2,7 +2,7 @@ ghost use Rattle.std.specs.Prelude.{◌≡◌, ◌++◌, ℕ, List, map, length,
 ghost use Rattle.redis_bytes.specs.Replies.{IsAnswer};
 ghost use Rattle.redis_batches.specs.Taken.{answer_of};
 ghost use Rattle.redis_batch_bytes.specs.Replies.{StandAsTold};
-ghost use Rattle.redis_batch_bytes.specs.Told.{WireAnswer, told};
+ghost use Rattle.redis_batch_bytes.specs.Told.{WireAnswer, answer_of_wire};
 ghost use Rattle.redis_batch_bytes.specs.Unread.{IsNoAnswer, IsUnreadAnswer};
 
 use crate::errors::told;
@@ -40,7 +40,7 @@ fn answer_at(
     bytes: &[u8],
 ) -> Result<(Result<Value, RedisError>, &[u8]), BatchFault>
     ensures found { IfOk result (λ x. (said : WireAnswer) × (form : List ℕ)
-        × (bytes.now ≡ form ++ x.1.now) × IsAnswer said form × (answer_of x.0 ≡ told said)) }
+        × (bytes.now ≡ form ++ x.1.now) × IsAnswer said form × (answer_of x.0 ≡ answer_of_wire said)) }
     ensures fault { IfErr result (λ fault. IsNoAnswer batch number bytes.now fault) }
 {
     let (response, rest) = match read(alloc, bytes) {

@@ -3,7 +3,7 @@ ghost use Rattle.std.specs.List.{All};
 ghost use Rattle.redis_batches.specs.Plan.{IsPlan};
 ghost use Rattle.redis_batches.specs.PipelinePlan.{PipelineBatches};
 ghost use Rattle.redis_batch_bytes.specs.Plans.{EachIsSent, IsPlanOfRequests};
-ghost use Rattle.redis_batch_bytes.specs.Replies.{AreCombined, IsUncombined, IsUncombinedBy};
+ghost use Rattle.redis_batch_bytes.specs.Replies.{RepliesAreWritten, PipelineIsUncombined, IsUncombinedBy};
 
 use crate::commands::commands_in;
 use crate::fault::BatchFault;
@@ -38,10 +38,10 @@ pub fn combine_pipeline(
     // written by these.
     ensures combined { IfOk result (λ combined. (plan : PipelineBatches)
         × IsPlanOfRequests registry.now slot_map.now requests.now plan
-        × AreCombined plan replies.now combined.items) }
+        × RepliesAreWritten plan replies.now combined.items) }
     // Each fault has its cause.
     ensures fault { IfErr result (λ fault.
-        IsUncombined registry.now slot_map.now requests.now replies.now fault) }
+        PipelineIsUncombined registry.now slot_map.now requests.now replies.now fault) }
 {
     let commands = commands_in(alloc, requests)?;
     let plan = plan_of(alloc, commands.as_slice(), registry, slot_map)?;
@@ -52,7 +52,7 @@ pub fn combine_pipeline(
 fn combined(alloc: Global, plan: PipelinePlan<'_>, replies: &[u8]) -> Result<Vec<u8>, BatchFault>
     requires untold { All (λ told. told ≡ false) plan.batches.told }
     requires sent { EachIsSent plan.batches }
-    ensures combined { IfOk result (λ combined. AreCombined plan.entry replies.now combined.items) }
+    ensures combined { IfOk result (λ combined. RepliesAreWritten plan.entry replies.now combined.items) }
     ensures fault { IfErr result (λ fault. IsUncombinedBy plan.entry replies.now fault) }
 {
     let mut plan = plan;

@@ -1,6 +1,6 @@
 ghost use Rattle.std.specs.Prelude.{◌≡◌, ◌≤◌, ◌+◌, ◌++◌, ℕ, List, length, IfOk, IfErr};
 ghost use Rattle.resp.specs.Forms.{IsRequest};
-ghost use Rattle.redis_batch_bytes.specs.Commands.{AreRequests, AreUnread, IsUnreadAt};
+ghost use Rattle.redis_batch_bytes.specs.Commands.{AreRequests, RequestsAreUnread, IsUnreadAt};
 
 use crate::fault::BatchFault;
 use resp::{RequestError, RequestFault, read_request};
@@ -10,7 +10,7 @@ use std::alloc::Global;
 /// The commands of the requests that the bytes are.
 pub(super) fn commands_in(alloc: Global, requests: &[u8]) -> Result<Vec<Cmd>, BatchFault>
     ensures found { IfOk result (λ commands. AreRequests commands.items requests.now) }
-    ensures fault { IfErr result (λ fault. AreUnread requests.now fault) }
+    ensures fault { IfErr result (λ fault. RequestsAreUnread requests.now fault) }
 {
     let mut commands = Vec::new(alloc);
     let mut rest = requests;

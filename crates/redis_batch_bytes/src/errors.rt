@@ -1,7 +1,7 @@
 ghost use Rattle.std.specs.Prelude.{◌≡◌, IfOk};
 ghost use Rattle.resp.specs.Forms.{answer};
 ghost use Rattle.redis_batches.specs.Taken.{answer_of};
-ghost use Rattle.redis_batch_bytes.specs.Told.{said_of, told};
+ghost use Rattle.redis_batch_bytes.specs.Told.{said_of, answer_of_wire};
 
 use resp::Response;
 use resp_core::{ErrorKind, RedisError, Value};
@@ -13,7 +13,7 @@ pub(super) fn told(
     alloc: Global,
     response: Response,
 ) -> Result<Result<Value, RedisError>, AllocError>
-    ensures { IfOk result (λ found. answer_of found ≡ told (answer response)) }
+    ensures { IfOk result (λ found. answer_of found ≡ answer_of_wire (answer response)) }
 {
     match response {
         Response::Value(value) => Ok(Ok(value)),

@@ -1,6 +1,6 @@
 ghost use Rattle.std.specs.Prelude.{◌≡◌, ◌≢◌, ◌≤◌, ◌++◌, ◌∷◌, [], length, map, IfOk, OnOk};
 ghost use Rattle.cluster_map.specs.SlotNodes.{range_entry};
-ghost use Rattle.redis_batch_bytes.specs.Numbered.{AreRuns, IsNumberedMap, numbered};
+ghost use Rattle.redis_batch_bytes.specs.Numbered.{AreRuns, IsNumberedMap, address_of_number};
 
 use cluster_map::{NodeAddress, SlotMap, SlotRange};
 use redis_bytes::{NO_NODE, SLOTS};
@@ -48,7 +48,7 @@ fn push_run(
 ) -> Result<(), AllocError>
     ensures none { number ≡ 65535 → OnOk result (runs.new.items ≡ runs.old.items) }
     ensures run { number ≢ 65535 → OnOk result (runs.new.items ≡ runs.old.items
-        ++ record { start = start; end = end; master = numbered number; replicas = [] } ∷ []) }
+        ++ record { start = start; end = end; master = address_of_number number; replicas = [] } ∷ []) }
 {
     if number == NO_NODE {
         return Ok(());

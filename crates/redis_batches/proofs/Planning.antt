@@ -28,7 +28,7 @@ use Rattle.redis_batches.specs.Pipelined.{IsTaskFault}
 use Rattle.redis_batches.specs.Placed.{ArePlaced, IsPartFault, Ranges}
 use Rattle.redis_batches.specs.Reads.{only_reads, slots_written}
 use Rattle.redis_batches.specs.Chosen.{all_written}
-use Rattle.redis_batches.specs.PipelinePlan.{IsPlanFault, IsPlanOfCommands, PipelineBatches, pieces_of}
+use Rattle.redis_batches.specs.PipelinePlan.{IsPipelinePlanFault, IsPlanOfCommands, PipelineBatches, pieces_of}
 use Rattle.redis_batches.specs.Plan.{Batches, IsByNode}
 use Rattle.redis_batches.specs.Replies.{part_count}
 use Rattle.redis_batches.specs.declared.fault.PipelineFault.{PipelineFault}
@@ -241,13 +241,13 @@ is_plan_of registered chosen is_node commands kept batches nodes one may each pl
     }
 
 -- why there is none
-pub task_fault : (registered : Registrations) (ranges : Ranges) (commands : List (List (List ℕ))) (fault : PipelineFault) → IsTaskFault registered commands fault → IsPlanFault registered ranges commands fault
+pub task_fault : (registered : Registrations) (ranges : Ranges) (commands : List (List (List ℕ))) (fault : PipelineFault) → IsTaskFault registered commands fault → IsPipelinePlanFault registered ranges commands fault
 task_fault registered ranges commands (NotRoutable number) is = is
 task_fault registered ranges commands (NotCovered number slot) is = absurd is
 task_fault registered ranges commands Memory is = tt
 
 pub part_fault : (registered : Registrations) (ranges : Ranges) (commands : List (List (List ℕ))) (kept : List CommandTask) (fault : PipelineFault) → AllZip (IsTaskFor registered) commands kept → IsPartFault ranges (map slots_kept kept) fault
-    → IsPlanFault registered ranges commands fault
+    → IsPipelinePlanFault registered ranges commands fault
 part_fault registered ranges commands kept (NotRoutable number) each is = absurd is
 part_fault registered ranges commands kept Memory each is = tt
 part_fault registered ranges commands kept (NotCovered number slot) each is =

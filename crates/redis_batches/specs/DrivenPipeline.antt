@@ -13,7 +13,7 @@ use Rattle.redis_batches.specs.Tasks.{AreTasksOf, with_slots}
 use Rattle.redis_batches.specs.Driven.{AreInTurn, Grew, HaveAnswered, IsServed, WasStopped, WereAskedUntil, answers_in, batch_at}
 use Rattle.redis_batches.specs.Placed.{Ranges}
 use Rattle.redis_batches.specs.Plan.{batch_of}
-use Rattle.redis_batches.specs.PipelinePlan.{IsPlanFault, IsPlanOfCommands, PipelineBatches}
+use Rattle.redis_batches.specs.PipelinePlan.{IsPipelinePlanFault, IsPlanOfCommands, PipelineBatches}
 use Rattle.redis_batches.specs.Replies.{AreRepliesTo, AreUntouched}
 use Rattle.redis_batches.specs.Taken.{Batch}
 use Rattle.redis_cluster.specs.declared.nodes.SendError.TheVariants as sent
@@ -39,7 +39,7 @@ IsOneServer step serve registered commands old new replies =
 abbrev pub IsEarlyFault : Registrations → Ranges → (ℕ → Address → Type 0)
     → List (List (List ℕ)) → List ℕ → PipelineError → Type 0
 IsEarlyFault registered ranges is_node commands order (Plan fault) =
-    IsPlanFault registered ranges commands fault
+    IsPipelinePlanFault registered ranges commands fault
 IsEarlyFault registered ranges is_node commands order BadOrder =
     (plan : PipelineBatches) × IsPlanOfCommands registered is_node commands plan
     × (NamesOnce (length plan.batches.places) order → ⊥)

@@ -48,10 +48,10 @@ pub record IsPlanOfCommands (registered : Registrations) (is_node : ℕ → Addr
   pub targets_are : plan.targets ≡ map (λ q. node_of q.slot) (pieces_of tasks)
 
 -- Why commands have no plan. Where a slot has no node, each command means something.
-abbrev pub IsPlanFault : Registrations → Ranges → List (List (List ℕ)) → PipelineFault → Type 0
-IsPlanFault registered ranges commands (NotRoutable number) =
+abbrev pub IsPipelinePlanFault : Registrations → Ranges → List (List (List ℕ)) → PipelineFault → Type 0
+IsPipelinePlanFault registered ranges commands (NotRoutable number) =
     IsFirstMeaningless registered commands number
-IsPlanFault registered ranges commands (NotCovered number slot) =
+IsPipelinePlanFault registered ranges commands (NotCovered number slot) =
     (tasks : List Task) × AreTasksOf registered commands tasks
     × IsFirstWithoutNode ranges (map slots_of_task tasks) number slot
-IsPlanFault registered ranges commands Memory = Unit {0}
+IsPipelinePlanFault registered ranges commands Memory = Unit {0}

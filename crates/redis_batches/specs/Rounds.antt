@@ -130,8 +130,7 @@ module _ {C : Type 0} (step : Step C) (serve : Serve C) (kept : Type 0)
 
 -- the batches of a round, each once
 abbrev pub round_batches : Round → List Batch
-round_batches round =
-    map (batch_at round.batches) (range_with_len 0 (length round.batches.places))
+round_batches round = map (batch_at round.batches) (range_with_len 0 (length round.batches.places))
 
 -- the answers to them, batch after batch
 abbrev pub round_answers : Round → List (List Answer)

@@ -7,7 +7,7 @@ ghost use Rattle.redis_cluster.specs.Orders.{in_order};
 ghost use Rattle.redis_batches.specs.Pipeline.{Answer};
 ghost use Rattle.redis_batches.specs.Batched.{AreFor, IsRight};
 ghost use Rattle.redis_batches.specs.CommandTask.{slots_kept, split_in};
-ghost use Rattle.redis_batches.specs.PipelinePlan.{HasParts, IsPlanFault, IsPlanOfCommands};
+ghost use Rattle.redis_batches.specs.PipelinePlan.{HasParts, IsPipelinePlanFault, IsPlanOfCommands};
 ghost use Rattle.redis_batches.specs.Plan.{AreFewest, IsPlan};
 ghost use Rattle.redis_batches.specs.Reads.{IsSlotNode};
 ghost use Rattle.redis_batches.specs.Replies.{AreRepliesFor};
@@ -97,7 +97,7 @@ impl<'a> PipelinePlan<'a> {
         ensures fewest { IfOk result (λ plan. AreFewest plan.batches) }
         ensures untold { IfOk result (λ plan. All (λ told. told ≡ false) plan.batches.told) }
         ensures fault { IfErr result (λ fault.
-            IsPlanFault names.entry.registry.now slot_map.now commands.now fault) }
+            IsPipelinePlanFault names.entry.registry.now slot_map.now commands.now fault) }
     {
         // Its ranges ascend, so that a slot has one node.
         let _ranges = slot_map.values();

@@ -13,7 +13,7 @@ use Rattle.cluster_slots.specs.Address.{Address, address_cmp}
 use Rattle.cluster_slots.specs.SlotRoute.{SlotRoute}
 use Rattle.cluster_map.specs.RangeMap.{RangeEntry}
 use Rattle.cluster_map.specs.SlotNodes.{SlotNodes}
-use Rattle.redis_bytes.specs.Table.{IsNumbered, ArePlaced, AreDistinct, AreUsed, Grows, addresses, by_address}
+use Rattle.redis_bytes.specs.Table.{IsNodeNumber, AreNumbersOf, AreDistinct, AreUsed, Grows, addresses, by_address}
 
 -- what stands in a list stands there with more after it
 stays_there : (xs : List (Bor Address)) (y : Bor Address) (k : ℕ) (node : Address) → slice_get (addresses xs) k ≡ Some node → slice_get (addresses (xs ++ y ∷ [])) k ≡ Some node
@@ -37,10 +37,10 @@ stood (x ∷ xs) y (suc k) node e = later (stood xs y k node e)
     later (inl there) = inl there
     later (inr last) = inr (ap suc last.0, last.1)
 
-pub stays_numbered : (entries : List (RangeEntry SlotNodes)) (old new : List (Bor Address)) (route : SlotRoute) (pick given number : ℕ) → Grows old new given → IsNumbered entries (addresses old) route pick number → IsNumbered entries (addresses new) route pick number
-stays_numbered entries old new route pick given number (inl same) is = subst (λ (ns : List (Bor Address)). IsNumbered entries (addresses ns) route pick number) (sym same) is
+pub stays_numbered : (entries : List (RangeEntry SlotNodes)) (old new : List (Bor Address)) (route : SlotRoute) (pick given number : ℕ) → Grows old new given → IsNodeNumber entries (addresses old) route pick number → IsNodeNumber entries (addresses new) route pick number
+stays_numbered entries old new route pick given number (inl same) is = subst (λ (ns : List (Bor Address)). IsNodeNumber entries (addresses ns) route pick number) (sym same) is
 stays_numbered entries old new route pick given number (inr more) (inl none) = inl none
-stays_numbered entries old new route pick given number (inr more) (inr there) = subst (λ (ns : List (Bor Address)). IsNumbered entries (addresses ns) route pick number) (sym more.1) (inr (there.0, stays_there old more.0 number there.0 there.1, there.2))
+stays_numbered entries old new route pick given number (inr more) (inr there) = subst (λ (ns : List (Bor Address)). IsNodeNumber entries (addresses ns) route pick number) (sym more.1) (inr (there.0, stays_there old more.0 number there.0 there.1, there.2))
 
 pub grows_by_one : (old new : List (Bor Address)) (given : ℕ) → Grows old new given → length new ≤ length old + 1
 grows_by_one old new given (inl same) = omega (arith, ap (length {A = Bor Address}) same)
@@ -92,12 +92,12 @@ same_node a b h = (equal_law a b).0 (from_is_eq (address_cmp a b) h)
 found_alike : (places : BTreeMap (Bor Address) ℕ) (node other : Bor Address) → node.now ≡ other.now → get by_address places node ≡ get by_address places other
 found_alike places node other same = ap (λ (a : Address). lookup (λ k. is_eq (address_cmp a k.now)) places.entries) same
 
-pub none_placed : (places : BTreeMap (Bor Address) ℕ) → places.entries ≡ [] → ArePlaced [] places
+pub none_placed : (places : BTreeMap (Bor Address) ℕ) → places.entries ≡ [] → AreNumbersOf [] places
 none_placed places empty node number =
     let none : get by_address places node ≡ None = ap (λ (es : List (Bor Address × ℕ)). lookup (is_at (by_address node)) es) empty in
     ((λ found. absurd (none-some number (sym none ∙ found))), (λ there. absurd (none-some node.now there)))
 
-module _ (old new : List (Bor Address)) (node : Bor Address) (before after : BTreeMap (Bor Address) ℕ) (number : ℕ) (grown : new ≡ old ++ node ∷ []) (last : number ≡ length old) (updates : Updates by_address before after node (Some number)) (absent : get by_address before node ≡ None) (placed : ArePlaced old before) where
+module _ (old new : List (Bor Address)) (node : Bor Address) (before after : BTreeMap (Bor Address) ℕ) (number : ℕ) (grown : new ≡ old ++ node ∷ []) (last : number ≡ length old) (updates : Updates by_address before after node (Some number)) (absent : get by_address before node ≡ None) (placed : AreNumbersOf old before) where
   at_more : (q : Bor Address) (n : ℕ) → slice_get (addresses (old ++ node ∷ [])) n ≡ Some q.now → slice_get (addresses new) n ≡ Some q.now
   at_more q n e = ap (λ (ns : List (Bor Address)). slice_get (addresses ns) n) grown ∙ e
 
@@ -133,7 +133,7 @@ module _ (old new : List (Bor Address)) (node : Bor Address) (before after : BTr
           let equal : is_at (by_address node) q ≡ true = ap is_eq ((equal_law node.now q.now).1 at.1) in
           absurd (cc (equal, unlike))
 
-  pub placed_more : ArePlaced new after
+  pub placed_more : AreNumbersOf new after
   placed_more q n =
       by_test (is_at (by_address node) q)
       (λ equal. (new_at q n equal, λ e. new_found q n equal (of_more q n e)))
@@ -145,7 +145,7 @@ at_place [] k a e = absurd (none-some a e)
 at_place (x ∷ xs) zero a e = (x, same_Some x.now a e)
 at_place (x ∷ xs) (suc k) a e = at_place xs k a e
 
-pub distinct : (nodes : List (Bor Address)) (places : BTreeMap (Bor Address) ℕ) → ArePlaced nodes places → AreDistinct (addresses nodes)
+pub distinct : (nodes : List (Bor Address)) (places : BTreeMap (Bor Address) ℕ) → AreNumbersOf nodes places → AreDistinct (addresses nodes)
 distinct nodes places placed i j a first second =
     let (node, same) = at_place nodes i a first in
     let is : Some a ≡ Some node.now = ap (λ (x : Address). Some x) (sym same) in

@@ -67,14 +67,14 @@ AreUnread count bytes (AfterReplies end) = AreFollowed count bytes end
 AreUnread count bytes fault = IsFirstUnread count bytes fault
 
 -- The bytes are a reply to each part.
-pub record AreAnswered (split : Split) (bytes : List ℕ) (replies : List Reply) : Type 0 where
+pub record PartsAreAnswered (split : Split) (bytes : List ℕ) (replies : List Reply) : Type 0 where
   pub all : length replies ≡ length split.routes
   pub are : AreReplies replies bytes
 
 -- The replies to the parts make one reply, and `combined` is its form.
 pub record AreCombined (split : Split) (bytes combined : List ℕ) : Type 0 where
   pub replies : List Reply
-  pub answered : AreAnswered split bytes replies
+  pub answered : PartsAreAnswered split bytes replies
   pub one : Reply
   pub made : IsMadeOfParts split replies (Ok one)
   pub written : combined ≡ form one
@@ -85,9 +85,9 @@ HasNoForm reply = HasForm reply → depth reply ≤ MAX_LEVELS → ⊥
 
 -- why the replies to the parts make no one reply in bytes
 abbrev pub IsUnjoined : Split → List ℕ → BytesFault → Type 0
-IsUnjoined split bytes (Unfit kind) = (replies : List Reply) × AreAnswered split bytes replies
+IsUnjoined split bytes (Unfit kind) = (replies : List Reply) × PartsAreAnswered split bytes replies
     × IsMadeOfParts split replies (Err kind)
-IsUnjoined split bytes NoForm = (replies : List Reply) × AreAnswered split bytes replies
+IsUnjoined split bytes NoForm = (replies : List Reply) × PartsAreAnswered split bytes replies
     × (one : Reply) × IsMadeOfParts split replies (Ok one) × HasNoForm one
 IsUnjoined split bytes fault = AreUnread (length split.routes) bytes fault
 

@@ -29,8 +29,8 @@ abbrev pub by_address : Bor Address → Bor Address → Ordering
 by_address a b = address_cmp a.now b.now
 
 -- a node has a number exactly if it is at that index
-abbrev pub ArePlaced : List (Bor Address) → BTreeMap (Bor Address) ℕ → Type 0
-ArePlaced nodes places = (node : Bor Address) (number : ℕ)
+abbrev pub AreNumbersOf : List (Bor Address) → BTreeMap (Bor Address) ℕ → Type 0
+AreNumbersOf nodes places = (node : Bor Address) (number : ℕ)
     → (get by_address places node ≡ Some number) ↔ (slice_get (addresses nodes) number ≡ Some node.now)
 
 -- no two nodes are the same
@@ -61,8 +61,8 @@ abbrev pub node_line : Address → List ℕ
 node_line node = display_text node ++ line_feed ∷ []
 
 -- 65535 if no entry answers for the route's slot, else the index of the route's node among `nodes`
-abbrev pub IsNumbered : List (RangeEntry SlotNodes) → List Address → SlotRoute → ℕ → ℕ → Type 0
-IsNumbered entries nodes route pick number =
+abbrev pub IsNodeNumber : List (RangeEntry SlotNodes) → List Address → SlotRoute → ℕ → ℕ → Type 0
+IsNodeNumber entries nodes route pick number =
     ((number ≡ 65535) × IsUncovered entries route.slot)
     ⊎ ((node : Address) × (slice_get nodes number ≡ Some node)
     × IsNodeOfRoute entries route pick node)
@@ -79,7 +79,7 @@ pub record IsTable (entries : List (RangeEntry SlotNodes)) (addr : SlotAddr) (pi
   pub lines : table.nodes.items ≡ flat_map node_line nodes
   pub all : length table.numbers.items ≡ 16384
   pub each : (slot : ℕ) → slot < 16384
-      → IsNumbered entries nodes (record { slot = slot; addr = addr }) pick
+      → IsNodeNumber entries nodes (record { slot = slot; addr = addr }) pick
       (slice_index table.numbers.items slot)
 
 -- The node of a slot has a line feed in its host.

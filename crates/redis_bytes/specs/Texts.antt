@@ -4,17 +4,17 @@ use Rattle.resp.specs.Texts as resp
 use Rattle.redis_bytes.specs.declared.fault.BytesFault.{BytesFault}
 use Rattle.redis_bytes.specs.declared.fault.BytesFault.TheVariants.{Memory, Request, AfterRequest, NotMultiKey, Reply, Error, AfterReplies, Unfit, NoForm, LineFeedInHost}
 
-abbrev pub fault_text : BytesFault → List ℕ
-fault_text Memory = codes "out of memory"
-fault_text (Request fault) = resp.request_fault_text fault
-fault_text (AfterRequest end) =
+abbrev pub bytes_fault_text : BytesFault → List ℕ
+bytes_fault_text Memory = codes "out of memory"
+bytes_fault_text (Request fault) = resp.request_fault_text fault
+bytes_fault_text (AfterRequest end) =
     codes "bytes follow the request, from " ++ (decimal end ++ codes " on")
-fault_text NotMultiKey = codes "not a multi-key command"
-fault_text (Reply number fault) =
+bytes_fault_text NotMultiKey = codes "not a multi-key command"
+bytes_fault_text (Reply number fault) =
     codes "reply " ++ (decimal number ++ (codes ": " ++ resp.fault_text fault))
-fault_text (Error number text) = codes "reply " ++ (decimal number ++ codes " is an error")
-fault_text (AfterReplies end) =
+bytes_fault_text (Error number text) = codes "reply " ++ (decimal number ++ codes " is an error")
+bytes_fault_text (AfterReplies end) =
     codes "bytes follow the replies, from " ++ (decimal end ++ codes " on")
-fault_text (Unfit kind) = codes "the replies make no one reply"
-fault_text NoForm = codes "the one reply has no form"
-fault_text LineFeedInHost = codes "a host has a line feed"
+bytes_fault_text (Unfit kind) = codes "the replies make no one reply"
+bytes_fault_text NoForm = codes "the one reply has no form"
+bytes_fault_text LineFeedInHost = codes "a host has a line feed"

@@ -1,5 +1,5 @@
 ghost use Rattle.std.specs.Prelude.{◌≡◌, Some};
-ghost use Rattle.redis_bytes.specs.Texts.{fault_text};
+ghost use Rattle.redis_bytes.specs.Texts.{bytes_fault_text};
 ghost use Rattle.redis_bytes.specs.declared.fault.BytesFault.TheVariants.{Memory};
 
 use resp::{Fault, RequestFault};
@@ -34,7 +34,7 @@ pub enum BytesFault {
 }
 
 impl fmt::Display for BytesFault {
-    ghost output = { λ fault. Some (fault_text fault) };
+    ghost output = { λ fault. Some (bytes_fault_text fault) };
 
     fn fmt<W: fmt::Write>(&self, f: &mut fmt::Formatter<W>) -> fmt::Result {
         match self {

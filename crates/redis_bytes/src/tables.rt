@@ -4,7 +4,7 @@ ghost use Rattle.resp_core.specs.Reply.{Reply};
 ghost use Rattle.cluster_slots.specs.Address.{Address};
 ghost use Rattle.cluster_map.specs.ReplyNode.{entries_in};
 ghost use Rattle.redis_bytes.specs.Replies.{IsReply, AreUnread};
-ghost use Rattle.redis_bytes.specs.Table.{IsTable, IsNoTable, IsNumbered, IsUnprinted, AreUsed, AreDistinct, ArePlaced, ArePlain, Grows, node_line, addresses};
+ghost use Rattle.redis_bytes.specs.Table.{IsTable, IsNoTable, IsNodeNumber, IsUnprinted, AreUsed, AreDistinct, AreNumbersOf, ArePlain, Grows, node_line, addresses};
 
 use crate::fault::BytesFault;
 use crate::replies::reply_in;
@@ -85,7 +85,7 @@ fn numbers_in(
     ensures all { IfOk result (λ found. length found.0.items ≡ 16384) }
     ensures few { IfOk result (λ found. length found.1.items ≤ 16384) }
     ensures each { IfOk result (λ found. (slot : ℕ) → slot < 16384
-        → IsNumbered map.now (addresses found.1.items) (record { slot = slot; addr = addr }) pick
+        → IsNodeNumber map.now (addresses found.1.items) (record { slot = slot; addr = addr }) pick
         (slice_index found.0.items slot)) }
     ensures used { IfOk result (λ found. AreUsed found.0.items (addresses found.1.items)) }
     ensures once { IfOk result (λ found. AreDistinct (addresses found.1.items)) }
@@ -110,11 +110,11 @@ fn number_at<'a>(
     places: &mut BTreeMap<&'a NodeAddress, u16>,
 ) -> Result<u16, AllocError>
     requires few { length nodes.old.items < 16384 }
-    requires placed { ArePlaced nodes.old.items places.old }
+    requires placed { AreNumbersOf nodes.old.items places.old }
     ensures found { IfOk result
-        (λ number. IsNumbered map.entry.now (addresses nodes.new.items) route pick number) }
+        (λ number. IsNodeNumber map.entry.now (addresses nodes.new.items) route pick number) }
     ensures grown { IfOk result (Grows nodes.old.items nodes.new.items) }
-    ensures placed { OnOk result (ArePlaced nodes.new.items places.new) }
+    ensures placed { OnOk result (AreNumbersOf nodes.new.items places.new) }
 {
     match map.slot_addr_for_route(route, None, pick) {
         Some(node) => number_of(nodes, places, node),
@@ -129,11 +129,11 @@ fn number_of<'a>(
     node: &'a NodeAddress,
 ) -> Result<u16, AllocError>
     requires few { length nodes.old.items < 16384 }
-    requires placed { ArePlaced nodes.old.items places.old }
+    requires placed { AreNumbersOf nodes.old.items places.old }
     ensures found { IfOk result (λ number.
         slice_get (addresses nodes.new.items) number ≡ Some node.entry.now) }
     ensures grown { IfOk result (Grows nodes.old.items nodes.new.items) }
-    ensures placed { OnOk result (ArePlaced nodes.new.items places.new) }
+    ensures placed { OnOk result (AreNumbersOf nodes.new.items places.new) }
 {
     if let Some(number) = places.get(&node) {
         return Ok(*number);

@@ -39,8 +39,7 @@ module _ (tuples : List KeyTuple) (slots : List ℕ) (replies : List Reply) wher
       (values : List Reply) × AreMerged values × (value ≡ array (replies_of values))
   IsOutcome list (Err kind) =
       first_misfit replies (map (λ slot. length (tuples_of_slot slot tuples)) slots) ≡ Some kind
-  IsOutcome count outcome =
-      ok_or (option_map int (sum_of replies)) UnexpectedReturnType ≡ outcome
+  IsOutcome count outcome = ok_or (option_map int (sum_of replies)) UnexpectedReturnType ≡ outcome
   IsOutcome okay outcome = slice_get (map Ok replies) 0 ≡ Some outcome
 
 -- There is one reply for each slot, in the order of the slots. The order names each slot once. In

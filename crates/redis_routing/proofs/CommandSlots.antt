@@ -8,7 +8,7 @@ use Rattle.std.proofs.lemmas.Bool.Decides.{nat_tests}
 use Rattle.cluster_slots.specs.KeySlot.{key_slot}
 use Rattle.cluster_slots.specs.Number.{number_in}
 use Rattle.redis_routing.specs.Command.{Arguments, argument, command_name, is_word}
-use Rattle.redis_routing.specs.CommandSlot.{command_slot, keys_among, only_number, slot_by}
+use Rattle.redis_routing.specs.CommandSlot.{command_slot, command_keys, only_number, slot_by}
 use Rattle.redis_routing.specs.Lookup.{lookup_name}
 use Rattle.redis_routing.specs.Names.{Names}
 use Rattle.redis_routing.specs.Parts.{first_appearances, slot_of}
@@ -107,7 +107,7 @@ of_alone : (keys : List (List ℕ)) → only_number (first_appearances (map slot
 of_alone keys = ap (λ slots. only_number (first_appearances slots)) (alone 0 keys)
 
 -- the slot of the tuples, if they are whole
-of_tuples : (pattern : MultiSlotArgPattern) (present : List (List ℕ)) → cond (fits pattern (length present)) (only_number (first_appearances (map slot_of (tuples_in pattern present)))) None ≡ slot_of_keys (keys_among pattern present)
+of_tuples : (pattern : MultiSlotArgPattern) (present : List (List ℕ)) → cond (fits pattern (length present)) (only_number (first_appearances (map slot_of (tuples_in pattern present)))) None ≡ slot_of_keys (command_keys pattern present)
 of_tuples KeysOnly [] = refl
 of_tuples KeysOnly (x ∷ xs) =
     let present : List (List ℕ) = x ∷ xs in
@@ -138,7 +138,7 @@ of_tuples KeyWithTwoArgTriples (x ∷ xs) =
     ap (λ b. cond (b && nat_eq (length present % 3) 0) (only_number (first_appearances (map slot_of (keys_and_two 0 (take (length present) present))))) None) some
     ∙ by_triples present (nat_eq (length present % 3) 0) refl
 
-of_slots : (reads : Bool) (policy : Option ResponsePolicy) (pattern : MultiSlotArgPattern) (present : List (List ℕ)) → slot_routed (to_slots reads policy pattern present) ≡ slot_of_keys (keys_among pattern present)
+of_slots : (reads : Bool) (policy : Option ResponsePolicy) (pattern : MultiSlotArgPattern) (present : List (List ℕ)) → slot_routed (to_slots reads policy pattern present) ≡ slot_of_keys (command_keys pattern present)
 of_slots reads policy pattern present =
     of_test (fits pattern (length present)) (Some (routing_of_routes pattern policy (routes_of reads pattern present)))
     ∙ ap (λ slot. cond (fits pattern (length present)) slot None) (of_routes reads policy pattern present (first_appearances (map slot_of (tuples_in pattern present))))

@@ -23,11 +23,11 @@ firsts_of width args =
 
 -- The keys among the arguments of a command over many keys, if these make whole tuples.
 -- `JSON.MGET k` has the key `k`, though the path is missing.
-abbrev pub keys_among : MultiSlotArgPattern → List (List ℕ) → List (List ℕ)
-keys_among KeysOnly present = present
-keys_among KeyValuePairs present = firsts_of 2 present
-keys_among KeysAndLastArg present = take (max 1 (length present - 1)) present
-keys_among KeyWithTwoArgTriples present = firsts_of 3 present
+abbrev pub command_keys : MultiSlotArgPattern → List (List ℕ) → List (List ℕ)
+command_keys KeysOnly present = present
+command_keys KeyValuePairs present = firsts_of 2 present
+command_keys KeysAndLastArg present = take (max 1 (length present - 1)) present
+command_keys KeyWithTwoArgTriples present = firsts_of 3 present
 
 -- a number, if it is the only one
 abbrev pub only_number : List ℕ → Option ℕ
@@ -48,7 +48,7 @@ slot_by args (Some (SlotAt n)) =
     option_and_then (λ slot. cond (nat_lt slot 16384) (Some slot) None)
     (option_and_then (number_in 16) (argument args n))
 slot_by args (Some (MultiSlot pattern)) =
-    only_number (first_appearances (map key_slot (keys_among pattern (present_arguments args))))
+    only_number (first_appearances (map key_slot (command_keys pattern (present_arguments args))))
 slot_by args _ = None
 
 -- The slot that a command goes to, if it goes to a node of one slot.

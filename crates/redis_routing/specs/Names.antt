@@ -10,8 +10,7 @@ pub record Names : Type 0 where
 
 -- by a list of those that only read, and a registry
 abbrev pub names_of : List (List ℕ) → Registrations → Names
-names_of read_only registered =
-    record { only_reads = is_among read_only; registered = registered }
+names_of read_only registered = record { only_reads = is_among read_only; registered = registered }
 
 abbrev pub names_in : told.Names → Names
 names_in names = names_of names.read_only.now names.registry.now

@@ -9,7 +9,7 @@ use Rattle.resp_core.specs.Reply.{nil, int, bulk}
 use Rattle.resp.specs.declared.fault.Fault.{Fault}
 use Rattle.resp.specs.declared.fault.Fault.TheVariants.{Incomplete, Malformed, TooDeep}
 use Rattle.resp.specs.Forms.{Answer, IsForm, answer_before, array_of_all, simple_of, number_up_to, int_in, length_in, crlf}
-use Rattle.resp.specs.Reading.{◌>>=◌, or_malformed, Items, ended, text_until_line_end, after_text, is_before_digits, is_before_length, int_at, length_at, bytes_at, flat_at, times_at, array_items_at, array_at, front_at, answer_at, CanBeCompleted, HasNoAnswer, BeginsNone}
+use Rattle.resp.specs.Reading.{◌>>=◌, or_malformed, Items, after_line_end, text_until_line_end, after_text, is_before_digits, is_before_length, int_at, length_at, bytes_at, flat_at, times_at, array_items_at, array_at, front_at, answer_at, CanBeCompleted, HasNoAnswer, BeginsNone}
 use Rattle.resp_core.proofs.Cases.{by_test}
 use Rattle.resp.proofs.Steps.{chosen, done, failed, both}
 use Rattle.resp.proofs.Lines.{ended_longer, open_longer, ended_takes}
@@ -62,7 +62,7 @@ module _ {A B : Type 0} (F : List ℕ → Result (A × List ℕ) Fault) (G : A �
 
 -- ---- a line
 
-ended_completes : (after : List ℕ) → ended after ≡ Err Incomplete → (more : List ℕ) × (ended (after ++ more) ≡ Ok [])
+ended_completes : (after : List ℕ) → after_line_end after ≡ Err Incomplete → (more : List ℕ) × (after_line_end (after ++ more) ≡ Ok [])
 ended_completes [] e = (crlf, refl)
 ended_completes (b ∷ []) e =
     elim (chosen (eqb b 13) (Err Incomplete) (Err Malformed) (failed Incomplete) e) [
@@ -76,19 +76,19 @@ ended_completes (b ∷ c ∷ rest) e =
     ]
 
 abbrev LineFilled : List ℕ → Type 0
-LineFilled bytes = (more : List ℕ) × (text_until_line_end (bytes ++ more) ≡ text_until_line_end bytes) × (ended (after_text (bytes ++ more)) ≡ Ok [])
+LineFilled bytes = (more : List ℕ) × (text_until_line_end (bytes ++ more) ≡ text_until_line_end bytes) × (after_line_end (after_text (bytes ++ more)) ≡ Ok [])
 
-line_completes : (bytes : List ℕ) → ended (after_text bytes) ≡ Err Incomplete → LineFilled bytes
+line_completes : (bytes : List ℕ) → after_line_end (after_text bytes) ≡ Err Incomplete → LineFilled bytes
 unfolding text_until_line_end after_text
 line_completes bytes e =
     elim (cases_of (after_text bytes)) [
       | inl p ↦
           let l = open_longer bytes crlf p in
-          (crlf, l.1 ∙ append-nil bytes ∙ sym l.0, ap ended l.2)
+          (crlf, l.1 ∙ append-nil bytes ∙ sym l.0, ap after_line_end l.2)
       | inr p ↦
-          let m = ended_completes (p.0 ∷ p.1) (sym (ap ended p.2) ∙ e) in
+          let m = ended_completes (p.0 ∷ p.1) (sym (ap after_line_end p.2) ∙ e) in
           let l = ended_longer bytes m.0 p.0 p.1 p.2 in
-          (m.0, l.0, ap ended l.1 ∙ m.1)
+          (m.0, l.0, ap after_line_end l.1 ∙ m.1)
     ]
 
 abbrev paired : {B : Type 0} → B → List ℕ → Result (B × List ℕ) Fault
@@ -101,10 +101,10 @@ lacks (Err Malformed) y e = absurd (no_malformed e)
 lacks (Err TooDeep) y e = absurd (no_too_deep e)
 
 -- the end is what the line lacks
-end_lacks : {A B : Type 0} (o : Option A) (x : A → B) (after : List ℕ) → (or_malformed o >>= λ n. ended after >>= paired (x n)) ≡ Err Incomplete
-    → (n : A) × (o ≡ Some n) × (ended after ≡ Err Incomplete)
+end_lacks : {A B : Type 0} (o : Option A) (x : A → B) (after : List ℕ) → (or_malformed o >>= λ n. after_line_end after >>= paired (x n)) ≡ Err Incomplete
+    → (n : A) × (o ≡ Some n) × (after_line_end after ≡ Err Incomplete)
 end_lacks None x after e = absurd (no_malformed e)
-end_lacks (Some n) x after e = (n, refl, lacks (ended after) (x n) e)
+end_lacks (Some n) x after e = (n, refl, lacks (after_line_end after) (x n) e)
 
 or_cases : (a b : Bool) → (a || b) ≡ true → (a ≡ true) ⊎ (b ≡ true)
 or_cases true b e = inl refl
@@ -188,9 +188,9 @@ unfolding length_at
 lengths_complete bytes e =
     let text = text_until_line_end bytes in
     let after = after_text bytes in
-    elim (chosen (bytes_eq text (codes "-1")) (ended after >>= λ rest. Ok (None, rest)) _ (failed Incomplete) e) [
+    elim (chosen (bytes_eq text (codes "-1")) (after_line_end after >>= λ rest. Ok (None, rest)) _ (failed Incomplete) e) [
       | inl p ↦
-          length_line bytes None (nothing_again text [] ((bytes_eq-Decides text (codes "-1")).0 p.0)) (line_completes bytes (lacks (ended after) None p.1))
+          length_line bytes None (nothing_again text [] ((bytes_eq-Decides text (codes "-1")).0 p.0)) (line_completes bytes (lacks (after_line_end after) None p.1))
       | inr s ↦ elim (chosen (is_before_length text after) (Err Incomplete) _ (failed Incomplete) s.1) [
         | inl p ↦
             let t = both (eqb (length after) 0) (eqb (length text) 0 || bytes_eq text (codes "-")) p.0 in
@@ -206,9 +206,9 @@ lengths_complete bytes e =
       ]
     ]
 
-text_complete : {A : Type 0} (means : List ℕ → A) → Completable (λ bytes. ended (after_text bytes) >>= λ rest. Ok (means (text_until_line_end bytes), rest))
+text_complete : {A : Type 0} (means : List ℕ → A) → Completable (λ bytes. after_line_end (after_text bytes) >>= λ rest. Ok (means (text_until_line_end bytes), rest))
 text_complete means bytes e =
-    let f = line_completes bytes (lacks (ended (after_text bytes)) (means (text_until_line_end bytes)) e) in
+    let f = line_completes bytes (lacks (after_line_end (after_text bytes)) (means (text_until_line_end bytes)) e) in
     (f.0, means (text_until_line_end (bytes ++ f.0)), rw f.2 refl)
 
 -- ---- an answer
@@ -237,7 +237,7 @@ bytes_complete (Some n) rest e =
           (zeros k ++ crlf, Ok (bulk (rest ++ zeros k)), ap (bytes_at (Some n)) (sym (append_assoc rest (zeros k) crlf)) ∙ bytes_filled n (rest ++ zeros k) long)
       | inr p ↦
           let le : n ≤ length rest = ltb-false _ _ p.0 in
-          let m = ended_completes (drop n rest) (lacks (ended (drop n rest)) (Ok (bulk (take n rest))) p.1) in
+          let m = ended_completes (drop n rest) (lacks (after_line_end (drop n rest)) (Ok (bulk (take n rest))) p.1) in
           let long : n ≤ length (rest ++ m.0) = omega (arith, le, length-append rest m.0) in
           let g : ltb (length (rest ++ m.0)) n ≡ false = grind (arith, nat_tests) in
           (m.0, Ok (bulk (take n (rest ++ m.0))), rw (g, drop_front n rest m.0 le, m.1) refl)

@@ -12,8 +12,8 @@ use Rattle.std.proofs.lemmas.List.{take_at, drop_at, take-append-drop, length-ap
 use Rattle.resp_core.specs.Reply.{Reply, Replies, nil, int, bulk, array, simple, okay, pairs, no_replies, reply, replies_of, items_in}
 use Rattle.resp.specs.declared.fault.Fault.{Fault}
 use Rattle.resp.specs.declared.fault.Fault.TheVariants.{Incomplete, Malformed, TooDeep}
-use Rattle.resp.specs.Forms.{Answer, answer_before, all_of, array_of_all, simple_of, number_up_to, int_in, length_in, crlf, line, count, form, forms, depth, depth_items, HasForm, HaveForm, IsInLine, IsFlat, InOrder, IsNested, IsForm}
-use Rattle.resp.specs.Reading.{◌>>=◌, or_malformed, Items, ended, text_until_line_end, after_text, is_before_digits, is_before_length, int_at, length_at, bytes_at, flat_at, times_at, array_items_at, array_at, front_at, answer_at}
+use Rattle.resp.specs.Forms.{Answer, answer_before, all_of, array_of_all, simple_of, number_up_to, int_in, length_in, crlf, line, count, form, forms, depth, depth_items, HasForm, HaveForm, IsInLine, IsUnnested, InOrder, IsNested, IsForm}
+use Rattle.resp.specs.Reading.{◌>>=◌, or_malformed, Items, after_line_end, text_until_line_end, after_text, is_before_digits, is_before_length, int_at, length_at, bytes_at, flat_at, times_at, array_items_at, array_at, front_at, answer_at}
 use Rattle.resp.proofs.Steps.{bind_ok, done, ok_is, chosen, some_of}
 use Rattle.resp.proofs.Digits.{number_decimal, int_decimal, in_line_decimal, in_line_int}
 use Rattle.resp.proofs.Lines.{line_is, text_in_line, text_again, after_again, ended_takes}
@@ -36,23 +36,23 @@ char_in_line b large =
 abbrev IsLength : List ℕ → Option ℕ → Type 0
 IsLength text o = ((text ≡ codes "-1") × (o ≡ None)) ⊎ ((n : ℕ) × (length_in text ≡ Some n) × (o ≡ Some n))
 
-end_takes : {A : Type 0} (x : A) (after : List ℕ) (y : A × List ℕ) → (ended after >>= λ rest. Ok (x, rest)) ≡ Ok y → (after ≡ 13 ∷ 10 ∷ y.1) × (x ≡ y.0)
+end_takes : {A : Type 0} (x : A) (after : List ℕ) (y : A × List ℕ) → (after_line_end after >>= λ rest. Ok (x, rest)) ≡ Ok y → (after ≡ 13 ∷ 10 ∷ y.1) × (x ≡ y.0)
 end_takes {A = A} x after y e =
-    let a = bind_ok (ended after) (λ rest. Ok (x, rest)) y e in
+    let a = bind_ok (after_line_end after) (λ rest. Ok (x, rest)) y e in
     let is = ok_is (x, a.0) y a.2 in
     (ended_takes after a.0 a.1 ∙ ap (λ (p : A × List ℕ). 13 ∷ 10 ∷ p.1) is, ap (λ (p : A × List ℕ). p.0) is)
 
 length_takes : (text after : List ℕ) (y : Option ℕ × List ℕ) → length_at text after ≡ Ok y → (after ≡ 13 ∷ 10 ∷ y.1) × IsLength text y.0
 unfolding length_at
 length_takes text after y e =
-    elim (chosen (bytes_eq text (codes "-1")) (ended after >>= λ rest. Ok (None, rest)) _ (done y) e) [
+    elim (chosen (bytes_eq text (codes "-1")) (after_line_end after >>= λ rest. Ok (None, rest)) _ (done y) e) [
       | inl p ↦
           let t = end_takes None after y p.1 in
           (t.0, inl ((bytes_eq-Decides text (codes "-1")).0 p.0, sym t.1))
       | inr p ↦ elim (chosen (is_before_length text after) (Err Incomplete) _ (done y) p.1) [
         | inl q ↦ absurd cc
         | inr q ↦
-            let a = bind_ok (or_malformed (length_in text)) (λ n. ended after >>= λ rest. Ok (Some n, rest)) y q.1 in
+            let a = bind_ok (or_malformed (length_in text)) (λ n. after_line_end after >>= λ rest. Ok (Some n, rest)) y q.1 in
             let t = end_takes (Some a.0) after y a.2 in
             (t.0, inr (a.0, some_of (length_in text) a.0 a.1, sym t.1))
       ]
@@ -64,7 +64,7 @@ int_takes text after y e =
     elim (chosen (is_before_digits text after) (Err Incomplete) _ (done y) e) [
       | inl p ↦ absurd cc
       | inr p ↦
-          let a = bind_ok (or_malformed (int_in text)) (λ n. ended after >>= λ rest. Ok (n, rest)) y p.1 in
+          let a = bind_ok (or_malformed (int_in text)) (λ n. after_line_end after >>= λ rest. Ok (n, rest)) y p.1 in
           let t = end_takes a.0 after y a.2 in
           (t.0, some_of (int_in text) a.0 a.1 ∙ ap (λ (n : ℤ). Some n) t.1)
     ]
@@ -83,7 +83,7 @@ bytes_take n rest x e =
 
 -- after a line's text: its end, what belongs to the answer, and the rest
 abbrev FlatTaken : ℕ → List ℕ → List ℕ → Answer × List ℕ → Type 0
-FlatTaken mark text after x = (body : List ℕ) × (after ≡ 13 ∷ 10 ∷ (body ++ x.1)) × IsFlat x.0 mark text body
+FlatTaken mark text after x = (body : List ℕ) × (after ≡ 13 ∷ 10 ∷ (body ++ x.1)) × IsUnnested x.0 mark text body
 
 flat_takes : (mark : ℕ) (text after : List ℕ) (x : Answer × List ℕ) → flat_at mark text after ≡ Ok x → FlatTaken mark text after x
 unfolding flat_at bytes_at
@@ -109,11 +109,11 @@ flat_takes mark text after x e =
             let t = int_takes text after a.0 a.1 in
             let is = ok_is (Ok (int a.0.0), a.0.1) x a.2 in
             ([], t.0 ∙ ap (λ (y : Answer × List ℕ). 13 ∷ 10 ∷ y.1) is, inr (inr (inl (eqb-true mark 58 q.0, refl, a.0.0, t.1, sym (ap (λ (y : Answer × List ℕ). y.0) is)))))
-        | inr q ↦ elim (chosen (eqb mark 43) (ended after >>= λ rest. Ok (Ok (simple_of text), rest)) _ (done x) q.1) [
+        | inr q ↦ elim (chosen (eqb mark 43) (after_line_end after >>= λ rest. Ok (Ok (simple_of text), rest)) _ (done x) q.1) [
           | inl s ↦
               let t = end_takes (Ok (simple_of text)) after x s.1 in
               ([], t.0, inl (eqb-true mark 43 s.0, refl, sym t.1))
-          | inr s ↦ elim (chosen (eqb mark 45) (ended after >>= λ rest. Ok (Err text, rest)) (Err Malformed) (done x) s.1) [
+          | inr s ↦ elim (chosen (eqb mark 45) (after_line_end after >>= λ rest. Ok (Err text, rest)) (Err Malformed) (done x) s.1) [
             | inl u ↦
                 let t = end_takes (Err text) after x u.1 in
                 ([], t.0, inr (inl (eqb-true mark 45 u.0, refl, sym t.1)))
@@ -229,7 +229,7 @@ bytes_again bytes =
     let long : ltb (length (bytes ++ crlf)) (length bytes) ≡ false = le-ltb _ _ (omega (arith, length-append bytes crlf)) in
     rw (long, take_at bytes crlf (length bytes) refl, drop_at bytes crlf (length bytes) refl) refl
 
-flat_again : (a : Answer) (mark : ℕ) (text body : List ℕ) → IsFlat a mark text body → flat_at mark text (13 ∷ 10 ∷ body) ≡ Ok (a, [])
+flat_again : (a : Answer) (mark : ℕ) (text body : List ℕ) → IsUnnested a mark text body → flat_at mark text (13 ∷ 10 ∷ body) ≡ Ok (a, [])
 unfolding flat_at bytes_at
 flat_again a mark text body (inl h) = rw (h.0, h.1, h.2) refl
 flat_again a mark text body (inr (inl h)) = rw (h.0, h.1, h.2) refl
@@ -262,14 +262,14 @@ line_text text body clean = ap text_until_line_end (after_line text body) ∙ te
 line_after : (text body : List ℕ) → AllByRecursion IsInLine text → after_text ((text ++ crlf) ++ body) ≡ 13 ∷ 10 ∷ body
 line_after text body clean = ap after_text (after_line text body) ∙ after_again text (10 ∷ body) clean
 
-no_array : (a : Answer) (mark : ℕ) (text body : List ℕ) → IsFlat a mark text body → eqb mark 42 ≡ false
+no_array : (a : Answer) (mark : ℕ) (text body : List ℕ) → IsUnnested a mark text body → eqb mark 42 ≡ false
 no_array a mark text body (inl h) = rw h.0 refl
 no_array a mark text body (inr (inl h)) = rw h.0 refl
 no_array a mark text body (inr (inr (inl h))) = rw h.0 refl
 no_array a mark text body (inr (inr (inr (inl h)))) = rw h.0 refl
 no_array a mark text body (inr (inr (inr (inr h)))) = rw h.0 refl
 
-front_again : (nested : List ℕ → Result (Answer × List ℕ) Fault) (a : Answer) (mark : ℕ) (text body : List ℕ) → AllByRecursion IsInLine text → IsFlat a mark text body
+front_again : (nested : List ℕ → Result (Answer × List ℕ) Fault) (a : Answer) (mark : ℕ) (text body : List ℕ) → AllByRecursion IsInLine text → IsUnnested a mark text body
     → front_at nested (line mark text ++ body) ≡ Ok (a, [])
 unfolding front_at
 front_again nested a mark text body clean h = rw (no_array a mark text body h, line_text text body clean, line_after text body clean) (flat_again a mark text body h)
@@ -320,12 +320,12 @@ in_order levels each (reply r rs) has low =
     let later : depth_items rs ≤ levels = omega (arith, low) in
     (form r, forms rs, refl, each r has.0 here, in_order levels each rs has.1 later)
 
-flat_form : (levels : ℕ) (a : Answer) (mark : ℕ) (text body : List ℕ) → AllByRecursion IsInLine text → IsFlat a mark text body → IsForm levels a (line mark text ++ body)
+flat_form : (levels : ℕ) (a : Answer) (mark : ℕ) (text body : List ℕ) → AllByRecursion IsInLine text → IsUnnested a mark text body → IsForm levels a (line mark text ++ body)
 unfolding IsForm
 flat_form zero a mark text body clean h = (mark, text, body, refl, clean, h)
 flat_form (suc levels) a mark text body clean h = (mark, text, body, refl, clean, inl h)
 
-one_line : (levels : ℕ) (a : Answer) (mark : ℕ) (text : List ℕ) → AllByRecursion IsInLine text → IsFlat a mark text [] → IsForm levels a (line mark text)
+one_line : (levels : ℕ) (a : Answer) (mark : ℕ) (text : List ℕ) → AllByRecursion IsInLine text → IsUnnested a mark text [] → IsForm levels a (line mark text)
 one_line levels a mark text clean h = subst (λ (f : List ℕ). IsForm levels a f) (append-nil (line mark text)) (flat_form levels a mark text [] clean h)
 
 simple_again : (text : List ℕ) → HasForm (simple text) → simple_of text ≡ simple text

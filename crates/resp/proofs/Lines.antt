@@ -7,7 +7,7 @@ use Rattle.std.proofs.lemmas.List.{take_all, take_more, drop_more, drop_all}
 use Rattle.resp_core.proofs.Cases.{by_test}
 use Rattle.resp.specs.declared.fault.Fault.TheVariants.{Incomplete, Malformed}
 use Rattle.resp.specs.Forms.{IsInLine}
-use Rattle.resp.specs.Reading.{ended, text_until_line_end, after_text}
+use Rattle.resp.specs.Reading.{after_line_end, text_until_line_end, after_text}
 use Rattle.resp.proofs.Steps.{done, ok_is, chosen, both}
 
 abbrev pub is_end : ℕ → Bool
@@ -92,7 +92,7 @@ open_longer (c ∷ bytes) more e = by_test (is_end c)
 
 -- ---- the line's end
 
-pub ended_takes : (after rest : List ℕ) → ended after ≡ Ok rest → after ≡ 13 ∷ 10 ∷ rest
+pub ended_takes : (after rest : List ℕ) → after_line_end after ≡ Ok rest → after ≡ 13 ∷ 10 ∷ rest
 ended_takes [] rest e = absurd cc
 ended_takes (b ∷ []) rest e =
     elim (chosen (eqb b 13) (Err Incomplete) (Err Malformed) (done rest) e) [ inl p ↦ absurd cc | inr p ↦ absurd cc ]

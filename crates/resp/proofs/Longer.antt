@@ -10,7 +10,7 @@ use Rattle.resp_core.specs.Reply.{int, bulk}
 use Rattle.resp.specs.declared.fault.Fault.{Fault}
 use Rattle.resp.specs.declared.fault.Fault.TheVariants.{Incomplete, Malformed, TooDeep}
 use Rattle.resp.specs.Forms.{Answer, answer_before, array_of_all, simple_of, int_in, length_in}
-use Rattle.resp.specs.Reading.{◌>>=◌, or_malformed, Items, ended, text_until_line_end, after_text, is_before_digits, int_at, length_at, bytes_at, flat_at, times_at, array_items_at, array_at, front_at, answer_at}
+use Rattle.resp.specs.Reading.{◌>>=◌, or_malformed, Items, after_line_end, text_until_line_end, after_text, is_before_digits, int_at, length_at, bytes_at, flat_at, times_at, array_items_at, array_at, front_at, answer_at}
 use Rattle.resp.proofs.Digits.{HasDigits, int_longer, length_longer}
 use Rattle.resp.proofs.Lines.{ended_longer, open_longer}
 
@@ -34,7 +34,7 @@ continues_bind (Err TooDeep) s f more h each = rw h refl
 -- ---- the end of a line
 
 abbrev with_end : {A : Type 0} → A → List ℕ → Result (A × List ℕ) Fault
-with_end x after = ended after >>= λ rest. Ok (x, rest)
+with_end x after = after_line_end after >>= λ rest. Ok (x, rest)
 
 end_continues : {A : Type 0} (x : A) → Continuous (with_end x)
 end_continues x [] more = tt
@@ -69,12 +69,12 @@ line_continues by_text steady bytes more =
 -- ---- numbers
 
 number_continues : {A B : Type 0} (o : Option A) (x : A → B) (after more : List ℕ)
-    → Continues (or_malformed o >>= λ n. ended after >>= λ rest. Ok (x n, rest)) more (or_malformed o >>= λ n. ended (after ++ more) >>= λ rest. Ok (x n, rest))
+    → Continues (or_malformed o >>= λ n. after_line_end after >>= λ rest. Ok (x n, rest)) more (or_malformed o >>= λ n. after_line_end (after ++ more) >>= λ rest. Ok (x n, rest))
 number_continues None x after more = refl
 number_continues (Some n) x after more = end_continues (x n) after more
 
 open_number : {A B : Type 0} (o p : Option A) (x : A → B) (after more : List ℕ) → (o ≡ None → p ≡ None)
-    → Continues (or_malformed o >>= λ n. ended [] >>= λ rest. Ok (x n, rest)) more (or_malformed p >>= λ n. ended after >>= λ rest. Ok (x n, rest))
+    → Continues (or_malformed o >>= λ n. after_line_end [] >>= λ rest. Ok (x n, rest)) more (or_malformed p >>= λ n. after_line_end after >>= λ rest. Ok (x n, rest))
 open_number None p x after more h = rw (h refl) refl
 open_number (Some n) p x after more h = tt
 
@@ -202,7 +202,7 @@ bytes_continue (Some n) rest more = by_test (ltb (length rest) n)
     let g : ltb (length (rest ++ more)) n ≡ false = grind (arith, nat_tests) in
     rw (f, g, take_front n rest more le, drop_front n rest more le) (end_continues (Ok (bulk (take n rest))) (drop n rest) more))
 
-text_steady : {A : Type 0} (means : List ℕ → A) → Steady (λ text after. ended after >>= λ rest. Ok (means text, rest))
+text_steady : {A : Type 0} (means : List ℕ → A) → Steady (λ text after. after_line_end after >>= λ rest. Ok (means text, rest))
 text_steady means = (λ text b rest more. end_continues (means text) (b ∷ rest) more, λ text t after more. tt)
 
 flat_continues : (mark : ℕ) → Continuous (λ bytes. flat_at mark (text_until_line_end bytes) (after_text bytes))
@@ -212,9 +212,9 @@ flat_continues mark bytes more = by_test (eqb mark 36)
     (λ f. by_test (eqb mark 58)
     (λ t. rw (f, t) (continues_bind (int_at (text_until_line_end bytes) (after_text bytes)) (int_at (text_until_line_end (bytes ++ more)) (after_text (bytes ++ more))) (λ x. Ok (Ok (int x.0), x.1)) more (ints_continue bytes more) (λ n rest. refl)))
     (λ g. by_test (eqb mark 43)
-    (λ t. rw (f, g, t) (line_continues (λ text after. ended after >>= λ rest. Ok (Ok (simple_of text), rest)) (text_steady (λ text. Ok (simple_of text))) bytes more))
+    (λ t. rw (f, g, t) (line_continues (λ text after. after_line_end after >>= λ rest. Ok (Ok (simple_of text), rest)) (text_steady (λ text. Ok (simple_of text))) bytes more))
     (λ h. by_test (eqb mark 45)
-    (λ t. rw (f, g, h, t) (line_continues (λ text after. ended after >>= λ rest. Ok (Err text, rest)) (text_steady (λ text. Err text)) bytes more))
+    (λ t. rw (f, g, h, t) (line_continues (λ text after. after_line_end after >>= λ rest. Ok (Err text, rest)) (text_steady (λ text. Err text)) bytes more))
     (λ k. rw (f, g, h, k) refl))))
 
 pub times_continue : (read : List ℕ → Result (Answer × List ℕ) Fault) → Continuous read → (n : ℕ) → Continuous (times_at read n)

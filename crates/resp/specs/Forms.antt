@@ -102,8 +102,8 @@ simple_of text =
 
 -- a line and what follows it, by the mark of the line:
 -- "+OK", "-ERR no", ":5", "$3" with "abc" and a line's end, "$-1"
-abbrev pub IsFlat : Answer → ℕ → List ℕ → List ℕ → Type 0
-IsFlat a mark text body =
+abbrev pub IsUnnested : Answer → ℕ → List ℕ → List ℕ → Type 0
+IsUnnested a mark text body =
     ((mark ≡ 43) × (body ≡ []) × (a ≡ Ok (simple_of text)))
     ⊎ ((mark ≡ 45) × (body ≡ []) × (a ≡ Err text))
     ⊎ ((mark ≡ 58) × (body ≡ []) × (n : ℤ) × (int_in text ≡ Some n) × (a ≡ Ok (int n)))
@@ -127,10 +127,10 @@ IsNested Each a mark text body =
 -- The bytes are a form of the answer, with lines of mark * nested at most `levels` deep.
 unfoldable pub IsForm : ℕ → Answer → List ℕ → Type 0
 IsForm zero a form = (mark : ℕ) × (text : List ℕ) × (body : List ℕ)
-    × (form ≡ line mark text ++ body) × AllByRecursion IsInLine text × IsFlat a mark text body
+    × (form ≡ line mark text ++ body) × AllByRecursion IsInLine text × IsUnnested a mark text body
 IsForm (suc levels) a form = (mark : ℕ) × (text : List ℕ) × (body : List ℕ)
     × (form ≡ line mark text ++ body) × AllByRecursion IsInLine text
-    × (IsFlat a mark text body ⊎ IsNested (IsForm levels) a mark text body)
+    × (IsUnnested a mark text body ⊎ IsNested (IsForm levels) a mark text body)
 
 -- ---- what is written
 

@@ -37,10 +37,10 @@ after_text [] = []
 after_text (b ∷ bytes) = if b == 13 || b == 10 then b ∷ bytes else after_text bytes
 
 -- what follows the line's end that begins here
-abbrev pub ended : List ℕ → Result (List ℕ) Fault
-ended [] = Err Incomplete
-ended (b ∷ []) = if b == 13 then Err Incomplete else Err Malformed
-ended (b ∷ c ∷ rest) = if b == 13 && c == 10 then Ok rest else Err Malformed
+abbrev pub after_line_end : List ℕ → Result (List ℕ) Fault
+after_line_end [] = Err Incomplete
+after_line_end (b ∷ []) = if b == 13 then Err Incomplete else Err Malformed
+after_line_end (b ∷ c ∷ rest) = if b == 13 && c == 10 then Ok rest else Err Malformed
 
 abbrev pub or_malformed : {A : Type 0} → Option A → Result A Fault
 or_malformed None = Err Malformed
@@ -58,14 +58,14 @@ is_before_length text after = length after == 0 && (length text == 0 || bytes_eq
 unfoldable pub int_at : List ℕ → List ℕ → Result (ℤ × List ℕ) Fault
 int_at text after =
     if is_before_digits text after then Err Incomplete
-    else (or_malformed (int_in text) >>= λ n. ended after >>= λ rest. Ok (n, rest))
+    else (or_malformed (int_in text) >>= λ n. after_line_end after >>= λ rest. Ok (n, rest))
 
 -- the length in a line, by its text and what follows the text; `None` for -1
 unfoldable pub length_at : List ℕ → List ℕ → Result (Option ℕ × List ℕ) Fault
 length_at text after =
-    if bytes_eq text (codes "-1") then (ended after >>= λ rest. Ok (None, rest))
+    if bytes_eq text (codes "-1") then (after_line_end after >>= λ rest. Ok (None, rest))
     else (if is_before_length text after then Err Incomplete
-    else (or_malformed (length_in text) >>= λ n. ended after >>= λ rest. Ok (Some n, rest)))
+    else (or_malformed (length_in text) >>= λ n. after_line_end after >>= λ rest. Ok (Some n, rest)))
 
 -- ---- an answer
 
@@ -77,15 +77,15 @@ unfoldable pub bytes_at : Option ℕ → List ℕ → Result (Answer × List ℕ
 bytes_at None rest = nothing_at rest
 bytes_at (Some n) rest =
     if nat_lt (length rest) n then Err Incomplete
-    else (ended (drop n rest) >>= λ after. Ok (Ok (bulk (take n rest)), after))
+    else (after_line_end (drop n rest) >>= λ after. Ok (Ok (bulk (take n rest)), after))
 
 -- an answer that is no array, by its mark, the text of its first line, and what follows the text
 unfoldable pub flat_at : ℕ → List ℕ → List ℕ → Result (Answer × List ℕ) Fault
 flat_at mark text after =
     if mark == 36 then (length_at text after >>= λ x. bytes_at x.0 x.1)
     else (if mark == 58 then (int_at text after >>= λ x. Ok (Ok (int x.0), x.1))
-    else (if mark == 43 then (ended after >>= λ rest. Ok (Ok (simple_of text), rest))
-    else (if mark == 45 then (ended after >>= λ rest. Ok (Err text, rest))
+    else (if mark == 43 then (after_line_end after >>= λ rest. Ok (Ok (simple_of text), rest))
+    else (if mark == 45 then (after_line_end after >>= λ rest. Ok (Err text, rest))
     else Err Malformed)))
 
 abbrev pub Items : Type 0

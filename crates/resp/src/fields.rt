@@ -1,6 +1,6 @@
 ghost use Rattle.std.specs.Prelude.{◌≡◌, IfOk};
 ghost use Rattle.resp.specs.Forms.{answer, simple_of};
-ghost use Rattle.resp.specs.Reading.{Gives, text_until_line_end, after_text, ended, is_before_digits, is_before_length, int_at, length_at, bytes_at, flat_at};
+ghost use Rattle.resp.specs.Reading.{Gives, text_until_line_end, after_text, after_line_end, is_before_digits, is_before_length, int_at, length_at, bytes_at, flat_at};
 ghost use Rattle.resp_core.specs.View.{view};
 
 use crate::fault::{Fault, ReadError};
@@ -24,7 +24,7 @@ pub(super) fn line_of(bytes: &[u8]) -> (&[u8], &[u8])
 
 /// What follows the line's end that begins here.
 fn end_of(after: &[u8]) -> Result<&[u8], ReadError>
-    ensures { Gives (λ x. x.now) result (ended after.now) }
+    ensures { Gives (λ x. x.now) result (after_line_end after.now) }
 {
     match after {
         [b'\r', b'\n', rest @ ..] => Ok(rest),

@@ -9,7 +9,7 @@ use Rattle.redis_bytes.specs.declared.fault.BytesFault.TheVariants as faults
 use Rattle.slotroute_c.specs.declared.outcomes.Outcome.{Outcome}
 use Rattle.slotroute_c.specs.declared.outcomes.Outcome.TheVariants.{Done, TooSmall, NotText, NoMemory, RequestIncomplete, RequestMalformed, AfterRequest, NotMultiKey, ReplyIsError, AfterReplies, Unfit, NoForm, LineFeedInHost}
 use Rattle.slotroute_c.specs.declared.told.Told.{Told}
-use Rattle.slotroute_c.specs.Fields.{with_at, with_reply}
+use Rattle.slotroute_c.specs.Fields.{with_at, with_reply_number}
 use Rattle.slotroute_c.specs.Outcomes.{code, of_reply}
 
 -- the outcome of a request's fault
@@ -42,8 +42,8 @@ with_request_fault (request.Malformed at) told = with_at at told
 abbrev pub with_fault : BytesFault → Told → Told
 with_fault (faults.Request fault) told = with_request_fault fault told
 with_fault (faults.AfterRequest end) told = with_at end told
-with_fault (faults.Reply number fault) told = with_reply number told
-with_fault (faults.Error number text) told = with_reply number told
+with_fault (faults.Reply number fault) told = with_reply_number number told
+with_fault (faults.Error number text) told = with_reply_number number told
 with_fault (faults.AfterReplies end) told = with_at end told
 with_fault _ told = told
 
@@ -54,4 +54,4 @@ of_read (read.Fault fault) = of_reply fault
 
 abbrev pub with_read_fault : ReadError → Told → Told
 with_read_fault read.Memory told = told
-with_read_fault (read.Fault fault) told = with_reply 0 told
+with_read_fault (read.Fault fault) told = with_reply_number 0 told

@@ -15,8 +15,8 @@ with_sizes parts bytes told = record {
 abbrev pub with_bytes : ℕ → Told → Told
 with_bytes bytes told = with_sizes told.parts bytes told
 
-abbrev pub with_reply : ℕ → Told → Told
-with_reply reply told = record {
+abbrev pub with_reply_number : ℕ → Told → Told
+with_reply_number reply told = record {
   parts = told.parts;
   bytes = told.bytes;
   reply = reply;

@@ -9,12 +9,12 @@ use Rattle.slotroute_c.specs.declared.told.Told.{Told}
 use Rattle.slotroute_c.specs.Fields.{with_sizes}
 
 -- the slot of each route
-abbrev pub slots_of : List SlotRoute → List ℕ
-slots_of routes = map (λ route. route.slot) routes
+abbrev pub route_slots : List SlotRoute → List ℕ
+route_slots routes = map (λ route. route.slot) routes
 
 -- the bytes are one request, and these are its parts
-abbrev pub ArePartsOf : List ℕ → Parts → Type 0
-ArePartsOf request parts =
+abbrev pub ArePartsOfRequest : List ℕ → Parts → Type 0
+ArePartsOfRequest request parts =
     (split : Split) × IsSplitRequest (names_of [] []) request split × AreParts split parts
 
 -- the number of parts and of bytes is reported

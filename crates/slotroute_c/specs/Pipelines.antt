@@ -9,11 +9,11 @@ use Rattle.redis_batch_bytes.specs.declared.splitting.BatchBytes.{BatchBytes}
 use Rattle.redis_batch_bytes.specs.Batches.{AreBatchesOf}
 use Rattle.redis_batch_bytes.specs.Numbered.{IsNumberedMap}
 use Rattle.redis_batch_bytes.specs.Plans.{IsPlanOfRequests, IsUnplanned}
-use Rattle.redis_batch_bytes.specs.Replies.{AreCombined, IsUncombined}
+use Rattle.redis_batch_bytes.specs.Replies.{RepliesAreWritten, PipelineIsUncombined}
 use Rattle.slotroute_c.specs.declared.outcomes.Outcome.{Outcome}
 use Rattle.slotroute_c.specs.declared.outcomes.Outcome.TheVariants.{AfterReplies, NoForm, NoMemory, NotCovered, NotRoutable}
 use Rattle.slotroute_c.specs.declared.told.Told.{Told}
-use Rattle.slotroute_c.specs.Fields.{with_at, with_batch, with_reply, with_request, with_sizes}
+use Rattle.slotroute_c.specs.Fields.{with_at, with_batch, with_reply_number, with_request, with_sizes}
 use Rattle.slotroute_c.specs.Faults.{of_request, with_request_fault}
 use Rattle.slotroute_c.specs.Outcomes.{of_reply}
 
@@ -32,8 +32,8 @@ with_batches batches told =
     with_sizes (length batches.nodes.items) (length batches.bytes.items) told
 
 -- the number of each node, which is its port
-abbrev pub numbers_of : List Address → List ℕ
-numbers_of nodes = map (λ node. node.port) nodes
+abbrev pub node_numbers : List Address → List ℕ
+node_numbers nodes = map (λ node. node.port) nodes
 
 -- one of the buffers, by their lengths, is too small
 abbrev pub IsOneTooSmall : BatchBytes → ℕ → ℕ → ℕ → ℕ → Type 0
@@ -53,13 +53,13 @@ pub record AreCombinedBy (numbers requests replies combined : List ℕ) : Type 0
   pub map_is : IsNumberedMap numbers ranges
   pub plan : PipelineBatches
   pub plan_is : IsPlanOfRequests [] ranges requests plan
-  pub are : AreCombined plan replies combined
+  pub are : RepliesAreWritten plan replies combined
 
 -- why the replies to batches by a table are not combined
-abbrev pub IsUncombinedBy : List ℕ → List ℕ → List ℕ → BatchFault → Type 0
-IsUncombinedBy numbers requests replies faults.Memory = Unit {0}
-IsUncombinedBy numbers requests replies fault =
-    (ranges : Ranges) × IsNumberedMap numbers ranges × IsUncombined [] ranges requests replies fault
+abbrev pub TableIsUncombined : List ℕ → List ℕ → List ℕ → BatchFault → Type 0
+TableIsUncombined numbers requests replies faults.Memory = Unit {0}
+TableIsUncombined numbers requests replies fault =
+    (ranges : Ranges) × IsNumberedMap numbers ranges × PipelineIsUncombined [] ranges requests replies fault
 
 -- the outcome of each fault of a pipeline
 abbrev pub outcome_of_batch : BatchFault → Outcome
@@ -79,6 +79,6 @@ with_batch_fault (faults.Request number fault) told =
     with_request number (with_request_fault fault told)
 with_batch_fault (faults.NotRoutable number) told = with_request number told
 with_batch_fault (faults.NotCovered number slot) told = with_request number told
-with_batch_fault (faults.Reply batch number fault) told = with_batch batch (with_reply number told)
+with_batch_fault (faults.Reply batch number fault) told = with_batch batch (with_reply_number number told)
 with_batch_fault (faults.AfterReplies end) told = with_at end told
 with_batch_fault (faults.NoForm number) told = with_request number told

@@ -10,8 +10,8 @@ abbrev pub kind_of : Redirect → ℕ
 kind_of (Moved address) = 1
 kind_of (Ask address) = 2
 
-abbrev pub numbers_of : ℕ → Redirect → RedirectNumbers
-numbers_of slot redirect = record {
+abbrev pub redirect_numbers : ℕ → Redirect → RedirectNumbers
+redirect_numbers slot redirect = record {
   kind = kind_of redirect;
   slot = slot;
   port = (redirect_address redirect).port;

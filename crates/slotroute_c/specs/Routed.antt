@@ -35,25 +35,25 @@ policy_number (Some CombineArrays) = 8
 policy_number (Some Special) = 9
 policy_number (Some CombineMaps) = 10
 
-abbrev pub numbers : ℕ → ℕ → ℕ → ℕ → Routed
-numbers kind slot addr policy = record { kind = kind; slot = slot; addr = addr; policy = policy }
+abbrev pub routed : ℕ → ℕ → ℕ → ℕ → Routed
+routed kind slot addr policy = record { kind = kind; slot = slot; addr = addr; policy = policy }
 
 -- the one node that a request goes to; no call returns 7, an address
 abbrev pub to_one : SingleNodeRouting → Routed
-to_one random = numbers 1 0 0 0
-to_one random_primary = numbers 2 0 0 0
-to_one (specific_node route) = numbers 3 route.slot (addr_number route.addr) 0
-to_one (by_address host port) = numbers 7 0 0 0
+to_one random = routed 1 0 0 0
+to_one random_primary = routed 2 0 0 0
+to_one (specific_node route) = routed 3 route.slot (addr_number route.addr) 0
+to_one (by_address host port) = routed 7 0 0 0
 
 -- the nodes that a request goes to, and how their replies make one
 abbrev pub to_several : MultipleNodeRouting → Option ResponsePolicy → Routed
-to_several all_nodes policy = numbers 4 0 0 (policy_number policy)
-to_several all_masters policy = numbers 5 0 0 (policy_number policy)
-to_several (multi_slot routes pattern) policy = numbers 6 0 0 (policy_number policy)
+to_several all_nodes policy = routed 4 0 0 (policy_number policy)
+to_several all_masters policy = routed 5 0 0 (policy_number policy)
+to_several (multi_slot routes pattern) policy = routed 6 0 0 (policy_number policy)
 
 -- 0 if the layer does not route the request
 abbrev pub routed_of : Option Routing → Routed
-routed_of None = numbers 0 0 0 0
+routed_of None = routed 0 0 0 0
 routed_of (Some (single_node single)) = to_one single
 routed_of (Some (multi_node multiple policy)) = to_several multiple policy
 

@@ -9,7 +9,7 @@ ghost use Rattle.slotroute_c.specs.Outcomes.{code};
 ghost use Rattle.slotroute_c.specs.Buffers.{IsWritten};
 ghost use Rattle.slotroute_c.specs.Fields.{with_bytes};
 ghost use Rattle.slotroute_c.specs.Faults.{outcome_of, with_fault};
-ghost use Rattle.slotroute_c.specs.Parts.{slots_of, with_parts, ArePartsOf, IsTooSmall};
+ghost use Rattle.slotroute_c.specs.Parts.{route_slots, with_parts, ArePartsOfRequest, IsTooSmall};
 
 use crate::buffers::put_all;
 use crate::faults::code_of;
@@ -38,12 +38,12 @@ pub extern "C" fn slotroute_split(
     told: &mut Told,
 ) -> u32
     ensures done { result ≡ code Outcome.Done → (parts : declared.Parts)
-        × ArePartsOf request.now parts × (told.new ≡ with_parts parts told.old)
-        × IsWritten (slots_of parts.routes.items) slots.old slots.new
+        × ArePartsOfRequest request.now parts × (told.new ≡ with_parts parts told.old)
+        × IsWritten (route_slots parts.routes.items) slots.old slots.new
         × IsWritten parts.ends.items ends.old ends.new
         × IsWritten parts.bytes.items out.old out.new }
     ensures too_small { result ≡ code Outcome.TooSmall → (parts : declared.Parts)
-        × ArePartsOf request.now parts × (told.new ≡ with_parts parts told.old)
+        × ArePartsOfRequest request.now parts × (told.new ≡ with_parts parts told.old)
         × IsTooSmall parts (length slots.old) (length ends.old) (length out.old) }
     ensures fault { result ≢ code Outcome.Done → result ≢ code Outcome.TooSmall
         → (fault : faults.BytesFault) × (result ≡ code (outcome_of fault))
@@ -78,7 +78,7 @@ pub extern "C" fn slotroute_split(
 
 /// The parts of a request.
 fn parts_of(alloc: Global, request: &[u8]) -> Result<Parts, BytesFault>
-    ensures parts { IfOk result (λ parts. ArePartsOf request.now parts) }
+    ensures parts { IfOk result (λ parts. ArePartsOfRequest request.now parts) }
     ensures fault { IfErr result (λ fault. IsUnsplit (names_of [] []) request.now fault) }
 {
     let (read_only, registry) = (ReadOnlyNames::new(alloc), Registry::new(alloc));
@@ -91,7 +91,7 @@ fn parts_of(alloc: Global, request: &[u8]) -> Result<Parts, BytesFault>
 
 /// The slot of each route.
 fn slots_in(alloc: Global, routes: &[Route]) -> Result<Vec<u16>, AllocError>
-    ensures slots { IfOk result (λ slots. slots.items ≡ slots_of routes.now) }
+    ensures slots { IfOk result (λ slots. slots.items ≡ route_slots routes.now) }
     ensures count { IfOk result (λ slots. length slots.items ≡ length routes.now) }
 {
     let mut slots = Vec::with_capacity(alloc, routes.len())?;

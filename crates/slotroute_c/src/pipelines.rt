@@ -5,7 +5,7 @@ ghost use Rattle.slotroute_c.specs.Outcomes.{code};
 ghost use Rattle.slotroute_c.specs.Buffers.{IsWritten};
 ghost use Rattle.slotroute_c.specs.Fields.{with_bytes};
 ghost use Rattle.slotroute_c.specs.Faults.{IsOther};
-ghost use Rattle.slotroute_c.specs.Pipelines.{AreBatchesBy, AreCombinedBy, IsOneTooSmall, IsUncombinedBy, IsUnplannedBy, numbers_of, outcome_of_batch, with_batch_fault, with_batches};
+ghost use Rattle.slotroute_c.specs.Pipelines.{AreBatchesBy, AreCombinedBy, IsOneTooSmall, TableIsUncombined, IsUnplannedBy, node_numbers, outcome_of_batch, with_batch_fault, with_batches};
 
 use crate::buffers::put_all;
 use crate::faults::{code_of_reply, code_of_request};
@@ -40,7 +40,7 @@ pub extern "C" fn slotroute_split_pipeline(
     ensures done { result ≡ code Outcome.Done → (batches : declared.BatchBytes)
         × AreBatchesBy numbers.now requests.now batches
         × (told.new ≡ with_batches batches told.old)
-        × IsWritten (numbers_of batches.nodes.items) nodes.old nodes.new
+        × IsWritten (node_numbers batches.nodes.items) nodes.old nodes.new
         × IsWritten batches.counts.items counts.old counts.new
         × IsWritten batches.ends.items ends.old ends.new
         × IsWritten batches.bytes.items out.old out.new }
@@ -114,7 +114,7 @@ pub extern "C" fn slotroute_combine_pipeline(
         × (told.new ≡ with_bytes (length combined) told.old) }
     ensures fault { result ≢ code Outcome.Done → result ≢ code Outcome.TooSmall
         → (fault : faults.BatchFault) × (result ≡ code (outcome_of_batch fault))
-        × IsUncombinedBy numbers.now requests.now replies.now fault
+        × TableIsUncombined numbers.now requests.now replies.now fault
         × (told.new ≡ with_batch_fault fault told.old) }
     ensures unwritten { result ≢ code Outcome.Done → out.new ≡ out.old }
 {
@@ -150,7 +150,7 @@ fn combined_by(
     ensures combined { IfOk result (λ combined.
         AreCombinedBy numbers.now requests.now replies.now combined.items) }
     ensures fault { IfErr result (λ fault.
-        IsUncombinedBy numbers.now requests.now replies.now fault) }
+        TableIsUncombined numbers.now requests.now replies.now fault) }
 {
     let registry = Registry::new(alloc);
     let slot_map = numbered_map(alloc, numbers)?;
@@ -159,7 +159,7 @@ fn combined_by(
 
 /// The number of each node.
 fn numbers_of(alloc: Global, nodes: &[NodeAddress]) -> Result<Vec<u16>, AllocError>
-    ensures numbers { IfOk result (λ numbers. numbers.items ≡ numbers_of nodes.now) }
+    ensures numbers { IfOk result (λ numbers. numbers.items ≡ node_numbers nodes.now) }
     ensures count { IfOk result (λ numbers. length numbers.items ≡ length nodes.now) }
 {
     let mut numbers = Vec::with_capacity(alloc, nodes.len())?;

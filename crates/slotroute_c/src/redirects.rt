@@ -4,7 +4,7 @@ ghost use Rattle.redis_routing.specs.RedirectText.{IsRedirectText, IsNoRedirect,
 ghost use Rattle.redis_routing.specs.declared.info.Redirect as declared;
 ghost use Rattle.slotroute_c.specs.Outcomes.{code, is_one_of};
 ghost use Rattle.slotroute_c.specs.Buffers.{IsWritten};
-ghost use Rattle.slotroute_c.specs.Redirected.{numbers_of};
+ghost use Rattle.slotroute_c.specs.Redirected.{redirect_numbers};
 
 use crate::buffers::put;
 use crate::outcomes::Outcome;
@@ -45,11 +45,11 @@ pub extern "C" fn slotroute_redirect(
 ) -> u32
     ensures done { result ≡ code Outcome.Done → (slot : ℕ) × (redirect : declared.Redirect)
         × IsRedirectText answering.now text.now slot redirect
-        × (told.new ≡ numbers_of slot redirect)
+        × (told.new ≡ redirect_numbers slot redirect)
         × IsWritten (redirect_address redirect).host host.old host.new }
     ensures too_small { result ≡ code Outcome.TooSmall → (slot : ℕ) × (redirect : declared.Redirect)
         × IsRedirectText answering.now text.now slot redirect
-        × (told.new ≡ numbers_of slot redirect)
+        × (told.new ≡ redirect_numbers slot redirect)
         × (length host.old < length (redirect_address redirect).host) }
     ensures no_redirect { result ≡ code Outcome.NoRedirect → IsNoRedirect answering.now text.now }
     ensures not_text { result ≡ code Outcome.NotText
@@ -77,7 +77,7 @@ pub extern "C" fn slotroute_redirect(
 
 /// Writes a redirect to `told`, and its host to `host` if it fits.
 fn tell(slot: Slot, redirect: &Redirect, host: &mut [u8], told: &mut RedirectNumbers) -> Outcome
-    ensures told { told.new ≡ numbers_of slot redirect.now }
+    ensures told { told.new ≡ redirect_numbers slot redirect.now }
     ensures done { result ≡ Outcome.Done
         → IsWritten (redirect_address redirect.now).host host.old host.new }
     ensures too_small { result ≢ Outcome.Done → (result ≡ Outcome.TooSmall)

@@ -7,7 +7,7 @@ ghost use Rattle.slotroute_c.specs.Faults.{outcome_of, with_fault};
 ghost use Rattle.redis_routing.specs.declared.policy.ResponsePolicy as declared;
 ghost use Rattle.redis_routing.specs.Routing.{routing};
 ghost use Rattle.redis_routing.specs.RoutingInfo.{as_routing, as_single_node, as_multiple_nodes};
-ghost use Rattle.slotroute_c.specs.Routed.{AreNamesFor, names_for, numbers, routed_of, routed_by, to_one, to_several, addr_number, policy_number, addr_of};
+ghost use Rattle.slotroute_c.specs.Routed.{AreNamesFor, names_for, routed, routed_of, routed_by, to_one, to_several, addr_number, policy_number, addr_of};
 
 use crate::faults::code_of;
 use crate::outcomes::Outcome;
@@ -161,7 +161,7 @@ fn to_several(multiple: &MultipleNodeRoutingInfo, policy: u32) -> Routed
 }
 
 fn numbers(kind: u32, slot: u32, addr: u32, policy: u32) -> Routed
-    ensures { result ≡ numbers kind slot addr policy }
+    ensures { result ≡ routed kind slot addr policy }
 {
     Routed {
         kind,

@@ -6,7 +6,7 @@ use Rattle.redis_routing.specs.Lookup.{lookup_name}
 use Rattle.redis_routing.specs.Registry.{Registrations, Registered}
 use Rattle.cluster_map.specs.SlotNodes.{RangeNodes}
 use Rattle.slotroute_serve.specs.MapLines.{Made, IsRangeLine, IsMapLine, range_line, multi_line}
-use Rattle.slotroute_serve.specs.MultiLines.{Registers, IsMultiLine, multi_word, pattern_words, policy_words, name_in}
+use Rattle.slotroute_serve.specs.MultiLines.{Registers, IsMultiLine, multi_word, pattern_words, policy_words, name_of_words}
 
 -- too few fields
 pub too_few : (fields : List (Bor (List ℕ))) (old next : Registrations) → length fields < 3 → ¬ (Registers (map (λ f. f.now) fields) old next)
@@ -17,7 +17,7 @@ too_few (a ∷ b ∷ c ∷ rest) old next l h = absurd (omega (arith, l))
 
 -- enough, which say what to register
 pub asks_to : (fields : List (Bor (List ℕ))) (d : Bor (List ℕ)) (name : List ℕ) (registered : Registered) → 3 ≤ length fields → (get_or fields 0 d).now ≡ multi_word → lookup_name pattern_words (get_or fields 1 d).now ≡ Some registered.0
-    → lookup_name policy_words (get_or fields 2 d).now ≡ Some registered.1 → name_in (map (λ f. f.now) (take (length fields - 3) (drop 3 fields))) ≡ Some name → IsMultiLine (map (λ f. f.now) fields) name registered
+    → lookup_name policy_words (get_or fields 2 d).now ≡ Some registered.1 → name_of_words (map (λ f. f.now) (take (length fields - 3) (drop 3 fields))) ≡ Some name → IsMultiLine (map (λ f. f.now) fields) name registered
 asks_to [] d name registered l first pattern policy words = absurd (omega (arith, l))
 asks_to (a ∷ []) d name registered l first pattern policy words = absurd (omega (arith, l))
 asks_to (a ∷ b ∷ []) d name registered l first pattern policy words = absurd (omega (arith, l))

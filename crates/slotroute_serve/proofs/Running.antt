@@ -8,7 +8,7 @@ use Rattle.cluster_map.specs.SlotNodes.{SlotNodes}
 use Rattle.redis_routing.specs.Registry.{Registrations}
 use Rattle.memory_nodes.specs.Cells.{Cell}
 use Rattle.redis_cluster.specs.Unsplit.{Keyspace}
-use Rattle.slotroute_serve.specs.Commands.{IsRefused}
+use Rattle.slotroute_serve.specs.Commands.{IsRunRefused}
 use Rattle.slotroute_serve.specs.declared.direction.Direction.{Direction}
 use Rattle.slotroute_serve.specs.declared.refusal.Refusal.{Refusal}
 use Rattle.slotroute_serve.specs.Lines.{line_of, fields_of, after_lines, after_map, StopsInLine}
@@ -98,7 +98,7 @@ module _ (handed : Bool) (direction : Direction) (registered : Registrations) (e
 
   -- the command of the next line is refused
   pub refused_in_line : (old left new : Option (List ℕ)) (first number told : ℕ) (keys : Keyspace Cell) (text line : List ℕ) (refusal : Refusal) → RunsOn old left first number keys text → HasLine left line → DropsThrough left new 10
-      → (told ≡ number) × (fields_of line ≢ []) × IsRefused registered entries (fields_of line) refusal → Leaves old new (λ bytes rest. RefusedAt handed direction registered entries first bytes rest text told refusal)
+      → (told ≡ number) × (fields_of line ≢ []) × IsRunRefused registered entries (fields_of line) refusal → Leaves old new (λ bytes rest. RefusedAt handed direction registered entries first bytes rest text told refusal)
   refused_in_line None left new first number told keys text line refusal on h d why = tt
   refused_in_line (Some input) None new first number told keys text line refusal on h d why = absurd on
   refused_in_line (Some input) (Some []) new first number told keys text line refusal on h d why = absurd (true≢false h.there)

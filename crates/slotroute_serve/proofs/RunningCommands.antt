@@ -29,7 +29,7 @@ use Rattle.redis_cluster.proofs.CommandParts.{covered_routes}
 use Rattle.redis_cluster.proofs.Headline.{last_allowed}
 use Rattle.redis_cluster.proofs.Wider.{driven_at, plan_node}
 use Rattle.resp_core.specs.Reply.{Reply}
-use Rattle.slotroute_serve.specs.Commands.{names_with, AreReadOnly, IsRunNode, IsCommandRun, IsUnsent, WhyNotRun}
+use Rattle.slotroute_serve.specs.Commands.{names_with, AreReadOnly, IsRunNode, IsCommandRun, LeavesAllIfRefused, WhyNotRun}
 use Rattle.slotroute_serve.specs.Direction.{send_order}
 use Rattle.slotroute_serve.specs.Inner.Direction.{IsOrderOf}
 use Rattle.slotroute_serve.specs.Printed.{command_lines}
@@ -99,7 +99,7 @@ module _ (IsNode : SlotRoute → Address → Type 0) (names : List (List ℕ)) (
 
   -- what the driver refuses before it sends leaves keys and trace, and no node refuses
   pub unsent : ((count : ℕ) (ending : Ending) → ¬ (may_refuse count ending)) → (fault : DriveFault) (count : ℕ)
-      → IsFault IsNode step (request (map Some words) (names_of names registered) entries order) old new may_refuse fault count → IsUnsent (fault_of_drive fault) old.keyspace new.keyspace old.trace new.trace
+      → IsFault IsNode step (request (map Some words) (names_of names registered) entries order) old new may_refuse fault count → LeavesAllIfRefused (fault_of_drive fault) old.keyspace new.keyspace old.trace new.trace
   unsent willing drive.NotMultiKey count (inl f) = (ap (λ (n : State Cell). n.keyspace) f.2, ap (λ (n : State Cell). n.trace) f.2)
   unsent willing (drive.NotCovered slot) count (inl f) = (ap (λ (n : State Cell). n.keyspace) f.2, ap (λ (n : State Cell). n.trace) f.2)
   unsent willing drive.BadOrder count (inl f) = (ap (λ (n : State Cell). n.keyspace) f.2, ap (λ (n : State Cell). n.trace) f.2)

@@ -16,7 +16,7 @@ use Rattle.cluster_slots.specs.declared.slot.SlotAddr.TheVariants.{Master}
 use Rattle.slotroute_serve.specs.Lines.{leading_lines, after_map}
 use Rattle.slotroute_serve.specs.MapLines.{Made, IsMap}
 use Rattle.slotroute_serve.specs.Faults.{fault_line, fault_of_map, fault_of_answer, fault_of_run, WhyNoMap, WhyNoSplit, IsCaused, IsInputLeft}
-use Rattle.slotroute_serve.specs.Output.{Output, first_after_map, IsAnswer, IsNodeAnswer, IsRequest, split_words, slot_line, usage_line, bad_map_line, not_multi_key_line, IsRunWords, refused_line, usage, bad_map, not_multi_key, answer, run_to_end, run_refused, served, unserved, node_request, split_request, run_request, node_answer, split_answer}
+use Rattle.slotroute_serve.specs.Output.{Output, first_after_map, IsNodeOrSplit, IsNodeAnswer, IsUsage, split_words, slot_line, usage_line, bad_map_line, not_multi_key_line, IsRunWords, refused_line, usage, bad_map, not_multi_key, answer, run_to_end, run_refused, served, unserved, node_request, split_request, run_request, node_answer, split_answer}
 use Rattle.slotroute_serve.specs.Requests.{Asks, AsksFor, WhyNoAnswer}
 use Rattle.slotroute_serve.specs.RunFaults.{RunEnds, RunStops}
 use Rattle.slotroute_serve.specs.Runs.{RefusedAt}
@@ -54,11 +54,11 @@ pub found_none : (entries : List (RangeEntry SlotNodes)) (key line : List ℕ) (
 found_none entries key line route slot s e uncovered text = rw (text, e) (unserved route.slot s uncovered)
 
 -- The answer of a request.
-pub answers_node : (registered : Registrations) (entries : List (RangeEntry SlotNodes)) (asked : Question) (key : Bor (List ℕ)) (text line : List ℕ) (status : ℕ) → asked ≡ Node key → text ≡ line → IsNodeAnswer entries key.now line status → (words : List (List ℕ)) → Asks words asked → IsAnswer registered entries words text status
+pub answers_node : (registered : Registrations) (entries : List (RangeEntry SlotNodes)) (asked : Question) (key : Bor (List ℕ)) (text line : List ℕ) (status : ℕ) → asked ≡ Node key → text ≡ line → IsNodeAnswer entries key.now line status → (words : List (List ℕ)) → Asks words asked → IsNodeOrSplit registered entries words text status
 answers_node registered entries asked key text line status is t h words a = let b : Asks words (Node key) = subst (Asks words) is a in rw (b, t) (node_answer key.now line status h)
 
 pub answers_split : (registered : Registrations) (entries : List (RangeEntry SlotNodes)) (asked : Question) (command : Bor (List (String Global))) (r : Result (Vec ℕ Global × ℕ) AnswerFault) → asked ≡ Split command
-    → MatchResult r (λ a. IsSplitAnswer registered entries (map string_bytes command.now) a.0.items a.1) (WhyNoSplit registered (map string_bytes command.now)) → MatchResult r (λ a. (words : List (List ℕ)) → Asks words asked → IsAnswer registered entries words a.0.items a.1) (WhyNoAnswer registered asked)
+    → MatchResult r (λ a. IsSplitAnswer registered entries (map string_bytes command.now) a.0.items a.1) (WhyNoSplit registered (map string_bytes command.now)) → MatchResult r (λ a. (words : List (List ℕ)) → Asks words asked → IsNodeOrSplit registered entries words a.0.items a.1) (WhyNoAnswer registered asked)
 answers_split registered entries asked command (Ok x) is h = λ words a. let b : Asks words (Split command) = subst (Asks words) is a in rw b.0 (split_answer (map string_bytes command.now) x.0.items x.1 h)
 answers_split registered entries asked command (Err e) is h = rw is h
 
@@ -71,7 +71,7 @@ cond_status : (none : Bool) → (if none then 1 else 0) ≤ 1
 cond_status true = omega arith
 cond_status false = omega arith
 
-pub answer_status : (registered : Registrations) (entries : List (RangeEntry SlotNodes)) (words : List (List ℕ)) (text : List ℕ) (status : ℕ) → IsAnswer registered entries words text status → status ≤ 1
+pub answer_status : (registered : Registrations) (entries : List (RangeEntry SlotNodes)) (words : List (List ℕ)) (text : List ℕ) (status : ℕ) → IsNodeOrSplit registered entries words text status → status ≤ 1
 answer_status registered entries words text status (node_answer key line of h) = node_status entries key line of h
 answer_status registered entries words text status (split_answer command lines of h) = rw h.answered.ended (cond_status (list_any (λ part. is_none part.node) h.answered.parts))
 
@@ -97,27 +97,27 @@ reported_memory failed old new e text r b t whole part f = let (errs, grown, is)
 
 module _ (handed : Bool) where
   -- The faults and the answer of a run.
-  pub usage_fault : (words : List (List ℕ)) (input out : Option (List ℕ)) → ¬ (IsRequest words) → Explains handed words input input out out fault.Usage
+  pub usage_fault : (words : List (List ℕ)) (input out : Option (List ℕ)) → ¬ (IsUsage words) → Explains handed words input input out out fault.Usage
   usage_fault words None out h = (nothing out, tt)
   usage_fault words (Some bytes) out h = (nothing out, usage words bytes h)
 
-  pub is_request : (words : List (List ℕ)) (r : Request) → AsksFor words r → IsRequest words
+  pub is_request : (words : List (List ℕ)) (r : Request) → AsksFor words r → IsUsage words
   is_request words (request.Answer (Node key)) a = rw a (node_request key.now)
   is_request words (request.Answer (Split command)) (a, some) = rw a (split_request (map string_bytes command.now) some)
   is_request words (request.Run direction) a = run_request direction words a
 
   -- a request reads, so nothing is said of a reader that is not touched
-  pub touched : {S : Type 0} (words : List (List ℕ)) (old new : S) → IsRequest words → ¬ (IsRequest words) → new ≡ old
+  pub touched : {S : Type 0} (words : List (List ℕ)) (old new : S) → IsUsage words → ¬ (IsUsage words) → new ≡ old
   touched words old new w other = absurd (other w)
 
-  no_map_of : (words : List (List ℕ)) (input left out : Option (List ℕ)) (e : MapFault) → IsRequest words → IfSome input (λ bytes. WhyNoMap (leading_lines bytes) e) → Leaves input left (λ bytes rest. IsInputLeft bytes rest e) → Explains handed words input left out out (fault_of_map e)
+  no_map_of : (words : List (List ℕ)) (input left out : Option (List ℕ)) (e : MapFault) → IsUsage words → IfSome input (λ bytes. WhyNoMap (leading_lines bytes) e) → Leaves input left (λ bytes rest. IsInputLeft bytes rest e) → Explains handed words input left out out (fault_of_map e)
   no_map_of words input left out map_fault.Memory w h l = ([], nothing out, w, inl (refl, l))
   no_map_of words input left out map_fault.Input w h l = ([], nothing out, w, inl (refl, l))
   no_map_of words None left out (map_fault.BadLine n) w h l = (nothing out, tt)
   no_map_of words (Some bytes) None out (map_fault.BadLine n) w h l = absurd l
   no_map_of words (Some bytes) (Some rest) out (map_fault.BadLine n) w h l = (nothing out, rw l (bad_map words bytes n w h))
 
-  pub no_map : (words : List (List ℕ)) (input left out : Option (List ℕ)) (e : MapFault) (r : Result ℕ Fault) → IsRequest words → IfSome input (λ bytes. WhyNoMap (leading_lines bytes) e) → Leaves input left (λ bytes rest. IsInputLeft bytes rest e)
+  pub no_map : (words : List (List ℕ)) (input left out : Option (List ℕ)) (e : MapFault) (r : Result ℕ Fault) → IsUsage words → IfSome input (λ bytes. WhyNoMap (leading_lines bytes) e) → Leaves input left (λ bytes rest. IsInputLeft bytes rest e)
       → IsErrAnd r (λ x. x ≡ fault_of_map e) → MatchResult r (HasAnswer handed words input left out out) (Explains handed words input left out out)
   no_map words input left out e (Ok x) w h l is = absurd is
   no_map words input left out e (Err x) w h l is = rw is (no_map_of words input left out e w h l)
@@ -132,7 +132,7 @@ module _ (handed : Bool) where
   caused_by_map reads writes e (Ok x) h is = absurd is
   caused_by_map reads writes e (Err x) h is = rw is (cause_of reads writes e h)
 
-  pub no_memory : (words : List (List ℕ)) (input left out : Option (List ℕ)) (r : Result ℕ Fault) → IsRequest words → Leaves input left (λ bytes rest. rest ≡ after_map bytes) → IsErrAnd r (λ x. x ≡ fault.Memory)
+  pub no_memory : (words : List (List ℕ)) (input left out : Option (List ℕ)) (r : Result ℕ Fault) → IsUsage words → Leaves input left (λ bytes rest. rest ≡ after_map bytes) → IsErrAnd r (λ x. x ≡ fault.Memory)
       → MatchResult r (HasAnswer handed words input left out out) (Explains handed words input left out out)
   no_memory words input left out (Ok x) w l is = absurd is
   no_memory words input left out (Err x) w l is = rw is ([], nothing out, w, inl (refl, left_after_map input left l))
@@ -165,21 +165,21 @@ module _ (handed : Bool) where
   caused_by_answer reads writes e (Err x) is = rw is (cause_of_answer reads writes e)
 
   pub answered : (words : List (List ℕ)) (input left out new : Option (List ℕ)) (made : Made) (text : List ℕ) (status : ℕ) → IfSome input (λ bytes. IsMap (leading_lines bytes) made) → Leaves input left (λ bytes rest. rest ≡ after_map bytes)
-      → IsAnswer made.registry (insert_ranges [] made.ranges) words text status → Appends out new text → HasAnswer handed words input left out new status
+      → IsNodeOrSplit made.registry (insert_ranges [] made.ranges) words text status → Appends out new text → HasAnswer handed words input left out new status
   answered words None left out new made text status m l a t = (text, t, tt)
   answered words (Some bytes) None out new made text status m l a t = absurd l
   answered words (Some bytes) (Some rest) out new made text status m l a t = (text, t, rw l (answer words bytes text status made m a))
 
   -- a beginning of the answer was written
   begun : (words : List (List ℕ)) (input left out new : Option (List ℕ)) (made : Made) (text : List ℕ) (status k : ℕ) → IfSome input (λ bytes. IsMap (leading_lines bytes) made) → Leaves input left (λ bytes rest. rest ≡ after_map bytes)
-      → IsAnswer made.registry (insert_ranges [] made.ranges) words text status → Appends out new (take k text) → Explains handed words input left out new fault.Output
+      → IsNodeOrSplit made.registry (insert_ranges [] made.ranges) words text status → Appends out new (take k text) → Explains handed words input left out new fault.Output
   begun words None left out new made text status k m l a t = (take k text, t, inl tt)
   begun words (Some bytes) None out new made text status k m l a t = absurd l
   begun words (Some bytes) (Some rest) out new made text status k m l a t =
       (take k text, t, inl (rw l record { whole = text; status = status; called_for = answer words bytes text status made m a; count = k; begins = refl }))
 
   pub not_written : (words : List (List ℕ)) (input left out new : Option (List ℕ)) (made : Made) (text : List ℕ) (status k : ℕ) (r : Result ℕ Fault) → IfSome input (λ bytes. IsMap (leading_lines bytes) made)
-      → Leaves input left (λ bytes rest. rest ≡ after_map bytes) → IsAnswer made.registry (insert_ranges [] made.ranges) words text status → Appends out new (take k text) → IsErrAnd r (λ x. x ≡ fault.Output) → MatchResult r (HasAnswer handed words input left out new) (Explains handed words input left out new)
+      → Leaves input left (λ bytes rest. rest ≡ after_map bytes) → IsNodeOrSplit made.registry (insert_ranges [] made.ranges) words text status → Appends out new (take k text) → IsErrAnd r (λ x. x ≡ fault.Output) → MatchResult r (HasAnswer handed words input left out new) (Explains handed words input left out new)
   not_written words input left out new made text status k (Ok x) m l a t is = absurd is
   not_written words input left out new made text status k (Err x) m l a t is = rw is (begun words input left out new made text status k m l a t)
 

@@ -19,7 +19,7 @@ use Rattle.redis_routing.specs.Registry.{Registrations}
 use Rattle.redis_cluster.specs.Split.{Split, route_part, split_part}
 use Rattle.redis_cluster.specs.RoutingInfo.{route_list, route_lists}
 use Rattle.redis_routing.specs.declared.route_by.MultiSlotArgPattern.{MultiSlotArgPattern}
-use Rattle.slotroute_serve.specs.Commands.{only_reads, names_with}
+use Rattle.slotroute_serve.specs.Commands.{run_only_reads, names_with}
 use Rattle.slotroute_serve.specs.Split.{RoutedPart, IsRoutedPart, ArePartLines, IsSplitAnswer, part_line}
 use Rattle.slotroute_serve.proofs.Reading.{AllZip-more}
 
@@ -68,7 +68,7 @@ one_more entries parts_by_slot routes i route lines line old status part l a is 
     }
 
 -- The lines of a split of the words answer for them.
-pub answers : (registered : Registrations) (entries : List (RangeEntry SlotNodes)) (words command : List (List ℕ)) (names : List (List ℕ)) (split : Split) (text : List ℕ) (status : ℕ) → command ≡ words → ((name : List ℕ) → is_among names name ≡ only_reads name)
+pub answers : (registered : Registrations) (entries : List (RangeEntry SlotNodes)) (words command : List (List ℕ)) (names : List (List ℕ)) (split : Split) (text : List ℕ) (status : ℕ) → command ≡ words → ((name : List ℕ) → is_among names name ≡ run_only_reads name)
     → Some split.routes ≡ multi_slot_routes (names_of names registered) (map Some command) → split.arguments ≡ map Some command → Some split.pattern ≡ pattern_by_name registered (command_name (map Some command))
     → ArePartLines entries (split_part split) split.routes text status → IsSplitAnswer registered entries words text status
 answers registered entries words command names split text status same reads routes arguments pattern lines =
@@ -76,6 +76,6 @@ answers registered entries words command names split text status same reads rout
     ap (part_of_slot split.pattern) arguments ∙ same_parts registered (map Some command) split.pattern pattern ∙ ap (λ ws. part_by_name registered (map Some ws)) same in
     record {
       routes = split.routes;
-      split = ap (λ ws. multi_slot_routes (names_with registered) (map Some ws)) (sym same) ∙ ap (λ (f : List ℕ → Bool). multi_slot_routes (record { only_reads = f; registered = registered }) (map Some command)) (sym (fun_ext reads)) ∙ sym routes;
+      split = ap (λ ws. multi_slot_routes (names_with registered) (map Some ws)) (sym same) ∙ ap (λ (f : List ℕ → Bool). multi_slot_routes (record { run_only_reads = f; registered = registered }) (map Some command)) (sym (fun_ext reads)) ∙ sym routes;
       answered = subst (λ parts. ArePartLines entries parts split.routes text status) whole lines;
     }

@@ -30,12 +30,12 @@ use Rattle.slotroute_serve.specs.declared.refusal.Refusal.{Refusal}
 use Rattle.slotroute_serve.specs.declared.refusal.Refusal.TheVariants.{NotMultiKey, NotCovered, NodeRefused, ReplyLost, BadReply}
 
 -- the names of the commands that only read
-abbrev pub only_reads : List ℕ → Bool
-only_reads = is_among (codes "MGET" ∷ codes "JSON.MGET" ∷ codes "EXISTS" ∷ [])
+abbrev pub run_only_reads : List ℕ → Bool
+run_only_reads = is_among (codes "MGET" ∷ codes "JSON.MGET" ∷ codes "EXISTS" ∷ [])
 
 -- the names of the commands that only read, and these registered names
 abbrev pub names_with : Registrations → Names
-names_with registered = record { only_reads = only_reads; registered = registered }
+names_with registered = record { run_only_reads = run_only_reads; registered = registered }
 
 -- the node of a route; with a strategy, a read may go to any candidate
 abbrev pub IsRunNode : Bool → List (RangeEntry SlotNodes) → SlotRoute → Address → Type 0
@@ -58,34 +58,34 @@ pub record IsCommandRun (handed : Bool) (direction : Direction) (registered : Re
 
 -- Why a command is refused: it is no complete multi-key command, or its first route without a node
 -- has this slot. Nodes in memory without a fuse and a plan cause no other refusal.
-abbrev pub IsRefused : Registrations → List (RangeEntry SlotNodes) → List (List ℕ) → Refusal → Type 0
-IsRefused registered entries words NotMultiKey =
+abbrev pub IsRunRefused : Registrations → List (RangeEntry SlotNodes) → List (List ℕ) → Refusal → Type 0
+IsRunRefused registered entries words NotMultiKey =
     command_routes_by (names_with registered) (map Some words) ≡ None
-IsRefused registered entries words (NotCovered slot) =
+IsRunRefused registered entries words (NotCovered slot) =
     (routes : List SlotRoute)
     × (command_routes_by (names_with registered) (map Some words) ≡ Some routes)
     × IsFirstUncovered entries routes slot
-IsRefused registered entries words NodeRefused = ⊥
-IsRefused registered entries words ReplyLost = ⊥
-IsRefused registered entries words BadReply = ⊥
+IsRunRefused registered entries words NodeRefused = ⊥
+IsRunRefused registered entries words ReplyLost = ⊥
+IsRunRefused registered entries words BadReply = ⊥
 
 -- why a command is not run, except for memory
 abbrev pub WhyNotRun : Registrations → List (RangeEntry SlotNodes) → List (List ℕ) → CommandFault
     → Type 0
-WhyNotRun registered entries words (Refused refusal) = IsRefused registered entries words refusal
+WhyNotRun registered entries words (Refused refusal) = IsRunRefused registered entries words refusal
 WhyNotRun registered entries words Memory = ⊤
 
 -- what is reported of a command that has no plan
-abbrev pub fault_of_plan : PlanFault → CommandFault
-fault_of_plan unplanned.NotMultiKey = Refused NotMultiKey
-fault_of_plan (unplanned.NotCovered slot) = Refused (NotCovered slot)
-fault_of_plan unplanned.Memory = Memory
+abbrev pub command_fault : PlanFault → CommandFault
+command_fault unplanned.NotMultiKey = Refused NotMultiKey
+command_fault (unplanned.NotCovered slot) = Refused (NotCovered slot)
+command_fault unplanned.Memory = Memory
 
 -- a refused command leaves the keys and the trace as they were
-abbrev pub IsUnsent : CommandFault → (old new : Keyspace Cell) → (before after : List trace.Entry)
+abbrev pub LeavesAllIfRefused : CommandFault → (old new : Keyspace Cell) → (before after : List trace.Entry)
     → Type 0
-IsUnsent (Refused refusal) old new before after = (new ≡ old) × (after ≡ before)
-IsUnsent Memory old new before after = ⊤
+LeavesAllIfRefused (Refused refusal) old new before after = (new ≡ old) × (after ≡ before)
+LeavesAllIfRefused Memory old new before after = ⊤
 
 -- the nodes refuse and redirect nothing
 abbrev pub RefuseNothing : MemoryNodes → Type 0
@@ -93,4 +93,4 @@ RefuseNothing nodes = (count : ℕ) (ending : Ending) → ¬ (MayRefuse nodes co
 
 -- the set has the names of the commands that only read
 abbrev pub AreReadOnly : List (List ℕ) → Type 0
-AreReadOnly names = (name : List ℕ) → is_among names name ≡ only_reads name
+AreReadOnly names = (name : List ℕ) → is_among names name ≡ run_only_reads name

@@ -31,16 +31,16 @@ policy_words =
     (codes "list", CombineArrays) ∷ []
 
 -- the name of one word, or of two with a space between them
-abbrev pub name_in : List (List ℕ) → Option (List ℕ)
-name_in (word ∷ []) = Some word
-name_in (first ∷ second ∷ []) = Some (first ++ space ∷ second)
-name_in words = None
+abbrev pub name_of_words : List (List ℕ) → Option (List ℕ)
+name_of_words (word ∷ []) = Some word
+name_of_words (first ∷ second ∷ []) = Some (first ++ space ∷ second)
+name_of_words words = None
 
 -- the fields of a line that asks to register the name
 abbrev pub IsMultiLine : List (List ℕ) → List ℕ → Registered → Type 0
 IsMultiLine (first ∷ pattern ∷ policy ∷ words) name registered =
     (first ≡ multi_word) × (lookup_name pattern_words pattern ≡ Some registered.0)
-    × (lookup_name policy_words policy ≡ Some registered.1) × (name_in words ≡ Some name)
+    × (lookup_name policy_words policy ≡ Some registered.1) × (name_of_words words ≡ Some name)
 IsMultiLine fields name registered = ⊥
 
 -- The name was accepted, and registered in upper case. Other names keep their registration.

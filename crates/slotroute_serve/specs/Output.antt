@@ -65,11 +65,11 @@ IsRunBy strategy (command ∷ direction ∷ word ∷ []) =
 IsRunBy strategy words = ⊥
 
 -- the words are `node KEY`, `split WORD ..` with one word or more, or the words of `run`
-pub data IsRequest : List (List ℕ) → Type 0 where
-  node_request : (key : List ℕ) → IsRequest (node_words key)
-  split_request : (command : List (List ℕ)) → command ≢ [] → IsRequest (split_words command)
+pub data IsUsage : List (List ℕ) → Type 0 where
+  node_request : (key : List ℕ) → IsUsage (node_words key)
+  split_request : (command : List (List ℕ)) → command ≢ [] → IsUsage (split_words command)
   run_request : (direction : Direction) (words : List (List ℕ)) → IsRunWords direction words
-      → IsRequest words
+      → IsUsage words
 
 abbrev pub slot_line : ℕ → List ℕ → List ℕ
 slot_line slot node = codes "slot " ++ decimal slot ++ space ∷ node ++ line_feed ∷ []
@@ -99,13 +99,13 @@ pub data IsNodeAnswer (entries : List (RangeEntry SlotNodes)) (key : List ℕ) :
 
 -- the output and the status for the words: the line of the key for `node`, the lines of the command
 -- for `split`
-pub data IsAnswer (registered : Registrations) (entries : List (RangeEntry SlotNodes))
+pub data IsNodeOrSplit (registered : Registrations) (entries : List (RangeEntry SlotNodes))
     : List (List ℕ) → List ℕ → ℕ → Type 0 where
   node_answer : (key line : List ℕ) (status : ℕ) → IsNodeAnswer entries key line status
-      → IsAnswer registered entries (node_words key) line status
+      → IsNodeOrSplit registered entries (node_words key) line status
   split_answer : (command : List (List ℕ)) (lines : List ℕ) (status : ℕ)
       → IsSplitAnswer registered entries command lines status
-      → IsAnswer registered entries (split_words command) lines status
+      → IsNodeOrSplit registered entries (split_words command) lines status
 
 -- the number of the first line after the map
 abbrev pub first_after_map : List ℕ → ℕ
@@ -115,16 +115,16 @@ first_after_map input = length (leading_lines input) + 2
 -- `handed` says whether a strategy is passed
 pub data Output (handed : Bool)
     : List (List ℕ) → List ℕ → List ℕ → List ℕ → List ℕ → ℕ → Type 0 where
-  usage : (words : List (List ℕ)) (input : List ℕ) → ¬ (IsRequest words)
+  usage : (words : List (List ℕ)) (input : List ℕ) → ¬ (IsUsage words)
       → Output handed words input input [] usage_line 2
-  bad_map : (words : List (List ℕ)) (input : List ℕ) (number : ℕ) → IsRequest words
+  bad_map : (words : List (List ℕ)) (input : List ℕ) (number : ℕ) → IsUsage words
       → IsFirstBadLine (leading_lines input) number
       → Output handed words input (after_lines number input) [] (bad_map_line number) 2
   not_multi_key : (command : List (List ℕ)) (input : List ℕ) (made : Made)
       → command ≢ [] → IsMap (leading_lines input) made → split_routes made.registry command ≡ None
       → Output handed (split_words command) input (after_map input) [] not_multi_key_line 2
   answer : (words : List (List ℕ)) (input text : List ℕ) (status : ℕ) (made : Made)
-      → IsMap (leading_lines input) made → IsAnswer made.registry (insert_ranges [] made.ranges) words
+      → IsMap (leading_lines input) made → IsNodeOrSplit made.registry (insert_ranges [] made.ranges) words
       text status
       → Output handed words input (after_map input) text [] status
   run_to_end : (words : List (List ℕ)) (direction : Direction) (input left text : List ℕ)

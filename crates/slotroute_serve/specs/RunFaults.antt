@@ -4,7 +4,7 @@ use Rattle.std.specs.Io.KnownBytes.{Appends}
 use Rattle.cluster_map.specs.RangeMap.{RangeEntry}
 use Rattle.cluster_map.specs.SlotNodes.{SlotNodes}
 use Rattle.redis_routing.specs.Registry.{Registrations}
-use Rattle.slotroute_serve.specs.Commands.{IsRefused}
+use Rattle.slotroute_serve.specs.Commands.{IsRunRefused}
 use Rattle.slotroute_serve.specs.declared.direction.Direction.{Direction}
 use Rattle.slotroute_serve.specs.declared.refusal.CommandFault.{CommandFault}
 use Rattle.slotroute_serve.specs.declared.refusal.CommandFault.TheVariants.{Refused, Memory as NoMemory}
@@ -17,7 +17,7 @@ use Rattle.slotroute_serve.specs.declared.fault.RunFault.TheVariants.{Command, O
 abbrev pub WhyNoText : Registrations → List (RangeEntry SlotNodes) → List (List ℕ) → CommandFault
     → Type 0
 WhyNoText registered entries fields (Refused refusal) =
-    (fields ≢ []) × IsRefused registered entries fields refusal
+    (fields ≢ []) × IsRunRefused registered entries fields refusal
 WhyNoText registered entries fields NoMemory = ⊤
 
 module _ (handed : Bool) (direction : Direction) (registered : Registrations)

@@ -5,7 +5,7 @@ use Rattle.cluster_map.specs.SlotNodes.{SlotNodes}
 use Rattle.redis_routing.specs.Registry.{Registrations}
 use Rattle.memory_nodes.specs.Cells.{Cell}
 use Rattle.redis_cluster.specs.Unsplit.{Keyspace}
-use Rattle.slotroute_serve.specs.Commands.{IsCommandRun, IsRefused}
+use Rattle.slotroute_serve.specs.Commands.{IsCommandRun, IsRunRefused}
 use Rattle.slotroute_serve.specs.declared.direction.Direction.{Direction}
 use Rattle.slotroute_serve.specs.declared.refusal.Refusal.{Refusal}
 use Rattle.slotroute_serve.specs.Lines.{lines_of, fields_of, after_lines, StopsInLine}
@@ -47,7 +47,7 @@ module _ (handed : Bool) (direction : Direction) (registered : Registrations)
     pub keyspace : Keyspace Cell
     pub run : AreRun before no_keys keyspace text
     pub some : command ≢ []
-    pub why : IsRefused registered entries command refusal
+    pub why : IsRunRefused registered entries command refusal
     pub counted : number ≡ first + length before
     pub left_is : left ≡ after_lines (length before + 1) input
 

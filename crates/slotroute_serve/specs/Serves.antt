@@ -6,7 +6,7 @@ use Rattle.slotroute_serve.specs.declared.direction.Direction.{Direction}
 use Rattle.slotroute_serve.specs.Faults.{fault_line, IsCaused}
 use Rattle.slotroute_serve.specs.Lines.{leading_lines, after_map, StopsInMap}
 use Rattle.slotroute_serve.specs.MapLines.{Made, IsMap}
-use Rattle.slotroute_serve.specs.Output.{Output, IsRequest, IsRunWords, usage_line, bad_map_line, not_multi_key_line, refused_line}
+use Rattle.slotroute_serve.specs.Output.{Output, IsUsage, IsRunWords, usage_line, bad_map_line, not_multi_key_line, refused_line}
 use Rattle.slotroute_serve.specs.Runs.{StopsAfter, CutShort}
 use Rattle.slotroute_serve.specs.Streams.{Leaves}
 use Rattle.slotroute_serve.specs.declared.fault.Fault.{Fault}
@@ -59,8 +59,8 @@ IsUnfinished handed words input left text =
     × Leaves input left (λ bytes rest. BeginsRun handed direction bytes rest text))
 
 -- the text is the first bytes of an answer, or of what the commands of a run print
-abbrev pub IsCutShort : Bool → List (List ℕ) → Option (List ℕ) → Option (List ℕ) → List ℕ → Type 0
-IsCutShort handed words input left text =
+abbrev pub IsOutputCut : Bool → List (List ℕ) → Option (List ℕ) → Option (List ℕ) → List ℕ → Type 0
+IsOutputCut handed words input left text =
     Leaves input left (λ bytes rest. BeginsOutput handed words bytes rest text)
     ⊎ ((direction : Direction) × IsRunWords direction words
     × Leaves input left (λ bytes rest. CutsRun handed direction bytes rest text))
@@ -98,9 +98,9 @@ Explains handed words input left out_old out_new (Command number refusal) =
     × Leaves input left
     (λ bytes rest. Output handed words bytes rest outs (refused_line number refusal) 2)
 Explains handed words input left out_old out_new OutputFailed =
-    (outs : List ℕ) × Appends out_old out_new outs × IsCutShort handed words input left outs
+    (outs : List ℕ) × Appends out_old out_new outs × IsOutputCut handed words input left outs
 Explains handed words input left out_old out_new trouble =
-    (outs : List ℕ) × Appends out_old out_new outs × IsRequest words
+    (outs : List ℕ) × Appends out_old out_new outs × IsUsage words
     × IsUnfinished handed words input left outs
 
 -- a fault: what was read and written before it, and what was reported of it; `reads`, `writes` and

@@ -4,7 +4,7 @@ ghost use Rattle.redis_cluster.specs.State.{state};
 ghost use Rattle.resp_core.specs.View.{view};
 ghost use Rattle.memory_nodes.specs.Nodes.{registered_in, keyspace_in, trace_in, mark_in};
 ghost use Rattle.memory_nodes.specs.Steps.{step};
-ghost use Rattle.slotroute_serve.specs.Commands.{names_with, AreReadOnly, RefuseNothing, IsCommandRun, IsRunNode, IsUnsent, WhyNotRun};
+ghost use Rattle.slotroute_serve.specs.Commands.{names_with, AreReadOnly, RefuseNothing, IsCommandRun, IsRunNode, LeavesAllIfRefused, WhyNotRun};
 ghost use Rattle.slotroute_serve.specs.Inner.Direction.{IsOrderOf};
 ghost use Rattle.slotroute_serve.specs.Inner.Refusals.{fault_of_drive};
 
@@ -52,7 +52,7 @@ pub fn run_command(
         (registered_in nodes.old) slot_map.now (map (λ word. word.now) words.now)
         (keyspace_in nodes.old) (keyspace_in nodes.new) text.items) }
     ensures refused { IfErr result (WhyNotRun (registered_in nodes.old) slot_map.now (map (λ word. word.now) words.now)) }
-    ensures unsent { IfErr result (λ fault. IsUnsent fault
+    ensures unsent { IfErr result (λ fault. LeavesAllIfRefused fault
         (keyspace_in nodes.old) (keyspace_in nodes.new) (trace_in nodes.old) (trace_in nodes.new)) }
     ensures willing { RefuseNothing nodes.new }
     ensures registered { registered_in nodes.new ≡ registered_in nodes.old }
@@ -85,7 +85,7 @@ fn drive_command(
         (state (keyspace_in nodes.old) (trace_in nodes.old) (mark_in nodes.old))
         (state (keyspace_in nodes.new) (trace_in nodes.new) (mark_in nodes.new)) (view value)) }
     ensures refused { IfErr result (WhyNotRun (registered_in nodes.old) slot_map.now command.now) }
-    ensures unsent { IfErr result (λ fault. IsUnsent fault
+    ensures unsent { IfErr result (λ fault. LeavesAllIfRefused fault
         (keyspace_in nodes.old) (keyspace_in nodes.new) (trace_in nodes.old) (trace_in nodes.new)) }
     ensures willing { RefuseNothing nodes.new }
     ensures registered { registered_in nodes.new ≡ registered_in nodes.old }

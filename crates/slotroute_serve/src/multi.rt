@@ -1,7 +1,7 @@
 ghost use Rattle.std.specs.Prelude.{◌≡◌, true, false, map, option_map, IfOk};
 ghost use Rattle.redis_routing.specs.Lookup.{lookup_name};
 ghost use Rattle.redis_routing.specs.Registry.{Registrations};
-ghost use Rattle.slotroute_serve.specs.MultiLines.{Registers, pattern_words, policy_words, name_in};
+ghost use Rattle.slotroute_serve.specs.MultiLines.{Registers, pattern_words, policy_words, name_of_words};
 
 use redis_cluster::routing::{
     AggregateOp, MultiSlotArgPattern, RegisterError, Registry, ResponsePolicy,
@@ -66,7 +66,7 @@ fn policy_by(word: &[u8]) -> Option<ResponsePolicy>
 /// The name of one word, or of two.
 fn name_of(alloc: Global, words: &[&[u8]]) -> Result<Option<Vec<u8>>, AllocError>
     ensures { IfOk result (λ name. option_map (λ n. n.items) name
-        ≡ name_in (map (λ word. word.now) words.now)) }
+        ≡ name_of_words (map (λ word. word.now) words.now)) }
 {
     match words {
         [word] => Ok(Some(word.to_vec(alloc)?)),

@@ -1,6 +1,6 @@
 ghost use Rattle.std.specs.Prelude.{◌≡◌, ◌≤◌, ◌⊎◌, ℕ, List, ⊤, map, string_bytes, is_some, IfOk, IfErr, OnErr, MatchResult};
 ghost use Rattle.std.specs.Cow.{cow_str_bytes};
-ghost use Rattle.slotroute_serve.specs.Output.{IsRequest, IsAnswer, IsNodeAnswer};
+ghost use Rattle.slotroute_serve.specs.Output.{IsUsage, IsNodeOrSplit, IsNodeAnswer};
 ghost use Rattle.slotroute_serve.specs.Faults.{fault_line, fault_of_run, IsCaused};
 ghost use Rattle.slotroute_serve.specs.Requests.{Asks, WhyNoAnswer};
 ghost use Rattle.slotroute_serve.specs.RunFaults.{RunEnds, RunStops};
@@ -44,8 +44,8 @@ pub fn serve<R: BufRead, O: Write, E: Write>(
         (R.remaining reader.old) (R.remaining reader.new)
         (O.contents out.old) (O.contents out.new) (E.contents err.old) (E.contents err.new) result }
     ensures status { result ≤ 2 }
-    ensures misused { ¬ (IsRequest (map string_bytes words.now)) → result ≡ 2 }
-    ensures untouched { ¬ (IsRequest (map string_bytes words.now)) → reader.new ≡ reader.old }
+    ensures misused { ¬ (IsUsage (map string_bytes words.now)) → result ≡ 2 }
+    ensures untouched { ¬ (IsUsage (map string_bytes words.now)) → reader.new ≡ reader.old }
 {
     serve_streams(alloc, words, reader, out, err, strategy)
 }
@@ -73,8 +73,8 @@ pub fn serve_streams<R: Source, O: Sink, E: Sink>(
         (R.remaining reader.new) (O.contents out.old) (O.contents out.new) (E.contents err.old)
         (E.contents err.new) result }
     ensures status { result ≤ 2 }
-    ensures misused { ¬ (IsRequest (map string_bytes words.now)) → result ≡ 2 }
-    ensures untouched { ¬ (IsRequest (map string_bytes words.now)) → reader.new ≡ reader.old }
+    ensures misused { ¬ (IsUsage (map string_bytes words.now)) → result ≡ 2 }
+    ensures untouched { ¬ (IsUsage (map string_bytes words.now)) → reader.new ≡ reader.old }
 {
     match run(alloc, words, reader, out, strategy) {
         Ok(status) => status,
@@ -99,8 +99,8 @@ fn run<R: Source, O: Sink>(
         (R.remaining reader.new) (O.contents out.old) (O.contents out.new)) }
     ensures cause { IfErr result (IsCaused (MayFailToRead R.fails) (MayFailToWrite O.fails)) }
     ensures status { IfOk result (λ status. status ≤ 1) }
-    ensures asked { IfOk result (λ _. IsRequest (map string_bytes words.now)) }
-    ensures untouched { ¬ (IsRequest (map string_bytes words.now)) → reader.new ≡ reader.old }
+    ensures asked { IfOk result (λ _. IsUsage (map string_bytes words.now)) }
+    ensures untouched { ¬ (IsUsage (map string_bytes words.now)) → reader.new ≡ reader.old }
 {
     let Some(request) = request_of(words) else {
         return Err(Fault::Usage);
@@ -131,7 +131,7 @@ fn answer(
 ) -> Result<(Vec<u8>, u8), AnswerFault>
     ensures { MatchResult result
         (λ answer. (words : List (List ℕ)) → Asks words question.now
-        → IsAnswer registry.now map.now words answer.0.items answer.1)
+        → IsNodeOrSplit registry.now map.now words answer.0.items answer.1)
         (WhyNoAnswer registry.now question.now) }
 {
     match question {

@@ -83,9 +83,9 @@ impl<T: Drop> From<AllocFailed<T>> for CommandFault {
 }
 
 impl From<PlanFault> for CommandFault {
-    ghost use Rattle.slotroute_serve.specs.Commands.{fault_of_plan};
+    ghost use Rattle.slotroute_serve.specs.Commands.{command_fault};
 
-    ghost from_gives = { λ plan fault. fault ≡ fault_of_plan plan };
+    ghost from_gives = { λ plan fault. fault ≡ command_fault plan };
 
     fn from(plan: PlanFault) -> Self {
         match plan {

@@ -1,6 +1,6 @@
 ghost use Rattle.std.specs.Prelude.{◌≡◌, ◌≢◌, ℕ, List, ◌∷◌, [], ◌↔◌, codes, map, string_bytes, IsTrue, MatchOption};
 ghost use Rattle.slotroute_serve.specs.declared.direction.Direction.{Direction as Way};
-ghost use Rattle.slotroute_serve.specs.Output.{IsRequest, IsDirected, MayNameStrategy, direction_word};
+ghost use Rattle.slotroute_serve.specs.Output.{IsUsage, IsDirected, MayNameStrategy, direction_word};
 ghost use Rattle.slotroute_serve.specs.Requests.{AsksFor};
 
 use crate::direction::Direction;
@@ -27,7 +27,7 @@ pub enum Question<'a> {
 /// The request of the words `node KEY`, `split WORD ..` or `run forward|reverse ..`.
 pub fn request_of(words: &[String]) -> Option<Request<'_>>
     ensures { MatchOption result
-        (¬ (IsRequest (map string_bytes words.now)))
+        (¬ (IsUsage (map string_bytes words.now)))
         (AsksFor (map string_bytes words.now)) }
 {
     let [word, rest @ ..] = words else {

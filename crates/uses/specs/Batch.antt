@@ -76,11 +76,11 @@ IsClientRefusal (NotCombined error) = error.kind ≡ Client
 IsClientRefusal Memory = ⊥
 
 -- why there is not a reply to each part
-abbrev pub IsUnread : Answers → BatchError → Type 0
-IsUnread answers (NotPlanned fault) = ⊥
-IsUnread answers (NotAnswered number cause) = IsNotAnswered answers number cause
-IsUnread answers (NotCombined error) = ⊥
-IsUnread answers Memory = Unit {0}
+abbrev pub WhyNoReplies : Answers → BatchError → Type 0
+WhyNoReplies answers (NotPlanned fault) = ⊥
+WhyNoReplies answers (NotAnswered number cause) = IsNotAnswered answers number cause
+WhyNoReplies answers (NotCombined error) = ⊥
+WhyNoReplies answers Memory = Unit {0}
 
 -- why there is no reply to the command
 abbrev pub IsUngathered : Plan → Answers → BatchError → Type 0
@@ -90,11 +90,11 @@ IsUngathered plan answers (NotCombined error) = IsNotCombined plan answers error
 IsUngathered plan answers Memory = Unit {0}
 
 -- a command that has no plan has the plan's fault, and nothing was sent
-abbrev pub IsUnplanned : List (ranges.RangeEntry SlotNodes) → Arguments → Type 0 → BatchError → Type 0
-IsUnplanned entries args Unsent (NotPlanned fault) = IsPlanFault entries (names_of [] []) args fault × Unsent
-IsUnplanned entries args Unsent (NotAnswered number cause) = Unit {0}
-IsUnplanned entries args Unsent (NotCombined error) = Unit {0}
-IsUnplanned entries args Unsent Memory = Unit {0}
+abbrev pub HasNoBatchPlan : List (ranges.RangeEntry SlotNodes) → Arguments → Type 0 → BatchError → Type 0
+HasNoBatchPlan entries args Unsent (NotPlanned fault) = IsPlanFault entries (names_of [] []) args fault × Unsent
+HasNoBatchPlan entries args Unsent (NotAnswered number cause) = Unit {0}
+HasNoBatchPlan entries args Unsent (NotCombined error) = Unit {0}
+HasNoBatchPlan entries args Unsent Memory = Unit {0}
 
 -- what may have been handed over, a list for each call
 abbrev pub Handed : Type 0

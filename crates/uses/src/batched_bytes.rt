@@ -2,7 +2,7 @@
 ghost use Rattle.std.specs.Prelude.{IfOk};
 ghost use Rattle.redis_batches.specs.PipelinePlan.{PipelineBatches};
 ghost use Rattle.redis_batch_bytes.specs.Plans.{IsPlanOfRequests};
-ghost use Rattle.redis_batch_bytes.specs.Replies.{AreCombined};
+ghost use Rattle.redis_batch_bytes.specs.Replies.{RepliesAreWritten};
 
 use cluster_map::{NodeAddress, SlotMap};
 use redis_batch_bytes::{BatchBytes, BatchFault, combine_pipeline, split_pipeline};
@@ -49,7 +49,7 @@ pub fn in_order(
 ) -> Result<Vec<u8>, BatchFault>
     ensures combined { IfOk result (λ combined. (plan : PipelineBatches)
         × IsPlanOfRequests registry.now slot_map.now requests.now plan
-        × AreCombined plan replies.now combined.items) }
+        × RepliesAreWritten plan replies.now combined.items) }
 {
     combine_pipeline(alloc, requests, registry, slot_map, replies)
 }

@@ -2,7 +2,7 @@
 ghost use Rattle.std.specs.Prelude.{◌≡◌, ◌++◌, ◌∷◌, [], List, Some, Ok, map, option_map, slice_get, IfOk, OnOk, OnErr, IfErr, ◌⊎◌};
 ghost use Rattle.resp_core.specs.View.{view};
 ghost use Rattle.redis_cluster.specs.Sends.{Target, targets};
-ghost use Rattle.uses.specs.Batch.{Answers, AreAdded, AreHanded, AreHandedOrNone, IsBatchedAmid, IsSame, IsClientRefusal, IsGathered, IsUngathered, IsUnread, IsUnplanned};
+ghost use Rattle.uses.specs.Batch.{Answers, AreAdded, AreHanded, AreHandedOrNone, IsBatchedAmid, IsSame, IsClientRefusal, IsGathered, IsUngathered, WhyNoReplies, HasNoBatchPlan};
 
 use cluster_map::{NodeAddress, SlotMap};
 use redis_cluster::driver::{PlanFault, SplitPlan};
@@ -112,7 +112,7 @@ pub fn batch<C: Connections>(
     ensures handed_once { IfErr result (λ error. AreHandedOrNone slot_map.now (map Some command.now)
         (C.handed connections.old) (C.handed connections.new) error) }
     ensures unplanned { IfErr result (λ error.
-        IsUnplanned slot_map.now (map Some command.now) (connections.new ≡ connections.old) error) }
+        HasNoBatchPlan slot_map.now (map Some command.now) (connections.new ≡ connections.old) error) }
     // Others may write the same keys during the call. If each node replied by what it held, the
     // reply is the unsplit command's on any keyspace that has, at each key, what the key's node
     // held.
@@ -196,7 +196,7 @@ fn not_combined(text: &'static str) -> BatchError
 /// The replies, if each answer is a reply.
 fn replies_in(alloc: Global, answers: Vec<Answer>) -> Result<Vec<Value>, BatchError>
     ensures replies { IfOk result (λ replies. answers.items ≡ map Ok replies.items) }
-    ensures cause { IfErr result (λ error. IsUnread answers.items error) }
+    ensures cause { IfErr result (λ error. WhyNoReplies answers.items error) }
 {
     let mut replies = Vec::with_capacity(alloc, answers.len())?;
     for answer in answers {

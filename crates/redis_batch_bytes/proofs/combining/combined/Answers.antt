@@ -4,7 +4,7 @@ use Rattle.resp_core.specs.ErrorParts.{ErrorParts}
 use Rattle.resp_core.specs.declared.value.Value.{Value}
 use Rattle.std.proofs.Common.{Result}
 use Rattle.redis_batches.specs.Taken.{answer_of}
-use Rattle.redis_batch_bytes.specs.Replies.{AreCombined, AreUnwritten, IsUncombinedBy}
+use Rattle.redis_batch_bytes.specs.Replies.{RepliesAreWritten, AreUnwritten, IsUncombinedBy}
 use Rattle.redis_batch_bytes.specs.Told.{answer_form}
 use Rattle.redis_batch_bytes.proofs.Batchwise.{answered, if_err, if_ok, uncombined}
 use Rattle.redis_batch_bytes.proofs.combining.combined.Goals as goal
@@ -16,7 +16,7 @@ returns-in-Ok-clause-combined c =
     let bytes = c.args.replies.now in
     let found = map answer_of c.in-Ok.found.items in
     let told = c.in_ok-tell_all.ensures in
-    if_ok (λ v. v.items ≡ flat_map answer_form (map answer_of c.as_slice.result.now)) (λ v. AreCombined old bytes v.items) c.written.result
+    if_ok (λ v. v.items ≡ flat_map answer_form (map answer_of c.as_slice.result.now)) (λ v. RepliesAreWritten old bytes v.items) c.written.result
     (λ v is. answered old new bytes told.told c.requires.sent told.room told.same.0 found c.in-Ok.ensures.replies (λ replies. v.items ≡ flat_map answer_form replies)
     (is ∙ ap (λ (l : List (Result Value ErrorParts)). flat_map answer_form (map answer_of l)) c.as_slice.ensures.value))
     c.written.ensures.bytes

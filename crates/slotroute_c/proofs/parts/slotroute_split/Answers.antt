@@ -1,6 +1,6 @@
 use Rattle.std.proofs.Common.{◌≡◌, ℕ, List, length, refl, subst, ap, ◌∙◌, rules}
 use Rattle.slotroute_c.specs.Buffers.{IsWritten}
-use Rattle.slotroute_c.specs.Parts.{slots_of, IsTooSmall}
+use Rattle.slotroute_c.specs.Parts.{route_slots, IsTooSmall}
 use Rattle.slotroute_c.proofs.parts.slotroute_split.Goals as goal
 
 pub returns-then-slots-len-clause-too_small : goal.returns-then-slots-len-clause-too_small
@@ -32,6 +32,6 @@ returns-clause-done c =
     let parts = c.in-Ok.parts in
     let count : c.len-told.result ≡ length parts.routes.items = search rules in
     let bytes : c.len-told-2.result ≡ length parts.bytes.items = search rules in
-    let found : c.in-Ok-slots_in.found.items ≡ slots_of parts.routes.items = c.in-Ok-slots_in.ensures.slots ∙ ap slots_of c.deref.ensures.value in
-    let slots : IsWritten (slots_of parts.routes.items) c.args.slots.now c.put_all.new.buffer = subst (λ (xs : List ℕ). IsWritten xs c.args.slots.now c.put_all.new.buffer) found c.put_all.ensures in
+    let found : c.in-Ok-slots_in.found.items ≡ route_slots parts.routes.items = c.in-Ok-slots_in.ensures.slots ∙ ap route_slots c.deref.ensures.value in
+    let slots : IsWritten (route_slots parts.routes.items) c.args.slots.now c.put_all.new.buffer = subst (λ (xs : List ℕ). IsWritten xs c.args.slots.now c.put_all.new.buffer) found c.put_all.ensures in
     λ answer. (parts, c.in-Ok.ensures.parts, rw (count, bytes) refl, slots, c.put_all-2.ensures, c.put_all-3.ensures)

@@ -2,7 +2,7 @@ use Rattle.std.proofs.Common.{arith, ◌≡◌, ◌⊎◌, inl, inr, ℕ, List, 
 use Rattle.std.specs.Prelude.{Option, Some, None, MatchOption}
 use Rattle.std.proofs.lemmas.List.{take_rest}
 use Rattle.slotroute_serve.specs.declared.direction.Direction.{Direction}
-use Rattle.slotroute_serve.specs.Output.{IsRequest, IsDirected, IsRunWords, node_words, split_words, node_request, split_request, run_request}
+use Rattle.slotroute_serve.specs.Output.{IsUsage, IsDirected, IsRunWords, node_words, split_words, node_request, split_request, run_request}
 use Rattle.slotroute_serve.specs.Requests.{AsksFor}
 use Rattle.slotroute_serve.specs.declared.request.Request.{Request}
 use Rattle.slotroute_serve.proofs.request.request_of.Goals as goal
@@ -13,7 +13,7 @@ first_and_rest f [] a e h = absurd (omega arith)
 first_and_rest f (x ∷ xs) a e h = rw (take_rest (x ∷ xs) 1) (ap (λ z. f z ∷ map f xs) (sym e))
 
 -- the three forms of words
-form : (ws : List (List ℕ)) → IsRequest ws
+form : (ws : List (List ℕ)) → IsUsage ws
     → ((key : List ℕ) × (ws ≡ node_words key)) ⊎ (((command : List (List ℕ)) × (ws ≡ split_words command)) ⊎ ((direction : Direction) × IsRunWords direction ws))
 form ws (node_request key) = inl (key, refl)
 form ws (split_request command some) = inr (inl (command, refl))
@@ -23,15 +23,15 @@ abbrev first_of : List (List ℕ) → List ℕ
 first_of [] = []
 first_of (w ∷ ws) = w
 
-not_directed : (rest : List (List ℕ)) → ((direction : Direction) → ¬ (IsDirected direction rest)) → ¬ (IsRequest (codes "run" ∷ rest))
+not_directed : (rest : List (List ℕ)) → ((direction : Direction) → ¬ (IsDirected direction rest)) → ¬ (IsUsage (codes "run" ∷ rest))
 not_directed rest none asked = elim (form (codes "run" ∷ rest) asked) as (λ _. ⊥) [
   | inl (key, e) ↦ let same : codes "run" ≡ codes "node" = ap first_of e in cc same
   | inr (inl (command, e)) ↦ let same : codes "run" ≡ codes "split" = ap first_of e in cc same
   | inr (inr (direction, run)) ↦ none direction run.1
 ]
 
-asks_run : (ws rest : List (List ℕ)) (r : Option Request) → ws ≡ codes "run" ∷ rest → MatchOption r ((direction : Direction) → ¬ (IsDirected direction rest)) (AsksFor (codes "run" ∷ rest)) → MatchOption r (¬ (IsRequest ws)) (AsksFor ws)
-asks_run ws rest None e h = subst (λ (w : List (List ℕ)). ¬ (IsRequest w)) (sym e) (not_directed rest h)
+asks_run : (ws rest : List (List ℕ)) (r : Option Request) → ws ≡ codes "run" ∷ rest → MatchOption r ((direction : Direction) → ¬ (IsDirected direction rest)) (AsksFor (codes "run" ∷ rest)) → MatchOption r (¬ (IsUsage ws)) (AsksFor ws)
+asks_run ws rest None e h = subst (λ (w : List (List ℕ)). ¬ (IsUsage w)) (sym e) (not_directed rest h)
 asks_run ws rest (Some request) e h = subst (λ (w : List (List ℕ)). AsksFor w request) (sym e) h
 
 pub returns-in-run : goal.returns-in-run

@@ -3,7 +3,7 @@ use Rattle.redis_cluster.specs.State.{state}
 use Rattle.redis_batches.specs.Taken.{answer_of}
 use Rattle.memory_nodes.specs.Nodes as held
 use Rattle.memory_nodes.specs.Steps.{step}
-use Rattle.memory_batches.specs.Nodes.{registered_in, trace_in, mark_in, state_in, entry_of, refusal_in, MayRefuse}
+use Rattle.memory_batches.specs.Nodes.{batch_registered, batch_trace, batch_mark, batch_state, command_entry, refusal_in, MayRefuseCommand}
 use Rattle.memory_batches.specs.Strings.{serve}
 use Rattle.memory_batches.proofs.Batches.{taken_one}
 use Rattle.memory_batches.proofs.Traces.{as_planned, noted}
@@ -18,8 +18,8 @@ returns-clause-taken c =
     let entry = c.in_ok-entry.entry in
     let items = c.push_reserved.ensures.items ∙ ap (λ l. l ++ entry ∷ []) c.reserve.ensures.items in
     let ended = c.in_ok-entry.ensures.refusal ∙ c.in_ok-noted.ensures ∙ sym c.in_ok-refusal.ensures in
-    taken_one step serve (registered_in nodes) (Unit {0}) (MayRefuse nodes) node args refusal (state_in nodes)
-    (state (held.keyspace_in c.answer_or_refuse.new.store) (map entry_of c.push_reserved.new.self.items) (mark_in nodes)) (answer_of c.in_ok-answer.answer)
+    taken_one step serve (batch_registered nodes) (Unit {0}) (MayRefuseCommand nodes) node args refusal (batch_state nodes)
+    (state (held.keyspace_in c.answer_or_refuse.new.store) (map command_entry c.push_reserved.new.self.items) (batch_mark nodes)) (answer_of c.in_ok-answer.answer)
     (noted nodes.trace.items c.push_reserved.new.self.items entry node args refusal items c.in_ok-entry.ensures.node c.in_ok-entry.ensures.command ended)
     (as_planned nodes refusal c.in_ok-refusal.ensures)
     (λ error is. ap answer_of (c.in_ok-answer.ensures.refused error is))
@@ -30,4 +30,4 @@ returns-clause-noted c =
     let nodes = c.args.self.now in
     let entry_made = c.in_ok-entry.entry in
     let items = c.push_reserved.ensures.items ∙ ap (λ l. l ++ entry_made ∷ []) c.reserve.ensures.items in
-    noted nodes.trace.items c.push_reserved.new.self.items entry_made c.args.node.now c.args.cmd.now (refusal_in nodes (length (trace_in nodes))) items c.in_ok-entry.ensures.node c.in_ok-entry.ensures.command (c.in_ok-entry.ensures.refusal ∙ c.in_ok-noted.ensures)
+    noted nodes.trace.items c.push_reserved.new.self.items entry_made c.args.node.now c.args.cmd.now (refusal_in nodes (length (batch_trace nodes))) items c.in_ok-entry.ensures.node c.in_ok-entry.ensures.command (c.in_ok-entry.ensures.refusal ∙ c.in_ok-noted.ensures)

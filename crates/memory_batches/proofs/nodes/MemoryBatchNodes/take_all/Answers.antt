@@ -6,7 +6,7 @@ use Rattle.resp_core.specs.declared.cmd.Cmd.{Cmd}
 use Rattle.redis_batches.proofs.ByNode.{at_take}
 use Rattle.redis_batches.specs.Taken.{answer_of, task_of, IsBegunAtMost, IsTaken}
 use Rattle.memory_nodes.specs.Steps.{step}
-use Rattle.memory_batches.specs.Nodes.{registered_in, keyspace_in, state_in, MayRefuse}
+use Rattle.memory_batches.specs.Nodes.{batch_registered, batch_keyspace, batch_state, MayRefuseCommand}
 use Rattle.memory_batches.specs.Strings.{serve}
 use Rattle.memory_batches.proofs.Batches.{taken_none, taken_next}
 use Rattle.memory_batches.proofs.Broken.{begun_by, not_begun, task_there}
@@ -16,10 +16,10 @@ use Rattle.memory_batches.proofs.nodes.MemoryBatchNodes.take_all.Goals as goal
 pub loop-cmd-init : goal.loop-cmd-init
 loop-cmd-init c =
     let first = c.args.self.now in
-    let start = state_in first in
+    let start = batch_state first in
     record {
       answers = ap length c.requires.none;
-      taken = subst (λ l. IsTaken step serve (registered_in first) (Unit {0}) (MayRefuse first) c.args.node.now [] start start (map answer_of l)) (sym c.requires.none) (taken_none step serve (registered_in first) (Unit {0}) (MayRefuse first) c.args.node.now start);
+      taken = subst (λ l. IsTaken step serve (batch_registered first) (Unit {0}) (MayRefuseCommand first) c.args.node.now [] start start (map answer_of l)) (sym c.requires.none) (taken_none step serve (batch_registered first) (Unit {0}) (MayRefuseCommand first) c.args.node.now start);
       as_planned = planned_none first;
       plan = refl;
       base = refl;
@@ -42,8 +42,8 @@ loop-cmd-preserved c =
     ap (map answer_of) c.in_ok-push.ensures.items ∙ map-append answer_of c.loop-cmd.answers.items (c.in_ok-answer.answer ∷ []) in
     record {
       answers = ap length c.in_ok-push.ensures.items ∙ length-append c.loop-cmd.answers.items (c.in_ok-answer.answer ∷ []) ∙ ap (λ n. n + 1) so_far.answers;
-      taken = taken_next step serve (Unit {0}) (registered_in first) (registered_in between) (MayRefuse first) (MayRefuse between) c.args.node.now (take i (map (λ (b : Bor Cmd). b.now) batch)) (take (i + 1) (map (λ (b : Bor Cmd). b.now) batch)) cmd.now
-          (state_in first) (state_in between) (state_in new)
+      taken = taken_next step serve (Unit {0}) (batch_registered first) (batch_registered between) (MayRefuseCommand first) (MayRefuseCommand between) c.args.node.now (take i (map (λ (b : Bor Cmd). b.now) batch)) (take (i + 1) (map (λ (b : Bor Cmd). b.now) batch)) cmd.now
+          (batch_state first) (batch_state between) (batch_state new)
           (map answer_of c.loop-cmd.answers.items) (map answer_of c.push.new.self.items) (answer_of c.in_ok-answer.answer)
           many so_far.registered (same_plan between first so_far.plan so_far.base) (at_take (λ (b : Bor Cmd). b.now) batch i cmd there) given so_far.taken c.in_ok-answer.ensures.taken;
       as_planned = planned_next first between new c.args.node.now cmd.now so_far.plan so_far.base so_far.as_planned c.in_ok-answer.ensures.noted;
@@ -67,8 +67,8 @@ returns-in_err-answer-clause-begun c =
     on_err_always c.from_residual.result
     (begun_by c.args.node.now commands i first between new (map answer_of c.loop-cmd.answers.items) so_far.taken (omega (arith, c.loop-cmd-test.true, length-map batch (λ (b : Bor Cmd). b.now))) c.in_err-answer.ensures.untaken
     (λ tasks are.
-    let next = task_there (registered_in first) commands tasks i cmd.now are at in
-    subst (λ o. IsBegunAtMost o (keyspace_in between) (keyspace_in new)) (sym next.there) (c.in_err-answer.ensures.begun next.task (ap (λ r. task_of r cmd.now) so_far.registered ∙ next.means))))
+    let next = task_there (batch_registered first) commands tasks i cmd.now are at in
+    subst (λ o. IsBegunAtMost o (batch_keyspace between) (batch_keyspace new)) (sym next.there) (c.in_err-answer.ensures.begun next.task (ap (λ r. task_of r cmd.now) so_far.registered ∙ next.means))))
 
 pub returns-in_err-push-clause-begun : goal.returns-in_err-push-clause-begun
 returns-in_err-push-clause-begun c =
@@ -83,10 +83,10 @@ returns-in_err-push-clause-begun c =
     let many : length (map answer_of c.loop-cmd.answers.items) ≡ length (take i (map (λ (b : Bor Cmd). b.now) batch)) =
     length-map c.loop-cmd.answers.items answer_of ∙ so_far.answers ∙ sym (length-take-le i (map (λ (b : Bor Cmd). b.now) batch) (omega (arith, c.loop-cmd-test.true, length-map batch (λ (b : Bor Cmd). b.now)))) in
     let given = map answer_of c.loop-cmd.answers.items in
-    let next = taken_next step serve (Unit {0}) (registered_in first) (registered_in between) (MayRefuse first) (MayRefuse between) c.args.node.now (take i (map (λ (b : Bor Cmd). b.now) batch)) (take (i + 1) (map (λ (b : Bor Cmd). b.now) batch)) cmd.now
-    (state_in first) (state_in between) (state_in new)
+    let next = taken_next step serve (Unit {0}) (batch_registered first) (batch_registered between) (MayRefuseCommand first) (MayRefuseCommand between) c.args.node.now (take i (map (λ (b : Bor Cmd). b.now) batch)) (take (i + 1) (map (λ (b : Bor Cmd). b.now) batch)) cmd.now
+    (batch_state first) (batch_state between) (batch_state new)
     given (given ++ answer_of c.in_ok-answer.answer ∷ []) (answer_of c.in_ok-answer.answer)
     many so_far.registered (same_plan between first so_far.plan so_far.base) (at_take (λ (b : Bor Cmd). b.now) batch i cmd there) refl so_far.taken c.in_ok-answer.ensures.taken in
     on_err_always c.from_residual-in_err-push.result
     (begun_by c.args.node.now (map (λ (b : Bor Cmd). b.now) batch) (i + 1) first new new (given ++ answer_of c.in_ok-answer.answer ∷ []) next (omega (arith, c.loop-cmd-test.true, length-map batch (λ (b : Bor Cmd). b.now))) refl
-    (λ tasks are. not_begun (slice_get tasks (i + 1)) (keyspace_in new) (keyspace_in new) refl))
+    (λ tasks are. not_begun (slice_get tasks (i + 1)) (batch_keyspace new) (batch_keyspace new) refl))

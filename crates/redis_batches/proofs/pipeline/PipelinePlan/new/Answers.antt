@@ -8,7 +8,7 @@ use Rattle.redis_batches.specs.Chosen.{AreSlots, IsChosen, all_written}
 use Rattle.redis_batches.specs.CommandTask.{slot_parts, slots_kept}
 use Rattle.redis_batches.specs.PartArguments.{sent_args}
 use Rattle.redis_batches.specs.Placed.{IsPartFault}
-use Rattle.redis_batches.specs.PipelinePlan.{IsPlanFault}
+use Rattle.redis_batches.specs.PipelinePlan.{IsPipelinePlanFault}
 use Rattle.redis_batches.specs.Plan.{IsByNode}
 use Rattle.redis_batches.specs.Reads.{IsSlotNode, slots_written}
 use Rattle.redis_batches.proofs.Choosing.{is_slot_node, one_chosen}
@@ -29,7 +29,7 @@ returns-in_err-placed-clause-fault g c =
     let commands = c.args.commands.now in
     let kept = c.in_ok-tasks.tasks.items in
     err_from _ _ c.from_residual-in_err-placed.result c.from_residual-in_err-placed.ensures.1
-    (λ fault is. subst (IsPlanFault registered ranges commands) (sym is)
+    (λ fault is. subst (IsPipelinePlanFault registered ranges commands) (sym is)
     (part_fault registered ranges commands kept c.in_err-placed.field-0.0 c.in_ok-tasks.ensures.tasks (subst (λ ks. IsPartFault ranges (map slots_kept ks) c.in_err-placed.field-0.0) c.as_slice-2.ensures.value c.in_err-placed.ensures.fault)))
 
 pub new-requires : goal.new-requires
