@@ -1,7 +1,7 @@
 -- Entries of slot ranges with distinct ends, and which of them answers for a slot.
 use Rattle.std.specs.Prelude.{◌≡◌, ◌<◌, ◌≤◌, ℕ, nat_eq, nat_lt, Bool, false, Option, Some, None, List, [], ◌∷◌, ◌++◌, filter, fold, Contains}
 
--- a start, an end and a value
+-- a start and an end, both included, and a value
 abbrev pub RangeEntry : Type 0 → Type 0
 RangeEntry V = ℕ × ℕ × V
 

@@ -46,7 +46,8 @@ IsReplyAmid C command replies value =
     (step : Step C) (held : HeldBySlot C) (one : Keyspace C) → IsAssembled command held one
     → replies ≡ replies_by step command held → value ≡ reply_to step command one
 
--- The nodes gave one reply to each part. The value is the reply amid what others write, by these.
+-- The nodes may have given one reply to each part. The value is the reply amid what others write, by
+-- these.
 pub record IsServedAmid (C : Type 0) (registered : Registrations) (args : Arguments)
     (order : List ℕ) (old new : List Reply → Type 0) (value : Reply) : Type 0 where
   pub command : MultiKey

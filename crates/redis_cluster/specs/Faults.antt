@@ -127,8 +127,8 @@ module _ (Answered : List SlotRoute → (old new : List Entry) → Type 0)
     abbrev pub IsCutBy : DriveFault → ℕ → Type 0
     IsCutBy fault count = IsEarly r old new fault count ⊎ WereCutShort fault count
 
-    -- if nodes keep to one meaning: the sends were so cut short, these parts took effect, and their
-    -- replies fit
+    -- if nodes keep to one meaning: nothing was sent, or the sends were cut short, these parts took
+    -- effect, and their replies fit
     abbrev pub IsFaultBy : Step C → DriveFault → ℕ → Type 0
     IsFaultBy step fault count = IsEarly r old new fault count
         ⊎ ((cut : WereCutShort fault count)

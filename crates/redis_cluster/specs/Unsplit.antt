@@ -17,9 +17,9 @@ pub record Outcome (C : Type 0) : Type 0 where
   pub cell : Option C
   pub result : TupleResult
 
--- what a key of a command does, by what the command's name is registered with, unless the tables
--- have it, the name, the argument that its keys share, the key, the arguments that go with it, and
--- what stands at the key
+-- What a key of a command does. It goes by what the name is registered with, unless it is one of the
+-- nine, the name, the argument that all keys share, the key, the arguments that go with it, and what
+-- the key holds.
 abbrev pub Step : Type 0 → Type 0
 Step C = Option Registered → List ℕ → Option (List ℕ) → List ℕ → List (List ℕ) → Option C → Outcome C
 

@@ -121,7 +121,7 @@ pub fn drive<R: Routable, N: Nodes>(
         let r = request (R.args command.now) (names_of read_only.now (N.registered nodes.old)) slot_map.now order.now in
         IfErr result (λ e. IsCut IsNode r (N.state nodes.old) (N.state nodes.new) (N.may_refuse nodes.old)
         e.fault e.answered) }
-    // Each fault has its cause, except out of memory before any answer. What was answered stands.
+    // Each fault has its cause, except out of memory before any send. What was answered stands.
     ensures fault { let IsNode = IsRouteNode strategy.entry (λ s. picks s.now) slot_map.now pick in
         let r = request (R.args command.now) (names_of read_only.now (N.registered nodes.old)) slot_map.now order.now in
         IfErr result (λ e. N.kept nodes.new → IsFault IsNode N.step r (N.state nodes.old) (N.state nodes.new)
@@ -130,8 +130,8 @@ pub fn drive<R: Routable, N: Nodes>(
     ensures given { IfErr result (λ e. HaveGiven (N.gave nodes.old) (N.gave nodes.new) e.answered) }
     // The nodes are as they were if the command, the map or the order is at fault.
     ensures untouched { IfErr result (λ e. IsBefore e.fault → nodes.new ≡ nodes.old) }
-    // Each part that was answered, as `delivered` or `cut` says, left at its keys what the unsplit
-    // command leaves there, whatever became of the other parts.
+    // A part leaves at its keys what the unsplit command leaves there, if both find the same there.
+    // So each part that was answered did, as `delivered` or `cut` says, whatever became of the others.
     ensures parts { PartsActBySlot N.Cell (N.registered nodes.old) (R.args command.now) }
     // A command with gaps and its front have the same tuples, routes and parts.
     ensures gaps { IsSameCommand (R.args command.now) (front (R.args command.now)) }

@@ -76,11 +76,11 @@ pub trait Nodes {
     /// how many entries the trace has before it.
     ghost may_refuse: { Self → ℕ → Ending → Type 0 };
 
-    /// So far the nodes answered by that meaning, over one keyspace, and what they refused did
-    /// nothing. Nobody can prove that of a connection, so for a real client it is a premise. If an
-    /// `impl` does not write it, its `send` ensures it always. It holds before the first send. It
-    /// ends only with a value of another meaning, or with a refusal or redirect that changed the
-    /// keyspace.
+    /// So far the nodes answered by that meaning, over one keyspace, and what they refused or
+    /// redirected did nothing. Nobody can prove that of a connection, so for a real client it is a
+    /// premise. If an `impl` does not write it, its `send` ensures it always. It holds before the
+    /// first send. It ends only with a value of another meaning, or with a refusal or redirect that
+    /// changed the keyspace.
     ghost kept: { Self → Type 0 } = { λ _. Unit {0} };
 
     /// Whether these may be the replies so far, in the order in which they came.

@@ -125,8 +125,8 @@ pub fn drive_retrying<R: Routable, N: Nodes>(
     ensures given { IfErr result (λ e. HaveGiven (N.gave nodes.old) (N.gave nodes.new) e.answered) }
     // The nodes are as they were if the command, the map or the order is at fault.
     ensures untouched { IfErr result (λ e. IsBefore e.fault → nodes.new ≡ nodes.old) }
-    // Each part that was answered left at its keys what the unsplit command leaves there, whatever
-    // became of the other parts.
+    // A part leaves at its keys what the unsplit command leaves there, if both find the same there.
+    // So each part that was answered did, whatever became of the others.
     ensures parts { PartsActBySlot N.Cell (N.registered nodes.old) (R.args command.now) }
     // A command with gaps and its front have the same tuples, routes and parts.
     ensures gaps { IsSameCommand (R.args command.now) (front (R.args command.now)) }
