@@ -36,6 +36,7 @@ pub mod Allowed
 pub mod Frame
 pub mod Trying
 pub mod Tries
+pub mod PartSends
 pub mod Laws
 pub mod Wider
 pub mod TriedOnce

@@ -24,6 +24,11 @@ none_past [] k past = refl
 none_past (x ∷ xs) zero past = absurd (past (omega arith))
 none_past (x ∷ xs) (suc k) past = none_past xs k (λ l. past (omega arith))
 
+-- what is tried has the target's part
+pub try_part : (target : Target) (retry : Option Attempt) → (try_with target retry).part ≡ target.1
+try_part target None = refl
+try_part target (Some retry) = refl
+
 -- what is tried for a route
 pub try_there : (targets : List Target) (retries : List Attempt) (k : ℕ) (target : Target) → slice_get targets k ≡ Some target → slice_get (tries_with targets retries) k ≡ Some (try_with target (slice_get retries k))
 try_there [] retries k target at = absurd (cc at)

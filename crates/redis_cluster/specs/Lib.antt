@@ -59,4 +59,5 @@ pub mod FaultText
 pub mod Retry
 pub mod Attempts
 pub mod Tries
+pub mod PartSends
 pub mod Retried

@@ -1,16 +1,14 @@
-ghost use Rattle.std.specs.Prelude.{◌≡◌, ◌<◌, ◌++◌, ◌∷◌, [], ℕ, List, Some, None, false, nat_eq, map, length, slice_get, slice_set, IsSome, IfOk, OnOk, OnErr, IfErr};
+ghost use Rattle.std.specs.Prelude.{◌≡◌, ◌<◌, ℕ, Some, None, false, nat_eq, map, length, slice_get, slice_set, IsSome, IfOk, OnOk, IfErr};
 ghost use Rattle.std.specs.List.{All};
-ghost use Rattle.resp_core.specs.Reply.{Reply};
-ghost use Rattle.resp_core.specs.View.{view};
 ghost use Rattle.redis_cluster.specs.Frame.{SameNodes};
-ghost use Rattle.redis_cluster.specs.MultiKey.{MultiKey, multi_key, IsPart};
+ghost use Rattle.redis_cluster.specs.MultiKey.{MultiKey, IsPart};
 ghost use Rattle.redis_cluster.specs.Orders.{NamesOnce, in_order};
-ghost use Rattle.redis_cluster.specs.Sent.{IsLeft, ending_of};
-ghost use Rattle.redis_cluster.specs.Trace.{answered};
-ghost use Rattle.redis_cluster.specs.Unsplit.{keyspace_after, reply_to, results_of};
-ghost use Rattle.redis_cluster.specs.Attempts.{AttemptsOf, IsCause, AreAllowed};
+ghost use Rattle.redis_cluster.specs.Sent.{ending_of};
+ghost use Rattle.redis_cluster.specs.Unsplit.{keyspace_after, results_of};
+ghost use Rattle.redis_cluster.specs.Attempts.{AreAllowed};
 ghost use Rattle.redis_cluster.specs.Ended.{AreStopped};
 ghost use Rattle.redis_cluster.specs.Faults.{fault_of_send};
+ghost use Rattle.redis_cluster.specs.PartSends.{IsPartAnswered, IsPartUnanswered};
 ghost use Rattle.redis_cluster.specs.Plan.{ArePartReplies, AreGiven, HaveGiven};
 ghost use Rattle.redis_cluster.specs.Retry.{Attempt};
 ghost use Rattle.redis_cluster.specs.Sends.{Target, targets, IsPlanOf};
@@ -88,38 +86,11 @@ fn send_part<R: Routable, N: Nodes>(
         × IsPart (N.registered nodes.old) (map Some target.1) }
     requires named { (retry : Attempt) → slice_get retries.old number ≡ Some retry
         → IsSome retry.target }
-    ensures reply { IfOk result
-        (λ value. (target : Target) (command : MultiKey)
-        → slice_get (targets plan.now) number ≡ Some target
-        → multi_key (N.registered nodes.old) (map Some target.1) ≡ Some command
-        → N.kept nodes.new → view value ≡ reply_to N.step command (N.state nodes.old).keyspace) }
-    ensures gave { IfOk result
-        (λ value. (replies : List Reply) → N.gave nodes.old replies
-        → N.gave nodes.new (replies ++ view value ∷ [])) }
-    ensures gave_none { OnErr result
-        ((replies : List Reply) → N.gave nodes.old replies → N.gave nodes.new replies) }
-    ensures keyspace { OnOk result ((target : Target) (command : MultiKey)
-        → slice_get (targets plan.now) number ≡ Some target
-        → multi_key (N.registered nodes.old) (map Some target.1) ≡ Some command
-        → N.kept nodes.new
-        → (N.state nodes.new).keyspace ≡ keyspace_after N.step command (N.state nodes.old).keyspace) }
-    ensures trace { OnOk result ((target : Target)
-        → slice_get (targets plan.now) number ≡ Some target
-        → AttemptsOf (try_with target (slice_get retries.old number)) (Some answered)
-        (N.state nodes.old).trace (N.state nodes.new).trace) }
-    ensures unanswered { IfErr result
-        (λ error. (target : Target) → slice_get (targets plan.now) number ≡ Some target
-        → AttemptsOf (try_with target (slice_get retries.old number)) (ending_of error)
-        (N.state nodes.old).trace (N.state nodes.new).trace) }
-    ensures cause { IfErr result
-        (λ error. IsCause (N.may_refuse nodes.old) (length (N.state nodes.new).trace) (N.state nodes.new).mark
-        (ending_of error)) }
+    ensures answered { IfOk result (λ value. (target : Target) → slice_get (targets plan.now) number ≡ Some target
+        → IsPartAnswered ⟦<N as Nodes>⟧ (try_with target (slice_get retries.old number)) nodes.old nodes.new value) }
+    ensures unanswered { IfErr result (λ error. (target : Target) → slice_get (targets plan.now) number ≡ Some target
+        → IsPartUnanswered ⟦<N as Nodes>⟧ (try_with target (slice_get retries.old number)) nodes.old nodes.new error) }
     ensures allowed { AreAllowed (N.may_refuse nodes.old) (N.state nodes.old).trace (N.state nodes.new).trace }
-    ensures left { IfErr result (λ error. (target : Target) (command : MultiKey)
-        → slice_get (targets plan.now) number ≡ Some target
-        → multi_key (N.registered nodes.old) (map Some target.1) ≡ Some command
-        → N.kept nodes.new
-        → IsLeft N.step command (N.state nodes.old).keyspace (N.state nodes.new).keyspace (ending_of error)) }
     ensures others { (other : ℕ) → nat_eq other number ≡ false
         → slice_get retries.new other ≡ slice_get retries.old other }
     ensures many { length retries.new ≡ length retries.old }

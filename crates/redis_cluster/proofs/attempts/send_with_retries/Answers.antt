@@ -1,13 +1,14 @@
 use Rattle.std.proofs.Common.{◌≡◌, ◌∙◌, Option, Some, ap, sym, subst, map}
 use Rattle.std.specs.Prelude.{IfSome}
 use Rattle.redis_cluster.specs.MultiKey.{MultiKey, multi_key}
-use Rattle.redis_cluster.specs.Trace.{redirected}
-use Rattle.redis_cluster.specs.Attempts.{AttemptsOf}
+use Rattle.redis_cluster.specs.PartSends.{IsPartUnanswered}
+use Rattle.redis_cluster.specs.declared.nodes.SendError.TheVariants as sent
 use Rattle.redis_cluster.specs.Tries.{try_by}
 use Rattle.redis_routing.specs.declared.info.Redirect.{Redirect}
 use Rattle.redis_cluster.proofs.Allowed.{allowed_sent, allowed_more}
 use Rattle.redis_cluster.proofs.Frame.{frame_more}
-use Rattle.redis_cluster.proofs.Trying.{answers, loses, refuses_last, refuses, redirects_last, redirects}
+use Rattle.redis_cluster.proofs.PartSends.{answered_then, unanswered_then}
+use Rattle.redis_cluster.proofs.Trying.{answers, loses, refuses_last, refuses, redirects_last, redirects, stays}
 use Rattle.redis_cluster.proofs.attempts.send_with_retries.Goals as goal
 
 -- what is said of a command, where there is one
@@ -17,15 +18,21 @@ of_command P found command is said = subst (λ (o : Option MultiKey). IfSome o P
 pub returns-in-Ok-clause-answered : goal.returns-in-Ok-clause-answered
 returns-in-Ok-clause-answered g c =
     let nodes = g.N.Nodes in
-    answers (try_by c.args.part.now c.args.retry.now) (nodes.state c.args.nodes.now).trace (nodes.state c.loop-node.nodes).trace (nodes.state c.send.new.self).trace c.loop-node.retry c.in-Some.node.now
-    c.loop-node.invariant.tried (sym c.in-Some.ensures.target) c.in-Ok.ensures.trace
+    let try = try_by c.args.part.now c.args.retry.now in
+    let inv = c.loop-node.invariant in
+    answered_then nodes try c.args.nodes.now c.loop-node.nodes c.send.new.self inv.frame inv.keyspace inv.gave c.send.ensures.kept c.in-Ok.reply
+    (answers try (nodes.state c.args.nodes.now).trace (nodes.state c.loop-node.nodes).trace (nodes.state c.send.new.self).trace c.loop-node.retry c.in-Some.node.now inv.tried (sym c.in-Some.ensures.target) c.in-Ok.ensures.trace)
+    c.in-Ok.ensures.gave c.in-Ok.ensures.reply c.in-Ok.ensures.keyspace
 
 pub returns-then-not-on_failure-clause-unanswered : goal.returns-then-not-on_failure-clause-unanswered
 returns-then-not-on_failure-clause-unanswered g c =
     let nodes = g.N.Nodes in
-    let told = rw c.in-Refused.is at c.in-Err.ensures.unanswered in
-    refuses_last (try_by c.args.part.now c.args.retry.now) (nodes.state c.args.nodes.now).trace (nodes.state c.loop-node.nodes).trace (nodes.state c.send.new.self).trace c.loop-node.retry c.in-Some.node.now
-    c.loop-node.invariant.tried (sym c.in-Some.ensures.target) c.in-Refused.refusal told.1 (c.on_failure.ensures.ended c.if-not-on_failure.true).0
+    let try = try_by c.args.part.now c.args.retry.now in
+    let inv = c.loop-node.invariant in
+    let ended = rw c.in-Refused.is at c.in-Err.ensures.unanswered in
+    unanswered_then nodes try c.args.nodes.now c.loop-node.nodes c.send.new.self inv.frame inv.keyspace inv.gave c.send.ensures.kept (sent.Refused c.in-Refused.refusal) c.in-Some.node.now
+    (refuses_last try (nodes.state c.args.nodes.now).trace (nodes.state c.loop-node.nodes).trace (nodes.state c.send.new.self).trace c.loop-node.retry c.in-Some.node.now inv.tried (sym c.in-Some.ensures.target) c.in-Refused.refusal ended.1 (c.on_failure.ensures.ended c.if-not-on_failure.true).0)
+    ended c.in-Err.ensures.gave_none (rw c.in-Refused.is at c.in-Err.ensures.left)
 
 pub loop-node-preserved-else-not-on_failure : goal.loop-node-preserved-else-not-on_failure
 loop-node-preserved-else-not-on_failure g c =
@@ -64,11 +71,14 @@ loop-node-preserved-else-not-on_failure-2 g c =
 pub returns-in-Err-on_redirect-clause-unanswered : goal.returns-in-Err-on_redirect-clause-unanswered
 returns-in-Err-on_redirect-clause-unanswered g c =
     let nodes = g.N.Nodes in
-    let told = rw c.in-Redirected.is at c.in-Err.ensures.unanswered in
-    let ended = c.in-Err-on_redirect.ensures.ended in
-    let tried = redirects_last (try_by c.args.part.now c.args.retry.now) (nodes.state c.args.nodes.now).trace (nodes.state c.loop-node.nodes).trace (nodes.state c.send.new.self).trace c.loop-node.retry c.in-Some.node.now
-    c.loop-node.invariant.tried (sym c.in-Some.ensures.target) c.in-Redirected.redirect told.1 ended.1 in
-    subst (λ (r : Redirect). AttemptsOf (try_by c.args.part.now c.args.retry.now) (Some (redirected r)) (nodes.state c.args.nodes.now).trace (nodes.state c.send.new.self).trace) (sym ended.0) tried
+    let try = try_by c.args.part.now c.args.retry.now in
+    let inv = c.loop-node.invariant in
+    let ended = rw c.in-Redirected.is at c.in-Err.ensures.unanswered in
+    let none = c.in-Err-on_redirect.ensures.ended in
+    subst (λ (r : Redirect). IsPartUnanswered nodes try c.args.nodes.now c.send.new.self (sent.Redirected r)) (sym none.0)
+    (unanswered_then nodes try c.args.nodes.now c.loop-node.nodes c.send.new.self inv.frame inv.keyspace inv.gave c.send.ensures.kept (sent.Redirected c.in-Redirected.redirect) c.in-Some.node.now
+    (redirects_last try (nodes.state c.args.nodes.now).trace (nodes.state c.loop-node.nodes).trace (nodes.state c.send.new.self).trace c.loop-node.retry c.in-Some.node.now inv.tried (sym c.in-Some.ensures.target) c.in-Redirected.redirect ended.1 none.1)
+    ended c.in-Err.ensures.gave_none (rw c.in-Redirected.is at c.in-Err.ensures.left))
 
 pub loop-node-preserved : goal.loop-node-preserved
 loop-node-preserved g c =
@@ -90,9 +100,22 @@ loop-node-preserved g c =
 pub returns-in-Lost-clause-unanswered : goal.returns-in-Lost-clause-unanswered
 returns-in-Lost-clause-unanswered g c =
     let nodes = g.N.Nodes in
-    let told = rw c.in-Lost.is at c.in-Err.ensures.unanswered in
-    loses (try_by c.args.part.now c.args.retry.now) (nodes.state c.args.nodes.now).trace (nodes.state c.loop-node.nodes).trace (nodes.state c.send.new.self).trace c.loop-node.retry c.in-Some.node.now
-    c.loop-node.invariant.tried (sym c.in-Some.ensures.target) c.in-Lost.loss told.1
+    let try = try_by c.args.part.now c.args.retry.now in
+    let inv = c.loop-node.invariant in
+    let ended = rw c.in-Lost.is at c.in-Err.ensures.unanswered in
+    unanswered_then nodes try c.args.nodes.now c.loop-node.nodes c.send.new.self inv.frame inv.keyspace inv.gave c.send.ensures.kept (sent.Lost c.in-Lost.loss) c.in-Some.node.now
+    (loses try (nodes.state c.args.nodes.now).trace (nodes.state c.loop-node.nodes).trace (nodes.state c.send.new.self).trace c.loop-node.retry c.in-Some.node.now inv.tried (sym c.in-Some.ensures.target) c.in-Lost.loss ended.1)
+    ended c.in-Err.ensures.gave_none (rw c.in-Lost.is at c.in-Err.ensures.left)
+
+pub returns-in-Memory-clause-unanswered : goal.returns-in-Memory-clause-unanswered
+returns-in-Memory-clause-unanswered g c =
+    let nodes = g.N.Nodes in
+    let try = try_by c.args.part.now c.args.retry.now in
+    let inv = c.loop-node.invariant in
+    let ended = rw c.in-Memory.is at c.in-Err.ensures.unanswered in
+    unanswered_then nodes try c.args.nodes.now c.loop-node.nodes c.send.new.self inv.frame inv.keyspace inv.gave c.send.ensures.kept (sent.Memory) c.in-Some.node.now
+    (stays try (nodes.state c.args.nodes.now).trace (nodes.state c.loop-node.nodes).trace (nodes.state c.send.new.self).trace c.loop-node.retry inv.tried ended.0)
+    ended c.in-Err.ensures.gave_none (rw c.in-Memory.is at c.in-Err.ensures.left)
 
 pub returns-in-Ok-clause-allowed : goal.returns-in-Ok-clause-allowed
 returns-in-Ok-clause-allowed g c =

@@ -27,7 +27,7 @@ use Rattle.redis_cluster.specs.Sends.{Target, targets, IsPlanOf}
 use Rattle.redis_cluster.specs.Tries.{tries_with, try_with}
 use Rattle.redis_cluster.proofs.Allowed.{allowed_none, allowed_more}
 use Rattle.redis_cluster.proofs.Frame.{frame_more}
-use Rattle.redis_cluster.proofs.Tries.{all_at, try_there, tries_many, tried_more, others_more, same_cause}
+use Rattle.redis_cluster.proofs.Tries.{all_at, try_part, try_there, tries_many, tried_more, others_more, same_cause}
 use Rattle.redis_cluster.proofs.Zips.{zip_long}
 use Rattle.redis_cluster.proofs.Sending.{RouteTarget, route_target, none_at, not_yet, AreTold, AreSomeTold, AreUntold, told_more, some_told_more, all_some_told, AreGivenSo, given_more, given_all, untold_less, all_told, left_at, of_one_slot}
 use Rattle.redis_cluster.proofs.send.send_all.Goals as goal
@@ -124,13 +124,13 @@ loop-number-preserved g c =
           (some_told_more c.loop-number.plan.replies slots order i k inside refl room (length slots) c.in-Ok.reply inv.some_told);
       given = subst (λ rs. AreGivenSo (nodes.gave c.args.nodes.now) (nodes.gave c.send_part.new.nodes) rs (take (i + 1) order)) (sym replies_are)
           (given_more (nodes.gave c.args.nodes.now) (nodes.gave c.loop-number.nodes) (nodes.gave c.send_part.new.nodes) c.loop-number.plan.replies order i k c.in-Ok.reply inside refl room
-          (not_yet (length plan.split.routes) order i c.requires.order inside) c.in-Ok.ensures.gave inv.given);
+          (not_yet (length plan.split.routes) order i c.requires.order inside) (c.in-Ok.ensures.answered t.target (at t.target t.target_at)).gave inv.given);
       told = λ command is now.
           let was = c.send_part.ensures.frame.kept now in
           let own = there command is in
           let reply_of : ℕ → Reply = λ slot. reply_by command.form (items_of_slot slot command.tuples (results_of nodes.step command old)) in
           let says : view c.in-Ok.reply ≡ reply_of own.slot =
-          c.in-Ok.ensures.reply own.target (part_of command own.slot) (at own.target own.target_at) (ap (λ registered. multi_key registered (map Some own.target.1)) inv.frame.registered ∙ own.part) now
+          (c.in-Ok.ensures.answered own.target (at own.target own.target_at)).reply (part_of command own.slot) (ap (λ p. multi_key (nodes.registered c.loop-number.nodes) (map Some p)) (try_part own.target (slice_get c.loop-number.retries k)) ∙ ap (λ registered. multi_key registered (map Some own.target.1)) inv.frame.registered ∙ own.part) now
           ∙ ap (λ ks. reply_by command.form (results (act_of nodes.step command) (tuples_of_slot own.slot command.tuples) ks)) (inv.keyspace command is was)
           ∙ ap (reply_by command.form) (results_more (act_of nodes.step command) slots order command.tuples old i k own.slot names is.at_most_once inside refl own.slot_at) in
           subst (λ rs. AreTold rs slots order (i + 1) reply_of) (sym replies_are)
@@ -138,13 +138,13 @@ loop-number-preserved g c =
       untold = subst (λ rs. AreUntold rs order (i + 1) (length slots)) (sym replies_are)
           (untold_less c.loop-number.plan.replies slots order i k inside refl room (length slots) c.in-Ok.reply inv.untold);
       trace = tried_more (in_order tries (take i order)) (in_order tries (take (i + 1) order)) (try_with t.target (slice_get retries k)) (nodes.state c.args.nodes.now).trace (nodes.state c.loop-number.nodes).trace (nodes.state c.send_part.new.nodes).trace inv.trace
-          (subst (λ (o : Option Attempt). AttemptsOf (try_with t.target o) (Some answered) (nodes.state c.loop-number.nodes).trace (nodes.state c.send_part.new.nodes).trace) unsent (c.in-Ok.ensures.trace t.target (at t.target t.target_at)))
+          (subst (λ (o : Option Attempt). AttemptsOf (try_with t.target o) (Some answered) (nodes.state c.loop-number.nodes).trace (nodes.state c.send_part.new.nodes).trace) unsent (c.in-Ok.ensures.answered t.target (at t.target t.target_at)).tried)
           (in_order_more tries order i k (try_with t.target (slice_get retries k)) inside refl (try_there (targets plan) retries k t.target t.target_at));
       allowed = allowed_more (nodes.may_refuse c.args.nodes.now) (nodes.may_refuse c.loop-number.nodes) (nodes.state c.args.nodes.now).trace (nodes.state c.loop-number.nodes).trace (nodes.state c.send_part.new.nodes).trace inv.frame.may_refuse inv.allowed c.send_part.ensures.allowed;
       others = others_more retries c.loop-number.retries c.send_part.new.retries order i k inside refl inv.others c.send_part.ensures.others;
       keyspace = λ command is now.
           let own = there command is in
-          c.in-Ok.ensures.keyspace own.target (part_of command own.slot) (at own.target own.target_at) (ap (λ registered. multi_key registered (map Some own.target.1)) inv.frame.registered ∙ own.part) now
+          (c.in-Ok.ensures.answered own.target (at own.target own.target_at)).keyspace (part_of command own.slot) (ap (λ p. multi_key (nodes.registered c.loop-number.nodes) (map Some p)) (try_part own.target (slice_get c.loop-number.retries k)) ∙ ap (λ registered. multi_key registered (map Some own.target.1)) inv.frame.registered ∙ own.part) now
           ∙ ap (λ ks. after (act_of nodes.step command) (tuples_of_slot own.slot command.tuples) ks) (inv.keyspace command is (c.send_part.ensures.frame.kept now))
           ∙ keyspace_more (act_of nodes.step command) slots order command.tuples old i k own.slot inside refl own.slot_at;
       answered = omega (arith, inv.answered);
@@ -187,11 +187,11 @@ returns-in-Err-clause-stopped g c =
                 (was ∙ keyspace_at_stop act slots order command.tuples old i names is.at_most_once)
                 (ap (λ ks. after act (tuples_of_slot t.slot command.tuples) ks) was ∙ keyspace_more act slots order command.tuples old i k t.slot inside refl t.slot_at
                 ∙ keyspace_at_stop act slots order command.tuples old (i + 1) names is.at_most_once)
-                (c.in-Err.ensures.left t.target (part_of command t.slot) there (ap (λ registered. multi_key registered (map Some t.target.1)) inv.frame.registered ∙ t.part) now);
+                ((c.in-Err.ensures.unanswered t.target there).left (part_of command t.slot) (ap (λ p. multi_key (nodes.registered c.loop-number.nodes) (map Some p)) (try_part t.target (slice_get c.loop-number.retries k)) ∙ ap (λ registered. multi_key registered (map Some t.target.1)) inv.frame.registered ∙ t.part) now);
             try = try;
             next = next;
-            tried = subst (λ (o : Option Attempt). AttemptsOf (try_with t.target o) ending (nodes.state c.loop-number.nodes).trace (nodes.state c.send_part.new.nodes).trace) unsent (c.in-Err.ensures.unanswered t.target there);
-            cause = same_cause (nodes.may_refuse c.args.nodes.now) (nodes.may_refuse c.loop-number.nodes) (length (nodes.state c.send_part.new.nodes).trace) (nodes.state c.send_part.new.nodes).mark ending inv.frame.may_refuse c.in-Err.ensures.cause;
+            tried = subst (λ (o : Option Attempt). AttemptsOf (try_with t.target o) ending (nodes.state c.loop-number.nodes).trace (nodes.state c.send_part.new.nodes).trace) unsent (c.in-Err.ensures.unanswered t.target there).tried;
+            cause = same_cause (nodes.may_refuse c.args.nodes.now) (nodes.may_refuse c.loop-number.nodes) (length (nodes.state c.send_part.new.nodes).trace) (nodes.state c.send_part.new.nodes).mark ending inv.frame.may_refuse (c.in-Err.ensures.unanswered t.target there).cause;
           } in
           subst (λ n. AreStopped (nodes.kept c.send_part.new.nodes) nodes.step (nodes.may_refuse c.args.nodes.now) command plan tries order n old (nodes.state c.send_part.new.nodes).keyspace (nodes.state c.args.nodes.now).trace (nodes.state c.send_part.new.nodes).trace (nodes.state c.send_part.new.nodes).mark ending) (sym inv.answered) stopped,
     )
@@ -264,6 +264,10 @@ returns-in-Err-clause-given g c =
     let order = c.args.order.now in
     let inv = c.loop-number.invariant in
     let i = c.loop-number.number-index in
+    let k = get_or c.args.order.now i 0 in
+    let is = c.requires.command.1 in
+    let next : k < length plan.split.routes = c.requires.order.below i 0 c.loop-number-test.true in
+    let t = route_target (g.N.Nodes.registered c.args.nodes.now) c.requires.command.0 (slots_of plan.split.routes) plan.nodes plan.parts k (is.nodes ∙ sym (many plan)) is.parts (omega (arith, next, many plan)) in
     let given = inv.given in
     let room = inv.room in
     let long : length plan.split.routes ≡ length c.loop-number.plan.replies = sym (room ∙ many plan) in
@@ -275,7 +279,7 @@ returns-in-Err-clause-given g c =
     record {
       replies = map view given.values;
       each = length-map given.values view ∙ each ∙ sym inv.answered;
-      gave = λ before was. c.in-Err.ensures.gave_none (before ++ map view given.values) (given.gave before was);
+      gave = λ before was. (c.in-Err.ensures.unanswered t.target (ap (λ ts. slice_get ts k) inv.same_targets ∙ t.target_at)).gave (before ++ map view given.values) (given.gave before was);
     }
 
 pub returns-in-Err-clause-allowed : goal.returns-in-Err-clause-allowed

@@ -1,12 +1,11 @@
 use Rattle.std.proofs.Common.{◌≡◌, ◌∙◌, ℕ, List, Option, Some, None, ap, sym, option_map, map, subst, arith, get_or}
 use Rattle.std.specs.Prelude.{slice_get}
-use Rattle.std.proofs.lemmas.Result.{IfOk-weaker, on_ok_weaker, IfErr-weaker}
+use Rattle.std.proofs.lemmas.Result.{IfOk-weaker, IfErr-weaker}
 use Rattle.std.proofs.lemmas.Option.{slice_get-get_or}
 use Rattle.cluster_slots.specs.Address.{Address}
-use Rattle.redis_cluster.specs.MultiKey.{multi_key, IsPart}
-use Rattle.redis_cluster.specs.Sent.{ending_of}
-use Rattle.redis_cluster.specs.Trace.{answered}
-use Rattle.redis_cluster.specs.Attempts.{AttemptsOf}
+use Rattle.redis_cluster.specs.MultiKey.{IsPart}
+use Rattle.redis_cluster.specs.Attempts.{Try}
+use Rattle.redis_cluster.specs.PartSends.{IsPartAnswered, IsPartUnanswered}
 use Rattle.redis_cluster.specs.Retry.{Attempt}
 use Rattle.redis_cluster.specs.Sends.{Target}
 use Rattle.redis_cluster.specs.Tries.{try_by, try_once, try_with}
@@ -48,31 +47,14 @@ send_once-requires g c =
     let part_is : c.in-Some.part.now ≡ t.1 = one_of (λ p. p.now) c.part.result c.in-Some.part (slice_get c.args.plan.now.parts c.args.number) t.1 c.part.ensures c.in-Some.is (zip_at c.args.plan.now.nodes c.args.plan.now.parts c.args.number t c.requires.there.1).1 in
     record { part = subst (λ (a : List (List ℕ)). IsPart (g.N.Nodes.registered c.args.nodes.now) (map Some a)) (sym part_is) c.requires.there.2 }
 
-pub returns-then-number-retries-clause-reply : goal.returns-then-number-retries-clause-reply
-returns-then-number-retries-clause-reply g c =
-    IfOk-weaker c.send_with_retries.result _ _ (λ value told target command at is.
-    let both = zip_at c.args.plan.now.nodes c.args.plan.now.parts c.args.number target at in
-    let part_is : c.in-Some.part.now ≡ target.1 = one_of (λ p. p.now) c.part.result c.in-Some.part (slice_get c.args.plan.now.parts c.args.number) target.1 c.part.ensures c.in-Some.is both.1 in
-    told command (ap (λ a. multi_key (g.N.Nodes.registered c.args.nodes.now) (map Some a)) part_is ∙ is))
-    c.send_with_retries.ensures.reply
-
-pub returns-then-number-retries-clause-keyspace : goal.returns-then-number-retries-clause-keyspace
-returns-then-number-retries-clause-keyspace g c =
-    on_ok_weaker c.send_with_retries.result (λ told target command at is.
-    let both = zip_at c.args.plan.now.nodes c.args.plan.now.parts c.args.number target at in
-    let part_is : c.in-Some.part.now ≡ target.1 = one_of (λ p. p.now) c.part.result c.in-Some.part (slice_get c.args.plan.now.parts c.args.number) target.1 c.part.ensures c.in-Some.is both.1 in
-    told command (ap (λ a. multi_key (g.N.Nodes.registered c.args.nodes.now) (map Some a)) part_is ∙ is))
-    c.send_with_retries.ensures.keyspace
-
-pub returns-then-number-retries-clause-trace : goal.returns-then-number-retries-clause-trace
-returns-then-number-retries-clause-trace g c =
-    on_ok_weaker c.send_with_retries.result (λ told target at.
+pub returns-then-number-retries-clause-answered : goal.returns-then-number-retries-clause-answered
+returns-then-number-retries-clause-answered g c =
+    IfOk-weaker c.send_with_retries.result _ _ (λ value told target at.
     let both = zip_at c.args.plan.now.nodes c.args.plan.now.parts c.args.number target at in
     let part_is : c.in-Some.part.now ≡ target.1 = one_of (λ p. p.now) c.part.result c.in-Some.part (slice_get c.args.plan.now.parts c.args.number) target.1 c.part.ensures c.in-Some.is both.1 in
     let own : Attempt = get_or c.args.retries.now c.args.number c.index-retries-number.result in
     let own_is : slice_get c.args.retries.now c.args.number ≡ Some own = slice_get-get_or c.args.retries.now c.args.number c.index-retries-number.result c.if-number-retries.true in
-    subst (λ (o : Option Attempt). AttemptsOf (try_with target o) (Some answered) (g.N.Nodes.state c.args.nodes.now).trace (g.N.Nodes.state c.send_with_retries.new.nodes).trace) (sym own_is)
-    (subst (λ (a : List (List ℕ)). AttemptsOf (try_by a own) (Some answered) (g.N.Nodes.state c.args.nodes.now).trace (g.N.Nodes.state c.send_with_retries.new.nodes).trace) part_is told))
+    subst (λ (t : Try). IsPartAnswered g.N.Nodes t c.args.nodes.now c.send_with_retries.new.nodes value) (ap (λ (a : List (List ℕ)). try_by a own) part_is ∙ ap (λ (o : Option Attempt). try_with target o) (sym own_is)) told)
     c.send_with_retries.ensures.answered
 
 pub returns-then-number-retries-clause-unanswered : goal.returns-then-number-retries-clause-unanswered
@@ -82,44 +64,17 @@ returns-then-number-retries-clause-unanswered g c =
     let part_is : c.in-Some.part.now ≡ target.1 = one_of (λ p. p.now) c.part.result c.in-Some.part (slice_get c.args.plan.now.parts c.args.number) target.1 c.part.ensures c.in-Some.is both.1 in
     let own : Attempt = get_or c.args.retries.now c.args.number c.index-retries-number.result in
     let own_is : slice_get c.args.retries.now c.args.number ≡ Some own = slice_get-get_or c.args.retries.now c.args.number c.index-retries-number.result c.if-number-retries.true in
-    subst (λ (o : Option Attempt). AttemptsOf (try_with target o) (ending_of error) (g.N.Nodes.state c.args.nodes.now).trace (g.N.Nodes.state c.send_with_retries.new.nodes).trace) (sym own_is)
-    (subst (λ (a : List (List ℕ)). AttemptsOf (try_by a own) (ending_of error) (g.N.Nodes.state c.args.nodes.now).trace (g.N.Nodes.state c.send_with_retries.new.nodes).trace) part_is told))
+    subst (λ (t : Try). IsPartUnanswered g.N.Nodes t c.args.nodes.now c.send_with_retries.new.nodes error) (ap (λ (a : List (List ℕ)). try_by a own) part_is ∙ ap (λ (o : Option Attempt). try_with target o) (sym own_is)) told)
     c.send_with_retries.ensures.unanswered
 
-pub returns-then-number-retries-clause-left : goal.returns-then-number-retries-clause-left
-returns-then-number-retries-clause-left g c =
-    IfErr-weaker c.send_with_retries.result _ _ (λ error told target command at is.
-    let both = zip_at c.args.plan.now.nodes c.args.plan.now.parts c.args.number target at in
-    let part_is : c.in-Some.part.now ≡ target.1 = one_of (λ p. p.now) c.part.result c.in-Some.part (slice_get c.args.plan.now.parts c.args.number) target.1 c.part.ensures c.in-Some.is both.1 in
-    told command (ap (λ a. multi_key (g.N.Nodes.registered c.args.nodes.now) (map Some a)) part_is ∙ is))
-    c.send_with_retries.ensures.left
-
-pub returns-clause-reply : goal.returns-clause-reply
-returns-clause-reply g c =
-    IfOk-weaker c.send_once.result _ _ (λ value told target command at is.
-    let both = zip_at c.args.plan.now.nodes c.args.plan.now.parts c.args.number target at in
-    let part_is : c.in-Some.part.now ≡ target.1 = one_of (λ p. p.now) c.part.result c.in-Some.part (slice_get c.args.plan.now.parts c.args.number) target.1 c.part.ensures c.in-Some.is both.1 in
-    told command (ap (λ a. multi_key (g.N.Nodes.registered c.args.nodes.now) (map Some a)) part_is ∙ is))
-    c.send_once.ensures.reply
-
-pub returns-clause-keyspace : goal.returns-clause-keyspace
-returns-clause-keyspace g c =
-    on_ok_weaker c.send_once.result (λ told target command at is.
-    let both = zip_at c.args.plan.now.nodes c.args.plan.now.parts c.args.number target at in
-    let part_is : c.in-Some.part.now ≡ target.1 = one_of (λ p. p.now) c.part.result c.in-Some.part (slice_get c.args.plan.now.parts c.args.number) target.1 c.part.ensures c.in-Some.is both.1 in
-    told command (ap (λ a. multi_key (g.N.Nodes.registered c.args.nodes.now) (map Some a)) part_is ∙ is))
-    c.send_once.ensures.keyspace
-
-pub returns-clause-trace : goal.returns-clause-trace
-returns-clause-trace g c =
-    on_ok_weaker c.send_once.result (λ told target at.
+pub returns-clause-answered : goal.returns-clause-answered
+returns-clause-answered g c =
+    IfOk-weaker c.send_once.result _ _ (λ value told target at.
     let both = zip_at c.args.plan.now.nodes c.args.plan.now.parts c.args.number target at in
     let part_is : c.in-Some.part.now ≡ target.1 = one_of (λ p. p.now) c.part.result c.in-Some.part (slice_get c.args.plan.now.parts c.args.number) target.1 c.part.ensures c.in-Some.is both.1 in
     let node_is : c.in-Some-node.node.now ≡ target.0 = one_of (λ n. n.now) c.node.result c.in-Some-node.node (slice_get c.args.plan.now.nodes c.args.number) target.0 c.node.ensures c.in-Some-node.is both.0 in
     let none : slice_get c.args.retries.now c.args.number ≡ None = none_past c.args.retries.now c.args.number (λ l. absurd (omega (arith, c.if-number-retries.false, l))) in
-    subst (λ (o : Option Attempt). AttemptsOf (try_with target o) (Some answered) (g.N.Nodes.state c.args.nodes.now).trace (g.N.Nodes.state c.send_once.new.nodes).trace) (sym none)
-    (subst (λ (n : Address). AttemptsOf (try_once n target.1) (Some answered) (g.N.Nodes.state c.args.nodes.now).trace (g.N.Nodes.state c.send_once.new.nodes).trace) node_is
-    (subst (λ (a : List (List ℕ)). AttemptsOf (try_once c.in-Some-node.node.now a) (Some answered) (g.N.Nodes.state c.args.nodes.now).trace (g.N.Nodes.state c.send_once.new.nodes).trace) part_is told)))
+    subst (λ (t : Try). IsPartAnswered g.N.Nodes t c.args.nodes.now c.send_once.new.nodes value) (ap (λ (a : List (List ℕ)). try_once c.in-Some-node.node.now a) part_is ∙ ap (λ (n : Address). try_once n target.1) node_is ∙ ap (λ (o : Option Attempt). try_with target o) (sym none)) told)
     c.send_once.ensures.answered
 
 pub returns-clause-unanswered : goal.returns-clause-unanswered
@@ -129,18 +84,8 @@ returns-clause-unanswered g c =
     let part_is : c.in-Some.part.now ≡ target.1 = one_of (λ p. p.now) c.part.result c.in-Some.part (slice_get c.args.plan.now.parts c.args.number) target.1 c.part.ensures c.in-Some.is both.1 in
     let node_is : c.in-Some-node.node.now ≡ target.0 = one_of (λ n. n.now) c.node.result c.in-Some-node.node (slice_get c.args.plan.now.nodes c.args.number) target.0 c.node.ensures c.in-Some-node.is both.0 in
     let none : slice_get c.args.retries.now c.args.number ≡ None = none_past c.args.retries.now c.args.number (λ l. absurd (omega (arith, c.if-number-retries.false, l))) in
-    subst (λ (o : Option Attempt). AttemptsOf (try_with target o) (ending_of error) (g.N.Nodes.state c.args.nodes.now).trace (g.N.Nodes.state c.send_once.new.nodes).trace) (sym none)
-    (subst (λ (n : Address). AttemptsOf (try_once n target.1) (ending_of error) (g.N.Nodes.state c.args.nodes.now).trace (g.N.Nodes.state c.send_once.new.nodes).trace) node_is
-    (subst (λ (a : List (List ℕ)). AttemptsOf (try_once c.in-Some-node.node.now a) (ending_of error) (g.N.Nodes.state c.args.nodes.now).trace (g.N.Nodes.state c.send_once.new.nodes).trace) part_is told)))
+    subst (λ (t : Try). IsPartUnanswered g.N.Nodes t c.args.nodes.now c.send_once.new.nodes error) (ap (λ (a : List (List ℕ)). try_once c.in-Some-node.node.now a) part_is ∙ ap (λ (n : Address). try_once n target.1) node_is ∙ ap (λ (o : Option Attempt). try_with target o) (sym none)) told)
     c.send_once.ensures.unanswered
-
-pub returns-clause-left : goal.returns-clause-left
-returns-clause-left g c =
-    IfErr-weaker c.send_once.result _ _ (λ error told target command at is.
-    let both = zip_at c.args.plan.now.nodes c.args.plan.now.parts c.args.number target at in
-    let part_is : c.in-Some.part.now ≡ target.1 = one_of (λ p. p.now) c.part.result c.in-Some.part (slice_get c.args.plan.now.parts c.args.number) target.1 c.part.ensures c.in-Some.is both.1 in
-    told command (ap (λ a. multi_key (g.N.Nodes.registered c.args.nodes.now) (map Some a)) part_is ∙ is))
-    c.send_once.ensures.left
 
 pub returns-then-number-retries-clause-others : goal.returns-then-number-retries-clause-others
 returns-then-number-retries-clause-others g c = λ other apart. set_there c.args.retries.now c.args.number other c.send_with_retries.new.retry apart
