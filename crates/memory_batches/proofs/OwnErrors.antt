@@ -1,5 +1,5 @@
 -- No error that these nodes answer of themselves sends a command on.
-use Rattle.std.proofs.Common.{◌≡◌, ℕ, List, [], ◌∷◌, ◌++◌, Option, None, Some, Err, inl, inr, false, ap, arith, get_or, refl, sym, subst, ◌∙◌, map}
+use Rattle.std.proofs.Common.{All, ◌≡◌, ℕ, List, [], ◌∷◌, ◌++◌, Option, None, Some, Err, inl, inr, false, ap, arith, get_or, refl, sym, subst, ◌∙◌, map}
 use Rattle.std.specs.Prelude.{◌+ℤ◌, codes, nat_eq, pos}
 use Rattle.std.specs.Option.{unwrap_or}
 use Rattle.std.proofs.lemmas.Bool.Decides.{nat_tests}
