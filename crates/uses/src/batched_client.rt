@@ -15,7 +15,6 @@ use wire::{BatchClient, BatchMeaning, BatchTransport, BatchWire, WireBatches};
 
 /// Borrows the user's own connections for one pipeline. These return the answers that they hold,
 /// the last batch first. Others write the batch to a socket of the node, and read as many answers.
-/// answers.
 #[derive(Drop)]
 pub struct BatchConnections<'a> {
     /// The answers that are returned, the last batch first.
