@@ -76,6 +76,6 @@ answers registered entries words command names split text status same reads rout
     ap (part_of_slot split.pattern) arguments ∙ same_parts registered (map Some command) split.pattern pattern ∙ ap (λ ws. part_by_name registered (map Some ws)) same in
     record {
       routes = split.routes;
-      split = ap (λ ws. multi_slot_routes (names_with registered) (map Some ws)) (sym same) ∙ ap (λ (f : List ℕ → Bool). multi_slot_routes (record { run_only_reads = f; registered = registered }) (map Some command)) (sym (fun_ext reads)) ∙ sym routes;
+      split = ap (λ ws. multi_slot_routes (names_with registered) (map Some ws)) (sym same) ∙ ap (λ (f : List ℕ → Bool). multi_slot_routes (record { only_reads = f; registered = registered }) (map Some command)) (sym (fun_ext reads)) ∙ sym routes;
       answered = subst (λ parts. ArePartLines entries parts split.routes text status) whole lines;
     }

@@ -35,7 +35,7 @@ run_only_reads = is_among (codes "MGET" ∷ codes "JSON.MGET" ∷ codes "EXISTS"
 
 -- the names of the commands that only read, and these registered names
 abbrev pub names_with : Registrations → Names
-names_with registered = record { run_only_reads = run_only_reads; registered = registered }
+names_with registered = record { only_reads = run_only_reads; registered = registered }
 
 -- the node of a route; with a strategy, a read may go to any candidate
 abbrev pub IsRunNode : Bool → List (RangeEntry SlotNodes) → SlotRoute → Address → Type 0
