@@ -61,7 +61,7 @@ pub record SoFar (old now : PipelineBatches) (count : ℕ) (bytes rest : List �
       → slice_get old.batches.places batch ≡ Some places → All (IsRight now.batches.answers all) places
   pub untold : (batch : ℕ) → count ≤ batch → batch < length old.batches.places → slice_get now.batches.told batch ≡ Some false
 
-pub none_so_far : (old : PipelineBatches) (bytes : List ℕ) → IsPlan old.batches → All (λ answer_of_wire. answer_of_wire ≡ false) old.batches.told → SoFar old old 0 bytes bytes
+pub none_so_far : (old : PipelineBatches) (bytes : List ℕ) → IsPlan old.batches → All (λ told. told ≡ false) old.batches.told → SoFar old old 0 bytes bytes
 none_so_far old bytes plan none = record {
   same = (refl, refl, refl, refl, refl);
   given = [];
