@@ -1,4 +1,4 @@
-ghost use Rattle.std.specs.Prelude.{◌≡◌, ◌<◌, ◌⊎◌, List, None, map, length, Some, IsSome, IfOk, OnOk, IfErr};
+ghost use Rattle.std.specs.Prelude.{◌≡◌, ◌<◌, ◌⊎◌, List, None, map, length, IsSome, IfOk, OnOk, IfErr};
 ghost use Rattle.std.specs.List.{All};
 ghost use Rattle.resp_core.specs.declared.error.ErrorKind.TheVariants.{OutOfMemory};
 ghost use Rattle.resp_core.specs.View.{view};
@@ -9,7 +9,7 @@ ghost use Rattle.redis_cluster.specs.Amid.{PartsActBySlot, IsServedAmid};
 ghost use Rattle.redis_cluster.specs.Attempts.{AreAllowed};
 ghost use Rattle.redis_cluster.specs.Frame.{SameNodes};
 ghost use Rattle.redis_cluster.specs.Front.{IsSameCommand, front};
-ghost use Rattle.redis_cluster.specs.MultiKey.{MultiKey, multi_key};
+ghost use Rattle.redis_cluster.specs.MultiKey.{MultiKey};
 ghost use Rattle.redis_cluster.specs.Orders.{NamesOnce, in_order};
 ghost use Rattle.redis_cluster.specs.Unsplit.{keyspace_after, reply_to};
 ghost use Rattle.redis_cluster.specs.Driven.{Request, request, AreAllAnswered, IsDelivered, IsDrivable, IsDriven, IsUnhindered};
