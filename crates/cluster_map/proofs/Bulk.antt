@@ -2,7 +2,7 @@
 use Rattle.std.proofs.Common.{◌≡◌, ◌<◌, ◌≤◌, ◌+◌, ℕ, suc, inl, inr, ◌⊎◌, Bool, true, false, nat_lt, nat_eq, nat_cmp, List, [], ◌∷◌, length, get_or, filter, reverse, refl, sym, ap, subst, ◌∙◌, arith}
 use Rattle.std.proofs.lemmas.Bool.{eqb-true, lt-ltb, le-ltb}
 use Rattle.std.proofs.lemmas.Bool.Decides.{nat_tests}
-use Rattle.std.specs.Prelude.{None, Result, Ok, Err, IsOk, OnErr}
+use Rattle.std.specs.Prelude.{None}
 use Rattle.std.proofs.lemmas.List.{length-append}
 use Rattle.std.specs.List.{dedup, dedup_from, AllAdjacentBelow}
 use Rattle.std.specs.List.Sorted.{IsNonDecreasingBy, IsStableByKey, ties}
@@ -122,8 +122,3 @@ length-insert_entries es (x ∷ xs) =
     let one : length (insert_entry es x.0 x.1 x.2) ≤ suc (length es) = rw (length-append (ending_below x.1 es) ((x.0, x.1, x.2) ∷ ending_above x.1 es)) (omega arith) in
     let rest = length-insert_entries (insert_entry es x.0 x.1 x.2) xs in
     omega arith
-
--- what did not fail leaves nothing to say of a failure
-pub on_err-ok : {T E : Type 0} (r : Result T E) (P : Type 0) → IsOk r → OnErr r P
-on_err-ok (Ok x) P ok = tt
-on_err-ok (Err e) P ok = cc

@@ -11,6 +11,7 @@ use Rattle.cluster_map.specs.RangeMap.{RangeEntry}
 use Rattle.cluster_map.specs.Shards.{ShardNodes}
 use Rattle.cluster_map.specs.Topology.{entry_primary, has_primary, range_of_entry, first_replicas, shard_with, shard_of, shards_of}
 use Rattle.cluster_map.specs.Inner.Topology.{primary_of}
+use Rattle.cluster_map.proofs.Places.{cons_cond}
 use Rattle.cluster_map.proofs.Members.{add_new, added_once, list_any-last}
 use Rattle.resp_core.proofs.Cases.{by_test, or_second}
 
@@ -22,9 +23,6 @@ with_range s r = record { ranges = s.ranges ++ (r.0, r.1) ∷ []; primary = s.pr
 abbrev pub add_range : List ShardNodes → RangeEntry SlotNodes → List ShardNodes
 add_range [] r = shard_with (entry_primary r) (r ∷ []) ∷ []
 add_range (s ∷ ss) r = cond (same_address (entry_primary r) s.primary) (with_range s r ∷ ss) (s ∷ add_range ss r)
-
-abbrev pub add_ranges : List (RangeEntry SlotNodes) → List ShardNodes
-add_ranges es = fold add_range [] es
 
 -- each primary once, put in one at a time
 abbrev pub primaries : List (RangeEntry SlotNodes) → List Address
@@ -168,10 +166,6 @@ others_stay (k ∷ ks) rs r = by_test (same_address (entry_primary r) k)
     (λ t. rw t (λ h. cc))
     (λ t. rw t (λ h. ap (λ z. z ∷ map (shard_of rs) ks) (shard_other k rs r (same_sym k (entry_primary r) ∙ t)) ∙ ap (λ z. shard_of (rs ++ r ∷ []) k ∷ z) (others_stay ks rs r h)))
 
-cons_cond : {X : Type 0} (b : Bool) (x : X) (xs ys : List X) → x ∷ cond b xs ys ≡ cond b (x ∷ xs) (x ∷ ys)
-cons_cond true x xs ys = refl
-cons_cond false x xs ys = refl
-
 step_at : (ks : List Address) (rs : List (RangeEntry SlotNodes)) (r : RangeEntry SlotNodes) → Distinct ks → AllHave rs ks → (list_any (same_address (entry_primary r)) ks ≡ false → list_any (has_primary (entry_primary r)) rs ≡ false) → add_range (map (shard_of rs) ks) r ≡ map (shard_of (rs ++ r ∷ [])) (add_new ks (entry_primary r))
 step_at [] rs r d a = λ v. ap (λ z. z ∷ []) (shard_new (entry_primary r) rs r (same_refl (entry_primary r)) (v refl))
 step_at (k ∷ ks) rs r d a = by_test (same_address (entry_primary r) k)
@@ -234,18 +228,6 @@ good_more rs r ks g = record { distinct = distinct_new ks (entry_primary r) g.di
 
 primaries_more : (rs : List (RangeEntry SlotNodes)) (r : RangeEntry SlotNodes) → primaries (rs ++ r ∷ []) ≡ add_new (primaries rs) (entry_primary r)
 primaries_more rs r = ap (fold add_new []) (map-append-one entry_primary rs r) ∙ fold-append add_new [] (map entry_primary rs) (entry_primary r ∷ [])
-
-grouped_from : (done rest : List (RangeEntry SlotNodes)) → Good done (primaries done) → fold add_range (primary_shards done) rest ≡ primary_shards (done ++ rest)
-grouped_from done [] g = sym (ap primary_shards (append-nil done))
-grouped_from done (r ∷ rest) g =
-    let more = primaries_more done r in
-    let one : add_range (primary_shards done) r ≡ primary_shards (done ++ r ∷ []) = step_at (primaries done) done r g.distinct g.have (g.covers (entry_primary r)) ∙ ap (map (shard_of (done ++ r ∷ []))) (sym more) in
-    ap (λ z. fold add_range z rest) one
-    ∙ grouped_from (done ++ r ∷ []) rest (rw more (good_more done r (primaries done) g))
-    ∙ ap primary_shards (append_assoc done (r ∷ []) rest)
-
-pub grouped_is : (rs : List (RangeEntry SlotNodes)) → add_ranges rs ≡ shards_of rs
-grouped_is rs = grouped_from [] rs (record { distinct = tt; have = tt; covers = λ p h. refl }) ∙ primary_shards-are rs
 
 good_from : (done rest : List (RangeEntry SlotNodes)) → Good done (primaries done) → Good (done ++ rest) (primaries (done ++ rest))
 good_from done [] g = rw (append-nil done) g

@@ -1,8 +1,8 @@
 -- The numbers of pages, from which a place is found by a look at few ends.
-use Rattle.std.proofs.Common.{◌≡◌, ◌≢◌, ◌<◌, ◌≤◌, ◌+◌, ◌*◌, ◌/◌, ◌^◌, ℕ, zero, suc, inl, inr, true, false, nat_lt, nat_cmp, List, [], ◌∷◌, ◌++◌, length, map, take, drop, get_or, set, replicate, sym, ap, subst, ◌∙◌, arith}
+use Rattle.std.proofs.Common.{◌≡◌, ◌≢◌, ◌<◌, ◌≤◌, ◌+◌, ◌*◌, ◌/◌, ◌^◌, ℕ, zero, suc, inl, inr, true, false, nat_lt, nat_cmp, List, [], ◌∷◌, ◌++◌, length, map, take, drop, get_or, set, sym, ap, subst, ◌∙◌, arith}
 use Rattle.std.proofs.lemmas.Bool.{cases_lt, cases_order, lt-ltb, le-ltb}
 use Rattle.std.proofs.lemmas.Bool.Decides.{nat_tests}
-use Rattle.std.proofs.lemmas.List.{get_or-take, get_or-drop, get_or-set_same, get_or-set_other, get_or-replicate, take-append-drop, drop_at, length-append, length-take-le, length-drop, length-set, length-map, length-replicate}
+use Rattle.std.proofs.lemmas.List.{get_or-take, get_or-drop, get_or-set_same, get_or-set_other, take-append-drop, drop_at, length-append, length-take-le, length-drop, length-set, length-map}
 use Rattle.std.proofs.Math.Seq.{take-append_seam}
 use Rattle.std.proofs.lemmas.List.Edits.{insert-append_left}
 use Rattle.std.proofs.Math.Nat.{div-mul-le_self, div-lt_iff_lt-mul, mul-le-mul_right}
@@ -88,12 +88,6 @@ ArePages-set bits page number numbers ends pages there few p d within =
       | inl same ↦ rw (same, get_or-set_same numbers page number d there) few
       | inr apart ↦ let other : p ≢ page = λ z. elim apart [ inl less ↦ omega arith | inr more ↦ omega arith ] in rw (get_or-set_other numbers page p number d other) (pages p d short)
     ]
-
--- at first they are all 0
-pub ArePages-zeros : (bits count : ℕ) (ends : List ℕ) → ArePages bits (replicate count 0) ends
-ArePages-zeros bits count ends page d within =
-    let short : page < count = subst (λ n. page < n) (length-replicate count 0) within in
-    rw (get_or-replicate count page 0 d short) (omega arith)
 
 pub ord_max_le : (a b k : ℕ) → a ≤ k → b ≤ k → ord_max nat_cmp a b ≤ k
 ord_max_le a b k h l = elim (cases_order a b) [

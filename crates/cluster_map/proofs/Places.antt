@@ -98,7 +98,7 @@ ending_from-place (e ∷ es) end ascends = elim (cases_lt (end_of e) end) [
   all_from e [] end ascends from = refl
   all_from e (f ∷ fs) end ascends from = ending_from-keeps end f fs (omega arith) ∙ ap (λ z. f ∷ z) (all_from f fs end ascends.1 (omega arith))
 
-cons_cond : {X : Type 0} (b : Bool) (x : X) (xs ys : List X) → x ∷ cond b xs ys ≡ cond b (x ∷ xs) (x ∷ ys)
+pub cons_cond : {X : Type 0} (b : Bool) (x : X) (xs ys : List X) → x ∷ cond b xs ys ≡ cond b (x ∷ xs) (x ∷ ys)
 cons_cond true x xs ys = refl
 cons_cond false x xs ys = refl
 

@@ -22,7 +22,7 @@ abbrev pub NoEnd : List ℕ → Type 0
 NoEnd xs = (front : List ℕ) → xs ≢ front ++ 93 ∷ []
 
 -- the last colon
-lacks_each : (c : ℕ) (bs : List ℕ) → ((i : ℕ) → i < length bs → get_or bs i 0 ≢ c) → Lacks c bs
+pub lacks_each : (c : ℕ) (bs : List ℕ) → ((i : ℕ) → i < length bs → get_or bs i 0 ≢ c) → Lacks c bs
 lacks_each c [] f = tt
 lacks_each c (b ∷ bs) f = (f 0 (omega arith), lacks_each c bs (λ i h. f (suc i) (omega arith)))
 

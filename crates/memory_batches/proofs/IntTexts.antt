@@ -1,5 +1,5 @@
 -- The number that a text is.
-use Rattle.std.proofs.Common.{◌≡◌, ◌<◌, ◌^◌, ℕ, ℤ, pos, negsuc, List, true, cond, None, Some, Err, sym, ap, subst, ◌∙◌, FitsSigned, w64, arith}
+use Rattle.std.proofs.Common.{◌≡◌, ℕ, ℤ, pos, negsuc, List, true, cond, None, Some, Err, sym, ap, subst, ◌∙◌, FitsSigned, w64, arith}
 use Rattle.std.proofs.lemmas.Bool.Decides.{nat_tests}
 use Rattle.std.proofs.lemmas.Fmt.{IsAscii-signed, parse-signed_decimal}
 use Rattle.std.proofs.lemmas.Slice.Eq.{bytes_eq-Decides}
@@ -13,13 +13,6 @@ use Rattle.memory_batches.specs.Strings.{has_64_bits, in_64_bits, integer_in}
 fits_by_test : (z : ℤ) → has_64_bits z ≡ true → FitsSigned w64 z
 fits_by_test (pos n) e = record { sfits = grind (arith, nat_tests) }
 fits_by_test (negsuc n) e = record { sfits = grind (arith, nat_tests) }
-
-test_by_fits : (z : ℤ) → FitsSigned w64 z → has_64_bits z ≡ true
-test_by_fits (pos n) fits = let small : n < 2 ^ 63 = fits.sfits in grind (arith, nat_tests)
-test_by_fits (negsuc n) fits = let small : n < 2 ^ 63 = fits.sfits in grind (arith, nat_tests)
-
-pub in_64_bits_some : (z : ℤ) → FitsSigned w64 z → in_64_bits z ≡ Some z
-in_64_bits_some z fits = ap (λ b. cond b (Some z) None) (test_by_fits z fits)
 
 pub in_64_bits_none : (z : ℤ) → (FitsSigned w64 z → ⊥) → in_64_bits z ≡ None
 in_64_bits_none z not = by_test (has_64_bits z) (λ e. absurd (not (fits_by_test z e))) (λ e. ap (λ b. cond b (Some z) None) e)
@@ -42,13 +35,3 @@ module _ (text : List ℕ) where
   -- a text that is not read as a number
   pub not_read : {E : Type 0} (e : E) → ParsesSigned w64 10 text (Err e) → integer_in text ≡ None
   not_read e parses = no_number (λ same fits. absurd (cc (parse-signed_decimal w64 value text (Err e) fits fits.sfits (sym same) parses)))
-
-  -- a text that is written otherwise
-  pub written_otherwise : (n : ℤ) → n ≡ value → (signed_decimal n ≡ text → ⊥) → integer_in text ≡ None
-  written_otherwise n is differs = no_number (λ same fits. differs (ap signed_decimal is ∙ same))
-
-  -- a text that is a number
-  pub is_number : (n : ℤ) → n ≡ value → FitsSigned w64 value → signed_decimal n ≡ text → integer_in text ≡ Some n
-  is_number n is fits same =
-      ap (λ b. cond b (in_64_bits value) None) ((bytes_eq-Decides (signed_decimal value) text).1 (ap signed_decimal (sym is) ∙ same))
-      ∙ in_64_bits_some value fits ∙ ap Some (sym is)

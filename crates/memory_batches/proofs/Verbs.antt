@@ -1,16 +1,9 @@
 -- What commands do by how many arguments they have.
-use Rattle.std.proofs.Common.{◌≡◌, List, [], ◌∷◌, ℕ, zero, suc, length, Some, None, refl, arith}
+use Rattle.std.proofs.Common.{◌≡◌, List, [], ◌∷◌, ℕ, zero, suc, length, Some, None, refl}
 use Rattle.std.specs.Prelude.{slice_get, slice_index_or}
 use Rattle.memory_batches.specs.Strings.{arguments_after_name, by_verb, length_of, unknown_command}
 use Rattle.memory_batches.specs.declared.verb.Verb.{Verb}
 use Rattle.memory_batches.specs.declared.verb.Verb.TheVariants.{Get, Set, Incr, Rename, Lpush}
-
--- a name that is not known
-pub none_known : (arguments : List (List ℕ)) → by_verb None arguments ≡ unknown_command
-none_known [] = refl
-none_known (a ∷ []) = refl
-none_known (a ∷ b ∷ []) = refl
-none_known (a ∷ b ∷ c ∷ rest) = refl
 
 -- another number of arguments
 pub wrong_number : (verb : Verb) (args : List (List ℕ)) → (length args ≡ length_of verb → ⊥) → by_verb (Some verb) (arguments_after_name args) ≡ unknown_command
@@ -37,19 +30,6 @@ wrong_number Lpush (n ∷ []) differs = refl
 wrong_number Lpush (n ∷ a ∷ []) differs = refl
 wrong_number Lpush (n ∷ a ∷ b ∷ []) differs = absurd (differs refl)
 wrong_number Lpush (n ∷ a ∷ b ∷ c ∷ rest) differs = refl
-
-pub one_argument : (args : List (List ℕ)) → length args ≡ 2 → arguments_after_name args ≡ slice_index_or args 1 [] ∷ []
-one_argument [] long = absurd (omega arith)
-one_argument (n ∷ []) long = absurd (omega arith)
-one_argument (n ∷ a ∷ []) long = refl
-one_argument (n ∷ a ∷ b ∷ rest) long = absurd (omega arith)
-
-pub two_arguments : (args : List (List ℕ)) → length args ≡ 3 → arguments_after_name args ≡ slice_index_or args 1 [] ∷ slice_index_or args 2 [] ∷ []
-two_arguments [] long = absurd (omega arith)
-two_arguments (n ∷ []) long = absurd (omega arith)
-two_arguments (n ∷ a ∷ []) long = absurd (omega arith)
-two_arguments (n ∷ a ∷ b ∷ []) long = refl
-two_arguments (n ∷ a ∷ b ∷ c ∷ rest) long = absurd (omega arith)
 
 -- no argument at a place
 pub none_there : (args : List (List ℕ)) (place : ℕ) → slice_get args place ≡ None → slice_index_or args place [] ≡ []

@@ -5,7 +5,7 @@ use Rattle.std.specs.Cmp.{eq_by_cmp_equiv}
 use Rattle.std.specs.Cmp.Lexicographic.{slice_cmp, nat_list_cmp_total, nat_list_eq_equiv}
 use Rattle.std.specs.Str.{bytes_eq}
 use Rattle.std.specs.Map.{lookup, IsKeyTest, AreApart, KeepsOthers}
-use Rattle.std.specs.BTreeMap.{BTreeMap, UpdatesBy, WritesThrough, is_at}
+use Rattle.std.specs.BTreeMap.{BTreeMap, UpdatesBy, WritesThrough}
 use Rattle.std.specs.Prelude.{IsSome}
 use Rattle.std.proofs.lemmas.Map.Text.{is_eq-slice_cmp}
 use Rattle.std.proofs.lemmas.Slice.Eq.{bytes_eq-Decides}
@@ -34,10 +34,6 @@ module _ {X : Type 0} where
   -- the same as one `put`
   pub found-put : (bs : List ℕ) (m n : BTreeMap (Vec ℕ Global) X) (w : Option X) → UpdatesBy (λ x y. slice_cmp nat_cmp x.items y.items) (λ key. slice_cmp nat_cmp bs key.items) m n w → tree_value n ≡ put bs w (tree_value m)
   found-put bs m n w h = λ i cs. found-updates bs m n w h cs i
-
-  -- trees of the same entries have the same at all bytes
-  pub found-same : (m n : BTreeMap (Vec ℕ Global) X) → n.entries ≡ m.entries → tree_value n ≡ tree_value m
-  found-same m n h = ap (λ es. λ bs. lookup (is_at (λ key. slice_cmp nat_cmp bs key.items)) es) h
 
   -- what `get_mut` lent was there
   pub found-lent : (bs : List ℕ) (m n : BTreeMap (Vec ℕ Global) X) (now w : X) → Some now ≡ tree_value m bs → WritesThrough (λ x y. slice_cmp nat_cmp x.items y.items) (λ key. slice_cmp nat_cmp bs key.items) m w n → tree_value n ≡ put bs (Some w) (tree_value m)

@@ -1,7 +1,7 @@
 -- A multi-key command, taken apart.
-use Rattle.std.proofs.Common.{◌≡◌, ℕ, ◌-◌, List, [], ◌∷◌, Bool, true, false, cond, Option, Some, None, map, option_map, length, take, drop, refl, sym, ap, ◌∙◌, subst, ◌≤◌, arith}
+use Rattle.std.proofs.Common.{◌≡◌, ℕ, ◌-◌, List, [], ◌∷◌, Bool, true, false, cond, Option, Some, None, map, option_map, length, take, drop, refl, sym, ap, ◌∙◌, subst}
 use Rattle.std.specs.Prelude.{IsSome, option_and_then, slice_get}
-use Rattle.std.proofs.lemmas.List.{take-map, drop-map, length-map, length-take}
+use Rattle.std.proofs.lemmas.List.{take-map, drop-map, length-map}
 use Rattle.std.specs.declared.vec.Vec.{Vec}
 use Rattle.std.specs.declared.alloc.Global.{Global}
 use Rattle.redis_routing.specs.Command.{command_name}
@@ -15,7 +15,6 @@ use Rattle.redis_routing.specs.declared.route_by.MultiSlotArgPattern.{MultiSlotA
 use Rattle.redis_cluster.specs.MultiKey.{MultiKey, ReplyForm, multi_key, command_with, form_by_policy, is_whole, shape_of, tuples_by}
 use Rattle.redis_cluster.proofs.Shapes.{shared_is, tuples_are_placed, whole_is}
 use Rattle.redis_cluster.specs.PlacedTuples.{tuples_of}
-use Rattle.redis_routing.proofs.CommandNames.{has_words}
 use Rattle.memory_nodes.specs.Parts.{words, key_tuples}
 
 -- a command without gaps has all its arguments before the first
@@ -85,14 +84,3 @@ module _ (known : Registrations) where
       let all = ap (λ xs. option_map (shaped name xs pattern) (form_by_policy policy)) present in
       let lists = by_lists (drop count cmd) (words tuples) (words shared) name pattern (form_by_policy policy) (words_tuples count args run tuples shared cmd own pattern a r o t) (words_shared count args run tuples shared cmd own pattern a r o s) in
       by_run cmd name pattern policy e split h ∙ all ∙ lists ∙ ap (λ known_as. option_map (made_of known_as name pattern (words tuples) (words shared)) (form_by_policy policy)) (sym given)
-
--- a command with a name has as many arguments as the name has words
-pub words_there : (args : List (Vec ℕ Global)) (cmd : List (List ℕ)) (name : List ℕ) (count : ℕ) → words args ≡ cmd → command_name (map Some cmd) ≡ Some name → count ≡ name_words_of (map Some cmd) → count ≤ length args
-words_there args cmd name count a e n =
-    let h = has_words (map Some cmd) name (sym e) in
-    let some : length (map Some h.texts) ≡ length (take (name_words_of (map Some cmd)) (map Some cmd)) = ap length h.taken in
-    let texts : length (map Some h.texts) ≡ length h.texts = length-map h.texts Some in
-    let front : length (take (name_words_of (map Some cmd)) (map Some cmd)) ≤ length (map Some cmd) = omega (arith, length-take (name_words_of (map Some cmd)) (map Some cmd)) in
-    let all : length (map Some cmd) ≡ length cmd = length-map cmd Some in
-    let same : length cmd ≡ length args = ap length (sym a) ∙ length-map args (λ arg. arg.items) in
-    omega (arith, some, texts, front, all, same, n, h.all)

@@ -22,7 +22,7 @@ use Rattle.redis_batches.specs.PipelinePlan.{PipelineBatches}
 use Rattle.redis_batches.specs.Replies.{AreRepliesFor}
 use Rattle.redis_batches.specs.Taken.{answer_of}
 use Rattle.redis_batches.proofs.Entries.{get_there}
-use Rattle.redis_batches.proofs.Putting.{set_there}
+use Rattle.redis_cluster.proofs.Sending.{set_there}
 use Rattle.redis_batch_bytes.specs.declared.fault.BatchFault.{BatchFault}
 use Rattle.redis_batch_bytes.specs.declared.fault.BatchFault.TheVariants as faults
 use Rattle.redis_batch_bytes.specs.Plans.{EachIsSent}

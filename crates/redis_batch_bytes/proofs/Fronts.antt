@@ -1,7 +1,7 @@
 -- Items that stand at the front of some bytes, one after the other.
-use Rattle.std.proofs.Common.{◌≡◌, ◌<◌, ◌+◌, ℕ, List, [], ◌∷◌, ◌++◌, length, append_assoc, append-nil, refl, sym, ap, subst, ◌∙◌, arith}
+use Rattle.std.proofs.Common.{◌≡◌, ◌+◌, ℕ, List, [], ◌∷◌, ◌++◌, length, append_assoc, append-nil, refl, sym, ap, subst, ◌∙◌}
 use Rattle.std.proofs.lemmas.List.{length-append}
-use Rattle.resp.specs.Forms.{InOrder, IsRequest}
+use Rattle.resp.specs.Forms.{InOrder}
 
 module _ {X : Type 0} (Each : X → List ℕ → Type 0) where
   -- some, and then others
@@ -38,15 +38,6 @@ module _ {X : Type 0} (Each : X → List ℕ → Type 0) where
   pub one_more_stands : (bytes rest after form : List ℕ) (xs : List X) (x : X) → Stand bytes rest xs → rest ≡ form ++ after → Each x form → Stand bytes after (xs ++ x ∷ [])
   one_more_stands bytes rest after form xs x so_far next is = more_stand bytes rest after form xs (x ∷ []) so_far next (in_order-one x form is)
 
-  -- where nothing is left, they are all of the bytes
-  pub all_stand : (bytes rest : List ℕ) (xs : List X) → Stand bytes rest xs → length rest ≡ 0 → InOrder Each xs bytes
-  all_stand bytes [] xs so_far none = subst (InOrder Each xs) (sym (so_far.bytes_are ∙ append-nil so_far.front)) so_far.are
-  all_stand bytes (b ∷ rest) xs so_far none = absurd (omega (arith, none))
-
   -- how long what stands there is
   pub left_at : (bytes rest : List ℕ) (xs : List X) (so_far : Stand bytes rest xs) → length bytes ≡ length so_far.front + length rest
   left_at bytes rest xs so_far = ap (length {A = ℕ}) so_far.bytes_are ∙ length-append so_far.front rest
-
--- a request is no empty text
-pub request_some : (words : List (List ℕ)) (form : List ℕ) → IsRequest words form → 0 < length form
-request_some words form is = omega (arith, ap (length {A = ℕ}) is.0)

@@ -16,15 +16,6 @@ use Rattle.redis_batch_bytes.specs.Numbered.{AreRuns, IsNumberedMap, number_at, 
 abbrev Entry : Type 0
 Entry = RangeEntry SlotNodes
 
-pub no_runs : (numbers : List ℕ) → AreRuns numbers 0 []
-no_runs numbers = record {
-  disjoint = record {
-    straight = λ e there. absurd (omega (arith, there.1));
-    apart = λ e f slot there. absurd (omega (arith, there.1));
-  };
-  below = λ e there. absurd (omega (arith, there.1));
-  right = λ e slot there. absurd (omega (arith, there.1));
-  all = λ slot below. absurd (omega (arith, below));
 }
 
 module _ (numbers : List ℕ) (start end : ℕ) (entries : List Entry) (so_far : AreRuns numbers start entries) (straight : start ≤ end)
@@ -158,11 +149,6 @@ pub record GoesOn (numbers : List ℕ) (start slot : ℕ) (entries : List Entry)
   pub runs : AreRuns numbers start entries
   pub same : (before : ℕ) → start ≤ before → before < slot → (slot < length numbers) × (number_at numbers before ≡ number_at numbers slot)
 
-pub none_goes_on : (numbers : List ℕ) → GoesOn numbers 0 0 []
-none_goes_on numbers = record {
-  low = omega arith;
-  runs = no_runs numbers;
-  same = λ before low less. absurd (omega (arith, less));
 }
 
 -- where the next slot has the same number

@@ -1,5 +1,5 @@
 -- The answers to the parts of a command, taken out of a list from its end.
-use Rattle.std.proofs.Common.{◌≡◌, ◌<◌, ◌≤◌, ℕ, List, [], ◌∷◌, ◌++◌, Ok, Err, Result, refl, sym, ap, ◌∙◌, arith, length, map, reverse, append_assoc, length-append}
+use Rattle.std.proofs.Common.{◌≡◌, ◌<◌, ◌≤◌, ℕ, List, [], ◌∷◌, ◌++◌, Ok, Err, Result, refl, sym, ap, ◌∙◌, arith, length, map, reverse, length-append}
 use Rattle.std.proofs.lemmas.List.{length-map, reverse-append, length-reverse}
 use Rattle.std.specs.declared.alloc.Global.{Global}
 use Rattle.std.specs.Result.{result_map_both}
@@ -11,12 +11,6 @@ use Rattle.resp_core.specs.declared.value.Value.{Value}
 use Rattle.redis_batches.specs.Pipeline.{Answer}
 use Rattle.redis_batches.specs.Taken.{answer_of}
 use Rattle.redis_batches.specs.Replies.{all_replies, values_among}
-
--- one more was taken out
-pub taken_out : {X : Type 0} (all left rest own more : List X) (x : X) → all ≡ left ++ reverse own → left ≡ rest ++ x ∷ [] → more ≡ own ++ x ∷ [] → all ≡ rest ++ reverse more
-taken_out all left rest own more x is next push =
-    is ∙ ap (λ l. l ++ reverse own) next ∙ append_assoc rest (x ∷ []) (reverse own)
-    ∙ ap (λ l. rest ++ l) (sym (ap reverse push ∙ reverse-append own (x ∷ [])))
 
 -- none is left only where as many were taken out
 pub none_left : {X : Type 0} (all left own : List X) (count : ℕ) → all ≡ left ++ reverse own → left ≡ [] → length own < count → count ≤ length all → ⊥

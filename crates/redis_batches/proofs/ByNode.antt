@@ -18,7 +18,8 @@ use Rattle.redis_batches.specs.Batched.{AreBatches, numbers_in}
 use Rattle.redis_batches.specs.Taken.{task_of}
 use Rattle.redis_batches.specs.Plan.{Batches, IsByNode, batch_of}
 use Rattle.redis_batches.proofs.Sends.{all_unmap, numbers_below}
-use Rattle.redis_batches.proofs.Putting.{set_here, set_there, get_front, get_last}
+use Rattle.redis_cluster.proofs.Sending.{set_here, set_there}
+use Rattle.redis_batches.proofs.Putting.{get_front, get_last}
 use Rattle.redis_batches.specs.Grouped.{AreNumbered, index_of, number_in, places_in}
 
 -- an address is itself

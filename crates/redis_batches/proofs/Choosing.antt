@@ -1,5 +1,5 @@
 -- The node of a slot is chosen once.
-use Rattle.std.proofs.Common.{◌≡◌, ℕ, Bool, true, false, not, cond, List, [], Option, None, Some, IsSome, Bor, refl, sym, ap, subst, ◌∙◌, option_map}
+use Rattle.std.proofs.Common.{◌≡◌, ℕ, Bool, true, false, not, cond, List, Option, None, Some, IsSome, Bor, refl, sym, ap, subst, ◌∙◌, option_map}
 use Rattle.std.specs.Prelude.{nat_eq}
 use Rattle.std.specs.List.{flat_map}
 use Rattle.std.specs.Map.{lookup}
@@ -16,15 +16,10 @@ use Rattle.cluster_map.specs.SlotNodes.{SlotNodes}
 use Rattle.cluster_map.proofs.Ranges.{IsAnswerAt-unique}
 use Rattle.redis_routing.specs.Names.{Names}
 use Rattle.redis_routing.specs.Routing.{nodes_for}
-use Rattle.redis_cluster.proofs.Counts.{same_number}
 use Rattle.redis_batches.specs.Placed.{IsPrimaryOf, Ranges}
 use Rattle.redis_batches.specs.Chosen.{AreRight, AreSlots, AreStill, IsChosen, IsRoutedBy, chosen_for}
 use Rattle.redis_batches.specs.Reads.{IsSlotNode, is_written, slots_written}
 use Rattle.redis_batches.proofs.Written.{same_slot}
-
--- at first none was chosen
-pub none_chosen : (is_node : ℕ → Address → Type 0) (chosen : List (ℕ × Bor Address)) → chosen ≡ [] → AreRight is_node chosen
-none_chosen is_node chosen none = λ slot node is. let e : None ≡ Some node = sym (ap (λ c. chosen_for c slot) none) ∙ is in absurd (cc e)
 
 module _ (old new : List (ℕ × Bor Address)) (slot : ℕ) (node : Bor Address)
     (updates : (q : ℕ) → lookup (λ other. is_eq (nat_cmp q other)) new ≡ cond (is_eq (nat_cmp slot q)) (Some node) (lookup (λ other. is_eq (nat_cmp q other)) old)) where
@@ -33,9 +28,6 @@ module _ (old new : List (ℕ × Bor Address)) (slot : ℕ) (node : Bor Address)
   chosen_after q =
       ap (option_map (λ n. n.now)) (updates q) ∙ ap (λ b. option_map (λ n. n.now) (cond b (Some node) (lookup (λ other. is_eq (nat_cmp q other)) old))) (same_slot slot q)
       ∙ by_test (nat_eq slot q) (λ here. rw here refl) (λ there. rw there refl)
-
-  pub chosen_now : chosen_for new slot ≡ Some node.now
-  chosen_now = chosen_after slot ∙ ap (λ b. cond b (Some node.now) (chosen_for old slot)) (same_number slot)
 
   pub others_still : chosen_for old slot ≡ None → AreStill old new
   others_still none = λ q n was.

@@ -55,13 +55,6 @@ ends_found (x ∷ xs) (e ∷ ends) long apart =
     ap (λ b. cond b e (end_of (map (λ y. y.0) xs) ends x.0) ∷ map (λ z. end_of (x.0 ∷ map (λ y. y.0) xs) (e ∷ ends) z.0) xs) (same_number x.0)
     ∙ ap (λ l. e ∷ l) (ends_after x.0 e (map (λ y. y.0) xs) ends xs apart.0 ∙ ends_found xs ends (omega arith) apart.1)
 
--- what holds of each end holds of the one that is found
-pub end_holds : (P : Option ErrorParts → Type 0) → P None → (ms : List ℕ) (ends : List (Option ErrorParts)) → All P ends → (n : ℕ) → P (end_of ms ends n)
-end_holds P none [] ends all n = none
-end_holds P none (m ∷ ms) [] all n = none
-end_holds P none (m ∷ ms) (e ∷ ends) all n =
-    by_test (nat_eq n m) (λ here. rw here (All-head P e ends all)) (λ there. rw there (end_holds P none ms ends (All-tail P e ends all) n))
-
 -- elements beside what a function says of them
 pub zip_with : {X A B : Type 0} (f : X → A) (g : X → B) (xs : List X) → map (λ x. (f x, g x)) xs ≡ zip (map f xs) (map g xs)
 zip_with f g [] = refl

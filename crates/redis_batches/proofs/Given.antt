@@ -20,7 +20,7 @@ use Rattle.redis_batches.specs.Sent.{AreApart}
 use Rattle.redis_batches.specs.Turns.{of_slot}
 use Rattle.redis_batches.proofs.Ends.{numbers_apart}
 use Rattle.redis_batches.proofs.Entries.{get_there, map_agree_on}
-use Rattle.redis_batches.proofs.Putting.{set_here, set_there}
+use Rattle.redis_cluster.proofs.Sending.{set_here, set_there}
 
 -- no number of the one list is in the other
 abbrev pub AreElsewhere : List ℕ → List ℕ → Type 0

@@ -24,7 +24,6 @@ use Rattle.redis_batches.specs.Batched.{AreBatches}
 use Rattle.redis_batches.specs.Taken.{task_of}
 use Rattle.redis_batches.specs.Tasks.{IsSplitOfTask, slots_of_task, with_slots}
 use Rattle.redis_batches.specs.CommandTask.{IsKeptOf, IsTaskFor, SlotPart, slot_parts, slots_kept, split_in, split_parts}
-use Rattle.redis_batches.specs.Pipelined.{IsTaskFault}
 use Rattle.redis_batches.specs.Placed.{ArePlaced, IsPartFault, Ranges}
 use Rattle.redis_batches.specs.Reads.{only_reads, slots_written}
 use Rattle.redis_batches.specs.Chosen.{all_written}
@@ -239,12 +238,6 @@ is_plan_of registered chosen is_node commands kept batches nodes one may each pl
       slots_are = slots_of_parts registered tasks kept found.2;
       targets_are = same_nodes chosen one node qs nodes at all;
     }
-
--- why there is none
-pub task_fault : (registered : Registrations) (ranges : Ranges) (commands : List (List (List ℕ))) (fault : PipelineFault) → IsTaskFault registered commands fault → IsPipelinePlanFault registered ranges commands fault
-task_fault registered ranges commands (NotRoutable number) is = is
-task_fault registered ranges commands (NotCovered number slot) is = absurd is
-task_fault registered ranges commands Memory is = tt
 
 pub part_fault : (registered : Registrations) (ranges : Ranges) (commands : List (List (List ℕ))) (kept : List CommandTask) (fault : PipelineFault) → AllZip (IsTaskFor registered) commands kept → IsPartFault ranges (map slots_kept kept) fault
     → IsPipelinePlanFault registered ranges commands fault

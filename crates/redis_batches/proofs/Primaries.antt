@@ -74,9 +74,3 @@ module _ (registered : Registrations) (ranges : Ranges) (names : Names) (command
   pub to_primaries : (plan : PipelineBatches) → IsPlanOfCommands registered (λ slot address. IsNodeOfRoute ranges (pipeline_route names commands slot) 0 address) commands plan
       → IsPlanOfCommands registered (IsPrimaryOf ranges) commands plan
   to_primaries plan is = plan_with registered (λ slot address. IsNodeOfRoute ranges (pipeline_route names commands slot) 0 address) (IsPrimaryOf ranges) (primary_of_slot ranges names commands) commands plan is
-
-  pub served_by_primaries : {C : Type 0} (step : Step C) (serve : Serve C) (kept : Type 0) (may_refuse : ℕ → Ending → Type 0) (order : List ℕ) (old new : State C) (replies : List Answer)
-      → IsPipelineServed step serve kept may_refuse registered (λ slot address. IsNodeOfRoute ranges (pipeline_route names commands slot) 0 address) commands order old new replies
-      → IsPipelineServed step serve kept may_refuse registered (IsPrimaryOf ranges) commands order old new replies
-  served_by_primaries step serve kept may_refuse order old new replies is =
-      served_with step serve kept may_refuse registered (λ slot address. IsNodeOfRoute ranges (pipeline_route names commands slot) 0 address) (IsPrimaryOf ranges) (primary_of_slot ranges names commands) commands order old new replies is

@@ -1,30 +1,17 @@
 -- One answer is put at its place.
-use Rattle.std.proofs.Common.{◌≡◌, ◌<◌, ◌≤◌, ℕ, ◌+◌, zero, suc, List, [], ◌∷◌, ◌++◌, false, Some, Result, All, refl, sym, ap, ◌∙◌, subst, arith, length, drop, get_or, option_map, map}
+use Rattle.std.proofs.Common.{◌≡◌, ◌<◌, ◌≤◌, ℕ, ◌+◌, zero, suc, List, [], ◌∷◌, ◌++◌, Some, Result, All, refl, sym, ap, ◌∙◌, subst, arith, length, drop, get_or, option_map, map}
 use Rattle.std.specs.Prelude.{nat_eq, slice_get, slice_set}
 use Rattle.std.proofs.lemmas.Bool.{eqb-true}
-use Rattle.std.proofs.lemmas.Bool.Decides.{nat_tests}
 use Rattle.std.proofs.lemmas.List.{drop_all, drop_more, length-set, length_push, map-set}
 use Rattle.std.proofs.lemmas.List.Elements.{All-cons, All-nil}
 use Rattle.std.proofs.lemmas.Option.{same_Some, slice_get-map, slice_get_read}
 use Rattle.resp_core.proofs.Cases.{by_test}
 use Rattle.resp_core.specs.ErrorParts.{ErrorParts}
 use Rattle.resp_core.specs.declared.value.Value.{Value}
+use Rattle.redis_cluster.proofs.Sending.{set_here, set_there}
 use Rattle.redis_batches.specs.Pipeline.{Answer}
 use Rattle.redis_batches.specs.Batched.{AreFor, IsRight, put_at}
 use Rattle.redis_batches.specs.Taken.{answer_of}
-
--- what is put at a place stands there, and elsewhere nothing changes
-pub set_here : {X : Type 0} (xs : List X) (k : ℕ) (x : X) → k < length xs → slice_get (slice_set xs k x) k ≡ Some x
-set_here [] k x within = absurd (omega arith)
-set_here (y ∷ xs) zero x within = refl
-set_here (y ∷ xs) (suc k) x within = set_here xs k x (omega arith)
-
-pub set_there : {X : Type 0} (xs : List X) (k j : ℕ) (x : X) → nat_eq j k ≡ false → slice_get (slice_set xs k x) j ≡ slice_get xs j
-set_there [] k j x apart = refl
-set_there (y ∷ xs) zero zero x apart = absurd (cc apart)
-set_there (y ∷ xs) zero (suc j) x apart = refl
-set_there (y ∷ xs) (suc k) zero x apart = refl
-set_there (y ∷ xs) (suc k) (suc j) x apart = set_there xs k j x (grind (arith, nat_tests))
 
 -- the elements before the last, and the last
 pub get_front : {X : Type 0} (xs ys : List X) (i : ℕ) → i < length xs → slice_get (xs ++ ys) i ≡ slice_get xs i

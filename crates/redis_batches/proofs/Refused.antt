@@ -49,15 +49,3 @@ module _ {C : Type 0} (step : Step C) (serve : Serve C) (refusals : Refusals) wh
 -- these parts in the order of the pipeline, as long as those of each slot were taken in that order.
 module _ {C : Type 0} (step : Step C) (serve : Serve C) (taken : Numbered → Bool) (ps : List Planned) (are : All (λ p. AreSlotsOf p.task p.slots) ps)
     (sent : List Numbered) (keeps : (slot : ℕ) → of_slot slot_of slot (filter taken (numbered ps)) ≡ of_slot slot_of slot sent) (ks : Keyspace C) where
-  local_taken : All (λ x. IsLocal (slot_of x) (piece_of step serve x)) (filter taken (numbered ps))
-  local_taken = All-filter taken (λ x. IsLocal (slot_of x) (piece_of step serve x)) (numbered ps) (numbered_local step serve 0 (pieces ps) (pieces_local step serve ps are))
-
-  local_in_time : All (λ x. IsLocal (slot_of x) (piece_of step serve x)) sent
-  local_in_time = all_by_slot slot_of (λ x. IsLocal (slot_of x) (piece_of step serve x)) sent
-      (λ s. subst (All (λ x. IsLocal (slot_of x) (piece_of step serve x))) (keeps s) (All-filter (λ x. nat_eq (slot_of x) s) (λ x. IsLocal (slot_of x) (piece_of step serve x)) (filter taken (numbered ps)) local_taken))
-
-  pub rounds_leave : all_after (piece_of step serve) sent ks ≡ all_after (piece_of step serve) (filter taken (numbered ps)) ks
-  rounds_leave = sym (one_keyspace slot_of (piece_of step serve) (filter taken (numbered ps)) sent local_taken local_in_time keeps ks)
-
-  pub rounds_answer : (P : Numbered × Answer → Type 0) → All P (answers (piece_of step serve) (filter taken (numbered ps)) ks) → All P (answers (piece_of step serve) sent ks)
-  rounds_answer = answers_hold slot_of (piece_of step serve) (filter taken (numbered ps)) sent local_taken local_in_time keeps ks

@@ -48,14 +48,6 @@ pub length-answers : {C R X : Type 0} (effect : X → Effect C R) (xs : List X) 
 length-answers effect [] ks = refl
 length-answers effect (x ∷ xs) ks = ap suc (length-answers effect xs (effect x ks).keys)
 
--- what stands at the numbers of answers that stand there
-pub at_numbers : {A B : Type 0} (all : List A) (number : B → ℕ) (given : List (B × A)) → All (λ a. slice_get all (number a.0) ≡ Some a.1) given
-    → in_order all (map number (map (λ a. a.0) given)) ≡ map (λ a. a.1) given
-at_numbers all number [] right = refl
-at_numbers all number (a ∷ given) right =
-    ap (λ o. option_to_list o ++ in_order all (map number (map (λ b. b.0) given))) (All-head (λ b. slice_get all (number b.0) ≡ Some b.1) a given right)
-    ∙ ap (λ l. a.1 ∷ l) (at_numbers all number given (All-tail (λ b. slice_get all (number b.0) ≡ Some b.1) a given right))
-
 -- what is taken at the numbers of some
 pub picked : {X : Type 0} (all : List X) (n : ℕ) (p : ℕ × X → Bool) (xs : List X) → ((k : ℕ) → slice_get all (n + k) ≡ slice_get xs k)
     → in_order all (map (λ (x : ℕ × X). x.0) (filter p (enumerate_from n xs))) ≡ map (λ (x : ℕ × X). x.1) (filter p (enumerate_from n xs))

@@ -1,9 +1,8 @@
 -- Parts are gone through from the last one to the first.
-use Rattle.std.proofs.Common.{◌≡◌, ◌<◌, ◌≤◌, ℕ, ◌+◌, zero, suc, List, [], ◌∷◌, ◌++◌, Bool, true, false, cond, Option, None, Some, inl, inr, refl, sym, ap, subst, ◌∙◌, arith, length, drop, get_or, reverse}
+use Rattle.std.proofs.Common.{◌≡◌, ◌<◌, ◌≤◌, ℕ, ◌+◌, zero, suc, List, [], ◌∷◌, ◌++◌, cond, Option, None, Some, inl, inr, refl, sym, ap, subst, ◌∙◌, arith, length, drop, get_or, reverse}
 use Rattle.std.specs.Prelude.{codes, nat_eq}
 use Rattle.std.specs.List.{AllZip, zip}
 use Rattle.std.specs.Option.{option_or}
-use Rattle.std.specs.Ordering.{is_eq, nat_cmp}
 use Rattle.std.proofs.lemmas.List.{drop_more, reverse-append}
 use Rattle.cluster_slots.specs.Address.{Address}
 use Rattle.resp_core.proofs.Cases.{by_test}
@@ -13,23 +12,7 @@ use Rattle.redis_batches.specs.Outgoing.{IsWalked, node_in, slot_at}
 use Rattle.redis_batches.specs.Pipeline.{Answer}
 use Rattle.redis_batches.specs.Rounds.{IsSentOn, SendsOn, goes_to, is_settled}
 use Rattle.redis_batches.specs.declared.going.Walk.{Walk}
-use Rattle.redis_batches.proofs.Written.{same_slot}
 
-or_none : (o : Option Address) (b : Bool) → option_or o (cond b None None) ≡ o
-or_none (Some node) b = refl
-or_none None true = refl
-or_none None false = refl
-
--- a part that was not sent on
-pub settled_more : (slots : List ℕ) (parts : List (ℕ × Option Address)) (number slot : ℕ) (old new : Walk) → slot_at slots number ≡ slot → new.numbers.items ≡ old.numbers.items → new.nodes.entries ≡ old.nodes.entries
-    → ((q : ℕ) → has_slot new.settled.keys q ≡ cond (is_eq (nat_cmp slot q)) true (has_slot old.settled.keys q)) → IsWalked slots parts old → IsWalked slots ((number, None) ∷ parts) new
-settled_more slots parts number slot old new own numbers nodes added is = record {
-  numbers = ap reverse numbers ∙ is.numbers;
-  settled = λ s.
-      let rest : Bool = is_settled (slot_at slots) s parts in
-      added s ∙ ap (λ b. cond b true (has_slot old.settled.keys s)) (same_slot slot s) ∙ ap (cond (nat_eq slot s) true) (is.settled s)
-      ∙ by_test (nat_eq slot s) (λ here. rw (here, own, here) refl) (λ there. rw (there, own, there) refl);
-  nodes = λ s. ap (λ es. node_in es s) nodes ∙ is.nodes s ∙ sym (or_none (goes_to (slot_at slots) s parts) (nat_eq (slot_at slots number) s));
 }
 
 -- a part that was sent on

@@ -92,11 +92,6 @@ same_node a b h = (equal_law a b).0 (from_is_eq (address_cmp a b) h)
 found_alike : (places : BTreeMap (Bor Address) ℕ) (node other : Bor Address) → node.now ≡ other.now → get by_address places node ≡ get by_address places other
 found_alike places node other same = ap (λ (a : Address). lookup (λ k. is_eq (address_cmp a k.now)) places.entries) same
 
-pub none_placed : (places : BTreeMap (Bor Address) ℕ) → places.entries ≡ [] → AreNumbersOf [] places
-none_placed places empty node number =
-    let none : get by_address places node ≡ None = ap (λ (es : List (Bor Address × ℕ)). lookup (is_at (by_address node)) es) empty in
-    ((λ found. absurd (none-some number (sym none ∙ found))), (λ there. absurd (none-some node.now there)))
-
 module _ (old new : List (Bor Address)) (node : Bor Address) (before after : BTreeMap (Bor Address) ℕ) (number : ℕ) (grown : new ≡ old ++ node ∷ []) (last : number ≡ length old) (updates : Updates by_address before after node (Some number)) (absent : get by_address before node ≡ None) (placed : AreNumbersOf old before) where
   at_more : (q : Bor Address) (n : ℕ) → slice_get (addresses (old ++ node ∷ [])) n ≡ Some q.now → slice_get (addresses new) n ≡ Some q.now
   at_more q n e = ap (λ (ns : List (Bor Address)). slice_get (addresses ns) n) grown ∙ e

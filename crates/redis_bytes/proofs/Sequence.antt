@@ -78,16 +78,6 @@ only_fails {P = P} count bytes rest replies so_far few next all long are =
     fails [] is a = absurd (omega (arith, few, long, ap (length {A = Reply}) is, length-append replies none))
     fails (r ∷ later) is a = next r a.0 a.1 a.3 a.2
 
-pub only_done : (count : ℕ) (bytes rest : List ℕ) (replies : List Reply) → Only count bytes rest replies → length replies ≡ count
-    → (all : List Reply) → length all ≡ count → AreReplies all bytes → (replies ≡ all) × (rest ≡ [])
-only_done count bytes rest replies so_far every all long are =
-    let o = so_far all long are in
-    done o.later o.all_are o.are
-  where
-    done : (later : List Reply) → all ≡ replies ++ later → AreReplies later rest → (replies ≡ all) × (rest ≡ [])
-    done [] is a = (sym (is ∙ append-nil replies), a)
-    done (r ∷ later) is a = absurd (omega (arith, every, long, ap (length {A = Reply}) is, length-append replies (r ∷ later)))
-
 -- ---- the fault
 
 first_unread : (count number : ℕ) (bytes rest : List ℕ) (replies : List Reply) (fault : BytesFault) → Stand bytes rest replies → length replies ≡ number → number < count → IsNoValue number rest fault → IsFirstUnread count bytes fault

@@ -1,12 +1,12 @@
 -- Orders that name each number once: what is taken in such an order, and how far a loop over it has come.
-use Rattle.std.proofs.Common.{◌≡◌, ℕ, zero, suc, ◌+◌, ◌*◌, ◌<◌, ◌≤◌, List, [], ◌∷◌, ◌++◌, false, cond, Option, Some, None, option_map, option_and_then, All, refl, sym, ap, subst, ◌∙◌, arith, length, map, take, drop, get_or, zero-add}
+use Rattle.std.proofs.Common.{◌≡◌, ℕ, zero, suc, ◌+◌, ◌*◌, ◌<◌, ◌≤◌, List, [], ◌∷◌, ◌++◌, false, cond, Option, Some, None, option_map, option_and_then, All, refl, sym, ap, ◌∙◌, arith, length, map, take, drop, get_or, zero-add}
 use Rattle.std.specs.Prelude.{nat_eq, slice_get}
 use Rattle.std.specs.List.{sum_by, flat_map}
 use Rattle.std.specs.Option.{option_to_list}
 use Rattle.std.proofs.lemmas.Bool.{eqb-true}
 use Rattle.std.proofs.lemmas.Bool.Decides.{nat_tests}
 use Rattle.std.proofs.lemmas.Grind.{flat_map-append}
-use Rattle.std.proofs.lemmas.List.{drop_more, take_more, take-append-drop, map-append, length-map}
+use Rattle.std.proofs.lemmas.List.{take_more, take-append-drop, map-append}
 use Rattle.std.proofs.lemmas.List.Elements.{All-head, All-tail}
 use Rattle.std.proofs.lemmas.List.Sums.{sum_by-cons, sum_by-append}
 use Rattle.std.proofs.lemmas.Option.{slice_get-map}
@@ -131,18 +131,6 @@ in_order_more xs order i k x within at is =
     ap (in_order xs) (take_more order i 0 within ∙ ap (λ j. take i order ++ j ∷ []) (sym at)) ∙ in_order-append xs (take i order) (k ∷ [])
     ∙ ap (λ o. in_order xs (take i order) ++ (option_to_list o ++ [])) is
 
--- the next place alone has its element alone
-pub in_order_next : {X : Type 0} (xs : List X) (order : List ℕ) (i k : ℕ) (x : X) → i < length order → k ≡ get_or order i 0
-    → slice_get xs k ≡ Some x → in_order xs (take 1 (drop i order)) ≡ x ∷ []
-in_order_next xs order i k x within at is =
-    ap (λ o. in_order xs (take 1 o)) (drop_more order i 0 within) ∙ ap (λ j. in_order xs (j ∷ [])) (sym at) ∙ ap (λ o. option_to_list o ++ []) is
-
--- the places that are left begin with the next element
-pub in_order_rest : {X : Type 0} (xs : List X) (order : List ℕ) (i k : ℕ) (x : X) → i < length order → k ≡ get_or order i 0
-    → slice_get xs k ≡ Some x → in_order xs (drop i order) ≡ x ∷ in_order xs (drop (i + 1) order)
-in_order_rest xs order i k x within at is =
-    ap (in_order xs) (drop_more order i 0 within ∙ ap (λ j. j ∷ drop (i + 1) order) (sym at)) ∙ ap (λ o. option_to_list o ++ in_order xs (drop (i + 1) order)) is
-
 -- all that is taken is what was taken so far, and then what is left
 pub in_order_split : {X : Type 0} (xs : List X) (order : List ℕ) (i : ℕ) → in_order xs order ≡ in_order xs (take i order) ++ in_order xs (drop i order)
 in_order_split xs order i = ap (in_order xs) (sym (take-append-drop i order)) ∙ in_order-append xs (take i order) (drop i order)
@@ -161,11 +149,3 @@ not_before xs order i k x names apart within at is =
     let more : times x (in_order xs (take (i + 1) order)) ≡ times x (in_order xs (take i order)) + 1 =
     ap (times x) (in_order_more xs order i k x within at is) ∙ times_push x (in_order xs (take i order)) in
     omega (arith, more, apart_front xs order (i + 1) x names (apart x))
-
--- The value that comes next was not taken before, where a function has no value twice.
-pub value_not_before : {X : Type 0} (f : X → ℕ) (xs : List X) (order : List ℕ) (i k : ℕ) (x : X) → NamesOnce (length xs) order
-    → ((n : ℕ) → times n (map f xs) ≤ 1) → i < length order → k ≡ get_or order i 0 → slice_get xs k ≡ Some x
-    → times (f x) (map f (in_order xs (take i order))) ≡ 0
-value_not_before f xs order i k x names apart within at is =
-    ap (times (f x)) (map-in_order f xs (take i order))
-    ∙ not_before (map f xs) order i k (f x) (subst (λ n. NamesOnce n order) (sym (length-map xs f)) names) apart within at (slice_get-map f xs k ∙ ap (option_map f) is)

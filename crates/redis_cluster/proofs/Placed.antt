@@ -5,7 +5,7 @@ use Rattle.std.specs.List.{flat_map}
 use Rattle.std.proofs.lemmas.Bool.{eqb-true}
 use Rattle.std.proofs.lemmas.List.{same_lists}
 use Rattle.std.proofs.lemmas.List.Elements.{All-nil, All-cons, All-append}
-use Rattle.std.proofs.lemmas.Option.{same_Some, slice_get_within, slice_get-get_or, get_or_from_slice_get}
+use Rattle.std.proofs.lemmas.Option.{same_Some, slice_get-get_or}
 use Rattle.cluster_slots.specs.KeySlot.{key_slot}
 use Rattle.resp_core.proofs.Cases.{by_test}
 use Rattle.redis_cluster.specs.MultiKey.{KeyTuple}
@@ -61,11 +61,6 @@ stands_at n (x ∷ xs) some =
     (λ here. (0, ap Some (sym (eqb-true n x here))))
     (λ there. let rest = stands_at n xs (omega (arith, times_there n x xs there)) in (suc rest.0, rest.1))
 
--- the slot of each tuple stands at some place
-pub slot_stands : (slots : List ℕ) (ts : List KeyTuple) (k : ℕ) (d : KeyTuple) → NamesSlots slots ts → k < length ts
-    → (i : ℕ) × (slice_get slots i ≡ Some (slot_at ts k d))
-slot_stands slots ts k d named l = stands_at (slot_at ts k d) slots (omega (arith, named_at slots ts k d named l))
-
 -- the number of each tuple stands among those of its slot
 pub number_stands : (ts : List KeyTuple) (k : ℕ) (d : KeyTuple) → k < length ts → (j : ℕ) × (slice_get (numbers_of_slot (slot_at ts k d) ts) j ≡ Some k)
 number_stands ts k d l =
@@ -74,32 +69,10 @@ number_stands ts k d l =
     let once : times k (numbers_of_slot s ts) ≡ 1 = times-numbers k s d ts l ∙ ap (λ b. cond b 1 0) own in
     stands_at k (numbers_of_slot s ts) (omega arith)
 
--- what stands among the numbers of a slot is the number of a tuple of that slot
-pub number_is_own : (slot : ℕ) (ts : List KeyTuple) (j k : ℕ) (d : KeyTuple) → slice_get (numbers_of_slot slot ts) j ≡ Some k
-    → (k < length ts) × (slot_at ts k d ≡ slot)
-number_is_own slot ts j k d is =
-    let j_within : j < length (numbers_of_slot slot ts) = slice_get_within (numbers_of_slot slot ts) j k is in
-    let same : get_or (numbers_of_slot slot ts) j k ≡ k = get_or_from_slice_get (numbers_of_slot slot ts) j k k is in
-    let l : k < length ts = subst (λ n. n < length ts) same (numbers_within slot ts j k j_within) in
-    let some : 1 ≤ times k (numbers_of_slot slot ts) = subst (λ n. 1 ≤ times n (numbers_of_slot slot ts)) same (stands (numbers_of_slot slot ts) j k j_within) in (
-      l,
-      by_test (nat_eq (slot_at ts k d) slot)
-          (λ here. eqb-true (slot_at ts k d) slot here)
-          (λ there. absurd (let none : times k (numbers_of_slot slot ts) ≡ 0 = times-numbers k slot d ts l ∙ ap (λ b. cond b 1 0) there in omega arith)),
-    )
-
 -- a function of the results of a slot is that function of all results, at the slot's numbers
 pub map-items_of_slot : {X : Type 0} (f : TupleResult → X) (slot : ℕ) (ts : List KeyTuple) (rs : List TupleResult) → length rs ≡ length ts
     → map f (items_of_slot slot ts rs) ≡ in_order (map f rs) (numbers_of_slot slot ts)
 map-items_of_slot f slot ts rs l = ap (map f) (items_of_slot_is slot ts rs l) ∙ map-in_order f rs (numbers_of_slot slot ts)
-
--- the j-th result of a slot is the one of its j-th number
-pub items_of_slot_at : (slot : ℕ) (ts : List KeyTuple) (rs : List TupleResult) (j k : ℕ) → length rs ≡ length ts
-    → slice_get (numbers_of_slot slot ts) j ≡ Some k → slice_get (items_of_slot slot ts rs) j ≡ slice_get rs k
-items_of_slot_at slot ts rs j k l is =
-    ap (λ xs. slice_get xs j) (items_of_slot_is slot ts rs l)
-    ∙ get-in_order rs (numbers_of_slot slot ts) (subst (λ n. All (λ m. m < n) (numbers_of_slot slot ts)) (sym l) (numbers_within slot ts)) j
-    ∙ ap (option_and_then (λ n. slice_get rs n)) is
 
 -- the j-th of what stands at the numbers of a slot stands at its j-th number
 at_number : {X : Type 0} (xs : List X) (slot : ℕ) (ts : List KeyTuple) (j k : ℕ) → length xs ≡ length ts

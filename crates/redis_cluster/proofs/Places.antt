@@ -99,10 +99,6 @@ ascending n slot (t ∷ ts) =
     (λ here. rw here (above n (n + 1) slot ts (omega arith), ascending (n + 1) slot ts))
     (λ there. rw there (ascending (n + 1) slot ts))
 
--- The numbers of a slot ascend.
-pub numbers_ascend : (slot : ℕ) (ts : List KeyTuple) → IsStrictlySortedBy nat_cmp (numbers_of_slot slot ts)
-numbers_ascend slot ts = ascending 0 slot ts
-
 -- a number below the first is not counted on to
 times_below : (k n slot : ℕ) (ts : List KeyTuple) → k < n → times k (numbers_from slot n ts) ≡ 0
 times_below k n slot [] l = refl

@@ -1,10 +1,10 @@
 -- The parts of a multi-key command: the part of a slot means the command with that slot's tuples alone, and each slot of a key has one route.
-use Rattle.std.proofs.Common.{◌≡◌, ℕ, ◌-◌, ◌<◌, ◌≤◌, List, [], ◌∷◌, ◌++◌, Bool, true, false, cond, ◌||◌, Option, None, Some, map, length, get_or, refl, sym, ap, ◌∙◌, subst, arith}
+use Rattle.std.proofs.Common.{◌≡◌, ℕ, ◌-◌, ◌<◌, ◌≤◌, List, [], ◌∷◌, Bool, true, false, cond, ◌||◌, Option, None, Some, map, length, get_or, refl, sym, ap, ◌∙◌, subst, arith}
 use Rattle.std.specs.Prelude.{nat_eq, count_by, option_and_then, option_map, slice_get, All}
 use Rattle.std.specs.List.{filter, list_any}
 use Rattle.std.proofs.Math.Path.{fun_ext}
 use Rattle.std.proofs.lemmas.Bool.Decides.{nat_tests}
-use Rattle.std.proofs.lemmas.List.{map-append, map-id}
+use Rattle.std.proofs.lemmas.List.{map-id}
 use Rattle.std.proofs.lemmas.List.Elements.{All-map}
 use Rattle.std.proofs.lemmas.Simd.{map-map}
 use Rattle.cluster_slots.specs.KeySlot.{key_slot}
@@ -20,7 +20,7 @@ use Rattle.redis_routing.specs.declared.route_by.MultiSlotArgPattern.{MultiSlotA
 use Rattle.redis_routing.specs.declared.policy.AggregateOp.TheVariants.{Min, Sum}
 use Rattle.redis_routing.specs.declared.policy.ResponsePolicy.{ResponsePolicy}
 use Rattle.redis_routing.specs.declared.policy.ResponsePolicy.TheVariants.{OneSucceeded, FirstSucceededNonEmptyOrAllEmpty, AllSucceeded, AggregateLogical, Aggregate, CombineArrays, Special, CombineMaps}
-use Rattle.redis_routing.proofs.CommandNames.{has_words, words_again}
+use Rattle.redis_routing.proofs.CommandNames.{words_again}
 use Rattle.redis_routing.specs.Complete.{pattern_by_name, part_by_pattern, part_by_name, routes_by, routes_by_name, multi_slot_routes}
 use Rattle.redis_routing.specs.Parts.{first_appearances, part_of_slot, slot_of, tuples_in_slot, arguments_in_slot}
 use Rattle.redis_routing.specs.Routing.{route_of_slot, routes_of}
@@ -160,22 +160,11 @@ module _ (registry : Registrations) (args : Arguments) (pattern : MultiSlotArgPa
   means_part : multi_key registry (part_by_name registry args slot) ≡ Some (part_of command slot)
   means_part = ap (multi_key registry) part_is ∙ made_is registry part pattern (part_of command slot) part_made
 
-  is_texts : (whole : List (List ℕ)) × (map Some whole ≡ part_by_name registry args slot)
-  is_texts =
-      let name = has_words args command.name (sym made.name) in
-      (name.texts ++ texts, map-append Some name.texts texts ∙ ap (λ front. front ++ map Some texts) name.taken ∙ sym part_is)
-
 -- the part of a slot that a key has means the command with that slot's tuples alone
 pub part_means : (registry : Registrations) (args : Arguments) (command : MultiKey) (slot : ℕ) → multi_key registry args ≡ Some command → list_any (λ t. nat_eq (key_slot t.key) slot) command.tuples ≡ true → multi_key registry (part_by_name registry args slot) ≡ Some (part_of command slot)
 part_means registry args command slot is there =
     let made = is_made registry args command is in
     means_part registry args made.0 command made.1 slot there
-
--- and it has no gap
-pub part_texts : (registry : Registrations) (args : Arguments) (command : MultiKey) (slot : ℕ) → multi_key registry args ≡ Some command → list_any (λ t. nat_eq (key_slot t.key) slot) command.tuples ≡ true → (whole : List (List ℕ)) × (map Some whole ≡ part_by_name registry args slot)
-part_texts registry args command slot is there =
-    let made = is_made registry args command is in
-    is_texts registry args made.0 command made.1 slot there
 
 -- The routes of the parts of a command: each slot of a key has one, and there are no others.
 pub record AreRoutesOf (command : MultiKey) (routes : List (SlotRoute × List ℕ)) : Type 0 where

@@ -2,16 +2,14 @@
 use Rattle.std.proofs.Common.{◌≡◌, ℕ, ◌+◌, ◌*◌, ◌≤◌, List, [], ◌∷◌, cond, filter, sym, ap, ◌∙◌, arith, length, map, sum}
 use Rattle.std.specs.Prelude.{nat_eq, count_by}
 use Rattle.std.specs.List.{sum_by, zip}
-use Rattle.std.proofs.lemmas.List.Sums.{sum_by-cons, sum-map, count_by-le-length}
+use Rattle.std.proofs.lemmas.List.Sums.{sum_by-cons, count_by-le-length}
 use Rattle.cluster_slots.specs.KeySlot.{key_slot}
 use Rattle.resp_core.proofs.Cases.{by_test}
 use Rattle.redis_cluster.specs.MultiKey.{KeyTuple}
 use Rattle.redis_cluster.specs.Unsplit.{TupleResult}
-use Rattle.redis_cluster.specs.Orders.{NamesOnce, in_order}
 use Rattle.redis_cluster.specs.SlotItems.{items_of_slot}
 use Rattle.redis_cluster.proofs.Counts.{sum_none, sum_both, sum_at, once_times}
 use Rattle.redis_cluster.proofs.Fold.{NamesSlots}
-use Rattle.redis_cluster.proofs.Orders.{sum-in_order}
 
 -- sums of equal numbers are equal
 both : (a b c d : ℕ) → a ≡ b → c ≡ d → a + c ≡ b + d
@@ -35,21 +33,6 @@ sum-items_of_slot w slots (t ∷ ts) (r ∷ rs) l named =
     (λ slot. sum-items_of_slot-cons w slot t r (filter (λ p. nat_eq (key_slot p.0.key) slot) (zip ts rs))) slots
     ∙ both _ (w r) _ (sum_by w rs) (sum_at s (w r) slots ∙ ap (λ n. n * w r) named.0 ∙ once_times (w r)) (sum-items_of_slot w slots ts rs (omega arith) named.1)
     ∙ sym (sum_by-cons w r rs)
-
--- how many results of a slot count
-abbrev pub count_of_slot : List KeyTuple → List TupleResult → ℕ → ℕ
-count_of_slot ts rs slot = count_by (λ r. r.counts) (items_of_slot slot ts rs)
-
--- The counts of the parts have the count of the whole command as their sum.
-pub count_of_all : (slots : List ℕ) (ts : List KeyTuple) (rs : List TupleResult) → length rs ≡ length ts → NamesSlots slots ts
-    → sum (map (count_of_slot ts rs) slots) ≡ count_by (λ r. r.counts) rs
-count_of_all slots ts rs l named = sum-map (count_of_slot ts rs) slots ∙ sum-items_of_slot (λ r. cond r.counts 1 0) slots ts rs l named
-
--- The counts of the parts, in an order that names each once, have the count of the whole command as their sum.
-pub count_in_order : (slots order : List ℕ) (ts : List KeyTuple) (rs : List TupleResult) → length rs ≡ length ts
-    → NamesOnce (length slots) order → NamesSlots slots ts → sum (map (count_of_slot ts rs) (in_order slots order)) ≡ count_by (λ r. r.counts) rs
-count_in_order slots order ts rs l names named =
-    sum-map (count_of_slot ts rs) (in_order slots order) ∙ sum-in_order (count_of_slot ts rs) slots order names ∙ sum-items_of_slot (λ r. cond r.counts 1 0) slots ts rs l named
 
 -- no more results count than there are tuples
 pub count-le-tuples : (ts : List KeyTuple) (rs : List TupleResult) → length rs ≡ length ts → count_by (λ r. r.counts) rs ≤ length ts

@@ -111,10 +111,6 @@ keys-set [] i k t m h = refl
 keys-set (p ∷ ps) zero k t m h = let e : p ≡ (k, t) = cc in ap (λ z. z.0 ∷ map (λ r. r.0) ps) (sym e)
 keys-set (p ∷ ps) (suc i) k t m h = ap (λ z. p.0 ∷ z) (keys-set ps i k t m h)
 
-keys-push : (ps : List KeyNumber) (p : KeyNumber) → map (λ r. r.0) (ps ++ p ∷ []) ≡ map (λ r. r.0) ps ++ p.0 ∷ []
-keys-push [] p = refl
-keys-push (x ∷ ps) p = ap (λ z. x.0 ∷ z) (keys-push ps p)
-
 abbrev plain : Entry → KeyNumber
 plain e = (e.0.items, e.1)
 
@@ -154,9 +150,6 @@ total_pushed es es' key n is q =
     ∙ sum_pushed q key.items n (plain_pairs es)
     ∙ ap (λ z. cond (bytes_eq key.items q) (Some (or_zero z +ℤ n)) (sum_at q (plain_pairs es))) (sum_at_is key.items (plain_pairs es))
     ∙ ap (cond (bytes_eq key.items q) (Some (or_zero (total_among es key.items) +ℤ n))) (sum_at_is q (plain_pairs es))
-
-pub keys_pushed : (es es' : List Entry) (key : Vec ℕ Global) (n : ℤ) → es' ≡ es ++ (key, n) ∷ [] → keys_among es' ≡ keys_among es ++ key.items ∷ []
-keys_pushed es es' key n is = ap keys_among is ∙ ap (map (λ p. p.0)) (plain-push es (key, n)) ∙ keys-push (plain_pairs es) (key.items, n)
 
 -- the entry that a test found
 pub found_entry : (es : List Entry) (i : ℕ) (key : List ℕ) → has_key_at es i key ≡ true → (e : Entry) × (slice_get es i ≡ Some e) × (bytes_eq (key_of e) key ≡ true)

@@ -5,7 +5,7 @@ use Rattle.std.proofs.lemmas.List.{at_drop_more}
 use Rattle.resp_core.specs.Reply.{Reply, int_of}
 use Rattle.resp_core.specs.View.{view}
 use Rattle.resp_core.specs.declared.value.Value.{Value}
-use Rattle.redis_combiners.specs.Aggregate.{numbers, sum_of, in_i64}
+use Rattle.redis_combiners.specs.Aggregate.{numbers, in_i64}
 use Rattle.redis_routing.specs.Lists.{all_some}
 
 -- what f makes of the numbers, from a on
@@ -24,16 +24,6 @@ fold_step f a n vs i v l is e =
     ∙ ap (λ o. option_map (fold f a) (all_some (o ∷ map int_of rest))) (sym e)
     ∙ fold_cons f a n (numbers rest)
 
-pub fold_stop : (f : ℤ → ℤ → ℤ) (a : ℤ) (vs : List Value) (i : ℕ) (v : Value) → i < length vs → v ≡ get_or vs i v → None ≡ int_of (view v) → fold_on f a (map view (drop i vs)) ≡ None
-fold_stop f a vs i v l is e =
-    let rest = map view (drop (i + 1) vs) in
-    at_drop_more (λ ws. fold_on f a (map view ws)) vs i v l
-    ∙ ap (λ w. fold_on f a (view w ∷ rest)) (sym is)
-    ∙ ap (λ o. option_map (fold f a) (all_some (o ∷ map int_of rest))) (sym e)
-
 sum_is : (o : Option (List ℤ)) → option_and_then (λ ns. in_i64 (fold ◌+ℤ◌ (pos 0) ns)) o ≡ option_and_then in_i64 (option_map (fold ◌+ℤ◌ (pos 0)) o)
 sum_is None = refl
 sum_is (Some ns) = refl
-
-pub sum_of_is : (rs : List Reply) → sum_of rs ≡ option_and_then in_i64 (fold_on ◌+ℤ◌ (pos 0) rs)
-sum_of_is rs = sum_is (numbers rs)

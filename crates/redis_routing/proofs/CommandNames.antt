@@ -1,5 +1,5 @@
 -- The name of a command by its first two arguments, and the arguments that it takes.
-use Rattle.std.proofs.Common.{◌≡◌, ℕ, ◌<◌, ◌≤◌, List, [], ◌∷◌, ◌++◌, Option, Some, None, false, length, option_map, take, refl, ap, ◌∙◌, arith}
+use Rattle.std.proofs.Common.{◌≡◌, ℕ, ◌<◌, ◌≤◌, List, [], ◌∷◌, ◌++◌, Option, Some, None, false, length, option_map, take, refl, ap, arith}
 use Rattle.std.specs.Char.{to_ascii_uppercase}
 use Rattle.std.proofs.lemmas.List.{length-append, length-map}
 use Rattle.redis_routing.specs.Upper.{upper}
@@ -60,16 +60,6 @@ by_length first (Some second) =
     (λ alone. rw alone (λ longer. absurd (omega (arith, longer, length-map first to_ascii_uppercase)), λ _. refl))
 
 module _ (args : Arguments) (name : List ℕ) (named : Some name ≡ command_name args) where
-  pub two_words : (first : List ℕ) → Some first ≡ argument args 0 → length first < length name → 2 ≡ name_words_of args
-  two_words first is longer =
-      let same : name ≡ name_by (upper first) (option_map upper (argument args 1)) = cc (named, by_first args first is) in
-      (by_length first (argument args 1)).0 (rw (← same) longer) ∙ ap (λ a. words_by a (argument args 1)) is
-
-  pub only_word : (first : List ℕ) → Some first ≡ argument args 0 → length name ≤ length first → 1 ≡ name_words_of args
-  only_word first is short =
-      let same : name ≡ name_by (upper first) (option_map upper (argument args 1)) = cc (named, by_first args first is) in
-      (by_length first (argument args 1)).1 (rw (← same) short) ∙ ap (λ a. words_by a (argument args 1)) is
-
   -- a command with a name has a first argument
   pub some_first : None ≡ argument args 0 → ⊥
   some_first none = cc (named, ap (name_from args) none)

@@ -5,15 +5,10 @@ use Rattle.std.specs.Str.Pattern.{StripsPrefix, FindsTextPrefix}
 use Rattle.std.proofs.lemmas.Str.Pattern.{IsSplitOnceResult, split_parts}
 use Rattle.cluster_slots.specs.AddressText.{IsAddressText, IsNoAddress}
 use Rattle.cluster_slots.specs.Number.{number_in}
-use Rattle.cluster_slots.proofs.AddressTexts.{one_address}
+use Rattle.cluster_slots.proofs.AddressTexts.{one_address, lacks_each}
 use Rattle.cluster_slots.proofs.Lists.{Lacks, lacks_from, has, first_cut}
 use Rattle.redis_routing.specs.declared.info.Redirect.TheVariants.{Moved, Ask}
 use Rattle.redis_routing.specs.RedirectText.{IsNodeText, IsNoRedirect, TellsNode, unknown_host}
-
--- spaces
-pub lacks_each : (c : ℕ) (bs : List ℕ) → ((i : ℕ) → i < length bs → get_or bs i 0 ≢ c) → Lacks c bs
-lacks_each c [] f = tt
-lacks_each c (b ∷ bs) f = (f 0 (omega arith), lacks_each c bs (λ i h. f (suc i) (omega arith)))
 
 pub lacks_at : (c : ℕ) (bs : List ℕ) (k : ℕ) → Lacks c bs → k < length bs → get_or bs k 0 ≢ c
 lacks_at c [] k h l e = absurd (omega arith)

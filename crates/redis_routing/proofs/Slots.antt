@@ -1,24 +1,17 @@
 -- Grouping by slot: what one tuple more does to the groups.
-use Rattle.std.proofs.Common.{◌≡◌, ℕ, List, [], ◌∷◌, ◌++◌, ◌||◌, true, false, not, filter, refl, sym, ap, ◌∙◌, arith, map, if◌then◌else◌}
+use Rattle.std.proofs.Common.{◌≡◌, ℕ, List, [], ◌∷◌, ◌++◌, true, false, not, filter, refl, sym, ap, ◌∙◌, arith, map, if◌then◌else◌}
 use Rattle.std.specs.Prelude.{nat_eq}
 use Rattle.std.specs.List.{list_any, flat_map}
 use Rattle.std.proofs.lemmas.List.{append-nil, map_push}
 use Rattle.std.proofs.lemmas.List.Elements.{filter-append}
 use Rattle.std.proofs.lemmas.Grind.{flat_map-append}
 use Rattle.std.proofs.lemmas.Bool.Decides.{nat_tests}
-use Rattle.std.specs.Cmp.{IsEquivalence}
 use Rattle.redis_routing.specs.Parts.{first_appearances, slot_of, tuples_in_slot}
 use Rattle.redis_routing.specs.Tuples.{Tuple, places_of}
-use Rattle.resp_core.proofs.Cases.{by_test, or_swap}
+use Rattle.resp_core.proofs.Cases.{by_test}
 
 pub swap : (a b : ℕ) → nat_eq a b ≡ nat_eq b a
 swap a b = grind (arith, nat_tests)
-
-pub numbers_equal : IsEquivalence nat_eq
-numbers_equal = record { refl = λ x. grind (arith, nat_tests); symm = swap; congr = same_tests }
-  where
-    same_tests : (x y z : ℕ) → nat_eq x y ≡ true → nat_eq x z ≡ nat_eq y z
-    same_tests x y z h = let e : x ≡ y = grind (arith, nat_tests) in ap (λ n. nat_eq n z) e
 
 -- the places of a slot, after one tuple more
 pub part_push : (s : ℕ) (ts : List Tuple) (t : Tuple) → flat_map places_of (tuples_in_slot s (ts ++ t ∷ [])) ≡ (if nat_eq (slot_of t) s then flat_map places_of (tuples_in_slot s ts) ++ places_of t else flat_map places_of (tuples_in_slot s ts))
@@ -27,11 +20,6 @@ part_push s ts t =
     ∙ by_test (nat_eq (slot_of t) s)
     (λ h. rw h (flat_map-append places_of (tuples_in_slot s ts) (t ∷ []) ∙ ap (λ z. flat_map places_of (tuples_in_slot s ts) ++ z) (append-nil (places_of t))))
     (λ h. rw h (ap (flat_map places_of) (append-nil (tuples_in_slot s ts))))
-
--- whether a number is among some, after one more
-pub list_any_push : (s : ℕ) (xs : List ℕ) (x : ℕ) → list_any (nat_eq s) (xs ++ x ∷ []) ≡ (nat_eq x s || list_any (nat_eq s) xs)
-list_any_push s [] x = by_test (nat_eq x s) (λ h. let k : nat_eq s x ≡ true = swap s x ∙ h in rw (h, k) refl) (λ h. let k : nat_eq s x ≡ false = swap s x ∙ h in rw (h, k) refl)
-list_any_push s (y ∷ ys) x = ap (λ b. nat_eq s y || b) (list_any_push s ys x) ∙ or_swap (nat_eq s y) (nat_eq x s) (list_any (nat_eq s) ys)
 
 -- the numbers by first appearance, after one more
 pub firsts_push : (xs : List ℕ) (x : ℕ) → first_appearances (xs ++ x ∷ []) ≡ (if list_any (nat_eq x) xs then first_appearances xs else first_appearances xs ++ x ∷ [])

@@ -1,15 +1,13 @@
 -- The policies of the names that split by slot join the replies to parts.
-use Rattle.std.proofs.Common.{◌≡◌, ℕ, List, Bool, true, false, ◌&&◌, Option, None, Some, option_map, refl, sym, ap, ◌∙◌}
-use Rattle.std.specs.Prelude.{IfSome, is_none, not}
+use Rattle.std.proofs.Common.{◌≡◌, ℕ, List, Bool, true, false, Option, None, Some, refl, sym, ap, ◌∙◌}
+use Rattle.std.specs.Prelude.{not}
 use Rattle.redis_routing.specs.Policies.{joins_parts, policy_of}
-use Rattle.redis_routing.specs.Registry.{Registered, is_bad_name, is_registrable, registered_policy, registered_routing}
-use Rattle.redis_routing.specs.RouteBy.{base_routings, base_routing, pattern_of}
+use Rattle.redis_routing.specs.RouteBy.{base_routings, base_routing}
 use Rattle.redis_routing.specs.declared.policy.ResponsePolicy.{ResponsePolicy}
 use Rattle.redis_routing.specs.declared.route_by.MultiSlotArgPattern.{MultiSlotArgPattern}
 use Rattle.redis_routing.specs.declared.route_by.RouteBy.{RouteBy}
 use Rattle.redis_routing.specs.declared.route_by.RouteBy.TheVariants as route_by
 use Rattle.redis_routing.proofs.Rows.{each_row}
-use Rattle.resp_core.proofs.Cases.{and_second}
 
 abbrev is_joining : Option ResponsePolicy → Bool
 is_joining None = false
@@ -34,21 +32,6 @@ split_has_policy name pattern is none = cc (split_joins name pattern is, ap is_j
 pub split_policy_joins : (name : List ℕ) (pattern : MultiSlotArgPattern) (policy : ResponsePolicy) → base_routing name ≡ Some (route_by.MultiSlot pattern) → policy_of name ≡ Some policy → joins_parts policy ≡ true
 split_policy_joins name pattern policy is found = sym (ap is_joining found) ∙ split_joins name pattern is
 
--- the pattern of a registered name
-pub pattern_registered : (row : Option Registered) → option_map (λ found. found.0) row ≡ pattern_of (registered_routing row)
-pattern_registered None = refl
-pattern_registered (Some row) = refl
-
--- and its policy
-pub policy_registered : (row : Option Registered) → IfSome row (λ found. Some found.1 ≡ registered_policy row)
-policy_registered None = tt
-policy_registered (Some row) = refl
-
 twice : (b : Bool) → not (not b) ≡ true → b ≡ true
 twice true h = refl
 twice false h = h
-
--- a name is registered with a policy that joins replies
-pub registrable_joins : (name : List ℕ) (policy : ResponsePolicy) → is_registrable name policy ≡ true → joins_parts policy ≡ true
-registrable_joins name policy able =
-    twice (joins_parts policy) (and_second (not (is_bad_name name) && is_none (base_routing name)) (not (not (joins_parts policy))) able)

@@ -10,10 +10,6 @@ pub use Rattle.resp_core.proofs.SoFar.{before, before-more}
 pub before_more : (texts : List (List ℕ)) (arg : Option (List ℕ)) (text : List ℕ) (rest : Arguments) → Some text ≡ arg → before (texts ++ text ∷ []) (all_some rest) ≡ before texts (all_some (arg ∷ rest))
 before_more texts arg text rest is = sym (before-more texts text (all_some rest)) ∙ ap (λ a. before texts (all_some (a ∷ rest))) is
 
--- a text that is not there
-pub before_gap : (texts : List (List ℕ)) (arg : Option (List ℕ)) (rest : Arguments) → None ≡ arg → before texts (all_some (arg ∷ rest)) ≡ None
-before_gap texts arg rest is = sym (ap (λ a. before texts (all_some (a ∷ rest))) is)
-
 -- one word of the name more
 pub name_more : (args : Arguments) (words place : ℕ) (texts : List (List ℕ)) (text : List ℕ) → place < words → Some text ≡ argument args place
     → before (texts ++ text ∷ []) (all_some (map (λ i. argument args i) (range_with_len (place + 1) (words - (place + 1))))) ≡ before texts (all_some (map (λ i. argument args i) (range_with_len place (words - place))))

@@ -33,7 +33,7 @@ value_grows : (n : ℕ) (ds : List ℕ) → n ≤ digits_value_after 10 n ds
 value_grows n [] = omega arith
 value_grows n (d ∷ ds) = let later = value_grows (n * 10 + digit_value d) ds in omega (arith, later)
 
-and_false : (a : Bool) → (a && false) ≡ false
+pub and_false : (a : Bool) → (a && false) ≡ false
 and_false true = refl
 and_false false = refl
 
@@ -64,12 +64,6 @@ number_in_none limit text none =
     rw f refl
 
 -- ---- a loop over the digits
-
-pub digit_more : (limit n i : ℕ) (text : List ℕ) → i < length text → is_ascii_digit (get_or text i 0) ≡ true → n * 10 + digit_value (get_or text i 0) < limit
-    → number_after limit n (drop i text) ≡ number_after limit (n * 10 + digit_value (get_or text i 0)) (drop (i + 1) text)
-digit_more limit n i text lt digit low =
-    let t : ltb (n * 10 + digit_value (get_or text i 0)) limit ≡ true = grind (arith, nat_tests) in
-    ap (number_after limit n) (drop_more text i 0 lt) ∙ rw (digit, t) refl
 
 pub no_digit : (limit n i : ℕ) (text : List ℕ) → i < length text → is_ascii_digit (get_or text i 0) ≡ false → number_after limit n (drop i text) ≡ None
 no_digit limit n i text lt digit = ap (number_after limit n) (drop_more text i 0 lt) ∙ rw digit refl
@@ -117,9 +111,6 @@ none_longer limit [] more some long e = absurd (omega (arith, long))
 none_longer limit (d ∷ ds) more some long e =
     number_in_is limit (d ∷ (ds ++ more)) some (omega arith)
     ∙ after_none limit 0 (d ∷ ds) more (sym (number_in_is limit (d ∷ ds) some (omega arith)) ∙ e)
-
-above_none : {n : Option ℕ} → n ≡ None → not_below_zero n ≡ None
-above_none e = rw e refl
 
 none_above : (n : Option ℕ) → not_below_zero n ≡ None → n ≡ None
 none_above None e = refl

@@ -11,7 +11,7 @@ use Rattle.resp.specs.declared.fault.Fault.{Fault}
 use Rattle.resp.specs.declared.fault.Fault.TheVariants.{Incomplete, Malformed, TooDeep}
 use Rattle.resp.specs.Forms.{Answer, answer_before, array_of_all, simple_of, int_in, length_in}
 use Rattle.resp.specs.Reading.{◌>>=◌, or_malformed, Items, after_line_end, text_until_line_end, after_text, is_before_digits, int_at, length_at, bytes_at, flat_at, times_at, array_items_at, array_at, front_at, answer_at}
-use Rattle.resp.proofs.Digits.{HasDigits, int_longer, length_longer}
+use Rattle.resp.proofs.Digits.{HasDigits, and_false, int_longer, length_longer}
 use Rattle.resp.proofs.Lines.{ended_longer, open_longer}
 
 -- how reading of more bytes stands to a reading
@@ -87,10 +87,6 @@ no_false e = absurd cc
 or_false : (a b : Bool) → (a || b) ≡ false → (a ≡ false) × (b ≡ false)
 or_false true b e = absurd (no_false e)
 or_false false b e = (refl, e)
-
-and_false : (a : Bool) → (a && false) ≡ false
-and_false true = refl
-and_false false = refl
 
 off : (a b : List ℕ) → a ≢ b → bytes_eq a b ≡ false
 off a b other = false_from_ne_true _ (λ same. other ((bytes_eq-Decides a b).0 same))

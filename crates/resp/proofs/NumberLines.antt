@@ -12,19 +12,10 @@ use Rattle.std.proofs.lemmas.Str.{digit_value-digit_char}
 use Rattle.resp.specs.Requests.{digits_at, is_next_digit, with_digit}
 use Rattle.resp.proofs.Digits.{digit_is}
 use Rattle.resp.proofs.Steps.{both}
-use Rattle.resp.proofs.Readers.{read, stopped, went, no_read, no_stop, same_value, same_rest, Filled, Takes, Stops, IsReader}
+use Rattle.resp.proofs.Readers.{read, stopped, wants_no_stop, stop_wants_no, same_left, went, no_read, no_stop, same_value, same_rest, Filled, Takes, Stops, IsReader}
 
 abbrev next : ℕ → ℕ → ℕ
 next n b = n * 10 + digit_value b
-
-wants_no_stop : {A : Type 0} (n : ℕ) → stopped {A = A} WantsMore ≡ stopped (StopsAt n) → ⊥
-wants_no_stop n e = absurd cc
-
-stop_wants_no : {A : Type 0} (n : ℕ) → stopped {A = A} (StopsAt n) ≡ stopped WantsMore → ⊥
-stop_wants_no n e = absurd cc
-
-same_left : {A : Type 0} (n m : ℕ) → stopped {A = A} (StopsAt n) ≡ stopped (StopsAt m) → n ≡ m
-same_left n m e = cc
 
 -- ---- as the texts of numbers
 

@@ -35,13 +35,13 @@ same_value {A = A} x y rest more e = ap (λ (p : A × List ℕ). p.0) (same_pair
 pub same_rest : {A : Type 0} (x y : A) (rest more : List ℕ) → read x rest ≡ read y more → rest ≡ more
 same_rest {A = A} x y rest more e = ap (λ (p : A × List ℕ). p.1) (same_pair (x, rest) (y, more) e)
 
-wants_no_stop : {A : Type 0} (n : ℕ) → stopped {A = A} WantsMore ≡ stopped (StopsAt n) → ⊥
+pub wants_no_stop : {A : Type 0} (n : ℕ) → stopped {A = A} WantsMore ≡ stopped (StopsAt n) → ⊥
 wants_no_stop n e = absurd cc
 
-stop_wants_no : {A : Type 0} (n : ℕ) → stopped {A = A} (StopsAt n) ≡ stopped WantsMore → ⊥
+pub stop_wants_no : {A : Type 0} (n : ℕ) → stopped {A = A} (StopsAt n) ≡ stopped WantsMore → ⊥
 stop_wants_no n e = absurd cc
 
-same_left : {A : Type 0} (n m : ℕ) → stopped {A = A} (StopsAt n) ≡ stopped (StopsAt m) → n ≡ m
+pub same_left : {A : Type 0} (n m : ℕ) → stopped {A = A} (StopsAt n) ≡ stopped (StopsAt m) → n ≡ m
 same_left n m e = cc
 
 same_stop : {A : Type 0} (s t : Stop) → stopped {A = A} s ≡ stopped t → s ≡ t

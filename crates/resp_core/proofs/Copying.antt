@@ -4,8 +4,8 @@ use Rattle.std.proofs.lemmas.List.{map-append, take_at, drop_at, drop_more, leng
 use Rattle.resp_core.specs.Reply.{Reply, Replies, Pairs, nil, int, bulk, array, simple, okay, pairs, no_replies, reply, no_pairs, pair, pairs_of, items_in}
 use Rattle.resp_core.specs.View.{view, view_pair}
 use Rattle.resp_core.specs.Copying.{inside, inside_pairs}
-use Rattle.resp_core.specs.declared.value.Value.{Value, Array, Map}
-use Rattle.resp_core.proofs.Views.{view-Array, view-Map, items_in-replies_of}
+use Rattle.resp_core.specs.declared.value.Value.{Value, Array}
+use Rattle.resp_core.proofs.Views.{view-Array, items_in-replies_of}
 
 abbrev mutual
   -- how many replies a reply is
@@ -67,9 +67,6 @@ walk-smaller us vs ws v before after =
 
 pub inside-Array : (v : Value) (items : Vec Value Global) → v ≡ Array items → inside (view v) ≡ map view items.items
 inside-Array v items is = ap (λ w. inside (view w)) is ∙ ap inside (view-Array items) ∙ items_in-replies_of (map view items.items)
-
-pub inside-Map : (v : Value) (items : Vec (Value × Value) Global) → v ≡ Map items → inside (view v) ≡ inside_pairs (pairs_of (map view_pair items.items))
-inside-Map v items is = ap (λ w. inside (view w)) is ∙ ap inside (view-Map items)
 
 map-take : {A B : Type 0} (f : A → B) (n : ℕ) (xs : List A) → map f (take n xs) ≡ take n (map f xs)
 map-take f zero xs = refl

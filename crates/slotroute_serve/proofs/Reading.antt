@@ -91,10 +91,6 @@ pub record HasLine (left : Option (List ℕ)) (line : List ℕ) : Type 0 where
   pub there : IfSome left (λ xs. true ≡ nat_lt 0 (length xs))
   pub text : IfSome left (λ xs. line ≡ line_of xs)
 
-pub reading_begun : (input : Option (List ℕ)) → StillReads input input nothing_made 1
-reading_begun None = tt
-reading_begun (Some input) = ([], refl, refl, refl, refl)
-
 -- the lines so far are all where nothing more leads
 all_lead : (input : List ℕ) (front rest : List (List (List ℕ))) → leading_lines input ≡ front ++ rest → rest ≡ [] → leading_lines input ≡ front
 all_lead input front rest e n = e ∙ ap (λ r. front ++ r) n ∙ append-nil front

@@ -1,6 +1,6 @@
 -- What the words and the input call for.
-use Rattle.std.proofs.Common.{◌≡◌, ◌≢◌, ◌≤◌, ℕ, Bool, true, false, if◌then◌else◌, arith, is_none, map, string_bytes, Bor, String, Global, Vec, append_assoc, decimal, List, [], ◌∷◌, ◌++◌, refl, sym, subst, rules, take, inl, inr, ◌⊎◌}
-use Rattle.std.specs.Prelude.{Option, Some, None, Result, Ok, Err, OnOk, OnErr, IfErr, IfSome, MatchResult, codes, ⊤}
+use Rattle.std.proofs.Common.{◌≡◌, ◌≢◌, ◌≤◌, ℕ, Bool, true, false, if◌then◌else◌, arith, is_none, map, string_bytes, Bor, String, Global, Vec, append_assoc, decimal, List, [], ◌∷◌, ◌++◌, refl, subst, rules, take, inl, inr, ◌⊎◌}
+use Rattle.std.specs.Prelude.{Option, Some, None, Result, Ok, Err, OnOk, OnErr, IfSome, MatchResult, codes, ⊤}
 use Rattle.std.specs.List.{list_any}
 use Rattle.std.specs.Result.{IsErrAnd}
 use Rattle.std.specs.Io.KnownBytes.{Appends}
@@ -87,9 +87,6 @@ told : {E : Type 0} (failed : Type 0) (old new : Option (List ℕ)) (text line :
 told failed old new text line (Ok x) t whole part f = (text, whole, inl t)
 told failed old new text line (Err x) t whole (k, part) f = (take k line, rw t at part, inr (f, (k, refl)))
 
-pub reported_line : {E : Type 0} (failed : Type 0) (old new : Option (List ℕ)) (e : Fault) (text : List ℕ) (r : Result (Unit {0}) E) → text ≡ fault_line e → OnOk r (Appends old new text) → OnErr r ((k : ℕ) × Appends old new (take k text)) → OnErr r failed → Reports failed old new e
-reported_line failed old new e text r t whole part f = let (errs, grown, is) = told failed old new text (fault_line e) r t whole part f in (errs, grown, inl is)
-
 -- out of memory was reported in the place of a bad map line
 pub reported_memory : {E : Type 0} (failed : Type 0) (old new : Option (List ℕ)) (e : Fault) (text : List ℕ) (r : Result (Unit {0}) E) → IsNumbered e → text ≡ fault_line fault.Memory → OnOk r (Appends old new text) → OnErr r ((k : ℕ) × Appends old new (take k text)) → OnErr r failed
     → Reports failed old new e
@@ -122,16 +119,6 @@ module _ (handed : Bool) where
   no_map words input left out e (Ok x) w h l is = absurd is
   no_map words input left out e (Err x) w h l is = rw is (no_map_of words input left out e w h l)
 
-  -- a fault of the map that is caused
-  cause_of : (reads writes : Type 0) (e : MapFault) → (e ≡ map_fault.Input → reads) → IsCaused reads writes (fault_of_map e)
-  cause_of reads writes (map_fault.BadLine n) h = tt
-  cause_of reads writes map_fault.Memory h = tt
-  cause_of reads writes map_fault.Input h = h refl
-
-  pub caused_by_map : (reads writes : Type 0) (e : MapFault) (r : Result ℕ Fault) → (e ≡ map_fault.Input → reads) → IsErrAnd r (λ x. x ≡ fault_of_map e) → IfErr r (IsCaused reads writes)
-  caused_by_map reads writes e (Ok x) h is = absurd is
-  caused_by_map reads writes e (Err x) h is = rw is (cause_of reads writes e h)
-
   pub no_memory : (words : List (List ℕ)) (input left out : Option (List ℕ)) (r : Result ℕ Fault) → IsUsage words → Leaves input left (λ bytes rest. rest ≡ after_map bytes) → IsErrAnd r (λ x. x ≡ fault.Memory)
       → MatchResult r (HasAnswer handed words input left out out) (Explains handed words input left out out)
   no_memory words input left out (Ok x) w l is = absurd is
@@ -155,15 +142,6 @@ module _ (handed : Bool) where
   no_answer words asked input left out made e (Ok x) a m l h is = absurd is
   no_answer words asked input left out made e (Err x) a m l h is = rw is (no_answer_of words asked input left out made e a m l h)
 
-  -- what refuses an answer is no failure of a stream
-  cause_of_answer : (reads writes : Type 0) (e : AnswerFault) → IsCaused reads writes (fault_of_answer e)
-  cause_of_answer reads writes answer_fault.NotMultiKey = tt
-  cause_of_answer reads writes answer_fault.Memory = tt
-
-  pub caused_by_answer : (reads writes : Type 0) (e : AnswerFault) (r : Result ℕ Fault) → IsErrAnd r (λ x. x ≡ fault_of_answer e) → IfErr r (IsCaused reads writes)
-  caused_by_answer reads writes e (Ok x) is = absurd is
-  caused_by_answer reads writes e (Err x) is = rw is (cause_of_answer reads writes e)
-
   pub answered : (words : List (List ℕ)) (input left out new : Option (List ℕ)) (made : Made) (text : List ℕ) (status : ℕ) → IfSome input (λ bytes. IsMap (leading_lines bytes) made) → Leaves input left (λ bytes rest. rest ≡ after_map bytes)
       → IsNodeOrSplit made.registry (insert_ranges [] made.ranges) words text status → Appends out new text → HasAnswer handed words input left out new status
   answered words None left out new made text status m l a t = (text, t, tt)
@@ -182,10 +160,6 @@ module _ (handed : Bool) where
       → Leaves input left (λ bytes rest. rest ≡ after_map bytes) → IsNodeOrSplit made.registry (insert_ranges [] made.ranges) words text status → Appends out new (take k text) → IsErrAnd r (λ x. x ≡ fault.Output) → MatchResult r (HasAnswer handed words input left out new) (Explains handed words input left out new)
   not_written words input left out new made text status k (Ok x) m l a t is = absurd is
   not_written words input left out new made text status k (Err x) m l a t is = rw is (begun words input left out new made text status k m l a t)
-
-  pub caused_by_output : (reads writes : Type 0) (r : Result ℕ Fault) → writes → IsErrAnd r (λ x. x ≡ fault.Output) → IfErr r (IsCaused reads writes)
-  caused_by_output reads writes (Ok x) h is = absurd is
-  caused_by_output reads writes (Err x) h is = rw is h
 
   -- The run of commands.
   pub ran_to_end : (words : List (List ℕ)) (direction : Direction) (input mid left out new : Option (List ℕ)) (made : Made) → IsRunWords direction words → IfSome input (λ bytes. IsMap (leading_lines bytes) made) → Leaves input mid (λ bytes rest. rest ≡ after_map bytes)
@@ -216,10 +190,6 @@ module _ (handed : Bool) where
       → Leaves input mid (λ bytes rest. rest ≡ after_map bytes) → RunStops handed direction made.registry (insert_ranges [] made.ranges) first mid left out new e → IsErrAnd r (λ x. x ≡ fault_of_run e) → MatchResult r (HasAnswer handed words input left out new) (Explains handed words input left out new)
   run_stopped words direction first input mid left out new made e (Ok x) asked f m l h is = absurd is
   run_stopped words direction first input mid left out new made e (Err x) asked f m l h is = rw is (stopped_early words direction first input mid left out new made e asked f m l h)
-
-  pub caused_as : (reads writes : Type 0) (e : RunFault) (r : Result ℕ Fault) → IsCaused reads writes (fault_of_run e) → IsErrAnd r (λ x. x ≡ fault_of_run e) → IfErr r (IsCaused reads writes)
-  caused_as reads writes e (Ok x) h is = absurd is
-  caused_as reads writes e (Err x) h is = rw is h
 
   -- The run as a whole.
   called_as : (words : List (List ℕ)) (input left : Option (List ℕ)) (outs errs line : List ℕ) → errs ≡ line → Leaves input left (λ bytes rest. Output handed words bytes rest outs line 2) → Leaves input left (λ bytes rest. Output handed words bytes rest outs errs 2)

@@ -2,7 +2,7 @@
 use Rattle.std.proofs.Common.{◌≡◌, ℕ, ◌+◌, ◌-◌, ◌≤◌, List, ◌++◌, append_assoc, sym, ◌∙◌, ap, arith, length, take, drop}
 use Rattle.std.proofs.Math.Seq.{take-add, take-length}
 use Rattle.std.proofs.lemmas.List.{length-drop}
-use Rattle.std.specs.Prelude.{Option, Some, None, Result, Ok, Err, OnErr}
+use Rattle.std.specs.Prelude.{Option, Some, None}
 use Rattle.std.specs.Io.KnownBytes.{Appends, Keeps}
 
 pub grows : (old mid new : Option (List ℕ)) (a b ab : List ℕ) → Appends old mid a → Appends mid new b → ab ≡ a ++ b → Appends old new ab
@@ -25,12 +25,3 @@ written d n text = take-add d n text ∙ ap (λ t. take d text ++ take n t) (sym
 
 pub fits : (d n : ℕ) (text : List ℕ) → d ≤ length text → n ≤ length (take (length text - d) (drop d text)) → d + n ≤ length text
 fits d n text h k = let e : n ≤ length text - d = rw (rest_all d text, length-drop) at k in omega arith
-
--- what holds of either result holds of an error
-pub on_either : {T E : Type 0} (r : Result T E) (P : Type 0) → P → OnErr r P
-on_either (Ok x) P p = tt
-on_either (Err e) P p = p
-
--- a text that was written whole, and kept, is one of its beginnings
-pub whole_written : (old mid new : Option (List ℕ)) (text : List ℕ) → Appends old mid text → Keeps mid new → (k : ℕ) × Appends old new (take k text)
-whole_written old mid new text a k = (length text, rw (take-length text) (kept old mid new text a k))

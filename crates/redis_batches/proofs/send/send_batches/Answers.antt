@@ -18,7 +18,8 @@ use Rattle.redis_batches.proofs.Asked.{asked_last, asked_more, asked_next, asked
 use Rattle.redis_batches.proofs.Untaken.{not_taken_wider}
 use Rattle.redis_batches.proofs.Entries.{get_there}
 use Rattle.redis_batches.proofs.Given.{given_next}
-use Rattle.redis_batches.proofs.Putting.{map-put_at, set_there}
+use Rattle.redis_cluster.proofs.Sending.{set_there}
+use Rattle.redis_batches.proofs.Putting.{map-put_at}
 use Rattle.redis_batches.proofs.Round as round
 use Rattle.redis_batches.proofs.send.send_batches.Goals as goal
 

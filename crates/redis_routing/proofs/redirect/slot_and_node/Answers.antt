@@ -2,7 +2,8 @@ use Rattle.std.proofs.Common.{◌≡◌, true, None, Some, lit<, subst, sym}
 use Rattle.std.proofs.lemmas.Str.Pattern.{contains_char}
 use Rattle.cluster_slots.proofs.Lists.{lacks_from, free_from}
 use Rattle.redis_routing.specs.RedirectText.{IsSlotText, IsNodeText}
-use Rattle.redis_routing.proofs.RedirectTexts.{lacks_each, lacks_at, at_space, no_space, same_cut}
+use Rattle.cluster_slots.proofs.AddressTexts.{lacks_each}
+use Rattle.redis_routing.proofs.RedirectTexts.{lacks_at, at_space, no_space, same_cut}
 use Rattle.redis_routing.proofs.redirect.slot_and_node.Goals as goal
 
 pub returns-in_err-number : goal.returns-in_err-number
