@@ -16,8 +16,6 @@ use Rattle.redis_batch_bytes.specs.Numbered.{AreRuns, IsNumberedMap, number_at, 
 abbrev Entry : Type 0
 Entry = RangeEntry SlotNodes
 
-}
-
 module _ (numbers : List ℕ) (start end : ℕ) (entries : List Entry) (so_far : AreRuns numbers start entries) (straight : start ≤ end)
     (same : (slot : ℕ) → start ≤ slot → slot ≤ end → number_at numbers slot ≡ number_at numbers end) where
   -- a run that has no number
@@ -148,8 +146,6 @@ pub record GoesOn (numbers : List ℕ) (start slot : ℕ) (entries : List Entry)
   pub low : start ≤ slot
   pub runs : AreRuns numbers start entries
   pub same : (before : ℕ) → start ≤ before → before < slot → (slot < length numbers) × (number_at numbers before ≡ number_at numbers slot)
-
-}
 
 -- where the next slot has the same number
 pub run_goes_on : (numbers : List ℕ) (start slot : ℕ) (entries : List Entry) → GoesOn numbers start slot entries → slot + 1 < length numbers → number_at numbers (slot + 1) ≡ number_at numbers slot

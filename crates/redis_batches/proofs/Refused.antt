@@ -1,11 +1,11 @@
 -- Where nodes refuse some parts: what stands, and what is answered, is as if one server had taken the others alone.
-use Rattle.std.proofs.Common.{◌≡◌, ℕ, List, [], ◌∷◌, Bool, Option, None, Some, All, refl, sym, subst, filter}
+use Rattle.std.proofs.Common.{◌≡◌, ℕ, List, [], ◌∷◌, Option, None, Some, All, refl, sym, subst, filter}
 use Rattle.std.specs.Prelude.{nat_eq}
 use Rattle.std.proofs.lemmas.List.Elements.{All-nil, All-cons, All-head, All-tail, All-filter}
 use Rattle.resp_core.specs.ErrorParts.{ErrorParts}
 use Rattle.redis_cluster.specs.Unsplit.{Step, Keyspace}
 use Rattle.redis_batches.specs.Served.{Effect, IsLocal}
-use Rattle.redis_batches.specs.Turns.{all_after, answers, of_slot}
+use Rattle.redis_batches.specs.Turns.{all_after, answers}
 use Rattle.redis_batches.specs.Pipeline.{ended, Answer, Serve, AreSlotsOf, Planned, pieces, Numbered, numbered, slot_of, KeepsSlots, Refusals, refused_by}
 use Rattle.redis_batches.proofs.Lists.{all_by_slot}
 use Rattle.redis_batches.proofs.Schedule.{one_keyspace, answers_hold}
@@ -44,8 +44,3 @@ module _ {C : Type 0} (step : Step C) (serve : Serve C) (refusals : Refusals) wh
     -- What holds of each part with its answer there holds of each that was sent.
     pub refused_answers : (P : Numbered × Answer → Type 0) → All P (answers (ended step serve refusals) (numbered ps) ks) → All P (answers (ended step serve refusals) sent ks)
     refused_answers = answers_hold slot_of (ended step serve refusals) (numbered ps) sent local_all local_sent keeps ks
-
--- Sent again after refusals, in any rounds: what was taken in the end, in the order of time, leaves what one server leaves that takes
--- these parts in the order of the pipeline, as long as those of each slot were taken in that order.
-module _ {C : Type 0} (step : Step C) (serve : Serve C) (taken : Numbered → Bool) (ps : List Planned) (are : All (λ p. AreSlotsOf p.task p.slots) ps)
-    (sent : List Numbered) (keeps : (slot : ℕ) → of_slot slot_of slot (filter taken (numbered ps)) ≡ of_slot slot_of slot sent) (ks : Keyspace C) where

@@ -13,8 +13,6 @@ use Rattle.redis_batches.specs.Pipeline.{Answer}
 use Rattle.redis_batches.specs.Rounds.{IsSentOn, SendsOn, goes_to, is_settled}
 use Rattle.redis_batches.specs.declared.going.Walk.{Walk}
 
-}
-
 -- a part that was sent on
 pub gone_more : (slots : List ℕ) (parts : List (ℕ × Option Address)) (number slot : ℕ) (node : Address) (old new : Walk) → slot_at slots number ≡ slot
     → new.numbers.items ≡ cond (has_slot old.settled.keys slot) old.numbers.items (old.numbers.items ++ number ∷ [])
