@@ -30,16 +30,16 @@ use std::alloc::Global;
 /// held when it ran the key's part. Per slot, the parts go out in the order of the pipeline. So a
 /// node runs them in this order, with commands of other clients between them.
 ///
-/// Where the nodes keep to one meaning and refuse nothing, keyspace and replies are those of one
+/// If the nodes keep to one meaning and refuse nothing, keyspace and replies are those of one
 /// server that takes the commands one after the other, whatever the order and whatever a command
 /// does to the keys of its slot. The reply of a command of which a part was refused is the error; of
 /// such nodes that part did nothing.
 ///
 /// # Errors
 ///
-/// In this order: what `PipelinePlan::new` refuses, and `BadOrder` where the order does not name each
-/// batch once. Nothing was sent then. `Node` where a batch was not taken: those before it in the
-/// order were, and no later one was sent. `Memory` where memory ran out once all were taken.
+/// In this order: what `PipelinePlan::new` refuses, and `BadOrder` if the order does not name each
+/// batch once. Nothing was sent then. `Node` if a batch was not taken: those before it in the
+/// order were, and no later one was sent. `Memory` if memory ran out once all were taken.
 pub fn drive_pipeline<N: BatchNodes>(
     alloc: Global,
     commands: &[Cmd],
@@ -130,7 +130,7 @@ pub fn drive_pipeline<N: BatchNodes>(
     }
 }
 
-/// The plan of commands, where the order names its batches.
+/// The plan of commands, if the order names its batches.
 pub(super) fn plan_in_order<'a, N: BatchNodes>(
     alloc: Global,
     commands: &'a [Cmd],

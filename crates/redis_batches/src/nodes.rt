@@ -36,7 +36,7 @@ pub trait BatchNodes {
     /// What the nodes hold, what was sent so far, and whether the last send ran out of memory.
     ghost state: { Self → State Cell };
 
-    /// Whether a command whose entry finds so many others in the trace may end so, without an
+    /// Whether a command whose entry comes after this many others may end so, without an
     /// answer.
     ghost may_refuse: { Self → ℕ → Ending → Type 0 };
 
@@ -62,7 +62,7 @@ pub trait BatchNodes {
 
     /// Sends commands to a node, which takes them one after the other, and gives an answer to each,
     /// in their order. That is a reply, an error of the command's own, or the error that the node
-    /// refused it with, as `MOVED` is. `SET a 1`, `INCR a` and `GET b` go out in one write, where one
+    /// refused it with, as `MOVED` is. `SET a 1`, `INCR a` and `GET b` go out in one write, if one
     /// node serves both slots, and three answers come back. Of nodes that keep to their meaning, what
     /// was refused did nothing.
     ///
@@ -71,8 +71,8 @@ pub trait BatchNodes {
     /// `Refused` and `Redirected` if the node took none of them: the trace stays, and so does the
     /// keyspace of nodes that keep to their meaning. `Memory` if nothing was sent: keyspace and
     /// trace stay. `Lost` if answers are missing: which commands took effect is not known, and the
-    /// trace has an entry for each that tells so. Where memory ran out before all were taken, the mark
-    /// tells so, and the trace has those that were. The next one, unless it is over many keys, may
+    /// trace has an entry for each that says so. If memory ran out before all were taken, the mark
+    /// says so, and the trace has those that were. The next one, unless it is over many keys, may
     /// have changed keys of its slot.
     fn send_batch(
         &mut self,

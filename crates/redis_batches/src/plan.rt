@@ -231,7 +231,7 @@ fn all_set(flags: &[bool]) -> bool
     flags.iter().all(|flag| *flag)
 }
 
-/// Room for so many answers.
+/// Room for this many answers.
 fn no_answers(alloc: Global, count: usize) -> Result<Vec<Result<Value, RedisError>>, AllocError>
     ensures { IfOk result (λ answers. length answers.items ≡ count) }
 {
@@ -242,7 +242,7 @@ fn no_answers(alloc: Global, count: usize) -> Result<Vec<Result<Value, RedisErro
     Ok(answers)
 }
 
-/// Moves each answer to its place. Where each is the one that a list has at that place, these
+/// Moves each answer to its place. If each is the one that a list has at that index, these
 /// places are right afterwards, and those that were right stay so.
 pub(super) fn put_answers(
     out: &mut Vec<Result<Value, RedisError>>,

@@ -38,7 +38,7 @@ use std::alloc::{AllocError, Global};
 /// drive_pipeline_retrying(alloc, commands, read_only, slot_map, None, order, 5, nodes)
 /// ```
 ///
-/// A part goes out again only where each later part of its slot was sent on, too. Else its error is
+/// A part goes out again only if each later part of its slot was sent on, too. Else its error is
 /// its answer: after `SET a 1`, sent on, and `GET a`, answered, `SET a 1` would come too late. An
 /// error that sends nothing on may be a command's own, which took effect, so it counts as an answer.
 /// The parts of a slot go where the last of them was sent on to, so that they stay in their order.
@@ -49,7 +49,7 @@ use std::alloc::{AllocError, Global};
 /// held when it gave the last answer to the key's part. Per slot, the last answers come in the order
 /// of the pipeline.
 ///
-/// Where nodes keep to one meaning, keyspace and replies are those of one server that takes the parts
+/// If nodes keep to one meaning, keyspace and replies are those of one server that takes the parts
 /// that were not refused at last, in the order of the pipeline. This has one more premise: no command
 /// of the pipeline answers an error of its own that reads as one of those three, as a script may.
 ///
@@ -58,9 +58,9 @@ use std::alloc::{AllocError, Global};
 ///
 /// # Errors
 ///
-/// As `drive_pipeline` has them. `Node` where a batch of some round was not taken: how many of that
+/// As `drive_pipeline` has them. `Node` if a batch of some round was not taken: how many of that
 /// round were before it, and how many rounds were sent whole before that, the first one counted.
-/// `Memory` where memory ran out between two rounds or at the end: the replies are lost.
+/// `Memory` if memory ran out between two rounds or at the end: the replies are lost.
 pub fn drive_pipeline_retrying<N: BatchNodes>(
     alloc: Global,
     commands: &[Cmd],
@@ -133,7 +133,7 @@ pub fn drive_pipeline_retrying<N: BatchNodes>(
     }
 }
 
-/// Sends rounds of the parts that go out, no more than so many.
+/// Sends rounds of the parts that go out, at most `retries`.
 fn send_again<N: BatchNodes>(
     alloc: Global,
     parts: &[PartCommand<'_>],
@@ -180,7 +180,7 @@ fn send_again<N: BatchNodes>(
     Ok(())
 }
 
-/// The fault of a round behind so many others.
+/// The fault of a round after this many others.
 fn fault_behind(error: PipelineError, rounds: usize) -> PipelineError
     ensures { result ≡ fault_behind error rounds }
 {

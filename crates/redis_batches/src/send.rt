@@ -24,7 +24,7 @@ pub struct Stopped {
     pub error: SendError,
     /// How many batches of its round were taken before it.
     pub answered: usize,
-    /// How many rounds were sent whole before that one: none, where it is the first.
+    /// How many rounds were sent whole before that one: 0 if it is the first.
     pub rounds: usize,
 }
 
@@ -46,13 +46,13 @@ impl fmt::Display for Stopped {
 
 impl Error for Stopped {}
 
-/// Sends the batches of a plan in an order, a list that names each once, and tells the plan their
+/// Sends the batches of a plan in an order, a list that names each once, and gives the plan their
 /// answers. Whatever the order, keyspace and answers are those of one server that takes the parts in
 /// the order of the pipeline, except those that a node refused.
 ///
 /// # Errors
 ///
-/// Where a node took none of a batch, or memory ran out: how many batches were taken before it.
+/// If a node took none of a batch, or memory ran out: how many batches were taken before it.
 pub fn send_batches<N: BatchNodes>(
     alloc: Global,
     plan: &mut BatchPlan<'_>,
@@ -160,7 +160,7 @@ fn send_one<N: BatchNodes>(
     nodes.send_batch(node, batch.as_slice())
 }
 
-/// Tells the answers to a batch that was not told yet.
+/// Gives the plan the answers to a batch that has none yet.
 fn tell_first(plan: &mut BatchPlan<'_>, number: usize, answers: Vec<Result<Value, RedisError>>)
     requires first { slice_get plan.old.told number ≡ Some false }
     requires long { (places : List ℕ) × (slice_get plan.old.places number ≡ Some places)

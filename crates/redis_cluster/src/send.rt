@@ -22,7 +22,7 @@ use crate::retry::Retry;
 use redis_routing::Routable;
 use resp_core::Value;
 
-/// Sends the parts of a plan in an order, each by its retry, and tells it the replies. A route
+/// Sends the parts of a plan in an order, each by its retry, and gives it the replies. A route
 /// that has no retry is sent once.
 pub(super) fn send_all<R: Routable, N: Nodes>(
     plan: &mut SplitPlan<'_, R>,

@@ -29,7 +29,7 @@ pub enum Redirect {
 pub enum RoutingInfo {
     /// To one node.
     SingleNode(SingleNodeRoutingInfo),
-    /// To several nodes; the policy says how their replies make one, where the layer knows.
+    /// To several nodes; the policy says how their replies make one, if the layer knows.
     MultiNode((MultipleNodeRoutingInfo, Option<ResponsePolicy>)),
 }
 

@@ -1,7 +1,7 @@
 use super::read_only::ReadOnlyNames;
 use super::registry::Registry;
 
-/// What a caller tells of names: which commands only read, and which names are registered beside
+/// What a caller says of names: which commands only read, and which names are registered beside
 /// those of the tables.
 #[derive(Clone, Copy)]
 pub struct Names<'a> {

@@ -28,7 +28,7 @@ pub enum ResponsePolicy {
     OneSucceeded,
     /// The first reply that is not empty, or an empty one where all are: `RANDOMKEY`.
     FirstSucceededNonEmptyOrAllEmpty,
-    /// One of the replies, where every node succeeded: `MSET key1 value1 key2 value2`.
+    /// One of the replies, if every node succeeded: `MSET key1 value1 key2 value2`.
     AllSucceeded,
     /// Lists of 0 and 1, joined place by place: `SCRIPT EXISTS sha1`.
     AggregateLogical(LogicalAggregateOp),

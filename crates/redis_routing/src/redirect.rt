@@ -7,7 +7,7 @@ use std::alloc::{AllocError, Global};
 
 impl Redirect {
     /// Reads the text of a server's error, as `MOVED 3999 127.0.0.1:6381` or `ASK 3999 ::1:7001`:
-    /// the slot that it tells, and where it sends the client on. `None` for each other text.
+    /// the slot that it names, and where it sends the client on. `None` for each other text.
     ///
     /// The address is read as by `split_node_address`. In `MOVED 3999 :6381` the host is left out:
     /// it is then `answering`, the host of the node that sent the error, unless that is empty. In

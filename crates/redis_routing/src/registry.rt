@@ -124,7 +124,7 @@ impl Registry {
     /// Registers the name in ASCII upper case, with how the arguments of its commands make tuples
     /// and how the replies to their parts make one.
     ///
-    /// A name is one word, or two with a space between them, where the first word is one that a
+    /// A name is one word, or two with a space between them, if the first word is one that a
     /// second belongs to, as that of `OBJECT ENCODING` is.
     ///
     /// # Errors

@@ -33,7 +33,7 @@ impl MultiSlotArgPattern {
         }
     }
 
-    /// Whether so many arguments make whole tuples, and at least one.
+    /// Whether this many arguments make whole tuples, and at least one.
     pub fn fits(self, count: usize) -> bool
         ensures { result ≡ fits self count }
     {
@@ -45,7 +45,7 @@ impl MultiSlotArgPattern {
             }
     }
 
-    /// Whether so many arguments are complete: they make whole tuples, and where keys share a last
+    /// Whether this many arguments are complete: they make whole tuples, and if keys share a last
     /// argument, it is there.
     pub fn is_complete(self, count: usize) -> bool
         ensures { result ≡ is_complete self count }
@@ -56,7 +56,7 @@ impl MultiSlotArgPattern {
         }
     }
 
-    /// How many of so many arguments make tuples: those after them are shared by all.
+    /// How many of this many arguments make tuples: those after them are shared by all.
     pub fn own_len(self, count: usize) -> usize
         ensures own { result ≡ tuple_args_count self count }
         ensures within { result ≤ count }

@@ -22,7 +22,7 @@ use std::alloc::{AllocError, Global};
 
 impl RoutingInfo {
     /// Where a command goes: `GET foo` to slot 12182, `DBSIZE` to each primary, `ECHO hello` to any
-    /// node. It is `None` where the command has no name, where its tuples are not whole, or where
+    /// node. It is `None` if the command has no name, if its tuples are not whole, or if
     /// commands of its name go nowhere. So it is where the argument that it is routed by is
     /// missing, no number or no slot (`CLUSTER COUNTKEYSINSLOT 16384`). A name that no table has
     /// goes to the slot of argument 1, or without one to any node.
@@ -64,7 +64,7 @@ impl RoutingInfo {
         for_command(alloc, command, read_only, None)
     }
 
-    /// Where a command goes, as `for_routable` has it, where names that the tables don't have may
+    /// Where a command goes, as `for_routable` has it, but names that the tables don't have may
     /// be registered: a registered name is split by slot. With `OBJECT PUT` registered for pairs,
     /// `object put a 1 b 2 a 3` has the routes 15495 with indices 0, 1, 4, 5, and 3300 with indices
     /// 2, 3, as `command_for_multi_slot_indices_with` takes them after the words of the name.
@@ -98,7 +98,7 @@ impl RoutingInfo {
     }
 }
 
-/// Where a command goes by the tables, and by a registry where there is one. A name takes memory
+/// Where a command goes by the tables, and by a registry if there is one. A name takes memory
 /// only where it is longer than each name of the tables.
 fn for_command<R: Routable>(
     alloc: Global,
@@ -125,7 +125,7 @@ fn for_command<R: Routable>(
     by_name(alloc, command, name, read_only, registry)
 }
 
-/// Where a command of the name goes by the tables, and by a registry where there is one.
+/// Where a command of the name goes by the tables, and by a registry if there is one.
 fn by_name<R: Routable>(
     alloc: Global,
     command: &R,
@@ -142,7 +142,7 @@ fn by_name<R: Routable>(
     for_name(alloc, command, name, read_only, route_by, policy)
 }
 
-/// How the name is routed, and its policy, by the tables, and by a registry where there is one.
+/// How the name is routed, and its policy, by the tables, and by a registry if there is one.
 fn looked_up(name: &[u8], registry: Option<&Registry>) -> (Option<RouteBy>, Option<ResponsePolicy>)
     ensures routing { result.0
         ≡ (tables_with (unwrap_or (option_copied registry.entry) [])).route_by name.now }

@@ -30,7 +30,7 @@ pub fn command_for_multi_slot_indices<R: Routable>(
     command_for_multi_slot_indices_with(alloc, original, 1, indices)
 }
 
-/// The part of a command whose name has so many words, as `name_words` counts them. It has these
+/// The part of a command whose name has this many words, as `name_words` counts them. It has these
 /// words as they are spelt, and then the arguments at these indices, which are counted from 0 after
 /// the words. `command_for_multi_slot_indices` is this call for names of one word.
 ///
@@ -58,7 +58,7 @@ pub fn command_for_multi_slot_indices_with<R: Routable>(
     sub_command(alloc, original, words, indices)?.ok_or_else(missing_argument)
 }
 
-/// Whether the last of so many words is a gap or not there.
+/// Whether the last of this many words is a gap or not there.
 fn lacks_last_word<R: Routable>(original: &R, words: usize) -> bool
     ensures { IsTrue result
         → (0 < words) × (argument (R.args original.now) (words - 1) ≡ None) }
@@ -66,7 +66,7 @@ fn lacks_last_word<R: Routable>(original: &R, words: usize) -> bool
     words > 0 && original.arg_idx(words - 1).is_none()
 }
 
-/// The part of a command that has these arguments after a name of so many words, if none of them
+/// The part of a command that has these arguments after a name of this many words, if none of them
 /// is a gap or not there.
 pub(super) fn sub_command<R: Routable>(
     alloc: Global,
@@ -120,7 +120,7 @@ fn arg_len(arg: Option<&[u8]>) -> usize
     arg.map_or(0, |text| text.len())
 }
 
-/// The words of the name as a command with room for so many items and bytes, if none of them is a
+/// The words of the name as a command with room for this many items and bytes, if none of them is a
 /// gap or not there.
 fn name_of<R: Routable>(
     alloc: Global,
@@ -142,7 +142,7 @@ fn name_of<R: Routable>(
     Ok(Some(command))
 }
 
-/// The argument at a place after a name of so many words. Where the sum does not fit, it is past
+/// The argument at an index after a name of this many words. If the sum does not fit, it is past
 /// the last argument of any command.
 fn behind_name<R: Routable>(original: &R, words: usize, index: usize) -> Option<&[u8]>
     ensures { option_copied result ≡ argument (R.args original.now) (index + words) }

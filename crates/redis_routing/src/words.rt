@@ -36,7 +36,7 @@ fn takes_second_in_any_case(first: &[u8]) -> bool
 }
 
 /// Writes the name of a command, as `Routable::command` answers it, at the front of the room, and
-/// tells how many bytes it has. `None` where there is no name or too little room. Takes no memory.
+/// tells how many bytes it has. `None` if there is no name or too little room. Takes no memory.
 #[inline]
 pub(super) fn short_name<R: Routable>(command: &R, room: &mut [u8]) -> Option<usize>
     ensures within { IfSome result (λ len. len ≤ length room.new) }
@@ -69,7 +69,7 @@ fn put_upper_case(room: &mut [u8], at: usize, text: &[u8])
     word.make_ascii_uppercase();
 }
 
-/// Writes a space and the word in ASCII upper case after so many bytes, and tells how many there
+/// Writes a space and the word in ASCII upper case after this many bytes. Returns how many there
 /// are then, if there is room.
 fn put_second(room: &mut [u8], len: usize, word: &[u8]) -> Option<usize>
     requires { len ≤ length room.old }
