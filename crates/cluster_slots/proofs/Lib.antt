@@ -1,4 +1,5 @@
 pub mod AddressTexts
+pub mod ArgPatterns
 pub mod Crc
 pub mod HashTags
 pub mod Lists

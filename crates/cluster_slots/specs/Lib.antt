@@ -1,9 +1,11 @@
 pub use Rattle.resp_core.specs.ErrorParts
 pub mod Address
 pub mod AddressText
+pub mod ArgPattern
 pub mod Bytes
 pub mod HashTag
 pub mod HostText
 pub mod KeySlot
+pub mod Lists
 pub mod Number
 pub mod SlotRoute

@@ -1,9 +1,9 @@
 -- What the tuples of some arguments do, one after the other.
 use Rattle.std.proofs.Common.{◌≡◌, ℕ, ◌+◌, ◌-◌, ◌≤◌, List, [], ◌∷◌, Vec, Global, length, take, drop, get_or, refl, sym, ap, ◌∙◌, length-drop, arith}
 use Rattle.std.proofs.lemmas.List.{length-map, take-map, drop-map, take_all}
-use Rattle.redis_routing.specs.Tuples.{width_of}
-use Rattle.redis_routing.specs.declared.route_by.MultiSlotArgPattern.{MultiSlotArgPattern}
-use Rattle.redis_routing.specs.declared.route_by.MultiSlotArgPattern.TheVariants.{KeysOnly, KeyValuePairs, KeysAndLastArg, KeyWithTwoArgTriples}
+use Rattle.cluster_slots.specs.ArgPattern.{width_of}
+use Rattle.cluster_slots.specs.declared.arg_pattern.MultiSlotArgPattern.{MultiSlotArgPattern}
+use Rattle.cluster_slots.specs.declared.arg_pattern.MultiSlotArgPattern.TheVariants.{KeysOnly, KeyValuePairs, KeysAndLastArg, KeyWithTwoArgTriples}
 use Rattle.redis_cluster.specs.Unsplit.{Act, Keyspace, Outcome, put, after, results}
 use Rattle.memory_nodes.specs.Parts.{words, key_tuples}
 use Rattle.memory_nodes.specs.Results.{HaveRoom}

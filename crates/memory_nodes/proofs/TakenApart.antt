@@ -4,14 +4,15 @@ use Rattle.std.specs.Prelude.{IsSome, option_and_then, slice_get}
 use Rattle.std.proofs.lemmas.List.{take-map, drop-map, length-map}
 use Rattle.std.specs.declared.vec.Vec.{Vec}
 use Rattle.std.specs.declared.alloc.Global.{Global}
+use Rattle.cluster_slots.specs.ArgPattern.{is_complete, tuple_args_count}
+use Rattle.cluster_slots.specs.declared.arg_pattern.MultiSlotArgPattern.{MultiSlotArgPattern}
 use Rattle.redis_routing.specs.Command.{command_name}
 use Rattle.redis_routing.specs.NameWords.{name_words_of}
 use Rattle.redis_routing.specs.PresentArguments.{arguments_before_gap, present_arguments_after, present_arguments}
 use Rattle.redis_routing.specs.Registry.{Registrations, Registered}
 use Rattle.redis_routing.specs.MultiKeyNames.{registered_as, split_of}
-use Rattle.redis_routing.specs.Tuples.{is_complete, tuple_args_count, shared_in}
+use Rattle.redis_routing.specs.Tuples.{shared_in}
 use Rattle.redis_routing.specs.declared.policy.ResponsePolicy.{ResponsePolicy}
-use Rattle.redis_routing.specs.declared.route_by.MultiSlotArgPattern.{MultiSlotArgPattern}
 use Rattle.redis_cluster.specs.MultiKey.{MultiKey, ReplyForm, multi_key, command_with, form_by_policy, is_whole, shape_of, tuples_by}
 use Rattle.redis_cluster.proofs.Shapes.{shared_is, tuples_are_placed, whole_is}
 use Rattle.redis_cluster.specs.PlacedTuples.{tuples_of}

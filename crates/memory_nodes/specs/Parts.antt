@@ -2,8 +2,8 @@
 use Rattle.std.specs.Prelude.{ℕ, List, Option, map, option_map, slice_get}
 use Rattle.std.specs.declared.vec.Vec.{Vec}
 use Rattle.std.specs.declared.alloc.Global.{Global}
+use Rattle.cluster_slots.specs.declared.arg_pattern.MultiSlotArgPattern.{MultiSlotArgPattern}
 use Rattle.redis_routing.specs.Tuples.{tuples_from}
-use Rattle.redis_routing.specs.declared.route_by.MultiSlotArgPattern.{MultiSlotArgPattern}
 use Rattle.redis_cluster.specs.MultiKey.{KeyTuple, MultiKey, ReplyForm, form_by_policy}
 use Rattle.redis_cluster.specs.PlacedTuples.{unplaced}
 use Rattle.redis_cluster.specs.Unsplit.{Act}

@@ -10,17 +10,17 @@ use Rattle.resp_core.specs.Reply as reply
 use Rattle.resp_core.specs.declared.error.ErrorKind.{ErrorKind}
 use Rattle.resp_core.specs.declared.error.ErrorKind.TheVariants.{UnexpectedReturnType, OutOfMemory}
 use Rattle.resp_core.proofs.Views.{items_in-replies_of}
+use Rattle.cluster_slots.specs.Lists.{flatten}
+use Rattle.cluster_slots.specs.declared.aggregate_op.AggregateOp.{AggregateOp}
+use Rattle.cluster_slots.specs.declared.aggregate_op.AggregateOp.TheVariants.{Min, Sum}
+use Rattle.cluster_slots.specs.declared.arg_pattern.MultiSlotArgPattern.{MultiSlotArgPattern}
 use Rattle.redis_combiners.specs.Aggregate.{aggregate_of, sum_of}
 use Rattle.redis_combiners.specs.ByPlaces.{by_places}
 use Rattle.redis_combiners.specs.AllItems.{all_items}
 use Rattle.redis_combiners.specs.Misfits.{first_misfit}
 use Rattle.redis_combiners.specs.SortedArrays.{array_or_refusal, sorted_arrays}
-use Rattle.redis_routing.specs.Lists.{flatten}
-use Rattle.redis_routing.specs.declared.policy.AggregateOp.{AggregateOp}
-use Rattle.redis_routing.specs.declared.policy.AggregateOp.TheVariants.{Min, Sum}
 use Rattle.redis_routing.specs.declared.policy.ResponsePolicy.{ResponsePolicy}
 use Rattle.redis_routing.specs.declared.policy.ResponsePolicy.TheVariants.{OneSucceeded, FirstSucceededNonEmptyOrAllEmpty, AllSucceeded, AggregateLogical, Aggregate, CombineArrays, Special, CombineMaps}
-use Rattle.redis_routing.specs.declared.route_by.MultiSlotArgPattern.{MultiSlotArgPattern}
 use Rattle.redis_routing.specs.Split.{Split, IsSplit, slots_of}
 use Rattle.redis_routing.specs.RoutingInfo.{route_lists}
 use Rattle.redis_cluster.specs.MultiKey.{KeyTuple, ReplyForm, list, count, okay, form_by_policy, tuples_of_slot}

@@ -4,8 +4,8 @@ use Rattle.std.specs.Prelude.{count_by, option_map, option_and_then, sum_by}
 use Rattle.std.proofs.lemmas.List.Sums.{sum_by-cons}
 use Rattle.std.proofs.lemmas.Int.{ints}
 use Rattle.resp_core.specs.Reply.{int}
+use Rattle.cluster_slots.specs.declared.aggregate_op.AggregateOp.TheVariants.{Sum}
 use Rattle.redis_combiners.specs.Aggregate.{aggregate_of, fits_i64, in_i64, numbers, total}
-use Rattle.redis_routing.specs.declared.policy.AggregateOp.TheVariants.{Sum}
 use Rattle.redis_cluster.specs.MultiKey.{KeyTuple, count}
 use Rattle.redis_cluster.specs.SlotItems.{items_of_slot}
 use Rattle.redis_cluster.specs.Unsplit.{TupleResult, reply_by}

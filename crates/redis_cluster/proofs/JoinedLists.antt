@@ -14,14 +14,14 @@ use Rattle.cluster_slots.specs.SlotRoute.{SlotRoute}
 use Rattle.resp_core.specs.Reply.{Reply, array, array_of, replies_of}
 use Rattle.resp_core.specs.declared.error.ErrorKind.TheVariants.{Client}
 use Rattle.resp_core.proofs.Cases.{by_test}
+use Rattle.cluster_slots.specs.Lists.{all_some, flatten}
+use Rattle.cluster_slots.specs.declared.arg_pattern.MultiSlotArgPattern.{MultiSlotArgPattern}
 use Rattle.redis_combiners.specs.AllItems.{all_items}
 use Rattle.redis_combiners.specs.ByPlaces.{by_places, items_of_index, single}
 use Rattle.redis_combiners.specs.KeyPlaces.{all_places, places}
-use Rattle.redis_routing.specs.Lists.{all_some, flatten}
 use Rattle.redis_combiners.specs.Misfits.{first_misfit, misfit, misfit_of}
 use Rattle.redis_combiners.specs.SortedArrays.{array_by_places, array_or_refusal, sorted_arrays}
 use Rattle.redis_combiners.proofs.Arranging.{items_at-cons}
-use Rattle.redis_routing.specs.declared.route_by.MultiSlotArgPattern.{MultiSlotArgPattern}
 use Rattle.redis_cluster.specs.MultiKey.{KeyTuple, tuples_of_slot}
 use Rattle.redis_cluster.specs.Orders.{NamesOnce, in_order, times}
 use Rattle.redis_cluster.specs.SlotItems.{items_of_slot}

@@ -4,12 +4,12 @@ use Rattle.std.specs.List.{flat_map}
 use Rattle.std.proofs.lemmas.Bool.{ne_eqb}
 use Rattle.std.proofs.lemmas.List.{append-nil, get_or_append_left, get_or-append-add, length-append, length_push, same_lists, take_at}
 use Rattle.std.proofs.lemmas.List.FromFn.{get_or-range_with_len, get_or-map-range_with_len, length-range_with_len}
+use Rattle.cluster_slots.specs.ArgPattern.{width_of}
+use Rattle.cluster_slots.specs.declared.arg_pattern.MultiSlotArgPattern.{MultiSlotArgPattern}
+use Rattle.cluster_slots.specs.declared.arg_pattern.MultiSlotArgPattern.TheVariants.{KeysOnly, KeyValuePairs, KeysAndLastArg, KeyWithTwoArgTriples}
+use Rattle.cluster_slots.proofs.ArgPatterns.{some_width}
 use Rattle.redis_combiners.specs.KeyPlaces.{own_arguments, places}
 use Rattle.redis_combiners.proofs.KeyPlaces.{heads, length-heads, places_are}
-use Rattle.redis_routing.proofs.Patterns.{some_width}
-use Rattle.redis_routing.specs.Tuples.{width_of}
-use Rattle.redis_routing.specs.declared.route_by.MultiSlotArgPattern.{MultiSlotArgPattern}
-use Rattle.redis_routing.specs.declared.route_by.MultiSlotArgPattern.TheVariants.{KeysOnly, KeyValuePairs, KeysAndLastArg, KeyWithTwoArgTriples}
 use Rattle.redis_cluster.specs.MultiKey.{KeyTuple}
 use Rattle.redis_cluster.proofs.Places.{numbers_of_slot}
 use Rattle.redis_cluster.proofs.SplitPlaces.{argument_places, places_of_part, shared_places}

@@ -4,9 +4,10 @@ use Rattle.std.specs.Prelude.{slice_get}
 use Rattle.std.proofs.Math.Seq.{take-length}
 use Rattle.std.specs.Simd.{first_chunks}
 use Rattle.std.proofs.lemmas.Bool.Decides.{nat_tests}
-use Rattle.redis_routing.specs.Tuples.{is_complete, keys_alone, keys_and_values, keys_and_two, shared_in}
-use Rattle.redis_routing.specs.declared.route_by.MultiSlotArgPattern.{MultiSlotArgPattern}
-use Rattle.redis_routing.specs.declared.route_by.MultiSlotArgPattern.TheVariants.{KeysOnly, KeyValuePairs, KeysAndLastArg, KeyWithTwoArgTriples}
+use Rattle.cluster_slots.specs.ArgPattern.{is_complete}
+use Rattle.cluster_slots.specs.declared.arg_pattern.MultiSlotArgPattern.{MultiSlotArgPattern}
+use Rattle.cluster_slots.specs.declared.arg_pattern.MultiSlotArgPattern.TheVariants.{KeysOnly, KeyValuePairs, KeysAndLastArg, KeyWithTwoArgTriples}
+use Rattle.redis_routing.specs.Tuples.{keys_alone, keys_and_values, keys_and_two, shared_in}
 use Rattle.redis_cluster.specs.MultiKey.{KeyTuple, is_whole, shape_of, tuples_by}
 use Rattle.redis_cluster.specs.PlacedTuples.{unplaced, tuples_of}
 

@@ -9,15 +9,17 @@ use Rattle.std.proofs.lemmas.List.Elements.{All-map}
 use Rattle.std.proofs.lemmas.Simd.{map-map}
 use Rattle.cluster_slots.specs.KeySlot.{key_slot}
 use Rattle.cluster_slots.specs.SlotRoute.{SlotRoute}
+use Rattle.cluster_slots.specs.ArgPattern.{is_complete}
+use Rattle.cluster_slots.specs.declared.arg_pattern.MultiSlotArgPattern.{MultiSlotArgPattern}
+use Rattle.cluster_slots.specs.declared.aggregate_op.AggregateOp.TheVariants.{Min, Sum}
+use Rattle.cluster_slots.proofs.ArgPatterns.{fits_some}
 use Rattle.redis_routing.specs.Command.{Arguments, command_name}
 use Rattle.redis_routing.specs.Names.{Names}
 use Rattle.redis_routing.specs.Policies.{joins_parts}
 use Rattle.redis_routing.specs.PresentArguments.{present_arguments}
 use Rattle.redis_routing.specs.Registry.{Registered, Registrations}
 use Rattle.redis_routing.specs.MultiKeyNames.{registered_as, split_of}
-use Rattle.redis_routing.specs.Tuples.{is_complete, shared_in, tuples_in}
-use Rattle.redis_routing.specs.declared.route_by.MultiSlotArgPattern.{MultiSlotArgPattern}
-use Rattle.redis_routing.specs.declared.policy.AggregateOp.TheVariants.{Min, Sum}
+use Rattle.redis_routing.specs.Tuples.{shared_in, tuples_in}
 use Rattle.redis_routing.specs.declared.policy.ResponsePolicy.{ResponsePolicy}
 use Rattle.redis_routing.specs.declared.policy.ResponsePolicy.TheVariants.{OneSucceeded, FirstSucceededNonEmptyOrAllEmpty, AllSucceeded, AggregateLogical, Aggregate, CombineArrays, Special, CombineMaps}
 use Rattle.redis_routing.proofs.CommandNames.{words_again}
@@ -27,7 +29,6 @@ use Rattle.redis_routing.specs.Routing.{route_of_slot, routes_of}
 use Rattle.redis_routing.specs.Split.{HasJoiningPolicy, policy_by_name, slots_of}
 use Rattle.redis_routing.proofs.Cover.{count_firsts}
 use Rattle.redis_routing.proofs.Picks.{complete_fits}
-use Rattle.redis_routing.proofs.Patterns.{fits_some}
 use Rattle.redis_routing.proofs.SelfRouting.{All-first_appearances, all_there, complete_again, present_arguments-part, same_contents, shared_again, tuples_again}
 use Rattle.redis_routing.proofs.SomeRoutes.{some_route}
 use Rattle.redis_cluster.specs.MultiKey.{KeyTuple, MultiKey, ReplyForm, list, count, okay, command_with, form_by_policy, is_whole, multi_key, part_of, shape_of, slots_in, tuples_by, tuples_of_slot}

@@ -5,16 +5,17 @@ use Rattle.std.specs.List.{flat_map, range_with_len}
 use Rattle.std.proofs.lemmas.Bool.Decides.{nat_tests}
 use Rattle.std.proofs.lemmas.List.{length-drop, length-map}
 use Rattle.std.proofs.lemmas.List.Elements.{All-map}
+use Rattle.cluster_slots.specs.ArgPattern.{is_complete, tuple_args_count, width_of}
+use Rattle.cluster_slots.specs.declared.arg_pattern.MultiSlotArgPattern.{MultiSlotArgPattern}
+use Rattle.cluster_slots.specs.declared.arg_pattern.MultiSlotArgPattern.TheVariants.{KeysOnly, KeyValuePairs, KeysAndLastArg, KeyWithTwoArgTriples}
+use Rattle.cluster_slots.proofs.ArgPatterns.{length-own, own_few}
 use Rattle.redis_routing.specs.Command.{Arguments}
 use Rattle.redis_routing.specs.NameWords.{name_words_of}
 use Rattle.redis_routing.specs.PresentArguments.{present_arguments}
 use Rattle.redis_routing.specs.Registry.{Registrations}
-use Rattle.redis_routing.specs.Tuples.{Tuple, is_complete, keys_alone, keys_and_values, keys_and_two, tuple_args_count, places_of, tuples_from, tuples_in, width_of}
-use Rattle.redis_routing.specs.declared.route_by.MultiSlotArgPattern.{MultiSlotArgPattern}
-use Rattle.redis_routing.specs.declared.route_by.MultiSlotArgPattern.TheVariants.{KeysOnly, KeyValuePairs, KeysAndLastArg, KeyWithTwoArgTriples}
+use Rattle.redis_routing.specs.Tuples.{Tuple, keys_alone, keys_and_values, keys_and_two, places_of, tuples_from, tuples_in}
 use Rattle.redis_routing.specs.Parts.{first_appearances, slot_of, tuples_in_slot}
 use Rattle.redis_routing.specs.Routing.{route_of_slot, routes_of}
-use Rattle.redis_routing.proofs.Patterns.{length-own, own_few}
 use Rattle.redis_routing.proofs.Cover.{own_whole}
 use Rattle.redis_routing.proofs.Picks.{complete_fits}
 use Rattle.redis_routing.proofs.SelfRouting.{before_gap_short}

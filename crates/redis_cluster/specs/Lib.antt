@@ -1,3 +1,5 @@
+pub use Rattle.cluster_slots.specs.ArgPattern
+pub use Rattle.cluster_slots.specs.Lists
 pub use Rattle.redis_routing.specs.Upper
 pub use Rattle.redis_combiners.specs.Aggregate
 pub use Rattle.redis_combiners.specs.AllItems
@@ -12,7 +14,6 @@ pub use Rattle.redis_combiners.specs.Misfits
 pub use Rattle.redis_combiners.specs.SortedArrays
 pub use Rattle.redis_combiners.specs.Totals
 pub use Rattle.redis_routing.specs.Command
-pub use Rattle.redis_routing.specs.Lists
 pub use Rattle.redis_routing.specs.Names
 pub use Rattle.redis_routing.specs.NameTables
 pub use Rattle.redis_routing.specs.MultiKeyNames

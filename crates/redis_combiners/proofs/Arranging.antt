@@ -7,9 +7,9 @@ use Rattle.std.proofs.lemmas.Bool.{eqb-true, eqb-false, eq-eqb, lt-ltb, ltb-true
 use Rattle.std.proofs.lemmas.List.{get_or-replicate, get_or-set_same, get_or-set_other, length-replicate, length-set}
 use Rattle.std.proofs.lemmas.List.FromFn.{fill_by_all, length-map-range_with_len, get_or-map-range_with_len}
 use Rattle.resp_core.specs.Reply.{Reply}
+use Rattle.cluster_slots.specs.Lists.{all_some}
 use Rattle.redis_combiners.specs.ByPlaces.{items_of_index, single, by_places}
 use Rattle.redis_combiners.specs.Spots.{put_item, filled}
-use Rattle.redis_routing.specs.Lists.{all_some}
 use Rattle.resp_core.proofs.Cases.{by_test}
 
 pub items_at-cons : (k p : ℕ) (ps : List ℕ) (x : Reply) (xs : List Reply) → items_of_index k (p ∷ ps) (x ∷ xs) ≡ cond (nat_eq p k) (x ∷ items_of_index k ps xs) (items_of_index k ps xs)

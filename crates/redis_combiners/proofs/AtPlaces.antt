@@ -6,14 +6,14 @@ use Rattle.std.proofs.lemmas.Option.{slice_get_within, slice_get-get_or, get_or_
 use Rattle.resp_core.specs.Reply.{Reply, nil, array, replies_of, array_of}
 use Rattle.resp_core.specs.declared.error.ErrorKind.{ErrorKind}
 use Rattle.resp_core.specs.declared.error.ErrorKind.TheVariants.{Client}
+use Rattle.cluster_slots.specs.Lists.{flatten}
+use Rattle.cluster_slots.specs.declared.arg_pattern.MultiSlotArgPattern.{MultiSlotArgPattern}
 use Rattle.redis_combiners.specs.AllItems.{all_items}
 use Rattle.redis_combiners.specs.AtPlaces.{item_at, place_at, AreAtPlaces}
 use Rattle.redis_combiners.specs.ByPlaces.{by_places}
 use Rattle.redis_combiners.specs.KeyPlaces.{places, all_places}
-use Rattle.redis_routing.specs.Lists.{flatten}
 use Rattle.redis_combiners.specs.Misfits.{first_misfit}
 use Rattle.redis_combiners.specs.SortedArrays.{array_or_refusal, array_by_places, sorted_arrays}
-use Rattle.redis_routing.specs.declared.route_by.MultiSlotArgPattern.{MultiSlotArgPattern}
 use Rattle.resp_core.proofs.Cases.{by_test}
 use Rattle.resp_core.proofs.Views.{items_in-replies_of}
 use Rattle.redis_combiners.proofs.Lists.{FirstAndOthers, first_and_others}

@@ -6,8 +6,8 @@ use Rattle.std.specs.List.Sorted.{IsPermutation}
 use Rattle.std.proofs.lemmas.List.Sorted.{IsPermutation-map, length_permutation, list_any-IsPermutation}
 use Rattle.resp_core.specs.Reply.{Reply, array_of}
 use Rattle.resp_core.proofs.Cases.{by_test}
-use Rattle.redis_routing.specs.declared.policy.LogicalAggregateOp.{LogicalAggregateOp}
-use Rattle.redis_routing.specs.declared.policy.LogicalAggregateOp.TheVariants.{And, Or}
+use Rattle.cluster_slots.specs.declared.aggregate_op.LogicalAggregateOp.{LogicalAggregateOp}
+use Rattle.cluster_slots.specs.declared.aggregate_op.LogicalAggregateOp.TheVariants.{And, Or}
 use Rattle.redis_combiners.specs.Bits.{bits_among}
 use Rattle.redis_combiners.specs.Logical.{as_int, column, combined_bit, combined_bits, common_length, logical_items}
 use Rattle.redis_combiners.proofs.JoinedBits.{map_same}

@@ -8,9 +8,9 @@ use Rattle.std.proofs.lemmas.List.{length-map, length-take-le, length_push, map_
 use Rattle.resp_core.specs.Reply.{Reply, array_of}
 use Rattle.resp_core.specs.View.{view}
 use Rattle.resp_core.specs.declared.value.Value.{Value}
+use Rattle.cluster_slots.specs.Lists.{all_some, flatten}
 use Rattle.redis_combiners.specs.AllItems.{all_items}
 use Rattle.redis_combiners.specs.Spots.{spots_of, put_item, filled}
-use Rattle.redis_routing.specs.Lists.{all_some, flatten}
 
 -- one list of items after another
 pub filled_both : (spots : List (Option Reply)) (ps qs : List ℕ) (xs ys : List Reply) → length ps ≡ length xs → filled spots (ps ++ qs) (xs ++ ys) ≡ option_and_then (λ later. filled later ps xs) (filled spots qs ys)

@@ -7,9 +7,9 @@ use Rattle.std.proofs.lemmas.Bool.{eq-eqb, eqb-true, ne_eqb}
 use Rattle.std.proofs.lemmas.List.{append-nil, drop_all, drop_more, get_or_at, length_push, length-map, map_push, set_at, get_or-map, get_or_read}
 use Rattle.std.proofs.lemmas.List.FromFn.{fill_by_all}
 use Rattle.resp_core.specs.Reply.{Reply, nil, int, bulk, array, simple, okay, pairs, int_of, array_of}
-use Rattle.redis_routing.specs.Lists.{all_some}
-use Rattle.redis_routing.specs.declared.policy.LogicalAggregateOp.{LogicalAggregateOp}
-use Rattle.redis_routing.specs.declared.policy.LogicalAggregateOp.TheVariants.{And, Or}
+use Rattle.cluster_slots.specs.Lists.{all_some}
+use Rattle.cluster_slots.specs.declared.aggregate_op.LogicalAggregateOp.{LogicalAggregateOp}
+use Rattle.cluster_slots.specs.declared.aggregate_op.LogicalAggregateOp.TheVariants.{And, Or}
 use Rattle.redis_combiners.specs.Bits.{bit_of, bits_among, all_rows}
 use Rattle.redis_combiners.specs.Logical.{as_int, column, combined_bit, combined_bits, common_length, joined_bits, joined_bit, joined_items, logical_items}
 use Rattle.resp_core.specs.View.{view}

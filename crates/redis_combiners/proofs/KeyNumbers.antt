@@ -5,8 +5,8 @@ use Rattle.std.proofs.lemmas.List.{map_push}
 use Rattle.resp_core.specs.Reply.{Reply, int_of, bulk_string_of}
 use Rattle.resp_core.specs.View.{view, view_pair}
 use Rattle.resp_core.specs.declared.value.Value.{Value}
+use Rattle.cluster_slots.specs.Lists.{all_some}
 use Rattle.redis_combiners.specs.KeyNumbers.{pairs_in_turn, pairs_among}
-use Rattle.redis_routing.specs.Lists.{all_some}
 
 -- the next pair of a reply
 pub pairs_next : (key number : Value) (rest0 rest1 rest2 : List Value) (k : List ℕ) (n : ℤ) → rest0 ≡ key ∷ rest1 → rest1 ≡ number ∷ rest2 → Some k ≡ bulk_string_of (view key) → Some n ≡ int_of (view number)

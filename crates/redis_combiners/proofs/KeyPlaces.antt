@@ -7,10 +7,10 @@ use Rattle.std.proofs.lemmas.List.{length-drop, get_or-drop}
 use Rattle.std.proofs.lemmas.List.FromFn.{length-map-range_with_len}
 use Rattle.std.proofs.lemmas.Nat.{mod-mul-add}
 use Rattle.std.proofs.lemmas.Simd.{map-map}
+use Rattle.cluster_slots.specs.ArgPattern.{width_of}
+use Rattle.cluster_slots.specs.declared.arg_pattern.MultiSlotArgPattern.{MultiSlotArgPattern}
+use Rattle.cluster_slots.proofs.ArgPatterns.{some_width}
 use Rattle.redis_combiners.specs.KeyPlaces.{every_nth, tuple_places, own_arguments, places}
-use Rattle.redis_routing.specs.Tuples.{width_of}
-use Rattle.redis_routing.specs.declared.route_by.MultiSlotArgPattern.{MultiSlotArgPattern}
-use Rattle.redis_routing.proofs.Patterns.{some_width}
 
 -- every width-th number, where the first stands at a place of a longer list
 abbrev every_nth_from : ℕ → ℕ → List ℕ → List ℕ

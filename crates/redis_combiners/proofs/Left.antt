@@ -8,8 +8,8 @@ use Rattle.std.proofs.lemmas.Slice.{between_is}
 use Rattle.resp_core.specs.Reply.{Reply, nil, array_of}
 use Rattle.resp_core.specs.View.{view}
 use Rattle.resp_core.specs.declared.value.Value.{Value}
+use Rattle.cluster_slots.specs.Lists.{all_some}
 use Rattle.redis_combiners.specs.ByPlaces.{by_places}
-use Rattle.redis_routing.specs.Lists.{all_some}
 use Rattle.redis_combiners.specs.AllItems.{all_items}
 use Rattle.redis_combiners.specs.Spots.{spots_of, filled}
 use Rattle.redis_combiners.proofs.Filling.{LastReply, last_reply, filled_both, no_spots, all_spots}

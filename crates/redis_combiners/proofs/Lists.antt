@@ -4,7 +4,7 @@ use Rattle.std.specs.Prelude.{option_map, option_and_then, is_none, unwrap_or, �
 use Rattle.std.specs.List.{list_any}
 use Rattle.std.specs.List.Sorted.{IsPermutation}
 use Rattle.std.proofs.lemmas.List.Sorted.{IsPermutation-map, list_any-IsPermutation}
-use Rattle.redis_routing.specs.Lists.{all_some}
+use Rattle.cluster_slots.specs.Lists.{all_some}
 
 -- what is there of each, if nothing is missing
 pub all_some_is : {A X : Type 0} (f : A → Option X) (d : X) (xs : List A) → all_some (map f xs) ≡ cond (list_any (λ x. is_none (f x)) xs) None (Some (map (λ x. unwrap_or (f x) d) xs))

@@ -9,8 +9,8 @@ use Rattle.resp_core.specs.View.{view}
 use Rattle.resp_core.specs.declared.value.Value.{Value}
 use Rattle.resp_core.specs.declared.error.ErrorKind.{ErrorKind}
 use Rattle.resp_core.specs.declared.error.ErrorKind.TheVariants.{UnexpectedReturnType, Client}
+use Rattle.cluster_slots.specs.Lists.{all_some, flatten}
 use Rattle.redis_combiners.specs.AllItems.{all_items}
-use Rattle.redis_routing.specs.Lists.{all_some, flatten}
 use Rattle.redis_combiners.specs.Misfits.{misfit, misfit_of, first_misfit}
 use Rattle.resp_core.proofs.Cases.{by_test}
 

@@ -10,9 +10,9 @@ use Rattle.std.proofs.lemmas.List.Sums.{sum_by-cons}
 use Rattle.std.proofs.lemmas.List.Elements.{All-contains}
 use borrow.Author.Differences.{up, down}
 use Rattle.resp_core.specs.Reply.{Reply, int_of, int}
+use Rattle.cluster_slots.specs.declared.aggregate_op.AggregateOp.{AggregateOp}
+use Rattle.cluster_slots.specs.declared.aggregate_op.AggregateOp.TheVariants.{Min, Sum}
 use Rattle.redis_combiners.specs.Aggregate.{numbers, in_i64, total, aggregate_of}
-use Rattle.redis_routing.specs.declared.policy.AggregateOp.{AggregateOp}
-use Rattle.redis_routing.specs.declared.policy.AggregateOp.TheVariants.{Min, Sum}
 use Rattle.redis_combiners.proofs.Lists.{any_order_of}
 
 -- what is made of the numbers, where their order does not count

@@ -5,8 +5,8 @@ use Rattle.std.specs.List.{range_with_len, list_all}
 use Rattle.std.proofs.lemmas.Bool.{eq-eqb, ltb-true}
 use Rattle.std.proofs.lemmas.List.FromFn.{length-map-range_with_len, get_or-map-range_with_len}
 use Rattle.resp_core.specs.Reply.{Reply}
+use Rattle.cluster_slots.specs.Lists.{all_some}
 use Rattle.redis_combiners.specs.ByPlaces.{items_of_index, single, by_places}
-use Rattle.redis_routing.specs.Lists.{all_some}
 use Rattle.resp_core.proofs.Cases.{by_test}
 use Rattle.redis_combiners.proofs.Arranging.{items_at-cons}
 use Rattle.redis_combiners.proofs.Lists.{all_some_at, all_some_length}

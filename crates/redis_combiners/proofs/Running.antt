@@ -5,8 +5,8 @@ use Rattle.std.proofs.lemmas.List.{at_drop_more}
 use Rattle.resp_core.specs.Reply.{Reply, int_of}
 use Rattle.resp_core.specs.View.{view}
 use Rattle.resp_core.specs.declared.value.Value.{Value}
+use Rattle.cluster_slots.specs.Lists.{all_some}
 use Rattle.redis_combiners.specs.Aggregate.{numbers, in_i64}
-use Rattle.redis_routing.specs.Lists.{all_some}
 
 -- what f makes of the numbers, from a on
 abbrev pub fold_on : (ℤ → ℤ → ℤ) → ℤ → List Reply → Option ℤ

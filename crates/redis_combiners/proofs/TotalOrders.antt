@@ -12,8 +12,8 @@ use Rattle.std.proofs.lemmas.List.Concat.{length-flat_map}
 use Rattle.std.proofs.lemmas.List.Folds.{list_any-append, flat_map-map}
 use borrow.Author.Differences.{up, down}
 use Rattle.resp_core.specs.Reply.{Reply, array_of}
+use Rattle.cluster_slots.specs.Lists.{flatten}
 use Rattle.redis_combiners.specs.KeyNumbers.{KeyNumber, pairs_among, all_pairs}
-use Rattle.redis_routing.specs.Lists.{flatten}
 use Rattle.redis_combiners.specs.Totals.{totals, map_of, map_of_totals, combined_map}
 use Rattle.redis_combiners.proofs.Lists.{all_some_is}
 use Rattle.redis_combiners.proofs.Totals.{or_zero, sum_at, sum_has, same_totals}

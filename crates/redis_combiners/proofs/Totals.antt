@@ -15,9 +15,9 @@ use Rattle.std.proofs.lemmas.Slice.Eq.{bytes_eq-Decides}
 use Rattle.std.proofs.lemmas.Int.{ints}
 use Rattle.std.proofs.lemmas.List.{length-map, get_or-map}
 use Rattle.resp_core.specs.Reply.{Reply, bulk, int, pairs, pairs_of}
+use Rattle.cluster_slots.specs.Lists.{all_some}
 use Rattle.redis_combiners.specs.Aggregate.{total, fits_i64}
 use Rattle.redis_combiners.specs.KeyNumbers.{KeyNumber, all_pairs}
-use Rattle.redis_routing.specs.Lists.{all_some}
 use Rattle.redis_combiners.specs.Entries.{plain_pairs, total_among, sum_of_totals}
 use Rattle.redis_combiners.specs.Totals.{has_key, total_of, total_at, ascending_keys, totals, IsListing, reply_pair, map_of, map_of_totals, combined_map}
 use Rattle.redis_combiners.proofs.Ahead.{before, before-more}

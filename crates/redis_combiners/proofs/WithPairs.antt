@@ -7,7 +7,7 @@ use Rattle.std.specs.Ordering.{nat_cmp}
 use Rattle.std.specs.Str.{bytes_eq}
 use Rattle.std.proofs.lemmas.Int.{ints}
 use Rattle.resp_core.specs.Reply.{Reply, array_of, pairs, pairs_of}
-use Rattle.redis_routing.specs.Lists.{all_some, flatten}
+use Rattle.cluster_slots.specs.Lists.{all_some, flatten}
 use Rattle.redis_combiners.specs.Entries.{plain_pairs, total_among, sum_of_totals, with_pairs}
 use Rattle.redis_combiners.specs.KeyNumbers.{KeyNumber, pairs_among, all_pairs}
 use Rattle.redis_combiners.specs.Totals.{total_at, reply_pair, map_of_totals, combined_map}

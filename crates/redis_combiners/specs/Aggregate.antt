@@ -2,9 +2,9 @@
 use Rattle.std.specs.Prelude.{◌-◌, ◌^◌, ℤ, pos, negsuc, ◌+ℤ◌, List, map, fold, Option, Some, None, Bool, ◌&&◌, int_le, option_and_then, option_map, if◌then◌else◌}
 use Rattle.std.specs.Int.{int_min}
 use Rattle.resp_core.specs.Reply.{Reply, int, int_of}
-use Rattle.redis_routing.specs.Lists.{all_some}
-use Rattle.redis_routing.specs.declared.policy.AggregateOp.{AggregateOp}
-use Rattle.redis_routing.specs.declared.policy.AggregateOp.TheVariants.{Min, Sum}
+use Rattle.cluster_slots.specs.Lists.{all_some}
+use Rattle.cluster_slots.specs.declared.aggregate_op.AggregateOp.{AggregateOp}
+use Rattle.cluster_slots.specs.declared.aggregate_op.AggregateOp.TheVariants.{Min, Sum}
 
 -- the numbers of the replies, if each reply is a number
 abbrev pub numbers : List Reply → Option (List ℤ)

@@ -1,8 +1,8 @@
 -- The index in the one array of each item of each reply.
 use Rattle.std.specs.Prelude.{◌≡◌, ℕ, List, Option, Some, slice_get, option_and_then}
 use Rattle.resp_core.specs.Reply.{Reply, array_of}
+use Rattle.cluster_slots.specs.declared.arg_pattern.MultiSlotArgPattern.{MultiSlotArgPattern}
 use Rattle.redis_combiners.specs.KeyPlaces.{places}
-use Rattle.redis_routing.specs.declared.route_by.MultiSlotArgPattern.{MultiSlotArgPattern}
 
 -- item j of a reply, if the reply is an array that has it
 abbrev pub item_at : Reply → ℕ → Option Reply

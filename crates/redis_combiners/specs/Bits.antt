@@ -1,7 +1,7 @@
 -- Replies that are arrays of 0 and 1, a row of bits each.
 use Rattle.std.specs.Prelude.{zero, suc, ℤ, pos, negsuc, Bool, true, false, List, map, Option, Some, None, option_and_then}
 use Rattle.resp_core.specs.Reply.{Reply, int_of, array_of}
-use Rattle.redis_routing.specs.Lists.{all_some}
+use Rattle.cluster_slots.specs.Lists.{all_some}
 
 -- whether the number is 1, if it is 0 or 1
 abbrev pub bit_of : ℤ → Option Bool

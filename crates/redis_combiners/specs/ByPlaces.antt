@@ -2,7 +2,7 @@
 use Rattle.std.specs.Prelude.{ℕ, List, [], ◌∷◌, length, map, filter, Option, Some, None, nat_eq, nat_lt, if◌then◌else◌}
 use Rattle.std.specs.List.{range_with_len, list_all, zip}
 use Rattle.resp_core.specs.Reply.{Reply}
-use Rattle.redis_routing.specs.Lists.{all_some}
+use Rattle.cluster_slots.specs.Lists.{all_some}
 
 -- the items whose index is k: the j-th item has the j-th of `places`
 abbrev pub items_of_index : ℕ → List ℕ → List Reply → List Reply

@@ -2,7 +2,7 @@
 use Rattle.std.specs.Prelude.{ℕ, ℤ, List, [], ◌∷◌, map, Option, None, option_and_then, option_map}
 use Rattle.std.specs.Option.{option_zip}
 use Rattle.resp_core.specs.Reply.{Reply, int_of, bulk_string_of, array_of}
-use Rattle.redis_routing.specs.Lists.{all_some, flatten}
+use Rattle.cluster_slots.specs.Lists.{all_some, flatten}
 
 -- a key as bytes, beside a number
 abbrev pub KeyNumber : Type 0

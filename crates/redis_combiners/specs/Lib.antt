@@ -1,4 +1,4 @@
-pub use Rattle.redis_routing.specs.Lists
+pub use Rattle.cluster_slots.specs.Lists
 pub use Rattle.resp_core.specs.ErrorParts
 pub use Rattle.resp_core.specs.Reply
 pub use Rattle.resp_core.specs.View

@@ -2,9 +2,9 @@
 use Rattle.std.specs.Prelude.{ℕ, pos, Bool, true, false, List, [], ◌∷◌, length, map, Option, Some, None, ◌==◌, ◌&&◌, ◌||◌, option_and_then, option_map, slice_index_or, if◌then◌else◌}
 use Rattle.std.specs.List.{range_with_len, list_all, list_any, zip}
 use Rattle.resp_core.specs.Reply.{Reply, int}
+use Rattle.cluster_slots.specs.declared.aggregate_op.LogicalAggregateOp.{LogicalAggregateOp}
+use Rattle.cluster_slots.specs.declared.aggregate_op.LogicalAggregateOp.TheVariants.{And, Or}
 use Rattle.redis_combiners.specs.Bits.{bits_among, all_rows}
-use Rattle.redis_routing.specs.declared.policy.LogicalAggregateOp.{LogicalAggregateOp}
-use Rattle.redis_routing.specs.declared.policy.LogicalAggregateOp.TheVariants.{And, Or}
 
 -- the length of the rows, if all have the same length; 0 without rows
 abbrev pub common_length : List (List Bool) → Option ℕ

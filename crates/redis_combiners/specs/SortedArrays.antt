@@ -3,12 +3,12 @@ use Rattle.std.specs.Prelude.{ℕ, ◌==◌, List, length, map, Option, Some, No
 use Rattle.resp_core.specs.Reply.{Reply, array, replies_of}
 use Rattle.resp_core.specs.declared.error.ErrorKind.{ErrorKind}
 use Rattle.resp_core.specs.declared.error.ErrorKind.TheVariants.{Client}
+use Rattle.cluster_slots.specs.Lists.{flatten}
+use Rattle.cluster_slots.specs.declared.arg_pattern.MultiSlotArgPattern.{MultiSlotArgPattern}
 use Rattle.redis_combiners.specs.AllItems.{all_items}
 use Rattle.redis_combiners.specs.ByPlaces.{by_places}
 use Rattle.redis_combiners.specs.KeyPlaces.{all_places}
-use Rattle.redis_routing.specs.Lists.{flatten}
 use Rattle.redis_combiners.specs.Misfits.{first_misfit}
-use Rattle.redis_routing.specs.declared.route_by.MultiSlotArgPattern.{MultiSlotArgPattern}
 
 -- the array of the items; refused if a reply does not fit, and else if the items have no order
 abbrev pub array_or_refusal : Option ErrorKind → Option (List Reply) → Result Reply ErrorKind

@@ -7,9 +7,9 @@ use Rattle.std.specs.Cmp.Lexicographic.{slice_cmp}
 use Rattle.std.specs.FinMap.{from_entries, keys}
 use Rattle.std.specs.Str.{bytes_eq}
 use Rattle.resp_core.specs.Reply.{Reply, bulk, int, pairs, pairs_of}
+use Rattle.cluster_slots.specs.Lists.{all_some}
 use Rattle.redis_combiners.specs.Aggregate.{total, in_i64}
 use Rattle.redis_combiners.specs.KeyNumbers.{KeyNumber, all_pairs}
-use Rattle.redis_routing.specs.Lists.{all_some}
 
 -- whether a pair has the key
 abbrev pub has_key : List ℕ → KeyNumber → Bool

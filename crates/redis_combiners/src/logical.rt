@@ -5,7 +5,7 @@ ghost use Rattle.resp_core.specs.declared.error.ErrorKind.TheVariants.{Unexpecte
 ghost use Rattle.redis_combiners.specs.Bits.{bit_of, bits_among};
 ghost use Rattle.redis_combiners.specs.Logical.{as_int, joined_bit, joined_items, logical_items};
 
-use redis_routing::LogicalAggregateOp;
+use cluster_slots::LogicalAggregateOp;
 use resp_core::{ErrorKind, RedisError, RedisResult, Value};
 use std::alloc::Global;
 

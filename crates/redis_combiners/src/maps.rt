@@ -7,9 +7,9 @@ ghost use Rattle.resp_core.specs.ErrorParts.{out_of_memory};
 ghost use Rattle.resp_core.specs.Reply.{Reply, bulk, int};
 ghost use Rattle.resp_core.specs.View.{view, view_pair};
 ghost use Rattle.resp_core.specs.declared.error.ErrorKind.TheVariants.{UnexpectedReturnType};
+ghost use Rattle.cluster_slots.specs.Lists.{all_some};
 ghost use Rattle.redis_combiners.specs.Entries.{plain_pairs, keys_among, total_among, has_key_at, with_pairs};
 ghost use Rattle.redis_combiners.specs.KeyNumbers.{KeyNumber, pairs_among, all_pairs};
-ghost use Rattle.redis_routing.specs.Lists.{all_some};
 ghost use Rattle.redis_combiners.specs.Totals.{totals, IsListing, reply_pair, combined_map};
 
 use resp_core::{ErrorKind, RedisError, RedisResult, Value};

@@ -1,9 +1,8 @@
 ghost use Rattle.std.specs.Prelude.{◌≡◌, ◌++◌, IfOk, length, option_map, map};
+ghost use Rattle.cluster_slots.specs.Lists.{flatten};
 ghost use Rattle.redis_combiners.specs.KeyPlaces.{own_arguments, places, all_places};
-ghost use Rattle.redis_routing.specs.Lists.{flatten};
 
-use cluster_slots::Route;
-use redis_routing::MultiSlotArgPattern;
+use cluster_slots::{MultiSlotArgPattern, Route};
 use std::alloc::{AllocError, Global};
 
 /// The indices of the keys of some lists of arguments, list after list, and the number of keys in

@@ -8,8 +8,7 @@ ghost use Rattle.redis_combiners.specs.SortedArrays.{sorted_arrays};
 use super::arrange::arrange;
 use super::fit::check_fit;
 use super::places::key_places;
-use cluster_slots::Route;
-use redis_routing::MultiSlotArgPattern;
+use cluster_slots::{MultiSlotArgPattern, Route};
 use resp_core::{ErrorKind, RedisError, RedisResult, Value};
 use std::alloc::Global;
 

@@ -4,7 +4,7 @@ ghost use Rattle.resp_core.specs.View.{view};
 ghost use Rattle.resp_core.specs.declared.error.ErrorKind.TheVariants.{UnexpectedReturnType};
 ghost use Rattle.redis_combiners.specs.Aggregate.{sum_of, least_of, aggregate_of};
 
-use redis_routing::AggregateOp;
+use cluster_slots::AggregateOp;
 use resp_core::{ErrorKind, RedisError, RedisResult, Value};
 
 /// Combines replies that are numbers: their sum, as for `DEL` and `DBSIZE`, or the least of them,

@@ -7,6 +7,9 @@ use Rattle.std.proofs.Math.Seq.{take-length}
 use Rattle.std.proofs.lemmas.Bool.Decides.{nat_tests}
 use Rattle.cluster_slots.specs.KeySlot.{key_slot}
 use Rattle.cluster_slots.specs.Number.{number_in}
+use Rattle.cluster_slots.specs.ArgPattern.{fits}
+use Rattle.cluster_slots.specs.declared.arg_pattern.MultiSlotArgPattern.{MultiSlotArgPattern}
+use Rattle.cluster_slots.specs.declared.arg_pattern.MultiSlotArgPattern.TheVariants.{KeysOnly, KeyValuePairs, KeysAndLastArg, KeyWithTwoArgTriples}
 use Rattle.redis_routing.specs.Command.{Arguments, argument, command_name, is_word}
 use Rattle.redis_routing.specs.CommandSlot.{command_slot, command_keys, only_number, slot_by}
 use Rattle.redis_routing.specs.Lookup.{lookup_name}
@@ -17,10 +20,8 @@ use Rattle.redis_routing.specs.Registry.{Registered, routing_or, tables_with}
 use Rattle.redis_routing.specs.RouteBy.{base_routing}
 use Rattle.redis_routing.specs.Routing.{argument_number, by_count, route_of_slot, routes_of, routing, routing_by, routing_by_name, routing_of_routes, to_key, to_key_after, to_key_or_any, to_slot, to_slots}
 use Rattle.redis_routing.specs.RoutingInfo.{Routing, slot_routed}
-use Rattle.redis_routing.specs.Tuples.{fits, keys_alone, keys_and_two, keys_and_values, tuples_in}
+use Rattle.redis_routing.specs.Tuples.{keys_alone, keys_and_two, keys_and_values, tuples_in}
 use Rattle.redis_routing.specs.declared.policy.ResponsePolicy.{ResponsePolicy}
-use Rattle.redis_routing.specs.declared.route_by.MultiSlotArgPattern.{MultiSlotArgPattern}
-use Rattle.redis_routing.specs.declared.route_by.MultiSlotArgPattern.TheVariants.{KeysOnly, KeyValuePairs, KeysAndLastArg, KeyWithTwoArgTriples}
 use Rattle.redis_routing.specs.declared.route_by.RouteBy.{RouteBy}
 use Rattle.redis_routing.specs.declared.route_by.RouteBy.TheVariants as route_by
 

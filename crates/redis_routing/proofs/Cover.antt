@@ -12,13 +12,14 @@ use Rattle.std.proofs.lemmas.List.{map-append, get_or-take, length-map}
 use Rattle.std.proofs.lemmas.List.Elements.{All-map}
 use Rattle.std.proofs.lemmas.List.Folds.{list_any-append}
 use Rattle.std.proofs.lemmas.List.Sums.{sum_by-cons}
+use Rattle.cluster_slots.specs.ArgPattern.{fits, tuple_args_count, width_of}
+use Rattle.cluster_slots.specs.declared.arg_pattern.MultiSlotArgPattern.{MultiSlotArgPattern}
+use Rattle.cluster_slots.specs.declared.arg_pattern.MultiSlotArgPattern.TheVariants.{KeysOnly, KeyValuePairs, KeysAndLastArg, KeyWithTwoArgTriples}
+use Rattle.cluster_slots.proofs.ArgPatterns.{own_few, length-own}
 use Rattle.redis_routing.specs.Laws.{Covers, lists_with}
 use Rattle.redis_routing.specs.Parts.{slot_of, first_appearances, tuples_in_slot, places_in_slot, arguments_in_slot}
 use Rattle.redis_routing.specs.Routing.{route_of_slot, routes_of}
-use Rattle.redis_routing.specs.Tuples.{Tuple, keys_alone, keys_and_values, keys_and_two, fits, tuple_args_count, width_of, tuples_from, tuples_in, shared_in, places_of, arguments_of}
-use Rattle.redis_routing.specs.declared.route_by.MultiSlotArgPattern.{MultiSlotArgPattern}
-use Rattle.redis_routing.specs.declared.route_by.MultiSlotArgPattern.TheVariants.{KeysOnly, KeyValuePairs, KeysAndLastArg, KeyWithTwoArgTriples}
-use Rattle.redis_routing.proofs.Patterns.{own_few, length-own}
+use Rattle.redis_routing.specs.Tuples.{Tuple, keys_alone, keys_and_values, keys_and_two, tuples_from, tuples_in, shared_in, places_of, arguments_of}
 use Rattle.resp_core.proofs.Cases.{by_test, and_second}
 
 self : (n : ℕ) → nat_eq n n ≡ true

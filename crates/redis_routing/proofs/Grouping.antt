@@ -8,14 +8,15 @@ use Rattle.std.proofs.lemmas.List.{append-nil, length-map, get_or-map, map-set}
 use Rattle.std.proofs.lemmas.Simd.{map-map}
 use Rattle.cluster_slots.specs.SlotRoute.{SlotRoute}
 use Rattle.cluster_slots.specs.declared.slot.SlotAddr.{SlotAddr}
+use Rattle.cluster_slots.specs.ArgPattern.{tuple_args_count}
+use Rattle.cluster_slots.specs.declared.arg_pattern.MultiSlotArgPattern.{MultiSlotArgPattern}
 use Rattle.indexmap.specs.IndexSet.{insert_key}
 use Rattle.redis_routing.specs.Groups.{RouteList, list_of_slot, lists_of_tuples, with_places, with_shared}
 use Rattle.redis_routing.specs.Parts.{first_appearances, slot_of, tuples_in_slot}
 use Rattle.redis_routing.specs.Routing.{nodes_for, routes_of}
 use Rattle.redis_routing.specs.RoutingInfo.{route_list, route_lists}
 use Rattle.redis_routing.specs.Split.{slots_of}
-use Rattle.redis_routing.specs.Tuples.{Tuple, tuples_in, tuple_args_count, places_of}
-use Rattle.redis_routing.specs.declared.route_by.MultiSlotArgPattern.{MultiSlotArgPattern}
+use Rattle.redis_routing.specs.Tuples.{Tuple, tuples_in, places_of}
 use Rattle.redis_routing.proofs.Slots.{swap, part_push, order_more}
 use Rattle.resp_core.proofs.Cases.{by_test}
 

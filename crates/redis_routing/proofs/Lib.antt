@@ -4,7 +4,6 @@ pub mod CommandNames
 pub mod CommandSlots
 pub mod NameSets
 pub mod NameSpots
-pub mod Patterns
 pub mod Placed
 pub mod RegisteredNames
 pub mod Registrations

@@ -3,6 +3,7 @@ use Rattle.std.proofs.Common.{◌≡◌, ℕ, List, [], ◌∷◌, ◌++◌, tru
 use Rattle.std.specs.Prelude.{IfSome, option_and_then, is_none, is_some, not, ◌&&◌}
 use Rattle.std.specs.Str.{bytes_eq}
 use Rattle.resp_core.proofs.Cases.{by_test, and_first, and_second}
+use Rattle.cluster_slots.specs.declared.arg_pattern.MultiSlotArgPattern.{MultiSlotArgPattern}
 use Rattle.redis_routing.specs.Lookup.{lookup_name}
 use Rattle.redis_routing.specs.Policies.{policy_of}
 use Rattle.redis_routing.specs.Registry.{Registered, Registrations, is_registrable, is_bad_name, is_bad_policy}
@@ -10,7 +11,6 @@ use Rattle.redis_routing.specs.RouteBy.{base_routing, pattern_of}
 use Rattle.redis_routing.specs.MultiKeyNames.{split_of, registered_as}
 use Rattle.redis_routing.specs.MultiKeyRows.{multi_key_names}
 use Rattle.redis_routing.specs.declared.policy.ResponsePolicy.{ResponsePolicy}
-use Rattle.redis_routing.specs.declared.route_by.MultiSlotArgPattern.{MultiSlotArgPattern}
 use Rattle.redis_routing.specs.declared.route_by.RouteBy.{RouteBy}
 use Rattle.redis_routing.specs.declared.route_by.RouteBy.TheVariants.{MultiSlot}
 use Rattle.redis_routing.specs.declared.tables.TheConstants.{NAMES}

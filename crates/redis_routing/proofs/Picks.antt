@@ -5,21 +5,22 @@ use Rattle.std.specs.Prelude.{slice_get}
 use Rattle.std.proofs.lemmas.List.{drop-drop, get_or-drop, get_or-map, length-map, map-append}
 use Rattle.std.proofs.lemmas.Option.{slice_get-map, slice_get-get_or, get_or_from_slice_get}
 use Rattle.cluster_slots.specs.SlotRoute.{SlotRoute}
+use Rattle.cluster_slots.specs.Lists.{all_some}
+use Rattle.cluster_slots.specs.ArgPattern.{fits, is_complete}
+use Rattle.cluster_slots.specs.declared.arg_pattern.MultiSlotArgPattern.{MultiSlotArgPattern}
+use Rattle.cluster_slots.specs.declared.arg_pattern.MultiSlotArgPattern.TheVariants.{KeysOnly, KeyValuePairs, KeysAndLastArg, KeyWithTwoArgTriples}
 use Rattle.redis_routing.specs.Command.{Arguments, HasWords, argument, command_name}
 use Rattle.redis_routing.specs.Laws.{ArePartsPicked}
 use Rattle.redis_routing.specs.Names.{Names}
 use Rattle.redis_routing.specs.NameWords.{name_words_of}
 use Rattle.redis_routing.specs.Parts.{first_appearances, slot_of, places_in_slot, arguments_in_slot, part_of_slot}
 use Rattle.redis_routing.specs.Routing.{routes_of, route_of_slot}
-use Rattle.redis_routing.specs.Lists.{all_some}
 use Rattle.redis_routing.specs.PresentArguments.{present_arguments, present_arguments_after}
 use Rattle.redis_routing.specs.SubCommand.{sub_command_after}
-use Rattle.redis_routing.specs.Tuples.{fits, tuples_in, is_complete}
+use Rattle.redis_routing.specs.Tuples.{tuples_in}
 use Rattle.redis_routing.specs.Complete.{pattern_by_name, routes_by, routes_by_name, multi_slot_routes, AreSubCommands}
 use Rattle.redis_routing.specs.Split.{Split, IsSplit, route_part, split_part}
 use Rattle.redis_routing.specs.RoutingInfo.{route_list, route_lists}
-use Rattle.redis_routing.specs.declared.route_by.MultiSlotArgPattern.{MultiSlotArgPattern}
-use Rattle.redis_routing.specs.declared.route_by.MultiSlotArgPattern.TheVariants.{KeysOnly, KeyValuePairs, KeysAndLastArg, KeyWithTwoArgTriples}
 use Rattle.std.proofs.lemmas.Bool.Decides.{nat_tests}
 use Rattle.redis_routing.proofs.CommandNames.{has_words}
 use Rattle.redis_routing.proofs.Cover.{Between, bounds, part_in_present, arguments_at_places}

@@ -5,16 +5,16 @@ use Rattle.std.specs.Cmp.Lexicographic.{pointwise, on_texts}
 use Rattle.std.proofs.lemmas.Map.Lookups.{btree_map_read_from_get}
 use Rattle.std.proofs.lemmas.Bool.Decides.{Decides-eqb, Decides-and, Decides-like}
 use Rattle.std.proofs.lemmas.Slice.Eq.{bytes_eq-Decides, slice_eq-Decides}
+use Rattle.cluster_slots.specs.declared.aggregate_op.AggregateOp.TheVariants.{Min, Sum}
+use Rattle.cluster_slots.specs.declared.aggregate_op.LogicalAggregateOp.TheVariants.{And, Or}
+use Rattle.cluster_slots.specs.declared.arg_pattern.MultiSlotArgPattern.{MultiSlotArgPattern}
+use Rattle.cluster_slots.specs.declared.arg_pattern.MultiSlotArgPattern.TheVariants.{KeysOnly, KeyValuePairs, KeysAndLastArg, KeyWithTwoArgTriples}
+use Rattle.cluster_slots.specs.contracts.arg_pattern.MultiSlotArgPatternPartialEq.TheImpl as pattern_eq
 use Rattle.redis_routing.specs.Registry.{Registrations, Registered}
 use Rattle.redis_routing.specs.SameRegistrations.{pattern_place, policy_place, operation_place, same_policy, same_row, same_registrations}
-use Rattle.redis_routing.specs.declared.policy.AggregateOp.TheVariants.{Min, Sum}
-use Rattle.redis_routing.specs.declared.policy.LogicalAggregateOp.TheVariants.{And, Or}
 use Rattle.redis_routing.specs.declared.policy.ResponsePolicy.{ResponsePolicy}
 use Rattle.redis_routing.specs.declared.policy.ResponsePolicy.TheVariants.{OneSucceeded, FirstSucceededNonEmptyOrAllEmpty, AllSucceeded, AggregateLogical, Aggregate, CombineArrays, Special, CombineMaps}
-use Rattle.redis_routing.specs.declared.route_by.MultiSlotArgPattern.{MultiSlotArgPattern}
-use Rattle.redis_routing.specs.declared.route_by.MultiSlotArgPattern.TheVariants.{KeysOnly, KeyValuePairs, KeysAndLastArg, KeyWithTwoArgTriples}
 use Rattle.redis_routing.specs.contracts.policy.ResponsePolicyPartialEq.TheImpl as policy_eq
-use Rattle.redis_routing.specs.contracts.route_by.MultiSlotArgPatternPartialEq.TheImpl as pattern_eq
 use Rattle.redis_routing.specs.Lookup.{lookup_name}
 use Rattle.redis_routing.proofs.NameSets.{by_items}
 use Rattle.redis_routing.proofs.Registrations.{Row, row_of, found_row, same_key}

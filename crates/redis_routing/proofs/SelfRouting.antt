@@ -10,6 +10,10 @@ use Rattle.std.proofs.lemmas.List.Elements.{All-cons, All-filter, All-head, All-
 use Rattle.std.proofs.lemmas.Simd.{map-map}
 use Rattle.cluster_slots.specs.KeySlot.{key_slot}
 use Rattle.cluster_slots.specs.SlotRoute.{SlotRoute}
+use Rattle.cluster_slots.specs.ArgPattern.{fits, is_complete, tuple_args_count, width_of}
+use Rattle.cluster_slots.specs.declared.arg_pattern.MultiSlotArgPattern.{MultiSlotArgPattern}
+use Rattle.cluster_slots.specs.declared.arg_pattern.MultiSlotArgPattern.TheVariants.{KeysOnly, KeyValuePairs, KeysAndLastArg, KeyWithTwoArgTriples}
+use Rattle.cluster_slots.proofs.ArgPatterns.{fits_some}
 use Rattle.redis_routing.specs.Upper.{upper}
 use Rattle.redis_routing.specs.TwoWords.{takes_second}
 use Rattle.redis_routing.specs.Command.{Arguments, argument, command_name, name_by}
@@ -18,18 +22,15 @@ use Rattle.redis_routing.specs.Names.{Names}
 use Rattle.redis_routing.specs.NameWords.{name_words_of}
 use Rattle.redis_routing.specs.PresentArguments.{arguments_before_gap, present_arguments, present_arguments_after}
 use Rattle.redis_routing.specs.Registry.{tables_with}
-use Rattle.redis_routing.specs.Tuples.{Tuple, fits, is_complete, keys_alone, keys_and_two, keys_and_values, tuple_args_count, shared_in, tuples_from, tuples_in, width_of, arguments_of}
+use Rattle.redis_routing.specs.Tuples.{Tuple, keys_alone, keys_and_two, keys_and_values, shared_in, tuples_from, tuples_in, arguments_of}
 use Rattle.redis_routing.specs.Parts.{first_appearances, tuples_in_slot, part_of_slot, arguments_in_slot, slot_of}
 use Rattle.redis_routing.specs.Routing.{routing_by, nodes_for, route_of_slot, routes_of, routing, routing_by_name, routing_of_routes, to_slots}
 use Rattle.redis_routing.specs.RoutingInfo.{single_node, specific_node}
 use Rattle.redis_routing.specs.Laws.{ArePartsRouted}
 use Rattle.redis_routing.specs.declared.policy.ResponsePolicy.{ResponsePolicy}
-use Rattle.redis_routing.specs.declared.route_by.MultiSlotArgPattern.{MultiSlotArgPattern}
-use Rattle.redis_routing.specs.declared.route_by.MultiSlotArgPattern.TheVariants.{KeysOnly, KeyValuePairs, KeysAndLastArg, KeyWithTwoArgTriples}
 use Rattle.redis_routing.specs.declared.route_by.RouteBy.{RouteBy}
 use Rattle.redis_routing.specs.declared.route_by.RouteBy.TheVariants as route_by
 use Rattle.redis_routing.proofs.CommandNames.{words_again, words_alone}
-use Rattle.redis_routing.proofs.Patterns.{fits_some}
 use Rattle.redis_routing.proofs.Rows.{each_row}
 use Rattle.resp_core.proofs.Cases.{by_test, or_second}
 

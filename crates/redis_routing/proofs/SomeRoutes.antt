@@ -1,11 +1,12 @@
 -- A complete command has a route.
 use Rattle.std.proofs.Common.{◌≡◌, ℕ, ◌<◌, List, [], ◌∷◌, Bool, true, length, map, arith}
 use Rattle.std.proofs.lemmas.List.{length-map}
+use Rattle.cluster_slots.specs.ArgPattern.{fits, tuple_args_count}
+use Rattle.cluster_slots.specs.declared.arg_pattern.MultiSlotArgPattern.{MultiSlotArgPattern}
+use Rattle.cluster_slots.proofs.ArgPatterns.{some_own}
 use Rattle.redis_routing.specs.Parts.{first_appearances, slot_of}
 use Rattle.redis_routing.specs.Routing.{route_of_slot, routes_of}
-use Rattle.redis_routing.specs.Tuples.{Tuple, fits, tuple_args_count, tuples_in}
-use Rattle.redis_routing.specs.declared.route_by.MultiSlotArgPattern.{MultiSlotArgPattern}
-use Rattle.redis_routing.proofs.Patterns.{some_own}
+use Rattle.redis_routing.specs.Tuples.{Tuple, tuples_in}
 use Rattle.redis_routing.proofs.Cover.{Tiles, tiles_present}
 
 some_tuple : (high : ℕ) (ts : List Tuple) → Tiles 0 high ts → 0 < high → 0 < length ts

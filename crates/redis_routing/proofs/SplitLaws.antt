@@ -2,6 +2,8 @@
 use Rattle.std.proofs.Common.{◌≡◌, ℕ, zero, suc, List, [], ◌∷◌, Bool, true, Option, None, Some, length, refl, sym, ap, ◌∙◌, subst}
 use Rattle.std.specs.Prelude.{nat_lt}
 use Rattle.cluster_slots.specs.SlotRoute.{SlotRoute}
+use Rattle.cluster_slots.specs.ArgPattern.{fits}
+use Rattle.cluster_slots.specs.declared.arg_pattern.MultiSlotArgPattern.{MultiSlotArgPattern}
 use Rattle.redis_routing.specs.Command.{Arguments, argument, command_name}
 use Rattle.redis_routing.specs.Laws.{Covers, ArePartsRouted, ArePartsPicked, IfSplit}
 use Rattle.redis_routing.specs.Names.{Names}
@@ -10,10 +12,8 @@ use Rattle.redis_routing.specs.Policies.{policy_of}
 use Rattle.redis_routing.specs.Registry.{tables_with}
 use Rattle.redis_routing.specs.Routing.{to_key, by_count, to_key_or_any, to_key_after, to_slot, routes_of, routing_of_routes, to_slots, routing, routing_by, routing_by_name, argument_number}
 use Rattle.redis_routing.specs.PresentArguments.{present_arguments}
-use Rattle.redis_routing.specs.Tuples.{fits}
 use Rattle.redis_routing.specs.RouteBy.{base_routing}
 use Rattle.redis_routing.specs.declared.policy.ResponsePolicy.{ResponsePolicy}
-use Rattle.redis_routing.specs.declared.route_by.MultiSlotArgPattern.{MultiSlotArgPattern}
 use Rattle.redis_routing.specs.declared.route_by.RouteBy.{RouteBy}
 use Rattle.redis_routing.specs.declared.route_by.RouteBy.TheVariants as route_by
 use Rattle.redis_routing.specs.NameTables.{NameTables}

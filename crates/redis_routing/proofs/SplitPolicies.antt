@@ -1,10 +1,10 @@
 -- The policies of the names that split by slot join the replies to parts.
 use Rattle.std.proofs.Common.{◌≡◌, ℕ, List, Bool, true, false, Option, None, Some, refl, sym, ap, ◌∙◌}
 use Rattle.std.specs.Prelude.{not}
+use Rattle.cluster_slots.specs.declared.arg_pattern.MultiSlotArgPattern.{MultiSlotArgPattern}
 use Rattle.redis_routing.specs.Policies.{joins_parts, policy_of}
 use Rattle.redis_routing.specs.RouteBy.{base_routings, base_routing}
 use Rattle.redis_routing.specs.declared.policy.ResponsePolicy.{ResponsePolicy}
-use Rattle.redis_routing.specs.declared.route_by.MultiSlotArgPattern.{MultiSlotArgPattern}
 use Rattle.redis_routing.specs.declared.route_by.RouteBy.{RouteBy}
 use Rattle.redis_routing.specs.declared.route_by.RouteBy.TheVariants as route_by
 use Rattle.redis_routing.proofs.Rows.{each_row}

@@ -2,7 +2,7 @@
 use Rattle.std.proofs.Common.{◌≡◌, ℕ, zero, suc, ◌<◌, ◌+◌, ◌-◌, List, [], ◌∷◌, ◌++◌, Option, None, Some, map, option_map, refl, sym, ap, ◌∙◌, arith}
 use Rattle.std.specs.List.{range_with_len}
 use Rattle.redis_routing.specs.Command.{Arguments, argument}
-use Rattle.redis_routing.specs.Lists.{all_some}
+use Rattle.cluster_slots.specs.Lists.{all_some}
 use Rattle.redis_routing.specs.SubCommand.{bytes_in, text_len}
 pub use Rattle.resp_core.proofs.SoFar.{before, before-more}
 

@@ -2,12 +2,13 @@
 use Rattle.std.proofs.Common.{◌≡◌, ℕ, zero, suc, ◌+◌, ◌*◌, ◌/◌, ◌<◌, ◌≤◌, List, [], ◌∷◌, ◌++◌, Some, None, refl, sym, ap, ◌∙◌, arith, length, take, drop, get_or, add-one}
 use Rattle.std.specs.List.{range_with_len}
 use Rattle.std.proofs.lemmas.List.{get_or-drop, get_or-take, take_all}
+use Rattle.cluster_slots.specs.ArgPattern.{width_of, tuple_args_count}
+use Rattle.cluster_slots.specs.declared.arg_pattern.MultiSlotArgPattern.{MultiSlotArgPattern}
+use Rattle.cluster_slots.specs.declared.arg_pattern.MultiSlotArgPattern.TheVariants.{KeysOnly, KeyValuePairs, KeysAndLastArg, KeyWithTwoArgTriples}
+use Rattle.cluster_slots.proofs.ArgPatterns.{some_width, own_few, length-own}
 use Rattle.redis_routing.specs.Command.{Arguments, argument}
 use Rattle.redis_routing.specs.PresentArguments.{arguments_before_gap, present_arguments_after}
-use Rattle.redis_routing.specs.Tuples.{Tuple, keys_alone, keys_and_values, keys_and_two, tuples_from, tuples_in, width_of, tuple_args_count, places_of}
-use Rattle.redis_routing.specs.declared.route_by.MultiSlotArgPattern.{MultiSlotArgPattern}
-use Rattle.redis_routing.specs.declared.route_by.MultiSlotArgPattern.TheVariants.{KeysOnly, KeyValuePairs, KeysAndLastArg, KeyWithTwoArgTriples}
-use Rattle.redis_routing.proofs.Patterns.{some_width, own_few, length-own}
+use Rattle.redis_routing.specs.Tuples.{Tuple, keys_alone, keys_and_values, keys_and_two, tuples_from, tuples_in, places_of}
 
 -- the next key
 alone_next : (p n : ℕ) (xs : List (List ℕ)) (i : ℕ) → n ≡ p + i → i < length xs → take (suc i) (keys_alone p xs) ≡ take i (keys_alone p xs) ++ record { place = n; key = get_or xs i []; extras = [] } ∷ []

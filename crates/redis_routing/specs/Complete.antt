@@ -1,6 +1,8 @@
 -- Multi-key commands that are complete, and so can be split and sent.
 use Rattle.std.specs.Prelude.{◌≡◌, ℕ, All, map, option_map, Bool, cond, List, [], Option, None, Some, length}
 use Rattle.cluster_slots.specs.SlotRoute.{SlotRoute}
+use Rattle.cluster_slots.specs.ArgPattern.{is_complete}
+use Rattle.cluster_slots.specs.declared.arg_pattern.MultiSlotArgPattern.{MultiSlotArgPattern}
 use Rattle.redis_routing.specs.Command.{Arguments, command_name}
 use Rattle.redis_routing.specs.Names.{Names}
 use Rattle.redis_routing.specs.NameWords.{name_words_of}
@@ -10,8 +12,6 @@ use Rattle.redis_routing.specs.Parts.{part_of_slot}
 use Rattle.redis_routing.specs.Routing.{routes_of}
 use Rattle.redis_routing.specs.PresentArguments.{present_arguments}
 use Rattle.redis_routing.specs.SubCommand.{sub_command_after}
-use Rattle.redis_routing.specs.Tuples.{is_complete}
-use Rattle.redis_routing.specs.declared.route_by.MultiSlotArgPattern.{MultiSlotArgPattern}
 
 -- the pattern of a command's name, if commands of that name are split
 abbrev pub pattern_by_name : Registrations → Option (List ℕ) → Option MultiSlotArgPattern

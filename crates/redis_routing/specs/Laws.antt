@@ -4,15 +4,15 @@ use Rattle.std.specs.List.{list_any}
 use Rattle.std.specs.List.Sorted.{IsStrictlySortedBy}
 use Rattle.std.specs.Ordering.{nat_cmp}
 use Rattle.cluster_slots.specs.SlotRoute.{SlotRoute}
+use Rattle.cluster_slots.specs.ArgPattern.{tuple_args_count}
+use Rattle.cluster_slots.specs.declared.arg_pattern.MultiSlotArgPattern.{MultiSlotArgPattern}
 use Rattle.redis_routing.specs.Command.{Arguments}
-use Rattle.redis_routing.specs.Tuples.{tuple_args_count}
 use Rattle.redis_routing.specs.Names.{Names}
 use Rattle.redis_routing.specs.NameWords.{name_words_of}
 use Rattle.redis_routing.specs.Parts.{part_of_slot}
 use Rattle.redis_routing.specs.Routing.{routing}
 use Rattle.redis_routing.specs.SubCommand.{sub_command_after}
 use Rattle.redis_routing.specs.RoutingInfo.{Routing, MultipleNodeRouting, specific_node, all_nodes, all_masters, multi_slot, single_node, multi_node}
-use Rattle.redis_routing.specs.declared.route_by.MultiSlotArgPattern.{MultiSlotArgPattern}
 
 -- how many of the lists have the place
 abbrev pub lists_with : ℕ → List (SlotRoute × List ℕ) → ℕ

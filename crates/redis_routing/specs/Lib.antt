@@ -1,8 +1,9 @@
 pub use Rattle.resp_core.specs.Reply
 pub use Rattle.resp_core.specs.View
 pub use Rattle.resp_core.specs.ErrorParts
+pub use Rattle.cluster_slots.specs.ArgPattern
+pub use Rattle.cluster_slots.specs.Lists
 pub mod Command
-pub mod Lists
 pub mod Names
 pub mod MultiKeyNames
 pub mod MultiKeyRows

@@ -2,11 +2,12 @@
 use Rattle.std.specs.Prelude.{ℕ, ◌-◌, not, List, [], ◌∷◌, ◌++◌, Some, map, filter, nat_eq, length, take}
 use Rattle.std.specs.List.{flat_map, range_with_len}
 use Rattle.cluster_slots.specs.KeySlot.{key_slot}
+use Rattle.cluster_slots.specs.ArgPattern.{tuple_args_count}
+use Rattle.cluster_slots.specs.declared.arg_pattern.MultiSlotArgPattern.{MultiSlotArgPattern}
 use Rattle.redis_routing.specs.Command.{Arguments}
 use Rattle.redis_routing.specs.NameWords.{name_words_of}
 use Rattle.redis_routing.specs.PresentArguments.{present_arguments}
-use Rattle.redis_routing.specs.Tuples.{Tuple, tuples_in, shared_in, tuple_args_count, places_of, arguments_of}
-use Rattle.redis_routing.specs.declared.route_by.MultiSlotArgPattern.{MultiSlotArgPattern}
+use Rattle.redis_routing.specs.Tuples.{Tuple, tuples_in, shared_in, places_of, arguments_of}
 
 -- the slot of a tuple's key
 abbrev pub slot_of : Tuple → ℕ

@@ -2,13 +2,13 @@
 -- name stands with how its arguments make tuples, and how the replies to its parts make one.
 use Rattle.std.specs.Prelude.{ℕ, List, length, Bool, ◌&&◌, ◌||◌, not, if◌then◌else◌, nat_eq, Option, None, Some, is_some, is_none, option_map}
 use Rattle.std.specs.List.{list_any, before_first, after_first}
+use Rattle.cluster_slots.specs.declared.arg_pattern.MultiSlotArgPattern.{MultiSlotArgPattern}
 use Rattle.redis_routing.specs.Lookup.{lookup_name}
 use Rattle.redis_routing.specs.NameTables.{NameTables}
 use Rattle.redis_routing.specs.Policies.{joins_parts, policy_of}
 use Rattle.redis_routing.specs.RouteBy.{base_routing}
 use Rattle.redis_routing.specs.TwoWords.{takes_second}
 use Rattle.redis_routing.specs.declared.policy.ResponsePolicy.{ResponsePolicy}
-use Rattle.redis_routing.specs.declared.route_by.MultiSlotArgPattern.{MultiSlotArgPattern}
 use Rattle.redis_routing.specs.declared.route_by.RouteBy.{RouteBy}
 use Rattle.redis_routing.specs.declared.route_by.RouteBy.TheVariants.{MultiSlot}
 

@@ -1,8 +1,8 @@
 -- How names are routed: where a command of the name goes (the project's table of routings).
 use Rattle.std.specs.Prelude.{ℕ, List, [], ◌∷◌, ◌++◌, Option, None, Some, codes, map}
+use Rattle.cluster_slots.specs.declared.arg_pattern.MultiSlotArgPattern.{MultiSlotArgPattern}
 use Rattle.redis_routing.specs.Lookup.{lookup_name, rows_with}
 use Rattle.redis_routing.specs.MultiKeyRows.{multi_key_names}
-use Rattle.redis_routing.specs.declared.route_by.MultiSlotArgPattern.{MultiSlotArgPattern}
 use Rattle.redis_routing.specs.declared.route_by.RouteBy.{RouteBy}
 use Rattle.redis_routing.specs.declared.route_by.RouteBy.TheVariants.{AllNodes, AllMasters, MultiSlot, Undefined, CountAt, KeyAt, KeyAfterStreams, Random, SlotAt}
 

@@ -5,15 +5,16 @@ use Rattle.cluster_slots.specs.Number.{number_in}
 use Rattle.cluster_slots.specs.SlotRoute.{SlotRoute}
 use Rattle.cluster_slots.specs.declared.slot.SlotAddr.{SlotAddr}
 use Rattle.cluster_slots.specs.declared.slot.SlotAddr.TheVariants.{Master, ReplicaOptional}
+use Rattle.cluster_slots.specs.ArgPattern.{fits}
+use Rattle.cluster_slots.specs.declared.arg_pattern.MultiSlotArgPattern.{MultiSlotArgPattern}
 use Rattle.redis_routing.specs.Command.{Arguments, argument, command_name, is_word}
 use Rattle.redis_routing.specs.PresentArguments.{present_arguments}
-use Rattle.redis_routing.specs.Tuples.{tuples_in, fits}
+use Rattle.redis_routing.specs.Tuples.{tuples_in}
 use Rattle.redis_routing.specs.Parts.{slot_of, first_appearances, places_in_slot}
 use Rattle.redis_routing.specs.RoutingInfo.{Routing, random, specific_node, all_nodes, all_masters, multi_slot, single_node, multi_node}
 use Rattle.redis_routing.specs.Names.{Names}
 use Rattle.redis_routing.specs.Registry.{tables_with}
 use Rattle.redis_routing.specs.declared.policy.ResponsePolicy.{ResponsePolicy}
-use Rattle.redis_routing.specs.declared.route_by.MultiSlotArgPattern.{MultiSlotArgPattern}
 use Rattle.redis_routing.specs.declared.route_by.RouteBy.{RouteBy}
 use Rattle.redis_routing.specs.declared.route_by.RouteBy.TheVariants as route_by
 

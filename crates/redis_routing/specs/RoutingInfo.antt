@@ -3,8 +3,8 @@ use Rattle.std.specs.Prelude.{ℕ, List, Option, None, Some, map, string_bytes}
 use Rattle.std.specs.declared.vec.Vec.{Vec}
 use Rattle.std.specs.declared.alloc.Global.{Global}
 use Rattle.cluster_slots.specs.SlotRoute.{SlotRoute}
+use Rattle.cluster_slots.specs.declared.arg_pattern.MultiSlotArgPattern.{MultiSlotArgPattern}
 use Rattle.redis_routing.specs.declared.policy.ResponsePolicy.{ResponsePolicy}
-use Rattle.redis_routing.specs.declared.route_by.MultiSlotArgPattern.{MultiSlotArgPattern}
 use Rattle.redis_routing.specs.declared.info.SingleNodeRoutingInfo.{SingleNodeRoutingInfo}
 use Rattle.redis_routing.specs.declared.info.SingleNodeRoutingInfo.TheVariants.{Random, RandomPrimary, SpecificNode, ByAddress}
 use Rattle.redis_routing.specs.declared.info.MultipleNodeRoutingInfo.{MultipleNodeRoutingInfo}

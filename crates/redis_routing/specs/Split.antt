@@ -1,8 +1,9 @@
 -- A complete multi-key command, split by slot.
 use Rattle.std.specs.Prelude.{◌≡◌, ◌<◌, ◌^◌, ℕ, Bool, true, List, Option, None, Some, length, map, option_map, slice_get}
 use Rattle.cluster_slots.specs.SlotRoute.{SlotRoute}
+use Rattle.cluster_slots.specs.ArgPattern.{is_complete}
+use Rattle.cluster_slots.specs.declared.arg_pattern.MultiSlotArgPattern.{MultiSlotArgPattern}
 use Rattle.redis_routing.specs.Command.{Arguments, HasWords, command_name}
-use Rattle.redis_routing.specs.Tuples.{is_complete}
 use Rattle.redis_routing.specs.NameWords.{name_words_of}
 use Rattle.redis_routing.specs.Registry.{Registrations}
 use Rattle.redis_routing.specs.MultiKeyNames.{split_of}
@@ -11,7 +12,6 @@ use Rattle.redis_routing.specs.Routing.{routes_of}
 use Rattle.redis_routing.specs.PresentArguments.{present_arguments}
 use Rattle.redis_routing.specs.declared.policy.ResponsePolicy.{ResponsePolicy}
 use Rattle.redis_routing.specs.Policies.{joins_parts}
-use Rattle.redis_routing.specs.declared.route_by.MultiSlotArgPattern.{MultiSlotArgPattern}
 
 -- the arguments of the command, its routes with the places of their parts, how its arguments make
 -- tuples, and how the replies to its parts make one

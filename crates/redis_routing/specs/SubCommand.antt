@@ -1,8 +1,8 @@
 -- A part of a command as a command of its own, by the places of its arguments.
 use Rattle.std.specs.Prelude.{ℕ, ◌+◌, ◌-◌, ◌^◌, List, [], ◌∷◌, ◌++◌, Option, None, Some, length, map, min}
 use Rattle.std.specs.List.{range_with_len}
+use Rattle.cluster_slots.specs.Lists.{all_some}
 use Rattle.redis_routing.specs.Command.{Arguments, argument}
-use Rattle.redis_routing.specs.Lists.{all_some}
 
 -- the arguments of a name of so many words and those at these places after it, if they are all
 -- there

@@ -3,8 +3,7 @@ ghost use Rattle.redis_routing.specs.Routing.{nodes_for};
 ghost use Rattle.redis_routing.specs.RoutingInfo.{route_lists};
 
 use crate::policy::ResponsePolicy;
-use crate::route_by::MultiSlotArgPattern;
-use cluster_slots::{NodeAddress, Route, SlotAddr};
+use cluster_slots::{MultiSlotArgPattern, NodeAddress, Route, SlotAddr};
 use std::alloc::AllocError;
 
 /// Where a node sent the client on to.

@@ -21,14 +21,15 @@ mod tables;
 mod upper_case;
 mod words;
 
+pub use cluster_slots::{AggregateOp, LogicalAggregateOp, MultiSlotArgPattern};
 pub use info::{MultipleNodeRoutingInfo, Redirect, RoutingInfo, SingleNodeRoutingInfo};
 pub use lookup::{contains, look_up};
 pub use names::Names;
-pub use policy::{AggregateOp, LogicalAggregateOp, ResponsePolicy};
+pub use policy::ResponsePolicy;
 pub use read_only::ReadOnlyNames;
 pub use registry::{RegisterError, Registry};
 pub use routable::Routable;
-pub use route_by::{MultiSlotArgPattern, RouteBy, base_routing};
+pub use route_by::{RouteBy, base_routing};
 pub use split_command::{SplitCommand, multi_slot_routes};
 pub use sub_commands::{command_for_multi_slot_indices, command_for_multi_slot_indices_with};
 pub use words::name_words;

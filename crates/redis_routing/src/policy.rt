@@ -2,24 +2,7 @@ ghost use Rattle.std.specs.Prelude.{◌≡◌};
 ghost use Rattle.redis_routing.specs.Policies.{policy_of};
 
 use super::route_by::routing_and_policy;
-
-/// How the bits in the replies of several nodes are joined, place by place.
-#[derive(Clone, Copy, Debug, PartialEq, Eq)]
-pub enum LogicalAggregateOp {
-    /// 1 where every reply has 1: `SCRIPT EXISTS sha1`.
-    And,
-    /// 1 where some reply has 1. No name of a command has this policy.
-    Or,
-}
-
-/// How the numbers in the replies of several nodes make one.
-#[derive(Clone, Copy, Debug, PartialEq, Eq)]
-pub enum AggregateOp {
-    /// The least: `WAIT 1 100`.
-    Min,
-    /// The sum: `DBSIZE`.
-    Sum,
-}
+use cluster_slots::{AggregateOp, LogicalAggregateOp};
 
 /// How the replies of several nodes make one reply.
 #[derive(Clone, Copy, Debug, PartialEq, Eq)]

@@ -14,10 +14,11 @@ ghost use Rattle.redis_routing.specs.TwoWords.{takes_second};
 ghost use Rattle.redis_routing.specs.Upper.{upper};
 ghost use Rattle.redis_routing.specs.declared.registry.RegisterError.TheVariants as refused;
 
-use super::policy::{AggregateOp, ResponsePolicy};
+use super::policy::ResponsePolicy;
 use super::routable::takes_second;
-use super::route_by::{MultiSlotArgPattern, RouteBy, base_routing, routing_and_policy};
+use super::route_by::{RouteBy, base_routing, routing_and_policy};
 use super::upper_case::to_upper_case;
+use cluster_slots::{AggregateOp, MultiSlotArgPattern};
 use std::alloc::{AllocError, AllocFailed, Global};
 use std::collections::BTreeMap;
 use std::error::Error;

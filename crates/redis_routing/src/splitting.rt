@@ -1,5 +1,6 @@
 ghost use Rattle.std.specs.Prelude.{◌≡◌, ◌<◌, ◌^◌, ◌+◌, ◌-◌, ◌++◌, [], Some, length, nat_eq, IfOk, IfSome, OnOk, option_map};
 ghost use Rattle.std.specs.List.{position_or_len, range_with_len};
+ghost use Rattle.cluster_slots.specs.ArgPattern.{tuple_args_count};
 ghost use Rattle.indexmap.specs.IndexSet.{insert_key};
 ghost use Rattle.redis_routing.specs.Groups.{lists_of_tuples, with_places, with_shared};
 ghost use Rattle.redis_routing.specs.RoutingInfo.{as_routing, route_lists};
@@ -8,14 +9,13 @@ ghost use Rattle.redis_routing.specs.Command.{command_name};
 ghost use Rattle.redis_routing.specs.NameWords.{name_words_of};
 ghost use Rattle.redis_routing.specs.PresentArguments.{present_arguments, present_arguments_after};
 ghost use Rattle.redis_routing.specs.Split.{slots_of};
-ghost use Rattle.redis_routing.specs.Tuples.{tuple_args_count, tuples_in};
+ghost use Rattle.redis_routing.specs.Tuples.{tuples_in};
 
 use super::info::{MultipleNodeRoutingInfo, RoutingInfo, SingleNodeRoutingInfo, nodes_for};
 use crate::policy::ResponsePolicy;
 use crate::routable::Routable;
-use crate::route_by::MultiSlotArgPattern;
 use crate::slot_set::SlotSet;
-use cluster_slots::{Route, SLOT_SIZE, SlotAddr};
+use cluster_slots::{MultiSlotArgPattern, Route, SLOT_SIZE, SlotAddr};
 use std::alloc::{AllocError, Global};
 use std::hash::BuildHasherDefault;
 

@@ -2,8 +2,8 @@ ghost use Rattle.std.specs.Prelude.{◌≡◌, ◌⊎◌, ◌<◌, ◌+◌, Some
 ghost use Rattle.std.specs.List.{range_with_len};
 ghost use Rattle.resp_core.specs.ErrorParts.{out_of_memory};
 ghost use Rattle.resp_core.specs.declared.error.ErrorKind.TheVariants.{Client};
+ghost use Rattle.cluster_slots.specs.Lists.{all_some};
 ghost use Rattle.redis_routing.specs.Command.{argument};
-ghost use Rattle.redis_routing.specs.Lists.{all_some};
 ghost use Rattle.redis_routing.specs.SubCommand.{bytes_in, saturated, sub_command, sub_command_after, text_len};
 
 use crate::routable::Routable;

@@ -1,5 +1,6 @@
-use super::policy::{AggregateOp, LogicalAggregateOp, ResponsePolicy};
-use super::route_by::{MultiSlotArgPattern, RouteBy};
+use super::policy::ResponsePolicy;
+use super::route_by::RouteBy;
+use cluster_slots::{AggregateOp, LogicalAggregateOp, MultiSlotArgPattern};
 
 /// How commands of a name are routed, and how the replies to them make one, by ascending bytes. It
 /// has no row for most names, whose key is argument 1.

@@ -6,6 +6,7 @@ use Rattle.std.proofs.lemmas.Option.{slice_get-map, slice_get-get_or}
 use Rattle.std.proofs.Math.Path.{fun_ext}
 use Rattle.std.specs.Prelude.{Option, Some, None, MatchOption, slice_get}
 use Rattle.std.specs.List.{flat_map, list_any}
+use Rattle.cluster_slots.specs.declared.arg_pattern.MultiSlotArgPattern.{MultiSlotArgPattern}
 use Rattle.cluster_map.specs.Address.{Address}
 use Rattle.cluster_map.specs.SlotNodes.{SlotNodes}
 use Rattle.cluster_map.specs.RangeMap.{RangeEntry}
@@ -18,7 +19,6 @@ use Rattle.redis_routing.specs.Names.{names_of}
 use Rattle.redis_routing.specs.Registry.{Registrations}
 use Rattle.redis_cluster.specs.Split.{Split, route_part, split_part}
 use Rattle.redis_cluster.specs.RoutingInfo.{route_list, route_lists}
-use Rattle.redis_routing.specs.declared.route_by.MultiSlotArgPattern.{MultiSlotArgPattern}
 use Rattle.slotroute_serve.specs.Commands.{run_only_reads, names_with}
 use Rattle.slotroute_serve.specs.Split.{RoutedPart, IsRoutedPart, ArePartLines, IsSplitAnswer, part_line}
 use Rattle.slotroute_serve.proofs.Reading.{AllZip-more}

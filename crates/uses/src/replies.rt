@@ -2,8 +2,8 @@
 ghost use Rattle.std.specs.Prelude.{◌≡◌, Some, None, map, MatchResult};
 ghost use Rattle.resp_core.specs.View.{view};
 ghost use Rattle.resp_core.specs.declared.error.ErrorKind.TheVariants.{UnexpectedReturnType};
+ghost use Rattle.cluster_slots.specs.declared.aggregate_op.AggregateOp.TheVariants.{Sum};
 ghost use Rattle.redis_cluster.specs.Aggregate.{aggregate_of};
-ghost use Rattle.redis_routing.specs.declared.policy.AggregateOp.TheVariants.{Sum};
 
 use redis_cluster::routing::{AggregateOp, aggregate};
 use resp_core::{RedisResult, Value};

@@ -1,7 +1,7 @@
 use Rattle.std.proofs.Common.{◌≡◌, ◌+◌, ◌-◌, ◌<◌, [], ◌∷◌, ◌++◌, length, take, drop, subst, sym, ap, ◌∙◌, append_assoc, append-nil, arith}
 use Rattle.std.specs.Prelude.{slice_get}
 use Rattle.std.proofs.lemmas.List.{length-map}
-use Rattle.redis_routing.specs.Tuples.{width_of}
+use Rattle.cluster_slots.specs.ArgPattern.{width_of}
 use Rattle.redis_cluster.specs.Unsplit.{put, after, results}
 use Rattle.memory_nodes.specs.Cells.{keyspace_of}
 use Rattle.memory_nodes.specs.Parts.{words, key_tuples, act_on}

@@ -6,8 +6,8 @@ use Rattle.std.proofs.lemmas.List.{length-map, nil_from_length, take_at}
 use Rattle.std.proofs.lemmas.List.Edits.{length-between}
 use Rattle.resp_core.specs.Reply.{Reply}
 use Rattle.resp_core.specs.View.{view}
+use Rattle.cluster_slots.specs.Lists.{all_some}
 use Rattle.redis_combiners.specs.Spots.{filled, spots_of}
-use Rattle.redis_routing.specs.Lists.{all_some}
 use Rattle.redis_combiners.proofs.Left.{Left, whole_of, left_first, next_is_array, next_reply, none_left, by_spots, spots_as_items}
 use Rattle.redis_combiners.proofs.arrange.arrange.Goals as goal
 

@@ -3,7 +3,7 @@ use Rattle.std.specs.Int.{w128}
 use Rattle.std.proofs.lemmas.Int.{to_z-of_z}
 use Rattle.resp_core.specs.Reply.{Reply, bulk, int}
 use Rattle.resp_core.specs.View.{view_pair}
-use Rattle.redis_routing.specs.Lists.{all_some}
+use Rattle.cluster_slots.specs.Lists.{all_some}
 use Rattle.redis_combiners.specs.Entries.{plain_pairs}
 use Rattle.redis_combiners.specs.Totals.{reply_pair}
 use Rattle.redis_combiners.proofs.Ahead.{before}

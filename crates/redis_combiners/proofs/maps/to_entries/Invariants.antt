@@ -1,6 +1,6 @@
 use Rattle.std.proofs.Common.{◌≡◌, map}
 use Rattle.resp_core.specs.View.{view_pair}
-use Rattle.redis_routing.specs.Lists.{all_some}
+use Rattle.cluster_slots.specs.Lists.{all_some}
 use Rattle.redis_combiners.specs.Entries.{plain_pairs}
 use Rattle.redis_combiners.specs.Totals.{reply_pair}
 use Rattle.redis_combiners.proofs.Ahead.{before}

@@ -1,6 +1,6 @@
 use Rattle.std.proofs.Common.{◌≡◌, length, map, drop, option_map}
+use Rattle.cluster_slots.specs.Lists.{flatten}
 use Rattle.redis_combiners.specs.KeyPlaces.{all_places}
-use Rattle.redis_routing.specs.Lists.{flatten}
 use Rattle.redis_combiners.proofs.Ahead.{before}
 use Rattle.redis_combiners.proofs.places.key_places.Given as goal
 

@@ -1,11 +1,12 @@
 use Rattle.std.proofs.Common.{◌≡◌, ◌<◌, ◌≤◌, ◌+◌, ◌*◌, ◌/◌, ap, sym, ◌∙◌, subst, Some, take, length}
 use Rattle.std.specs.List.{range_with_len}
 use Rattle.cluster_slots.specs.KeySlot.{key_slot}
+use Rattle.cluster_slots.specs.ArgPattern.{width_of, tuple_args_count}
 use Rattle.redis_routing.specs.Command.{argument}
 use Rattle.redis_routing.specs.Groups.{lists_of_tuples, with_places}
 use Rattle.redis_routing.specs.Parts.{slot_of}
 use Rattle.redis_routing.specs.PresentArguments.{present_arguments_after}
-use Rattle.redis_routing.specs.Tuples.{tuples_in, places_of, width_of, tuple_args_count}
+use Rattle.redis_routing.specs.Tuples.{tuples_in, places_of}
 use Rattle.redis_routing.proofs.Grouping.{lists_more}
 use Rattle.redis_routing.proofs.TupleSteps.{next_tuple, tuples_end}
 use Rattle.redis_routing.proofs.splitting.group_by_slot.Goals as goal

@@ -1,8 +1,8 @@
 use Rattle.std.proofs.Common.{ap, ◌∙◌}
 use Rattle.std.proofs.lemmas.Result.{IfOk-weaker}
+use Rattle.cluster_slots.specs.ArgPattern.{tuple_args_count}
 use Rattle.redis_routing.specs.PresentArguments.{present_arguments_after}
 use Rattle.redis_routing.specs.RoutingInfo.{route_lists}
-use Rattle.redis_routing.specs.Tuples.{tuple_args_count}
 use Rattle.redis_routing.proofs.Grouping.{shared_routes}
 use Rattle.redis_routing.proofs.splitting.routes_by_slot.Goals as goal
 

@@ -1,7 +1,7 @@
 use Rattle.std.proofs.Common.{◌≡◌, ◌-◌, map}
 use Rattle.std.specs.List.{range_with_len}
+use Rattle.cluster_slots.specs.Lists.{all_some}
 use Rattle.redis_routing.specs.Command.{argument}
-use Rattle.redis_routing.specs.Lists.{all_some}
 use Rattle.redis_routing.proofs.SubCommands.{before}
 use Rattle.redis_routing.proofs.sub_commands.name_of.Given as goal
 

@@ -1,6 +1,6 @@
 use Rattle.std.proofs.Common.{◌≡◌, ◌+◌, drop, map}
+use Rattle.cluster_slots.specs.Lists.{all_some}
 use Rattle.redis_routing.specs.Command.{argument}
-use Rattle.redis_routing.specs.Lists.{all_some}
 use Rattle.redis_routing.specs.SubCommand.{sub_command_after}
 use Rattle.redis_routing.proofs.SubCommands.{before}
 use Rattle.redis_routing.proofs.sub_commands.sub_command.Given as goal

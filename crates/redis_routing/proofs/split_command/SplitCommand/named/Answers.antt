@@ -1,6 +1,6 @@
 use Rattle.std.proofs.Common.{◌≡◌, ap, sym, ◌∙◌, length}
+use Rattle.cluster_slots.specs.ArgPattern.{is_complete}
 use Rattle.redis_routing.specs.PresentArguments.{present_arguments, present_arguments_after}
-use Rattle.redis_routing.specs.Tuples.{is_complete}
 use Rattle.redis_routing.proofs.CommandNames.{has_words}
 use Rattle.redis_routing.specs.Routing.{routes_of}
 use Rattle.redis_routing.proofs.split_command.SplitCommand.named.Goals as goal

@@ -3,9 +3,9 @@ use Rattle.std.proofs.Common.{◌≡◌, ℕ, zero, suc, ◌-◌, ◌<◌, ◌�
 use Rattle.std.specs.Prelude.{nat_lt}
 use Rattle.std.proofs.lemmas.Bool.Decides.{nat_tests}
 use Rattle.std.proofs.lemmas.List.{length-take-le}
-use Rattle.redis_routing.specs.Tuples.{fits, tuple_args_count, width_of}
-use Rattle.redis_routing.specs.declared.route_by.MultiSlotArgPattern.{MultiSlotArgPattern}
-use Rattle.redis_routing.specs.declared.route_by.MultiSlotArgPattern.TheVariants.{KeysOnly, KeyValuePairs, KeysAndLastArg, KeyWithTwoArgTriples}
+use Rattle.cluster_slots.specs.ArgPattern.{fits, tuple_args_count, width_of}
+use Rattle.cluster_slots.specs.declared.arg_pattern.MultiSlotArgPattern.{MultiSlotArgPattern}
+use Rattle.cluster_slots.specs.declared.arg_pattern.MultiSlotArgPattern.TheVariants.{KeysOnly, KeyValuePairs, KeysAndLastArg, KeyWithTwoArgTriples}
 
 pub some_width : (pattern : MultiSlotArgPattern) → 0 < width_of pattern
 some_width KeysOnly = omega arith
@@ -27,7 +27,7 @@ own_few KeyWithTwoArgTriples m = omega arith
 pub length-own : (pattern : MultiSlotArgPattern) (present : List (List ℕ)) → length (take (tuple_args_count pattern (length present)) present) ≡ tuple_args_count pattern (length present)
 length-own pattern present = length-take-le (tuple_args_count pattern (length present)) present (own_few pattern (length present))
 
--- where tuples are whole, some arguments make them
+-- if tuples are whole, some arguments make them
 pub some_own : (pattern : MultiSlotArgPattern) (m : ℕ) → fits pattern m ≡ true → 0 < tuple_args_count pattern m
 some_own KeysOnly m h = grind (arith, nat_tests)
 some_own KeyValuePairs zero h = absurd (cc h)
