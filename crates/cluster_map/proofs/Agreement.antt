@@ -1,10 +1,11 @@
 -- A map and its topology agree.
-use Rattle.std.proofs.Common.{◌≡◌, ◌<◌, ◌≤◌, ◌+◌, ℕ, suc, All, Bool, true, false, cond, nat_eq, List, [], ◌∷◌, ◌++◌, length, map, filter, slice_get, Option, Some, None, option_map, option_and_then, refl, sym, ap, subst, ◌∙◌, append_assoc, arith}
+use Rattle.std.proofs.Common.{◌≡◌, ◌<◌, ◌≤◌, ◌+◌, ℕ, suc, All, Bool, true, false, cond, nat_eq, List, [], ◌∷◌, ◌++◌, length, map, filter, slice_get, Option, Some, None, option_map, option_and_then, refl, sym, ap, ◌∙◌, append_assoc, arith}
 use Rattle.std.proofs.lemmas.Bool.Decides.{nat_tests}
 use Rattle.std.proofs.lemmas.List.Elements.{All-contains, filter-append}
 use Rattle.std.proofs.lemmas.Option.{slice_get-map}
 use Rattle.std.specs.List.{list_any}
 use Rattle.std.specs.Prelude.{option_to_list}
+use Rattle.std.proofs.lemmas.Grind.{common_steps}
 use Rattle.cluster_slots.specs.Address.{Address, same_address}
 use Rattle.cluster_slots.proofs.Orders.{same_from_address}
 use Rattle.cluster_map.specs.SlotNodes.{SlotNodes}
@@ -64,9 +65,7 @@ part k rs = map (with_key k) (map range_of_entry (filter (has_primary k) rs))
 
 part_ends : (e : ℕ) (k : Address) (rs : List (RangeEntry SlotNodes)) → filter (ends_with e) (part k rs) ≡ part k (filter (ends_with e) rs)
 part_ends e k [] = refl
-part_ends e k (r ∷ rs) = by_test (has_primary k r)
-    (λ h. rw h (by_test (nat_eq r.1 e) (λ t. rw (t, h) (ap (λ z. (r.0, r.1, Some k) ∷ z) (part_ends e k rs))) (λ t. rw t (part_ends e k rs))))
-    (λ h. rw h (by_test (nat_eq r.1 e) (λ t. rw (t, h) (part_ends e k rs)) (λ t. rw t (part_ends e k rs))))
+part_ends e k (r ∷ rs) = grind (arith, common_steps, part_ends e k rs)
 
 none_ends : {V : Type 0} (e : ℕ) (rs : List (RangeEntry V)) → EndsAfter e rs → Ascends rs → filter (ends_with e) rs ≡ []
 none_ends e [] s up = refl
@@ -74,9 +73,7 @@ none_ends e (r ∷ rs) s up = let m : nat_eq r.1 e ≡ false = grind (arith, nat
 
 one_ends : {V : Type 0} (e : ℕ) (rs : List (RangeEntry V)) → Ascends rs → filter (ends_with e) rs ≡ option_to_list (find e rs)
 one_ends e [] up = refl
-one_ends e (r ∷ rs) up = by_test (nat_eq r.1 e)
-    (λ h. let k : r.1 ≡ e = grind (arith, nat_tests) in rw h (ap (λ z. r ∷ z) (none_ends e rs (subst (λ z. EndsAfter z rs) k up.0) up.1)))
-    (λ h. rw h (one_ends e rs up.1))
+one_ends e (r ∷ rs) up = grind (arith, by_test, nat_tests, none_ends, one_ends e rs up.1)
 
 last_of-append : {X : Type 0} (o : Option X) (xs ys : List X) → last_of o (xs ++ ys) ≡ last_of (last_of o xs) ys
 last_of-append o [] ys = refl
@@ -85,10 +82,7 @@ last_of-append o (x ∷ xs) ys = last_of-append (Some x) xs ys
 -- at an end that no range has
 last_none : (e : ℕ) (rs : List (RangeEntry SlotNodes)) → filter (ends_with e) rs ≡ [] → (ks : List Address) (o : Option (RangeEntry (Option Address))) → last_of o (filter (ends_with e) (shard_entries (map (shard_of rs) ks))) ≡ o
 last_none e rs h [] o = refl
-last_none e rs h (k ∷ ks) o =
-    ap (last_of o) (filter-append (ends_with e) (part k rs) (shard_entries (map (shard_of rs) ks)))
-    ∙ ap (λ z. last_of o (z ++ filter (ends_with e) (shard_entries (map (shard_of rs) ks)))) (part_ends e k rs ∙ ap (part k) h)
-    ∙ last_none e rs h ks o
+last_none e rs h (k ∷ ks) o = grind (arith, last_of, filter-append, ends_with, part_ends, last_none e rs h ks o)
 
 same_cond : {X : Type 0} (b : Bool) (x : X) → cond b x x ≡ x
 same_cond true x = refl

@@ -1,12 +1,13 @@
 -- Entries in reverse that are sorted by their ends, of which the first of each end is kept, are what inserts in order leave.
-use Rattle.std.proofs.Common.{◌≡◌, ◌<◌, ◌≤◌, ◌+◌, ℕ, suc, inl, inr, ◌⊎◌, Bool, true, false, nat_lt, nat_eq, nat_cmp, List, [], ◌∷◌, length, get_or, filter, reverse, refl, sym, ap, subst, ◌∙◌, arith}
-use Rattle.std.proofs.lemmas.Bool.{eqb-true, lt-ltb, le-ltb}
+use Rattle.std.proofs.Common.{◌≡◌, ◌<◌, ◌≤◌, ◌+◌, ℕ, suc, inl, inr, ◌⊎◌, Bool, true, nat_lt, nat_eq, nat_cmp, List, [], ◌∷◌, length, get_or, filter, reverse, refl, sym, ap, subst, ◌∙◌, arith}
+use Rattle.std.proofs.lemmas.Bool.{eqb-true}
 use Rattle.std.proofs.lemmas.Bool.Decides.{nat_tests}
 use Rattle.std.specs.Prelude.{None}
 use Rattle.std.proofs.lemmas.List.{length-append}
 use Rattle.std.specs.List.{dedup, dedup_from, AllAdjacentBelow}
 use Rattle.std.specs.List.Sorted.{IsNonDecreasingBy, IsStableByKey, ties}
 use Rattle.std.specs.Ordering.{is_lt}
+use Rattle.std.proofs.lemmas.Grind.{common_steps}
 use Rattle.resp_core.proofs.Cases.{by_test}
 use Rattle.cluster_map.specs.RangeMap.{RangeEntry, end_of, EndsAfter, Ascends, insert_entry, insert_entries}
 use Rattle.cluster_map.proofs.Ranges.{ending_below, ending_above}
@@ -32,11 +33,7 @@ same_end x y = nat_eq (end_of x) (end_of y)
 -- what goes has the end of an entry before it
 find-dedup_from : {V : Type 0} (e : ℕ) (k : RangeEntry V) (xs : List (RangeEntry V)) → find e (dedup_from same_end k xs) ≡ find e (k ∷ xs)
 find-dedup_from e k [] = refl
-find-dedup_from e k (x ∷ xs) = by_test (same_end x k)
-    (λ same. rw same (find-dedup_from e k xs ∙ by_test (nat_eq k.1 e)
-    (λ h. rw h refl)
-    (λ h. let other : nat_eq x.1 e ≡ false = grind (arith, nat_tests) in rw (h, other) refl)))
-    (λ apart. rw apart (by_test (nat_eq k.1 e) (λ h. rw h refl) (λ h. rw h (find-dedup_from e x xs))))
+find-dedup_from e k (x ∷ xs) = grind (arith, common_steps, find-dedup_from e k xs, find-dedup_from e x xs)
 
 find-dedup : {V : Type 0} (e : ℕ) (xs : List (RangeEntry V)) → find e (dedup same_end xs) ≡ find e xs
 find-dedup e [] = refl
@@ -94,10 +91,7 @@ same_at xs ys stable e x h =
     sym (filter_same (ties less x) (ends_with e) (λ y. ties_ends x y e h) ys) ∙ stable x ∙ filter_same (ties less x) (ends_with e) (λ y. ties_ends x y e h) xs
 
 same_filter : {V : Type 0} (xs ys : List (RangeEntry V)) → IsStableByKey end_of nat_cmp xs ys → (e : ℕ) → filter (ends_with e) ys ≡ filter (ends_with e) xs
-same_filter xs ys stable e = elim (none_or_one (ends_with e) ys) [
-  | inr p ↦ same_at xs ys stable e p.0 p.1
-  | inl a ↦ elim (none_or_one (ends_with e) xs) [ inr p ↦ same_at xs ys stable e p.0 p.1 | inl b ↦ a ∙ sym b ]
-]
+same_filter xs ys stable e = grind (arith, none_or_one, ends_with, same_at)
 
 find-stable : {V : Type 0} (xs ys : List (RangeEntry V)) → IsStableByKey end_of nat_cmp xs ys → (e : ℕ) → find e ys ≡ find e xs
 find-stable xs ys stable e = find-filter e ys ∙ ap (first_of None) (same_filter xs ys stable e) ∙ sym (find-filter e xs)
@@ -111,9 +105,7 @@ dedup-is_insert_entries es sorted stable order =
 -- there are no more entries than were put in
 apart : {V : Type 0} (end : ℕ) (es : List (RangeEntry V)) → length (ending_below end es) + length (ending_above end es) ≤ length es
 apart end [] = omega arith
-apart end (e ∷ es) =
-    let rest = apart end es in
-    by_order (end_of e) end (λ l. rw (lt-ltb (end_of e) end l, le-ltb end (end_of e) (omega arith)) (omega arith)) (λ l. rw (le-ltb (end_of e) end (omega arith), le-ltb end (end_of e) (omega arith)) (omega arith)) (λ l. rw (le-ltb (end_of e) end (omega arith), lt-ltb end (end_of e) l) (omega arith))
+apart end (e ∷ es) = grind (arith, common_steps, apart end es)
 
 pub length-insert_entries : {V : Type 0} (es more : List (RangeEntry V)) → length (insert_entries es more) ≤ length es + length more
 length-insert_entries es [] = omega arith

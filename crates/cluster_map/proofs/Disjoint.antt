@@ -2,6 +2,7 @@
 use Rattle.std.proofs.Common.{◌≡◌, ◌<◌, ◌≤◌, ℕ, inl, inr, ◌⊎◌, ◌↔◌, List, [], ◌∷◌, map, Contains, IsPermutation, refl, sym, ap, ◌∙◌, arith}
 use Rattle.std.proofs.lemmas.Bool.{cases_order}
 use Rattle.std.proofs.lemmas.List.Sorted.{IsPermutation-map, IsPermutation-sym, Contains-permutation}
+use Rattle.std.proofs.lemmas.Grind.{common_steps}
 use Rattle.cluster_map.specs.RangeMap.{RangeEntry, end_of, Ascends, insert_entry, AreDisjoint}
 use Rattle.cluster_map.specs.SlotNodes.{SlotNodes, RangeNodes, nodes_of, range_entry, insert_ranges}
 use Rattle.cluster_map.proofs.Ranges.{Contains-cons_cases, Contains-cons_head, Contains-cons_tail, Contains-nil, EndsAfter-contains, insert_entry-front, insert_entry-place, insert_entry-later, Ascends-insert_entry}
@@ -69,10 +70,7 @@ same_heads e f es fs up_es up_fs at_e at_f = elim (Contains-cons_cases f fs e at
 
 -- an entry that ends after the head is in the tail
 in_tail : {V : Type 0} (e g : RangeEntry V) (es : List (RangeEntry V)) → end_of e < end_of g → Contains (e ∷ es) g → Contains es g
-in_tail e g es after there = elim (Contains-cons_cases e es g there) [
-  | inl same ↦ let ends : end_of e ≡ end_of g = ap end_of same in absurd (omega arith)
-  | inr later ↦ later
-]
+in_tail e g es after there = grind (arith, common_steps)
 
 -- the entries of one tail are in the other
 tails : {V : Type 0} (e f : RangeEntry V) (es fs : List (RangeEntry V)) → e ≡ f → Ascends (e ∷ es) → ((g : RangeEntry V) → Contains (e ∷ es) g → Contains (f ∷ fs) g) → (g : RangeEntry V) → Contains es g → Contains fs g

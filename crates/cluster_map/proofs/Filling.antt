@@ -1,9 +1,10 @@
 -- All ranges of the shards, put in one after the other, and the places that they have.
-use Rattle.std.proofs.Common.{◌≡◌, ◌<◌, ◌≤◌, ◌+◌, ℕ, zero, suc, Bool, not, nat_eq, nat_lt, inl, inr, List, [], ◌∷◌, ◌++◌, map, filter, length, take, get_or, slice_index, sym, ap, ◌∙◌, append_assoc, arith}
+use Rattle.std.proofs.Common.{◌≡◌, ◌<◌, ◌≤◌, ◌+◌, ℕ, zero, suc, Bool, not, nat_eq, inl, inr, List, [], ◌∷◌, ◌++◌, map, filter, length, take, get_or, slice_index, sym, ap, ◌∙◌, arith}
 use Rattle.std.proofs.lemmas.List.{append-nil, take_more, length-take-le}
 use Rattle.std.specs.List.{Contains}
+use Rattle.std.proofs.lemmas.Grind.{common_steps}
 use Rattle.cluster_map.specs.EachOnce.{once_by}
-use Rattle.cluster_map.specs.RangeMap.{RangeEntry, end_of, value_of, insert_entry, insert_entries}
+use Rattle.cluster_map.specs.RangeMap.{RangeEntry, value_of, insert_entry, insert_entries}
 use Rattle.cluster_map.specs.Shards.{ShardNodes}
 use Rattle.cluster_map.specs.Topology.{place_entry, place_entries, places_left}
 use Rattle.cluster_map.specs.Inner.Topology.{AllPlaces}
@@ -15,9 +16,7 @@ put es e = insert_entry es e.0 e.1 (value_of e)
 
 place_entries-last : (place : ℕ) (ss : List ShardNodes) (s : ShardNodes) → place_entries place (ss ++ s ∷ []) ≡ place_entries place ss ++ map (place_entry (place + length ss)) s.ranges
 place_entries-last place [] s = append-nil (map (place_entry place) s.ranges) ∙ ap (λ k. map (place_entry k) s.ranges) (omega arith)
-place_entries-last place (x ∷ xs) s =
-    ap (λ z. map (place_entry place) x.ranges ++ z) (place_entries-last (suc place) xs s ∙ ap (λ k. place_entries (suc place) xs ++ map (place_entry k) s.ranges) (omega arith))
-    ∙ sym (append_assoc (map (place_entry place) x.ranges) (place_entries (suc place) xs) (map (place_entry (place + length (x ∷ xs))) s.ranges))
+place_entries-last place (x ∷ xs) s = grind (arith, common_steps, place_entries-last (suc place) xs s)
 
 -- the ranges of one shard more
 pub place_entries-more : (ss : List ShardNodes) (i : ℕ) (s : ShardNodes) → i < length ss → s ≡ get_or ss i s → place_entries 0 (take i ss) ++ map (place_entry i) s.ranges ≡ place_entries 0 (take (i + 1) ss)
@@ -36,10 +35,7 @@ places-append n [] ys a b = b
 places-append n (x ∷ xs) ys a b = (a.0, places-append n xs ys a.1 b)
 
 places-insert : (n : ℕ) (es : List (RangeEntry ℕ)) (e : RangeEntry ℕ) → value_of e < n → AllPlaces n es → AllPlaces n (put es e)
-places-insert n es e below all =
-    places-append n (filter (λ r. nat_lt (end_of r) e.1) es) (e ∷ filter (λ r. nat_lt e.1 (end_of r)) es)
-    (places-filter n (λ r. nat_lt (end_of r) e.1) es all)
-    (below, places-filter n (λ r. nat_lt e.1 (end_of r)) es all)
+places-insert n es e below all = grind (arith, places-append, places-filter)
 
 places-insert_entries : (n : ℕ) (es more : List (RangeEntry ℕ)) → AllPlaces n es → AllPlaces n more → AllPlaces n (insert_entries es more)
 places-insert_entries n es [] a b = a

@@ -3,8 +3,8 @@ use Rattle.std.proofs.Common.{◌≡◌, ◌<◌, ℕ, inl, inr, true, false, co
 use Rattle.std.proofs.lemmas.Bool.{eqb-true, cases_lt, cases_order}
 use Rattle.std.proofs.lemmas.Bool.Decides.{nat_tests}
 use Rattle.std.proofs.lemmas.List.{append-nil, reverse-append}
-use Rattle.std.proofs.lemmas.List.Elements.{filter-append}
 use Rattle.std.proofs.lemmas.List.Sums.{fold-append}
+use Rattle.std.proofs.lemmas.Grind.{common_steps}
 use Rattle.resp_core.proofs.Cases.{by_test}
 use Rattle.cluster_map.specs.RangeMap.{RangeEntry, end_of, EndsAfter, Ascends, insert_entry, insert_entries}
 use Rattle.cluster_map.proofs.Ranges.{EndsAfter-smaller, insert_entry-front, insert_entry-place, insert_entry-later, Ascends-insert_entry}
@@ -31,9 +31,7 @@ ends_with e r = nat_eq r.1 e
 -- rising lists with equal look-ups are equal
 pub find_above : {V : Type 0} (e : ℕ) (rs : List (RangeEntry V)) → EndsAfter e rs → Ascends rs → find e rs ≡ None
 find_above e [] s up = refl
-find_above e (r ∷ rs) s up =
-    let m : nat_eq r.1 e ≡ false = grind (arith, nat_tests) in
-    rw m (find_above e rs (EndsAfter-smaller e r.1 rs s up.0) up.1)
+find_above e (r ∷ rs) s up = grind (arith, common_steps, find_above e rs (EndsAfter-smaller e r.1 rs s up.0) up.1)
 
 pub same_ranges : {V : Type 0} (xs ys : List (RangeEntry V)) → Ascends xs → Ascends ys → ((e : ℕ) → find e xs ≡ find e ys) → xs ≡ ys
 same_ranges [] [] u w h = refl
@@ -111,8 +109,7 @@ insert_entries-last es (x ∷ xs) ascends =
 
 -- so it is one whether the entries of a map are there or are put in
 pub insert_entries-onto : {V : Type 0} (es more : List (RangeEntry V)) → Ascends es → insert_entries [] (es ++ more) ≡ insert_entries es more
-insert_entries-onto es more ascends =
-    fold-append (λ z e. insert_entry z e.0 e.1 e.2) [] es more ∙ ap (λ z. insert_entries z more) (insert_entries-last [] es ascends)
+insert_entries-onto es more ascends = grind (arith, fold-append, insert_entries-last)
 
 -- of the entries in reverse, the first with an end is the last that has it
 pub find-filter : {V : Type 0} (e : ℕ) (es : List (RangeEntry V)) → find e es ≡ first_of None (filter (ends_with e) es)
@@ -132,9 +129,7 @@ first_of-reverse o (x ∷ xs) = ap (first_of o) (reverse-cons x xs) ∙ first_of
 
 filter-reverse : {X : Type 0} (p : X → Bool) (xs : List X) → filter p (reverse xs) ≡ reverse (filter p xs)
 filter-reverse p [] = refl
-filter-reverse p (x ∷ xs) =
-    ap (filter p) (reverse-cons x xs) ∙ filter-append p (reverse xs) (x ∷ []) ∙ ap (λ z. z ++ filter p (x ∷ [])) (filter-reverse p xs)
-    ∙ by_test (p x) (λ h. rw h (sym (reverse-cons x (filter p xs)))) (λ h. rw h (append-nil (reverse (filter p xs))))
+filter-reverse p (x ∷ xs) = grind (arith, common_steps, filter-reverse p xs)
 
 pub find-reverse : {V : Type 0} (e : ℕ) (es : List (RangeEntry V)) → find e (reverse es) ≡ last_of None (filter (ends_with e) es)
 find-reverse e es = find-filter e (reverse es) ∙ ap (first_of None) (filter-reverse (ends_with e) es) ∙ first_of-reverse None (filter (ends_with e) es)

@@ -4,12 +4,13 @@ use Rattle.std.specs.List.{list_any, position_or_len}
 use Rattle.std.proofs.lemmas.List.{append-nil}
 use Rattle.std.proofs.lemmas.List.Sums.{fold-append}
 use Rattle.std.proofs.lemmas.List.Elements.{filter-append}
+use Rattle.std.proofs.lemmas.Grind.{common_steps}
 use Rattle.cluster_slots.specs.Address.{Address, same_address}
 use Rattle.cluster_slots.proofs.Orders.{same_from_address, address_decides}
 use Rattle.cluster_map.specs.SlotNodes.{SlotNodes}
 use Rattle.cluster_map.specs.RangeMap.{RangeEntry}
 use Rattle.cluster_map.specs.Shards.{ShardNodes}
-use Rattle.cluster_map.specs.Topology.{entry_primary, has_primary, range_of_entry, first_replicas, shard_with, shard_of, shards_of}
+use Rattle.cluster_map.specs.Topology.{entry_primary, has_primary, first_replicas, shard_with, shard_of, shards_of}
 use Rattle.cluster_map.specs.Inner.Topology.{primary_of}
 use Rattle.cluster_map.proofs.Places.{cons_cond}
 use Rattle.cluster_map.proofs.Members.{add_new, added_once, list_any-last}
@@ -82,24 +83,16 @@ keys_stay (s ∷ ss) (suc i) x y q e = ap (λ z. s.primary ∷ z) (keys_stay ss 
 
 -- the same, from what the set and the shard said
 pub add_fresh : (ss us : List ShardNodes) (r : RangeEntry SlotNodes) (ks : List Address) (k : Address) (s : ShardNodes) (b : Bool) → ks ≡ map primary_of ss → k ≡ (entry_primary r) → b ≡ not (list_any (same_address k) ks) → b ≡ true → us ≡ ss ++ s ∷ [] → s ≡ shard_with (entry_primary r) (r ∷ []) → us ≡ add_range ss r
-add_fresh ss us r ks k s b e q t h u w =
-    let n : not (list_any (same_address (entry_primary r)) (map primary_of ss)) ≡ true = ap (λ z. not (list_any (same_address (entry_primary r)) z)) (sym e) ∙ ap (λ z. not (list_any (same_address z) ks)) (sym q) ∙ sym t ∙ h in
-    u ∙ ap (λ z. ss ++ z ∷ []) w ∙ add_to_none ss r (not_true _ n)
+add_fresh ss us r ks k s b e q t h u w = grind (arith, add_to_none, not_true)
 
 pub any_there : (ss : List ShardNodes) (r : RangeEntry SlotNodes) (ks : List Address) (k : Address) (b : Bool) → ks ≡ map primary_of ss → k ≡ (entry_primary r) → b ≡ not (list_any (same_address k) ks) → b ≡ false → list_any (same_address (entry_primary r)) (map primary_of ss) ≡ true
-any_there ss r ks k b e q t h =
-    let n : not (list_any (same_address (entry_primary r)) (map primary_of ss)) ≡ false = ap (λ z. not (list_any (same_address (entry_primary r)) z)) (sym e) ∙ ap (λ z. not (list_any (same_address z) ks)) (sym q) ∙ sym t ∙ h in
-    not_false _ n
+any_there ss r ks k b e q t h = grind (arith, common_steps)
 
 pub add_known : (ss : List ShardNodes) (r : RangeEntry SlotNodes) (ks : List Address) (k : Address) (i : ℕ) (x y : ShardNodes) (b : Bool) → ks ≡ map primary_of ss → k ≡ (entry_primary r) → b ≡ not (list_any (same_address k) ks) → b ≡ false → i ≡ position_or_len (same_address k) ks → x ≡ get_or ss i x → y ≡ with_range x r → set ss i y ≡ add_range ss r
-add_known ss r ks k i x y b e q t h at read w =
-    let place : i ≡ position_or_len (same_address (entry_primary r)) (map primary_of ss) = at ∙ ap (λ z. position_or_len (same_address z) ks) q ∙ ap (position_or_len (same_address (entry_primary r))) e in
-    ap (set ss i) w ∙ add_to_one ss r i x (any_there ss r ks k b e q t h) place read
+add_known ss r ks k i x y b e q t h at read w = grind (arith, set, add_to_one, any_there)
 
 pub keys_known : (ss : List ShardNodes) (r : RangeEntry SlotNodes) (ks ms : List Address) (k : Address) (i : ℕ) (x y : ShardNodes) (b : Bool) → ks ≡ map primary_of ss → b ≡ not (list_any (same_address k) ks) → b ≡ false → ms ≡ cond (list_any (same_address k) ks) ks (ks ++ k ∷ []) → x ≡ get_or ss i x → y ≡ with_range x r → ms ≡ map primary_of (set ss i y)
-keys_known ss r ks ms k i x y b e t h m read w =
-    let any : list_any (same_address k) ks ≡ true = not_false _ (sym t ∙ h) in
-    m ∙ rw any (e ∙ sym (keys_stay ss i x y read (ap primary_of w)))
+keys_known ss r ks ms k i x y b e t h m read w = grind (arith, not_false, keys_stay)
 
 any_within : (ss : List ShardNodes) (k : Address) → list_any (same_address k) (map primary_of ss) ≡ true → position_or_len (same_address k) (map primary_of ss) < length ss
 any_within [] k = λ h. cc
@@ -108,11 +101,7 @@ any_within (s ∷ ss) k = by_test (same_address k s.primary)
     (λ t. rw t (λ h. let rest = any_within ss k h in omega (arith, rest)))
 
 pub place_within : (ss : List ShardNodes) (ks : List Address) (k : Address) (i : ℕ) (b : Bool) → ks ≡ map primary_of ss → b ≡ not (list_any (same_address k) ks) → b ≡ false → i ≡ position_or_len (same_address k) ks → i < length ss
-place_within ss ks k i b e t h at =
-    let any : list_any (same_address k) ks ≡ true = not_false _ (sym t ∙ h) in
-    let place : i ≡ position_or_len (same_address k) (map primary_of ss) = at ∙ ap (position_or_len (same_address k)) e in
-    let within = any_within ss k (sym (ap (list_any (same_address k)) e) ∙ any) in
-    omega (arith, place, within)
+place_within ss ks k i b e t h at = grind (arith, not_false, any_within)
 
 map-append-one : {X Y : Type 0} (f : X → Y) (xs : List X) (x : X) → map f (xs ++ x ∷ []) ≡ map f xs ++ f x ∷ []
 map-append-one f [] x = refl
@@ -134,11 +123,7 @@ filter_skip k rs r h = filter-append (has_primary k) rs (r ∷ []) ∙ rw h (app
 
 -- one range more
 shard_more : (k : Address) (rs : List (RangeEntry SlotNodes)) (r : RangeEntry SlotNodes) → has_primary k r ≡ true → list_any (has_primary k) rs ≡ true → with_range (shard_of rs k) r ≡ shard_of (rs ++ r ∷ []) k
-shard_more k rs r h a =
-    let f = filter_last k rs r h in
-    let b : map range_of_entry (filter (has_primary k) (rs ++ r ∷ [])) ≡ map range_of_entry (filter (has_primary k) rs) ++ (r.0, r.1) ∷ [] = ap (map range_of_entry) f ∙ map-append-one range_of_entry (filter (has_primary k) rs) r in
-    let q : first_replicas (filter (has_primary k) (rs ++ r ∷ [])) ≡ first_replicas (filter (has_primary k) rs) = ap first_replicas f ∙ first_stays (has_primary k) rs r a in
-    rw (b, q) refl
+shard_more k rs r h a = grind (arith, filter_last, map-append-one, first_stays)
 
 shard_other : (k : Address) (rs : List (RangeEntry SlotNodes)) (r : RangeEntry SlotNodes) → has_primary k r ≡ false → shard_of rs k ≡ shard_of (rs ++ r ∷ []) k
 shard_other k rs r h = ap (shard_with k) (sym (filter_skip k rs r h))
@@ -191,9 +176,7 @@ distinct_cond false k p ks d h e = (apart_last ks k p d.0 h, e)
 
 distinct_new : (ks : List Address) (p : Address) → Distinct ks → Distinct (add_new ks p)
 distinct_new [] p d = (refl, tt)
-distinct_new (k ∷ ks) p d = by_test (same_address p k)
-    (λ t. rw t d)
-    (λ t. rw t (distinct_cond (list_any (same_address p) ks) k p ks d (same_sym k p ∙ t) (distinct_new ks p d.1)))
+distinct_new (k ∷ ks) p d = grind (arith, by_test, distinct_cond, same_sym, distinct_new ks p d.1)
 
 have_more : (ks : List Address) (rs : List (RangeEntry SlotNodes)) (r : RangeEntry SlotNodes) → AllHave rs ks → AllHave (rs ++ r ∷ []) ks
 have_more [] rs r a = tt

@@ -3,6 +3,7 @@ use Rattle.std.proofs.Common.{◌≡◌, ◌<◌, ◌≤◌, ℕ, inl, inr, cond
 use Rattle.std.specs.Ordering.{match_ordering}
 use Rattle.std.proofs.lemmas.Bool.{cases_order}
 use Rattle.std.proofs.lemmas.Bool.Decides.{nat_tests}
+use Rattle.std.proofs.lemmas.Grind.{common_steps}
 use Rattle.cluster_map.specs.RangeMap.{RangeEntry, Ascends, IsAnswerAt, IsUncovered, insert_entry, insert_entries}
 use Rattle.resp_core.proofs.Cases.{by_test}
 use Rattle.cluster_map.proofs.Ranges.{ending_from, EndsFirstFrom-head, IsAnswerAt-first, IsAnswerAt-unique, IsUncovered-first, IsUncovered-none, insert_entry-front, insert_entry-place, insert_entry-later, Ascends-insert_entry}
@@ -82,13 +83,7 @@ with_value g e = (e.0, e.1, g e.2)
 
 pub with_value-step : {A B : Type 0} (g : A → B) (es : List (RangeEntry A)) (start end : ℕ) (value : A) → map (with_value g) (insert_step es start end value) ≡ insert_step (map (with_value g) es) start end (g value)
 with_value-step g [] start end value = refl
-with_value-step g (r ∷ rs) start end value = elim (cases_order end r.1) [
-  | inl same ↦ let order : nat_cmp end r.1 ≡ Equal = grind (arith, nat_tests) in rw order refl
-  | inr apart ↦ elim apart [
-    | inl before ↦ let order : nat_cmp end r.1 ≡ Less = grind (arith, nat_tests) in rw order refl
-    | inr later ↦ let order : nat_cmp end r.1 ≡ Greater = grind (arith, nat_tests) in rw order (ap (λ z. with_value g r ∷ z) (with_value-step g rs start end value))
-  ]
-]
+with_value-step g (r ∷ rs) start end value = grind (arith, common_steps, with_value-step g rs start end value)
 
 pub with_value-insert_steps : {A B : Type 0} (g : A → B) (es more : List (RangeEntry A)) → map (with_value g) (insert_steps es more) ≡ insert_steps (map (with_value g) es) (map (with_value g) more)
 with_value-insert_steps g es [] = refl

@@ -24,19 +24,14 @@ any_at p (y ∷ ys) (suc place) x at is = by_test (p y) (λ t. rw t refl) (λ t.
 
 -- the first of distinct addresses is none of the others
 not_later : (k a : Address) (ks : List Address) (place : ℕ) → Distinct (k ∷ ks) → k ≡ a → slice_get ks place ≡ Some a → true ≡ false
-not_later k a ks place distinct same at =
-    sym (any_at (same_address k) ks place a at (ap (same_address k) (sym same) ∙ same_refl k)) ∙ distinct.0
+not_later k a ks place distinct same at = grind (arith, any_at, same_refl)
 
 -- of distinct addresses each stands at one place
 place_unique : (ks : List Address) → Distinct ks → (i j : ℕ) (a : Address) → slice_get ks i ≡ Some a → slice_get ks j ≡ Some a → i ≡ j
 place_unique [] distinct i j a at_i at_j = cc
 place_unique (k ∷ ks) distinct zero zero a at_i at_j = refl
-place_unique (k ∷ ks) distinct zero (suc j) a at_i at_j =
-    let same : k ≡ a = cc in
-    let no : true ≡ false = not_later k a ks j distinct same at_j in cc
-place_unique (k ∷ ks) distinct (suc i) zero a at_i at_j =
-    let same : k ≡ a = cc in
-    let no : true ≡ false = not_later k a ks i distinct same at_i in cc
+place_unique (k ∷ ks) distinct zero (suc j) a at_i at_j = grind (arith, zero, suc, not_later)
+place_unique (k ∷ ks) distinct (suc i) zero a at_i at_j = grind (arith, suc, zero, not_later)
 place_unique (k ∷ ks) distinct (suc i) (suc j) a at_i at_j = ap suc (place_unique ks distinct.1 i j a at_i at_j)
 
 -- to leave out a place is to leave out its address
@@ -71,11 +66,7 @@ once_places ps distinct (place ∷ places) (k ∷ keys) is =
 
 at_places-map : {X Y : Type 0} (f : X → Y) (xs : List X) (places : List ℕ) → at_places (map f xs) places ≡ map f (at_places xs places)
 at_places-map f xs [] = refl
-at_places-map f xs (place ∷ places) =
-    let rest = at_places-map f xs places in
-    rw (slice_get-map f xs place) (by_option (slice_get xs place)
-    (λ none. rw none rest)
-    (λ x there. rw there (ap (λ z. f x ∷ z) rest)))
+at_places-map f xs (place ∷ places) = grind (arith, slice_get-map, by_option, slice_get, at_places-map f xs places)
 
 values_with : {A B : Type 0} (g : A → B) (es : List (RangeEntry A)) → map value_of (map (with_value g) es) ≡ map g (map value_of es)
 values_with g [] = refl

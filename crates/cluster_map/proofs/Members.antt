@@ -1,8 +1,9 @@
 -- Addresses put into a set one at a time are each address once.
-use Rattle.std.proofs.Common.{◌≡◌, Bool, true, false, not, cond, ◌||◌, List, [], ◌∷◌, ◌++◌, fold, filter, refl, sym, ap, ◌∙◌, append_assoc}
+use Rattle.std.proofs.Common.{◌≡◌, Bool, true, false, not, cond, ◌||◌, List, [], ◌∷◌, ◌++◌, fold, filter, refl, sym, ap, ◌∙◌, append_assoc, arith}
 use Rattle.std.specs.List.{list_any}
 use Rattle.std.proofs.lemmas.List.{append-nil}
 use Rattle.std.proofs.lemmas.List.Sums.{fold-append}
+use Rattle.std.proofs.lemmas.Grind.{common_steps}
 use Rattle.cluster_slots.specs.Address.{Address, same_address}
 use Rattle.cluster_slots.proofs.Orders.{same_from_address}
 use Rattle.resp_core.proofs.Cases.{by_test}
@@ -26,30 +27,19 @@ list_any-last p (y ∷ ys) x = by_test (p y) (λ h. rw h refl) (λ h. rw h (list
 -- a filter after one that lets more through does nothing
 filter-less : {A : Type 0} (p q : A → Bool) (xs : List A) → ((x : A) → p x ≡ true → q x ≡ true) → filter p (filter q xs) ≡ filter p xs
 filter-less p q [] more = refl
-filter-less p q (x ∷ xs) more = by_test (q x)
-    (λ t. rw t (by_test (p x) (λ s. rw s (ap (λ z. x ∷ z) (filter-less p q xs more))) (λ s. rw s (filter-less p q xs more))))
-    (λ t. by_test (p x)
-    (λ s. let u : true ≡ false = sym (more x s) ∙ t in cc)
-    (λ s. rw (t, s) (filter-less p q xs more)))
+filter-less p q (x ∷ xs) more = grind (arith, common_steps, filter-less p q xs more)
 
 -- two filters, one after the other, are the filter of both
 filter-both : {A : Type 0} (p q r : A → Bool) (xs : List A) → ((x : A) → r x ≡ cond (q x) (p x) false) → filter p (filter q xs) ≡ filter r xs
 filter-both p q r [] both = refl
-filter-both p q r (x ∷ xs) both = by_test (q x)
-    (λ t. let is : r x ≡ p x = both x ∙ rw t refl in
-    rw (t, is) (by_test (p x) (λ s. rw s (ap (λ z. x ∷ z) (filter-both p q r xs both))) (λ s. rw s (filter-both p q r xs both))))
-    (λ t. let is : r x ≡ false = both x ∙ rw t refl in rw (t, is) (filter-both p q r xs both))
+filter-both p q r (x ∷ xs) both = grind (arith, common_steps, filter-both p q r xs both)
 
 -- equal elements are the same, where a test says so
 abbrev pub Tells : {A : Type 0} → (A → A → Bool) → Type 0
 Tells {A} same = (x y : A) → same x y ≡ true → x ≡ y
 
 same_members : {A : Type 0} (same : A → A → Bool) → Tells same → (xs : List A) (x y : A) → list_any (same x) xs ≡ true → is_new same xs y ≡ true → not (same y x) ≡ true
-same_members same tells xs x y there new = by_test (same y x)
-    (λ t. let is : y ≡ x = tells y x t in
-    let no : is_new same xs y ≡ false = ap (λ z. is_new same xs z) is ∙ ap not there in
-    let u : true ≡ false = sym new ∙ no in cc)
-    (λ t. rw t refl)
+same_members same tells xs x y there new = grind (arith, common_steps)
 
 not_or : (x y : Bool) → not (x || y) ≡ cond (not y) (not x) false
 not_or true true = refl

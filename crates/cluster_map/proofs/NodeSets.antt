@@ -7,6 +7,7 @@ use Rattle.cluster_slots.specs.Address.{Address, address_cmp, same_address}
 use Rattle.cluster_slots.proofs.Orders.{same_from_address}
 use Rattle.resp_core.proofs.Cases.{by_test, or_second}
 use Rattle.std.proofs.lemmas.List.{map-append}
+use Rattle.std.proofs.lemmas.Grind.{common_steps}
 use Rattle.cluster_map.specs.EachOnce.{each_once}
 use Rattle.cluster_map.specs.Inner.NodeSets.{addresses_counted, index_of}
 use Rattle.cluster_map.specs.declared.slot_map.node_set.counted.Counted.{Counted}
@@ -18,9 +19,7 @@ same_from_cmp a b = sym (search (comparing, rules))
 
 -- an index that is found, and one that is not
 pub found : (nodes : List Address) (a : Address) (index : ℕ) → index_of nodes a ≡ Some index → (list_any (same_address a) nodes ≡ true) × (index ≡ position_or_len (same_address a) nodes)
-found nodes a index is = by_test (list_any (same_address a) nodes)
-    (λ t. let one : Some (position_or_len (same_address a) nodes) ≡ Some index = rw t at is in (t, cc))
-    (λ t. let no : None ≡ Some index = rw t at is in cc)
+found nodes a index is = grind (arith, common_steps)
 
 no_index : (nodes : List Address) (a : Address) → list_any (same_address a) nodes ≡ false → position_or_len (same_address a) nodes ≡ length nodes
 no_index [] a none = refl
@@ -29,26 +28,12 @@ no_index (n ∷ nodes) a none = by_test (same_address a n)
     (λ t. let rest = no_index nodes a (rw t at none) in rw t (omega (arith, rest)))
 
 pub not_found : (nodes : List Address) (a : Address) → index_of nodes a ≡ None → (list_any (same_address a) nodes ≡ false) × (length nodes ≡ position_or_len (same_address a) nodes)
-not_found nodes a is = by_test (list_any (same_address a) nodes)
-    (λ t. let no : Some (position_or_len (same_address a) nodes) ≡ None = rw t at is in cc)
-    (λ t. (t, sym (no_index nodes a t)))
+not_found nodes a is = grind (arith, by_test, no_index)
 
 -- of one node more
 index_stays : (nodes : List Address) (a b : Address) → same_address b a ≡ false → index_of (nodes ++ a ∷ []) b ≡ index_of nodes b
 index_stays [] a b apart = rw apart refl
-index_stays (n ∷ nodes) a b apart = by_test (same_address b n)
-    (λ t. rw t refl)
-    (λ t.
-    let rest = index_stays nodes a b apart in
-    by_test (list_any (same_address b) nodes)
-    (λ any.
-    let more : list_any (same_address b) (nodes ++ a ∷ []) ≡ true = list_any-last (same_address b) nodes a ∙ rw any refl in
-    let some : Some (position_or_len (same_address b) (nodes ++ a ∷ [])) ≡ Some (position_or_len (same_address b) nodes) = rw (more, any) at rest in
-    let same : position_or_len (same_address b) (nodes ++ a ∷ []) ≡ position_or_len (same_address b) nodes = cc in
-    rw (t, more, any) (ap (λ z. Some (1 + z)) same))
-    (λ none.
-    let more : list_any (same_address b) (nodes ++ a ∷ []) ≡ false = list_any-last (same_address b) nodes a ∙ rw (none, apart) refl in
-    rw (t, more, none) refl))
+index_stays (n ∷ nodes) a b apart = grind (arith, common_steps, index_stays nodes a b apart)
 
 index_last : (nodes : List Address) (a : Address) → list_any (same_address a) nodes ≡ false → index_of (nodes ++ a ∷ []) a ≡ Some (length nodes)
 index_last [] a new = rw (same_refl a) refl
@@ -71,9 +56,7 @@ index_of-push nodes a b new = by_test (same_address a b)
 
 others_stay : (k : Counted) (ks : List Counted) → AllByRecursion (λ y. same_address k.node.now y.node.now ≡ false) ks → filter (λ a. not (same_address a k.node.now)) (addresses_counted ks) ≡ addresses_counted ks
 others_stay k [] apart = refl
-others_stay k (y ∷ ys) apart =
-    let other : same_address y.node.now k.node.now ≡ false = same_sym y.node.now k.node.now ∙ apart.0 in
-    rw other (ap (λ z. y.node.now ∷ z) (others_stay k ys apart.1))
+others_stay k (y ∷ ys) apart = grind (arith, same_sym, others_stay k ys apart.1)
 
 pub counted_once : (ks : List Counted) → IsDistinct (λ x y. same_address x.node.now y.node.now) ks → each_once (addresses_counted ks) ≡ addresses_counted ks
 unfolding IsDistinct

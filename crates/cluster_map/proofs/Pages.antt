@@ -1,9 +1,8 @@
 -- The numbers of pages, from which a place is found by a look at few ends.
-use Rattle.std.proofs.Common.{◌≡◌, ◌≢◌, ◌<◌, ◌≤◌, ◌+◌, ◌*◌, ◌/◌, ◌^◌, ℕ, zero, suc, inl, inr, true, false, nat_lt, nat_cmp, List, [], ◌∷◌, ◌++◌, length, map, take, drop, get_or, set, sym, ap, subst, ◌∙◌, arith}
-use Rattle.std.proofs.lemmas.Bool.{cases_lt, cases_order, lt-ltb, le-ltb}
+use Rattle.std.proofs.Common.{◌≡◌, ◌≢◌, ◌<◌, ◌≤◌, ◌+◌, ◌*◌, ◌/◌, ◌^◌, ℕ, zero, suc, true, false, nat_lt, nat_cmp, List, [], ◌∷◌, ◌++◌, length, map, take, drop, get_or, set, sym, ap, ◌∙◌, arith}
+use Rattle.std.proofs.lemmas.Bool.{lt-ltb, le-ltb}
 use Rattle.std.proofs.lemmas.Bool.Decides.{nat_tests}
-use Rattle.std.proofs.lemmas.List.{get_or-take, get_or-drop, get_or-set_same, get_or-set_other, take-append-drop, drop_at, length-append, length-take-le, length-drop, length-set, length-map}
-use Rattle.std.proofs.Math.Seq.{take-append_seam}
+use Rattle.std.proofs.lemmas.List.{get_or-take, get_or-drop, take-append-drop, length-take-le, length-drop}
 use Rattle.std.proofs.lemmas.List.Edits.{insert-append_left}
 use Rattle.std.proofs.Math.Nat.{div-mul-le_self, div-lt_iff_lt-mul, mul-le-mul_right}
 use Rattle.std.proofs.Math.Pow.{pow-lt}
@@ -11,6 +10,7 @@ use Rattle.std.specs.List.{insert}
 use Rattle.std.specs.Int.{from_bool}
 use Rattle.std.specs.List.Sorted.{IsNonDecreasing}
 use Rattle.std.specs.Ordering.{ord_max}
+use Rattle.std.proofs.lemmas.Grind.{common_steps}
 use Rattle.resp_core.proofs.Cases.{by_test}
 use Rattle.cluster_map.specs.RangeIndex.{ArePages, IsIndex}
 use Rattle.cluster_map.specs.RangeMap.{RangeEntry, end_of, Ascends}
@@ -19,12 +19,7 @@ use Rattle.cluster_map.proofs.Places.{below, below_at, place_in, place_found, en
 -- more of the ends are below a greater one
 pub below-more : (low high : ℕ) (ends : List ℕ) → low ≤ high → below low ends ≤ below high ends
 below-more low high [] order = omega arith
-below-more low high (e ∷ ends) order =
-    let rest = below-more low high ends order in
-    elim (cases_lt e low) [
-      | inl less ↦ rw (lt-ltb e low less, lt-ltb e high (omega arith)) (omega arith)
-      | inr from ↦ rw (le-ltb e low from) (by_test (nat_lt e high) (λ t. rw t (omega arith)) (λ t. rw t (omega arith)))
-    ]
+below-more low high (e ∷ ends) order = grind (arith, common_steps, below-more low high ends order)
 
 -- and of more ends
 pub below-insert : (end : ℕ) (ends : List ℕ) (place e : ℕ) → below end ends ≤ below end (insert ends place e)
@@ -82,18 +77,10 @@ below_next_page bits place d ends rise within =
 
 -- a number written to a page
 pub ArePages-set : (bits page number : ℕ) (numbers ends : List ℕ) → ArePages bits numbers ends → page < length numbers → number ≤ below (page * 2 ^ bits) ends → ArePages bits (set numbers page number) ends
-ArePages-set bits page number numbers ends pages there few p d within =
-    let short : p < length numbers = subst (λ n. p < n) (length-set numbers page number) within in
-    elim (cases_order p page) [
-      | inl same ↦ rw (same, get_or-set_same numbers page number d there) few
-      | inr apart ↦ let other : p ≢ page = λ z. elim apart [ inl less ↦ omega arith | inr more ↦ omega arith ] in rw (get_or-set_other numbers page p number d other) (pages p d short)
-    ]
+ArePages-set bits page number numbers ends pages there few p d within = grind (arith, common_steps)
 
 pub ord_max_le : (a b k : ℕ) → a ≤ k → b ≤ k → ord_max nat_cmp a b ≤ k
-ord_max_le a b k h l = elim (cases_order a b) [
-  | inl same ↦ grind (arith, nat_tests)
-  | inr apart ↦ elim apart [ inl less ↦ grind (arith, nat_tests) | inr more ↦ grind (arith, nat_tests) ]
-]
+ord_max_le a b k h l = grind (arith, common_steps)
 
 -- what is below a page is below the next
 pub below_next : (bits page : ℕ) (ends : List ℕ) → below (page * 2 ^ bits) ends ≤ below ((page + 1) * 2 ^ bits) ends
@@ -107,17 +94,11 @@ below-one end e ends one is = is_one (by_test (nat_lt e end) (λ t. rw t (omega 
 
 -- an index is made of ends and the numbers of pages
 pub IsIndex-written : {V : Type 0} (es : List (RangeEntry V)) (ends numbers index : List ℕ) (bits : ℕ) → ends ≡ map end_of es → ArePages bits numbers (map end_of es) → bits < 16 → index ≡ ends ++ numbers → IsIndex es index bits
-IsIndex-written es ends numbers index bits same pages small whole =
-    let size : length ends ≡ length es = ap length same ∙ length-map es end_of in
-    let all : length index ≡ length ends + length numbers = ap length whole ∙ length-append ends numbers in
-    let front : take (length es) index ≡ map end_of es = ap (take (length es)) whole ∙ ap (λ n. take n (ends ++ numbers)) (sym size) ∙ take-append_seam ends numbers ∙ same in
-    let back : drop (length es) index ≡ numbers = ap (drop (length es)) whole ∙ drop_at ends numbers (length es) size in
-    record { long = omega arith; ends = front; pages = rw back pages; small = small }
+IsIndex-written es ends numbers index bits same pages small whole = grind (arith, common_steps)
 
 -- it is one of other entries that have the same ends
 pub IsIndex-same : {V : Type 0} (es others : List (RangeEntry V)) (index : List ℕ) (bits : ℕ) → map end_of others ≡ map end_of es → IsIndex es index bits → IsIndex others index bits
-IsIndex-same es others index bits same is =
-    IsIndex-written others (take (length es) index) (drop (length es) index) index bits (is.ends ∙ sym same) (rw same is.pages) is.small (sym (take-append-drop (length es) index))
+IsIndex-same es others index bits same is = grind (arith, common_steps)
 
 -- and with an end put in it is that of the entries with one more
 pub IsIndex-insert : {V : Type 0} (es : List (RangeEntry V)) (index : List ℕ) (bits place start end : ℕ) (value : V) → place ≤ length es → IsIndex es index bits → IsIndex (insert es place (start, end, value)) (insert index place end) bits

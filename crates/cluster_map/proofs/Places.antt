@@ -5,6 +5,7 @@ use Rattle.std.proofs.lemmas.Bool.{eqb-true, cases_lt, cases_order, lt-ltb, le-l
 use Rattle.std.proofs.lemmas.Bool.Decides.{nat_tests}
 use Rattle.std.specs.List.{insert}
 use Rattle.std.specs.List.Sorted.{IsNonDecreasing}
+use Rattle.std.proofs.lemmas.Grind.{common_steps}
 use Rattle.resp_core.proofs.Cases.{by_test}
 use Rattle.cluster_map.specs.RangeMap.{RangeEntry, end_of, ends_at, EndsAfter, Ascends, IsUncovered, insert_entry}
 use Rattle.cluster_map.proofs.Ranges.{EndsAfter-smaller, EndsFirstFrom, EndsFirstFrom-head, IsUncovered-none, ending_from, ending_from-skips, ending_from-keeps, ending_below, ending_below-none, insert_entry-front, insert_entry-place, insert_entry-later}
@@ -46,10 +47,7 @@ none_from end e ends k d rise from within =
     rw (below-none end (e ∷ ends) all) (le-ltb (get_or (e ∷ ends) k d) end (all k d within) ∙ sym (le-ltb k 0 (omega arith)))
 
 ltb-suc : (k n : ℕ) → nat_lt k n ≡ nat_lt (suc k) (suc n)
-ltb-suc k n = elim (cases_lt k n) [
-  | inl less ↦ lt-ltb k n less ∙ sym (lt-ltb (suc k) (suc n) (omega arith))
-  | inr from ↦ le-ltb k n from ∙ sym (le-ltb (suc k) (suc n) (omega arith))
-]
+ltb-suc k n = grind (arith, common_steps)
 
 -- of ends that never fall, those below stand at the places before as many as they are
 pub below_at : (end : ℕ) (ends : List ℕ) (k d : ℕ) → IsNonDecreasing ends → k < length ends → nat_lt (get_or ends k d) end ≡ nat_lt k (below end ends)
@@ -124,14 +122,10 @@ insert_entry-at (e ∷ es) start end value ascends = elim (cases_order end (end_
 
 -- the same, from what a search and a test said of the entries
 pub set-is_insert_entry : {V : Type 0} (es seen : List (RangeEntry V)) (place start end : ℕ) (value : V) → Ascends es → seen ≡ es → place ≡ place_in es end → ends_at end (slice_get seen place) ≡ true → set es place (start, end, value) ≡ insert_entry es start end value
-set-is_insert_entry es seen place start end value ascends same at test =
-    let there : ends_at end (slice_get es (place_in es end)) ≡ true = ap (λ z. ends_at end (slice_get z (place_in es end))) (sym same) ∙ ap (λ z. ends_at end (slice_get seen z)) (sym at) ∙ test in
-    ap (λ z. set es z (start, end, value)) at ∙ sym (insert_entry-at es start end value ascends ∙ cond-true _ _ _ there)
+set-is_insert_entry es seen place start end value ascends same at test = grind (arith, slice_get, set, insert_entry-at, cond-true)
 
 pub insert-is_insert_entry : {V : Type 0} (es seen : List (RangeEntry V)) (place start end : ℕ) (value : V) → Ascends es → seen ≡ es → place ≡ place_in es end → ends_at end (slice_get seen place) ≡ false → insert es place (start, end, value) ≡ insert_entry es start end value
-insert-is_insert_entry es seen place start end value ascends same at test =
-    let none : ends_at end (slice_get es (place_in es end)) ≡ false = ap (λ z. ends_at end (slice_get z (place_in es end))) (sym same) ∙ ap (λ z. ends_at end (slice_get seen z)) (sym at) ∙ test in
-    ap (λ z. insert es z (start, end, value)) at ∙ sym (insert_entry-at es start end value ascends ∙ cond-false _ _ _ none)
+insert-is_insert_entry es seen place start end value ascends same at test = grind (arith, slice_get, insert_entry-at, cond-false)
 
 -- what stands at a place, and from it on
 drop-found : {X : Type 0} (xs : List X) (place : ℕ) (x : X) → slice_get xs place ≡ Some x → drop place xs ≡ x ∷ drop (suc place) xs

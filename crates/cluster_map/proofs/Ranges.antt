@@ -4,6 +4,7 @@ use Rattle.std.proofs.Common.{Bor}
 use Rattle.std.specs.Prelude.{Option, Some, None, MatchOption}
 use Rattle.std.specs.List.{Contains, filter}
 use Rattle.std.proofs.lemmas.Bool.{cases_lt, cases_order, le-leb, lt-leb, lt-ltb, le-ltb, cond-true, cond-false}
+use Rattle.std.proofs.lemmas.Grind.{common_steps}
 use Rattle.cluster_map.specs.RangeMap.{RangeEntry, end_of, value_of, EndsAfter, Ascends, IsAnswerAt, IsUncovered, insert_entry, Holds, AreDisjoint, IsHeldByNone, IsHeldWith}
 
 -- an element at a place of a longer list is its head, or an element of its tail
@@ -170,22 +171,15 @@ ending_above-all end (r ∷ rs) after ascends =
 
 -- an entry that ends before the first goes in front of it
 pub insert_entry-front : {V : Type 0} (r : RangeEntry V) (rs : List (RangeEntry V)) (start end : ℕ) (value : V) → Ascends (r ∷ rs) → end < end_of r → insert_entry (r ∷ rs) start end value ≡ (start, end, value) ∷ r ∷ rs
-insert_entry-front r rs start end value ascends before =
-    ap (λ z. z ++ (start, end, value) ∷ ending_above end (r ∷ rs)) (ending_below-none end (r ∷ rs) before ascends)
-    ∙ ap (λ z. (start, end, value) ∷ z) (ending_above-all end (r ∷ rs) before ascends)
+insert_entry-front r rs start end value ascends before = grind (arith, ending_below-none, ending_above-all)
 
 -- an entry with the end of the first takes its place
 pub insert_entry-place : {V : Type 0} (r : RangeEntry V) (rs : List (RangeEntry V)) (start end : ℕ) (value : V) → Ascends (r ∷ rs) → end ≡ end_of r → insert_entry (r ∷ rs) start end value ≡ (start, end, value) ∷ rs
-insert_entry-place r rs start end value ascends same =
-    let after : EndsAfter end rs = rw same ascends.0 in
-    ap (λ z. z ++ (start, end, value) ∷ ending_above end (r ∷ rs)) (cond-false _ _ _ (le-ltb (end_of r) end (omega arith)) ∙ ending_below-none end rs after ascends.1)
-    ∙ ap (λ z. (start, end, value) ∷ z) (cond-false _ _ _ (le-ltb end (end_of r) (omega arith)) ∙ ending_above-all end rs after ascends.1)
+insert_entry-place r rs start end value ascends same = grind (arith, cond-false, le-ltb, ending_below-none, ending_above-all)
 
 -- an entry that ends after the first goes into the others
 pub insert_entry-later : {V : Type 0} (r : RangeEntry V) (rs : List (RangeEntry V)) (start end : ℕ) (value : V) → end_of r < end → insert_entry (r ∷ rs) start end value ≡ r ∷ insert_entry rs start end value
-insert_entry-later r rs start end value later =
-    ap (λ z. z ++ (start, end, value) ∷ ending_above end (r ∷ rs)) (cond-true _ _ _ (lt-ltb (end_of r) end later))
-    ∙ ap (λ z. r ∷ (ending_below end rs ++ (start, end, value) ∷ z)) (cond-false _ _ _ (le-ltb end (end_of r) (omega arith)))
+insert_entry-later r rs start end value later = grind (arith, common_steps)
 
 -- an insert of an end after a number leaves the first entry ending after that number
 pub EndsAfter-insert_entry : {V : Type 0} (low : ℕ) (es : List (RangeEntry V)) (start end : ℕ) (value : V) → low < end → EndsAfter low es → Ascends es → EndsAfter low (insert_entry es start end value)

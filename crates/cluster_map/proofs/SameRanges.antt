@@ -1,5 +1,5 @@
 -- When two ranges are one.
-use Rattle.std.proofs.Common.{◌≡◌, ℕ, true, false, Bool, ◌&&◌, ◌==◌, List, refl, ap, arith}
+use Rattle.std.proofs.Common.{◌≡◌, ℕ, true, false, Bool, ◌&&◌, ◌==◌, List, refl, arith}
 use Rattle.std.proofs.lemmas.Bool.Decides.{nat_tests}
 use Rattle.std.specs.Bool.{Decides}
 use Rattle.std.specs.Cmp.Lexicographic.{pointwise, pointwise_decides}
@@ -23,18 +23,4 @@ same_number : (m n : ℕ) → Decides (m == n) (m ≡ n)
 same_number m n = ((λ h. grind (arith, nat_tests)), (λ e. grind (arith, nat_tests)))
 
 pub range_decides : (a b : RangeNodes) → Decides (same_range a b) (a ≡ b)
-range_decides a b = (
-  (λ h.
-      let (s, rest) = both (a.start == b.start) _ h in
-      let (e, nodes) = both (a.end == b.end) _ rest in
-      let (m, r) = both (same_address a.master b.master) _ nodes in
-      let start = (same_number a.start b.start).0 s in
-      let end = (same_number a.end b.end).0 e in
-      let master = same_from_address a.master b.master m in
-      let replicas = (nodes_decide a.replicas b.replicas).0 r in
-      λ i. record { start = start i; end = end i; master = master i; replicas = replicas i }),
-  (λ same.
-      both_true _ _ ((same_number a.start b.start).1 (ap (λ r. r.start) same))
-      (both_true _ _ ((same_number a.end b.end).1 (ap (λ r. r.end) same))
-      (both_true _ _ ((address_decides a.master b.master).1 (ap (λ r. r.master) same)) ((nodes_decide a.replicas b.replicas).1 (ap (λ r. r.replicas) same))))),
-)
+range_decides a b = grind (arith, same_number, same_from_address, nodes_decide, both_true, address_decides)

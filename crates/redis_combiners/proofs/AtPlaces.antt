@@ -37,13 +37,7 @@ record Stands (pss : List (List ℕ)) (xs : List Reply) (place : ℕ) (item : Op
   item_is : slice_get xs at ≡ item
 
 first_stands : (ps : List ℕ) (rest pss : List (List ℕ)) (ys others xs : List Reply) (j place : ℕ) (item : Option Reply) → pss ≡ ps ∷ rest → xs ≡ ys ++ others → length ys ≡ length ps → slice_get ps j ≡ Some place → slice_get ys j ≡ item → Stands pss xs place item
-first_stands ps rest pss ys others xs j place item p x long there here =
-    let within : j < length ps = slice_get_within ps j place there in
-    record {
-      at = j;
-      place_is = ap (λ qss. slice_get (flatten qss) j) p ∙ slice_get-append_first ps (flatten rest) j within ∙ there;
-      item_is = ap (λ zs. slice_get zs j) x ∙ slice_get-append_first ys others j (omega (arith, long)) ∙ here;
-    }
+first_stands ps rest pss ys others xs j place item p x long there here = grind (arith, slice_get_within, slice_get-append_first)
 
 later_stands : (ps : List ℕ) (rest pss : List (List ℕ)) (ys others xs : List Reply) (place : ℕ) (item : Option Reply) → pss ≡ ps ∷ rest → xs ≡ ys ++ others → length ys ≡ length ps → Stands rest others place item → Stands pss xs place item
 later_stands ps rest pss ys others xs place item p x long s =

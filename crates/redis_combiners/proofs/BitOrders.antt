@@ -23,10 +23,7 @@ all_pass {X} p (x ∷ xs) = ap (λ b. p x && b) (all_pass p xs) ∙ either (p x)
     either false rest = refl
 
 all_in_any_order : {X : Type 0} (p : X → Bool) (xs ys : List X) → IsPermutation xs ys → list_all p ys ≡ list_all p xs
-all_in_any_order p xs ys h =
-    all_pass p ys
-    ∙ ap not (sym (list_any-IsPermutation (λ x. not (p x)) xs ys h))
-    ∙ sym (all_pass p xs)
+all_in_any_order p xs ys h = grind (arith, all_pass, list_any-IsPermutation)
 
 bit_in_any_order : (op : LogicalAggregateOp) (xs ys : List Bool) → IsPermutation xs ys → combined_bit op ys ≡ combined_bit op xs
 bit_in_any_order And xs ys h = all_in_any_order (λ bit. bit) xs ys h

@@ -1,18 +1,17 @@
 -- The reply, step by step.
-use Rattle.std.proofs.Common.{◌≡◌, ℕ, List, length, map, Option, Some, None, Err, refl, ap, sym, ◌∙◌, cond}
+use Rattle.std.proofs.Common.{◌≡◌, ℕ, List, length, map, Option, Some, None, refl, ◌∙◌, arith}
 use Rattle.std.specs.Prelude.{option_map, option_and_then}
 use Rattle.std.proofs.lemmas.Bool.{eq-eqb}
 use Rattle.std.proofs.lemmas.List.{length-map}
 use Rattle.resp_core.specs.Reply.{Reply}
-use Rattle.resp_core.specs.declared.error.ErrorKind.TheVariants.{Client}
 use Rattle.cluster_slots.specs.Lists.{flatten}
 use Rattle.cluster_slots.specs.declared.arg_pattern.MultiSlotArgPattern.{MultiSlotArgPattern}
 use Rattle.redis_combiners.specs.AllItems.{all_items}
 use Rattle.redis_combiners.specs.ByPlaces.{by_places}
 use Rattle.redis_combiners.specs.KeyPlaces.{all_places}
 use Rattle.redis_combiners.specs.Misfits.{first_misfit}
-use Rattle.redis_combiners.specs.SortedArrays.{array_or_refusal, array_by_places, sorted_arrays}
-use Rattle.redis_combiners.proofs.Misfits.{FittingItems, fitting_items, items_length}
+use Rattle.redis_combiners.specs.SortedArrays.{array_or_refusal, sorted_arrays}
+use Rattle.redis_combiners.proofs.Misfits.{fitting_items, items_length}
 
 -- the places of some lists: all in one list, and how many each has
 pub record PlacesOfLists (o : Option (List (List ℕ))) (all counts : List ℕ) : Type 0 where
@@ -33,15 +32,4 @@ pub record LastStep (pattern : MultiSlotArgPattern) (rs : List Reply) (lists : L
 pub last_step : (pattern : MultiSlotArgPattern) (rs : List Reply) (lists : List (List ℕ)) (all counts : List ℕ)
     → PlacesOfLists (all_places pattern lists) all counts → length rs ≡ length counts → first_misfit rs counts ≡ None
     → LastStep pattern rs lists all
-last_step pattern rs lists all counts p n f =
-    let m : length rs ≡ length p.lists = n ∙ ap length p.counts_are ∙ length-map p.lists length in
-    let h : first_misfit rs (map length p.lists) ≡ None = ap (first_misfit rs) (sym p.counts_are) ∙ f in
-    let xs : FittingItems rs = fitting_items rs counts n f in
-    let sorted : Option (List Reply) = option_and_then (by_places (flatten p.lists)) (all_items rs) in
-    record {
-      long = ap (option_map length) xs.are ∙ ap Some (items_length rs p.lists xs.items m h xs.are ∙ ap length (sym p.all_are));
-      is = ap (λ o. array_by_places o rs) p.is
-          ∙ ap (λ b. cond b (array_or_refusal (first_misfit rs (map length p.lists)) sorted) (Err Client)) (eq-eqb (length rs) (length p.lists) m)
-          ∙ ap (λ k. array_or_refusal k sorted) h
-          ∙ ap (λ qs. array_or_refusal None (option_and_then (by_places qs) (all_items rs))) (sym p.all_are);
-    }
+last_step pattern rs lists all counts p n f = grind (arith, length-map, fitting_items, items_length, eq-eqb)

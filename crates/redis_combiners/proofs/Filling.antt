@@ -53,10 +53,7 @@ put_past taken items p x n l = ap (λ b. cond (b && is_none (get_or (spots_of ta
 
 put_within : (taken : List Bool) (items : List Reply) (p : ℕ) (x : Reply) (b : Bool) → length taken ≡ length items → p < length taken → get_or taken p false ≡ b
     → put_item (spots_of taken items) p x ≡ cond (cond b false true) (Some (spots_of (set taken p true) (set items p x))) None
-put_within taken items p x b n l e =
-    ap (λ c. cond (c && is_none (get_or (spots_of taken items) p None)) (Some (set (spots_of taken items) p (Some x))) None) (lt-ltb p (length (spots_of taken items)) (omega (arith, length-spots_of taken items n)))
-    ∙ ap (λ c. cond c (Some (set (spots_of taken items) p (Some x))) None) (free_at taken items p n ∙ ap (λ c. cond c false true) e)
-    ∙ ap (λ spots. cond (cond b false true) (Some spots) None) (set-spots_of taken items p x n)
+put_within taken items p x b n l e = grind (arith, set, lt-ltb, length-spots_of, free_at, set-spots_of)
 
 pub put_taken : (taken : List Bool) (items : List Reply) (p : ℕ) (x : Reply) → length taken ≡ length items → p < length taken → get_or taken p false ≡ true → put_item (spots_of taken items) p x ≡ None
 put_taken taken items p x n l e = put_within taken items p x true n l e

@@ -4,8 +4,9 @@ use Rattle.std.proofs.Math.ListN.{set}
 use Rattle.std.specs.Prelude.{option_map, option_and_then, ◌&&◌}
 use Rattle.std.specs.List.{range_with_len, list_all}
 use Rattle.std.proofs.lemmas.Bool.{eq-eqb, eqb-true, ne_eqb}
-use Rattle.std.proofs.lemmas.List.{append-nil, drop_all, drop_more, get_or_at, length_push, length-map, map_push, set_at, get_or-map, get_or_read}
+use Rattle.std.proofs.lemmas.List.{append-nil, drop_all, drop_more, length_push, length-map, map_push, set_at, get_or-map, get_or_read}
 use Rattle.std.proofs.lemmas.List.FromFn.{fill_by_all}
+use Rattle.std.proofs.lemmas.Grind.{common_steps}
 use Rattle.resp_core.specs.Reply.{Reply, nil, int, bulk, array, simple, okay, pairs, int_of, array_of}
 use Rattle.cluster_slots.specs.Lists.{all_some}
 use Rattle.cluster_slots.specs.declared.aggregate_op.LogicalAggregateOp.{LogicalAggregateOp}
@@ -64,9 +65,6 @@ next_place op x y xs ys a b e f =
     more (Some u) None = refl
     more (Some u) (Some v) = refl
 
-no_bit : (op : LogicalAggregateOp) (x : Reply) (xs ys : List Reply) → bit_in x ≡ None → joined_items op (x ∷ xs) ys ≡ None
-no_bit op x xs ys e = ap (λ o. option_and_then (λ bits. option_map (joined_bits op bits) (bits_among ys)) (all_some (o ∷ map bit_in xs))) e
-
 no_other_bit : (op : LogicalAggregateOp) (y : Reply) (xs ys : List Reply) → bit_in y ≡ None → joined_items op xs (y ∷ ys) ≡ None
 no_other_bit op y xs ys e = ap (λ o. option_and_then (λ bits. option_map (joined_bits op bits) (all_some (o ∷ map bit_in ys))) (bits_among xs)) e ∙ none (bits_among xs)
   where
@@ -83,9 +81,7 @@ pub record JoinedSoFar (op : LogicalAggregateOp) (row first items : List Reply) 
 
 -- the next item is as it was at first
 own_item : (op : LogicalAggregateOp) (row first items : List Reply) (i : ℕ) (d : Reply) → JoinedSoFar op row first items i → i < length first → get_or row i d ≡ get_or first i d
-own_item op row first items i d s l =
-    ap (λ xs. get_or xs i d) (s.row_is ∙ ap (λ xs. map as_int s.bits ++ xs) (drop_more first i d l))
-    ∙ get_or_at (map as_int s.bits) (get_or first i d) (drop (i + 1) first) d i (length-map s.bits as_int ∙ s.long)
+own_item op row first items i d s l = grind (arith, common_steps)
 
 pub joined_more : (op : LogicalAggregateOp) (row first items : List Reply) (i : ℕ) (d : Reply) (a b : Bool) → JoinedSoFar op row first items i → i < length first → length first ≡ length items
     → bit_in (get_or row i d) ≡ Some a → bit_in (get_or items i d) ≡ Some b → JoinedSoFar op (set row i (as_int (joined_bit op a b))) first items (i + 1)
@@ -110,16 +106,10 @@ joined_more op row first items i d a b s l n e f =
     }
 
 pub joined_stop : (op : LogicalAggregateOp) (row first items : List Reply) (i : ℕ) (d : Reply) → JoinedSoFar op row first items i → i < length first → bit_in (get_or row i d) ≡ None → joined_items op first items ≡ None
-joined_stop op row first items i d s l e =
-    sym s.rest
-    ∙ ap (λ xs. before s.bits (joined_items op xs (drop i items))) (drop_more first i d l)
-    ∙ ap (before s.bits) (no_bit op (get_or first i d) (drop (i + 1) first) (drop i items) (ap bit_in (sym (own_item op row first items i d s l)) ∙ e))
+joined_stop op row first items i d s l e = grind (arith, common_steps)
 
 pub joined_stop_at_other : (op : LogicalAggregateOp) (row first items : List Reply) (i : ℕ) (d : Reply) → JoinedSoFar op row first items i → i < length items → bit_in (get_or items i d) ≡ None → joined_items op first items ≡ None
-joined_stop_at_other op row first items i d s l e =
-    sym s.rest
-    ∙ ap (λ ys. before s.bits (joined_items op (drop i first) ys)) (drop_more items i d l)
-    ∙ ap (before s.bits) (no_other_bit op (get_or items i d) (drop i first) (drop (i + 1) items) e)
+joined_stop_at_other op row first items i d s l e = grind (arith, common_steps)
 
 -- all places are joined
 pub record JoinedRow (row : List Reply) (made : Option (List Bool)) : Type 0 where
@@ -127,17 +117,7 @@ pub record JoinedRow (row : List Reply) (made : Option (List Bool)) : Type 0 whe
   pub there : is_some made ≡ true
 
 pub joined_all_places : (op : LogicalAggregateOp) (row first items : List Reply) (i : ℕ) → JoinedSoFar op row first items i → length first ≤ i → length first ≡ length items → JoinedRow row (joined_items op first items)
-joined_all_places op row first items i s l n =
-    let none : drop i first ≡ [] = drop_all i first l in
-    let whole : Some s.bits ≡ joined_items op first items =
-    ap Some (sym (append-nil s.bits))
-    ∙ ap (λ ys. before s.bits (joined_items op [] ys)) (sym (drop_all i items (omega arith)))
-    ∙ ap (λ xs. before s.bits (joined_items op xs (drop i items))) (sym none)
-    ∙ s.rest in
-    record {
-      is = ap bits_among (s.row_is ∙ ap (λ xs. map as_int s.bits ++ xs) none ∙ append-nil (map as_int s.bits)) ∙ bits_of_ints s.bits ∙ whole;
-      there = ap is_some (sym whole);
-    }
+joined_all_places op row first items i s l n = grind (arith, drop_all, append-nil, before, bits_of_ints)
 
 -- rows joined one after the other, if all are of one length
 abbrev pub joined_rows : LogicalAggregateOp → List Bool → List (List Bool) → Option (List Bool)
@@ -166,30 +146,15 @@ pub map_same : {X Y : Type 0} (f g : X → Y) → ((x : X) → f x ≡ g x) → 
 map_same f g h [] = refl
 map_same f g h (x ∷ xs) = ap (λ y. y ∷ map f xs) (h x) ∙ ap (λ ys. g x ∷ ys) (map_same f g h xs)
 
--- the first bit is joined to what the others make
-more_bits : (op : LogicalAggregateOp) (x : Bool) (bits : List Bool) → combined_bit op (x ∷ bits) ≡ joined_bit op x (combined_bit op bits)
-more_bits And x bits = refl
-more_bits Or x bits = refl
-
 one_bit : (op : LogicalAggregateOp) (x : Bool) → combined_bit op (x ∷ []) ≡ x
 one_bit And true = refl
 one_bit And false = refl
 one_bit Or true = refl
 one_bit Or false = refl
 
-joined_first : (op : LogicalAggregateOp) (x y z : Bool) → joined_bit op (joined_bit op x y) z ≡ joined_bit op x (joined_bit op y z)
-joined_first And true y z = refl
-joined_first And false y z = refl
-joined_first Or true y z = refl
-joined_first Or false y z = refl
-
 -- two bits and the one that they make are alike to the others
 two_bits : (op : LogicalAggregateOp) (x y : Bool) (bits : List Bool) → combined_bit op (joined_bit op x y ∷ bits) ≡ combined_bit op (x ∷ (y ∷ bits))
-two_bits op x y bits =
-    more_bits op (joined_bit op x y) bits
-    ∙ joined_first op x y (combined_bit op bits)
-    ∙ sym (ap (joined_bit op x) (more_bits op y bits))
-    ∙ sym (more_bits op x (y ∷ bits))
+two_bits op x y bits = grind (arith, common_steps)
 
 -- two rows and what they make are alike to the others
 combined_same : (op : LogicalAggregateOp) (a b : List Bool) (bs : List (List Bool)) (width : ℕ) → length b ≡ length a → combined_bits op (joined_bits op a b ∷ bs) width ≡ combined_bits op (a ∷ (b ∷ bs)) width

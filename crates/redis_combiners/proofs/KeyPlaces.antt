@@ -1,6 +1,6 @@
 -- The places of keys of a list, tuple by tuple.
 use Rattle.std.proofs.Common.{◌≡◌, ℕ, zero, suc, ◌+◌, ◌-◌, ◌*◌, ◌/◌, ◌%◌, ◌<◌, ◌≤◌, List, [], ◌∷◌, length, map, drop, Some, None, refl, ap, sym, ◌∙◌, arith, cond, eqb, slice_index}
-use Rattle.std.specs.Prelude.{option_and_then, filter}
+use Rattle.std.specs.Prelude.{filter}
 use Rattle.std.specs.List.{range_with_len, enumerate_from}
 use Rattle.std.proofs.lemmas.Bool.{eq-eqb, ne_eqb}
 use Rattle.std.proofs.lemmas.List.{length-drop, get_or-drop}
@@ -66,10 +66,7 @@ tuple_places_are w xs some whole =
     ∙ ap Some (map-map (λ n. n / w) (λ i. slice_index xs (w * i)) (range_with_len 0 (length xs / w)))
 
 pub places_are : (pattern : MultiSlotArgPattern) (list own : List ℕ) (w : ℕ) → w ≡ width_of pattern → Some own ≡ own_arguments pattern list → length own % w ≡ 0 → places pattern list ≡ Some (heads w own (length own / w))
-places_are pattern list own w same is whole =
-    ap (option_and_then (tuple_places (width_of pattern))) (sym is)
-    ∙ ap (λ n. tuple_places n own) (sym same)
-    ∙ tuple_places_are w own (omega (arith, same, some_width pattern)) whole
+places_are pattern list own w same is whole = grind (arith, tuple_places_are, some_width)
 
 pub length-heads : (w n : ℕ) (xs : List ℕ) → length (heads w xs n) ≡ n
 length-heads w n xs = length-map-range_with_len (λ i. slice_index xs (w * i) / w) 0 n

@@ -5,6 +5,7 @@ use Rattle.std.specs.Prelude.{option_map, option_and_then, Vec}
 use Rattle.std.specs.List.{between, list_all}
 use Rattle.std.proofs.lemmas.List.{length-append, length-replicate, length-take-le, map_push, take-append-drop, take-take, take_all}
 use Rattle.std.proofs.lemmas.Slice.{between_is}
+use Rattle.std.proofs.lemmas.Grind.{common_steps}
 use Rattle.resp_core.specs.Reply.{Reply, nil, array_of}
 use Rattle.resp_core.specs.View.{view}
 use Rattle.resp_core.specs.declared.value.Value.{Value}
@@ -95,10 +96,7 @@ next_reply taken sorted vs ws v items places end n whole l e there long =
 
 -- no reply is left
 pub none_left : (taken : List Bool) (sorted : List Reply) (places : List ℕ) (end : ℕ) (whole : Option (List (Option Reply))) → Left taken sorted [] places end whole → Some (spots_of taken sorted) ≡ whole
-none_left taken sorted places end whole l =
-    let are : Some [] ≡ Some l.items = l.items_are in
-    let nothing : [] ≡ l.items = cc in
-    ap (λ m. filled (spots_of taken sorted) (take m places) l.items) (ap length nothing ∙ l.long) ∙ l.rest
+none_left taken sorted places end whole l = grind (arith, common_steps)
 
 -- the order of all items, by the spots
 pub by_spots : (replies : List Reply) (places : List ℕ) → option_map length (all_items replies) ≡ Some (length places) → option_and_then (by_places places) (all_items replies) ≡ option_and_then all_some (whole_of places replies)

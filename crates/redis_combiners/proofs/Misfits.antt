@@ -2,8 +2,9 @@
 use Rattle.std.proofs.Common.{◌≡◌, ℕ, ◌+◌, List, [], ◌∷◌, ◌++◌, length, map, drop, get_or, Option, Some, None, refl, ap, sym, ◌∙◌, arith, cond, eqb}
 use Rattle.std.specs.Prelude.{option_map, slice_get}
 use Rattle.std.specs.List.{filter_map, cons_option, zip}
-use Rattle.std.proofs.lemmas.List.{drop_more, length-append}
+use Rattle.std.proofs.lemmas.List.{length-append}
 use Rattle.std.proofs.lemmas.Bool.{eqb-true}
+use Rattle.std.proofs.lemmas.Grind.{common_steps}
 use Rattle.resp_core.specs.Reply.{Reply, array_of}
 use Rattle.resp_core.specs.View.{view}
 use Rattle.resp_core.specs.declared.value.Value.{Value}
@@ -21,9 +22,7 @@ after o rs counts = slice_get (cons_option o (filter_map misfit (zip rs counts))
 -- a reply and its count come next
 turn : (v : Value) (rest' rest : List Value) (counts : List ℕ) (k : ℕ) → k + length rest ≡ length counts → rest ≡ v ∷ rest'
     → first_misfit (map view rest) (drop k counts) ≡ after (misfit_of (array_of (view v)) (get_or counts k 0)) (map view rest') (drop (k + 1) counts)
-turn v rest' rest counts k n e =
-    ap (λ vs. first_misfit (map view vs) (drop k counts)) e
-    ∙ ap (first_misfit (map view (v ∷ rest'))) (drop_more counts k 0 (omega (arith, ap length e)))
+turn v rest' rest counts k n e = grind (arith, common_steps)
 
 pub no_array : (v : Value) (rest' rest : List Value) (counts : List ℕ) (k : ℕ) (whole : Option ErrorKind) → k + length rest ≡ length counts → rest ≡ v ∷ rest' → None ≡ array_of (view v)
     → first_misfit (map view rest) (drop k counts) ≡ whole → whole ≡ Some UnexpectedReturnType

@@ -57,6 +57,4 @@ mapped f (Some ns) = refl
 
 pub any_order : (op : AggregateOp) (rs others : List Reply) → IsPermutation rs others → aggregate_of op others ≡ aggregate_of op rs
 any_order Sum rs others h = ap (option_map int) (same_of (λ ns. in_i64 (total ns)) (λ xs ys p. ap in_i64 (total_same xs ys p)) rs others h)
-any_order Min rs others h =
-    let f : List ℤ → ℤ = fold int_min (pos (2 ^ 63 - 1)) in
-    ap (option_map int) (mapped f (numbers others) ∙ same_of (λ ns. Some (f ns)) (λ xs ys p. ap Some (least_same (pos (2 ^ 63 - 1)) xs ys p)) rs others h ∙ sym (mapped f (numbers rs)))
+any_order Min rs others h = grind (arith, fold, pos, mapped, same_of, least_same)

@@ -1,7 +1,7 @@
 -- The order of the replies does not count for their totals.
 use Rattle.std.proofs.Common.{◌≡◌, length, ◌^◌, ℕ, ◌+◌, List, [], ◌∷◌, sym, ap, ◌∙◌, refl, arith, map, ℤ, pos, ◌+ℤ◌, Option, Some, None, Bool, true, false, cond}
 use lib.IntN.{negsuc}
-use Rattle.std.specs.Prelude.{option_map, option_and_then, is_none, is_some, unwrap_or, ◌||◌, sum_by, flat_map, nat_lt}
+use Rattle.std.specs.Prelude.{option_map, option_and_then, is_none, is_some, unwrap_or, ◌||◌, sum_by, flat_map}
 use Rattle.std.specs.List.{list_any}
 use Rattle.std.specs.List.Sorted.{IsPermutation}
 use Rattle.std.specs.Str.{bytes_eq}
@@ -14,7 +14,7 @@ use borrow.Author.Differences.{up, down}
 use Rattle.resp_core.specs.Reply.{Reply, array_of}
 use Rattle.cluster_slots.specs.Lists.{flatten}
 use Rattle.redis_combiners.specs.KeyNumbers.{KeyNumber, pairs_among, all_pairs}
-use Rattle.redis_combiners.specs.Totals.{totals, map_of, map_of_totals, combined_map}
+use Rattle.redis_combiners.specs.Totals.{totals, map_of_totals, combined_map}
 use Rattle.redis_combiners.proofs.Lists.{all_some_is}
 use Rattle.redis_combiners.proofs.Totals.{or_zero, sum_at, sum_has, same_totals}
 
@@ -100,14 +100,8 @@ sum_permuted q ps qs h =
 length_same : (rs others : List Reply) → IsPermutation rs others → length (flat_map pairs_of_reply others) ≡ length (flat_map pairs_of_reply rs)
 length_same rs others h = length-flat_map pairs_of_reply others ∙ sum_by-IsPermutation (λ r. length (pairs_of_reply r)) rs others h ∙ sym (length-flat_map pairs_of_reply rs)
 
--- the map of these totals of so many pairs
-abbrev map_with : ℕ → List KeyNumber → Option Reply
-map_with n sums = cond (nat_lt n (2 ^ 63)) (map_of sums) None
-
 map_same : (rs others : List Reply) → IsPermutation rs others → map_of_totals (flat_map pairs_of_reply others) ≡ map_of_totals (flat_map pairs_of_reply rs)
-map_same rs others h =
-    ap (λ n. map_with n (totals (flat_map pairs_of_reply others))) (length_same rs others h)
-    ∙ ap (map_with (length (flat_map pairs_of_reply rs))) (same_totals (flat_map pairs_of_reply others) (flat_map pairs_of_reply rs) (λ q. total_same q rs others h))
+map_same rs others h = grind (arith, length_same, same_totals, total_same)
 
 pub any_order : (rs others : List Reply) → IsPermutation rs others → combined_map others ≡ combined_map rs
 any_order rs others h =

@@ -1,6 +1,6 @@
 -- The total of each key, as the sum of its numbers.
 use Rattle.std.proofs.Common.{◌≡◌, Ordering, length, ℕ, ◌^◌, ◌<◌, ℤ, pos, ◌+ℤ◌, List, [], ◌∷◌, ◌++◌, Bool, true, false, cond, Option, Some, None, refl, ap, sym, subst, ◌∙◌, arith, map, get_or, fold, Vec, Global, FitsSigned, w64}
-use Rattle.std.specs.Prelude.{option_map, option_and_then, unwrap_or, is_some, filter, ◌&&◌, ◌||◌, T}
+use Rattle.std.specs.Prelude.{option_map, unwrap_or, is_some, filter, ◌&&◌, ◌||◌, T}
 use Rattle.std.specs.Ordering.{is_eq, is_lt, nat_cmp}
 use Rattle.std.specs.declared.cmp.Ordering.TheVariants.{Less, Equal, Greater}
 use Rattle.std.specs.Cmp.Lexicographic.{slice_cmp, nat_list_cmp_total, nat_list_eq_equiv}
@@ -14,13 +14,14 @@ use Rattle.std.proofs.lemmas.Map.Text.{is_eq-slice_cmp}
 use Rattle.std.proofs.lemmas.Slice.Eq.{bytes_eq-Decides}
 use Rattle.std.proofs.lemmas.Int.{ints}
 use Rattle.std.proofs.lemmas.List.{length-map, get_or-map}
+use Rattle.std.proofs.lemmas.Grind.{common_steps}
 use Rattle.resp_core.specs.Reply.{Reply, bulk, int, pairs, pairs_of}
 use Rattle.cluster_slots.specs.Lists.{all_some}
-use Rattle.redis_combiners.specs.Aggregate.{total, fits_i64}
+use Rattle.redis_combiners.specs.Aggregate.{total}
 use Rattle.redis_combiners.specs.KeyNumbers.{KeyNumber, all_pairs}
 use Rattle.redis_combiners.specs.Entries.{plain_pairs, total_among, sum_of_totals}
-use Rattle.redis_combiners.specs.Totals.{has_key, total_of, total_at, ascending_keys, totals, IsListing, reply_pair, map_of, map_of_totals, combined_map}
-use Rattle.redis_combiners.proofs.Ahead.{before, before-more}
+use Rattle.redis_combiners.specs.Totals.{has_key, total_of, total_at, ascending_keys, totals, IsListing, reply_pair, combined_map}
+use Rattle.redis_combiners.proofs.Ahead.{before}
 use Rattle.resp_core.proofs.Cases.{by_test}
 
 abbrev order : List ℕ → List ℕ → Ordering
@@ -84,13 +85,7 @@ keys_have q (p ∷ ps) =
 -- what is found in a list of keys, each beside what f makes of it
 find_made : (f : List ℕ → ℤ) (q : List ℕ) (ks : List (List ℕ)) → find order q (map (λ k. (k, f k)) ks) ≡ cond (list_any (λ k. is_eq (order q k)) ks) (Some (f q)) None
 find_made f q [] = refl
-find_made f q (k ∷ ks) = by_test (bytes_eq k q)
-    (λ t. ap (λ b. cond b (Some (f k)) (find order q (map (λ j. (j, f j)) ks))) (same_bytes q k ∙ t)
-    ∙ ap (λ j. Some (f j)) ((bytes_eq-Decides k q).0 t)
-    ∙ ap (λ b. cond (b || list_any (λ j. is_eq (order q j)) ks) (Some (f q)) None) (sym (same_bytes q k ∙ t)))
-    (λ n. ap (λ b. cond b (Some (f k)) (find order q (map (λ j. (j, f j)) ks))) (same_bytes q k ∙ n)
-    ∙ find_made f q ks
-    ∙ ap (λ b. cond (b || list_any (λ j. is_eq (order q j)) ks) (Some (f q)) None) (sym (same_bytes q k ∙ n)))
+find_made f q (k ∷ ks) = grind (arith, by_test, same_bytes, bytes_eq-Decides, find_made f q ks)
 
 find_totals : (q : List ℕ) (ps : List KeyNumber) → find order q (totals ps) ≡ total_at q ps
 find_totals q ps =
@@ -168,27 +163,14 @@ plus-more (Some a) (Some b) n = ap Some (omega (arith, ints))
 
 pub sum_at_more : (k q : List ℕ) (n : ℤ) (new old at_k : Option ℤ) (ps : List KeyNumber) (whole : Option ℤ) → new ≡ cond (bytes_eq k q) (Some (or_zero at_k +ℤ n)) old → (bytes_eq k q ≡ true → at_k ≡ old)
     → sum_of_totals old (sum_at q ((k, n) ∷ ps)) ≡ whole → sum_of_totals new (sum_at q ps) ≡ whole
-sum_at_more k q n new old at_k ps whole e same h = by_test (bytes_eq k q)
-    (λ t. ap (λ o. sum_of_totals o (sum_at q ps)) (e ∙ ap (λ b. cond b (Some (or_zero at_k +ℤ n)) old) t ∙ ap (λ o. Some (or_zero o +ℤ n)) (same t))
-    ∙ plus-more old (sum_at q ps) n
-    ∙ ap (λ b. sum_of_totals old (cond b (Some (n +ℤ or_zero (sum_at q ps))) (sum_at q ps))) (sym t) ∙ h)
-    (λ f. ap (λ o. sum_of_totals o (sum_at q ps)) (e ∙ ap (λ b. cond b (Some (or_zero at_k +ℤ n)) old) f)
-    ∙ ap (λ b. sum_of_totals old (cond b (Some (n +ℤ or_zero (sum_at q ps))) (sum_at q ps))) (sym f) ∙ h)
+sum_at_more k q n new old at_k ps whole e same h = grind (arith, by_test, plus-more)
 
 pub same_key : (k q : List ℕ) (es : List (Vec ℕ Global × ℤ)) → bytes_eq k q ≡ true → total_among es k ≡ total_among es q
 same_key k q es e = ap (total_among es) ((bytes_eq-Decides k q).0 e)
 
--- one more total in the list
-fits-true : (z : ℤ) → FitsSigned w64 z → fits_i64 z ≡ true
-fits-true z f = grind (arith, ints)
-
 pub entries_more : (so_far : List (Reply × Reply)) (key : Vec ℕ Global) (z : ℤ) (rest0 rest : List (Vec ℕ Global × ℤ)) (whole : Option (List (Reply × Reply)))
     → rest0 ≡ (key, z) ∷ rest → FitsSigned w64 z → before so_far (all_some (map reply_pair (plain_pairs rest0))) ≡ whole → before (so_far ++ (bulk key.items, int z) ∷ []) (all_some (map reply_pair (plain_pairs rest))) ≡ whole
-entries_more so_far key z rest0 rest whole e f h =
-    sym (before-more so_far (bulk key.items, int z) (all_some (map reply_pair (plain_pairs rest))))
-    ∙ ap (λ b. before so_far (all_some (option_map (λ n. (bulk key.items, int n)) (cond b (Some z) None) ∷ map reply_pair (plain_pairs rest)))) (sym (fits-true z f))
-    ∙ ap (λ es. before so_far (all_some (map reply_pair (plain_pairs es)))) (sym e)
-    ∙ h
+entries_more so_far key z rest0 rest whole e f h = grind (arith, common_steps)
 
 both : (a b : Bool) → T a → T b → T (a && b)
 both true b p q = q
@@ -225,7 +207,4 @@ find_sorted q (p ∷ ps) h = by_test (bytes_eq p.0 q)
 -- what the entries make is what the replies make
 pub combined_map_is : (rs : List Reply) (ps : List KeyNumber) (es : List (Vec ℕ Global × ℤ)) → all_pairs rs ≡ Some ps → length ps < 2 ^ 63 → IsStrictlySortedBy (slice_cmp nat_cmp) (map (λ e. e.0) (plain_pairs es)) → ((q : List ℕ) → total_among es q ≡ total_at q ps)
     → combined_map rs ≡ option_map (λ l. pairs (pairs_of l)) (all_some (map reply_pair (plain_pairs es)))
-combined_map_is rs ps es k few s h =
-    ap (option_and_then map_of_totals) k
-    ∙ ap (λ b. cond b (map_of (totals ps)) None) (lt-ltb (length ps) (2 ^ 63) few)
-    ∙ ap map_of (sym (are_totals (plain_pairs es) ps (rising (plain_pairs es) s) (λ q. find_sorted q (plain_pairs es) s ∙ sum_at_is q (plain_pairs es) ∙ h q)))
+combined_map_is rs ps es k few s h = grind (arith, lt-ltb, are_totals, rising, find_sorted, sum_at_is)

@@ -83,19 +83,11 @@ with_reply count more q old new (Some ps) rest h = by (all_some rest)
 
     by : (o : Option (List (List KeyNumber))) → with_pairs more new q (option_map flatten o) ≡ with_pairs count old q (option_map flatten (option_map (λ pss. ps ∷ pss) o))
     by None = refl
-    by (Some pss) =
-        both (more + length (flatten pss)) (count + length (ps ++ flatten pss)) (sum_of_totals new (total_at q (flatten pss))) (sum_of_totals old (total_at q (ps ++ flatten pss)))
-        (omega (arith, m, length-append ps (flatten pss)))
-        (ap (λ o. sum_of_totals o (total_at q (flatten pss))) t
-        ∙ plus_assoc old (total_at q ps) (total_at q (flatten pss))
-        ∙ ap (sum_of_totals old) (sym (total_at-append q ps (flatten pss))))
+    by (Some pss) = grind (arith, more, length-append, t, plus_assoc, total_at-append)
 
 pub replies_more : (count more : ℕ) (q : List ℕ) (old new : Option ℤ) (reply : Reply) (items rest : List Reply) → Some items ≡ array_of reply → with_pairs count old q (pairs_among items) ≡ Some (more, new)
     → with_pairs more new q (all_pairs rest) ≡ with_pairs count old q (all_pairs (reply ∷ rest))
-replies_more count more q old new reply items rest e h =
-    let others = map (λ r. option_and_then pairs_among (array_of r)) rest in
-    with_reply count more q old new (pairs_among items) others h
-    ∙ ap (λ o. with_pairs count old q (option_map flatten (all_some (option_and_then pairs_among o ∷ others)))) e
+replies_more count more q old new reply items rest e h = grind (arith, more, with_reply)
 
 -- a reply that has no pairs
 pub reply_refused : (count : ℕ) (q : List ℕ) (old : Option ℤ) (reply : Reply) (items rest : List Reply) → Some items ≡ array_of reply → with_pairs count old q (pairs_among items) ≡ None → None ≡ with_pairs count old q (all_pairs (reply ∷ rest))

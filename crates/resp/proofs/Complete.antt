@@ -5,10 +5,11 @@ use Rattle.std.proofs.lemmas.Bool.{eqb-true, ltb-true, ltb-false}
 use Rattle.std.proofs.lemmas.Bool.Decides.{nat_tests}
 use Rattle.std.proofs.lemmas.Slice.Eq.{bytes_eq-Decides}
 use Rattle.std.proofs.lemmas.List.{length-append, nil_from_length}
+use Rattle.std.proofs.lemmas.Grind.{common_steps}
 use Rattle.resp_core.specs.Reply.{nil, int, bulk}
 use Rattle.resp.specs.declared.fault.Fault.{Fault}
 use Rattle.resp.specs.declared.fault.Fault.TheVariants.{Incomplete, Malformed, TooDeep}
-use Rattle.resp.specs.Forms.{Answer, IsForm, answer_before, array_of_all, simple_of, number_up_to, int_in, length_in, crlf}
+use Rattle.resp.specs.Forms.{Answer, answer_before, array_of_all, simple_of, number_up_to, int_in, length_in, crlf}
 use Rattle.resp.specs.Reading.{◌>>=◌, or_malformed, Items, after_line_end, text_until_line_end, after_text, is_before_digits, is_before_length, int_at, length_at, bytes_at, flat_at, times_at, array_items_at, array_at, front_at, answer_at, CanBeCompleted, HasNoAnswer, BeginsNone}
 use Rattle.resp_core.proofs.Cases.{by_test}
 use Rattle.resp.proofs.Steps.{chosen, done, failed, both}
@@ -50,9 +51,7 @@ module _ {A B : Type 0} (F : List ℕ → Result (A × List ℕ) Fault) (G : A �
 
   filled_by : (bytes : List ℕ) (r : Result (A × List ℕ) Fault) → F bytes ≡ r → Completable F → ((x : A) → Completable (G x)) → ((x : A) → Filled (G x) [])
       → (r >>= λ x. G x.0 x.1) ≡ Err Incomplete → Filled sequel bytes
-  filled_by bytes (Ok x) is first second begins e =
-      let g = second x.0 x.1 e in
-      (g.0, g.1, after_first bytes g.0 x.1 x.0 g.1 is g.2)
+  filled_by bytes (Ok x) is first second begins e = grind (arith, common_steps)
   filled_by bytes (Err Incomplete) is first second begins e = both_filled bytes (first bytes is) begins
   filled_by bytes (Err Malformed) is first second begins e = absurd (no_malformed e)
   filled_by bytes (Err TooDeep) is first second begins e = absurd (no_too_deep e)
@@ -69,11 +68,7 @@ ended_completes (b ∷ []) e =
       | inl p ↦ (10 ∷ [], rw p.0 refl)
       | inr p ↦ absurd (no_malformed p.1)
     ]
-ended_completes (b ∷ c ∷ rest) e =
-    elim (chosen (eqb b 13 && eqb c 10) (Ok rest) (Err Malformed) (failed Incomplete) e) [
-      | inl p ↦ absurd (no_ok rest p.1)
-      | inr p ↦ absurd (no_malformed p.1)
-    ]
+ended_completes (b ∷ c ∷ rest) e = grind (arith, common_steps)
 
 abbrev LineFilled : List ℕ → Type 0
 LineFilled bytes = (more : List ℕ) × (text_until_line_end (bytes ++ more) ≡ text_until_line_end bytes) × (after_line_end (after_text (bytes ++ more)) ≡ Ok [])
@@ -299,9 +294,7 @@ module _ (read : List ℕ → Result (Answer × List ℕ) Fault) (goes : Continu
 front_complete : (nested : List ℕ → Result (Answer × List ℕ) Fault) → Completable nested → Completable (front_at nested)
 unfolding front_at
 front_complete nested each [] e = (36 ∷ 45 ∷ 49 ∷ crlf, Ok nil, nil_front nested)
-front_complete nested each (mark ∷ bytes) e = by_test (eqb mark 42)
-    (λ t. rw t (each bytes (rw t at e)))
-    (λ f. rw f (flat_complete mark bytes (rw f at e)))
+front_complete nested each (mark ∷ bytes) e = grind (arith, by_test, flat_complete)
 
 pub answer_begins : (levels : ℕ) → Filled (answer_at levels) []
 unfolding answer_at
@@ -316,10 +309,7 @@ answer_completes (suc levels) = front_complete (array_at (times_at (answer_at le
 -- ---- the causes
 
 pub incomplete : (bytes : List ℕ) → answer_at 32 bytes ≡ Err Incomplete → CanBeCompleted bytes
-incomplete bytes e =
-    let f = answer_completes 32 bytes e in
-    let t = answer_takes 32 (bytes ++ f.0) (f.1, []) f.2 in
-    (f.0, f.1, subst (λ (form : List ℕ). IsForm 32 f.1 form) (sym (t.1 ∙ append-nil t.0)) t.2)
+incomplete bytes e = grind (arith, answer_completes, answer_takes, append-nil)
 
 no_answer : {A : Type 0} (x : A) (f : Fault) → done x ≡ failed f → ⊥
 no_answer x f e = absurd cc

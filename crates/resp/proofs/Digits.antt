@@ -1,5 +1,5 @@
 -- Numbers, digit by digit.
-use Rattle.std.proofs.Common.{◌≡◌, ◌≢◌, ℕ, ℤ, pos, negsuc, zero, suc, ◌+◌, ◌*◌, ◌<◌, ◌≤◌, ◌^◌, Bool, true, false, ◌&&◌, cond, eqb, ltb, List, [], ◌∷◌, ◌++◌, length, get_or, drop, Option, Some, None, refl, sym, ap, subst, ◌∙◌, arith, decimal, inl, inr}
+use Rattle.std.proofs.Common.{◌≡◌, ◌≢◌, ℕ, ℤ, pos, negsuc, zero, suc, ◌+◌, ◌*◌, ◌<◌, ◌≤◌, ◌^◌, Bool, true, false, ◌&&◌, cond, eqb, ltb, List, [], ◌∷◌, ◌++◌, length, get_or, drop, Option, Some, None, refl, ap, ◌∙◌, arith, decimal}
 use Rattle.std.specs.Char.{is_ascii_digit, digit_value}
 use Rattle.std.specs.Str.{all_ascii_digits}
 use Rattle.std.specs.List.{AllByRecursion}
@@ -7,19 +7,14 @@ use Rattle.std.specs.Str.Parse.{digits_value, digits_value_after, AllDigits}
 use Rattle.std.specs.Fmt.{signed_decimal}
 use Rattle.std.proofs.lemmas.Bool.Decides.{nat_tests}
 use Rattle.std.proofs.lemmas.List.{drop_more, drop_all}
-use Rattle.std.proofs.lemmas.Str.Parse.{IsNumeralModel, numerals_by_value, tells_all_ascii_digits, digit_at, digit_from_value}
-use Rattle.std.proofs.lemmas.Str.{digit_value_digit}
-use Rattle.std.proofs.lemmas.Bool.{ltb-true}
-use Rattle.resp.proofs.Steps.{chosen, both}
+use Rattle.std.proofs.lemmas.Str.Parse.{IsNumeralModel, numerals_by_value, tells_all_ascii_digits, digit_at}
 use Rattle.std.proofs.lemmas.Fmt.{digits_decimal, digits_value-decimal, decimal_nonempty}
+use Rattle.std.proofs.lemmas.Grind.{common_steps}
 use Rattle.resp_core.proofs.Cases.{by_test}
 use Rattle.resp.specs.Forms.{number_up_to, int_in, length_in, below_zero, not_below_zero, IsShort, IsInLine}
 
 abbrev some : ℕ → Option ℕ
 some n = Some n
-
-some_is : (x y : ℕ) → some x ≡ some y → x ≡ y
-some_is x y e = cc
 
 pub own : IsNumeralModel (λ ds. all_ascii_digits ds ≡ true) (digits_value 10)
 own = numerals_by_value (λ ds. all_ascii_digits ds ≡ true) tells_all_ascii_digits
@@ -53,15 +48,11 @@ number_after_is limit n (d ∷ ds) low =
 -- a text of at least one byte
 pub number_in_is : (limit : ℕ) (text : List ℕ) → 0 < limit → 0 < length text → number_up_to limit text ≡ number_after limit 0 text
 unfolding number_up_to
-number_in_is limit text some long =
-    let t : ltb 0 (length text) ≡ true = grind (arith, nat_tests) in
-    rw t (sym (number_after_is limit 0 text some))
+number_in_is limit text some long = grind (arith, nat_tests, number_after_is)
 
 pub number_in_none : (limit : ℕ) (text : List ℕ) → length text ≡ 0 → number_up_to limit text ≡ None
 unfolding number_up_to
-number_in_none limit text none =
-    let f : ltb 0 (length text) ≡ false = grind (arith, nat_tests) in
-    rw f refl
+number_in_none limit text none = grind (arith, common_steps)
 
 -- ---- a loop over the digits
 
@@ -69,32 +60,18 @@ pub no_digit : (limit n i : ℕ) (text : List ℕ) → i < length text → is_as
 no_digit limit n i text lt digit = ap (number_after limit n) (drop_more text i 0 lt) ∙ rw digit refl
 
 pub too_large : (limit n i : ℕ) (text : List ℕ) → i < length text → limit ≤ n * 10 + digit_value (get_or text i 0) → number_after limit n (drop i text) ≡ None
-too_large limit n i text lt large =
-    let d = get_or text i 0 in
-    let f : ltb (n * 10 + digit_value d) limit ≡ false = grind (arith, nat_tests) in
-    ap (number_after limit n) (drop_more text i 0 lt) ∙ rw (f, and_false (is_ascii_digit d)) refl
+too_large limit n i text lt large = grind (arith, common_steps)
 
 pub number_ends : (limit n i : ℕ) (text : List ℕ) → length text ≤ i → number_after limit n (drop i text) ≡ Some n
 number_ends limit n i text le = ap (number_after limit n) (drop_all i text le)
 
 pub digit_is : (d : ℕ) → is_ascii_digit d ≡ true → digit_value d + 48 ≡ d
-digit_is d t =
-    let low : 48 ≤ d = grind (arith, nat_tests) in
-    let high : d ≤ 57 = grind (arith, nat_tests) in
-    digit_value_digit d (low, high)
+digit_is d t = grind (arith, common_steps)
 
 -- a number that was read is below the limit
 pub number_below : (limit : ℕ) (text : List ℕ) (n : ℕ) → Some n ≡ number_up_to limit text → n < limit
 unfolding number_up_to
-number_below limit text n e =
-    elim (chosen (ltb 0 (length text) && (all_ascii_digits text && ltb (digits_value 10 text) limit)) (Some (digits_value 10 text)) None (some n) (sym e)) [
-      | inl p ↦
-          let t = both (all_ascii_digits text) (ltb (digits_value 10 text) limit) (both (ltb 0 (length text)) _ p.0).1 in
-          let value : digits_value 10 text ≡ n = some_is (digits_value 10 text) n p.1 in
-          let low : digits_value 10 text < limit = ltb-true _ _ t.1 in
-          omega (arith, value, low)
-      | inr p ↦ absurd cc
-    ]
+number_below limit text n e = grind (arith, common_steps)
 
 -- ---- no number stays none, whatever follows
 
@@ -108,9 +85,7 @@ after_none limit n (d ∷ ds) more e =
 
 pub none_longer : (limit : ℕ) (text more : List ℕ) → 0 < limit → 0 < length text → number_up_to limit text ≡ None → number_up_to limit (text ++ more) ≡ None
 none_longer limit [] more some long e = absurd (omega (arith, long))
-none_longer limit (d ∷ ds) more some long e =
-    number_in_is limit (d ∷ (ds ++ more)) some (omega arith)
-    ∙ after_none limit 0 (d ∷ ds) more (sym (number_in_is limit (d ∷ ds) some (omega arith)) ∙ e)
+none_longer limit (d ∷ ds) more some long e = grind (arith, number_in_is, after_none)
 
 none_above : (n : Option ℕ) → not_below_zero n ≡ None → n ≡ None
 none_above None e = refl
@@ -157,26 +132,12 @@ length_longer (d ∷ ds) more some e = none_longer (2 ^ 63) (d ∷ ds) more (ome
 
 pub number_decimal : (limit n : ℕ) → n < limit → n < 2 ^ 64 → number_up_to limit (decimal n) ≡ Some n
 unfolding number_up_to
-number_decimal limit n low short =
-    let value : digits_value 10 (decimal n) ≡ n = digits_value-decimal own n short in
-    let long : 0 < length (decimal n) = decimal_nonempty n short in
-    let a : ltb 0 (length (decimal n)) ≡ true = grind (arith, nat_tests) in
-    let b : ltb n limit ≡ true = grind (arith, nat_tests) in
-    let d : all_ascii_digits (decimal n) ≡ true = digits_decimal own n short in
-    rw (value, a, b, d) refl
+number_decimal limit n low short = grind (arith, digits_value-decimal, own, decimal_nonempty, nat_tests, digits_decimal)
 
 no_sign : (text : List ℕ) (n : ℕ) → text ≡ decimal n → n < 2 ^ 63 → int_in text ≡ Some (pos n)
 unfolding int_in
 no_sign [] n e low = absurd (omega (arith, ap (length {A = ℕ}) e, decimal_nonempty n (omega (arith, low))))
-no_sign (first ∷ more) n e low =
-    let short : n < 2 ^ 64 = omega (arith, low) in
-    let all : all_ascii_digits (first ∷ more) ≡ true = subst (λ (ds : List ℕ). all_ascii_digits ds ≡ true) (sym e) (digits_decimal own n short) in
-    let digit = digit_at (first ∷ more) 0 (own.to (first ∷ more) all) (omega arith) in
-    let minus : first ≢ 45 = omega (arith, digit.0) in
-    let plus : first ≢ 43 = omega (arith, digit.0) in
-    let f : eqb first 45 ≡ false = grind (arith, nat_tests) in
-    let g : eqb first 43 ≡ false = grind (arith, nat_tests) in
-    rw (f, g) (ap not_below_zero (ap (number_up_to (2 ^ 63)) e ∙ number_decimal (2 ^ 63) n low short))
+no_sign (first ∷ more) n e low = grind (arith, digits_decimal, own, digit_at, nat_tests, number_decimal)
 
 pub int_decimal : (z : ℤ) → IsShort z → int_in (signed_decimal z) ≡ Some z
 unfolding int_in
@@ -186,18 +147,11 @@ int_decimal (negsuc n) short = ap below_zero (number_decimal (2 ^ 63 + 1) (suc n
 -- no end of a line stands in the text of a number
 in_line : (ds : List ℕ) → AllDigits 10 ds → AllByRecursion IsInLine ds
 in_line [] h = tt
-in_line (d ∷ ds) h =
-    let range = digit_from_value d h.0 in
-    let a : d ≢ 13 = omega (arith, range.0) in
-    let b : d ≢ 10 = omega (arith, range.0) in
-    ((a, b), in_line ds h.1)
+in_line (d ∷ ds) h = grind (arith, common_steps, in_line ds h.1)
 
 pub in_line_decimal : (n : ℕ) → n < 2 ^ 64 → AllByRecursion IsInLine (decimal n)
 in_line_decimal n low = in_line (decimal n) (own.to (decimal n) (digits_decimal own n low))
 
 pub in_line_int : (z : ℤ) → IsShort z → AllByRecursion IsInLine (signed_decimal z)
 in_line_int (pos n) short = in_line_decimal n (omega (arith, short))
-in_line_int (negsuc n) short =
-    let a : 45 ≢ 13 = omega arith in
-    let b : 45 ≢ 10 = omega arith in
-    ((a, b), in_line_decimal (suc n) (omega (arith, short)))
+in_line_int (negsuc n) short = grind (arith, negsuc, in_line_decimal, suc)

@@ -1,5 +1,5 @@
 -- An answer by its first byte, its first line, and what follows, as the code reads it.
-use Rattle.std.proofs.Common.{◌≡◌, ◌≢◌, ℕ, zero, suc, ◌-◌, ◌<◌, ◌≤◌, true, false, cond, eqb, List, [], ◌∷◌, length, get_or, take, drop, Option, Some, None, Result, Ok, Err, refl, sym, ap, subst, ◌∙◌, arith}
+use Rattle.std.proofs.Common.{◌≡◌, ◌≢◌, ℕ, zero, suc, ◌-◌, ◌<◌, ◌≤◌, cond, eqb, List, [], ◌∷◌, length, get_or, take, drop, Option, Some, None, Result, Ok, Err, refl, sym, ap, ◌∙◌, arith}
 use Rattle.std.proofs.lemmas.Bool.{eq-eqb}
 use Rattle.std.proofs.lemmas.Bool.Decides.{nat_tests}
 use Rattle.std.proofs.lemmas.List.{take_rest}
@@ -42,14 +42,10 @@ opened levels bytes h =
 
 pub is_flat : (levels : ℕ) (bytes text after : List ℕ) → 1 ≤ length bytes → text ≡ text_until_line_end (tail bytes) → after ≡ after_text (tail bytes) → get_or bytes 0 0 ≢ 42
     → flat_at (get_or bytes 0 0) text after ≡ answer_at levels bytes
-is_flat levels bytes text after some t a other =
-    let off : eqb (get_or bytes 0 0) 42 ≡ false = grind (arith, nat_tests) in
-    sym (opened levels bytes some ∙ rw (off, t, a) refl)
+is_flat levels bytes text after some t a other = grind (arith, nat_tests, opened)
 
 is_nested : (levels : ℕ) (bytes : List ℕ) → 1 ≤ length bytes → get_or bytes 0 0 ≡ 42 → answer_at levels bytes ≡ nested_at levels (tail bytes)
-is_nested levels bytes some star =
-    let on : eqb (get_or bytes 0 0) 42 ≡ true = eq-eqb (get_or bytes 0 0) 42 star in
-    opened levels bytes some ∙ rw on refl
+is_nested levels bytes some star = grind (arith, eq-eqb, opened)
 
 pub too_deep : (levels : ℕ) (bytes : List ℕ) → 1 ≤ length bytes → get_or bytes 0 0 ≡ 42 → levels ≡ 0 → answer_at levels bytes ≡ Err TooDeep
 too_deep levels bytes some star none = is_nested levels bytes some star ∙ ap (λ (k : ℕ). nested_at k (tail bytes)) none
@@ -59,9 +55,7 @@ array_opened : (levels : ℕ) (bytes text after : List ℕ) → 1 ≤ length byt
     → answer_at levels bytes ≡ (length_at text after >>= λ x. array_items_at (times_at (answer_at (levels - 1))) x.0 x.1)
 unfolding array_at
 array_opened zero bytes text after some star above t a = absurd (omega (arith, above))
-array_opened (suc levels) bytes text after some star above t a =
-    let one : suc levels - 1 ≡ levels = omega arith in
-    is_nested (suc levels) bytes some star ∙ rw (t, a, one) refl
+array_opened (suc levels) bytes text after some star above t a = grind (arith, suc, is_nested)
 
 fails : {A B : Type 0} (e : ReadError) (r : Result A Fault) (f : A → Result B Fault) → Fails e r → Fails e (r >>= f)
 fails errors.Memory r f h = tt
@@ -69,9 +63,7 @@ fails (errors.Fault d) r f h = ap (λ s. s >>= f) h
 
 pub count_fails : (e : ReadError) (levels : ℕ) (bytes text after : List ℕ) → 1 ≤ length bytes → get_or bytes 0 0 ≡ 42 → 0 < levels → text ≡ text_until_line_end (tail bytes) → after ≡ after_text (tail bytes)
     → Fails e (length_at text after) → Fails e (answer_at levels bytes)
-count_fails e levels bytes text after some star above t a h =
-    subst (λ (r : Result (Answer × List ℕ) Fault). Fails e r) (sym (array_opened levels bytes text after some star above t a))
-    (fails e (length_at text after) (λ x. array_items_at (times_at (answer_at (levels - 1))) x.0 x.1) h)
+count_fails e levels bytes text after some star above t a h = grind (arith, array_opened, fails)
 
 pub nothing : (levels : ℕ) (bytes text after rest : List ℕ) (o : Option ℕ) → 1 ≤ length bytes → get_or bytes 0 0 ≡ 42 → 0 < levels → text ≡ text_until_line_end (tail bytes) → after ≡ after_text (tail bytes)
     → length_at text after ≡ Ok (o, rest) → o ≡ None → answer_at levels bytes ≡ Ok (Ok nil, rest)
@@ -81,12 +73,9 @@ nothing levels bytes text after rest o some star above t a h none = array_opened
 pub items_fail : (e : ReadError) (levels : ℕ) (bytes text after rest : List ℕ) (o : Option ℕ) (n : ℕ) → 1 ≤ length bytes → get_or bytes 0 0 ≡ 42 → 0 < levels → text ≡ text_until_line_end (tail bytes) → after ≡ after_text (tail bytes)
     → length_at text after ≡ Ok (o, rest) → o ≡ Some n → Fails e (times_at (answer_at (levels - 1)) n rest) → Fails e (answer_at levels bytes)
 unfolding array_items_at
-items_fail e levels bytes text after rest o n some star above t a h is f =
-    let whole : answer_at levels bytes ≡ (times_at (answer_at (levels - 1)) n rest >>= λ x. Ok (array_of_all x.0, x.1)) = array_opened levels bytes text after some star above t a ∙ rw (h, is) refl in
-    subst (λ (r : Result (Answer × List ℕ) Fault). Fails e r) (sym whole) (fails e (times_at (answer_at (levels - 1)) n rest) (λ x. Ok (array_of_all x.0, x.1)) f)
+items_fail e levels bytes text after rest o n some star above t a h is f = grind (arith, array_opened, fails)
 
 pub items_read : (levels : ℕ) (bytes text after rest : List ℕ) (o : Option ℕ) (n : ℕ) (items : Items) (last : List ℕ) → 1 ≤ length bytes → get_or bytes 0 0 ≡ 42 → 0 < levels → text ≡ text_until_line_end (tail bytes) → after ≡ after_text (tail bytes)
     → length_at text after ≡ Ok (o, rest) → o ≡ Some n → times_at (answer_at (levels - 1)) n rest ≡ Ok (items, last) → answer_at levels bytes ≡ Ok (array_of_all items, last)
 unfolding array_items_at
-items_read levels bytes text after rest o n items last some star above t a h is f =
-    array_opened levels bytes text after some star above t a ∙ rw (h, is, f) refl
+items_read levels bytes text after rest o n items last some star above t a h is f = grind (arith, array_opened)

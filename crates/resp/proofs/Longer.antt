@@ -1,15 +1,15 @@
 -- What more bytes change in reading: nothing but that what was incomplete may be complete.
-use Rattle.std.proofs.Common.{◌≡◌, ◌≢◌, ℕ, zero, suc, ◌≤◌, Bool, true, false, ◌&&◌, ◌||◌, eqb, ltb, List, [], ◌∷◌, ◌++◌, length, get_or, take, drop, codes, Option, Some, None, Result, Ok, Err, refl, sym, ap, ◌∙◌, arith, ◌⊎◌, inl, inr}
+use Rattle.std.proofs.Common.{◌≡◌, ◌≢◌, ℕ, zero, suc, ◌≤◌, Bool, true, false, ◌&&◌, ◌||◌, eqb, List, [], ◌∷◌, ◌++◌, length, get_or, drop, codes, Option, Some, None, Result, Ok, Err, refl, sym, ap, ◌∙◌, arith, ◌⊎◌, inl, inr}
 use Rattle.std.specs.Prelude.{bytes_eq}
 use Rattle.std.proofs.lemmas.Bool.{false_from_ne_true}
 use Rattle.std.proofs.lemmas.Bool.Decides.{nat_tests, not_from_Decides}
 use Rattle.std.proofs.lemmas.Slice.Eq.{bytes_eq-Decides}
-use Rattle.std.proofs.lemmas.List.{length-append}
+use Rattle.std.proofs.lemmas.Grind.{common_steps}
 use Rattle.resp_core.proofs.Cases.{by_test}
-use Rattle.resp_core.specs.Reply.{int, bulk}
+use Rattle.resp_core.specs.Reply.{int}
 use Rattle.resp.specs.declared.fault.Fault.{Fault}
 use Rattle.resp.specs.declared.fault.Fault.TheVariants.{Incomplete, Malformed, TooDeep}
-use Rattle.resp.specs.Forms.{Answer, answer_before, array_of_all, simple_of, int_in, length_in}
+use Rattle.resp.specs.Forms.{Answer, answer_before, simple_of, int_in, length_in}
 use Rattle.resp.specs.Reading.{◌>>=◌, or_malformed, Items, after_line_end, text_until_line_end, after_text, is_before_digits, int_at, length_at, bytes_at, flat_at, times_at, array_items_at, array_at, front_at, answer_at}
 use Rattle.resp.proofs.Digits.{HasDigits, and_false, int_longer, length_longer}
 use Rattle.resp.proofs.Lines.{ended_longer, open_longer}
@@ -112,10 +112,7 @@ one_longer b (c ∷ d ∷ text) t some other = λ e. absurd (omega (arith, ap (l
 two_longer : (a b : ℕ) (text t : List ℕ) → text ≢ [] → text ≢ a ∷ [] → text ≢ a ∷ b ∷ [] → text ++ t ≢ a ∷ b ∷ []
 two_longer a b [] t some one two = absurd (some refl)
 two_longer a b (c ∷ []) t some one two = λ e. one (ap (λ (k : ℕ). k ∷ []) (ap (λ (xs : List ℕ). get_or xs 0 0) e))
-two_longer a b (c ∷ d ∷ []) t some one two = λ e.
-    let first : c ≡ a = ap (λ (xs : List ℕ). get_or xs 0 0) e in
-    let second : d ≡ b = ap (λ (xs : List ℕ). get_or xs 1 0) e in
-    two (rw (first, second) refl)
+two_longer a b (c ∷ d ∷ []) t some one two = grind (arith, common_steps)
 two_longer a b (c ∷ d ∷ e ∷ text) t some one two = λ h. absurd (omega (arith, ap (length {A = ℕ}) h))
 
 -- ---- integers
@@ -127,10 +124,7 @@ has_longer : (text t : List ℕ) → HasDigits text → HasDigits (text ++ t)
 has_longer text t has = (not_empty_longer text t has.0, one_longer 45 text t has.0 has.1, one_longer 43 text t has.0 has.2)
 
 has_digits : (text : List ℕ) → (eqb (length text) 0 || (bytes_eq text (codes "-") || bytes_eq text (codes "+"))) ≡ false → HasDigits text
-has_digits text f =
-    let a = or_false (eqb (length text) 0) (bytes_eq text (codes "-") || bytes_eq text (codes "+")) f in
-    let b = or_false (bytes_eq text (codes "-")) (bytes_eq text (codes "+")) a.1 in
-    (not_empty text a.0, not_from_Decides _ (bytes_eq-Decides text (codes "-")) b.0, not_from_Decides _ (bytes_eq-Decides text (codes "+")) b.1)
+has_digits text f = grind (arith, common_steps)
 
 int_steady : Steady int_at
 unfolding int_at
@@ -177,11 +171,6 @@ lengths_continue = line_continues length_at length_steady
 
 -- ---- an answer
 
-pub take_front : (n : ℕ) (rest more : List ℕ) → n ≤ length rest → take n (rest ++ more) ≡ take n rest
-take_front zero rest more le = refl
-take_front (suc n) [] more le = absurd (omega (arith, le))
-take_front (suc n) (b ∷ rest) more le = ap (λ (t : List ℕ). b ∷ t) (take_front n rest more (omega (arith, le)))
-
 pub drop_front : (n : ℕ) (rest more : List ℕ) → n ≤ length rest → drop n (rest ++ more) ≡ drop n rest ++ more
 drop_front zero rest more le = refl
 drop_front (suc n) [] more le = absurd (omega (arith, le))
@@ -190,13 +179,7 @@ drop_front (suc n) (b ∷ rest) more le = drop_front n rest more (omega (arith, 
 pub bytes_continue : (n : Option ℕ) → Continuous (bytes_at n)
 unfolding bytes_at
 bytes_continue None rest more = refl
-bytes_continue (Some n) rest more = by_test (ltb (length rest) n)
-    (λ t. rw t tt)
-    (λ f.
-    let le : n ≤ length rest = grind (arith, nat_tests) in
-    let long : n ≤ length (rest ++ more) = omega (arith, le, length-append rest more) in
-    let g : ltb (length (rest ++ more)) n ≡ false = grind (arith, nat_tests) in
-    rw (f, g, take_front n rest more le, drop_front n rest more le) (end_continues (Ok (bulk (take n rest))) (drop n rest) more))
+bytes_continue (Some n) rest more = grind (arith, common_steps)
 
 text_steady : {A : Type 0} (means : List ℕ → A) → Steady (λ text after. after_line_end after >>= λ rest. Ok (means text, rest))
 text_steady means = (λ text b rest more. end_continues (means text) (b ∷ rest) more, λ text t after more. tt)
@@ -223,20 +206,16 @@ times_continue read each (suc n) bytes more =
 items_continue : (items : ℕ → List ℕ → Result (Items × List ℕ) Fault) → ((n : ℕ) → Continuous (items n)) → (n : Option ℕ) → Continuous (array_items_at items n)
 unfolding array_items_at
 items_continue items each None rest more = refl
-items_continue items each (Some n) rest more =
-    continues_bind (items n rest) (items n (rest ++ more)) (λ x. Ok (array_of_all x.0, x.1)) more (each n rest more) (λ answers after. refl)
+items_continue items each (Some n) rest more = grind (arith, common_steps)
 
 pub array_continues : (items : ℕ → List ℕ → Result (Items × List ℕ) Fault) → ((n : ℕ) → Continuous (items n)) → Continuous (array_at items)
 unfolding array_at
-array_continues items each bytes more =
-    continues_bind (length_at (text_until_line_end bytes) (after_text bytes)) (length_at (text_until_line_end (bytes ++ more)) (after_text (bytes ++ more))) (λ x. array_items_at items x.0 x.1) more (lengths_continue bytes more) (λ n rest. items_continue items each n rest more)
+array_continues items each bytes more = grind (arith, continues_bind, lengths_continue, items_continue)
 
 front_continues : (nested : List ℕ → Result (Answer × List ℕ) Fault) → Continuous nested → Continuous (front_at nested)
 unfolding front_at
 front_continues nested each [] more = tt
-front_continues nested each (mark ∷ bytes) more = by_test (eqb mark 42)
-    (λ t. rw t (each bytes more))
-    (λ f. rw f (flat_continues mark bytes more))
+front_continues nested each (mark ∷ bytes) more = grind (arith, by_test, flat_continues)
 
 pub answer_continues : (levels : ℕ) → Continuous (answer_at levels)
 unfolding answer_at

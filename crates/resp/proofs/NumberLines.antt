@@ -1,16 +1,14 @@
 -- The number of a line, digit by digit, up to the line's end.
-use Rattle.std.proofs.Common.{◌≡◌, ℕ, ◌+◌, ◌-◌, ◌*◌, ◌/◌, ◌%◌, ◌^◌, ◌<◌, ◌≤◌, Bool, true, false, not, ◌&&◌, cond, eqb, ltb, List, [], ◌∷◌, ◌++◌, length, get_or, drop, append_assoc, append-nil, decimal, Some, None, Ok, Err, refl, sym, ap, ◌∙◌, arith, inl, inr}
-use Rattle.std.specs.Char.{is_ascii_digit, digit_value}
-use Rattle.std.proofs.lemmas.Bool.{ltb-true}
+use Rattle.std.proofs.Common.{◌≡◌, ℕ, ◌+◌, ◌-◌, ◌*◌, ◌/◌, ◌%◌, ◌^◌, ◌<◌, ◌≤◌, Bool, true, false, ◌&&◌, cond, eqb, ltb, List, [], ◌∷◌, ◌++◌, length, get_or, drop, append_assoc, append-nil, decimal, Some, None, Ok, Err, refl, sym, ap, ◌∙◌, arith, inl, inr}
+use Rattle.std.specs.Char.{digit_value}
 use Rattle.std.proofs.lemmas.Bool.Decides.{nat_tests}
-use Rattle.std.proofs.lemmas.List.{drop_more, drop_all, length-drop}
-use Rattle.std.proofs.lemmas.Option.{none-some, same_Some}
+use Rattle.std.proofs.lemmas.List.{drop_more, drop_all}
+use Rattle.std.proofs.lemmas.Option.{none-some}
 use Rattle.resp_core.proofs.Cases.{by_test}
 use Rattle.resp.specs.declared.stop.Stop.TheVariants.{WantsMore, StopsAt}
 use Rattle.std.proofs.lemmas.Fmt.{decimal_digit, decimal_step, decimal_by_steps}
-use Rattle.std.proofs.lemmas.Str.{digit_value-digit_char}
+use Rattle.std.proofs.lemmas.Grind.{common_steps}
 use Rattle.resp.specs.Requests.{digits_at, is_next_digit, with_digit}
-use Rattle.resp.proofs.Digits.{digit_is}
 use Rattle.resp.proofs.Steps.{both}
 use Rattle.resp.proofs.Readers.{read, stopped, wants_no_stop, stop_wants_no, same_left, went, no_read, no_stop, same_value, same_rest, Filled, Takes, Stops, IsReader}
 
@@ -29,29 +27,13 @@ record Next (limit : ℕ) (some : Bool) (n b : ℕ) : Type 0 where
   not_zero : some ≡ true → 0 < n
   low : next n b < limit
 
-after_digit : (some : Bool) (n : ℕ) → not (some && eqb n 0) ≡ true → some ≡ true → 0 < n
-after_digit some n e t = grind (arith, nat_tests)
-
 next_is : (limit : ℕ) (some : Bool) (n b : ℕ) → is_next_digit limit some n b ≡ true → Next limit some n b
-next_is limit some n b e =
-    let d = both (is_ascii_digit b) _ e in
-    let r = both (not (some && eqb n 0)) _ d.1 in
-    let high : b ≤ 57 = grind (arith, nat_tests) in
-    let digit : digit_value b + 48 ≡ b = digit_is b d.0 in
-    record { digit = digit; small = omega (arith, digit, high); not_zero = after_digit some n r.0; low = ltb-true _ _ r.1 }
+next_is limit some n b e = grind (arith, common_steps)
 
 -- one digit more is written after the others
 next_written : (limit : ℕ) → limit < 2 ^ 64 → (some : Bool) (n b : ℕ) → (some ≡ false → n ≡ 0) → Next limit some n b → decimal (next n b) ≡ written some n ++ b ∷ []
-next_written limit short true n b none e =
-    let some : 0 < n = e.not_zero refl in
-    let front : next n b / 10 ≡ n = omega arith in
-    let last : 48 + next n b % 10 ≡ b = omega arith in
-    decimal_step (next n b) (omega arith) (omega arith) ∙ rw (front, last) refl
-next_written limit short false n b none e =
-    let zero : n ≡ 0 = none refl in
-    let is : next n b ≡ digit_value b = omega arith in
-    let last : 48 + digit_value b ≡ b = omega arith in
-    ap decimal is ∙ decimal_digit (digit_value b) e.small ∙ rw last refl
+next_written limit short true n b none e = grind (arith, decimal_step)
+next_written limit short false n b none e = grind (arith, decimal_digit)
 
 pub record Digits (limit : ℕ) (some : Bool) (n : ℕ) (bytes rest : List ℕ) (m : ℕ) : Type 0 where
   pub text : List ℕ
@@ -91,13 +73,7 @@ digits_text limit short some n none low (b ∷ bytes) rest m e = by_test (is_nex
 
 digit_goes : (limit : ℕ) (some : Bool) (n d : ℕ) → d < 10 → (some ≡ true → 0 < n) → n * 10 + d < limit → (rest : List ℕ) → digits_at limit some n ((48 + d) ∷ rest) ≡ digits_at limit true (n * 10 + d) rest
 unfolding digits_at
-digit_goes limit some n d small not_zero low rest =
-    let u : ltb d 10 ≡ true = grind (arith, nat_tests) in
-    let value : digit_value (48 + d) ≡ d = rw u at (digit_value-digit_char d (omega (arith, small))) in
-    let digit : is_ascii_digit (48 + d) ≡ true = grind (arith, nat_tests) in
-    let allowed : not (some && eqb n 0) ≡ true = grind (arith, nat_tests) in
-    let t : ltb (n * 10 + d) limit ≡ true = grind (arith, nat_tests) in
-    rw (digit, allowed, value, t) refl
+digit_goes limit some n d small not_zero low rest = grind (arith, common_steps)
 
 pub number_goes : (limit n : ℕ) → n < limit → n < 2 ^ 64 → (rest : List ℕ) → digits_at limit false 0 (decimal n ++ rest) ≡ digits_at limit true n rest
 number_goes limit n low short = decimal_by_steps (λ n ds. n < limit → (rest : List ℕ) → digits_at limit false 0 (ds ++ rest) ≡ digits_at limit true n rest) one more n short low
@@ -106,19 +82,10 @@ number_goes limit n low short = decimal_by_steps (λ n ds. n < limit → (rest :
     no h = absurd cc
 
     one : (n : ℕ) → n < 10 → n < limit → (rest : List ℕ) → digits_at limit false 0 ((48 + n) ∷ rest) ≡ digits_at limit true n rest
-    one n small low rest =
-        let is : 0 * 10 + n ≡ n = omega arith in
-        digit_goes limit false 0 n small no (omega (arith, low)) rest ∙ ap (λ (k : ℕ). digits_at limit true k rest) is
+    one n small low rest = grind (arith, digit_goes)
 
     more : (n : ℕ) (ds : List ℕ) → 10 ≤ n → (n / 10 < limit → (rest : List ℕ) → digits_at limit false 0 (ds ++ rest) ≡ digits_at limit true (n / 10) rest) → n < limit → (rest : List ℕ) → digits_at limit false 0 ((ds ++ (48 + n % 10) ∷ []) ++ rest) ≡ digits_at limit true n rest
-    more n ds large before low rest =
-        let is : n / 10 * 10 + n % 10 ≡ n = omega arith in
-        let high : n / 10 * 10 + n % 10 < limit = omega (arith, is, low) in
-        let front : n / 10 < limit = omega (arith, low) in
-        ap (digits_at limit false 0) (append_assoc ds ((48 + n % 10) ∷ []) rest)
-        ∙ before front ((48 + n % 10) ∷ rest)
-        ∙ digit_goes limit true (n / 10) (n % 10) (omega arith) (λ t. omega (arith, large)) high rest
-        ∙ ap (λ (k : ℕ). digits_at limit true k rest) is
+    more n ds large before low rest = grind (arith, append_assoc, digit_goes)
 
 pub digits_again : (limit n : ℕ) → n < limit → n < 2 ^ 64 → (rest : List ℕ) → digits_at limit false 0 (decimal n ++ 13 ∷ rest) ≡ Ok (n, rest)
 unfolding digits_at
@@ -200,43 +167,23 @@ module _ (limit n i : ℕ) (bytes : List ℕ) (lt : i < length bytes) where
   here : (some : Bool) → digits_at limit some n (drop i bytes) ≡ digits_at limit some n (get_or bytes i 0 ∷ drop (i + 1) bytes)
   here some = ap (digits_at limit some n) (drop_more bytes i 0 lt)
 
-  left_here : length (drop (i + 1) bytes) + 1 ≡ length bytes - i
-  left_here = omega (arith, lt, length-drop (i + 1) bytes)
-
   pub digit_goes_on : (some : Bool) (m : ℕ) → Some m ≡ with_digit limit some n (get_or bytes i 0) → digits_at limit some n (drop i bytes) ≡ digits_at limit (ltb 0 (i + 1)) m (drop (i + 1) bytes)
   unfolding digits_at
-  digit_goes_on some m e =
-      let t : ltb 0 (i + 1) ≡ true = grind (arith, nat_tests) in
-      by_test (is_next_digit limit some n (get_or bytes i 0))
-      (λ u.
-      let is : m ≡ next n (get_or bytes i 0) = same_Some _ _ (rw u at e) in
-      here some ∙ rw (u, t, is) refl)
-      (λ f. absurd (none-some m (sym (rw f at e))))
+  digit_goes_on some m e = grind (arith, common_steps)
 
   no_more : (some : Bool) → None ≡ with_digit limit some n (get_or bytes i 0) → is_next_digit limit some n (get_or bytes i 0) ≡ false
   no_more some e = by_test (is_next_digit limit some n (get_or bytes i 0)) (λ t. absurd (none-some (next n (get_or bytes i 0)) (rw t at e))) (λ f. f)
 
   pub digits_end : (some : Bool) → None ≡ with_digit limit some n (get_or bytes i 0) → some ≡ true → get_or bytes i 0 ≡ 13 → digits_at limit some n (drop i bytes) ≡ Ok (n, drop (i + 1) bytes)
   unfolding digits_at
-  digits_end some e s last =
-      let f = no_more some e in
-      let l : eqb (get_or bytes i 0) 13 ≡ true = grind (arith, nat_tests) in
-      here some ∙ rw (f, s, l) refl
+  digits_end some e s last = grind (arith, common_steps)
 
   pub digits_stop : (some : Bool) → None ≡ with_digit limit some n (get_or bytes i 0) → (some && eqb (get_or bytes i 0) 13) ≡ false → digits_at limit some n (drop i bytes) ≡ Err (StopsAt (length bytes - i))
   unfolding digits_at
-  digits_stop some e other =
-      let f = no_more some e in
-      here some ∙ rw (f, other, left_here) refl
+  digits_stop some e other = grind (arith, common_steps)
 
   pub digit_low : (some : Bool) (m : ℕ) → Some m ≡ with_digit limit some n (get_or bytes i 0) → m < limit
-  digit_low some m e =
-      by_test (is_next_digit limit some n (get_or bytes i 0))
-      (λ u.
-      let is : m ≡ next n (get_or bytes i 0) = same_Some _ _ (rw u at e) in
-      let low = (next_is limit some n (get_or bytes i 0) u).low in
-      omega (arith, is, low))
-      (λ f. absurd (none-some m (sym (rw f at e))))
+  digit_low some m e = grind (arith, common_steps)
 
 pub digits_run_out : (limit n i : ℕ) (some : Bool) (bytes : List ℕ) → length bytes ≤ i → digits_at limit some n (drop i bytes) ≡ Err WantsMore
 unfolding digits_at

@@ -2,9 +2,10 @@
 -- read to the last; and where a byte stops it, what stands before that byte wants more, and nothing
 -- that follows helps.
 use Rattle.std.proofs.Common.{◌≡◌, ℕ, ◌+◌, ◌-◌, ◌<◌, ◌≤◌, Bool, true, false, cond, eqb, ltb, List, [], ◌∷◌, ◌++◌, length, take, drop, replicate, append_assoc, append-nil, Ok, Err, refl, sym, ap, ◌∙◌, arith, ◌⊎◌, inl, inr}
-use Rattle.std.proofs.lemmas.Bool.{ltb-true, ltb-false}
+use Rattle.std.proofs.lemmas.Bool.{ltb-true}
 use Rattle.std.proofs.lemmas.Bool.Decides.{nat_tests}
-use Rattle.std.proofs.lemmas.List.{take_at, drop_at, take-append-drop, length-take-le, length-append, length-replicate}
+use Rattle.std.proofs.lemmas.List.{length-append, length-replicate}
+use Rattle.std.proofs.lemmas.Grind.{common_steps}
 use Rattle.resp.specs.declared.stop.Stop.{Stop}
 use Rattle.resp.specs.declared.stop.Stop.TheVariants.{WantsMore, StopsAt}
 use Rattle.resp.specs.Requests.{Read, and_then, byte_at, so_many_at}
@@ -142,18 +143,10 @@ module _ {A B : Type 0} (F : List ℕ → Read A) (G : A → List ℕ → Read B
       }
 
   pub joint_reader : ((x : A) → Filled (G x) []) → IsReader joint
-  joint_reader begins = record {
-    takes = λ bytes rest y e. joint_takes bytes rest y (F bytes) refl e;
-    fills = λ bytes e. joint_fills bytes (F bytes) refl begins e;
-    stops = λ bytes left e. joint_stops bytes left (F bytes) refl e;
-  }
+  joint_reader begins = grind (arith, joint_takes, joint_fills, joint_stops)
 
 pub nothing_reader : {A : Type 0} (y : A) → IsReader (λ rest. read y rest)
-nothing_reader y = record {
-  takes = λ bytes rest x e. record { front = []; bytes_are = same_rest y x bytes rest e; reads = λ other. ap (λ z. read z other) (same_value y x bytes rest e) };
-  fills = λ bytes e. absurd (no_stop WantsMore y bytes e);
-  stops = λ bytes left e. absurd (no_stop (StopsAt left) y bytes e);
-}
+nothing_reader y = grind (arith, common_steps)
 
 pub nothing_begins : {A : Type 0} (y : A) → Filled (λ rest. read y rest) []
 nothing_begins y = record { more = []; value = y; reads = refl }
@@ -179,11 +172,7 @@ module _ (byte : ℕ) where
   byte_fills [] e =
       let same : eqb byte byte ≡ true = grind (arith, nat_tests) in
       record { more = byte ∷ []; value = byte; reads = rw same refl }
-  byte_fills (b ∷ bytes) e =
-      elim (went (eqb b byte) (read byte bytes) (stopped (StopsAt (length bytes + 1))) (stopped WantsMore) e) [
-        | inl p ↦ absurd (no_stop WantsMore byte bytes p.1)
-        | inr p ↦ absurd (stop_wants_no (length bytes + 1) p.1)
-      ]
+  byte_fills (b ∷ bytes) e = grind (arith, common_steps)
 
   byte_stops : (bytes : List ℕ) (left : ℕ) → byte_at byte bytes ≡ Err (StopsAt left) → Stops (byte_at byte) bytes left
   unfolding byte_at
@@ -208,19 +197,11 @@ byte_reader byte = record { takes = byte_takes byte; fills = byte_fills byte; st
 pub byte_front : (byte : ℕ) (bytes rest : List ℕ) (x : ℕ) → byte_at byte bytes ≡ Ok (x, rest) → bytes ≡ byte ∷ rest
 unfolding byte_at
 byte_front byte [] rest x e = absurd (no_read WantsMore x rest e)
-byte_front byte (b ∷ bytes) rest x e =
-    elim (went (eqb b byte) (read byte bytes) (stopped (StopsAt (length bytes + 1))) (read x rest) e) [
-      | inl p ↦
-          let same : b ≡ byte = grind (arith, nat_tests) in
-          rw same (ap (λ (t : List ℕ). byte ∷ t) (same_rest byte x bytes rest p.1))
-      | inr p ↦ absurd (no_read (StopsAt (length bytes + 1)) x rest p.1)
-    ]
+byte_front byte (b ∷ bytes) rest x e = grind (arith, common_steps)
 
 pub byte_again : (byte : ℕ) (rest : List ℕ) → byte_at byte (byte ∷ rest) ≡ Ok (byte, rest)
 unfolding byte_at
-byte_again byte rest =
-    let same : eqb byte byte ≡ true = grind (arith, nat_tests) in
-    rw same refl
+byte_again byte rest = grind (arith, common_steps)
 
 pub byte_wants : (byte : ℕ) → byte_at byte [] ≡ Err WantsMore
 unfolding byte_at
@@ -230,21 +211,11 @@ byte_wants byte = refl
 
 pub so_many_again : (word rest : List ℕ) (n : ℕ) → length word ≡ n → so_many_at n (word ++ rest) ≡ Ok (word, rest)
 unfolding so_many_at
-so_many_again word rest n is =
-    let enough : ltb (length (word ++ rest)) n ≡ false = grind (arith, nat_tests, length-append word rest) in
-    rw (enough, take_at word rest n is, drop_at word rest n is) refl
+so_many_again word rest n is = grind (arith, common_steps)
 
 pub so_many_front : (n : ℕ) (bytes rest word : List ℕ) → so_many_at n bytes ≡ Ok (word, rest) → (bytes ≡ word ++ rest) × (length word ≡ n)
 unfolding so_many_at
-so_many_front n bytes rest word e =
-    elim (went (ltb (length bytes) n) (stopped WantsMore) (read (take n bytes) (drop n bytes)) (read word rest) e) [
-      | inl p ↦ absurd (no_read WantsMore word rest p.1)
-      | inr p ↦
-          let le : n ≤ length bytes = ltb-false _ _ p.0 in
-          let w : take n bytes ≡ word = same_value (take n bytes) word (drop n bytes) rest p.1 in
-          let r : drop n bytes ≡ rest = same_rest (take n bytes) word (drop n bytes) rest p.1 in
-          (sym (take-append-drop n bytes) ∙ ap (λ (t : List ℕ). t ++ drop n bytes) w ∙ ap (λ (t : List ℕ). word ++ t) r, ap (length {A = ℕ}) (sym w) ∙ length-take-le n bytes le)
-    ]
+so_many_front n bytes rest word e = grind (arith, common_steps)
 
 so_many_fills : (n : ℕ) (bytes : List ℕ) → so_many_at n bytes ≡ Err WantsMore → Filled (so_many_at n) bytes
 unfolding so_many_at
@@ -260,11 +231,7 @@ so_many_fills n bytes e =
 
 so_many_no_stop : (n : ℕ) (bytes : List ℕ) (left : ℕ) → so_many_at n bytes ≡ Err (StopsAt left) → ⊥
 unfolding so_many_at
-so_many_no_stop n bytes left e =
-    elim (went (ltb (length bytes) n) (stopped WantsMore) (read (take n bytes) (drop n bytes)) (stopped (StopsAt left)) e) [
-      | inl p ↦ wants_no_stop left p.1
-      | inr p ↦ no_stop (StopsAt left) (take n bytes) (drop n bytes) p.1
-    ]
+so_many_no_stop n bytes left e = grind (arith, common_steps)
 
 pub so_many_reader : (n : ℕ) → IsReader (so_many_at n)
 so_many_reader n = record {

@@ -2,13 +2,14 @@
 use Rattle.std.proofs.Common.{◌≡◌, ℕ, zero, suc, ◌+◌, ◌-◌, ◌<◌, ◌≤◌, ◌^◌, false, List, [], ◌∷◌, ◌++◌, length, take, append_assoc, append-nil, Ok, Err, refl, sym, ap, subst, ◌∙◌, arith, decimal}
 use Rattle.std.specs.List.{flat_map, AllByRecursion}
 use Rattle.std.proofs.lemmas.List.{take_at, length-append}
+use Rattle.std.proofs.lemmas.Grind.{common_steps}
 use Rattle.resp.specs.declared.stop.Stop.{Stop}
 use Rattle.resp.specs.declared.stop.Stop.TheVariants.{WantsMore, StopsAt}
 use Rattle.resp.specs.declared.fault.RequestFault.TheVariants.{Malformed}
 use Rattle.resp.specs.Forms.{crlf, line, IsRequest, bulk_form, request}
 use Rattle.resp.specs.Requests.{Read, and_then, byte_at, digits_at, line_at, so_many_at, word_at, bulk_at, bulks_at, request_at, rest_of, IsStopIn, fault_at, CanBeRequest, BeginsNoRequest, RequestCause}
 use Rattle.resp.proofs.NumberLines.{number_front, digits_again, digits_reader, digits_wants}
-use Rattle.resp.proofs.Readers.{read, stopped, no_read, no_stop, same_value, same_rest, Filled, IsReader, joint_reader, nothing_reader, nothing_begins, byte_reader, byte_front, byte_again, byte_wants, so_many_again, so_many_front, so_many_reader, so_many_begins}
+use Rattle.resp.proofs.Readers.{read, no_read, no_stop, same_value, same_rest, Filled, IsReader, joint_reader, nothing_reader, nothing_begins, byte_reader, byte_front, byte_again, byte_wants, so_many_again, so_many_front, so_many_reader, so_many_begins}
 
 -- what two readers read was read by each
 pub first_read : {A B : Type 0} (r : Read A) (f : A → List ℕ → Read B) (y : B) (rest : List ℕ) → and_then r f ≡ Ok (y, rest) → (x : A) × (after : List ℕ) × (r ≡ Ok (x, after)) × (f x after ≡ Ok (y, rest))
@@ -67,12 +68,7 @@ line_front mark bytes rest n e =
 
 line_again : (mark n : ℕ) (rest : List ℕ) → n < limit → line_at mark (line mark (decimal n) ++ rest) ≡ Ok (n, rest)
 unfolding line_at
-line_again mark n rest low =
-    let short : n < 2 ^ 64 = omega (arith, low) in
-    let digits : digits_at limit false 0 ((decimal n ++ crlf) ++ rest) ≡ Ok (n, 10 ∷ rest) = ap (digits_at limit false 0) (append_assoc (decimal n) crlf rest) ∙ digits_again limit n low short (10 ∷ rest) in
-    ap (λ (r : Read ℕ). and_then r (λ _ text. number_line text)) (byte_again mark ((decimal n ++ crlf) ++ rest))
-    ∙ ap (λ (r : Read ℕ). and_then r line_end) digits
-    ∙ ap (λ (r : Read ℕ). and_then r (λ _ rest. read n rest)) (byte_again 10 rest)
+line_again mark n rest low = grind (arith, append_assoc, digits_again, byte_again, read)
 
 -- ---- a bulk string
 
@@ -134,13 +130,7 @@ bulk_front bytes rest word e =
 
 bulk_again : (word rest : List ℕ) → length word < limit → bulk_at (bulk_form word ++ rest) ≡ Ok (word, rest)
 unfolding bulk_at word_at
-bulk_again word rest short =
-    let bytes : bulk_form word ++ rest ≡ line 36 (decimal (length word)) ++ (word ++ (13 ∷ 10 ∷ rest)) = append_assoc (line 36 (decimal (length word))) (word ++ crlf) rest ∙ ap (λ (t : List ℕ). line 36 (decimal (length word)) ++ t) (append_assoc word crlf rest) in
-    ap bulk_at bytes
-    ∙ ap (λ (r : Read ℕ). and_then r word_at) (line_again 36 (length word) (word ++ (13 ∷ 10 ∷ rest)) short)
-    ∙ ap (λ (r : Read (List ℕ)). and_then r word_end) (so_many_again word (13 ∷ 10 ∷ rest) (length word) refl)
-    ∙ ap (λ (r : Read ℕ). and_then r (λ _ last. line_feed word last)) (byte_again 13 (10 ∷ rest))
-    ∙ ap (λ (r : Read ℕ). and_then r (λ _ rest. read word rest)) (byte_again 10 rest)
+bulk_again word rest short = grind (arith, append_assoc, line_again, so_many_again, byte_again, read)
 
 -- ---- so many
 
@@ -173,9 +163,7 @@ AreShort words = AllByRecursion (λ w. length w < limit) words
 
 bulks_front : (n : ℕ) (bytes rest : List ℕ) (words : Words) → bulks_at n bytes ≡ Ok (words, rest) → (bytes ≡ flat_map bulk_form words ++ rest) × AreShort words × (length words ≡ n)
 unfolding bulks_at
-bulks_front zero bytes rest words e =
-    let none : [] ≡ words = same_value [] words bytes rest e in
-    subst (λ (ws : Words). (bytes ≡ flat_map bulk_form ws ++ rest) × AreShort ws × (length ws ≡ 0)) none (same_rest [] words bytes rest e, tt, refl)
+bulks_front zero bytes rest words e = grind (arith, common_steps)
 bulks_front (suc n) bytes rest words e =
     let a = first_read (bulk_at bytes) (more_words n) words rest e in
     let b = first_read (bulks_at n a.1) (λ ws rest. read (a.0 ∷ ws) rest) words rest a.3 in
@@ -189,10 +177,7 @@ bulks_front (suc n) bytes rest words e =
 bulks_again : (words : Words) (rest : List ℕ) → AreShort words → bulks_at (length words) (flat_map bulk_form words ++ rest) ≡ Ok (words, rest)
 unfolding bulks_at
 bulks_again [] rest short = refl
-bulks_again (w ∷ ws) rest short =
-    ap (bulks_at (suc (length ws))) (append_assoc (bulk_form w) (flat_map bulk_form ws) rest)
-    ∙ ap (λ (r : Read (List ℕ)). and_then r (more_words (length ws))) (bulk_again w (flat_map bulk_form ws ++ rest) short.0)
-    ∙ ap (λ (r : Read Words). and_then r (λ words rest. read (w ∷ words) rest)) (bulks_again ws rest short.1)
+bulks_again (w ∷ ws) rest short = grind (arith, suc, append_assoc, bulk_again, read, bulks_again ws rest short.1)
 
 -- ---- a request
 
@@ -213,19 +198,12 @@ request_front bytes rest args e =
 
 pub request_again : (args : Words) (form rest : List ℕ) → IsRequest args form → request_at (form ++ rest) ≡ Ok (args, rest)
 unfolding request_at
-request_again args form rest is =
-    let bytes : form ++ rest ≡ line 42 (decimal (length args)) ++ (flat_map bulk_form args ++ rest) = ap (λ (t : List ℕ). t ++ rest) is.0 ∙ append_assoc (line 42 (decimal (length args))) (flat_map bulk_form args) rest in
-    ap request_at bytes
-    ∙ ap (λ (r : Read ℕ). and_then r bulks_at) (line_again 42 (length args) (flat_map bulk_form args ++ rest) is.1)
-    ∙ bulks_again args rest is.2
+request_again args form rest is = grind (arith, append_assoc, line_again, bulks_again)
 
 -- ---- the causes
 
 pub wants_more : (bytes : List ℕ) → request_at bytes ≡ Err WantsMore → CanBeRequest bytes
-wants_more bytes e =
-    let f = request_reader.fills bytes e in
-    let t = request_front (bytes ++ f.more) [] f.value f.reads in
-    (f.more, f.value, subst (λ (form : List ℕ). IsRequest f.value form) (sym (t.1 ∙ append-nil t.0)) t.2)
+wants_more bytes e = grind (arith, request_reader, request_front, append-nil)
 
 begins_none : (bytes : List ℕ) → ((more : List ℕ) → (left : ℕ) × (request_at (bytes ++ more) ≡ Err (StopsAt left))) → BeginsNoRequest bytes
 begins_none bytes stays = λ more args form rest is e.
@@ -262,9 +240,7 @@ cause_is bytes WantsMore e = (λ args form rest is same. only_none bytes WantsMo
 cause_is bytes (StopsAt left) e = stops_there bytes left e
 
 pub only_this : (bytes rest : List ℕ) (args : Words) → request_at bytes ≡ Ok (args, rest) → (others : Words) (form more : List ℕ) → IsRequest others form → bytes ≡ form ++ more → (args ≡ others) × (rest ≡ more)
-only_this bytes rest args e others form more is same =
-    let there : read args rest ≡ read others more = sym e ∙ ap request_at same ∙ request_again others form more is in
-    (same_value args others rest more there, same_rest args others rest more there)
+only_this bytes rest args e others form more is same = grind (arith, read, request_again, same_value, same_rest)
 
 -- ---- what follows alone
 
@@ -276,9 +252,7 @@ rest_read (Err s) rest e = absurd cc
 
 pub rest_stopped : (r : Read Words) (stop : Stop) → rest_of r ≡ Err stop → r ≡ Err stop
 rest_stopped (Ok x) stop e = absurd cc
-rest_stopped (Err s) stop e =
-    let same : s ≡ stop = cc in
-    ap (λ (t : Stop). stopped t) same
+rest_stopped (Err s) stop e = grind (arith, common_steps)
 
 -- ---- the loops over the bulk strings
 
@@ -286,14 +260,8 @@ abbrev pub with_words : Words → Read Words → Read Words
 with_words words (Ok x) = Ok (words ++ x.0, x.1)
 with_words words (Err s) = Err s
 
-same_words : (r : Read Words) → with_words [] r ≡ r
-same_words (Ok x) = refl
-same_words (Err s) = refl
-
 pub words_begin : (count : ℕ) (bytes : List ℕ) → with_words [] (bulks_at (count - 0) bytes) ≡ bulks_at count bytes
-words_begin count bytes =
-    let all : count - 0 ≡ count = omega arith in
-    ap (λ (n : ℕ). with_words [] (bulks_at n bytes)) all ∙ same_words (bulks_at count bytes)
+words_begin count bytes = grind (arith, common_steps)
 
 module _ (count counter : ℕ) (rest : List ℕ) (lt : counter < count) where
   one_more : count - counter ≡ suc (count - (counter + 1))
@@ -325,6 +293,4 @@ module _ (count counter : ℕ) (rest : List ℕ) (lt : counter < count) where
 
 pub bulks_done : (count counter : ℕ) (rest : List ℕ) → count ≤ counter → bulks_at (count - counter) rest ≡ Ok ([], rest)
 unfolding bulks_at
-bulks_done count counter rest le =
-    let none : count - counter ≡ 0 = omega (arith, le) in
-    ap (λ (n : ℕ). bulks_at n rest) none
+bulks_done count counter rest le = grind (arith, common_steps)

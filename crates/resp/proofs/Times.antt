@@ -1,5 +1,6 @@
 -- Reading answers one after the other, as a loop does.
 use Rattle.std.proofs.Common.{◌≡◌, ℕ, suc, ◌-◌, ◌+◌, ◌≤◌, ◌<◌, List, [], ◌++◌, Result, Ok, Err, refl, sym, ap, ◌∙◌, append_assoc, append-nil, arith}
+use Rattle.std.proofs.lemmas.Grind.{common_steps}
 use Rattle.resp_core.specs.Reply.{Reply}
 use Rattle.resp.specs.declared.fault.Fault.{Fault}
 use Rattle.resp.specs.declared.fault.ReadError.{ReadError}
@@ -50,7 +51,4 @@ module _ (read : List ℕ → Result (Answer × List ℕ) Fault) where
 
   pub is_done : (front : Items) (count i : ℕ) (bytes : List ℕ) (total : Result (Items × List ℕ) Fault) → count ≤ i → with_front front (times_at read (count - i) bytes) ≡ total → total ≡ Ok (front, bytes)
   unfolding times_at
-  is_done front count i bytes total le so_far =
-      let k : count - i ≡ 0 = omega arith in
-      let one : with_front front (times_at read (count - i) bytes) ≡ Ok (front, bytes) = rw k (ap (λ (items : Items). Ok (items, bytes)) (no_more front)) in
-      sym so_far ∙ one
+  is_done front count i bytes total le so_far = grind (arith, common_steps)

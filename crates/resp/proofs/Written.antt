@@ -1,9 +1,9 @@
 -- What is written of values.
-use Rattle.std.proofs.Common.{◌≡◌, ◌++◌, ◌+◌, ◌<◌, ◌≤◌, ◌^◌, ℕ, zero, suc, List, [], ◌∷◌, Vec, Global, Some, None, slice_get, get_or, take, length, map, decimal, refl, sym, ap, subst, ◌∙◌, append_assoc, append-nil, arith}
+use Rattle.std.proofs.Common.{◌≡◌, ◌++◌, ◌+◌, ◌<◌, ◌≤◌, ◌^◌, ℕ, zero, suc, List, [], ◌∷◌, Vec, Global, Some, None, slice_get, get_or, take, length, map, decimal, refl, sym, ap, subst, ◌∙◌, arith}
 use Rattle.std.specs.List.{flat_map, AllByRecursion}
 use Rattle.std.proofs.lemmas.List.{length-map, take_more}
-use Rattle.std.proofs.lemmas.List.Concat.{flat_map-append}
 use Rattle.std.proofs.lemmas.Option.{get_or_from_slice_get, slice_get-get_or}
+use Rattle.std.proofs.lemmas.Grind.{common_steps}
 use Rattle.resp_core.specs.Reply.{Reply, replies_of}
 use Rattle.resp_core.specs.View.{view}
 use Rattle.resp_core.specs.declared.value.Value.{Value, Array}
@@ -19,9 +19,7 @@ items_form [] = refl
 items_form (v ∷ vs) = ap (λ (t : List ℕ). form (view v) ++ t) (items_form vs)
 
 pub array_form : (v : Value) (items : Vec Value Global) → v ≡ Array items → form (view v) ≡ line 42 (decimal (length items.items)) ++ forms (replies_of (map view items.items))
-array_form v items is =
-    ap form (ap view is ∙ view-Array items)
-    ∙ ap (λ (n : ℕ). line 42 (decimal n) ++ forms (replies_of (map view items.items))) (count_is (map view items.items) ∙ length-map items.items view)
+array_form v items is = grind (arith, view-Array, count_is, length-map)
 
 -- the word at a place
 pub word_at : (words : List (List ℕ)) (i : ℕ) (word : List ℕ) → i < length words → Some word ≡ slice_get words i → word ≡ get_or words i []
@@ -33,22 +31,11 @@ none_at words i lt e = let there = slice_get-get_or words i [] lt in absurd cc
 -- the bytes of one word more
 pub words_more : (before head : List ℕ) (words : List (List ℕ)) (i : ℕ) (word : List ℕ) → i < length words → word ≡ get_or words i []
     → (before ++ (head ++ flat_map bulk_form (take i words))) ++ bulk_form word ≡ before ++ (head ++ flat_map bulk_form (take (i + 1) words))
-words_more before head words i word lt is =
-    let more : take (i + 1) words ≡ take i words ++ word ∷ [] = take_more words i [] lt ∙ ap (λ (w : List ℕ). take i words ++ w ∷ []) (sym is) in
-    let spelt : flat_map bulk_form (take (i + 1) words) ≡ flat_map bulk_form (take i words) ++ bulk_form word =
-    ap (flat_map bulk_form) more ∙ flat_map-append bulk_form (take i words) (word ∷ []) ∙ ap (λ (t : List ℕ). flat_map bulk_form (take i words) ++ t) (append-nil (bulk_form word)) in
-    append_assoc before (head ++ flat_map bulk_form (take i words)) (bulk_form word)
-    ∙ ap (λ (t : List ℕ). before ++ t) (append_assoc head (flat_map bulk_form (take i words)) (bulk_form word) ∙ ap (λ (t : List ℕ). head ++ t) (sym spelt))
-
-short_push : (words : List (List ℕ)) (word : List ℕ) → AllByRecursion (λ w. length w < 2 ^ 63) words → length word < 2 ^ 63 → AllByRecursion (λ w. length w < 2 ^ 63) (words ++ word ∷ [])
-short_push [] word all short = (short, tt)
-short_push (w ∷ words) word all short = (all.0, short_push words word all.1 short)
+words_more before head words i word lt is = grind (arith, common_steps)
 
 pub short_more : (words : List (List ℕ)) (i : ℕ) (word : List ℕ) → i < length words → word ≡ get_or words i [] → length word < 2 ^ 63
     → AllByRecursion (λ w. length w < 2 ^ 63) (take i words) → AllByRecursion (λ w. length w < 2 ^ 63) (take (i + 1) words)
-short_more words i word lt is short so_far =
-    let more : take (i + 1) words ≡ take i words ++ word ∷ [] = take_more words i [] lt ∙ ap (λ (w : List ℕ). take i words ++ w ∷ []) (sym is) in
-    rw more (short_push (take i words) word so_far short)
+short_more words i word lt is short so_far = grind (arith, common_steps)
 
 -- what holds of all values holds of the one at a place
 pub item_has_form : (vs : List Value) (i : ℕ) (v : Value) → i < length vs → v ≡ get_or vs i v → HaveForm (replies_of (map view vs)) → HasForm (view v)
@@ -82,15 +69,8 @@ written_more vs i levels v lt is has low so_far =
     rw more (have_push (take i vs) v so_far.0 has, low_push (take i vs) v levels so_far.1 low)
 
 pub array_has_form : (v : Value) (items : Vec Value Global) → v ≡ Array items → length items.items < 2 ^ 63 → HaveForm (replies_of (map view items.items)) → HasForm (view v)
-array_has_form v items is few have =
-    let n : count (replies_of (map view items.items)) ≡ length items.items = count_is (map view items.items) ∙ length-map items.items view in
-    let low : count (replies_of (map view items.items)) < 2 ^ 63 = omega (arith, n, few) in
-    subst (λ (r : Reply). HasForm r) (sym (ap view is ∙ view-Array items)) (low, have)
+array_has_form v items is few have = grind (arith, count_is, length-map, view-Array)
 
 pub values_more : (before : List ℕ) (vs : List Value) (i : ℕ) (v : Value) → i < length vs → v ≡ get_or vs i v
     → (before ++ flat_map (λ w. form (view w)) (take i vs)) ++ form (view v) ≡ before ++ flat_map (λ w. form (view w)) (take (i + 1) vs)
-values_more before vs i v lt is =
-    let more : take (i + 1) vs ≡ take i vs ++ v ∷ [] = take_more vs i v lt ∙ ap (λ (w : Value). take i vs ++ w ∷ []) (sym is) in
-    let spelt : flat_map (λ w. form (view w)) (take (i + 1) vs) ≡ flat_map (λ w. form (view w)) (take i vs) ++ form (view v) =
-    ap (flat_map (λ w. form (view w))) more ∙ flat_map-append (λ w. form (view w)) (take i vs) (v ∷ []) ∙ ap (λ (t : List ℕ). flat_map (λ w. form (view w)) (take i vs) ++ t) (append-nil (form (view v))) in
-    append_assoc before (flat_map (λ w. form (view w)) (take i vs)) (form (view v)) ∙ ap (λ (t : List ℕ). before ++ t) (sym spelt)
+values_more before vs i v lt is = grind (arith, common_steps)
