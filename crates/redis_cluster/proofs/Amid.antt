@@ -79,8 +79,7 @@ module _ {C : Type 0} (step : Step C) (command : MultiKey) where
   -- So what is made of their replies is the reply of the unsplit command.
   pub outcome_amid : ShareOut (slots_in command) command.tuples → (held : HeldBySlot C) (one : Keyspace C) → IsAssembled command held one → (replies : List Reply) (outcome : Result Reply ErrorKind) → replies ≡ replies_by step command held
       → IsOutcome command.tuples (slots_in command) replies command.form outcome → outcome ≡ Ok (reply_to step command one)
-  outcome_amid share held one assembled replies outcome said made =
-      outcome_is (slots_in command) command.tuples share (results_of step command one) (length-results (act_of step command) command.tuples one) command.form replies outcome (said ∙ said_amid held one assembled) made
+  outcome_amid share held one assembled replies outcome said made = grind (arith, outcome_is, length-results, said_amid)
 
   -- The parts of other slots leave a key as it was.
   parts_skip : (slots : List ℕ) (first : Keyspace C) (key : List ℕ) → times (key_slot key) slots ≡ 0 → after_parts step command slots first key ≡ first key

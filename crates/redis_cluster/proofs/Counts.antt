@@ -4,6 +4,7 @@ use Rattle.std.specs.Prelude.{nat_eq}
 use Rattle.std.specs.List.{sum_by, list_any}
 use Rattle.std.proofs.lemmas.Bool.Decides.{nat_tests}
 use Rattle.std.proofs.lemmas.List.Sums.{sum_by-cons, sum_by-append, sum_by_push}
+use Rattle.std.proofs.lemmas.Grind.{common_steps}
 use Rattle.resp_core.proofs.Cases.{by_test}
 use Rattle.redis_cluster.specs.Orders.{times}
 
@@ -17,9 +18,7 @@ times_here n x xs here = sum_by-cons (λ y. cond (nat_eq n y) 1 0) x xs ∙ ap (
 
 -- a list with another first number has it no more often
 pub times_there : (n x : ℕ) (xs : List ℕ) → nat_eq n x ≡ false → times n (x ∷ xs) ≡ times n xs
-times_there n x xs there =
-    let e : times n (x ∷ xs) ≡ 0 + times n xs = sum_by-cons (λ y. cond (nat_eq n y) 1 0) x xs ∙ ap (λ b. cond b 1 0 + times n xs) there in
-    omega arith
+times_there n x xs there = grind (arith, common_steps)
 
 -- two lists have a number as often as both together
 pub times-append : (n : ℕ) (xs ys : List ℕ) → times n (xs ++ ys) ≡ times n xs + times n ys

@@ -3,8 +3,9 @@ use Rattle.std.proofs.Common.{◌≡◌, ◌+◌, ◌<◌, ℕ, zero, suc, List,
 use Rattle.std.specs.List.{AllZip}
 use Rattle.std.specs.declared.alloc.Global.{Global}
 use Rattle.std.specs.declared.vec.Vec.{Vec}
-use Rattle.std.proofs.lemmas.List.{take-append-drop, drop_more, map-append, map_more}
+use Rattle.std.proofs.lemmas.List.{take-append-drop, drop_more, map-append}
 use Rattle.std.proofs.lemmas.List.Elements.{All-map}
+use Rattle.std.proofs.lemmas.Grind.{common_steps}
 use Rattle.cluster_slots.specs.Address.{Address}
 use Rattle.cluster_slots.specs.SlotRoute.{SlotRoute}
 use Rattle.cluster_map.specs.SlotNodes.{SlotNodes}
@@ -42,9 +43,7 @@ firsts-route_lists (route ∷ routes) = ap (λ rs. route.0 ∷ rs) (firsts-route
 -- One route more has its places at the end.
 pub route_lists_more : (routes : List (SlotRoute × Vec ℕ Global)) (i : ℕ) (route : SlotRoute × Vec ℕ Global) → i < length routes → route ≡ get_or routes i route →
     route_lists (take (i + 1) routes) ≡ route_lists (take i routes) ++ (route.0, route.1.items) ∷ []
-route_lists_more routes i route within is =
-    map_more {Y = SlotRoute × List ℕ} (λ r. (r.0, r.1.items)) routes i route within
-    ∙ ap (λ r. route_lists (take i routes) ++ (r.0, r.1.items) ∷ []) (sym is)
+route_lists_more routes i route within is = grind (arith, common_steps)
 
 -- The first route whose slot has no node, where all before it have one.
 pub first_uncovered : (entries : List (RangeEntry SlotNodes)) (routes : List (SlotRoute × Vec ℕ Global)) (i : ℕ) (route : SlotRoute × Vec ℕ Global) → i < length routes → route ≡ get_or routes i route →

@@ -79,8 +79,7 @@ one_more entries retries routes nodes own number route node retry so_far at_rout
 
 -- the route of a place, by the routes as they are held
 pub route_at : (held : List (SlotRoute × Vec ℕ Global)) (routes : List (SlotRoute × List ℕ)) (number : ℕ) (found : SlotRoute × Vec ℕ Global) → route_lists held ≡ routes → slice_get held number ≡ Some found → slice_get (map (λ r. r.0) routes) number ≡ Some found.0
-route_at held routes number found same at =
-    ap (λ rs. slice_get (map (λ r. r.0) rs) number) (sym same) ∙ ap (λ rs. slice_get rs number) (firsts-route_lists held) ∙ get_map (λ r. r.0) held number found at
+route_at held routes number found same at = grind (arith, firsts-route_lists, get_map)
 
 -- the routes of a plan and its nodes beside each other are as many as the routes
 pub as_many : (plan : Plan) → IsRoutedPlan plan → length (zip (map (λ r. r.0) plan.split.routes) plan.nodes) ≡ length plan.split.routes

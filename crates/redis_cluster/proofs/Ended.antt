@@ -52,8 +52,7 @@ module _ {A B : Type 0} (R : A → B → Type 0) where
   -- what holds of two lists, place by place, holds of both in another order
   pub both_in_order : (xs : List A) (ys : List B) (order : List ℕ) → AllZip R xs ys → AllZip R (in_order xs order) (in_order ys order)
   both_in_order xs ys [] each = tt
-  both_in_order xs ys (k ∷ order) each =
-      both_append (option_to_list (slice_get xs k)) (in_order xs order) (option_to_list (slice_get ys k)) (in_order ys order) (both_at xs ys k each) (both_in_order xs ys order each)
+  both_in_order xs ys (k ∷ order) each = grind (arith, both_append, both_at, both_in_order xs ys order each)
 
   -- beside each of the second stands one of the first
   pub beside : (xs : List A) (ys : List B) (k : ℕ) (y : B) → AllZip R xs ys → slice_get ys k ≡ Some y → (x : A) × (slice_get xs k ≡ Some x) × R x y
@@ -106,9 +105,7 @@ module _ {C : Type 0} (IsNode : SlotRoute → Address → Type 0) (step : Step C
     drivable = record { is_covered = is.is_covered; order = of_routes }
 
     slots_first : (count : ℕ) → map (λ (route : SlotRoute). route.slot) (take count (in_order routes r.order)) ≡ in_order slots (take count r.order)
-    slots_first count =
-        ap (map (λ (route : SlotRoute). route.slot)) (take_in_order routes count r.order of_routes.below)
-        ∙ map-in_order (λ (route : SlotRoute). route.slot) routes (take count r.order) ∙ ap (λ xs. in_order xs (take count r.order)) slots_are
+    slots_first count = grind (arith, take_in_order, of_routes, map-in_order, slots_are)
 
     left_by : (count : ℕ) → new.keyspace ≡ after (act_of step command) (tuples_of_slots (in_order slots (take count r.order)) command.tuples) old.keyspace → RoutesTookEffect step old new command (take count (in_order routes r.order))
     left_by count keyspace = keyspace ∙ ap (λ xs. after (act_of step command) (tuples_of_slots xs command.tuples) old.keyspace) (sym (slots_first count))
@@ -177,11 +174,8 @@ module _ {C : Type 0} (IsNode : SlotRoute → Address → Type 0) (step : Step C
         -- a plan that was not driven to its end was cut short, and its fault says where
         pub cut_short : (fault : DriveFault) → AreEndedEarly kept r.names.registered step may_refuse plan tries r.order old.keyspace new.keyspace old.trace new.trace new.mark fault count → Stops fault
         cut_short fault (inl ended) = subst Stops (sym ended.fault_is) (at_send ended.error (ended.stopped command is.plan_is))
-        cut_short fault (inr (inl ended)) =
-            subst Stops (sym ended.fault_is)
-            (past_all early.Memory (inr (refl, ended.form command is.plan_is)) ended.count_is ended.trace (λ now. (ended.keyspace command is.plan_is now, λ e is. cc is)))
-        cut_short fault (inr (inr ended)) =
-            subst Stops (sym ended.fault_is) (past_all (early.Reply ended.error) refl ended.count_is ended.trace (λ now. absurd (ended.misfit now)))
+        cut_short fault (inr (inl ended)) = grind (arith, past_all)
+        cut_short fault (inr (inr ended)) = grind (arith, past_all)
 
 -- a fault of the sends is none of those that come before the first
 late_send : (error : SendError) → IsBefore (fault_of_send error) → ⊥

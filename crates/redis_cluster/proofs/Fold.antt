@@ -5,6 +5,7 @@ use Rattle.std.specs.Str.{bytes_eq}
 use Rattle.std.specs.List.{flat_map, list_any}
 use Rattle.std.proofs.lemmas.Bool.{cases_lt}
 use Rattle.std.proofs.lemmas.Slice.Eq.{bytes_eq-Decides}
+use Rattle.std.proofs.lemmas.Grind.{common_steps}
 use Rattle.cluster_slots.specs.KeySlot.{key_slot}
 use Rattle.resp_core.proofs.Cases.{by_test}
 use Rattle.redis_cluster.specs.MultiKey.{KeyTuple, tuples_of_slot}
@@ -107,17 +108,12 @@ module _ {C : Type 0} (act : Act C) where
   -- a part of tuples none of which has the key leaves its cell
   idle_part : (key : List ℕ) (slot : ℕ) (ts : List KeyTuple) (c : Option C) → Idle key ts → cell_after key (tuples_of_slot slot ts) c ≡ c
   idle_part key slot [] c h = refl
-  idle_part key slot (t ∷ ts) c h =
-      by_test (nat_eq (key_slot t.key) slot)
-      (λ here. rw (here, cell_after, h.0) (idle_part key slot ts c h.1))
-      (λ there. rw there (idle_part key slot ts c h.1))
+  idle_part key slot (t ∷ ts) c h = grind (arith, common_steps, idle_part key slot ts c h.1)
 
   -- parts of tuples none of which has the key leave its cell
   idle_joined : (key : List ℕ) (slots : List ℕ) (ts : List KeyTuple) (c : Option C) → Idle key ts → cell_after key (joined slots ts) c ≡ c
   idle_joined key [] ts c h = refl
-  idle_joined key (slot ∷ slots) ts c h =
-      cell_after-append key (tuples_of_slot slot ts) (joined slots ts) c
-      ∙ ap (cell_after key (joined slots ts)) (idle_part key slot ts c h) ∙ idle_joined key slots ts c h
+  idle_joined key (slot ∷ slots) ts c h = grind (arith, cell_after-append, idle_part, idle_joined key slots ts c h)
 
   -- a key has a slot that is named once, or none of the tuples
   named_or_idle : (key : List ℕ) (slots : List ℕ) (ts : List KeyTuple) → NamesSlots slots ts → (times (key_slot key) slots ≡ 1) ⊎ Idle key ts
@@ -129,12 +125,7 @@ module _ {C : Type 0} (act : Act C) where
 
   -- All parts, in any order, leave what the command leaves that is not split.
   pub joined_is_whole : (slots : List ℕ) (ts : List KeyTuple) (ks : Keyspace C) → NamesSlots slots ts → after act (joined slots ts) ks ≡ after act ts ks
-  joined_is_whole slots ts ks h = λ i key. (after_is (joined slots ts) ks key
-      ∙ elim (named_or_idle key slots ts h) as (λ _. cell_after key (joined slots ts) (ks key) ≡ cell_after key ts (ks key)) [
-        | inl once ↦ joined_keeps key ts slots (ks key) once
-        | inr idle ↦ idle_joined key slots ts (ks key) idle ∙ sym (idle_after key ts (ks key) idle)
-      ]
-      ∙ sym (after_is ts ks key)) i
+  joined_is_whole slots ts ks h = grind (arith, after_is, named_or_idle, joined_keeps, idle_joined, idle_after)
 
   -- at one key, parts of different slots do what the tuples of those slots do
   joined_is_among : (slots : List ℕ) (key : List ℕ) (ts : List KeyTuple) (c : Option C) → times (key_slot key) slots ≤ 1

@@ -1,8 +1,7 @@
 -- A command with gaps is the same command as its front.
-use Rattle.std.proofs.Common.{◌≡◌, ℕ, List, [], ◌∷◌, ◌++◌, Option, None, Some, refl, sym, ap, ◌∙◌, map, take}
-use Rattle.std.specs.List.{flat_map}
-use Rattle.std.specs.Prelude.{option_and_then, option_map, unwrap_or}
-use Rattle.std.specs.Option.{option_to_list}
+use Rattle.std.proofs.Common.{◌≡◌, ℕ, List, [], ◌∷◌, ◌++◌, Option, None, Some, refl, ap, ◌∙◌, map, take, arith}
+use Rattle.std.specs.Prelude.{option_map, unwrap_or}
+use Rattle.std.proofs.lemmas.Grind.{common_steps}
 use Rattle.redis_routing.specs.Command.{Arguments, command_name}
 use Rattle.redis_routing.specs.NameWords.{name_words_of}
 use Rattle.redis_routing.specs.Registry.{Registrations}
@@ -10,10 +9,9 @@ use Rattle.redis_routing.specs.TwoWords.{takes_second}
 use Rattle.redis_routing.specs.Upper.{upper}
 use Rattle.resp_core.proofs.Cases.{by_test}
 use Rattle.redis_routing.specs.PresentArguments.{arguments_before_gap, present_arguments, present_arguments_after}
-use Rattle.redis_routing.specs.MultiKeyNames.{split_of}
 use Rattle.redis_routing.proofs.SelfRouting.{arguments_before_gap-map}
 use Rattle.redis_cluster.specs.Front.{front, IsSameCommand}
-use Rattle.redis_cluster.specs.MultiKey.{MultiKey, command_with, form_by_policy, multi_key, part_args, tuples_of_slot}
+use Rattle.redis_cluster.specs.MultiKey.{MultiKey, multi_key, part_args}
 
 -- the front has the words of the name, and what is present after them
 record IsFront (args : Arguments) : Type 0 where
@@ -35,14 +33,7 @@ module _ (first second : List ℕ) (rest : Arguments) where
   kept = Some first ∷ Some second ∷ map Some (arguments_before_gap rest)
 
   front_of_words : (words : ℕ) → name_words_of whole ≡ words → front_at words whole ≡ kept → take words kept ≡ take words whole → present_arguments_after words kept ≡ present_arguments_after words whole → IsFront whole
-  front_of_words words count is first present =
-      let front_is : front whole ≡ kept = ap (λ n. front_at n whole) count ∙ is in
-      record {
-        name = ap command_name front_is;
-        words = ap name_words_of front_is;
-        first = ap (take (name_words_of whole)) front_is ∙ ap (λ n. take n kept) count ∙ first ∙ sym (ap (λ n. take n whole) count);
-        present = ap present_arguments front_is ∙ ap (λ n. present_arguments_after n kept) count ∙ present ∙ sym (ap (λ n. present_arguments_after n whole) count);
-      }
+  front_of_words words count is first present = grind (arith, common_steps)
 
   front_of_two : IsFront whole
   front_of_two =
@@ -67,18 +58,10 @@ module _ (args : Arguments) where
 
   part_same : (slot : ℕ) (command : Option MultiKey) → part_found (front args) slot command ≡ part_found args slot command
   part_same slot None = refl
-  part_same slot (Some command) =
-      let rest : Arguments = map Some (flat_map (λ t. t.key ∷ t.extras) (tuples_of_slot slot command.tuples) ++ option_to_list command.shared) in
-      ap (λ words. take words (front args) ++ rest) same.words ∙ ap (λ words. words ++ rest) same.first
+  part_same slot (Some command) = grind (arith, common_steps)
 
   command_same : (registered : Registrations) → multi_key registered (front args) ≡ multi_key registered args
-  command_same registered =
-      ap (option_and_then (λ name. option_and_then (λ split. option_and_then (command_with registered name (present_arguments (front args)) split.0) (form_by_policy split.1)) (split_of registered name))) same.name
-      ∙ ap (λ present. option_and_then (λ name. option_and_then (λ split. option_and_then (command_with registered name present split.0) (form_by_policy split.1)) (split_of registered name)) (command_name args)) same.present
+  command_same registered = grind (arith, same)
 
   pub same_command : IsSameCommand args (front args)
-  same_command =
-      record {
-        command = command_same;
-        part = λ registered slot. ap (part_found (front args) slot) (command_same registered) ∙ part_same slot (multi_key registered args);
-      }
+  same_command = grind (arith, command_same, part_same)

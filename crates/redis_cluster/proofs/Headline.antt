@@ -14,11 +14,12 @@ use Rattle.redis_routing.specs.declared.info.Redirect.{Redirect}
 use Rattle.redis_cluster.proofs.Once.{length-names_once}
 use Rattle.redis_cluster.proofs.Orders.{length-in_order}
 use Rattle.std.proofs.lemmas.Slice.Zip.{AllZip-long}
+use Rattle.std.proofs.lemmas.Grind.{common_steps}
 use Rattle.redis_cluster.specs.Unsplit.{Step}
 use Rattle.redis_cluster.specs.Driven.{Request, command_routes_by, IsDrivable, IsEntryOf, AreSent, AreAllAnswered, IsUnhindered}
 use Rattle.redis_cluster.specs.State.{State}
 use Rattle.redis_cluster.specs.Attempts.{IsCause}
-use Rattle.redis_cluster.specs.Faults.{IsCauseBeforeSending, EndsOnce, IsAllowed, IsFault, IsFaultBy, WentOut, WereCutShort, up_to}
+use Rattle.redis_cluster.specs.Faults.{IsCauseBeforeSending, EndsOnce, IsFault, IsFaultBy, WentOut, WereCutShort, up_to}
 use Rattle.redis_cluster.specs.declared.fault.DriveFault.{DriveFault}
 use Rattle.redis_cluster.specs.declared.fault.DriveFault.TheVariants.{NotMultiKey, NotCovered, BadOrder, Memory, Node, Redirected, Lost, Reply}
 use Rattle.redis_cluster.proofs.CommandParts.{covered_routes}
@@ -69,13 +70,7 @@ module _ (Answered : List SlotRoute → List Entry → List Entry → Type 0) (E
     pub allowed : IsCause may_refuse (length new.trace) new.mark (Some ending)
 
   pub reached : (fault : DriveFault) (ending : Ending) (cut : WereCutShort Answered Ends r old new may_refuse fault count) → cut.reach ≡ up_to (Some ending) → ReachedUpTo ending
-  reached fault ending cut is = record {
-    routes = cut.routes;
-    command = cut.command;
-    drivable = cut.drivable;
-    went = subst (λ reach. WentOut Answered Ends r cut.routes count reach old.trace new.trace) is cut.went;
-    allowed = subst (IsAllowed Answered Ends r old new may_refuse) is cut.allowed;
-  }
+  reached fault ending cut is = grind (arith, common_steps)
 
   pub only_memory : (asked : List SlotRoute) (command : MultiKey) → IsDrivable r asked command → (step : Step C) (fault : DriveFault) → IsFaultBy Answered Ends r old new may_refuse step fault count
       → ((ending : Ending) → ReachedUpTo ending → ending ≡ answered) → fault ≡ Memory
@@ -99,9 +94,7 @@ module _ {C : Type 0} (IsNode : SlotRoute → Address → Type 0) (step : Step C
 
   -- if each entry that was added was answered, so was the last one
   last_answered : AreAllAnswered old.trace new.trace → (routes : List SlotRoute) (before : List Entry) → AreSent IsNode r routes old.trace before → (last : Entry) → new.trace ≡ before ++ last ∷ [] → last.ending ≡ answered
-  last_answered (entries, grew, all) routes before sent last is =
-      let same : entries ≡ sent.entries ++ last ∷ [] = append_cancel_left old.trace entries (sent.entries ++ last ∷ []) (sym grew ∙ is ∙ ap (λ (b : List Entry). b ++ last ∷ []) sent.grew ∙ append_assoc old.trace sent.entries (last ∷ [])) in
-      middle (λ (e : Entry). e.ending ≡ answered) sent.entries last [] (subst (All (λ (e : Entry). e.ending ≡ answered)) same all)
+  last_answered (entries, grew, all) routes before sent last is = grind (arith, append_cancel_left, append_assoc, middle)
 
   pub carried_fault : (asked : List SlotRoute) (command : MultiKey) → IsDrivable r asked command → AreAllAnswered old.trace new.trace → (fault : DriveFault) (count : ℕ) → IsFault IsNode step r old new may_refuse fault count → fault ≡ Memory
   carried_fault asked command can all fault count f =

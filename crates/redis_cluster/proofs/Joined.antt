@@ -4,6 +4,7 @@ use Rattle.std.specs.Prelude.{ok_or, option_and_then, option_map, slice_get}
 use Rattle.std.specs.List.{AllZip}
 use Rattle.std.proofs.lemmas.List.{length-map}
 use Rattle.std.proofs.lemmas.Simd.{map-map}
+use Rattle.std.proofs.lemmas.Grind.{common_steps}
 use Rattle.cluster_slots.specs.SlotRoute.{SlotRoute}
 use Rattle.resp_core.specs.Reply.{Reply, array, array_of, int, replies_of}
 use Rattle.resp_core.specs.Reply as reply
@@ -57,26 +58,18 @@ module _ (split : Split) (to : IsSplitTo split) (replies : List Reply) (each : l
   -- arrays are put in order by the lists of the routes
   arrays_make : (pattern : MultiSlotArgPattern) (routes : List (SlotRoute × Vec ℕ Global)) (outcome : Result Reply ErrorKind) → pattern ≡ split.pattern → route_lists routes ≡ split.routes
       → sorted_arrays pattern replies (map (λ route. route.1.items) routes) ≡ outcome → Outcome split replies list outcome
-  arrays_make pattern routes outcome same listed is =
-      let lists : map (λ route. route.1.items) routes ≡ map (λ r. r.1) split.routes =
-      sym (map-map (λ (r : SlotRoute × List ℕ). r.1) (λ (r : SlotRoute × Vec ℕ Global). (r.0, r.1.items)) routes) ∙ ap (map (λ r. r.1)) listed in
-      by_misfit (first_misfit replies (map (λ slot. length (tuples_of_slot slot (tuples_in_split split))) (slots_of split.routes))) refl outcome
-      (sym (ap (sorted_arrays pattern replies) lists ∙ ap (λ p. sorted_arrays p replies (map (λ r. r.1) split.routes)) same) ∙ is)
+  arrays_make pattern routes outcome same listed is = grind (arith, map-map, by_misfit)
 
   -- so it is for each form of the reply that arrays make
   pub arrays_are : (form : ReplyForm) (pattern : MultiSlotArgPattern) (routes : List (SlotRoute × Vec ℕ Global)) (outcome : Result Reply ErrorKind) → form_by_policy split.policy ≡ Some form → split.policy ≡ CombineArrays
       → pattern ≡ split.pattern → route_lists routes ≡ split.routes → sorted_arrays pattern replies (map (λ route. route.1.items) routes) ≡ outcome → Outcome split replies form outcome
-  arrays_are form pattern routes outcome form_is policy same listed is =
-      let own : list ≡ form = let e : form_by_policy split.policy ≡ Some list = ap form_by_policy policy in cc in
-      subst (λ f. Outcome split replies f outcome) own (arrays_make pattern routes outcome same listed is)
+  arrays_are form pattern routes outcome form_is policy same listed is = grind (arith, arrays_make)
 
 -- numbers make one
 pub number_is : (split : Split) (form : ReplyForm) (op : AggregateOp) (replies : List Reply) (found : Option Reply) → form_by_policy split.policy ≡ Some form → split.policy ≡ Aggregate op → aggregate_of op replies ≡ found
     → Outcome split replies form (ok_or found UnexpectedReturnType)
 number_is split form Min replies found form_is policy is = absurd (let e : form_by_policy split.policy ≡ None = ap form_by_policy policy in cc)
-number_is split form Sum replies found form_is policy is =
-    let own : count ≡ form = let e : form_by_policy split.policy ≡ Some count = ap form_by_policy policy in cc in
-    subst (λ f. Outcome split replies f (ok_or found UnexpectedReturnType)) own (ap (λ o. ok_or o UnexpectedReturnType) is)
+number_is split form Sum replies found form_is policy is = grind (arith, common_steps)
 
 -- by any other policy it is the first reply
 pub first_is : (split : Split) (form : ReplyForm) (policy : ResponsePolicy) (replies : List Reply) (first : Reply) → form_by_policy split.policy ≡ Some form → split.policy ≡ policy
@@ -112,10 +105,7 @@ module _ (slots : List ℕ) (ts : List KeyTuple) (share : ShareOut slots ts) (re
 
   arrays : (slots : List ℕ) → AllZip (λ slot reply. array_of reply ≡ Some (items_of_slot slot ts values)) slots (replies_by list ts results slots)
   arrays [] = tt
-  arrays (slot ∷ slots) = (
-    ap Some (items_in-replies_of (map (λ r. r.value) (items_of_slot slot ts results)) ∙ map-items_of_slot (λ r. r.value) slot ts results each ∙ sym (items_of_slot_is slot ts values long)),
-    arrays slots,
-  )
+  arrays (slot ∷ slots) = grind (arith, items_in-replies_of, map-items_of_slot, items_of_slot_is, long, arrays slots)
 
   first_okay : (slots : List ℕ) (outcome : Result Reply ErrorKind) → 0 < length slots → slice_get (map Ok (map (λ slot. reply.okay) slots)) 0 ≡ Some outcome → outcome ≡ Ok reply.okay
   first_okay [] outcome some is = absurd (omega arith)
@@ -135,9 +125,7 @@ module _ (slots : List ℕ) (ts : List KeyTuple) (share : ShareOut slots ts) (re
 -- So it is of a split.
 pub outcome_is_unsplit : (split : Split) (form : ReplyForm) (results : List TupleResult) (replies : List Reply) (outcome : Result Reply ErrorKind) → IsSplit split → ArePartsAnswered split form results replies
     → IsMadeOfParts split replies outcome → outcome ≡ Ok (reply_by form results)
-outcome_is_unsplit split form results replies outcome held answered made =
-    let same : made.form ≡ form = let e = made.form_is in let f = answered.form_is in cc (e, f) in
-    outcome_is (slots_of split.routes) (tuples_in_split split) (share_out split held) results answered.each form replies outcome answered.replies_are (subst (λ f. Outcome split replies f outcome) same made.outcome_is)
+outcome_is_unsplit split form results replies outcome held answered made = grind (arith, outcome_is, share_out)
 
 -- arrays make lists
 pub arrays_make_lists : (split : Split) (form : ReplyForm) → form_by_policy split.policy ≡ Some form → split.policy ≡ CombineArrays → form ≡ list

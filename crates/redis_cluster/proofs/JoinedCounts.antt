@@ -1,8 +1,8 @@
 -- The sum of the counts of a command's parts is the count of the whole command.
 use Rattle.std.proofs.Common.{◌≡◌, ℕ, ◌+◌, ◌<◌, ◌^◌, List, [], ◌∷◌, true, cond, None, Some, map, length, fold, refl, ap, ◌∙◌, arith, pos, ◌+ℤ◌}
 use Rattle.std.specs.Prelude.{count_by, option_map, option_and_then, sum_by}
-use Rattle.std.proofs.lemmas.List.Sums.{sum_by-cons}
 use Rattle.std.proofs.lemmas.Int.{ints}
+use Rattle.std.proofs.lemmas.Grind.{common_steps}
 use Rattle.resp_core.specs.Reply.{int}
 use Rattle.cluster_slots.specs.declared.aggregate_op.AggregateOp.TheVariants.{Sum}
 use Rattle.redis_combiners.specs.Aggregate.{aggregate_of, fits_i64, in_i64, numbers, total}
@@ -19,9 +19,7 @@ module _ {X : Type 0} (f : X → ℕ) where
 
   total_from : (a : ℕ) (xs : List X) → fold ◌+ℤ◌ (pos a) (map (λ x. pos (f x)) xs) ≡ pos (a + sum_by f xs)
   total_from a [] = ap pos (omega arith)
-  total_from a (x ∷ xs) =
-      let step : pos a +ℤ pos (f x) ≡ pos (a + f x) = omega (arith, ints) in
-      ap (λ z. fold ◌+ℤ◌ z (map (λ y. pos (f y)) xs)) step ∙ total_from (a + f x) xs ∙ ap pos (omega (arith, sum_by-cons f x xs))
+  total_from a (x ∷ xs) = grind (arith, common_steps, total_from (a + f x) xs)
 
 small_fits : (n : ℕ) → n < 2 ^ 63 → fits_i64 (pos n) ≡ true
 small_fits n l = grind (arith, ints)

@@ -1,7 +1,7 @@
 -- The arrays of a command's parts, put in the order of its keys, are one array.
 use Rattle.std.proofs.Common.{◌≡◌, ℕ, ◌<◌, List, [], ◌∷◌, ◌++◌, Bool, true, false, cond, Option, Some, None, Ok, Err, All, map, length, get_or, refl, sym, ap, ◌∙◌, subst, arith}
 use Rattle.std.specs.Prelude.{nat_eq, nat_lt, slice_get, option_map, option_and_then}
-use Rattle.std.specs.List.{AllZip, cons_option, filter_map, list_all, range_with_len, zip}
+use Rattle.std.specs.List.{AllZip, filter_map, list_all, range_with_len, zip}
 use Rattle.std.specs.Option.{option_to_list}
 use Rattle.std.proofs.lemmas.Bool.{eq-eqb}
 use Rattle.std.proofs.lemmas.Bool.Decides.{nat_tests}
@@ -10,6 +10,7 @@ use Rattle.std.proofs.lemmas.List.Elements.{All-head, All-tail}
 use Rattle.std.proofs.lemmas.List.Folds.{flat_map-map}
 use Rattle.std.proofs.lemmas.List.FromFn.{get_or-map-range_with_len, length-map-range_with_len}
 use Rattle.std.proofs.lemmas.Option.{slice_get-get_or}
+use Rattle.std.proofs.lemmas.Grind.{common_steps}
 use Rattle.cluster_slots.specs.SlotRoute.{SlotRoute}
 use Rattle.resp_core.specs.Reply.{Reply, array, array_of, replies_of}
 use Rattle.resp_core.specs.declared.error.ErrorKind.TheVariants.{Client}
@@ -19,7 +20,7 @@ use Rattle.cluster_slots.specs.declared.arg_pattern.MultiSlotArgPattern.{MultiSl
 use Rattle.redis_combiners.specs.AllItems.{all_items}
 use Rattle.redis_combiners.specs.ByPlaces.{by_places, items_of_index, single}
 use Rattle.redis_combiners.specs.KeyPlaces.{all_places, places}
-use Rattle.redis_combiners.specs.Misfits.{first_misfit, misfit, misfit_of}
+use Rattle.redis_combiners.specs.Misfits.{first_misfit, misfit}
 use Rattle.redis_combiners.specs.SortedArrays.{array_by_places, array_or_refusal, sorted_arrays}
 use Rattle.redis_combiners.proofs.Arranging.{items_at-cons}
 use Rattle.redis_cluster.specs.MultiKey.{KeyTuple, tuples_of_slot}
@@ -132,16 +133,13 @@ module _ (ts : List KeyTuple) (values : List Reply) (l : length values ≡ lengt
   Arrays slots replies = AllZip (λ slot reply. array_of reply ≡ Some (items_of_slot slot ts values)) slots replies
 
   fit : (slot : ℕ) (reply : Reply) → array_of reply ≡ Some (items_of_slot slot ts values) → misfit (reply, length (tuples_of_slot slot ts)) ≡ None
-  fit slot reply is =
-      ap (λ items. misfit_of items (length (tuples_of_slot slot ts))) is
-      ∙ ap (λ b. cond b None (Some Client)) (eq-eqb (length (items_of_slot slot ts values)) (length (tuples_of_slot slot ts)) (length-items_of_slot slot ts values l))
+  fit slot reply is = grind (arith, eq-eqb, length-items_of_slot)
 
   all_fit : (slots : List ℕ) (replies : List Reply) → Arrays slots replies → filter_map misfit (zip replies (map (λ slot. length (tuples_of_slot slot ts)) slots)) ≡ []
   all_fit [] [] are = refl
   all_fit [] (r ∷ replies) are = absurd are
   all_fit (slot ∷ slots) [] are = absurd are
-  all_fit (slot ∷ slots) (r ∷ replies) are =
-      ap (λ o. cons_option o (filter_map misfit (zip replies (map (λ s. length (tuples_of_slot s ts)) slots)))) (fit slot r are.0) ∙ all_fit slots replies are.1
+  all_fit (slot ∷ slots) (r ∷ replies) are = grind (arith, fit, all_fit slots replies are.1)
 
   -- none of them is a misfit
   pub no_misfit : (slots : List ℕ) (replies : List Reply) → Arrays slots replies → first_misfit replies (map (λ slot. length (tuples_of_slot slot ts)) slots) ≡ None
@@ -151,15 +149,11 @@ module _ (ts : List KeyTuple) (values : List Reply) (l : length values ≡ lengt
   each_array [] [] are = refl
   each_array [] (r ∷ replies) are = absurd are
   each_array (slot ∷ slots) [] are = absurd are
-  each_array (slot ∷ slots) (r ∷ replies) are =
-      ap (λ o. all_some (o ∷ map array_of replies)) are.0 ∙ ap (option_map (λ xss. items_of_slot slot ts values ∷ xss)) (each_array slots replies are.1)
+  each_array (slot ∷ slots) (r ∷ replies) are = grind (arith, common_steps, each_array slots replies are.1)
 
   flat : (slots : List ℕ) → flatten (map (λ slot. items_of_slot slot ts values) slots) ≡ in_order values (flatten (map (λ slot. numbers_of_slot slot ts) slots))
   flat [] = refl
-  flat (slot ∷ slots) =
-      ap (λ ys. ys ++ flatten (map (λ s. items_of_slot s ts values) slots)) (items_of_slot_is slot ts values l)
-      ∙ ap (λ ys. in_order values (numbers_of_slot slot ts) ++ ys) (flat slots)
-      ∙ sym (in_order-append values (numbers_of_slot slot ts) (flatten (map (λ s. numbers_of_slot s ts) slots)))
+  flat (slot ∷ slots) = grind (arith, items_of_slot_is, numbers_of_slot, in_order-append, flat slots)
 
   -- the items of all parts, put in the order of their keys
   sorted : (slots : List ℕ) (replies : List Reply) → NamesSlots slots ts → Arrays slots replies → option_and_then (by_places (flatten (map (λ slot. numbers_of_slot slot ts) slots))) (all_items replies) ≡ Some values

@@ -1,5 +1,5 @@
 -- The outcome of joining the replies to a split's parts: a value, or an error.
-use Rattle.std.proofs.Common.{◌≡◌, ◌⊎◌, List, Result, Ok, Err, Some, MatchResult, length, map, inl, inr, sym, ◌∙◌, subst, ⊎_elim}
+use Rattle.std.proofs.Common.{◌≡◌, ◌⊎◌, List, Result, Ok, Err, Some, MatchResult, length, map, inl, inr, ◌∙◌, ⊎_elim, arith}
 use Rattle.std.proofs.lemmas.List.{length-map}
 use Rattle.std.proofs.lemmas.Result.{MatchResult-weaker}
 use Rattle.resp_core.specs.ErrorParts.{ErrorParts, out_of_memory}
@@ -7,7 +7,7 @@ use Rattle.resp_core.specs.Reply.{Reply}
 use Rattle.resp_core.specs.View.{view}
 use Rattle.resp_core.specs.declared.error.ErrorKind.{ErrorKind}
 use Rattle.resp_core.specs.declared.value.Value.{Value}
-use Rattle.redis_routing.specs.Split.{Split, IsSplit, slots_of}
+use Rattle.redis_routing.specs.Split.{Split, IsSplit}
 use Rattle.redis_routing.specs.declared.policy.ResponsePolicy.TheVariants.{CombineArrays}
 use Rattle.redis_cluster.specs.MultiKey.{MultiKey, ReplyForm, list, form_by_policy, slots_in}
 use Rattle.redis_cluster.specs.Joined.{IsOutcome}
@@ -49,8 +49,4 @@ unsplit_of_parts split held form results replies are result made =
 -- What is made of the replies to a split's parts is made by its command.
 pub made_of_command : (split : Split) (command : MultiKey) → IsSplit split → form_by_policy split.policy ≡ Some command.form → command.tuples ≡ tuples_in_split split
     → (replies : List Reply) (outcome : Result Reply ErrorKind) → IsMadeOfParts split replies outcome → IsOutcome command.tuples (slots_in command) replies command.form outcome
-made_of_command split command held form tuples replies outcome made =
-    let same : made.form ≡ command.form = let e = made.form_is in cc (e, form) in
-    subst (λ f. IsOutcome command.tuples (slots_in command) replies f outcome) same
-    (subst (λ slots. IsOutcome command.tuples slots replies made.form outcome) (slots_of_split split held command tuples)
-    (subst (λ ts. IsOutcome ts (slots_of split.routes) replies made.form outcome) (sym tuples) made.outcome_is))
+made_of_command split command held form tuples replies outcome made = grind (arith, slots_of_split)

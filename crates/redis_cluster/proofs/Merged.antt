@@ -4,10 +4,10 @@ use Rattle.std.specs.Prelude.{nat_eq, slice_get, unwrap_or}
 use Rattle.std.specs.List.{AllZip, cons_option, filter_map, zip}
 use Rattle.std.proofs.lemmas.Bool.{eqb-true}
 use Rattle.std.proofs.lemmas.Bool.Decides.{nat_tests}
+use Rattle.std.proofs.lemmas.Grind.{common_steps}
 use Rattle.cluster_slots.specs.KeySlot.{key_slot}
 use Rattle.resp_core.specs.Reply.{Reply, nil, array_of}
 use Rattle.resp_core.specs.declared.error.ErrorKind.{ErrorKind}
-use Rattle.resp_core.specs.declared.error.ErrorKind.TheVariants.{Client}
 use Rattle.resp_core.proofs.Cases.{by_test}
 use Rattle.redis_combiners.specs.Misfits.{first_misfit, misfit, misfit_of}
 use Rattle.redis_cluster.specs.Joined.{AreMerged}
@@ -55,10 +55,7 @@ count_there slot t ts there = rw there refl
 -- a slot that is not named has no tuples
 none_unnamed : (slot : ℕ) (slots : List ℕ) (ts : List KeyTuple) → NamesSlots slots ts → times slot slots ≡ 0 → count_of ts slot ≡ 0
 none_unnamed slot slots [] named none = refl
-none_unnamed slot slots (t ∷ ts) named none =
-    by_test (nat_eq (key_slot t.key) slot)
-    (λ here. let same : times (key_slot t.key) slots ≡ times slot slots = ap (λ n. times n slots) (eqb-true (key_slot t.key) slot here) in absurd (omega (arith, named.0, none, same)))
-    (λ there. count_there slot t ts there ∙ none_unnamed slot slots ts named.1 none)
+none_unnamed slot slots (t ∷ ts) named none = grind (arith, common_steps, none_unnamed slot slots ts named.1 none)
 
 no_items : (xs : List Reply) → length xs ≡ 0 → xs ≡ []
 no_items [] none = refl
@@ -114,10 +111,7 @@ Fit ts slots replies = AllZip (λ slot reply. (items : List Reply) × (array_of 
 
 fits_one : (found : Option (List Reply)) (n : ℕ) (kinds : List ErrorKind) → cons_option (misfit_of found n) kinds ≡ [] → ((items : List Reply) × (found ≡ Some items) × (length items ≡ n)) × (kinds ≡ [])
 fits_one None n kinds none = absurd (cc none)
-fits_one (Some items) n kinds none =
-    by_test (nat_eq (length items) n)
-    (λ here. ((items, refl, eqb-true (length items) n here), sym (ap (λ b. cons_option (cond b None (Some Client)) kinds) here) ∙ none))
-    (λ there. let one : Client ∷ kinds ≡ [] = sym (ap (λ b. cons_option (cond b None (Some Client)) kinds) there) ∙ none in absurd (cc one))
+fits_one (Some items) n kinds none = grind (arith, common_steps)
 
 all_fit : (ts : List KeyTuple) (slots : List ℕ) (replies : List Reply) → length replies ≡ length slots → filter_map misfit (zip replies (map (count_of ts) slots)) ≡ [] → Fit ts slots replies
 all_fit ts [] [] each none = tt

@@ -1,10 +1,11 @@
 -- When an order names each number once, and when it doesn't.
-use Rattle.std.proofs.Common.{◌≡◌, ℕ, zero, suc, ◌+◌, ◌*◌, ◌<◌, ◌≤◌, List, [], ◌∷◌, false, cond, All, inl, inr, refl, sym, subst, ◌∙◌, arith, length, take, get_or}
+use Rattle.std.proofs.Common.{◌≡◌, ℕ, zero, suc, ◌+◌, ◌*◌, ◌<◌, ◌≤◌, List, [], ◌∷◌, false, cond, All, inl, inr, refl, sym, ◌∙◌, arith, length, take, get_or}
 use Rattle.std.specs.Prelude.{nat_eq}
 use Rattle.std.specs.List.{sum_by}
 use Rattle.std.proofs.lemmas.Bool.{cases_lt}
 use Rattle.std.proofs.lemmas.Bool.Decides.{nat_tests}
 use Rattle.std.proofs.lemmas.List.Sums.{sum_by-cons, sum_by_more, sum_by-take-le}
+use Rattle.std.proofs.lemmas.Grind.{common_steps}
 use Rattle.resp_core.proofs.Cases.{by_test}
 use Rattle.redis_cluster.specs.Orders.{times, NamesOnce}
 use Rattle.redis_cluster.proofs.Counts.{same_number, times_here, times_there}
@@ -64,23 +65,14 @@ names_once-apart n order names k = elim (cases_lt k n) as (λ _. times k order �
 pub stands : (xs : List ℕ) (i d : ℕ) → i < length xs → 1 ≤ times (get_or xs i d) xs
 stands [] i d l = absurd (omega arith)
 stands (x ∷ xs) zero d l = omega (arith, times_here x x xs (same_number x))
-stands (x ∷ xs) (suc i) d l =
-    by_test (nat_eq (get_or xs i d) x)
-    (λ here. omega (arith, times_here (get_or xs i d) x xs here))
-    (λ there. omega (arith, times_there (get_or xs i d) x xs there, stands xs i d (omega arith)))
+stands (x ∷ xs) (suc i) d l = grind (arith, common_steps, stands xs i d (omega arith))
 
 -- an element at two places stands in a list twice
 pub twice : (xs : List ℕ) (i j d : ℕ) → i < j → j < length xs → get_or xs i d ≡ get_or xs j d → 2 ≤ times (get_or xs i d) xs
 twice [] i j d l m same = absurd (omega arith)
 twice (x ∷ xs) i zero d l m same = absurd (omega arith)
-twice (x ∷ xs) zero (suc j) d l m same =
-    let later : 1 ≤ times x xs = subst (λ k. 1 ≤ times k xs) (sym same) (stands xs j d (omega arith)) in
-    omega (arith, times_here x x xs (same_number x))
-twice (x ∷ xs) (suc i) (suc j) d l m same =
-    let later = twice xs i j d (omega arith) (omega arith) same in
-    by_test (nat_eq (get_or xs i d) x)
-    (λ here. omega (arith, times_here (get_or xs i d) x xs here))
-    (λ there. omega (arith, times_there (get_or xs i d) x xs there))
+twice (x ∷ xs) zero (suc j) d l m same = grind (arith, common_steps)
+twice (x ∷ xs) (suc i) (suc j) d l m same = grind (arith, common_steps, twice xs i j d (omega arith) (omega arith) same)
 
 -- An order with a number twice doesn't name each number once.
 pub repeated : (n : ℕ) (order : List ℕ) (i j d : ℕ) → i < j → j < length order → get_or order i d ≡ get_or order j d → NamesOnce n order → ⊥

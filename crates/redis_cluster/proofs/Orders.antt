@@ -3,16 +3,15 @@ use Rattle.std.proofs.Common.{◌≡◌, ℕ, zero, suc, ◌+◌, ◌*◌, ◌<�
 use Rattle.std.specs.Prelude.{nat_eq, slice_get}
 use Rattle.std.specs.List.{sum_by, flat_map}
 use Rattle.std.specs.Option.{option_to_list}
-use Rattle.std.proofs.lemmas.Bool.{eqb-true}
 use Rattle.std.proofs.lemmas.Bool.Decides.{nat_tests}
 use Rattle.std.proofs.lemmas.Grind.{flat_map-append}
-use Rattle.std.proofs.lemmas.List.{take_more, take-append-drop, map-append}
+use Rattle.std.proofs.lemmas.List.{take-append-drop, map-append}
 use Rattle.std.proofs.lemmas.List.Elements.{All-head, All-tail}
 use Rattle.std.proofs.lemmas.List.Sums.{sum_by-cons, sum_by-append}
 use Rattle.std.proofs.lemmas.Option.{slice_get-map}
-use Rattle.resp_core.proofs.Cases.{by_test}
+use Rattle.std.proofs.lemmas.Grind.{common_steps}
 use Rattle.redis_cluster.specs.Orders.{times, NamesOnce, in_order}
-use Rattle.redis_cluster.proofs.Counts.{same_number, times_here, times_there, times-append, times_push, one_more, once_times}
+use Rattle.redis_cluster.proofs.Counts.{same_number, times-append, times_push, once_times}
 
 -- the sum of a function's values at the numbers below n
 abbrev pub below : ℕ → (ℕ → ℕ) → ℕ
@@ -42,10 +41,7 @@ below_one (suc n) (suc k) w f l e none = omega (arith, none 0 (grind (arith, nat
 
 -- one number more adds the function's value there
 weighed : (f : ℕ → ℕ) (k : ℕ) (order : List ℕ) (j : ℕ) → times j (k ∷ order) * f j ≡ cond (nat_eq j k) (f k) 0 + times j order * f j
-weighed f k order j =
-    by_test (nat_eq j k)
-    (λ h. ap (λ t. t * f j) (times_here j k order h) ∙ one_more (times j order) (f j) ∙ ap (λ x. f x + times j order * f j) (eqb-true j k h) ∙ sym (ap (λ b. cond b (f k) 0 + times j order * f j) h))
-    (λ h. ap (λ t. t * f j) (times_there j k order h) ∙ sym (zero-add (times j order * f j)) ∙ sym (ap (λ b. cond b (f k) 0 + times j order * f j) h))
+weighed f k order j = grind (arith, common_steps)
 
 -- a sum over a list of numbers below n, by how often each stands there
 pub sum_by_times : (f : ℕ → ℕ) (n : ℕ) (order : List ℕ) → All (λ k. k < n) order → sum_by f order ≡ below n (λ j. times j order * f j)
@@ -127,9 +123,7 @@ in_order-append xs us vs = flat_map-append (λ k. option_to_list (slice_get xs k
 -- one place more adds its element at the end
 pub in_order_more : {X : Type 0} (xs : List X) (order : List ℕ) (i k : ℕ) (x : X) → i < length order → k ≡ get_or order i 0
     → slice_get xs k ≡ Some x → in_order xs (take (i + 1) order) ≡ in_order xs (take i order) ++ x ∷ []
-in_order_more xs order i k x within at is =
-    ap (in_order xs) (take_more order i 0 within ∙ ap (λ j. take i order ++ j ∷ []) (sym at)) ∙ in_order-append xs (take i order) (k ∷ [])
-    ∙ ap (λ o. in_order xs (take i order) ++ (option_to_list o ++ [])) is
+in_order_more xs order i k x within at is = grind (arith, common_steps)
 
 -- all that is taken is what was taken so far, and then what is left
 pub in_order_split : {X : Type 0} (xs : List X) (order : List ℕ) (i : ℕ) → in_order xs order ≡ in_order xs (take i order) ++ in_order xs (drop i order)

@@ -1,5 +1,6 @@
 -- What one send more leaves of a part, after attempts that left the keyspace as it was.
-use Rattle.std.proofs.Common.{◌≡◌, ◌∷◌, ◌++◌, [], ◌∙◌, List, Option, Some, IfSome, ap, subst, length, map}
+use Rattle.std.proofs.Common.{◌≡◌, ◌∷◌, ◌++◌, [], ◌∙◌, List, Option, Some, IfSome, ap, subst, map, arith}
+use Rattle.std.proofs.lemmas.Grind.{common_steps}
 use Rattle.resp_core.specs.Reply.{Reply}
 use Rattle.resp_core.specs.View.{view}
 use Rattle.resp_core.specs.declared.value.Value.{Value}
@@ -10,11 +11,9 @@ use Rattle.redis_cluster.specs.MultiKey.{MultiKey, multi_key}
 use Rattle.redis_cluster.specs.PartSends.{IsPartAnswered, IsPartUnanswered}
 use Rattle.redis_cluster.specs.Sent.{IsLeft, IsUnanswered, ending_of}
 use Rattle.redis_cluster.specs.Trace.{answered}
-use Rattle.redis_cluster.specs.Unsplit.{Keyspace, keyspace_after, reply_to}
+use Rattle.redis_cluster.specs.Unsplit.{keyspace_after, reply_to}
 use Rattle.redis_cluster.specs.declared.nodes.Nodes.{Ghosts}
 use Rattle.redis_cluster.specs.declared.nodes.SendError.{SendError}
-use Rattle.redis_cluster.proofs.Tries.{same_cause}
-use Rattle.redis_cluster.proofs.Trying.{caused}
 
 module _ {S : Type 0} (N : Ghosts S) (try : Try) (old mid new : S) (frame : SameNodes N old mid) (stands : N.kept mid → (N.state mid).keyspace ≡ (N.state old).keyspace)
     (gave : (replies : List Reply) → N.gave old replies → N.gave mid replies) (kept : N.kept new → N.kept mid) where
@@ -25,23 +24,9 @@ module _ {S : Type 0} (N : Ghosts S) (try : Try) (old mid new : S) (frame : Same
   pub answered_then : (value : Value) → AttemptsOf try (Some answered) (N.state old).trace (N.state new).trace → ((replies : List Reply) → N.gave mid replies → N.gave new (replies ++ view value ∷ []))
       → IfSome (multi_key (N.registered mid) (map Some try.part)) (λ command. N.kept new → view value ≡ reply_to N.step command (N.state mid).keyspace)
       → IfSome (multi_key (N.registered mid) (map Some try.part)) (λ command. N.kept new → (N.state new).keyspace ≡ keyspace_after N.step command (N.state mid).keyspace) → IsPartAnswered N try old new value
-  answered_then value tried gives reply keyspace = record {
-    tried = tried;
-    gave = λ replies was. gives replies (gave replies was);
-    reply = λ command is now.
-        of_command (λ command. N.kept new → view value ≡ reply_to N.step command (N.state mid).keyspace) command is reply now ∙ ap (λ ks. reply_to N.step command ks) (stands (kept now));
-    keyspace = λ command is now.
-        of_command (λ command. N.kept new → (N.state new).keyspace ≡ keyspace_after N.step command (N.state mid).keyspace) command is keyspace now ∙ ap (λ ks. keyspace_after N.step command ks) (stands (kept now));
-  }
+  answered_then value tried gives reply keyspace = grind (arith, common_steps)
 
   pub unanswered_then : (error : SendError) (node : Address) → AttemptsOf try (ending_of error) (N.state old).trace (N.state new).trace
       → IsUnanswered (N.may_refuse mid) (N.state mid).trace (N.state new).trace (N.state new).mark node try.part (ending_of error) → ((replies : List Reply) → N.gave mid replies → N.gave new replies)
       → IfSome (multi_key (N.registered mid) (map Some try.part)) (λ command. N.kept new → IsLeft N.step command (N.state mid).keyspace (N.state new).keyspace (ending_of error)) → IsPartUnanswered N try old new error
-  unanswered_then error node tried ended gives left = record {
-    tried = tried;
-    cause = same_cause (N.may_refuse old) (N.may_refuse mid) (length (N.state new).trace) (N.state new).mark (ending_of error) frame.may_refuse
-        (caused (N.may_refuse mid) (N.state mid).trace (N.state new).trace (N.state new).mark node try.part (ending_of error) ended);
-    gave = λ replies was. gives replies (gave replies was);
-    left = λ command is now. subst (λ (ks : Keyspace N.Cell). IsLeft N.step command ks (N.state new).keyspace (ending_of error)) (stands (kept now))
-        (of_command (λ command. N.kept new → IsLeft N.step command (N.state mid).keyspace (N.state new).keyspace (ending_of error)) command is left now);
-  }
+  unanswered_then error node tried ended gives left = grind (arith, common_steps)

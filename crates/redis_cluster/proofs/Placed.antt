@@ -1,12 +1,12 @@
 -- The numbers of all slots share out the tuples, so what the parts add to the reply is what the whole command adds.
-use Rattle.std.proofs.Common.{◌≡◌, ℕ, zero, suc, ◌+◌, ◌<◌, ◌≤◌, List, [], ◌∷◌, true, cond, Some, option_and_then, All, sym, ap, subst, ◌∙◌, arith, length, map, get_or}
+use Rattle.std.proofs.Common.{◌≡◌, ℕ, zero, suc, ◌+◌, ◌<◌, ◌≤◌, List, [], ◌∷◌, true, cond, Some, option_and_then, All, sym, ap, ◌∙◌, arith, length, map, get_or}
 use Rattle.std.specs.Prelude.{nat_eq, slice_get}
 use Rattle.std.specs.List.{flat_map}
 use Rattle.std.proofs.lemmas.Bool.{eqb-true}
 use Rattle.std.proofs.lemmas.List.{same_lists}
-use Rattle.std.proofs.lemmas.List.Elements.{All-nil, All-cons, All-append}
+use Rattle.std.proofs.lemmas.List.Elements.{All-nil, All-append}
 use Rattle.std.proofs.lemmas.Option.{same_Some, slice_get-get_or}
-use Rattle.cluster_slots.specs.KeySlot.{key_slot}
+use Rattle.std.proofs.lemmas.Grind.{common_steps}
 use Rattle.resp_core.proofs.Cases.{by_test}
 use Rattle.redis_cluster.specs.MultiKey.{KeyTuple}
 use Rattle.redis_cluster.specs.Unsplit.{TupleResult}
@@ -27,11 +27,7 @@ named_at slots (t ∷ ts) (suc k) d named l = named_at slots ts k d named.1 (ome
 -- numbers that are counted on stay below where the count ends
 within : (n slot : ℕ) (ts : List KeyTuple) (m : ℕ) → n + length ts ≤ m → All (λ k. k < m) (numbers_from slot n ts)
 within n slot [] m l = All-nil (λ k. k < m)
-within n slot (t ∷ ts) m l =
-    let rest = within (n + 1) slot ts m (omega arith) in
-    by_test (nat_eq (key_slot t.key) slot)
-    (λ here. rw here (All-cons (λ k. k < m) n (numbers_from slot (n + 1) ts) (omega arith) rest))
-    (λ there. rw there rest)
+within n slot (t ∷ ts) m l = grind (arith, common_steps, within (n + 1) slot ts m (omega arith))
 
 -- a slot's numbers are numbers of tuples
 pub numbers_within : (slot : ℕ) (ts : List KeyTuple) → All (λ k. k < length ts) (numbers_of_slot slot ts)
@@ -77,9 +73,7 @@ map-items_of_slot f slot ts rs l = ap (map f) (items_of_slot_is slot ts rs l) �
 -- the j-th of what stands at the numbers of a slot stands at its j-th number
 at_number : {X : Type 0} (xs : List X) (slot : ℕ) (ts : List KeyTuple) (j k : ℕ) → length xs ≡ length ts
     → slice_get (numbers_of_slot slot ts) j ≡ Some k → slice_get (in_order xs (numbers_of_slot slot ts)) j ≡ slice_get xs k
-at_number xs slot ts j k l is =
-    get-in_order xs (numbers_of_slot slot ts) (subst (λ n. All (λ m. m < n) (numbers_of_slot slot ts)) (sym l) (numbers_within slot ts)) j
-    ∙ ap (option_and_then (λ n. slice_get xs n)) is
+at_number xs slot ts j k l is = grind (arith, get-in_order, numbers_of_slot, numbers_within, option_and_then)
 
 -- Lists of one element for each tuple are the same if they agree at the numbers of each slot that is named.
 pub same_at_numbers : {X : Type 0} (slots : List ℕ) (ts : List KeyTuple) (xs ys : List X) → length xs ≡ length ts → length ys ≡ length ts → NamesSlots slots ts

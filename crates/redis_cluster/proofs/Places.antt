@@ -1,17 +1,18 @@
 -- The tuples of a slot by their numbers, counted from 0: which items are theirs, and that each number is one of its own slot alone.
-use Rattle.std.proofs.Common.{◌≡◌, ℕ, zero, suc, ◌+◌, ◌<◌, List, [], ◌∷◌, ◌++◌, true, false, cond, Some, Less, refl, sym, ap, subst, ◌∙◌, arith, length, get_or}
-use Rattle.std.specs.Prelude.{nat_eq, nat_lt, slice_get}
+use Rattle.std.proofs.Common.{◌≡◌, ℕ, zero, suc, ◌+◌, ◌<◌, List, [], ◌∷◌, ◌++◌, true, cond, Some, Less, refl, sym, ap, ◌∙◌, arith, length, get_or}
+use Rattle.std.specs.Prelude.{nat_eq, slice_get}
 use Rattle.std.specs.List.{AllByRecursion}
 use Rattle.std.specs.List.Sorted.{IsStrictlySortedBy}
 use Rattle.std.specs.Ordering.{nat_cmp}
 use Rattle.std.specs.Option.{option_to_list}
 use Rattle.std.proofs.lemmas.Bool.Decides.{nat_tests}
+use Rattle.std.proofs.lemmas.Grind.{common_steps}
 use Rattle.cluster_slots.specs.KeySlot.{key_slot}
 use Rattle.resp_core.proofs.Cases.{by_test}
 use Rattle.redis_cluster.specs.MultiKey.{KeyTuple, tuples_of_slot}
 use Rattle.redis_cluster.specs.Orders.{times, in_order}
 use Rattle.redis_cluster.specs.SlotItems.{items_of_slot}
-use Rattle.redis_cluster.proofs.Counts.{times_here, times_there}
+use Rattle.redis_cluster.proofs.Counts.{times_here}
 
 -- the numbers of the tuples whose key has the slot, where the first tuple has this number
 abbrev pub numbers_from : ℕ → ℕ → List KeyTuple → List ℕ
@@ -64,10 +65,7 @@ part_is slot ts = part_from ts 0 slot ts (λ k. ap (slice_get ts) (omega arith))
 -- as many numbers are counted on as the slot has tuples
 length-numbers : (n slot : ℕ) (ts : List KeyTuple) → length (numbers_from slot n ts) ≡ length (tuples_of_slot slot ts)
 length-numbers n slot [] = refl
-length-numbers n slot (t ∷ ts) =
-    by_test (nat_eq (key_slot t.key) slot)
-    (λ here. rw here (ap suc (length-numbers (n + 1) slot ts)))
-    (λ there. rw there (length-numbers (n + 1) slot ts))
+length-numbers n slot (t ∷ ts) = grind (arith, common_steps, length-numbers (n + 1) slot ts)
 
 -- a slot has as many numbers as tuples
 pub length-numbers_of_slot : (slot : ℕ) (ts : List KeyTuple) → length (numbers_of_slot slot ts) ≡ length (tuples_of_slot slot ts)
@@ -77,18 +75,12 @@ length-numbers_of_slot slot ts = length-numbers 0 slot ts
 pub length-items_of_slot : {X : Type 0} (slot : ℕ) (ts : List KeyTuple) (rs : List X) → length rs ≡ length ts → length (items_of_slot slot ts rs) ≡ length (tuples_of_slot slot ts)
 length-items_of_slot slot [] rs l = refl
 length-items_of_slot slot (t ∷ ts) [] l = absurd (omega arith)
-length-items_of_slot slot (t ∷ ts) (r ∷ rs) l =
-    let rest = length-items_of_slot slot ts rs (omega arith) in
-    by_test (nat_eq (key_slot t.key) slot) (λ here. rw here (ap suc rest)) (λ there. rw there rest)
+length-items_of_slot slot (t ∷ ts) (r ∷ rs) l = grind (arith, common_steps, length-items_of_slot slot ts rs (omega arith))
 
 -- numbers counted on from n lie above those below n
 above : (x n slot : ℕ) (ts : List KeyTuple) → x < n → AllByRecursion (λ y. nat_cmp x y ≡ Less) (numbers_from slot n ts)
 above x n slot [] under = tt
-above x n slot (t ∷ ts) under =
-    let less : nat_lt x n ≡ true = grind (arith, nat_tests) in
-    by_test (nat_eq (key_slot t.key) slot)
-    (λ here. rw here (rw less refl, above x (n + 1) slot ts (omega arith)))
-    (λ there. rw there (above x (n + 1) slot ts (omega arith)))
+above x n slot (t ∷ ts) under = grind (arith, common_steps, above x (n + 1) slot ts (omega arith))
 
 -- numbers counted on ascend
 ascending : (n slot : ℕ) (ts : List KeyTuple) → IsStrictlySortedBy nat_cmp (numbers_from slot n ts)
@@ -102,12 +94,7 @@ ascending n slot (t ∷ ts) =
 -- a number below the first is not counted on to
 times_below : (k n slot : ℕ) (ts : List KeyTuple) → k < n → times k (numbers_from slot n ts) ≡ 0
 times_below k n slot [] l = refl
-times_below k n slot (t ∷ ts) l =
-    let rest = times_below k (n + 1) slot ts (omega arith) in
-    let other : nat_eq k n ≡ false = grind (arith, nat_tests) in
-    by_test (nat_eq (key_slot t.key) slot)
-    (λ here. rw here (times_there k n (numbers_from slot (n + 1) ts) other ∙ rest))
-    (λ there. rw there rest)
+times_below k n slot (t ∷ ts) l = grind (arith, common_steps, times_below k (n + 1) slot ts (omega arith))
 
 -- a number that is counted on to is among them once, if the tuple has the slot
 times_from : (n k slot : ℕ) (d : KeyTuple) (ts : List KeyTuple) → k < length ts
@@ -119,12 +106,7 @@ times_from n zero slot d (t ∷ ts) l =
     by_test (nat_eq (key_slot t.key) slot)
     (λ here. rw here (times_here (n + 0) n (numbers_from slot (n + 1) ts) same ∙ ap (λ c. 1 + c) none))
     (λ there. rw there none)
-times_from n (suc k) slot d (t ∷ ts) l =
-    let rest : times (n + suc k) (numbers_from slot (n + 1) ts) ≡ cond (nat_eq (slot_at ts k d) slot) 1 0 = subst (λ m. times m (numbers_from slot (n + 1) ts) ≡ cond (nat_eq (slot_at ts k d) slot) 1 0) (omega arith) (times_from (n + 1) k slot d ts (omega arith)) in
-    let other : nat_eq (n + suc k) n ≡ false = grind (arith, nat_tests) in
-    by_test (nat_eq (key_slot t.key) slot)
-    (λ here. rw here (times_there (n + suc k) n (numbers_from slot (n + 1) ts) other ∙ rest))
-    (λ there. rw there rest)
+times_from n (suc k) slot d (t ∷ ts) l = grind (arith, common_steps, times_from (n + 1) k slot d ts (omega arith))
 
 -- A tuple's number stands once among those of its own slot, and never among those of another.
 pub times-numbers : (k slot : ℕ) (d : KeyTuple) (ts : List KeyTuple) → k < length ts

@@ -1,9 +1,9 @@
 -- The places of the keys of a slot's part are the numbers of the slot's tuples.
-use Rattle.std.proofs.Common.{◌≡◌, ℕ, zero, suc, ◌+◌, ◌-◌, ◌*◌, ◌/◌, ◌%◌, ◌<◌, List, [], ◌∷◌, ◌++◌, cond, Some, None, length, take, get_or, slice_index, refl, sym, ap, ◌∙◌, arith}
+use Rattle.std.proofs.Common.{◌≡◌, ℕ, zero, suc, ◌+◌, ◌-◌, ◌*◌, ◌/◌, ◌%◌, ◌<◌, List, [], ◌∷◌, ◌++◌, Some, length, get_or, slice_index, refl, sym, ap, ◌∙◌, arith}
 use Rattle.std.specs.List.{flat_map}
-use Rattle.std.proofs.lemmas.Bool.{ne_eqb}
-use Rattle.std.proofs.lemmas.List.{append-nil, get_or_append_left, get_or-append-add, length-append, length_push, same_lists, take_at}
+use Rattle.std.proofs.lemmas.List.{append-nil, get_or_append_left, get_or-append-add, length-append, same_lists}
 use Rattle.std.proofs.lemmas.List.FromFn.{get_or-range_with_len, get_or-map-range_with_len, length-range_with_len}
+use Rattle.std.proofs.lemmas.Grind.{common_steps}
 use Rattle.cluster_slots.specs.ArgPattern.{width_of}
 use Rattle.cluster_slots.specs.declared.arg_pattern.MultiSlotArgPattern.{MultiSlotArgPattern}
 use Rattle.cluster_slots.specs.declared.arg_pattern.MultiSlotArgPattern.TheVariants.{KeysOnly, KeyValuePairs, KeysAndLastArg, KeyWithTwoArgTriples}
@@ -20,11 +20,7 @@ arguments_of width numbers = flat_map (argument_places width) numbers
 
 length-arguments_of : (width : ℕ) (numbers : List ℕ) → length (arguments_of width numbers) ≡ length numbers * width
 length-arguments_of width [] = omega arith
-length-arguments_of width (n ∷ ns) =
-    length-append (argument_places width n) (arguments_of width ns)
-    ∙ ap (λ m. m + length (arguments_of width ns)) (length-range_with_len (n * width) width)
-    ∙ ap (λ m. width + m) (length-arguments_of width ns)
-    ∙ omega arith
+length-arguments_of width (n ∷ ns) = grind (arith, length-append, argument_places, length-range_with_len, length-arguments_of width ns)
 
 -- the first argument of a tuple
 first_argument : (width : ℕ) (numbers : List ℕ) (i : ℕ) → 0 < width → i < length numbers → slice_index (arguments_of width numbers) (width * i) ≡ get_or numbers i 0 * width
@@ -74,10 +70,7 @@ heads_are pattern numbers =
 own_are : (pattern : MultiSlotArgPattern) (own : List ℕ) (m : ℕ) → Some own ≡ own_arguments pattern (own ++ shared_places pattern m)
 own_are KeysOnly own m = ap Some (sym (append-nil own))
 own_are KeyValuePairs own m = ap Some (sym (append-nil own))
-own_are KeysAndLastArg own m =
-    let long : length (own ++ m ∷ []) ≡ length own + 1 = length_push own m in
-    sym (ap (λ b. cond b None (Some (take (length (own ++ m ∷ []) - 1) (own ++ m ∷ [])))) (ne_eqb (length (own ++ m ∷ [])) 0 (λ e. absurd (omega arith)))
-    ∙ ap Some (take_at own (m ∷ []) (length (own ++ m ∷ []) - 1) (omega arith)))
+own_are KeysAndLastArg own m = grind (arith, common_steps)
 own_are KeyWithTwoArgTriples own m = ap Some (sym (append-nil own))
 
 -- The places of the keys of a slot's part are the numbers of the slot's tuples.

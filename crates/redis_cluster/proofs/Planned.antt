@@ -1,8 +1,9 @@
 -- A plan that was made of a multi-key command has a part for each slot of its keys, and a node for each.
-use Rattle.std.proofs.Common.{◌≡◌, ℕ, true, List, [], ◌∷◌, Some, All, sym, ap, ◌∙◌, map}
+use Rattle.std.proofs.Common.{◌≡◌, ℕ, true, List, [], ◌∷◌, Some, All, sym, ap, ◌∙◌, map, arith}
 use Rattle.std.specs.List.{AllZip, list_any, zip}
 use Rattle.std.specs.Prelude.{IfSome, nat_eq}
 use Rattle.std.proofs.lemmas.List.Elements.{All-head, All-tail, All-map, All-weaker}
+use Rattle.std.proofs.lemmas.Grind.{common_steps}
 use Rattle.cluster_slots.specs.Address.{Address}
 use Rattle.cluster_slots.specs.KeySlot.{key_slot}
 use Rattle.cluster_slots.specs.SlotRoute.{SlotRoute}
@@ -11,8 +12,7 @@ use Rattle.redis_routing.specs.Command.{Arguments, command_name}
 use Rattle.redis_routing.specs.Names.{Names}
 use Rattle.redis_routing.specs.PresentArguments.{present_arguments}
 use Rattle.redis_routing.specs.Registry.{Registrations}
-use Rattle.redis_routing.specs.Complete.{multi_slot_routes, part_by_name, part_by_pattern, pattern_by_name}
-use Rattle.redis_routing.specs.Parts.{part_of_slot}
+use Rattle.redis_routing.specs.Complete.{multi_slot_routes, part_by_name, pattern_by_name}
 use Rattle.redis_routing.specs.Split.{Split, IsSplit, HasJoiningPolicy, split_part, policy_by_name, slots_of}
 use Rattle.redis_cluster.specs.MultiKey.{MultiKey, form_by_policy, multi_key, part_by_slot, part_of}
 use Rattle.redis_cluster.specs.PlacedTuples.{tuples_of}
@@ -37,8 +37,7 @@ each_part registry command part_at (s ∷ slots) (p ∷ parts) same each = (
 
 -- a part of the plan is that of its slot by the command's name
 pub part_is : (registry : Registrations) (args : Arguments) (split : Split) (slot : ℕ) → split.arguments ≡ args → Some split.pattern ≡ pattern_by_name registry (command_name args) → split_part split slot ≡ part_by_name registry args slot
-part_is registry args split slot arguments pattern =
-    ap (λ a. part_of_slot split.pattern a slot) arguments ∙ ap (λ o. part_by_pattern o args slot) pattern
+part_is registry args split slot arguments pattern = grind (arith, common_steps)
 
 -- the policy of a split command joins the replies to its parts
 pub joining : (names : Names) (args : Arguments) (split : Split) → Some split.policy ≡ policy_by_name names.registered (command_name args) → IsSplit split → HasJoiningPolicy names.registered args

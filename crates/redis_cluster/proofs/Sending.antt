@@ -2,7 +2,7 @@
 use Rattle.std.proofs.Common.{◌≡◌, ◌<◌, inl, inr, ⊎_elim, ℕ, zero, suc, ◌+◌, List, [], ◌∷◌, false, cond, Option, Some, None, refl, sym, ap, ◌∙◌, arith, length, map, take, get_or, subst}
 use Rattle.std.specs.Prelude.{nat_eq, slice_get, slice_set}
 use Rattle.std.specs.List.{All, AllZip, zip}
-use Rattle.std.proofs.lemmas.List.Elements.{All-nil, All-cons}
+use Rattle.std.proofs.lemmas.List.Elements.{All-nil}
 use Rattle.std.proofs.lemmas.Bool.{eqb-true}
 use Rattle.std.proofs.lemmas.Bool.Decides.{nat_tests}
 use Rattle.cluster_slots.specs.Address.{Address}
@@ -22,6 +22,7 @@ use Rattle.redis_cluster.proofs.Orders.{in_order_more, map-in_order}
 use Rattle.std.specs.Option.{option_to_list}
 use Rattle.std.proofs.lemmas.List.{map_push}
 use Rattle.std.proofs.Common.{append_assoc, ◌++◌}
+use Rattle.std.proofs.lemmas.Grind.{common_steps}
 use Rattle.redis_cluster.proofs.Once.{times_more, times-take, names_once-apart}
 use Rattle.redis_cluster.specs.Sends.{Target, SlotsTookEffect}
 use Rattle.redis_cluster.proofs.Constructors.{same_some, same_head, same_tail}
@@ -48,10 +49,7 @@ route_target registered command (s ∷ slots) (n ∷ nodes) (p ∷ parts) (suc n
 -- the tuples of a slot have it
 pub of_one_slot : (slot : ℕ) (ts : List KeyTuple) → All (λ (t : KeyTuple). key_slot t.key ≡ slot) (tuples_of_slot slot ts)
 of_one_slot slot [] = All-nil (λ (t : KeyTuple). key_slot t.key ≡ slot)
-of_one_slot slot (t ∷ ts) =
-    by_test (nat_eq (key_slot t.key) slot)
-    (λ here. rw here (All-cons (λ (u : KeyTuple). key_slot u.key ≡ slot) t (tuples_of_slot slot ts) (eqb-true (key_slot t.key) slot here) (of_one_slot slot ts)))
-    (λ there. rw there (of_one_slot slot ts))
+of_one_slot slot (t ∷ ts) = grind (arith, common_steps, of_one_slot slot ts)
 
 -- what is put at a place stands there, and elsewhere nothing changes
 pub set_here : {X : Type 0} (xs : List X) (k : ℕ) (x : X) → k < length xs → slice_get (slice_set xs k x) k ≡ Some x

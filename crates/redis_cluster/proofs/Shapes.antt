@@ -53,21 +53,10 @@ get_after (suc n) (x ∷ xs) = get_after n xs
 
 -- the tuples of complete arguments
 pub tuples_are_placed : (pattern : MultiSlotArgPattern) (present : List (List ℕ)) → is_complete pattern (length present) ≡ true → tuples_by (shape_of pattern) present ≡ tuples_of pattern present
-tuples_are_placed KeysOnly present complete =
-    let count : (length present - 0) / 1 ≡ length present = omega arith in
-    ap (λ n. map tuple_by (first_chunks 1 n present)) count ∙ sym (alone (length present) 0 present (omega arith))
-tuples_are_placed KeyValuePairs present complete =
-    let even : length present % 2 ≡ 0 = grind (arith, nat_tests) in
-    let all : take (length present) present ≡ present = take-length present in
-    sym (ap (λ xs. map unplaced (keys_and_values 0 xs)) all ∙ pairs ((length present - 0) / 2) 0 present (omega (arith, even)))
-tuples_are_placed KeysAndLastArg present complete =
-    let count : (length present - 1) / 1 ≡ length present - 1 = omega arith in
-    ap (λ n. map tuple_by (first_chunks 1 n present)) count
-    ∙ sym (ap (λ some. map unplaced (keys_alone 0 (take (cond some (length present - 1) (length present)) present))) complete ∙ alone (length present - 1) 0 present (omega arith))
-tuples_are_placed KeyWithTwoArgTriples present complete =
-    let third : length present % 3 ≡ 0 = grind (arith, nat_tests) in
-    let all : take (length present) present ≡ present = take-length present in
-    sym (ap (λ xs. map unplaced (keys_and_two 0 xs)) all ∙ triples ((length present - 0) / 3) 0 present (omega (arith, third)))
+tuples_are_placed KeysOnly present complete = grind (arith, alone)
+tuples_are_placed KeyValuePairs present complete = grind (arith, nat_tests, take-length, pairs)
+tuples_are_placed KeysAndLastArg present complete = grind (arith, alone)
+tuples_are_placed KeyWithTwoArgTriples present complete = grind (arith, nat_tests, take-length, triples)
 
 -- and what they share
 pub shared_is : (pattern : MultiSlotArgPattern) (present : List (List ℕ)) → is_complete pattern (length present) ≡ true → slice_get present (length present - (shape_of pattern).shared) ≡ slice_get (shared_in pattern present) 0

@@ -7,6 +7,7 @@ use Rattle.std.proofs.lemmas.Bool.Decides.{nat_tests}
 use Rattle.std.proofs.lemmas.List.{map-id}
 use Rattle.std.proofs.lemmas.List.Elements.{All-map}
 use Rattle.std.proofs.lemmas.Simd.{map-map}
+use Rattle.std.proofs.lemmas.Grind.{common_steps}
 use Rattle.cluster_slots.specs.KeySlot.{key_slot}
 use Rattle.cluster_slots.specs.SlotRoute.{SlotRoute}
 use Rattle.cluster_slots.specs.ArgPattern.{is_complete}
@@ -78,10 +79,7 @@ module _ (registry : Registrations) (args : Arguments) where
   of_length : (command : MultiKey) (name : List ℕ) (pattern : MultiSlotArgPattern) (policy : ResponsePolicy) (form : ReplyForm)
       → command_name args ≡ Some name → split_of registry name ≡ Some (pattern, policy) → form_by_policy policy ≡ Some form
       → (complete : Bool) → is_whole (shape_of pattern) (length present) ≡ complete → cond complete (Some (by_parts name pattern form)) None ≡ Some command → (pattern : MultiSlotArgPattern) × IsMade registry args pattern command
-  of_length command name pattern policy form named split formed true complete is =
-      let same : by_parts name pattern form ≡ command = cc is in
-      let whole : is_complete pattern (length present) ≡ true = sym (whole_is pattern (length present)) ∙ complete in
-      (pattern, subst (IsMade registry args pattern) same (record { name = named; registered = refl; policy = policy; split = split; form = formed; whole = record { complete = whole; shared = shared_is pattern present whole; tuples = tuples_are_placed pattern present whole } }))
+  of_length command name pattern policy form named split formed true complete is = grind (arith, whole_is, shared_is, tuples_are_placed)
   of_length command name pattern policy form named split formed false complete is = absurd (cc is)
 
   of_form : (command : MultiKey) (name : List ℕ) (pattern : MultiSlotArgPattern) (policy : ResponsePolicy) → command_name args ≡ Some name → split_of registry name ≡ Some (pattern, policy)
@@ -108,15 +106,7 @@ module _ (registry : Registrations) (args : Arguments) where
 
   -- and what is made so is the command
   pub made_is : (pattern : MultiSlotArgPattern) (command : MultiKey) → IsMade registry args pattern command → multi_key registry args ≡ Some command
-  made_is pattern command made =
-      let whole = made.whole in
-      ap (option_and_then (λ n. option_and_then (by_split n) (split_of registry n))) made.name
-      ∙ ap (option_and_then (by_split command.name)) made.split
-      ∙ ap (option_and_then (command_with registry command.name present pattern)) made.form
-      ∙ ap (λ complete. cond complete (Some (by_parts command.name pattern command.form)) None) (whole_is pattern (length present) ∙ whole.complete)
-      ∙ ap (λ r. Some (record { name = command.name; registered = r; shared = slice_get present (length present - (shape_of pattern).shared); tuples = tuples_by (shape_of pattern) present; form = command.form })) (sym made.registered)
-      ∙ ap (λ s. Some (record { name = command.name; registered = command.registered; shared = s; tuples = tuples_by (shape_of pattern) present; form = command.form })) (shared_is pattern present whole.complete ∙ sym whole.shared)
-      ∙ ap (λ ts. Some (record { name = command.name; registered = command.registered; shared = command.shared; tuples = ts; form = command.form })) (tuples_are_placed pattern present whole.complete ∙ sym whole.tuples)
+  made_is pattern command made = grind (arith, whole_is, shared_is, tuples_are_placed)
 
 -- the part of a slot that a key of the command has
 module _ (registry : Registrations) (args : Arguments) (pattern : MultiSlotArgPattern) (command : MultiKey) (made : IsMade registry args pattern command)
@@ -237,11 +227,7 @@ module _ (pattern : MultiSlotArgPattern) (present : List (List ℕ)) (command : 
 -- the routes of a command's parts
 pub routes_made : (names : Names) (args : Arguments) (pattern : MultiSlotArgPattern) (command : MultiKey) → IsMade names.registered args pattern command
     → multi_slot_routes names args ≡ Some (routes_of (names.only_reads command.name) pattern (present_arguments args))
-routes_made names args pattern command made =
-    let routes = routes_of (names.only_reads command.name) pattern (present_arguments args) in
-    ap (routes_by_name names args) made.name
-    ∙ ap (routes_by (names.only_reads command.name) args) (pattern_made names.registered args pattern command made)
-    ∙ ap (λ complete. cond complete (Some routes) None) made.whole.complete
+routes_made names args pattern command made = grind (arith, common_steps)
 
 -- a policy that joins the replies to parts has a form of the reply
 pub form_of_joining : (policy : ResponsePolicy) → joins_parts policy ≡ true → (form : ReplyForm) × (form_by_policy policy ≡ Some form)
@@ -270,9 +256,7 @@ module _ (names : Names) (args : Arguments) (routes : List (SlotRoute × List �
 
   with_split : (name : List ℕ) → command_name args ≡ Some name → (found : Option Registered) → split_of names.registered name ≡ found → routes_by (names.only_reads name) args (option_map (λ split. split.0) found) ≡ Some routes → Found
   with_split name named None split is = absurd (cc is)
-  with_split name named (Some (pattern, joined)) split is =
-      let same : joined ≡ policy = same_some joined policy (sym (ap (option_map (λ found. found.1)) split) ∙ ap (policy_by_name names.registered) (sym named) ∙ policy_is) in
-      with_length name pattern named (split ∙ ap (λ p. Some (pattern, p)) same) (is_complete pattern (length (present_arguments args))) refl is
+  with_split name named (Some (pattern, joined)) split is = grind (arith, same_some, with_length)
 
   with_name : (name : Option (List ℕ)) → command_name args ≡ name → routes_by_name names args name ≡ Some routes → Found
   with_name None named is = absurd (cc is)

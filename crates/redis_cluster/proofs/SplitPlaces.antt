@@ -1,5 +1,5 @@
 -- The places of the parts of a multi-key command: those of the slot's tuples, by their numbers, and the place that all keys share.
-use Rattle.std.proofs.Common.{◌≡◌, ℕ, ◌+◌, ◌-◌, ◌*◌, ◌%◌, ◌≤◌, List, [], ◌∷◌, ◌++◌, Bool, true, Some, map, length, take, drop, refl, sym, ap, ◌∙◌, subst, add-one, suc-mul, zero-mul, arith}
+use Rattle.std.proofs.Common.{◌≡◌, ℕ, ◌+◌, ◌-◌, ◌*◌, ◌%◌, ◌≤◌, List, [], ◌∷◌, ◌++◌, Bool, true, Some, map, length, drop, refl, sym, ap, ◌∙◌, subst, add-one, suc-mul, zero-mul, arith}
 use Rattle.std.specs.Prelude.{nat_eq, All}
 use Rattle.std.specs.List.{flat_map, range_with_len}
 use Rattle.std.proofs.lemmas.Bool.Decides.{nat_tests}
@@ -107,10 +107,7 @@ shared_after KeyWithTwoArgTriples m complete = let none : m - m ≡ 0 = omega ar
 
 module _ (pattern : MultiSlotArgPattern) (present : List (List ℕ)) (command : MultiKey) (made : HasTuples pattern present command) where
   own_is : tuple_args_count pattern (length present) ≡ length command.tuples * width_of pattern
-  own_is =
-      let whole = own_whole pattern (length present) (complete_fits pattern (length present) made.complete) in
-      let count = tuples_count pattern (take (tuple_args_count pattern (length present)) present) (ap (λ m. m % width_of pattern) (length-own pattern present) ∙ whole) in
-      sym (ap (λ ts. length ts * width_of pattern) made.tuples ∙ ap (λ n. n * width_of pattern) (length-map (tuples_in pattern present) unplaced) ∙ count ∙ length-own pattern present)
+  own_is = grind (arith, own_whole, complete_fits, tuples_count, length-own, length-map)
 
   -- there are no more tuples than present arguments
   pub tuples_few_present : length command.tuples ≤ length present
@@ -126,13 +123,7 @@ module _ (pattern : MultiSlotArgPattern) (present : List (List ℕ)) (command : 
       le_times KeyWithTwoArgTriples n = omega arith
 
   part_place : (reads : Bool) (slot : ℕ) → (route_of_slot reads pattern present slot).1 ≡ places_of_part pattern command.tuples slot
-  part_place reads slot =
-      let own = tuple_args_count pattern (length present) in
-      let after = range_with_len own (length present - own) in
-      let first : AreWide (width_of pattern) (0 * width_of pattern) (tuples_in pattern present) =
-      subst (λ place. AreWide (width_of pattern) place (tuples_in pattern present)) (sym (zero-mul (width_of pattern))) (wide pattern 0 (take own present)) in
-      ap (λ ps. ps ++ after) (places_by_number (width_of pattern) slot 0 (tuples_in pattern present) first ∙ ap (λ ts. flat_map (argument_places (width_of pattern)) (numbers_from slot 0 ts)) (sym made.tuples))
-      ∙ ap (λ ps. flat_map (argument_places (width_of pattern)) (numbers_from slot 0 command.tuples) ++ ps) (shared_after pattern (length present) made.complete ∙ ap (shared_places pattern) own_is)
+  part_place reads slot = grind (arith, zero-mul, wide, places_by_number, numbers_from, shared_after, own_is)
 
   -- the list of each route has the places of its part
   pub parts_placed : (reads : Bool) → All (λ r. r.1 ≡ places_of_part pattern command.tuples r.0.slot) (routes_of reads pattern present)
@@ -144,6 +135,4 @@ few_present args = omega (arith, before_gap_short (drop (name_words_of args) arg
 
 -- there are no more tuples than arguments
 pub tuples_few : (registry : Registrations) (args : Arguments) (command : MultiKey) → multi_key registry args ≡ Some command → length command.tuples ≤ length args
-tuples_few registry args command is =
-    let made = is_made registry args command is in
-    omega (arith, tuples_few_present made.0 (present_arguments args) command made.1.whole, few_present args)
+tuples_few registry args command is = grind (arith, is_made, tuples_few_present, few_present)

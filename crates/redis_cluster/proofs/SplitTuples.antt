@@ -64,5 +64,4 @@ share_out split held =
 
 -- so do those of its command
 pub command_shares : (split : Split) → IsSplit split → (unsplit : MultiKey) → unsplit.tuples ≡ tuples_in_split split → ShareOut (slots_in unsplit) unsplit.tuples
-command_shares split held unsplit tuples =
-    subst (λ slots. ShareOut slots unsplit.tuples) (slots_of_split split held unsplit tuples) (subst (ShareOut (slots_of split.routes)) (sym tuples) (share_out split held))
+command_shares split held unsplit tuples = grind (arith, slots_of_split, share_out)

@@ -1,5 +1,6 @@
 -- Replies, some of which were told.
 use Rattle.std.proofs.Common.{◌≡◌, ℕ, zero, suc, ◌<◌, List, [], ◌∷◌, Bool, true, false, cond, None, Some, refl, ap, arith, length, get_or, map, replicate, set, slice_get}
+use Rattle.std.proofs.lemmas.Grind.{common_steps}
 use Rattle.resp_core.specs.declared.value.Value.{Value}
 use Rattle.redis_cluster.specs.Plan.{marked_replies}
 
@@ -17,8 +18,7 @@ told-set [] [] number reply e = refl
 told-set [] (first ∷ replies) number reply e = absurd (omega arith)
 told-set (mark ∷ marks) [] number reply e = absurd (omega arith)
 told-set (mark ∷ marks) (first ∷ replies) zero reply e = refl
-told-set (mark ∷ marks) (first ∷ replies) (suc number) reply e =
-    ap (λ rest. cond mark (Some first) None ∷ rest) (told-set marks replies number reply (omega arith))
+told-set (mark ∷ marks) (first ∷ replies) (suc number) reply e = grind (arith, common_steps, told-set marks replies number reply (omega arith))
 
 -- A reply with no mark was not told.
 pub untold : (marks : List Bool) (replies : List Value) (number : ℕ) → length marks ≡ length replies → number < length marks →
@@ -35,9 +35,7 @@ unmarked [] replies number e none = absurd (cc)
 unmarked (mark ∷ marks) [] number e none = absurd (omega arith)
 unmarked (true ∷ marks) (reply ∷ replies) zero e none = absurd (cc)
 unmarked (false ∷ marks) (reply ∷ replies) zero e none = (omega arith, refl)
-unmarked (mark ∷ marks) (reply ∷ replies) (suc number) e none =
-    let later = unmarked marks replies number (omega arith) none in
-    (omega arith, later.1)
+unmarked (mark ∷ marks) (reply ∷ replies) (suc number) e none = grind (arith, common_steps, unmarked marks replies number (omega arith) none)
 
 -- With no mark nothing was told.
 pub none_told : {X : Type 0} (count : ℕ) (replies : List Value) (xs : List X) → length replies ≡ count → length xs ≡ count →

@@ -3,8 +3,8 @@ use Rattle.std.proofs.Common.{◌≡◌, ℕ, ◌+◌, ◌*◌, ◌≤◌, List,
 use Rattle.std.specs.Prelude.{nat_eq, count_by}
 use Rattle.std.specs.List.{sum_by, zip}
 use Rattle.std.proofs.lemmas.List.Sums.{sum_by-cons, count_by-le-length}
+use Rattle.std.proofs.lemmas.Grind.{common_steps}
 use Rattle.cluster_slots.specs.KeySlot.{key_slot}
-use Rattle.resp_core.proofs.Cases.{by_test}
 use Rattle.redis_cluster.specs.MultiKey.{KeyTuple}
 use Rattle.redis_cluster.specs.Unsplit.{TupleResult}
 use Rattle.redis_cluster.specs.SlotItems.{items_of_slot}
@@ -18,8 +18,7 @@ both a b c d e f = omega arith
 -- one tuple more adds its result to the sum of its slot
 sum-items_of_slot-cons : (w : TupleResult → ℕ) (slot : ℕ) (t : KeyTuple) (r : TupleResult) (others : List (KeyTuple × TupleResult))
     → sum_by w (map (λ p. p.1) (cond (nat_eq (key_slot t.key) slot) ((t, r) ∷ others) others)) ≡ cond (nat_eq (key_slot t.key) slot) (w r) 0 + sum_by w (map (λ p. p.1) others)
-sum-items_of_slot-cons w slot t r others =
-    by_test (nat_eq (key_slot t.key) slot) (λ here. rw here (sum_by-cons w r (map (λ p. p.1) others))) (λ there. rw there (omega arith))
+sum-items_of_slot-cons w slot t r others = grind (arith, common_steps)
 
 -- a sum over all results is the sum of those over the results of each slot
 pub sum-items_of_slot : (w : TupleResult → ℕ) (slots : List ℕ) (ts : List KeyTuple) (rs : List TupleResult) → length rs ≡ length ts → NamesSlots slots ts

@@ -1,7 +1,8 @@
 -- What stands where each part was sent once.
-use Rattle.std.proofs.Common.{◌≡◌, ℕ, List, [], ◌∷◌, ◌++◌, Option, Some, None, refl, sym, ap, ◌∙◌, subst, map, length, append_assoc}
+use Rattle.std.proofs.Common.{◌≡◌, ℕ, List, [], ◌∷◌, ◌++◌, Option, Some, None, refl, sym, ap, ◌∙◌, subst, map, length, append_assoc, arith}
 use Rattle.std.specs.List.{AllZip}
-use Rattle.std.proofs.lemmas.List.{append-nil, length-map}
+use Rattle.std.proofs.lemmas.List.{append-nil}
+use Rattle.std.proofs.lemmas.Grind.{common_steps}
 use Rattle.resp_core.specs.ErrorParts.{ErrorParts}
 use Rattle.resp_core.specs.Reply.{Reply}
 use Rattle.cluster_slots.specs.Address.{Address}
@@ -64,14 +65,7 @@ module _ (IsNode : SlotRoute → Address → Type 0) (asked : Request) where
 
 module _ {C : Type 0} (IsNode : SlotRoute → Address → Type 0) (step : Step C) (r : Request) (old new : State C) where
   pub driven_once : (value : Reply) → IsRetried (IsOnce IsNode) step r old new value → IsDriven IsNode step r old new value
-  driven_once value d = record {
-    routes = d.routes;
-    command = d.command;
-    drivable = d.drivable;
-    trace = sent_once IsNode r (in_order d.routes r.order) old.trace new.trace d.trace;
-    keyspace = d.keyspace;
-    reply = d.reply;
-  }
+  driven_once value d = grind (arith, drivable, sent_once)
 
 pub delivered_once : (IsNode : SlotRoute → Address → Type 0) (r : Request) (old new : List Entry) → AreAllTried (IsOnce IsNode) r old new → IsDelivered IsNode r old new
 delivered_once IsNode r old new d = record { routes = d.routes; command = d.command; drivable = d.drivable; trace = sent_once IsNode r (in_order d.routes r.order) old new d.trace }
@@ -125,12 +119,7 @@ module _ {C : Type 0} (step : Step C) (r : Request) (order : List ℕ) (register
 
 -- an order that does not name each route of a plan once
 pub bad_order : (r : Request) (order : List ℕ) (registered : Registrations) (plan : Plan) (command : MultiKey) → IsPlanFor r order registered plan command → (NamesOnce (length plan.split.routes) order → ⊥) → IsCauseBeforeSending r early.BadOrder
-bad_order r order registered plan command is not = (
-  map (λ t. t.0) plan.split.routes,
-  command,
-  is.0.is_covered,
-  λ names. not (subst (λ n. NamesOnce n order) (length-map plan.split.routes (λ t. t.0)) (subst (λ o. NamesOnce (length (map (λ t. t.0) plan.split.routes)) o) is.1 names)),
-)
+bad_order r order registered plan command is not = grind (arith, common_steps)
 
 pub bad_order_is_no_reply : (reply : ErrorParts) → early.BadOrder ≡ early.Reply reply → ⊥
 bad_order_is_no_reply reply is = cc

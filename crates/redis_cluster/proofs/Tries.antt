@@ -1,11 +1,10 @@
 -- What is tried for the routes of a plan, one after the other.
-use Rattle.std.proofs.Common.{◌≡◌, ◌<◌, ℕ, zero, suc, ◌+◌, List, [], ◌∷◌, ◌++◌, Option, None, Some, Bool, false, cond, All, refl, sym, ap, ◌∙◌, arith, subst, length, get_or, take}
+use Rattle.std.proofs.Common.{◌≡◌, ◌<◌, ℕ, zero, suc, ◌+◌, List, [], ◌∷◌, ◌++◌, Option, None, Some, Bool, false, All, refl, sym, ap, ◌∙◌, arith, subst, length, get_or, take}
 use Rattle.std.specs.Prelude.{slice_get, nat_eq, ◌↔◌}
 use Rattle.std.proofs.lemmas.List.Elements.{All-head, All-tail}
-use Rattle.resp_core.proofs.Cases.{by_test}
+use Rattle.std.proofs.lemmas.Grind.{common_steps}
 use Rattle.redis_cluster.specs.Orders.{times}
 use Rattle.redis_cluster.specs.Trace.{Entry, Ending, answered}
-use Rattle.redis_cluster.proofs.Once.{times_more}
 use Rattle.redis_cluster.specs.Attempts.{Try, AttemptsOf, IsCause}
 use Rattle.redis_cluster.specs.Retry.{Attempt}
 use Rattle.redis_cluster.specs.Sends.{Target}
@@ -53,13 +52,7 @@ tried_more tries more try old mid new before last is = subst (λ ts. SentInTurn 
 -- the retries of the others are as they were
 pub others_more : (old now new : List Attempt) (order : List ℕ) (i k : ℕ) → i < length order → k ≡ get_or order i 0 → ((j : ℕ) → times j (take i order) ≡ 0 → slice_get now j ≡ slice_get old j)
     → ((j : ℕ) → nat_eq j k ≡ false → slice_get new j ≡ slice_get now j) → (j : ℕ) → times j (take (i + 1) order) ≡ 0 → slice_get new j ≡ slice_get old j
-others_more old now new order i k within is before stay j none =
-    let more : times j (take (i + 1) order) ≡ times j (take i order) + cond (nat_eq j k) 1 0 = times_more j order i 0 within ∙ ap (λ n. times j (take i order) + cond (nat_eq j n) 1 0) (sym is) in
-    by_test (nat_eq j k)
-    (λ here. absurd (let e : times j (take (i + 1) order) ≡ times j (take i order) + 1 = more ∙ ap (λ b. times j (take i order) + cond b 1 0) here in omega arith))
-    (λ there.
-    let e : times j (take (i + 1) order) ≡ times j (take i order) + 0 = more ∙ ap (λ b. times j (take i order) + cond b 1 0) there in
-    stay j there ∙ before j (omega arith))
+others_more old now new order i k within is before stay j none = grind (arith, common_steps)
 
 -- what was allowed to the last send was allowed from the first one on
 pub same_cause : (may now_may : ℕ → Ending → Type 0) (entries : ℕ) (mark : Bool) (ending : Option Ending) → ((count : ℕ) (e : Ending) → now_may count e ↔ may count e) → IsCause now_may entries mark ending → IsCause may entries mark ending

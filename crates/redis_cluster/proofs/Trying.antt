@@ -2,9 +2,10 @@
 use Rattle.std.proofs.Common.{◌≡◌, ℕ, zero, suc, ◌+◌, ◌≤◌, ◌⊎◌, List, [], ◌∷◌, ◌++◌, Option, Some, None, Bool, cond, inl, inr, refl, sym, ap, subst, ◌∙◌, arith, rules, length, take, drop, append_assoc}
 use Rattle.std.specs.Prelude.{slice_get, IsSome}
 use Rattle.std.specs.List.{All}
-use Rattle.std.proofs.lemmas.List.{append-nil, length_push}
+use Rattle.std.proofs.lemmas.List.{length_push}
 use Rattle.std.proofs.lemmas.List.Elements.{All-cons, All-nil}
 use Rattle.std.proofs.lemmas.List.Sums.{sum_by_push}
+use Rattle.std.proofs.lemmas.Grind.{common_steps}
 use Rattle.resp_core.specs.ErrorParts.{ErrorParts}
 use Rattle.cluster_slots.specs.Address.{Address}
 use Rattle.redis_cluster.specs.Trace.{Entry, Ending, answered, refused, redirected, lost, entry}
@@ -35,15 +36,7 @@ tried_alone node part x old new grew = record {
 
 -- or whose send found no memory
 pub tried_not : (node : Address) (part : List (List ℕ)) (old new : List Entry) → new ≡ old → AttemptsOf (try_once node part) None old new
-tried_not node part old new same = record {
-  attempts = [];
-  grew = same ∙ sym (append-nil old);
-  ended = record {
-    begun = record { part = All-nil (λ (e : Entry). e.args ≡ part); address = λ number e at. absurd (cc); most = omega arith };
-    next = search rules;
-    fewer = omega arith;
-  };
-}
+tried_not node part old new same = grind (arith, common_steps)
 
 pub tried_so : (may_refuse : ℕ → Ending → Type 0) (old new : List Entry) (mark : Bool) (node : Address) (part : List (List ℕ)) (ending : Option Ending) → IsUnanswered may_refuse old new mark node part ending → AttemptsOf (try_once node part) ending old new
 tried_so may_refuse old new mark node part None h = tried_not node part old new h.0
@@ -52,9 +45,7 @@ tried_so may_refuse old new mark node part (Some x) h = tried_alone node part x 
 -- what was allowed to the send is the cause
 pub caused : (may_refuse : ℕ → Ending → Type 0) (old new : List Entry) (mark : Bool) (node : Address) (part : List (List ℕ)) (ending : Option Ending) → IsUnanswered may_refuse old new mark node part ending → IsCause may_refuse (length new) mark ending
 caused may_refuse old new mark node part None h = h.1
-caused may_refuse old new mark node part (Some x) h = λ before is.
-    let same : length old ≡ before = omega (arith, ap length h.1, length_push old (entry node part x)) in
-    subst (λ n. may_refuse n x) same h.0
+caused may_refuse old new mark node part (Some x) h = grind (arith, common_steps)
 
 -- what a retry knows between two attempts
 pub record IsTrying (try : Try) (old now : List Entry) (retry : Attempt) : Type 0 where
@@ -151,17 +142,11 @@ module _ (try : Try) (old mid new : List Entry) (retry : Attempt) (node : Addres
   redirects_last r e none = ends (redirected r) e (inr none)
 
   refused_next : (error : ErrorParts) → next_address try.places (h.attempts ++ entry node try.part (refused error) ∷ []) ≡ slice_get try.places (refusals h.attempts + 1)
-  refused_next error =
-      ap (next_place try.places (refusals (h.attempts ++ entry node try.part (refused error) ∷ []))) (last (refused error))
-      ∙ ap (slice_get try.places) (refusals_push h.attempts (entry node try.part (refused error)))
+  refused_next error = grind (arith, last, refusals_push)
 
   -- after a refusal with no target left
   pub refuses_last : (error : ErrorParts) → new ≡ mid ++ entry node try.part (refused error) ∷ [] → ((retry.left ≡ 0) ⊎ (retry.fallback ≡ [])) → AttemptsOf try (Some (refused error)) old new
-  refuses_last error e none =
-      ends (refused error) e (elim none [
-        | inl w ↦ inr w
-        | inr w ↦ inl (refused_next error ∙ drop_none (refusals h.attempts + 1) try.places (sym h.fallback ∙ w))
-      ])
+  refuses_last error e none = grind (arith, ends, refused_next, drop_none)
 
   -- after a redirect that is followed
   pub redirects : (r : Redirect) (next : Attempt) → new ≡ mid ++ entry node try.part (redirected r) ∷ [] → FollowsRedirect retry next r → IsTrying try old new next
@@ -196,9 +181,4 @@ module _ (try : Try) (old mid new : List Entry) (retry : Attempt) (node : Addres
 
 -- where memory ran out before the next attempt
 pub stays : (try : Try) (old mid new : List Entry) (retry : Attempt) → IsTrying try old mid retry → new ≡ mid → AttemptsOf try None old new
-stays try old mid new retry h e =
-    record {
-      attempts = h.attempts;
-      grew = e ∙ h.grew;
-      ended = record { begun = h.begun; next = subst IsSome h.target h.named; fewer = omega (arith, h.left) };
-    }
+stays try old mid new retry h e = grind (arith, common_steps)

@@ -4,6 +4,7 @@ use Rattle.std.specs.Prelude.{slice_get}
 use Rattle.std.specs.List.{AllZip}
 use Rattle.std.proofs.lemmas.List.{append-nil, append_cancel_left, length-take-le}
 use Rattle.std.proofs.lemmas.Option.{slice_get_within}
+use Rattle.std.proofs.lemmas.Grind.{common_steps}
 use Rattle.cluster_slots.specs.Address.{Address}
 use Rattle.cluster_slots.specs.SlotRoute.{SlotRoute}
 use Rattle.redis_cluster.specs.MultiKey.{MultiKey}
@@ -43,23 +44,16 @@ one_alone try x (e ∷ f ∷ es) begun last first = absurd (no_more try e f es b
 module _ (IsTry : SlotRoute → Try → Type 0) where
   grows : (routes : List SlotRoute) (old new : List Entry) → AreTried IsTry routes old new → (entries : List Entry) × (new ≡ old ++ entries)
   grows [] old new same = ([], same ∙ sym (append-nil old))
-  grows (route ∷ routes) old new (try, mid, is, first, rest) =
-      let later = grows routes mid new rest in
-      (first.attempts ++ later.0, later.1 ∙ ap (λ es. es ++ later.0) first.grew ∙ append_assoc old first.attempts later.0)
+  grows (route ∷ routes) old new (try, mid, is, first, rest) = grind (arith, common_steps, grows routes mid new rest)
 
   -- the entries behind those of the first attempts
   behind_first : (route : SlotRoute) (routes : List SlotRoute) (old m mid rest entries : List Entry) (try : Try) (first : AttemptsOf try (Some answered) old m) (later : AreTried IsTry routes m mid) → mid ++ rest ≡ old ++ entries
       → entries ≡ first.attempts ++ ((grows routes m mid later).0 ++ rest)
-  behind_first route routes old m mid rest entries try first later same =
-      let more = grows routes m mid later in
-      append_cancel_left old entries (first.attempts ++ (more.0 ++ rest))
-      (sym same ∙ ap (λ es. es ++ rest) more.1 ∙ append_assoc m more.0 rest ∙ ap (λ es. es ++ (more.0 ++ rest)) first.grew ∙ append_assoc old first.attempts (more.0 ++ rest))
+  behind_first route routes old m mid rest entries try first later same = grind (arith, grows, append_cancel_left, append_assoc)
 
   -- routes that were tried have one entry each, so the next ones were answered, too
   behind : (routes : List SlotRoute) (old mid rest entries : List Entry) (many : ℕ) → AreTried IsTry routes old mid → mid ++ rest ≡ old ++ entries → AreFirstAnswered (length routes + many) entries → AreFirstAnswered many rest
-  behind [] old mid rest entries many tried same were =
-      let all : entries ≡ rest = append_cancel_left old entries rest (sym same ∙ ap (λ es. es ++ rest) tried) in
-      λ number e below at. were number e (omega (arith, below)) (ap (λ es. slice_get es number) all ∙ at)
+  behind [] old mid rest entries many tried same were = grind (arith, append_cancel_left)
   behind (route ∷ routes) old mid rest entries many (try, m, is, first, later) same were =
       let more = grows routes m mid later in
       let all = behind_first route routes old m mid rest entries try first later same in

@@ -1,5 +1,5 @@
 -- A command in parts, one for each slot, sent in an order that names each once: the keyspace in the end, and where the sends stop.
-use Rattle.std.proofs.Common.{◌≡◌, ℕ, ◌+◌, ◌<◌, ◌≤◌, List, [], ◌∷◌, Some, All, sym, ap, ◌∙◌, length, take, get_or}
+use Rattle.std.proofs.Common.{◌≡◌, ℕ, ◌+◌, ◌<◌, ◌≤◌, List, [], ◌∷◌, Some, All, ◌∙◌, length, take, get_or, arith}
 use Rattle.std.specs.Prelude.{slice_get}
 use Rattle.std.proofs.lemmas.List.Elements.{All-head, All-tail}
 use Rattle.cluster_slots.specs.KeySlot.{key_slot}
@@ -35,8 +35,7 @@ module _ {C : Type 0} (act : Act C) (slots order : List ℕ) (ts : List KeyTuple
   -- One part more leaves what the parts leave with one place more of the order.
   pub keyspace_more : (i k slot : ℕ) → i < length order → k ≡ get_or order i 0 → slice_get slots k ≡ Some slot
       → after act (tuples_of_slot slot ts) (after act (joined (in_order slots (take i order)) ts) ks) ≡ after act (joined (in_order slots (take (i + 1) order)) ts) ks
-  keyspace_more i k slot within at is =
-      one_part_more act (in_order slots (take i order)) slot ts ks ∙ ap (λ xs. after act (joined xs ts) ks) (sym (in_order_more slots order i k slot within at is))
+  keyspace_more i k slot within at is = grind (arith, one_part_more, joined, in_order_more)
 
   -- The tuples of the next part add what they add to the reply to the whole command.
   pub results_more : (i k slot : ℕ) → NamesOnce (length slots) order → ((n : ℕ) → times n slots ≤ 1) → i < length order
