@@ -1,6 +1,7 @@
 -- Pairs of values that wait to be compared, as more of two lists is gone over.
 use Rattle.std.proofs.Common.{◌≡◌, ◌↔◌, ◌≤◌, ℕ, ◌+◌, ◌<◌, List, [], ◌∷◌, ◌++◌, length, get_or, map, take, sym, ap, ◌∙◌, arith}
-use Rattle.std.proofs.lemmas.List.{map-append, take_more, same_from_push}
+use Rattle.std.proofs.lemmas.List.{map-append, take_more}
+use Rattle.std.proofs.lemmas.Grind.{common_steps}
 use Rattle.resp_core.specs.Reply.{Reply, nil, int, bulk, array, simple, okay, pairs}
 use Rattle.resp_core.specs.Freeing.{steps_in, steps_in_value}
 
@@ -9,16 +10,10 @@ map-take_more f xs n x h at = ap (map f) (take_more xs n x h) ∙ map-append f (
 
 -- P' holds where P does and one more of both lists is the same
 pub same-more : {A : Type 0} (P₀ P P' : Type 0) (xs ys vs ws : List A) (x y : A) → vs ≡ xs ++ x ∷ [] → ws ≡ ys ++ y ∷ [] → (P ↔ (P₀ × (xs ≡ ys))) → (P' ↔ (P × (x ≡ y))) → (P' ↔ (P₀ × (vs ≡ ws)))
-same-more P₀ P P' xs ys vs ws x y is-vs is-ws before after = (
-  λ p. let now = after.0 p in let then = before.0 now.0 in (then.0, is-vs ∙ (λ i. then.1 i ++ now.1 i ∷ []) ∙ sym is-ws),
-  λ p. let e = same_from_push xs ys x y (sym is-vs ∙ p.1 ∙ is-ws) in after.1 (before.1 (p.0, e.0), e.1),
-)
+same-more P₀ P P' xs ys vs ws x y is-vs is-ws before after = grind (arith, common_steps)
 
 pub same-both : {A B : Type 0} (P P' P'' : Type 0) (p q : A × B) → (P' ↔ (P × (p.0 ≡ q.0))) → (P'' ↔ (P' × (p.1 ≡ q.1))) → (P'' ↔ (P × (p ≡ q)))
-same-both P P' P'' p q first second = (
-  λ h. let at = second.0 h in let e = first.0 at.0 in (e.0, λ i. (e.1 i, at.1 i)),
-  λ h. second.1 (first.1 (h.0, ap (λ r. r.0) h.1), ap (λ r. r.1) h.1),
-)
+same-both P P' P'' p q first second = grind (arith, common_steps)
 
 pub steps_in_value-le : (r : Reply) → steps_in_value r ≤ steps_in r
 steps_in_value-le nil = omega arith

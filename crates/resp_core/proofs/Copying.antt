@@ -1,6 +1,7 @@
 -- The walk over a value, and the copies made in its turn.
-use Rattle.std.proofs.Common.{◌≡◌, ℕ, zero, suc, ◌+◌, ◌-◌, ◌<◌, ◌≤◌, List, [], ◌∷◌, ◌++◌, length, get_or, map, take, drop, Vec, Global, Bor, refl, sym, ap, ◌∙◌, arith}
-use Rattle.std.proofs.lemmas.List.{map-append, take_at, drop_at, drop_more, length-append, length-map, same_from_push}
+use Rattle.std.proofs.Common.{◌≡◌, ℕ, zero, suc, ◌+◌, ◌-◌, ◌<◌, ◌≤◌, List, [], ◌∷◌, ◌++◌, length, get_or, map, take, drop, Vec, Global, Bor, refl, ap, ◌∙◌, arith}
+use Rattle.std.proofs.lemmas.List.{map-append, take_at, drop_at, length-append, length-map, same_from_push}
+use Rattle.std.proofs.lemmas.Grind.{common_steps}
 use Rattle.resp_core.specs.Reply.{Reply, Replies, Pairs, nil, int, bulk, array, simple, okay, pairs, no_replies, reply, no_pairs, pair, pairs_of, items_in}
 use Rattle.resp_core.specs.View.{view, view_pair}
 use Rattle.resp_core.specs.Copying.{inside, inside_pairs}
@@ -53,17 +54,7 @@ size_of_all-inside (pairs items) = omega (arith, size_of_all-pairs items)
 
 -- a step of the walk leaves less
 pub walk-smaller : (us vs ws : List (Bor Value)) (v : Bor Value) → us ≡ vs ++ v ∷ [] → map (λ w. view w.now) ws ≡ map (λ w. view w.now) vs ++ inside (view v.now) → size_of_all (map (λ w. view w.now) ws) < size_of_all (map (λ w. view w.now) us)
-walk-smaller us vs ws v before after =
-    let shown = map (λ (w : Bor Value). view w.now) in
-    let is = ap size_of_all (ap shown before ∙ map-append (λ w. view w.now) vs (v ∷ [])) in
-    omega (
-      arith,
-      ap size_of_all after,
-      is,
-      size_of_all-append (shown vs) (inside (view v.now)),
-      size_of_all-append (shown vs) (view v.now ∷ []),
-      size_of_all-inside (view v.now),
-    )
+walk-smaller us vs ws v before after = grind (arith, map-append, size_of_all-append, size_of_all-inside)
 
 pub inside-Array : (v : Value) (items : Vec Value Global) → v ≡ Array items → inside (view v) ≡ map view items.items
 inside-Array v items is = ap (λ w. inside (view w)) is ∙ ap inside (view-Array items) ∙ items_in-replies_of (map view items.items)
@@ -83,14 +74,10 @@ pub length-rest : (copies : List Value) (rest : List Reply) (items : List Value)
 length-rest copies rest items e = omega (arith, ap length e, length-map copies view, length-map items view, length-append rest (map view items))
 
 pub take-rest : (copies : List Value) (rest : List Reply) (items : List Value) (n : ℕ) → map view copies ≡ rest ++ map view items → n ≡ length copies - length items → map view (take n copies) ≡ rest
-take-rest copies rest items n e at =
-    let here : length rest ≡ n = omega (arith, length-rest copies rest items e) in
-    map-take view n copies ∙ ap (take n) e ∙ take_at rest (map view items) n here
+take-rest copies rest items n e at = grind (arith, length-rest, map-take, take_at)
 
 pub drop-rest : (copies : List Value) (rest : List Reply) (items : List Value) (n : ℕ) → map view copies ≡ rest ++ map view items → n ≡ length copies - length items → map view (drop n copies) ≡ map view items
-drop-rest copies rest items n e at =
-    let here : length rest ≡ n = omega (arith, length-rest copies rest items e) in
-    map-drop view n copies ∙ ap (drop n) e ∙ drop_at rest (map view items) n here
+drop-rest copies rest items n e at = grind (arith, length-rest, map-drop, drop_at)
 
 append-two : {A : Type 0} (xs ys : List A) (a b : A) → xs ++ (ys ++ a ∷ b ∷ []) ≡ (xs ++ ys ++ a ∷ []) ++ b ∷ []
 append-two [] [] a b = refl
@@ -99,22 +86,13 @@ append-two (x ∷ xs) ys a b = ap (λ zs. x ∷ zs) (append-two xs ys a b)
 
 -- the copies of a pair's value and key are the last two
 take-pair : (copies cs ds : List Value) (key value : Value) (rest : List Reply) (p : Value × Value) (ps : List (Value × Value)) → copies ≡ cs ++ key ∷ [] → cs ≡ ds ++ value ∷ [] → map view copies ≡ rest ++ inside_pairs (pairs_of (map view_pair (p ∷ ps))) → (map view ds ≡ rest ++ inside_pairs (pairs_of (map view_pair ps))) × (view_pair (key, value) ≡ view_pair p)
-take-pair copies cs ds key value rest p ps is-copies is-cs e =
-    let before = inside_pairs (pairs_of (map view_pair ps)) in
-    let split = ap (map view) is-copies ∙ map-append view cs (key ∷ []) ∙ ap (λ rs. rs ++ view key ∷ []) (ap (map view) is-cs ∙ map-append view ds (value ∷ [])) in
-    let outer = same_from_push _ _ _ _ (sym split ∙ e ∙ append-two rest before (view p.1) (view p.0)) in
-    let inner = same_from_push _ _ _ _ outer.0 in
-    (inner.0, λ i. (outer.1 i, inner.1 i))
+take-pair copies cs ds key value rest p ps is-copies is-cs e = grind (arith, map-append, same_from_push, append-two)
 
 pub two-left : (copies : List Value) (rest : List Reply) (p : Value × Value) (ps : List (Value × Value)) → map view copies ≡ rest ++ inside_pairs (pairs_of (map view_pair (p ∷ ps))) → 2 ≤ length copies
-two-left copies rest p ps e =
-    let before = inside_pairs (pairs_of (map view_pair ps)) in
-    omega (arith, ap length e, length-map copies view, length-append rest (before ++ view p.1 ∷ view p.0 ∷ []), length-append before (view p.1 ∷ view p.0 ∷ []))
+two-left copies rest p ps e = grind (arith, common_steps)
 
 pub pairs-left : (copies : List Value) (rest : List Reply) (items : List (Value × Value)) (n : ℕ) (p : Value × Value) → n < length items → p ≡ get_or items n p → map view copies ≡ rest ++ inside_pairs (pairs_of (map view_pair (drop n items))) → map view copies ≡ rest ++ inside_pairs (pairs_of (map view_pair (p ∷ drop (n + 1) items)))
-pairs-left copies rest items n p h is e =
-    let next = drop_more items n p h ∙ ap (λ q. q ∷ drop (n + 1) items) (sym is) in
-    e ∙ ap (λ ps. rest ++ inside_pairs (pairs_of (map view_pair ps))) next
+pairs-left copies rest items n p h is e = grind (arith, common_steps)
 
 pub take-next : (copies cs ds : List Value) (key value : Value) (items : List (Value × Value)) (n : ℕ) (p : Value × Value) → n < length items → p ≡ get_or items n p → copies ≡ cs ++ key ∷ [] → cs ≡ ds ++ value ∷ [] → (rest : List Reply) → map view copies ≡ rest ++ inside_pairs (pairs_of (map view_pair (drop n items))) → (map view ds ≡ rest ++ inside_pairs (pairs_of (map view_pair (drop (n + 1) items)))) × (view_pair (key, value) ≡ view_pair p)
 take-next copies cs ds key value items n p h is is-copies is-cs rest e = take-pair copies cs ds key value rest p (drop (n + 1) items) is-copies is-cs (pairs-left copies rest items n p h is e)

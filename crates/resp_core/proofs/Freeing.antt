@@ -48,17 +48,11 @@ steps_in_value-not_nil = ind-Value IsCounted (λ x y is. counted_layer x)
 
 -- the next of the items above
 pub next-item : (xs ys : Vec Value Global) (y : Value) → 0 < length xs.items → ys.items ≡ xs.items ++ y ∷ [] → steps_in (view y) + steps_above (view (Array xs)) ≡ steps_above (array (replies_of (map view ys.items)))
-next-item xs ys y h e =
-    let k : 0 < length (map view xs.items) = omega (arith, length-map xs.items view) in
-    ap (λ r. steps_in (view y) + steps_above r) (view-Array xs)
-    ∙ item-next (map view xs.items) (view y) k
-    ∙ ap (λ rs. steps_above (array (replies_of rs))) (sym (ap (map view) e ∙ map-append view xs.items (y ∷ [])))
+next-item xs ys y h e = grind (arith, length-map, view-Array, item-next, map-append)
 
 -- what is above, with a pair more
 pub steps_above-pairs : (ps : List (Value × Value)) (p : Value × Value) → 0 < length ps → steps_above (pairs (pairs_of (map view_pair (ps ++ p ∷ [])))) ≡ steps_above (pairs (pairs_of (map view_pair ps))) + (steps_in (view p.0) + steps_in_value (view p.1))
-steps_above-pairs ps p h =
-    let k : 0 < length (map view_pair ps) = omega (arith, length-map ps view_pair) in
-    ap (λ qs. steps_above (pairs (pairs_of qs))) (map-append view_pair ps (p ∷ [])) ∙ steps_above-more (map view_pair ps) (view_pair p) k
+steps_above-pairs ps p h = grind (arith, length-map, map-append, steps_above-more)
 
 pub steps_above-Map : (xs : Vec (Value × Value) Global) (ps : List (Value × Value)) → xs.items ≡ ps → steps_above (view (Map xs)) ≡ steps_above (pairs (pairs_of (map view_pair ps)))
 steps_above-Map xs ps e = ap steps_above (view-Map xs) ∙ ap (λ qs. steps_above (pairs (pairs_of (map view_pair qs)))) e

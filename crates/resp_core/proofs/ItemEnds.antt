@@ -1,12 +1,12 @@
 -- Items one after another, and where each of them ends.
 use Rattle.std.proofs.Common.{◌≡◌, ◌≤◌, ◌<◌, ◌-◌, ◌+◌, ◌∙◌, ℕ, zero, suc, List, [], ◌∷◌, ◌++◌, Some, take, drop, length, ◌&&◌, nat_eq, Decides, get_or, slice_get, refl, sym, ap, arith, append-nil, length-append}
-use Rattle.std.proofs.Math.Seq.{take-append_seam, drop-append_seam, drop-append-add}
+use Rattle.std.proofs.Math.Seq.{drop-append-add}
 use Rattle.std.proofs.lemmas.Bool.Decides.{Decides-and, Decides-like}
-use Rattle.std.proofs.lemmas.List.{append_cancel_left, length-take, take-append-drop}
 use Rattle.std.proofs.lemmas.List.Folds.{concat-append}
 use Rattle.std.specs.Cmp.Lexicographic.{pointwise, bytes_decides}
 use Rattle.std.proofs.lemmas.Option.{slice_get-get_or}
 use Rattle.std.specs.List.{concat}
+use Rattle.std.proofs.lemmas.Grind.{common_steps}
 use Rattle.resp_core.specs.ItemEnds.{items_by_ends, item_ends, AreItemsAt}
 
 pub length-items_at : (start : ℕ) (ends bytes : List ℕ) → length (items_by_ends start ends bytes) ≡ length ends
@@ -16,15 +16,10 @@ length-items_at start (end ∷ ends) bytes = ap suc (length-items_at end ends (d
 -- items that are laid out and read again are the same
 items_at-ends_of : (start : ℕ) (items : List (List ℕ)) → items_by_ends start (item_ends start items) (concat items) ≡ items
 items_at-ends_of start [] = refl
-items_at-ends_of start (x ∷ xs) =
-    let n : start + length x - start ≡ length x = omega arith in
-    rw (n, take-append_seam x (concat xs), drop-append_seam x (concat xs), items_at-ends_of (start + length x) xs) refl
+items_at-ends_of start (x ∷ xs) = grind (arith, common_steps, items_at-ends_of (start + length x) xs)
 
 AreItemsAt-ends_of : (start : ℕ) (items : List (List ℕ)) → AreItemsAt start (item_ends start items) (concat items)
-AreItemsAt-ends_of start items = record {
-  same_bytes = ap concat (items_at-ends_of start items);
-  same_ends = ap (item_ends start) (items_at-ends_of start items);
-}
+AreItemsAt-ends_of start items = grind (arith, items_at-ends_of)
 
 ends_of-push : (start : ℕ) (items : List (List ℕ)) (item : List ℕ)
     → item_ends start (items ++ item ∷ []) ≡ item_ends start items ++ (start + length (concat (items ++ item ∷ []))) ∷ []
@@ -35,11 +30,7 @@ ends_of-push start (x ∷ xs) item = grind (arith, length-append, ends_of-push (
 pushed : (ends bytes item : List ℕ) → AreItemsAt 0 ends bytes
     → (item_ends 0 (items_by_ends 0 ends bytes ++ item ∷ []) ≡ ends ++ length (bytes ++ item) ∷ [])
     × (concat (items_by_ends 0 ends bytes ++ item ∷ []) ≡ bytes ++ item)
-pushed ends bytes item h =
-    let joined : concat (items_by_ends 0 ends bytes ++ item ∷ []) ≡ bytes ++ item =
-    concat-append (items_by_ends 0 ends bytes) (item ∷ []) ∙ rw (h.same_bytes, append-nil item) refl in
-    let from_zero : 0 + length (bytes ++ item) ≡ length (bytes ++ item) = omega arith in
-    (rw (joined, h.same_ends, from_zero) at (ends_of-push 0 (items_by_ends 0 ends bytes) item), joined)
+pushed ends bytes item h = grind (arith, concat-append, append-nil, ends_of-push)
 
 pub items_at-push : (ends bytes item longer more : List ℕ) → AreItemsAt 0 ends bytes
     → more ≡ bytes ++ item → longer ≡ ends ++ length more ∷ []
@@ -62,17 +53,12 @@ lies : (start : ℕ) (items : List (List ℕ)) (i : ℕ) → i < length items
     × (get_or (item_ends start items) i 0 ≤ start + length (concat items))
 lies start [] i lt = absurd (omega (arith, lt))
 lies start (x ∷ xs) zero lt = (omega arith, omega arith, omega (arith, length-append x (concat xs)))
-lies start (x ∷ xs) (suc i) lt =
-    let rest = lies (start + length x) xs i (omega (arith, lt)) in
-    (omega (arith, rest.0), rest.1, omega (arith, rest.2, length-append x (concat xs)))
+lies start (x ∷ xs) (suc i) lt = grind (arith, common_steps, lies (start + length x) xs i (omega (arith, lt)))
 
 item-between : (start : ℕ) (items : List (List ℕ)) (i : ℕ) → i < length items
     → take (get_or (item_ends start items) i 0 - get_or (start ∷ item_ends start items) i 0) (drop (get_or (start ∷ item_ends start items) i 0 - start) (concat items)) ≡ get_or items i []
 item-between start [] i lt = absurd (omega (arith, lt))
-item-between start (x ∷ xs) zero lt =
-    let n : start + length x - start ≡ length x = omega arith in
-    let z : start - start ≡ 0 = omega arith in
-    rw (n, z) (take-append_seam x (concat xs))
+item-between start (x ∷ xs) zero lt = grind (arith, common_steps)
 item-between start (x ∷ xs) (suc i) lt =
     let fits : i < length xs = omega (arith, lt) in
     let next = start + length x in
@@ -99,15 +85,7 @@ slice_get-items_at ends bytes i h lt =
 -- the first item's end follows from the start, and the other items are those of the bytes behind it
 pub AreItemsAt-next : (start end : ℕ) (ends bytes : List ℕ) → AreItemsAt start (end ∷ ends) bytes
     → (start ≤ end) × (end - start ≤ length bytes) × AreItemsAt end ends (drop (end - start) bytes)
-AreItemsAt-next start end ends bytes h =
-    let item = take (end - start) bytes in
-    let first : start + length item ≡ end = ap (λ ends. get_or ends 0 0) h.same_ends in
-    let long = length-take (end - start) bytes in
-    let others : AreItemsAt end ends (drop (end - start) bytes) = record {
-      same_bytes = append_cancel_left item _ _ (h.same_bytes ∙ sym (take-append-drop (end - start) bytes));
-      same_ends = rw first at (ap (drop 1) h.same_ends);
-    } in
-    (omega arith, omega arith, others)
+AreItemsAt-next start end ends bytes h = grind (arith, common_steps)
 
 -- two commands have the same items where they have the same ends and bytes
 pub items_at-Decides : (ends bytes other_ends other_bytes : List ℕ) → AreItemsAt 0 ends bytes → AreItemsAt 0 other_ends other_bytes

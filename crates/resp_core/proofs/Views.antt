@@ -1,6 +1,5 @@
 -- What a value shows, variant by variant.
-use Rattle.std.proofs.Common.{◌≡◌, ℕ, ℤ, List, [], ◌∷◌, map, Vec, String, Global, string_bytes, Bool, Decides, Some, unwrap_or, ◌↔◌, refl, sym, ap, ◌∙◌, rules}
-use Rattle.std.proofs.lemmas.Bool.Decides.{Decides-like}
+use Rattle.std.proofs.Common.{◌≡◌, ℕ, ℤ, List, [], ◌∷◌, map, Vec, String, Global, string_bytes, Bool, Decides, Some, unwrap_or, ◌↔◌, refl, sym, ap, ◌∙◌, rules, arith}
 use Rattle.resp_core.specs.Reply.{Reply, Pairs, nil, int, bulk, array, simple, okay, pairs, no_pairs, pair, replies_of, pairs_of, items_in, array_of}
 use Rattle.resp_core.specs.View.{view, view_pair}
 use Rattle.resp_core.specs.declared.value.Value.{Value, Nil, Int, BulkString, Array, SimpleString, Okay, Map, the_lemmas}
@@ -51,9 +50,7 @@ Array-shows a b xs ys vs ws is-a is-b is-vs is-ws =
     )
 
 pub Array-same : (r : Bool) (a b : Value) (xs ys : Vec Value Global) (vs ws : List Value) → a ≡ Array xs → b ≡ Array ys → vs ≡ xs.items → ws ≡ ys.items → Decides r (map view vs ≡ map view ws) → Decides r (view a ≡ view b)
-Array-same r a b xs ys vs ws is-a is-b is-vs is-ws =
-    let shows = Array-shows a b xs ys vs ws is-a is-b is-vs is-ws in
-    Decides-like r shows.0 shows.1
+Array-same r a b xs ys vs ws is-a is-b is-vs is-ws = grind (arith, Array-shows)
 
 -- the pairs, if it is a map
 abbrev pairs_at : Reply → List (Reply × Reply)
@@ -70,6 +67,4 @@ Map-shows a b xs ys ps qs is-a is-b is-ps is-qs =
     )
 
 pub Map-same : (r : Bool) (a b : Value) (xs ys : Vec (Value × Value) Global) (ps qs : List (Value × Value)) → a ≡ Map xs → b ≡ Map ys → ps ≡ xs.items → qs ≡ ys.items → Decides r (map view_pair ps ≡ map view_pair qs) → Decides r (view a ≡ view b)
-Map-same r a b xs ys ps qs is-a is-b is-ps is-qs =
-    let shows = Map-shows a b xs ys ps qs is-a is-b is-ps is-qs in
-    Decides-like r shows.0 shows.1
+Map-same r a b xs ys ps qs is-a is-b is-ps is-qs = grind (arith, Map-shows)
