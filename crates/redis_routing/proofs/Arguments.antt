@@ -1,9 +1,10 @@
 -- The arguments of commands and of replies, by their places.
-use Rattle.std.proofs.Common.{◌≡◌, ℕ, zero, suc, ◌<◌, ◌≤◌, ◌+◌, List, [], ◌∷◌, Some, None, true, false, option_map, map, length, get_or, refl, ap, ◌∙◌, sym, arith, inl, inr}
+use Rattle.std.proofs.Common.{◌≡◌, ℕ, zero, suc, ◌<◌, ◌≤◌, ◌+◌, List, [], ◌∷◌, Some, None, true, false, option_map, map, length, get_or, refl, ap, ◌∙◌, sym, arith}
 use Rattle.std.specs.Prelude.{slice_get, position}
-use Rattle.std.proofs.lemmas.Bool.{cases_lt, lt-ltb, le-ltb}
-use Rattle.std.proofs.lemmas.List.{get_or_past, get_or-map, length-map}
+use Rattle.std.proofs.lemmas.Bool.{lt-ltb, le-ltb}
+use Rattle.std.proofs.lemmas.List.{get_or-map, length-map}
 use Rattle.std.proofs.lemmas.List.Sums.{position_or_len_is}
+use Rattle.std.proofs.lemmas.Grind.{common_steps}
 use Rattle.resp_core.specs.Reply.{Reply, bulk_string_of, array_of}
 use Rattle.resp_core.specs.View.{view}
 use Rattle.resp_core.specs.declared.value.Value.{Value}
@@ -21,9 +22,6 @@ argument-map [] i d h = absurd (omega arith)
 argument-map (x ∷ items) zero d h = refl
 argument-map (x ∷ items) (suc i) d h = argument-map items i d (omega arith)
 
-pub argument_past : (args : Arguments) (i : ℕ) → length args ≤ i → argument args i ≡ None
-argument_past args i h = get_or_past args i None h
-
 -- the arguments that a value is
 abbrev pub arguments_of_value : Value → Arguments
 arguments_of_value value = arguments_in (option_map (λ items. map bulk_string_of items) (array_of (view value)))
@@ -40,21 +38,15 @@ pub item_argument : (value : Value) (items : List Value) (i : ℕ) (item : Value
 item_argument value items i item is h e = bulk_at items i item h e ∙ ap (λ args. argument args i) (sym (arguments_of_items value items is))
 
 pub no_item : (value : Value) (items : List Value) (i : ℕ) → Some (map view items) ≡ array_of (view value) → length items ≤ i → None ≡ argument (arguments_of_value value) i
-no_item value items i is h =
-    sym (ap (λ args. argument args i) (arguments_of_items value items is) ∙ argument_past (map bulk_string_of (map view items)) i (rw (length-map, length-map) h))
+no_item value items i is h = grind (arith, common_steps)
 
 -- one argument more is not the word
 pub none_more : (word : List ℕ) (args : Arguments) (i : ℕ) → ((k : ℕ) → k < i → is_word word (argument args k) ≡ false) → is_word word (argument args i) ≡ false → (k : ℕ) → k < i + 1 → is_word word (argument args k) ≡ false
-none_more word args i before here k h = elim (cases_lt k i) [
-  | inl below ↦ before k below
-  | inr at ↦ let e : k ≡ i = omega arith in ap (λ j. is_word word (argument args j)) e ∙ here
-]
+none_more word args i before here k h = grind (arith, common_steps)
 
 -- the word stands at a place, and not before
 pub found_at : (word : List ℕ) (args : Arguments) (i : ℕ) → i < length args → ((k : ℕ) → k < i → is_word word (argument args k) ≡ false) → is_word word (argument args i) ≡ true → Some i ≡ position (is_word word) args
-found_at word args i inside before here =
-    let place = position_or_len_is (is_word word) args i None (omega arith) before (λ _. here) in
-    sym (rw (place, lt-ltb i (length args) inside) refl)
+found_at word args i inside before here = grind (arith, position_or_len_is, lt-ltb)
 
 -- the word stands nowhere
 pub found_nowhere : (word : List ℕ) (args : Arguments) (n : ℕ) → length args ≤ n → ((k : ℕ) → k < n → is_word word (argument args k) ≡ false) → None ≡ position (is_word word) args

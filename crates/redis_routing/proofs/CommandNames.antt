@@ -1,7 +1,8 @@
 -- The name of a command by its first two arguments, and the arguments that it takes.
 use Rattle.std.proofs.Common.{◌≡◌, ℕ, ◌<◌, ◌≤◌, List, [], ◌∷◌, ◌++◌, Option, Some, None, false, length, option_map, take, refl, ap, arith}
 use Rattle.std.specs.Char.{to_ascii_uppercase}
-use Rattle.std.proofs.lemmas.List.{length-append, length-map}
+use Rattle.std.proofs.lemmas.List.{length-map}
+use Rattle.std.proofs.lemmas.Grind.{common_steps}
 use Rattle.redis_routing.specs.Upper.{upper}
 use Rattle.redis_routing.specs.TwoWords.{takes_second}
 use Rattle.redis_routing.specs.NameWords.{name_words_of, words_by}
@@ -27,11 +28,6 @@ has_words (Some first ∷ Some second ∷ rest) name named =
     (λ takes. rw takes (record { texts = first ∷ second ∷ []; all = refl; taken = refl }))
     (λ alone. rw alone (record { texts = first ∷ []; all = refl; taken = refl }))
 
--- the name by a first word that takes no second one
-name_alone : (first : List ℕ) (second : Option (List ℕ)) → takes_second first ≡ false → name_by first second ≡ first
-name_alone first None alone = refl
-name_alone first (Some second) alone = rw alone refl
-
 -- how many words a first one makes that takes no second one
 pub words_alone : (first : List ℕ) (second : Option (List ℕ)) → takes_second (upper first) ≡ false → words_by (Some first) second ≡ 1
 words_alone first None alone = refl
@@ -44,20 +40,14 @@ words_again [] some other = absurd (omega (arith, some))
 words_again (None ∷ rest) some other = (refl, refl)
 words_again (Some first ∷ []) some other = absurd (omega (arith, some))
 words_again (Some first ∷ None ∷ rest) some other = absurd (omega (arith, some))
-words_again (Some first ∷ Some second ∷ rest) some other =
-    by_test (takes_second (upper first))
-    (λ takes. rw takes (rw takes refl, rw takes refl))
-    (λ alone. rw alone (ap Some (name_alone (upper first) (option_map upper (argument other 0)) alone), words_alone first (argument other 0) alone))
+words_again (Some first ∷ Some second ∷ rest) some other = grind (arith, common_steps)
 
 -- a name is longer than its first word just where it takes a second one
 by_length : (first : List ℕ) (second : Option (List ℕ))
     → (length first < length (name_by (upper first) (option_map upper second)) → 2 ≡ words_by (Some first) second)
     × (length (name_by (upper first) (option_map upper second)) ≤ length first → 1 ≡ words_by (Some first) second)
 by_length first None = (λ longer. absurd (omega (arith, longer, length-map first to_ascii_uppercase)), λ _. refl)
-by_length first (Some second) =
-    by_test (takes_second (upper first))
-    (λ takes. rw takes (λ _. refl, λ short. absurd (omega (arith, short, length-append (upper first) (32 ∷ upper second), length-map first to_ascii_uppercase))))
-    (λ alone. rw alone (λ longer. absurd (omega (arith, longer, length-map first to_ascii_uppercase)), λ _. refl))
+by_length first (Some second) = grind (arith, common_steps)
 
 module _ (args : Arguments) (name : List ℕ) (named : Some name ≡ command_name args) where
   -- a command with a name has a first argument

@@ -1,10 +1,11 @@
 -- The slot of a command by itself is the one that its routing has.
-use Rattle.std.proofs.Common.{◌≡◌, ℕ, zero, suc, ◌+◌, ◌*◌, ◌/◌, ◌%◌, List, [], ◌∷◌, Bool, true, false, cond, Option, Some, None, map, option_map, length, take, get_or, refl, ap, ◌∙◌, arith, sym, ◌-◌}
-use Rattle.std.specs.Prelude.{codes, nat_eq, nat_lt, option_and_then, position, max, ◌&&◌}
+use Rattle.std.proofs.Common.{◌≡◌, ℕ, zero, suc, ◌+◌, ◌*◌, ◌/◌, ◌%◌, List, [], ◌∷◌, Bool, true, false, cond, Option, Some, None, map, option_map, length, take, get_or, refl, ap, ◌∙◌, arith, ◌-◌}
+use Rattle.std.specs.Prelude.{codes, nat_eq, nat_lt, option_and_then, position, ◌&&◌}
 use Rattle.std.specs.Option.{option_or}
 use Rattle.std.specs.Simd.{first_chunks}
 use Rattle.std.proofs.Math.Seq.{take-length}
 use Rattle.std.proofs.lemmas.Bool.Decides.{nat_tests}
+use Rattle.std.proofs.lemmas.Grind.{common_steps}
 use Rattle.cluster_slots.specs.KeySlot.{key_slot}
 use Rattle.cluster_slots.specs.Number.{number_in}
 use Rattle.cluster_slots.specs.ArgPattern.{fits}
@@ -16,9 +17,9 @@ use Rattle.redis_routing.specs.Lookup.{lookup_name}
 use Rattle.redis_routing.specs.Names.{Names}
 use Rattle.redis_routing.specs.Parts.{first_appearances, slot_of}
 use Rattle.redis_routing.specs.PresentArguments.{present_arguments}
-use Rattle.redis_routing.specs.Registry.{Registered, routing_or, tables_with}
+use Rattle.redis_routing.specs.Registry.{Registered, routing_or}
 use Rattle.redis_routing.specs.RouteBy.{base_routing}
-use Rattle.redis_routing.specs.Routing.{argument_number, by_count, route_of_slot, routes_of, routing, routing_by, routing_by_name, routing_of_routes, to_key, to_key_after, to_key_or_any, to_slot, to_slots}
+use Rattle.redis_routing.specs.Routing.{argument_number, by_count, route_of_slot, routing, routing_by, routing_by_name, routing_of_routes, to_key, to_key_after, to_key_or_any, to_slot, to_slots}
 use Rattle.redis_routing.specs.RoutingInfo.{Routing, slot_routed}
 use Rattle.redis_routing.specs.Tuples.{keys_alone, keys_and_two, keys_and_values, tuples_in}
 use Rattle.redis_routing.specs.declared.policy.ResponsePolicy.{ResponsePolicy}
@@ -36,9 +37,7 @@ of_key_or_any reads (Some key) = refl
 of_count : (reads : Bool) (count : Option ℕ) (key : Option (List ℕ)) → slot_routed (by_count reads count key) ≡ option_and_then (λ n. cond (nat_eq n 0) None (option_map key_slot key)) count
 of_count reads None key = refl
 of_count reads (Some zero) key = refl
-of_count reads (Some (suc n)) key =
-    let some : nat_eq (suc n) 0 ≡ false = grind (arith, nat_tests) in
-    of_key reads key ∙ sym (ap (λ b. cond b None (option_map key_slot key)) some)
+of_count reads (Some (suc n)) key = grind (arith, common_steps)
 
 number_of : (bits : ℕ) (text : Option (List ℕ)) → argument_number bits text ≡ option_and_then (number_in bits) text
 number_of bits None = refl
@@ -89,18 +88,12 @@ triples (suc n) place (x ∷ y ∷ z ∷ xs) fit = ap (λ slots. key_slot x ∷ 
 module _ (xs : List (List ℕ)) where
   by_pairs : (b : Bool) → nat_eq (length xs % 2) 0 ≡ b → cond b (only_number (first_appearances (map slot_of (keys_and_values 0 (take (length xs) xs))))) None
       ≡ slot_of_keys (cond b (map (λ group. get_or group 0 []) (first_chunks 2 (length xs / 2) xs)) [])
-  by_pairs true whole =
-      let even : length xs % 2 ≡ 0 = grind (arith, nat_tests) in
-      ap (λ ys. only_number (first_appearances (map slot_of (keys_and_values 0 ys)))) (take-length xs)
-      ∙ ap (λ slots. only_number (first_appearances slots)) (pairs (length xs / 2) 0 xs (omega (arith, even)))
+  by_pairs true whole = grind (arith, nat_tests, take-length, pairs)
   by_pairs false whole = refl
 
   by_triples : (b : Bool) → nat_eq (length xs % 3) 0 ≡ b → cond b (only_number (first_appearances (map slot_of (keys_and_two 0 (take (length xs) xs))))) None
       ≡ slot_of_keys (cond b (map (λ group. get_or group 0 []) (first_chunks 3 (length xs / 3) xs)) [])
-  by_triples true whole =
-      let third : length xs % 3 ≡ 0 = grind (arith, nat_tests) in
-      ap (λ ys. only_number (first_appearances (map slot_of (keys_and_two 0 ys)))) (take-length xs)
-      ∙ ap (λ slots. only_number (first_appearances slots)) (triples (length xs / 3) 0 xs (omega (arith, third)))
+  by_triples true whole = grind (arith, nat_tests, take-length, triples)
   by_triples false whole = refl
 
 -- the slot of keys alone
@@ -123,15 +116,7 @@ of_tuples KeyValuePairs (x ∷ xs) =
     ∙ by_pairs present (nat_eq (length present % 2) 0) refl
 of_tuples KeysAndLastArg [] = refl
 of_tuples KeysAndLastArg (x ∷ []) = refl
-of_tuples KeysAndLastArg (x ∷ y ∷ xs) =
-    let present : List (List ℕ) = x ∷ y ∷ xs in
-    let m : ℕ = length present in
-    let some : nat_lt 0 m ≡ true = grind (arith, nat_tests) in
-    let two : nat_lt 1 m ≡ true = grind (arith, nat_tests) in
-    let most : max 1 (m - 1) ≡ m - 1 = omega arith in
-    ap (λ b. cond b (only_number (first_appearances (map slot_of (tuples_in KeysAndLastArg present)))) None) some
-    ∙ ap (λ b. only_number (first_appearances (map slot_of (keys_alone 0 (take (cond b (m - 1) m) present))))) two
-    ∙ of_alone (take (m - 1) present) ∙ ap (λ n. slot_of_keys (take n present)) (sym most)
+of_tuples KeysAndLastArg (x ∷ y ∷ xs) = grind (arith, nat_tests, of_alone)
 of_tuples KeyWithTwoArgTriples [] = refl
 of_tuples KeyWithTwoArgTriples (x ∷ xs) =
     let present : List (List ℕ) = x ∷ xs in
@@ -140,10 +125,7 @@ of_tuples KeyWithTwoArgTriples (x ∷ xs) =
     ∙ by_triples present (nat_eq (length present % 3) 0) refl
 
 of_slots : (reads : Bool) (policy : Option ResponsePolicy) (pattern : MultiSlotArgPattern) (present : List (List ℕ)) → slot_routed (to_slots reads policy pattern present) ≡ slot_of_keys (command_keys pattern present)
-of_slots reads policy pattern present =
-    of_test (fits pattern (length present)) (Some (routing_of_routes pattern policy (routes_of reads pattern present)))
-    ∙ ap (λ slot. cond (fits pattern (length present)) slot None) (of_routes reads policy pattern present (first_appearances (map slot_of (tuples_in pattern present))))
-    ∙ of_tuples pattern present
+of_slots reads policy pattern present = grind (arith, of_test, of_routes, of_tuples)
 
 of_way : (policy : Option ResponsePolicy) (reads : Bool) (args : Arguments) (way : Option RouteBy) → slot_routed (routing_by policy reads args way) ≡ slot_by args way
 of_way policy reads args None = of_key_or_any reads (argument args 1)
@@ -151,15 +133,11 @@ of_way policy reads args (Some route_by.AllNodes) = refl
 of_way policy reads args (Some route_by.AllMasters) = refl
 of_way policy reads args (Some (route_by.MultiSlot pattern)) = of_slots reads policy pattern (present_arguments args)
 of_way policy reads args (Some route_by.Undefined) = refl
-of_way policy reads args (Some (route_by.CountAt n)) =
-    of_count reads (argument_number 64 (argument args n)) (argument args (n + 1))
-    ∙ ap (option_and_then (λ count. cond (nat_eq count 0) None (option_map key_slot (argument args (n + 1))))) (number_of 64 (argument args n))
+of_way policy reads args (Some (route_by.CountAt n)) = grind (arith, common_steps)
 of_way policy reads args (Some (route_by.KeyAt n)) = of_key reads (argument args n)
 of_way policy reads args (Some route_by.KeyAfterStreams) = of_place reads args (position (is_word (codes "STREAMS")) args)
 of_way policy reads args (Some route_by.Random) = refl
-of_way policy reads args (Some (route_by.SlotAt n)) =
-    of_slot (argument_number 16 (argument args n))
-    ∙ ap (option_and_then (λ slot. cond (nat_lt slot 16384) (Some slot) None)) (number_of 16 (argument args n))
+of_way policy reads args (Some (route_by.SlotAt n)) = grind (arith, common_steps)
 
 same_way : (way : Option RouteBy) (row : Option Registered) → routing_or way row ≡ option_or way (option_map (λ split. route_by.MultiSlot split.0) row)
 same_way None row = refl
@@ -168,9 +146,7 @@ same_way (Some way) row = refl
 of_name : (names : Names) (args : Arguments) (name : Option (List ℕ)) → slot_routed (routing_by_name names args name)
     ≡ option_and_then (λ name. slot_by args (option_or (base_routing name) (option_map (λ split. route_by.MultiSlot split.0) (lookup_name names.registered name)))) name
 of_name names args None = refl
-of_name names args (Some name) =
-    of_way ((tables_with names.registered).policy name) (names.only_reads name) args ((tables_with names.registered).route_by name)
-    ∙ ap (slot_by args) (same_way (base_routing name) (lookup_name names.registered name))
+of_name names args (Some name) = grind (arith, of_way, same_way)
 
 -- whichever names only read
 pub slot_is_routed : (names : Names) (args : Arguments) → slot_routed (routing names args) ≡ command_slot names.registered args

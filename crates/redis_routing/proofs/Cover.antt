@@ -1,17 +1,18 @@
 -- The lists of the routes of a split ascend and share out the places of the present arguments, and each gives the arguments of its part.
-use Rattle.std.proofs.Common.{◌≡◌, ℕ, zero, suc, ◌+◌, ◌-◌, ◌%◌, ◌<◌, ◌≤◌, List, [], ◌∷◌, ◌++◌, Bool, true, false, not, cond, ◌||◌, refl, sym, ap, ◌∙◌, arith, length, map, take, drop, get_or, filter, Less, inl, inr, drop-cons, drop_of_length-le, add-one, zero-add}
+use Rattle.std.proofs.Common.{◌≡◌, ℕ, zero, suc, ◌+◌, ◌-◌, ◌%◌, ◌<◌, ◌≤◌, List, [], ◌∷◌, ◌++◌, Bool, true, false, not, cond, ◌||◌, refl, sym, ap, ◌∙◌, arith, length, map, take, drop, get_or, filter, Less, inl, inr, drop-cons, drop_of_length-le, add-one}
 use Rattle.std.specs.Prelude.{nat_eq, nat_lt, count_by, All}
 use Rattle.std.specs.List.{AllByRecursion, list_any, flat_map, range_with_len}
 use Rattle.std.specs.List.Sorted.{IsStrictlySortedBy}
 use Rattle.std.specs.Ordering.{nat_cmp}
-use Rattle.std.proofs.Math.Bool.{or-false, or-true}
+use Rattle.std.proofs.Math.Bool.{or-true}
 use Rattle.std.proofs.Math.Path.{fun_ext}
 use Rattle.std.proofs.lemmas.Bool.{cases_lt, eqb-true}
 use Rattle.std.proofs.lemmas.Bool.Decides.{nat_tests}
-use Rattle.std.proofs.lemmas.List.{map-append, get_or-take, length-map}
+use Rattle.std.proofs.lemmas.List.{map-append, length-map}
 use Rattle.std.proofs.lemmas.List.Elements.{All-map}
 use Rattle.std.proofs.lemmas.List.Folds.{list_any-append}
 use Rattle.std.proofs.lemmas.List.Sums.{sum_by-cons}
+use Rattle.std.proofs.lemmas.Grind.{common_steps}
 use Rattle.cluster_slots.specs.ArgPattern.{fits, tuple_args_count, width_of}
 use Rattle.cluster_slots.specs.declared.arg_pattern.MultiSlotArgPattern.{MultiSlotArgPattern}
 use Rattle.cluster_slots.specs.declared.arg_pattern.MultiSlotArgPattern.TheVariants.{KeysOnly, KeyValuePairs, KeysAndLastArg, KeyWithTwoArgTriples}
@@ -50,19 +51,12 @@ module _ {X : Type 0} (p : X → Bool) where
 -- nothing is left of a number that is taken out
 count_gone : (s : ℕ) (ns : List ℕ) → count_by (nat_eq s) (filter (λ k. not (nat_eq s k)) ns) ≡ 0
 count_gone s [] = refl
-count_gone s (n ∷ ns) =
-    by_test (nat_eq s n)
-    (λ same. rw same (count_gone s ns))
-    (λ other. rw other (count_no (nat_eq s) n (filter (λ k. not (nat_eq s k)) ns) other ∙ count_gone s ns))
+count_gone s (n ∷ ns) = grind (arith, common_steps, count_gone s ns)
 
 -- taking out one number leaves the others
 count_kept : (s n : ℕ) (ns : List ℕ) → nat_eq s n ≡ false → count_by (nat_eq s) (filter (λ k. not (nat_eq n k)) ns) ≡ count_by (nat_eq s) ns
 count_kept s n [] apart = refl
-count_kept s n (m ∷ ns) apart =
-    let rest = count_kept s n ns apart in
-    by_test (nat_eq n m)
-    (λ same. let unlike : nat_eq s m ≡ false = grind (arith, nat_tests) in rw same (rest ∙ sym (count_no (nat_eq s) m ns unlike)))
-    (λ other. rw other (count-cons (nat_eq s) m (filter (λ k. not (nat_eq n k)) ns) ∙ ap (λ c. cond (nat_eq s m) 1 0 + c) rest ∙ sym (count-cons (nat_eq s) m ns)))
+count_kept s n (m ∷ ns) apart = grind (arith, common_steps, count_kept s n ns apart)
 
 -- how often a number stands in a list that another one heads, and that has it no second time
 count_first : (s n : ℕ) (ns : List ℕ) → count_by (nat_eq s) (n ∷ filter (λ k. not (nat_eq n k)) ns) ≡ cond (nat_eq s n) 1 (count_by (nat_eq s) ns)
@@ -78,9 +72,7 @@ count_first s n ns =
 -- each number stands once among the firsts
 pub count_firsts : (s : ℕ) (ns : List ℕ) → count_by (nat_eq s) (first_appearances ns) ≡ cond (list_any (nat_eq s) ns) 1 0
 count_firsts s [] = refl
-count_firsts s (n ∷ ns) =
-    count_first s n (first_appearances ns) ∙ ap (λ c. cond (nat_eq s n) 1 c) (count_firsts s ns)
-    ∙ by_test (nat_eq s n) (λ same. rw same refl) (λ other. rw other refl)
+count_firsts s (n ∷ ns) = grind (arith, count_first, by_test, count_firsts s ns)
 
 -- the numbers ascend, from the one bound to below the other
 abbrev pub Between : ℕ → ℕ → List ℕ → Type 0
@@ -102,9 +94,7 @@ between-append low mid high (x ∷ xs) ys first second = (first.0, between-appen
 -- what lies below the bound lies below each of them
 above : (x low high : ℕ) (xs : List ℕ) → x < low → Between low high xs → AllByRecursion (λ y. nat_cmp x y ≡ Less) xs
 above x low high [] under h = tt
-above x low high (y ∷ ys) under h =
-    let less : nat_lt x y ≡ true = grind (arith, nat_tests, h.0) in
-    (rw less refl, above x (y + 1) high ys (omega (arith, h.0)) h.1)
+above x low high (y ∷ ys) under h = grind (arith, common_steps, above x (y + 1) high ys (omega (arith, h.0)) h.1)
 
 ascending : (low high : ℕ) (xs : List ℕ) → Between low high xs → IsStrictlySortedBy nat_cmp xs
 unfolding IsStrictlySortedBy
@@ -113,22 +103,15 @@ ascending low high (x ∷ xs) h = (above x (x + 1) high xs (omega arith) h.1, as
 
 not_below : (p low high : ℕ) (xs : List ℕ) → p < low → Between low high xs → list_any (nat_eq p) xs ≡ false
 not_below p low high [] under h = refl
-not_below p low high (x ∷ xs) under h =
-    let unlike : nat_eq p x ≡ false = grind (arith, nat_tests, h.0) in
-    rw unlike (not_below p (x + 1) high xs (omega (arith, h.0)) h.1)
+not_below p low high (x ∷ xs) under h = grind (arith, common_steps, not_below p (x + 1) high xs (omega (arith, h.0)) h.1)
 
 not_past : (p low high : ℕ) (xs : List ℕ) → high ≤ p → Between low high xs → list_any (nat_eq p) xs ≡ false
 not_past p low high [] past h = refl
-not_past p low high (x ∷ xs) past h =
-    let under : x + 1 ≤ high = bounds (x + 1) high xs h.1 in
-    let unlike : nat_eq p x ≡ false = grind (arith, nat_tests) in
-    rw unlike (not_past p (x + 1) high xs past h.1)
+not_past p low high (x ∷ xs) past h = grind (arith, bounds, nat_tests, not_past p (x + 1) high xs past h.1)
 
 range_between : (low n : ℕ) → Between low (low + n) (range_with_len low n)
 range_between low zero = omega arith
-range_between low (suc n) =
-    let e : (low + 1) + n ≡ low + suc n = omega arith in
-    (omega arith, rw e at (range_between (low + 1) n))
+range_between low (suc n) = grind (arith, common_steps, range_between (low + 1) n)
 
 range_has : (low n p : ℕ) → low ≤ p → p < low + n → list_any (nat_eq p) (range_with_len low n) ≡ true
 range_has low zero p from to = absurd (omega arith)
@@ -148,9 +131,7 @@ Tiles low high (t ∷ ts) = (t.place ≡ low) × Tiles (next low t) high ts
 
 tiles_alone : (low : ℕ) (present : List (List ℕ)) → Tiles low (low + length present) (keys_alone low present)
 tiles_alone low [] = omega arith
-tiles_alone low (key ∷ present) =
-    let e : (low + 1) + length present ≡ low + suc (length present) = omega arith in
-    (refl, rw e at (tiles_alone (low + 1) present))
+tiles_alone low (key ∷ present) = grind (arith, common_steps, tiles_alone (low + 1) present)
 
 tiles_pairs : (low : ℕ) (present : List (List ℕ)) → length present % 2 ≡ 0 → Tiles low (low + length present) (keys_and_values low present)
 tiles_pairs low [] even = omega arith
@@ -238,9 +219,7 @@ module _ (pattern : MultiSlotArgPattern) (present : List (List ℕ)) where
   shared_places = range_with_len own (length present - own)
 
   last_between : Between own (length present) shared_places
-  last_between =
-      let e : own + (length present - own) ≡ length present = omega (arith, own_few pattern (length present)) in
-      rw e at (range_between own (length present - own))
+  last_between = grind (arith, common_steps)
 
   -- the places of a part ascend and are of present arguments
   pub part_in_present : (slot : ℕ) → fits pattern (length present) ≡ true → Between 0 (length present) (places_in_slot pattern present slot)
@@ -258,14 +237,10 @@ module _ (pattern : MultiSlotArgPattern) (present : List (List ℕ)) where
   either p s = list_any-append (nat_eq p) (slot_tuple_places s tuples) shared_places
 
   has_own : (p s : ℕ) → p < own → has_place p s ≡ list_any (nat_eq p) (slot_tuple_places s tuples)
-  has_own p s to =
-      let none : list_any (nat_eq p) shared_places ≡ false = not_below p own (length present) shared_places to last_between in
-      either p s ∙ ap (λ b. list_any (nat_eq p) (slot_tuple_places s tuples) || b) none ∙ or-false (list_any (nat_eq p) (slot_tuple_places s tuples))
+  has_own p s to = grind (arith, common_steps)
 
   has_shared : (p s : ℕ) → own ≤ p → p < length present → has_place p s ≡ true
-  has_shared p s from to =
-      let held : list_any (nat_eq p) shared_places ≡ true = range_has own (length present - own) p from (omega arith) in
-      either p s ∙ ap (λ b. list_any (nat_eq p) (slot_tuple_places s tuples) || b) held ∙ or-true (list_any (nat_eq p) (slot_tuple_places s tuples))
+  has_shared p s from to = grind (arith, common_steps)
 
   module _ (reads : Bool) where
     -- the lists with a place, counted by slots
@@ -357,10 +332,7 @@ module _ (at : ℕ → List ℕ) where
   -- what is read at the places of a part's tuples is their arguments
   read_part : (s : ℕ) (ts : List Tuple) → AreRead at ts → map at (slot_tuple_places s ts) ≡ flat_map arguments_of (tuples_in_slot s ts)
   read_part s [] h = refl
-  read_part s (t ∷ ts) h =
-      by_test (nat_eq (slot_of t) s)
-      (λ here. rw here (map-append at (places_of t) (slot_tuple_places s ts) ∙ ap (λ ws. ws ++ map at (slot_tuple_places s ts)) h.0 ∙ ap (λ ws. arguments_of t ++ ws) (read_part s ts h.1)))
-      (λ there. rw there (read_part s ts h.1))
+  read_part s (t ∷ ts) h = grind (arith, common_steps, read_part s ts h.1)
 
 -- the arguments from a place to the end
 read_range : (present : List (List ℕ)) (low n : ℕ) → low + n ≡ length present → map (λ p. get_or present p []) (range_with_len low n) ≡ drop low present
@@ -372,9 +344,7 @@ module _ (pattern : MultiSlotArgPattern) (present : List (List ℕ)) where
   argument_at p = get_or present p []
 
   own_read : IsReadFrom argument_at 0 (take (own pattern present) present)
-  own_read k inside =
-      let under : k < own pattern present = omega (arith, length-own pattern present) in
-      ap argument_at (zero-add k) ∙ sym (get_or-take (own pattern present) present k [] under)
+  own_read k inside = grind (arith, common_steps)
 
   tuples_read : (slot : ℕ) → map argument_at (slot_tuple_places slot (tuples pattern present)) ≡ flat_map arguments_of (tuples_in_slot slot (tuples pattern present))
   tuples_read slot = read_part argument_at slot (tuples pattern present) (read_tuples argument_at pattern 0 (take (own pattern present) present) own_read)
@@ -384,7 +354,4 @@ module _ (pattern : MultiSlotArgPattern) (present : List (List ℕ)) where
 
 -- the arguments at the places of a part are the part's
 pub arguments_at_places : (pattern : MultiSlotArgPattern) (present : List (List ℕ)) (slot : ℕ) → map (λ p. get_or present p []) (places_in_slot pattern present slot) ≡ arguments_in_slot pattern present slot
-arguments_at_places pattern present slot =
-    map-append (argument_at pattern present) (slot_tuple_places slot (tuples pattern present)) (shared_places pattern present)
-    ∙ ap (λ ws. ws ++ map (argument_at pattern present) (shared_places pattern present)) (tuples_read pattern present slot)
-    ∙ ap (λ ws. flat_map arguments_of (tuples_in_slot slot (tuples pattern present)) ++ ws) (last_read pattern present)
+arguments_at_places pattern present slot = grind (arith, map-append, tuples_read, last_read)

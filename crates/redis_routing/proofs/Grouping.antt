@@ -6,6 +6,7 @@ use Rattle.std.proofs.lemmas.Bool.Decides.{nat_tests}
 use Rattle.std.proofs.lemmas.Bool.{eqb-true}
 use Rattle.std.proofs.lemmas.List.{append-nil, length-map, get_or-map, map-set}
 use Rattle.std.proofs.lemmas.Simd.{map-map}
+use Rattle.std.proofs.lemmas.Grind.{common_steps}
 use Rattle.cluster_slots.specs.SlotRoute.{SlotRoute}
 use Rattle.cluster_slots.specs.declared.slot.SlotAddr.{SlotAddr}
 use Rattle.cluster_slots.specs.ArgPattern.{tuple_args_count}
@@ -44,18 +45,12 @@ distinct_firsts (n ∷ ns) = (all_gone n (first_appearances ns), distinct_left (
 
 any_left : (s n : ℕ) (xs : List ℕ) → nat_eq s n ≡ false → list_any (nat_eq s) (filter (λ k. not (nat_eq n k)) xs) ≡ list_any (nat_eq s) xs
 any_left s n [] apart = refl
-any_left s n (x ∷ xs) apart =
-    by_test (nat_eq n x)
-    (λ same. let unlike : nat_eq s x ≡ false = grind (arith, nat_tests) in rw (same, unlike) (any_left s n xs apart))
-    (λ other. rw other (ap (λ b. nat_eq s x || b) (any_left s n xs apart)))
+any_left s n (x ∷ xs) apart = grind (arith, common_steps, any_left s n xs apart)
 
 -- the firsts are the numbers
 any_first : (s : ℕ) (ns : List ℕ) → list_any (nat_eq s) (first_appearances ns) ≡ list_any (nat_eq s) ns
 any_first s [] = refl
-any_first s (n ∷ ns) =
-    by_test (nat_eq s n)
-    (λ same. rw same refl)
-    (λ other. rw other (any_left s n (first_appearances ns) other ∙ any_first s ns))
+any_first s (n ∷ ns) = grind (arith, by_test, any_left, any_first s ns)
 
 none_in_slot : (s : ℕ) (ts : List Tuple) → list_any (nat_eq s) (map slot_of ts) ≡ false → flat_map places_of (tuples_in_slot s ts) ≡ []
 none_in_slot s [] none = refl
@@ -86,8 +81,7 @@ module _ (nodes : SlotAddr) (ts : List Tuple) (t : Tuple) (more : List Tuple) (i
   step : (us : List ℕ) → IsDistinct nat_eq us → (list_any (nat_eq (slot_of t)) us ≡ false → flat_map places_of (tuples_in_slot (slot_of t) ts) ≡ [])
       → with_places own (places_of t) (map (list_of_slot nodes ts) us) ≡ map (list_of_slot nodes more) (if list_any (nat_eq (slot_of t)) us then us else us ++ slot_of t ∷ [])
   unfolding IsDistinct
-  step [] distinct none =
-      ap (λ r. r ∷ []) (sym (longer (slot_of t) (self (slot_of t)) ∙ ap (λ ps. (own, ps ++ places_of t)) (none refl)))
+  step [] distinct none = grind (arith, common_steps)
   step (u ∷ us) distinct none =
       by_test (nat_eq (slot_of t) u)
       (λ same.
@@ -102,19 +96,14 @@ module _ (nodes : SlotAddr) (ts : List Tuple) (t : Tuple) (more : List Tuple) (i
 
   -- the routes of the tuples, after one tuple more
   pub lists_more : with_places own (places_of t) (lists_of_tuples nodes ts) ≡ lists_of_tuples nodes more
-  lists_more =
-      let slots = map slot_of ts in
-      step (first_appearances slots) (distinct_firsts slots) (λ none. none_in_slot (slot_of t) ts (sym (any_first (slot_of t) slots) ∙ none))
-      ∙ ap (λ b. map (list_of_slot nodes more) (if b then first_appearances slots else first_appearances slots ++ slot_of t ∷ [])) (any_first (slot_of t) slots)
-      ∙ ap (map (list_of_slot nodes more)) (order_more ts more t (slot_of t) refl is)
+  lists_more = grind (arith, step, distinct_firsts, none_in_slot, any_first, order_more)
 
 module _ (route : SlotRoute) (places : List ℕ) where
   -- the list of a slot gets the places
   pub places_added : (lists : List RouteList) (k : ℕ) (d : RouteList) → k ≡ position_or_len (nat_eq route.slot) (slots_of lists) → k < length lists
       → with_places route places lists ≡ set lists k ((get_or lists k d).0, (get_or lists k d).1 ++ places)
   places_added [] k d is inside = absurd (omega (arith, inside))
-  places_added (r ∷ rs) zero d is inside =
-      by_test (nat_eq route.slot r.0.slot) (λ same. rw same refl) (λ other. absurd (omega (arith, rw other at is)))
+  places_added (r ∷ rs) zero d is inside = grind (arith, common_steps)
   places_added (r ∷ rs) (suc k) d is inside =
       by_test (nat_eq route.slot r.0.slot)
       (λ same. absurd (omega (arith, rw same at is)))
@@ -136,25 +125,13 @@ module _ (route : SlotRoute) (places : List ℕ) where
   -- a new slot goes last
   pub slot_added : (lists : List RouteList) → slots_of (with_places route places lists) ≡ insert_key nat_eq (slots_of lists) route.slot
   slot_added [] = refl
-  slot_added (r ∷ rs) =
-      by_test (nat_eq route.slot r.0.slot)
-      (λ same. rw same refl)
-      (λ other.
-      rw other (ap (λ slots. r.0.slot ∷ slots) (slot_added rs)
-      ∙ by_test (list_any (nat_eq route.slot) (slots_of rs)) (λ there. rw there refl) (λ absent. rw absent refl)))
+  slot_added (r ∷ rs) = grind (arith, common_steps, slot_added rs)
 
 -- with the shared places the lists are the routes
 pub shared_routes : (reads : Bool) (pattern : MultiSlotArgPattern) (present : List (List ℕ)) (nodes : SlotAddr) (own m : ℕ) (lists : List RouteList)
     → lists ≡ lists_of_tuples nodes (tuples_in pattern present) → nodes ≡ nodes_for reads → own ≡ tuple_args_count pattern (length present) → m ≡ length present
     → with_shared (range_with_len own (m - own)) lists ≡ routes_of reads pattern present
-shared_routes reads pattern present nodes own m lists lists-are nodes-are own-is m-is =
-    let ts = tuples_in pattern present in
-    let shared = range_with_len (tuple_args_count pattern (length present)) (length present - tuple_args_count pattern (length present)) in
-    let places : range_with_len own (m - own) ≡ shared =
-    ap (λ o. range_with_len o (m - o)) own-is ∙ ap (λ k. range_with_len (tuple_args_count pattern (length present)) (k - tuple_args_count pattern (length present))) m-is in
-    ap (λ ps. with_shared ps lists) places
-    ∙ ap (with_shared shared) (lists-are ∙ ap (λ n. lists_of_tuples n ts) nodes-are)
-    ∙ map-map (λ (r : RouteList). (r.0, r.1 ++ shared)) (list_of_slot (nodes_for reads) ts) (first_appearances (map slot_of ts))
+shared_routes reads pattern present nodes own m lists lists-are nodes-are own-is m-is = grind (arith, map-map)
 
 -- no shared places
 pub with_none : (places : List ℕ) (lists : List RouteList) → places ≡ [] → with_shared places lists ≡ lists

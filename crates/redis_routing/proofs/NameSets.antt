@@ -1,5 +1,5 @@
 -- A set of names after an insert.
-use Rattle.std.proofs.Common.{◌≡◌, ℕ, List, [], ◌∷◌, map, Bool, true, false, ◌||◌, Vec, Global, Ordering, refl, sym, ap, ◌∙◌}
+use Rattle.std.proofs.Common.{◌≡◌, ℕ, List, [], ◌∷◌, map, Bool, true, false, ◌||◌, Vec, Global, Ordering, refl, sym, ap, ◌∙◌, arith}
 use Rattle.std.specs.Ordering.{nat_cmp, is_eq}
 use Rattle.std.specs.Cmp.Lexicographic.{slice_cmp}
 use Rattle.std.specs.Str.{bytes_eq}
@@ -27,16 +27,11 @@ abbrev pub by_items : Vec ℕ Global → Vec ℕ Global → Ordering
 by_items x y = slice_cmp nat_cmp x.items y.items
 
 alike : (q : List ℕ) (x y : Vec ℕ Global) → by_items x y ≡ Ordering.Equal → at q x ≡ at q y
-alike q x y h =
-    let same : x.items ≡ y.items = (bytes_eq-Decides x.items y.items).0 (sym (is_eq-slice_cmp x.items y.items) ∙ ap is_eq h) in
-    ap (λ b. is_eq (slice_cmp nat_cmp q b)) same
+alike q x y h = grind (arith, bytes_eq-Decides, is_eq-slice_cmp)
 
 list_any-insert_key : (q : List ℕ) (k : Vec ℕ Global) (ks : List (Vec ℕ Global)) → list_any (at q) (insert_key by_items ks k) ≡ (at q k || list_any (at q) ks)
 list_any-insert_key q k [] = refl
-list_any-insert_key q k (x ∷ xs) = by_order (by_items k x)
-    (λ less. rw less refl)
-    (λ equal. rw equal (rw (alike q k x equal) (or_twice (at q x) (list_any (at q) xs))))
-    (λ greater. rw greater (ap (λ b. at q x || b) (list_any-insert_key q k xs) ∙ or_swap (at q x) (at q k) (list_any (at q) xs)))
+list_any-insert_key q k (x ∷ xs) = grind (arith, by_order, alike, or_twice, or_swap, list_any-insert_key q k xs)
 
 pub is_in-insert : (q : List ℕ) (k : Vec ℕ Global) (ks : List (Vec ℕ Global)) → list_any (at q) (insert_key by_items ks k) ≡ (bytes_eq q k.items || list_any (at q) ks)
 is_in-insert q k ks = list_any-insert_key q k ks ∙ ap (λ b. b || list_any (at q) ks) (is_eq-slice_cmp q k.items)

@@ -3,17 +3,17 @@ use Rattle.std.proofs.Common.{◌≡◌, ◌≢◌, ◌<◌, ◌≤◌, ℕ, zer
 use Rattle.std.specs.List.{list_any}
 use Rattle.std.specs.Str.{bytes_eq}
 use Rattle.std.specs.BTreeSet.{insert_key}
-use Rattle.std.proofs.lemmas.Bool.Decides.{nat_tests}
 use Rattle.std.proofs.lemmas.Map.Steps.{le-length_from_below}
 use Rattle.std.proofs.lemmas.List.Folds.{list_any-append}
 use Rattle.std.proofs.lemmas.Slice.Eq.{bytes_eq-Decides}
+use Rattle.std.proofs.lemmas.Grind.{common_steps}
 use Rattle.redis_routing.specs.ReadOnly.{is_among}
 use Rattle.redis_routing.specs.Inner.NameSpots.{bytes_of, spot_of, holder_of, holder_at, found, found_at, HaveSpots}
 use Rattle.redis_routing.specs.declared.read_only.Found.{Found}
 use Rattle.redis_routing.specs.declared.read_only.Found.TheVariants.{Free, Here, Other}
 use Rattle.redis_routing.specs.declared.read_only.TheConstants.{SPOTS}
 use Rattle.redis_routing.proofs.NameSets.{by_items, among-insert}
-use Rattle.resp_core.proofs.Cases.{by_test, or_swap}
+use Rattle.resp_core.proofs.Cases.{by_test}
 
 by_option : {P : Type 0} {X : Type 0} (o : Option X) → (o ≡ None → P) → ((x : X) → o ≡ Some x → P) → P
 by_option None none some = none refl
@@ -35,12 +35,8 @@ or_neither false b h = refl
 
 row_among : (rows : List (Vec ℕ Global)) (row : ℕ) (own : Vec ℕ Global) (q : List ℕ) → slice_get rows row ≡ Some own → own.items ≡ q → is_among (bytes_of rows) q ≡ true
 row_among [] row own q got same = cc
-row_among (n ∷ rows) zero own q got same =
-    let one : n ≡ own = cc in
-    or_first (bytes_eq q n.items) (is_among (bytes_of rows) q) ((bytes_eq-Decides q n.items).1 (sym same ∙ sym (ap (λ z. z.items) one)))
-row_among (n ∷ rows) (suc row) own q got same = by_test (bytes_eq q n.items)
-    (λ t. or_first (bytes_eq q n.items) (is_among (bytes_of rows) q) t)
-    (λ t. or_neither (bytes_eq q n.items) (is_among (bytes_of rows) q) t ∙ row_among rows row own q got same)
+row_among (n ∷ rows) zero own q got same = grind (arith, zero, or_first, bytes_eq-Decides)
+row_among (n ∷ rows) (suc row) own q got same = grind (arith, common_steps, row_among rows row own q got same)
 
 among_row : (rows : List (Vec ℕ Global)) (q : List ℕ) → is_among (bytes_of rows) q ≡ true → (row : ℕ) × (own : Vec ℕ Global) × (slice_get rows row ≡ Some own) × (own.items ≡ q)
 among_row [] q h = cc
@@ -62,10 +58,7 @@ got_last : (rows : List (Vec ℕ Global)) (name own : Vec ℕ Global) (row : ℕ
 got_last [] name own zero h = inr (refl, cc)
 got_last [] name own (suc row) h = cc
 got_last (n ∷ rows) name own zero h = inl h
-got_last (n ∷ rows) name own (suc row) h = elim (got_last rows name own row h) [
-  | inl before ↦ inl before
-  | inr (at, same) ↦ inr (ap suc at, same)
-]
+got_last (n ∷ rows) name own (suc row) h = grind (arith, common_steps, got_last rows name own row h)
 
 -- of what a spot tells
 
@@ -75,9 +68,7 @@ spot_within name = omega arith
 
 found_free : (name : List ℕ) (own : Option (Vec ℕ Global)) → found name own ≡ Free → own ≡ None
 found_free name None h = refl
-found_free name (Some own) h = by_test (bytes_eq own.items name)
-    (λ t. let no : Here ≡ Free = sym (rw t refl) ∙ h in cc)
-    (λ t. let no : Other ≡ Free = sym (rw t refl) ∙ h in cc)
+found_free name (Some own) h = grind (arith, common_steps)
 
 found_here : (name : List ℕ) (own : Option (Vec ℕ Global)) → found name own ≡ Here → (one : Vec ℕ Global) × (own ≡ Some one) × (one.items ≡ name)
 found_here name None h = cc
@@ -100,43 +91,30 @@ own_row rows spots q row own told got = ap (holder_of rows) told ∙ got
 -- what a look-up says of the names
 
 pub said : (rows rows' : List (Vec ℕ Global)) (spots spots' : List ℕ) (q q' : List ℕ) (f g : Found) → rows' ≡ rows → spots' ≡ spots → q' ≡ q → f ≡ found_at rows' spots' q' → f ≡ g → found_at rows spots q ≡ g
-said rows rows' spots spots' q q' f g of_rows of_spots of_name is same =
-    sym (ap (λ z. found_at z spots q) of_rows) ∙ sym (ap (λ z. found_at rows' z q) of_spots) ∙ sym (ap (found_at rows' spots') of_name) ∙ sym is ∙ same
+said rows rows' spots spots' q q' f g of_rows of_spots of_name is same = grind (arith, common_steps)
 
 not_in_rows : (rows : List (Vec ℕ Global)) (spots : List ℕ) (crowded : List (Vec ℕ Global)) → HaveSpots rows spots crowded → (q : List ℕ) → found_at rows spots q ≢ Here → is_among (bytes_of rows) q ≡ false
-not_in_rows rows spots crowded have q h = by_test (is_among (bytes_of rows) q)
-    (λ t. let (row, own, got, same) = among_row rows q t in
-    let told : slice_get spots (spot_of q) ≡ Some row = ap (λ z. slice_get spots (spot_of z)) (sym same) ∙ have.each row own got in
-    absurd (h (ap (found q) (own_row rows spots q row own told got) ∙ is_here q own same)))
-    (λ t. t)
+not_in_rows rows spots crowded have q h = grind (arith, by_test, among_row, slice_get, own_row, is_here)
 
 here_told : (rows : List (Vec ℕ Global)) (q : List ℕ) (spot : Option ℕ) → found q (holder_of rows spot) ≡ Here → is_among (bytes_of rows) q ≡ true
 here_told rows q None h = cc
-here_told rows q (Some row) h =
-    let (own, got, same) = found_here q (slice_get rows row) h in row_among rows row own q got same
+here_told rows q (Some row) h = grind (arith, found_here, slice_get, row_among)
 
 pub here_among : (rows : List (Vec ℕ Global)) (spots : List ℕ) (crowded : List (Vec ℕ Global)) (q : List ℕ) → found_at rows spots q ≡ Here → is_among (bytes_of rows ++ bytes_of crowded) q ≡ true
-here_among rows spots crowded q h =
-    list_any-append (bytes_eq q) (bytes_of rows) (bytes_of crowded)
-    ∙ or_first (is_among (bytes_of rows) q) (is_among (bytes_of crowded) q) (here_told rows q (slice_get spots (spot_of q)) h)
+here_among rows spots crowded q h = grind (arith, list_any-append, or_first, here_told, slice_get)
 
 pub other_among : (rows : List (Vec ℕ Global)) (spots : List ℕ) (crowded : List (Vec ℕ Global)) → HaveSpots rows spots crowded → (q : List ℕ) → found_at rows spots q ≢ Here → is_among (bytes_of rows ++ bytes_of crowded) q ≡ is_among (bytes_of crowded) q
 other_among rows spots crowded have q h =
     list_any-append (bytes_eq q) (bytes_of rows) (bytes_of crowded) ∙ or_neither (is_among (bytes_of rows) q) (is_among (bytes_of crowded) q) (not_in_rows rows spots crowded have q h)
 
 pub free_among : (rows : List (Vec ℕ Global)) (spots : List ℕ) (crowded : List (Vec ℕ Global)) → HaveSpots rows spots crowded → (q : List ℕ) → found_at rows spots q ≡ Free → is_among (bytes_of rows ++ bytes_of crowded) q ≡ false
-free_among rows spots crowded have q h =
-    other_among rows spots crowded have q (λ here. let no : Free ≡ Here = sym h ∙ here in cc)
-    ∙ by_test (is_among (bytes_of crowded) q) (λ t. absurd (have.taken q t (found_free q (holder_at rows spots q) h))) (λ t. t)
+free_among rows spots crowded have q h = grind (arith, other_among, by_test, found_free)
 
 -- each row is told by a spot, so there are no more than spots
 number_told : (spots : List ℕ) (spot row : ℕ) → slice_get spots spot ≡ Some row → list_any (eqb row) spots ≡ true
 number_told [] spot row h = cc
-number_told (n ∷ spots) zero row h =
-    let one : n ≡ row = cc in or_first (eqb row n) (list_any (eqb row) spots) (grind (arith, nat_tests))
-number_told (n ∷ spots) (suc spot) row h = by_test (eqb row n)
-    (λ t. or_first (eqb row n) (list_any (eqb row) spots) t)
-    (λ t. or_neither (eqb row n) (list_any (eqb row) spots) t ∙ number_told spots spot row h)
+number_told (n ∷ spots) zero row h = grind (arith, common_steps)
+number_told (n ∷ spots) (suc spot) row h = grind (arith, common_steps, number_told spots spot row h)
 
 pub few_rows : (rows : List (Vec ℕ Global)) (spots : List ℕ) (crowded : List (Vec ℕ Global)) → HaveSpots rows spots crowded → length rows ≤ SPOTS
 few_rows rows spots crowded have =
@@ -149,20 +127,15 @@ few_rows rows spots crowded have =
 -- of a name more
 
 pub known_among : (names : List (List ℕ)) (items name : List ℕ) → is_among names items ≡ true → items ≡ name → (q : List ℕ) → is_among names q ≡ (bytes_eq q name || is_among names q)
-known_among names items name known spelt q = by_test (bytes_eq q name)
-    (λ t. rw t (ap (is_among names) ((bytes_eq-Decides q name).0 t ∙ sym spelt) ∙ known))
-    (λ t. rw t refl)
+known_among names items name known spelt q = grind (arith, by_test, bytes_eq-Decides)
 
 pub crowded_among : (rows crowded after : List (Vec ℕ Global)) (k : Vec ℕ Global) (name : List ℕ) → after ≡ insert_key by_items crowded k → k.items ≡ name → (q : List ℕ) → is_among (bytes_of rows ++ bytes_of after) q ≡ (bytes_eq q name || is_among (bytes_of rows ++ bytes_of crowded) q)
 crowded_among [] crowded after k name keys items q = among-insert q name k crowded after keys items
-crowded_among (n ∷ rows) crowded after k name keys items q =
-    ap (λ b. bytes_eq q n.items || b) (crowded_among rows crowded after k name keys items q)
-    ∙ or_swap (bytes_eq q n.items) (bytes_eq q name) (is_among (bytes_of rows ++ bytes_of crowded) q)
+crowded_among (n ∷ rows) crowded after k name keys items q = grind (arith, common_steps, crowded_among rows crowded after k name keys items q)
 
 -- what another name has is not the spot of a name that none has
 apart : (rows : List (Vec ℕ Global)) (spots : List ℕ) (name q : List ℕ) (row : ℕ) (own : Vec ℕ Global) → holder_at rows spots name ≡ None → slice_get spots (spot_of q) ≡ Some row → slice_get rows row ≡ Some own → spot_of q ≢ spot_of name
-apart rows spots name q row own none told got same =
-    let no : None ≡ Some own = sym none ∙ own_row rows spots name row own (ap (slice_get spots) (sym same) ∙ told) got in cc
+apart rows spots name q row own none told got same = grind (arith, common_steps)
 
 pub have_pushed : (rows rows' : List (Vec ℕ Global)) (spots spots' : List ℕ) (crowded : List (Vec ℕ Global)) → HaveSpots rows spots crowded → (name : Vec ℕ Global) → found_at rows spots name.items ≡ Free → rows' ≡ rows ++ name ∷ [] → slice_get spots' (spot_of name.items) ≡ Some (length rows) → length spots' ≤ SPOTS
     → ((spot row : ℕ) → spot < SPOTS → spot ≢ spot_of name.items → slice_get spots spot ≡ Some row → slice_get spots' spot ≡ Some row) → HaveSpots rows' spots' crowded

@@ -1,12 +1,13 @@
 -- The nine rows agree with the tables of all names.
-use Rattle.std.proofs.Common.{◌≡◌, ℕ, List, [], ◌∷◌, ◌++◌, true, Option, None, Some, map, refl, sym, ap, ◌∙◌, cond}
-use Rattle.std.specs.Prelude.{IfSome, option_and_then, is_none, is_some, not, ◌&&◌}
+use Rattle.std.proofs.Common.{◌≡◌, ℕ, List, [], ◌∷◌, ◌++◌, true, Option, None, Some, map, refl, sym, ap, ◌∙◌, cond, arith}
+use Rattle.std.specs.Prelude.{IfSome, option_and_then, is_some, ◌&&◌}
 use Rattle.std.specs.Str.{bytes_eq}
-use Rattle.resp_core.proofs.Cases.{by_test, and_first, and_second}
+use Rattle.std.proofs.lemmas.Grind.{common_steps}
+use Rattle.resp_core.proofs.Cases.{by_test}
 use Rattle.cluster_slots.specs.declared.arg_pattern.MultiSlotArgPattern.{MultiSlotArgPattern}
 use Rattle.redis_routing.specs.Lookup.{lookup_name}
 use Rattle.redis_routing.specs.Policies.{policy_of}
-use Rattle.redis_routing.specs.Registry.{Registered, Registrations, is_registrable, is_bad_name, is_bad_policy}
+use Rattle.redis_routing.specs.Registry.{Registered, Registrations, is_registrable}
 use Rattle.redis_routing.specs.RouteBy.{base_routing, pattern_of}
 use Rattle.redis_routing.specs.MultiKeyNames.{split_of, registered_as}
 use Rattle.redis_routing.specs.MultiKeyRows.{multi_key_names}
@@ -50,9 +51,7 @@ unfolding split_of
 nine_first registered name = rows_first multi_key_names registered name
 
 by_both : (registered : Registrations) (name : List ℕ) (w : Option RouteBy) (p : Option ResponsePolicy) → base_routing name ≡ w → policy_of name ≡ p → split_of registered name ≡ or_else (both (pattern_of w) p) (lookup_name registered name)
-by_both registered name w p way policy =
-    nine_first registered name
-    ∙ ap (λ o. or_else o (lookup_name registered name)) (sym (nine_rows name) ∙ ap (λ u. both (pattern_of u) (policy_of name)) way ∙ ap (both (pattern_of w)) policy)
+by_both registered name w p way policy = grind (arith, nine_first, nine_rows)
 
 -- one of the nine
 pub found_nine : (registered : Registrations) (name : List ℕ) (pattern : MultiSlotArgPattern) (policy : ResponsePolicy) → base_routing name ≡ Some (MultiSlot pattern) → policy_of name ≡ Some policy
@@ -67,14 +66,9 @@ no_pattern : (o : Option MultiSlotArgPattern) (p : Option ResponsePolicy) → o 
 no_pattern None p none = refl
 no_pattern (Some o) p none = absurd (cc none)
 
-none_by_test : (o : Option RouteBy) → is_none o ≡ true → o ≡ None
-none_by_test None none = refl
-none_by_test (Some w) none = absurd (cc none)
-
 -- the tables don't have a name that may be registered
 free_name : (name : List ℕ) (policy : ResponsePolicy) → is_registrable name policy ≡ true → base_routing name ≡ None
-free_name name policy may =
-    none_by_test (base_routing name) (and_second (not (is_bad_name name)) (is_none (base_routing name)) (and_first (not (is_bad_name name) && is_none (base_routing name)) (not (is_bad_policy policy)) may))
+free_name name policy may = grind (arith, common_steps)
 
 free_row : (name : List ℕ) (w : RouteBy) (row : Option Registered) → base_routing name ≡ Some w → IfSome row (λ r. is_registrable name r.1 ≡ true) → row ≡ None
 free_row name w None way may = refl

@@ -40,18 +40,13 @@ read_from args low (arg ∷ behind) is (text ∷ texts) taken =
     ∙ ap (λ a. all_some (a ∷ map (λ place. argument args place) (range_with_len (low + 1) (length texts)))) (first ∙ sym here)
 
 name_read : (words : ℕ) (args : Arguments) (name : HasWords words args) → Some name.texts ≡ all_some (map (λ place. argument args place) (range_with_len 0 words))
-name_read words args name =
-    read_from args 0 args refl name.texts (name.taken ∙ ap (λ n. take n args) (sym name.all)) ∙ ap (λ n. all_some (map (λ place. argument args place) (range_with_len 0 n))) name.all
+name_read words args name = grind (arith, read_from)
 
 -- the present arguments at some places
 texts_at : (words : ℕ) (args : Arguments) (low : ℕ) (places : List ℕ) → Between low (length (present_arguments_after words args)) places
     → all_some (map (λ place. argument args (place + words)) places) ≡ Some (map (λ place. get_or (present_arguments_after words args) place []) places)
 texts_at words args low [] h = refl
-texts_at words args low (p ∷ places) h =
-    let present = present_arguments_after words args in
-    let inside : p < length present = omega (arith, bounds (p + 1) (length present) places h.1) in
-    ap (λ a. all_some (a ∷ map (λ place. argument args (place + words)) places)) (present_item words args p inside)
-    ∙ ap (option_map (λ texts. get_or present p [] ∷ texts)) (texts_at words args (p + 1) places h.1)
+texts_at words args low (p ∷ places) h = grind (arith, bounds, present_item, option_map, texts_at words args (p + 1) places h.1)
 
 part_picked : (args : Arguments) (pattern : MultiSlotArgPattern) (slot : ℕ) → HasWords (name_words_of args) args → fits pattern (length (present_arguments args)) ≡ true
     → option_map (map Some) (sub_command_after (name_words_of args) args (places_in_slot pattern (present_arguments args) slot)) ≡ Some (part_of_slot pattern args slot)

@@ -24,12 +24,7 @@ module _ {X : Type 0} (key : X → List ℕ) (place : List ℕ → ℕ) where
 
   -- what does not stand at its place stands nowhere
   apart : (xs : List X) (n : List ℕ) (i : ℕ) → Stand 0 xs → i ≡ place n → ((d : X) → i < length xs → bytes_eq (key (get_or xs i d)) n ≡ false) → (k : ℕ) (d : X) → k < length xs → bytes_eq (key (get_or xs k d)) n ≡ false
-  apart xs n i h is unlike k d inside =
-      by_test (bytes_eq (key (get_or xs k d)) n)
-      (λ equal. let at : place n ≡ 0 + k = ap place (sym ((bytes_eq-Decides (key (get_or xs k d)) n).0 equal)) ∙ place_at xs 0 k d h inside in
-      let same : k ≡ i = omega arith in
-      ap (λ j. bytes_eq (key (get_or xs j d)) n) same ∙ unlike d (omega arith))
-      (λ other. other)
+  apart xs n i h is unlike k d inside = grind (arith, by_test, bytes_eq-Decides, place_at)
 
   found_from : {A : Type 0} (value : X → A) (xs : List X) (n : List ℕ) (o i : ℕ) (d : X) → Stand o xs → i < length xs → key (get_or xs i d) ≡ n → lookup_name (map (λ x. (key x, value x)) xs) n ≡ Some (value (get_or xs i d))
   found_from value [] n o i d h inside same = absurd (omega arith)

@@ -3,6 +3,7 @@ use Rattle.std.proofs.Common.{◌≡◌, ◌≢◌, ◌<◌, ℕ, zero, suc, inl
 use Rattle.std.specs.Prelude.{codes}
 use Rattle.std.specs.Str.Pattern.{StripsPrefix, FindsTextPrefix}
 use Rattle.std.proofs.lemmas.Str.Pattern.{IsSplitOnceResult, split_parts}
+use Rattle.std.proofs.lemmas.Grind.{common_steps}
 use Rattle.cluster_slots.specs.AddressText.{IsAddressText, IsNoAddress}
 use Rattle.cluster_slots.specs.Number.{number_in}
 use Rattle.cluster_slots.proofs.AddressTexts.{one_address, lacks_each}
@@ -34,11 +35,7 @@ no_node answering text none bare host port (inr alone) = bare alone.digits alone
 
 pub no_port : (answering text rest : List ℕ) → IsNoAddress text → text ≡ 58 ∷ rest → None ≡ number_in 16 rest → (host : List ℕ) (port : ℕ) → ¬ (IsNodeText answering text host port)
 no_port answering text rest none e bad host port (inl named) = none host port named.0
-no_port answering text rest none e bad host port (inr alone) =
-    let same : 58 ∷ rest ≡ 58 ∷ alone.digits = sym e ∙ alone.whole in
-    let tail : rest ≡ alone.digits = cc in
-    let both : None ≡ Some port = bad ∙ ap (number_in 16) tail ∙ alone.number in
-    absurd (cc)
+no_port answering text rest none e bad host port (inr alone) = grind (arith, common_steps)
 
 -- a port alone names none where the node that answered has no host
 pub no_answering : (answering text : List ℕ) → IsNoAddress text → answering ≡ [] → (host : List ℕ) (port : ℕ) → ¬ (IsNodeText answering text host port)
@@ -47,20 +44,13 @@ no_answering answering text none empty host port (inr alone) = alone.some (alone
 
 -- the text of an unknown host begins with it, or with a bracket
 unknown_first : (opens closes : ℕ) (right rest : List ℕ) → (replicate opens 91 ++ unknown_host ++ replicate closes 93) ++ 58 ∷ right ≡ 58 ∷ rest → ⊥
-unknown_first zero closes right rest e =
-    let first : 63 ≡ 58 = ap (λ (xs : List ℕ). get_or xs 0 0) e in
-    absurd (omega (arith, first))
-unknown_first (suc opens) closes right rest e =
-    let first : 91 ≡ 58 = ap (λ (xs : List ℕ). get_or xs 0 0) e in
-    absurd (omega (arith, first))
+unknown_first zero closes right rest e = grind (arith, common_steps)
+unknown_first (suc opens) closes right rest e = grind (arith, common_steps)
 
 -- an address with an unknown host names no node
 pub no_host : (answering text known : List ℕ) (number : ℕ) → IsAddressText text known number → known ≡ unknown_host → (host : List ℕ) (port : ℕ) → ¬ (IsNodeText answering text host port)
 no_host answering text known number read same host port (inl named) = named.1 ((one_address text host known port number named.0 read).0 ∙ same)
-no_host answering text known number (left, right, reads) same host port (inr alone) =
-    let bracketed = reads.bracketed in
-    let left_is = bracketed.2.whole ∙ ap (λ (h : List ℕ). replicate bracketed.0 91 ++ h ++ replicate bracketed.1 93) same in
-    unknown_first bracketed.0 bracketed.1 right alone.digits (ap (λ (l : List ℕ). l ++ 58 ∷ right) (sym left_is) ∙ sym reads.cut ∙ alone.whole)
+no_host answering text known number (left, right, reads) same host port (inr alone) = grind (arith, unknown_first)
 
 -- the word
 pub stripped : (word text rest : List ℕ) → StripsPrefix (FindsTextPrefix word) text rest → text ≡ word ++ rest
@@ -71,17 +61,11 @@ no_moved answering text told e none slot (Moved address) (back, whole, t) =
     let same : codes "MOVED " ++ back ≡ codes "MOVED " ++ told = sym whole ∙ e in
     let tail : back ≡ told = ap (drop 6) same in
     none slot address.host address.port (subst (λ x. TellsNode answering x slot address.host address.port) tail t)
-no_moved answering text told e none slot (Ask address) (back, whole, t) =
-    let both : codes "ASK " ++ back ≡ codes "MOVED " ++ told = sym whole ∙ e in
-    let first : 65 ≡ 77 = ap (λ xs. get_or xs 0 0) both in
-    absurd (omega (arith, first))
+no_moved answering text told e none slot (Ask address) (back, whole, t) = grind (arith, common_steps)
 
 pub no_ask : (answering text told : List ℕ) → text ≡ codes "ASK " ++ told → ((slot : ℕ) (host : List ℕ) (port : ℕ) → ¬ (TellsNode answering told slot host port)) → IsNoRedirect answering text
 no_ask answering text told e none slot (Ask address) (back, whole, t) =
     let same : codes "ASK " ++ back ≡ codes "ASK " ++ told = sym whole ∙ e in
     let tail : back ≡ told = ap (drop 4) same in
     none slot address.host address.port (subst (λ x. TellsNode answering x slot address.host address.port) tail t)
-no_ask answering text told e none slot (Moved address) (back, whole, t) =
-    let both : codes "MOVED " ++ back ≡ codes "ASK " ++ told = sym whole ∙ e in
-    let first : 77 ≡ 65 = ap (λ xs. get_or xs 0 0) both in
-    absurd (omega (arith, first))
+no_ask answering text told e none slot (Moved address) (back, whole, t) = grind (arith, common_steps)

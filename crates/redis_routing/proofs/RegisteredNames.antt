@@ -6,6 +6,7 @@ use Rattle.std.specs.Str.{bytes_eq}
 use Rattle.std.proofs.lemmas.Bool.Decides.{nat_tests}
 use Rattle.std.proofs.lemmas.List.{length-map}
 use Rattle.std.proofs.lemmas.Slice.Eq.{bytes_eq-Decides}
+use Rattle.std.proofs.lemmas.Grind.{common_steps}
 use native.Mathlib.Numerals.{unary_clauses}
 use Rattle.redis_routing.specs.Lookup.{has_name}
 use Rattle.redis_routing.specs.TwoWords.{two_word_names, takes_second}
@@ -15,9 +16,7 @@ use Rattle.resp_core.proofs.Cases.{by_test, and_first, and_second, or_second}
 
 pub no_space : (text : List ℕ) → ¬ (Contains text 32) → has_space text ≡ false
 no_space [] h = refl
-no_space (x ∷ text) h = by_test (is_space x)
-    (λ equal. let same : x ≡ 32 = grind (arith, nat_tests) in absurd (h (0, omega arith, same)))
-    (λ unlike. rw unlike (no_space text (λ c. h (suc c.0, omega (arith, c.1), c.2))))
+no_space (x ∷ text) h = grind (arith, common_steps, no_space text (λ c. h (suc c.0, omega (arith, c.1), c.2)))
 
 pub some_space : (first second : List ℕ) → has_space (first ++ 32 ∷ second) ≡ true
 some_space [] second = refl
@@ -49,8 +48,7 @@ after_space first second h = rw (space_at first second h) (simp unary_clauses (l
 -- a name that a space cuts in two
 pub bad_name_cut : (name first second : List ℕ) → name ≡ first ++ 32 ∷ second → ¬ (Contains first 32)
     → not (takes_second first && is_one_word second) ≡ is_bad_name name
-bad_name_cut name first second is alone =
-    sym (rw (is, some_space first second, before_space first second (no_space first alone), after_space first second (no_space first alone)) refl)
+bad_name_cut name first second is alone = grind (arith, some_space, before_space, no_space, after_space)
 
 -- a name without a space
 pub bad_name_alone : (name : List ℕ) → ¬ (Contains name 32) → (is_empty name || takes_second name) ≡ is_bad_name name

@@ -1,5 +1,5 @@
 -- The rows of a registry: what a look-up finds, and what stands there after one more is put in.
-use Rattle.std.proofs.Common.{◌≡◌, ℕ, List, [], ◌∷◌, map, Bool, true, false, cond, ◌&&◌, Option, None, Some, Vec, Global, Ordering, refl, sym, ap, ◌∙◌, length, ◌+◌}
+use Rattle.std.proofs.Common.{◌≡◌, ℕ, List, [], ◌∷◌, map, Bool, true, false, cond, ◌&&◌, Option, None, Some, Vec, Global, Ordering, refl, sym, ap, ◌∙◌, length, ◌+◌, arith}
 use Rattle.std.specs.Prelude.{IfSome, is_some, if◌then◌else◌}
 use Rattle.std.specs.List.{list_all, AllZip, each_same}
 use Rattle.std.specs.Ordering.{is_eq}
@@ -8,7 +8,7 @@ use Rattle.std.specs.BTreeMap.{insert_entry}
 use Rattle.std.specs.Map as tree
 use Rattle.std.proofs.lemmas.Map.Text.{is_eq-slice_cmp}
 use Rattle.std.proofs.lemmas.Slice.Eq.{bytes_eq-Decides}
-use Rattle.std.proofs.lemmas.List.{length-map}
+use Rattle.std.proofs.lemmas.Grind.{common_steps}
 use Rattle.redis_routing.specs.Lookup.{lookup_name}
 use Rattle.redis_routing.specs.Registry.{Registered, is_registrable, is_bad_name, is_bad_policy}
 use Rattle.redis_routing.specs.RouteBy.{base_routing}
@@ -26,19 +26,12 @@ abbrev pub may_stand : Row → Bool
 may_stand row = is_registrable row.0.items row.1.1
 
 bytes_eq-swap : (xs ys : List ℕ) → bytes_eq xs ys ≡ bytes_eq ys xs
-bytes_eq-swap xs ys =
-    by_test (bytes_eq ys xs)
-    (λ equal. (bytes_eq-Decides xs ys).1 (sym ((bytes_eq-Decides ys xs).0 equal)) ∙ sym equal)
-    (λ unlike. by_test (bytes_eq xs ys)
-    (λ equal. absurd (cc (unlike, (bytes_eq-Decides ys xs).1 (sym ((bytes_eq-Decides xs ys).0 equal)))))
-    (λ other. other ∙ sym unlike))
+bytes_eq-swap xs ys = grind (arith, by_test, bytes_eq-Decides)
 
 -- a look-up by the order of bytes is one by `==`
 pub found_row : (q : List ℕ) (rows : List Row) → tree.lookup (at q) rows ≡ lookup_name (map row_of rows) q
 found_row q [] = refl
-found_row q (row ∷ rows) =
-    ap (λ b. cond b (Some row.1) (tree.lookup (at q) rows)) (is_eq-slice_cmp q row.0.items ∙ bytes_eq-swap q row.0.items)
-    ∙ ap (cond (bytes_eq row.0.items q) (Some row.1)) (found_row q rows)
+found_row q (row ∷ rows) = grind (arith, at, is_eq-slice_cmp, bytes_eq-swap, found_row q rows)
 
 -- what is found could be registered
 pub found_registrable : (q : List ℕ) (rows : List Row) → list_all may_stand rows ≡ true → IfSome (lookup_name (map row_of rows) q) (λ r. is_registrable q r.1 ≡ true)
@@ -92,9 +85,7 @@ registrable-insert_entry k r (row ∷ rows) new old = by_order (by_items k row.0
 
 -- a name without a row adds one
 pub one_more : (before : Option Registered) (rows after : List Row) → before ≡ None → length after ≡ length rows + (if is_some before then 0 else 1) → length (map row_of after) ≡ length (map row_of rows) + 1
-one_more before rows after none more =
-    let added : length after ≡ length rows + 1 = rw none at more in
-    rw (length-map, length-map) added
+one_more before rows after none more = grind (arith, common_steps)
 
 pub none_from : {X : Type 0} (o : Option X) → is_some o ≡ false → o ≡ None
 none_from None h = refl
@@ -119,16 +110,10 @@ pub cloned_rows : (rows copies : List Row) → AllZip IsRowClone rows copies →
 cloned_rows [] [] cloned = refl
 cloned_rows [] (copy ∷ copies) cloned = absurd cloned
 cloned_rows (row ∷ rows) [] cloned = absurd cloned
-cloned_rows (row ∷ rows) (copy ∷ copies) cloned =
-    let first = row_cloned row copy cloned.0 in
-    let rest = cloned_rows rows copies cloned.1 in
-    λ i. first i ∷ rest i
+cloned_rows (row ∷ rows) (copy ∷ copies) cloned = grind (arith, row_cloned, cloned_rows rows copies cloned.1)
 
 pub cloned_may_stand : (rows copies : List Row) → AllZip IsRowClone rows copies → list_all may_stand copies ≡ list_all may_stand rows
 cloned_may_stand [] [] cloned = refl
 cloned_may_stand [] (copy ∷ copies) cloned = absurd cloned
 cloned_may_stand (row ∷ rows) [] cloned = absurd cloned
-cloned_may_stand (row ∷ rows) (copy ∷ copies) cloned =
-    let first = row_cloned row copy cloned.0 in
-    let rest = cloned_may_stand rows copies cloned.1 in
-    λ i. is_registrable (first i).0 (first i).1.1 && rest i
+cloned_may_stand (row ∷ rows) (copy ∷ copies) cloned = grind (arith, row_cloned, cloned_may_stand rows copies cloned.1)

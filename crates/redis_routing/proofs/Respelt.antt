@@ -1,11 +1,11 @@
 -- A command whose first word is spelt in another case goes where it went.
-use Rattle.std.proofs.Common.{◌≡◌, ℕ, zero, suc, ◌+◌, List, [], ◌∷◌, Bool, true, Option, None, Some, map, option_map, refl, sym, ap, ◌∙◌, add-one}
+use Rattle.std.proofs.Common.{◌≡◌, ℕ, zero, suc, ◌+◌, List, [], ◌∷◌, Bool, true, Option, None, Some, map, option_map, refl, sym, ap, ◌∙◌, add-one, arith}
 use Rattle.std.specs.Prelude.{codes, position, nat_lt}
 use Rattle.std.specs.Char.{to_ascii_lowercase}
 use Rattle.std.specs.Str.{bytes_eq}
 use Rattle.std.proofs.lemmas.Str.Ascii.{lowercase-uppercase}
 use Rattle.redis_routing.specs.Upper.{upper}
-use Rattle.redis_routing.specs.Command.{Arguments, IsRespelt, argument, command_name, is_word, name_by}
+use Rattle.redis_routing.specs.Command.{Arguments, IsRespelt, argument, is_word}
 use Rattle.redis_routing.specs.Lookup.{lookup_name}
 use Rattle.redis_routing.specs.Names.{Names}
 use Rattle.redis_routing.specs.PresentArguments.{present_arguments}
@@ -13,7 +13,7 @@ use Rattle.redis_routing.specs.Registry.{Registered, Registrations, routing_or, 
 use Rattle.redis_routing.specs.TwoWords.{takes_second}
 use Rattle.redis_routing.specs.declared.policy.ResponsePolicy.{ResponsePolicy}
 use Rattle.resp_core.proofs.Cases.{by_test}
-use Rattle.redis_routing.specs.Routing.{routing_by, to_slots, by_count, to_key, to_key_after, to_slot, routing_by_name, routing, argument_number}
+use Rattle.redis_routing.specs.Routing.{routing_by, to_slots, by_count, to_key, to_key_after, to_slot, routing, argument_number}
 use Rattle.redis_routing.specs.RouteBy.{base_routings, base_routing}
 use Rattle.redis_routing.specs.declared.route_by.RouteBy.{RouteBy}
 use Rattle.redis_routing.specs.declared.route_by.RouteBy.TheVariants as route_by
@@ -94,11 +94,7 @@ module _ (spelt first : List ℕ) (same : upper spelt ≡ upper first) (rest : A
   same_route_by policy reads (Some (route_by.SlotAt n)) later = ap (λ a. to_slot (argument_number 16 a)) (behind n later)
 
   same_routing : (names : Names) → routing names original ≡ routing names other_spelling
-  same_routing names =
-      let name = name_by (upper first) (option_map upper (argument rest 0)) in
-      let tables = tables_with names.registered in
-      let named : command_name original ≡ command_name other_spelling = ap (λ u. Some (name_by u (option_map upper (argument rest 0)))) (sym same) in
-      same_route_by (tables.policy name) (names.only_reads name) (tables.route_by name) (each_behind_first names.registered name) ∙ ap (routing_by_name names other_spelling) named
+  same_routing names = grind (arith, option_map, same_route_by, each_behind_first)
 
 pub respelt_routing : (names : Names) (args other : Arguments) → IsRespelt args other → routing names other ≡ routing names args
 respelt_routing names [] other same = ap (routing names) same

@@ -1,17 +1,18 @@
 -- Equality of two registries, row by row.
-use Rattle.std.proofs.Common.{◌≡◌, ℕ, List, [], ◌∷◌, map, Bool, true, ◌&&◌, Vec, Global, Decides, nat_eq, refl, sym, ap, ◌∙◌}
+use Rattle.std.proofs.Common.{◌≡◌, ℕ, List, [], ◌∷◌, map, Bool, true, ◌&&◌, Vec, Global, Decides, nat_eq, refl, sym, ap, ◌∙◌, arith}
 use Rattle.std.specs.BTreeMap.{BTreeMap, IsOrdered}
 use Rattle.std.specs.Cmp.Lexicographic.{pointwise, on_texts}
 use Rattle.std.proofs.lemmas.Map.Lookups.{btree_map_read_from_get}
 use Rattle.std.proofs.lemmas.Bool.Decides.{Decides-eqb, Decides-and, Decides-like}
 use Rattle.std.proofs.lemmas.Slice.Eq.{bytes_eq-Decides, slice_eq-Decides}
+use Rattle.std.proofs.lemmas.Grind.{common_steps}
 use Rattle.cluster_slots.specs.declared.aggregate_op.AggregateOp.TheVariants.{Min, Sum}
 use Rattle.cluster_slots.specs.declared.aggregate_op.LogicalAggregateOp.TheVariants.{And, Or}
 use Rattle.cluster_slots.specs.declared.arg_pattern.MultiSlotArgPattern.{MultiSlotArgPattern}
 use Rattle.cluster_slots.specs.declared.arg_pattern.MultiSlotArgPattern.TheVariants.{KeysOnly, KeyValuePairs, KeysAndLastArg, KeyWithTwoArgTriples}
 use Rattle.cluster_slots.specs.contracts.arg_pattern.MultiSlotArgPatternPartialEq.TheImpl as pattern_eq
 use Rattle.redis_routing.specs.Registry.{Registrations, Registered}
-use Rattle.redis_routing.specs.SameRegistrations.{pattern_place, policy_place, operation_place, same_policy, same_row, same_registrations}
+use Rattle.redis_routing.specs.SameRegistrations.{pattern_place, same_policy, same_row, same_registrations}
 use Rattle.redis_routing.specs.declared.policy.ResponsePolicy.{ResponsePolicy}
 use Rattle.redis_routing.specs.declared.policy.ResponsePolicy.TheVariants.{OneSucceeded, FirstSucceededNonEmptyOrAllEmpty, AllSucceeded, AggregateLogical, Aggregate, CombineArrays, Special, CombineMaps}
 use Rattle.redis_routing.specs.contracts.policy.ResponsePolicyPartialEq.TheImpl as policy_eq
@@ -67,9 +68,7 @@ pattern-Decides : (a b : MultiSlotArgPattern) → Decides (nat_eq (pattern_place
 pattern-Decides a b = (pattern_at_place a b, λ same. (Decides-eqb (pattern_place a) (pattern_place b)).1 (ap pattern_place same))
 
 at_places : (a b : ResponsePolicy) → a ≡ b → same_policy a b ≡ true
-at_places a b same =
-    (Decides-and _ _ (Decides-eqb (policy_place a) (policy_place b)) (Decides-eqb (operation_place a) (operation_place b))).1
-    (ap policy_place same, ap operation_place same)
+at_places a b same = grind (arith, common_steps)
 
 policy-Decides : (a b : ResponsePolicy) → Decides (same_policy a b) (a ≡ b)
 policy-Decides a b = (policy_at_place a b, at_places a b)

@@ -1,5 +1,5 @@
 -- A binary search in a table by ascending names.
-use Rattle.std.proofs.Common.{◌≡◌, ℕ, zero, suc, ◌<◌, ◌≤◌, List, [], ◌∷◌, true, false, None, Ordering, refl, sym, ap, ◌∙◌, arith, length, get_or, map, inl, inr, add-one}
+use Rattle.std.proofs.Common.{◌≡◌, ℕ, zero, suc, ◌<◌, ◌≤◌, List, [], ◌∷◌, true, false, None, Ordering, refl, sym, ap, ◌∙◌, arith, length, get_or, map, add-one}
 use Rattle.std.specs.Ordering.{nat_cmp, is_lt, is_eq, ordering_reverse, ordering_index}
 use Rattle.std.specs.Cmp.Lexicographic.{slice_cmp}
 use Rattle.std.specs.List.Sorted.{IsNonDecreasingBy}
@@ -52,10 +52,7 @@ module _ {X : Type 0} (key : X → List ℕ) where
       → ((k : ℕ) (d : X) → 0 ≤ k → k < i → order (key (get_or xs k d)) n ≡ Ordering.Less)
       → ((k : ℕ) (d : X) → i ≤ k → k < length xs → order (key (get_or xs k d)) n ≡ Ordering.Greater)
       → (k : ℕ) (d : X) → k < length xs → bytes_eq (key (get_or xs k d)) n ≡ false
-  apart xs n i under over k d inside = elim (cases_lt k i) [
-    | inl below ↦ tested (key (get_or xs k d)) n Ordering.Less (under k d (omega arith) below)
-    | inr at ↦ tested (key (get_or xs k d)) n Ordering.Greater (over k d at inside)
-  ]
+  apart xs n i under over k d inside = grind (arith, cases_lt, tested)
 
   module _ {A : Type 0} (value : X → A) where
     pub missing : (xs : List X) (n : List ℕ) → ((k : ℕ) (d : X) → k < length xs → bytes_eq (key (get_or xs k d)) n ≡ false) → lookup_name (map (λ x. (key x, value x)) xs) n ≡ None

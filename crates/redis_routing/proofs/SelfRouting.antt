@@ -1,13 +1,14 @@
 -- The part of each route of a split, as a command of its own, goes to that very route.
 use Rattle.std.proofs.Common.{◌≡◌, ℕ, zero, suc, ◌+◌, ◌-◌, ◌*◌, ◌%◌, ◌<◌, ◌≤◌, List, [], ◌∷◌, ◌++◌, Bool, true, false, cond, not, ◌&&◌, ◌||◌, Option, Some, None, map, option_map, length, take, drop, get_or, refl, sym, ap, ◌∙◌, arith}
 use Rattle.std.specs.Prelude.{nat_eq, nat_lt, All}
-use Rattle.std.specs.List.{filter, flat_map, list_any}
+use Rattle.std.specs.List.{flat_map, list_any}
 use Rattle.std.proofs.Math.Nat.{mul-mod_left}
-use Rattle.std.proofs.lemmas.Bool.{lt-ltb, eq-eqb, eqb-true}
+use Rattle.std.proofs.lemmas.Bool.{lt-ltb, eq-eqb}
 use Rattle.std.proofs.lemmas.Bool.Decides.{nat_tests}
 use Rattle.std.proofs.lemmas.List.{take_at, drop_at, length-append, length-drop, length-take, length-take-le}
 use Rattle.std.proofs.lemmas.List.Elements.{All-cons, All-filter, All-head, All-map, All-tail, All-weaker}
 use Rattle.std.proofs.lemmas.Simd.{map-map}
+use Rattle.std.proofs.lemmas.Grind.{common_steps}
 use Rattle.cluster_slots.specs.KeySlot.{key_slot}
 use Rattle.cluster_slots.specs.SlotRoute.{SlotRoute}
 use Rattle.cluster_slots.specs.ArgPattern.{fits, is_complete, tuple_args_count, width_of}
@@ -24,7 +25,7 @@ use Rattle.redis_routing.specs.PresentArguments.{arguments_before_gap, present_a
 use Rattle.redis_routing.specs.Registry.{tables_with}
 use Rattle.redis_routing.specs.Tuples.{Tuple, keys_alone, keys_and_two, keys_and_values, shared_in, tuples_from, tuples_in, arguments_of}
 use Rattle.redis_routing.specs.Parts.{first_appearances, tuples_in_slot, part_of_slot, arguments_in_slot, slot_of}
-use Rattle.redis_routing.specs.Routing.{routing_by, nodes_for, route_of_slot, routes_of, routing, routing_by_name, routing_of_routes, to_slots}
+use Rattle.redis_routing.specs.Routing.{nodes_for, route_of_slot, routes_of, routing, to_slots}
 use Rattle.redis_routing.specs.RoutingInfo.{single_node, specific_node}
 use Rattle.redis_routing.specs.Laws.{ArePartsRouted}
 use Rattle.redis_routing.specs.declared.policy.ResponsePolicy.{ResponsePolicy}
@@ -32,7 +33,7 @@ use Rattle.redis_routing.specs.declared.route_by.RouteBy.{RouteBy}
 use Rattle.redis_routing.specs.declared.route_by.RouteBy.TheVariants as route_by
 use Rattle.redis_routing.proofs.CommandNames.{words_again, words_alone}
 use Rattle.redis_routing.proofs.Rows.{each_row}
-use Rattle.resp_core.proofs.Cases.{by_test, or_second}
+use Rattle.resp_core.proofs.Cases.{or_second}
 
 -- a name of one word, to which no second one belongs
 abbrev is_plain : List ℕ → Bool
@@ -46,20 +47,9 @@ each_plain : (name : List ℕ) → plain_if_split name (base_routing name) ≡ t
 unfolding base_routing takes_second
 each_plain name = each_row plain_if_split (λ n. refl) base_routings refl name
 
-space_between : (first second : List ℕ) → list_any (nat_eq 32) (first ++ 32 ∷ second) ≡ true
-space_between [] second = refl
-space_between (c ∷ first) second = or_second (nat_eq 32 c) _ (space_between first second)
-
-not_plain : (first : List ℕ) (second : Option (List ℕ)) → takes_second first ≡ true → is_plain (name_by first second) ≡ false
-not_plain first None takes = rw takes refl
-not_plain first (Some second) takes = rw takes (ap not (or_second (takes_second (first ++ 32 ∷ second)) _ (space_between first second)))
-
 -- no second word belongs to the first one of a plain name
 takes_none : (first : List ℕ) (second : Option (List ℕ)) → is_plain (name_by first second) ≡ true → takes_second first ≡ false
-takes_none first second plain =
-    by_test (takes_second first)
-    (λ takes. absurd (cc (plain, not_plain first second takes)))
-    (λ takes. takes)
+takes_none first second plain = grind (arith, common_steps)
 
 -- the name of a command that splits under the tables takes its first word alone
 pub table_words : (args : Arguments) (name : List ℕ) (pattern : MultiSlotArgPattern) → Some name ≡ command_name args → base_routing name ≡ Some (route_by.MultiSlot pattern) → name_words_of args ≡ 1
@@ -75,20 +65,10 @@ pub arguments_before_gap-map : (words : List (List ℕ)) → arguments_before_ga
 arguments_before_gap-map [] = refl
 arguments_before_gap-map (word ∷ words) = ap (λ ws. word ∷ ws) (arguments_before_gap-map words)
 
-first_again : (slot : ℕ) (more : Bool) → slot ∷ filter (λ n. not (nat_eq slot n)) (cond more (slot ∷ []) []) ≡ slot ∷ []
-first_again slot true = rw (eq-eqb slot slot refl) refl
-first_again slot false = refl
-
 -- a part has one slot, unless it is empty
 first_appearances-part : (slot : ℕ) (ts : List Tuple) → first_appearances (map slot_of (tuples_in_slot slot ts)) ≡ cond (list_any (λ t. nat_eq (slot_of t) slot) ts) (slot ∷ []) []
 first_appearances-part slot [] = refl
-first_appearances-part slot (t ∷ ts) =
-    by_test (nat_eq (slot_of t) slot)
-    (λ here. let same : slot_of t ≡ slot = eqb-true (slot_of t) slot here in
-    rw here (ap (λ ns. slot_of t ∷ filter (λ n. not (nat_eq (slot_of t) n)) ns) (first_appearances-part slot ts)
-    ∙ ap (λ k. k ∷ filter (λ n. not (nat_eq k n)) (cond (list_any (λ u. nat_eq (slot_of u) slot) ts) (slot ∷ []) [])) same
-    ∙ first_again slot (list_any (λ u. nat_eq (slot_of u) slot) ts)))
-    (λ other. rw other (first_appearances-part slot ts))
+first_appearances-part slot (t ∷ ts) = grind (arith, common_steps, first_appearances-part slot ts)
 
 some_tuple : (slot : ℕ) (ts : List Tuple) → first_appearances (map slot_of ts) ≡ slot ∷ [] → 0 < length ts
 some_tuple slot [] h = cc h
@@ -111,36 +91,20 @@ record IsWhole (make : ℕ → List (List ℕ) → List Tuple) (width bound : �
 wider : (make : ℕ → List (List ℕ) → List Tuple) (width bound other : ℕ) (ts : List Tuple) → bound ≤ other → IsWhole make width bound ts → IsWhole make width other ts
 wider make width bound other ts within whole = record { tuples = whole.tuples; size = whole.size; few = omega (arith, whole.few) }
 
--- a part keeps a tuple or drops it
-with_or_without : (P : List Tuple → Type 0) (slot : ℕ) (t : Tuple) (ts : List Tuple) → P (tuples_in_slot slot ts) → P (t ∷ tuples_in_slot slot ts) → P (tuples_in_slot slot (t ∷ ts))
-with_or_without P slot t ts dropped kept = by_test (nat_eq (slot_of t) slot) (λ here. rw here kept) (λ other. rw other dropped)
-
 whole_alone : (slot place : ℕ) (present : List (List ℕ)) → IsWhole keys_alone 1 (length present) (tuples_in_slot slot (keys_alone place present))
 whole_alone slot place [] = record { tuples = λ p. refl; size = refl; few = omega arith }
-whole_alone slot place (key ∷ present) =
-    let rest = whole_alone slot (place + 1) present in
-    with_or_without (IsWhole keys_alone 1 (suc (length present))) slot (record { place = place; key = key; extras = [] }) (keys_alone (place + 1) present)
-    (wider keys_alone 1 (length present) (suc (length present)) _ (omega arith) rest)
-    (record { tuples = λ p. ap (λ us. (key, []) ∷ us) (rest.tuples (p + 1)); size = omega (arith, rest.size); few = omega (arith, rest.few) })
+whole_alone slot place (key ∷ present) = grind (arith, common_steps, whole_alone slot (place + 1) present)
 
 whole_values : (slot place : ℕ) (present : List (List ℕ)) → IsWhole keys_and_values 2 (length present) (tuples_in_slot slot (keys_and_values place present))
 whole_values slot place [] = record { tuples = λ p. refl; size = refl; few = omega arith }
 whole_values slot place (key ∷ []) = record { tuples = λ p. refl; size = refl; few = omega arith }
-whole_values slot place (key ∷ value ∷ present) =
-    let rest = whole_values slot (place + 2) present in
-    with_or_without (IsWhole keys_and_values 2 (suc (suc (length present)))) slot (record { place = place; key = key; extras = value ∷ [] }) (keys_and_values (place + 2) present)
-    (wider keys_and_values 2 (length present) (suc (suc (length present))) _ (omega arith) rest)
-    (record { tuples = λ p. ap (λ us. (key, value ∷ []) ∷ us) (rest.tuples (p + 2)); size = omega (arith, rest.size); few = omega (arith, rest.few) })
+whole_values slot place (key ∷ value ∷ present) = grind (arith, common_steps, whole_values slot (place + 2) present)
 
 whole_two : (slot place : ℕ) (present : List (List ℕ)) → IsWhole keys_and_two 3 (length present) (tuples_in_slot slot (keys_and_two place present))
 whole_two slot place [] = record { tuples = λ p. refl; size = refl; few = omega arith }
 whole_two slot place (key ∷ []) = record { tuples = λ p. refl; size = refl; few = omega arith }
 whole_two slot place (key ∷ a ∷ []) = record { tuples = λ p. refl; size = refl; few = omega arith }
-whole_two slot place (key ∷ a ∷ b ∷ present) =
-    let rest = whole_two slot (place + 3) present in
-    with_or_without (IsWhole keys_and_two 3 (suc (suc (suc (length present))))) slot (record { place = place; key = key; extras = a ∷ b ∷ [] }) (keys_and_two (place + 3) present)
-    (wider keys_and_two 3 (length present) (suc (suc (suc (length present)))) _ (omega arith) rest)
-    (record { tuples = λ p. ap (λ us. (key, a ∷ b ∷ []) ∷ us) (rest.tuples (p + 3)); size = omega (arith, rest.size); few = omega (arith, rest.few) })
+whole_two slot place (key ∷ a ∷ b ∷ present) = grind (arith, common_steps, whole_two slot (place + 3) present)
 
 whole : (pattern : MultiSlotArgPattern) (slot place : ℕ) (present : List (List ℕ)) → IsWhole (tuples_from pattern) (width_of pattern) (length present) (tuples_in_slot slot (tuples_from pattern place present))
 whole KeysOnly slot place present = whole_alone slot place present
@@ -189,16 +153,11 @@ module _ (pattern : MultiSlotArgPattern) (present : List (List ℕ)) (slot : ℕ
   length-part_arguments = length-append (flat_map arguments_of slot_tuples) (shared_in pattern present) ∙ ap (λ n. n + length (shared_in pattern present)) whole_part.size ∙ ap (λ n. length slot_tuples * width_of pattern + n) (length-drop (tuple_args_count pattern (length present)) present)
 
   own-part_arguments : tuple_args_count pattern (length part_arguments) ≡ length (flat_map arguments_of slot_tuples)
-  own-part_arguments =
-      ap (tuple_args_count pattern) length-part_arguments
-      ∙ own_again pattern (length present) (length slot_tuples) (some_tuple slot slot_tuples one_slot) (omega (arith, whole_part.few, length-take (tuple_args_count pattern (length present)) present))
-      ∙ sym whole_part.size
+  own-part_arguments = grind (arith, length-part_arguments, own_again, some_tuple, one_slot, whole_part, length-take)
 
   -- the tuples of the part by itself have the contents of the slot's
   pub tuples_again : map content (tuples_in pattern part_arguments) ≡ map content slot_tuples
-  tuples_again =
-      ap (λ own. map content (tuples_from pattern 0 own)) (take_at (flat_map arguments_of slot_tuples) (shared_in pattern present) (tuple_args_count pattern (length part_arguments)) (sym own-part_arguments))
-      ∙ whole_part.tuples 0
+  tuples_again = grind (arith, take_at, own-part_arguments, whole_part)
 
   -- what all its tuples share is what all tuples of the command share
   pub shared_again : shared_in pattern part_arguments ≡ shared_in pattern present
@@ -212,9 +171,7 @@ module _ (pattern : MultiSlotArgPattern) (present : List (List ℕ)) (slot : ℕ
   one_slot_again = ap first_appearances (same_contents (λ u. key_slot u.0) (tuples_in pattern part_arguments) slot_tuples tuples_again) ∙ one_slot
 
   part_to_slot : (reads : Bool) (policy : Option ResponsePolicy) → to_slots reads policy pattern part_arguments ≡ Some (single_node (specific_node (record { slot = slot; addr = nodes_for reads })))
-  part_to_slot reads policy =
-      ap (λ b. cond b (Some (routing_of_routes pattern policy (routes_of reads pattern part_arguments))) None) (ap (fits pattern) length-part_arguments ∙ fits_again pattern (length present) (length slot_tuples) (some_tuple slot slot_tuples one_slot))
-      ∙ ap (λ slots. Some (routing_of_routes pattern policy (map (route_of_slot reads pattern part_arguments) slots))) one_slot_again
+  part_to_slot reads policy = grind (arith, length-part_arguments, fits_again, some_tuple, one_slot, one_slot_again)
 
 -- each of some things is one of those with its number
 pub all_there : {X : Type 0} (number : X → ℕ) (xs : List X) → All (λ x. list_any (λ y. nat_eq (number y) (number x)) xs ≡ true) xs
@@ -248,14 +205,7 @@ module _ (names : Names) (args : Arguments) (name : List ℕ) (pattern : MultiSl
 
   part_routed : (slot : ℕ) → list_any (λ t. nat_eq (slot_of t) slot) (tuples_in pattern present) ≡ true
       → routing names (part_of_slot pattern args slot) ≡ Some (single_node (specific_node (record { slot = slot; addr = nodes_for (names.only_reads name) })))
-  part_routed slot there =
-      let texts : List (List ℕ) = arguments_in_slot pattern present slot in
-      let as_command : Arguments = part_of_slot pattern args slot in
-      let some : 0 < length present = fits_some pattern (length present) fit in
-      ap (routing_by_name names as_command) ((words_again args some (map Some texts)).0 ∙ named)
-      ∙ ap (routing_by policy (names.only_reads name) as_command) route_by_is
-      ∙ ap (to_slots (names.only_reads name) policy pattern) (present_arguments-part args texts some)
-      ∙ part_to_slot pattern present slot there (names.only_reads name) policy
+  part_routed slot there = grind (arith, fits_some, words_again, present_arguments-part, part_to_slot)
 
   pub parts_routed : ArePartsRouted names args pattern (routes_of (names.only_reads name) pattern present)
   parts_routed =

@@ -1,6 +1,7 @@
 -- The laws of split commands, for whatever a command is routed to.
-use Rattle.std.proofs.Common.{◌≡◌, ℕ, zero, suc, List, [], ◌∷◌, Bool, true, Option, None, Some, length, refl, sym, ap, ◌∙◌, subst}
+use Rattle.std.proofs.Common.{◌≡◌, ℕ, zero, suc, List, [], ◌∷◌, Bool, true, Option, None, Some, length, refl, sym, ap, ◌∙◌, subst, arith}
 use Rattle.std.specs.Prelude.{nat_lt}
+use Rattle.std.proofs.lemmas.Grind.{common_steps}
 use Rattle.cluster_slots.specs.SlotRoute.{SlotRoute}
 use Rattle.cluster_slots.specs.ArgPattern.{fits}
 use Rattle.cluster_slots.specs.declared.arg_pattern.MultiSlotArgPattern.{MultiSlotArgPattern}
@@ -10,15 +11,13 @@ use Rattle.redis_routing.specs.Names.{Names}
 use Rattle.redis_routing.specs.NameWords.{name_words_of}
 use Rattle.redis_routing.specs.Policies.{policy_of}
 use Rattle.redis_routing.specs.Registry.{tables_with}
-use Rattle.redis_routing.specs.Routing.{to_key, by_count, to_key_or_any, to_key_after, to_slot, routes_of, routing_of_routes, to_slots, routing, routing_by, routing_by_name, argument_number}
+use Rattle.redis_routing.specs.Routing.{to_key, by_count, to_key_or_any, to_key_after, to_slot, routes_of, to_slots, routing, routing_by, routing_by_name, argument_number}
 use Rattle.redis_routing.specs.PresentArguments.{present_arguments}
 use Rattle.redis_routing.specs.RouteBy.{base_routing}
 use Rattle.redis_routing.specs.declared.policy.ResponsePolicy.{ResponsePolicy}
 use Rattle.redis_routing.specs.declared.route_by.RouteBy.{RouteBy}
 use Rattle.redis_routing.specs.declared.route_by.RouteBy.TheVariants as route_by
-use Rattle.redis_routing.specs.NameTables.{NameTables}
 use Rattle.redis_routing.proofs.CommandNames.{has_words}
-use Rattle.redis_routing.proofs.TableRows.{tables_with-empty}
 use Rattle.redis_routing.proofs.Cover.{covers}
 use Rattle.redis_routing.proofs.Picks.{parts_picked}
 use Rattle.redis_routing.proofs.SelfRouting.{parts_routed, table_words}
@@ -47,15 +46,8 @@ module _ (P : MultiSlotArgPattern → List (SlotRoute × List ℕ) → Type 0) (
   of_slot None = tt
   of_slot (Some n) = by_test (nat_lt n 16384) (λ h. rw h tt) (λ h. rw h tt)
 
-  of_parts : (pattern : MultiSlotArgPattern) (policy : Option ResponsePolicy) (routes : List (SlotRoute × List ℕ)) → P pattern routes → IfSplit P (Some (routing_of_routes pattern policy routes))
-  of_parts pattern policy [] h = h
-  of_parts pattern policy (only ∷ []) h = tt
-  of_parts pattern policy (route ∷ other ∷ routes) h = h
-
   of_slots : (pattern : MultiSlotArgPattern) → (fits pattern (length (present_arguments args)) ≡ true → P pattern (routes_of reads pattern (present_arguments args))) → IfSplit P (to_slots reads policy pattern (present_arguments args))
-  of_slots pattern h = by_test (fits pattern (length (present_arguments args)))
-      (λ whole. rw whole (of_parts pattern policy (routes_of reads pattern (present_arguments args)) (h whole)))
-      (λ broken. rw broken tt)
+  of_slots pattern h = grind (arith, common_steps)
 
   of_route_by : (w : Option RouteBy) → ((pattern : MultiSlotArgPattern) → w ≡ Some (route_by.MultiSlot pattern) → fits pattern (length (present_arguments args)) ≡ true → P pattern (routes_of reads pattern (present_arguments args))) → IfSplit P (routing_by policy reads args w)
   of_route_by None h = of_key_or_any _
@@ -97,9 +89,7 @@ module _ (names : Names) (args : Arguments) (name : List ℕ) (named : Some name
 
   -- the parts by their places
   pub split_picked : IfSplit (λ pattern routes. ArePartsPicked args pattern routes) (routing names args)
-  split_picked =
-      subst (IfSplit (λ pattern routes. ArePartsPicked args pattern routes)) routed_by_name
-      (of_route_by (λ pattern routes. ArePartsPicked args pattern routes) args reads policy way (λ pattern is whole. parts_picked args reads pattern (has_words args name named) whole))
+  split_picked = grind (arith, routed_by_name, of_route_by, parts_picked, has_words)
 
 -- the names that the tables split have one word
 pub table_name_words : (only_reads : List ℕ → Bool) (args : Arguments) (name : List ℕ) → Some name ≡ command_name args → IfSplit (λ pattern routes. name_words_of args ≡ 1) (routing_by (policy_of name) (only_reads name) args (base_routing name))
@@ -107,14 +97,11 @@ table_name_words only_reads args name named = of_route_by (λ pattern routes. na
 
 -- where a command goes by the tables, without a registry
 pub table_routing : (only_reads : List ℕ → Bool) (args : Arguments) (name : List ℕ) → Some name ≡ command_name args → routing_by (policy_of name) (only_reads name) args (base_routing name) ≡ routing (record { only_reads = only_reads; registered = [] }) args
-table_routing only_reads args name named =
-    ap (λ (t : NameTables). routing_by (t.policy name) (only_reads name) args (t.route_by name)) (sym tables_with-empty)
-    ∙ ap (routing_by_name (record { only_reads = only_reads; registered = [] }) args) named
+table_routing only_reads args name named = grind (arith, common_steps)
 
 -- so it is where no name is registered
 pub split_words : (only_reads : List ℕ → Bool) (args : Arguments) (name : List ℕ) → Some name ≡ command_name args → IfSplit (λ pattern routes. name_words_of args ≡ 1) (routing (record { only_reads = only_reads; registered = [] }) args)
-split_words only_reads args name named =
-    subst (IfSplit (λ pattern routes. name_words_of args ≡ 1)) (table_routing only_reads args name named) (table_name_words only_reads args name named)
+split_words only_reads args name named = grind (arith, table_routing, table_name_words)
 
 -- a fact of the routes of a split is one of every command, since a command without a name is not split
 pub of_any_name : (P : MultiSlotArgPattern → List (SlotRoute × List ℕ) → Type 0) (names : Names) (args : Arguments)

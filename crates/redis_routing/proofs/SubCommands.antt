@@ -1,6 +1,7 @@
 -- A sub-command as far as it is made.
 use Rattle.std.proofs.Common.{◌≡◌, ℕ, zero, suc, ◌<◌, ◌+◌, ◌-◌, List, [], ◌∷◌, ◌++◌, Option, None, Some, map, option_map, refl, sym, ap, ◌∙◌, arith}
 use Rattle.std.specs.List.{range_with_len}
+use Rattle.std.proofs.lemmas.Grind.{common_steps}
 use Rattle.redis_routing.specs.Command.{Arguments, argument}
 use Rattle.cluster_slots.specs.Lists.{all_some}
 use Rattle.redis_routing.specs.SubCommand.{bytes_in, text_len}
@@ -20,9 +21,7 @@ name_more args words place texts text inside is =
 -- the bytes of one word of the name more
 pub name_bytes_more : (args : Arguments) (words place : ℕ) → place < words
     → bytes_in (map (λ i. argument args i) (range_with_len place (words - place))) ≡ text_len (argument args place) + bytes_in (map (λ i. argument args i) (range_with_len (place + 1) (words - (place + 1))))
-name_bytes_more args words place inside =
-    let e : words - place ≡ suc (words - (place + 1)) = omega (arith, inside) in
-    ap (λ n. bytes_in (map (λ i. argument args i) (range_with_len place n))) e
+name_bytes_more args words place inside = grind (arith, suc)
 
 -- texts and others after them, if all are there
 abbrev both : Option (List (List ℕ)) → Option (List (List ℕ)) → Option (List (List ℕ))
@@ -54,9 +53,7 @@ gap_after None rest gap = refl
 gap_after (Some text) rest gap = ap (option_map (λ texts. text ∷ texts)) gap
 
 last_gap : (args : Arguments) (start n : ℕ) → argument args (start + n) ≡ None → all_some (map (λ place. argument args place) (range_with_len start (suc n))) ≡ None
-last_gap args start zero gap =
-    let here : argument args start ≡ None = ap (argument args) (omega arith) ∙ gap in
-    ap (λ a. all_some (a ∷ [])) here
+last_gap args start zero gap = grind (arith, common_steps)
 last_gap args start (suc n) gap =
     let there : argument args ((start + 1) + n) ≡ None = ap (argument args) (omega arith) ∙ gap in
     gap_after (argument args start) (map (λ place. argument args place) (range_with_len (start + 1) (suc n))) (last_gap args (start + 1) n there)

@@ -1,5 +1,5 @@
 -- The tables in the code have the rows of those in specs/.
-use Rattle.std.proofs.Common.{◌≡◌, ℕ, List, [], Option, None, Some, refl, sym, ◌∙◌, map}
+use Rattle.std.proofs.Common.{◌≡◌, ℕ, List, [], Option, None, Some, refl, sym, ◌∙◌, map, arith}
 use Rattle.std.proofs.Math.Path.{fun_ext}
 use Rattle.std.specs.Prelude.{option_and_then}
 use Rattle.redis_routing.specs.Lookup.{lookup_name, has_name}
@@ -47,7 +47,4 @@ policy_unregistered name = policy_alone (base_routing name) (policy_of name) (po
 
 -- an empty registry leaves the project's own tables
 pub tables_with-empty : tables_with [] ≡ default_tables
-tables_with-empty =
-    let routings : (λ name. routing_or (base_routing name) None) ≡ base_routing = fun_ext (λ name. routing_alone (base_routing name)) in
-    let policies : (λ name. policy_or (base_routing name) (policy_of name) None) ≡ policy_of = fun_ext policy_unregistered in
-    λ i. record { route_by = routings i; policy = policies i }
+tables_with-empty = grind (arith, fun_ext, routing_alone, policy_unregistered)

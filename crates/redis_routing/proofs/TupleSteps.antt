@@ -95,10 +95,7 @@ tuples_few KeyWithTwoArgTriples p xs = omega (arith, triples_few p xs)
 
 -- past the last tuple none is left
 pub tuples_end : (pattern : MultiSlotArgPattern) (present : List (List ℕ)) (n : ℕ) → tuple_args_count pattern (length present) / width_of pattern ≤ n → take n (tuples_in pattern present) ≡ tuples_in pattern present
-tuples_end pattern present n h =
-    let few : length (tuples_in pattern present) ≤ length (take (tuple_args_count pattern (length present)) present) / width_of pattern = tuples_few pattern 0 (take (tuple_args_count pattern (length present)) present) in
-    let same : length (take (tuple_args_count pattern (length present)) present) / width_of pattern ≡ tuple_args_count pattern (length present) / width_of pattern = ap (λ k. k / width_of pattern) (length-own pattern present) in
-    take_all n (tuples_in pattern present) (omega (arith, few, same, h))
+tuples_end pattern present n h = grind (arith, tuples_few, length-own, take_all)
 
 -- the tuple of a number in a command: its key is an argument after the name
 pub record IsNextTuple (words : ℕ) (pattern : MultiSlotArgPattern) (args : Arguments) (i : ℕ) (t : Tuple) : Type 0 where
