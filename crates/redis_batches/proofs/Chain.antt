@@ -13,14 +13,16 @@ use Rattle.redis_cluster.specs.Unsplit.{Step, Keyspace}
 use Rattle.redis_batches.specs.Batched.{put_at}
 use Rattle.redis_batches.specs.Driven.{Grew, HaveAnswered}
 use Rattle.redis_batches.specs.DrivenPipeline.{IsBeforeSending}
-use Rattle.redis_batches.specs.InRounds.{AreSentAgain, IsAgainFault, Stands, fault_behind}
-use Rattle.redis_batches.specs.Outgoing.{ArePutAt, GoesBehind, IsNextFault, IsNextServed}
+use Rattle.redis_batches.specs.Frame.{SameNodes}
+use Rattle.redis_batches.specs.InRounds.{AreSentAgain, IsAgainFault, Stands, WereSentAgain, fault_behind}
+use Rattle.redis_batches.specs.Outgoing.{ArePutAt, GoesBehind, IsNextFault, IsNextSent, IsNextServed}
 use Rattle.redis_batches.specs.Pipeline.{Answer, AreSlotsOf, Numbered, Planned, Refusals, Serve, ended, numbered, slot_of}
 use Rattle.redis_batches.specs.Rounds.{AreRounds, AreSentOn, Follows, IsLast, IsRoundServed, IsRoundStopped, IsSentOn, Round, StaysHere, after_rounds, batch_after, batches_before, go_on, last_round, latest_answers, round_answers, round_batches}
 use Rattle.redis_batches.specs.Sent.{AreLast}
-use Rattle.redis_batches.specs.Taken.{Batch, answer_of}
+use Rattle.redis_batches.specs.Taken.{answer_of}
 use Rattle.redis_batches.specs.Turns.{all_after, answers}
 use Rattle.redis_batches.specs.declared.going.Outgoing.{Outgoing}
+use Rattle.redis_batches.specs.declared.nodes.BatchNodes.{Ghosts}
 use Rattle.redis_batches.specs.declared.send.Stopped.{Stopped}
 use Rattle.redis_batches.proofs.Again.{IsRefusedBy, from_all, put_back, replies_for, round_leaves, same_sent, after_round}
 use Rattle.redis_batches.proofs.Alone.{IsOwnPart, alone_answers, alone_leaves, numbered_own}
@@ -112,57 +114,35 @@ module _ {C : Type 0} (step : Step C) (serve : Serve C) (registered : Registrati
   rounds_more kept may round (r ∷ rounds) next old now new are follows served =
       (are.0, are.1, are.2, rounds_more kept may r rounds next are.1 now new are.3 follows served)
 
-  pub next_wider : (kept : Type 0) → (may wide : ℕ → Ending → Type 0) → ((count : ℕ) (ending : Ending) → may count ending → wide count ending) → (ps : List Planned) (round : Round) (old new : State C) (asked_old asked_new : List Batch → Type 0)
-      (gave_old gave_new : List (List Answer) → Type 0) (before after : List (Result Value ErrorParts)) (out : Outgoing) → IsNextServed step serve kept may registered arguments ps round old new asked_old asked_new gave_old gave_new before after out
-      → IsNextServed step serve kept wide registered arguments ps round old new asked_old asked_new gave_old gave_new before after out
-  next_wider kept may wide more ps round old new asked_old asked_new gave_old gave_new before after out is = record {
-    next = is.next;
-    follows = is.follows;
-    served = round_wider kept kept (λ keep. keep) may wide more is.next old new is.served;
-    asked = is.asked;
-    gave = is.gave;
-    replies = is.replies;
-    put = is.put;
-    behind = is.behind;
-  }
+-- what was served or stopped since then, as counted from before
+module _ {S : Type 0} (N : Ghosts S) (old now new : S) (frame : SameNodes N old now) (arguments : List (List (List ℕ))) where
+  more : (count : ℕ) (ending : Ending) → N.may_refuse now count ending → N.may_refuse old count ending
+  more count ending = (frame.may_refuse count ending).0
 
-  pub fault_wider : (kept : Type 0) → (may wide : ℕ → Ending → Type 0) → ((count : ℕ) (ending : Ending) → may count ending → wide count ending) → (ps : List Planned) (round : Round) (old new : State C) (asked_old asked_new : List Batch → Type 0) (gave_old gave_new : List (List Answer) → Type 0) (error : PipelineError)
-      → IsNextFault step serve kept may registered arguments ps round old new asked_old asked_new gave_old gave_new error → IsNextFault step serve kept wide registered arguments ps round old new asked_old asked_new gave_old gave_new error
-  fault_wider kept may wide more ps round old new asked_old asked_new gave_old gave_new (driven.Plan fault) is = is
-  fault_wider kept may wide more ps round old new asked_old asked_new gave_old gave_new driven.BadOrder is = is
-  fault_wider kept may wide more ps round old new asked_old asked_new gave_old gave_new (driven.Node stop) is = (is.0, is.1, stopped_wider kept may wide more is.0 old new stop is.2, is.3, is.4)
-  fault_wider kept may wide more ps round old new asked_old asked_new gave_old gave_new driven.Memory (inl same) = inl same
-  fault_wider kept may wide more ps round old new asked_old asked_new gave_old gave_new driven.Memory (inr is) = inr (is.0, is.1, round_wider kept kept (λ keep. keep) may wide more is.0 old new is.2, is.3, is.4)
+  pub round_since : (round : Round) (from to : State N.Cell) → IsRoundServed N.step N.serve (N.kept new) (N.may_refuse now) (N.registered now) arguments round from to
+      → IsRoundServed N.step N.serve (N.kept new) (N.may_refuse old) (N.registered old) arguments round from to
+  round_since round from to is =
+      round_wider N.step N.serve (N.registered old) arguments (N.kept new) (N.kept new) (λ keep. keep) (N.may_refuse now) (N.may_refuse old) more round from to
+      (subst (λ r. IsRoundServed N.step N.serve (N.kept new) (N.may_refuse now) r arguments round from to) frame.registered is)
 
-  pub again_wider : (kept : Type 0) → (may wide : ℕ → Ending → Type 0) → ((count : ℕ) (ending : Ending) → may count ending → wide count ending) → (ps : List Planned) (round : Round) (retries : ℕ) (old new : State C) (asked_old asked_new : List Batch → Type 0)
-      (gave_old gave_new : List (List Answer) → Type 0) (before after : List (Result Value ErrorParts)) → AreSentAgain step serve kept may registered arguments ps round retries old new asked_old asked_new gave_old gave_new before after
-      → AreSentAgain step serve kept wide registered arguments ps round retries old new asked_old asked_new gave_old gave_new before after
-  again_wider kept may wide more ps round retries old new asked_old asked_new gave_old gave_new before after is = record {
-    rounds = is.rounds;
-    few = is.few;
-    again = rounds_wider kept kept (λ keep. keep) may wide more round is.rounds old new is.again;
-    asked = is.asked;
-    gave = is.gave;
-    done = is.done;
-    latest = is.latest;
-    as_one = is.as_one;
-  }
+  pub rounds_since : (round : Round) (rounds : List Round) (from to : State N.Cell) → AreRounds N.step N.serve (N.kept new) (N.may_refuse now) (N.registered now) arguments round rounds from to
+      → AreRounds N.step N.serve (N.kept new) (N.may_refuse old) (N.registered old) arguments round rounds from to
+  rounds_since round [] from to are = are
+  rounds_since round (next ∷ rounds) from to are = (are.0, are.1, round_since next from are.1 are.2, rounds_since next rounds are.1 to are.3)
 
-  pub again_fault_wider : (kept : Type 0) → (may wide : ℕ → Ending → Type 0) → ((count : ℕ) (ending : Ending) → may count ending → wide count ending) → (ps : List Planned) (round : Round) (retries : ℕ) (old new : State C) (asked_old asked_new : List Batch → Type 0) (gave_old gave_new : List (List Answer) → Type 0) (error : PipelineError)
-      → IsAgainFault step serve kept may registered arguments ps round retries old new asked_old asked_new gave_old gave_new error → IsAgainFault step serve kept wide registered arguments ps round retries old new asked_old asked_new gave_old gave_new error
-  again_fault_wider kept may wide more ps round retries old new asked_old asked_new gave_old gave_new (driven.Plan fault) is = is
-  again_fault_wider kept may wide more ps round retries old new asked_old asked_new gave_old gave_new driven.BadOrder is = is
-  again_fault_wider kept may wide more ps round retries old new asked_old asked_new gave_old gave_new (driven.Node stop) is =
-      (is.0, is.1, is.2, rounds_wider kept kept (λ keep. keep) may wide more round is.0 old is.2 is.3, is.4, is.5, stopped_wider kept may wide more is.4 is.2 new stop is.6, is.7, is.8, is.9)
-  again_fault_wider kept may wide more ps round retries old new asked_old asked_new gave_old gave_new driven.Memory is = (is.0, is.1, rounds_wider kept kept (λ keep. keep) may wide more round is.0 old new is.2, is.3, is.4)
+  pub stopped_since : (round : Round) (from to : State N.Cell) (stop : Stopped) → IsRoundStopped N.step N.serve (N.kept new) (N.may_refuse now) (N.registered now) arguments round from to stop
+      → IsRoundStopped N.step N.serve (N.kept new) (N.may_refuse old) (N.registered old) arguments round from to stop
+  stopped_since round from to stop is =
+      stopped_wider N.step N.serve (N.registered old) arguments (N.kept new) (N.may_refuse now) (N.may_refuse old) more round from to stop
+      (subst (λ r. IsRoundStopped N.step N.serve (N.kept new) (N.may_refuse now) r arguments round from to stop) frame.registered is)
 
-  -- something was sent before
-  pub not_before : (kept : Type 0) (may : ℕ → Ending → Type 0) (ps : List Planned) (round : Round) (retries : ℕ) (old new : State C) (asked_old asked_new : List Batch → Type 0) (gave_old gave_new : List (List Answer) → Type 0) (error : PipelineError)
-      → IsAgainFault step serve kept may registered arguments ps round retries old new asked_old asked_new gave_old gave_new error → IsBeforeSending error → ⊥
-  not_before kept may ps round retries old new asked_old asked_new gave_old gave_new (driven.Plan fault) is before = is
-  not_before kept may ps round retries old new asked_old asked_new gave_old gave_new driven.BadOrder is before = is
-  not_before kept may ps round retries old new asked_old asked_new gave_old gave_new (driven.Node stop) is before = before
-  not_before kept may ps round retries old new asked_old asked_new gave_old gave_new driven.Memory is before = before
+-- something was sent before
+pub not_before : {S : Type 0} (N : Ghosts S) (old new : S) (arguments : List (List (List ℕ))) (round : Round) (retries : ℕ) (error : PipelineError)
+    → IsAgainFault N old new arguments round retries error → IsBeforeSending error → ⊥
+not_before N old new arguments round retries (driven.Plan fault) is before = is
+not_before N old new arguments round retries driven.BadOrder is before = is
+not_before N old new arguments round retries (driven.Node stop) is before = before
+not_before N old new arguments round retries driven.Memory is before = before
 
 -- the parts of a round are in front of where they were sent on to
 pub fronts_of : (round : Round) (on : List (Option Address)) → AreSentOn round on → length round.given ≡ length round.sent → map (λ (z : Numbered × Option Address). z.0) (zip round.sent on) ≡ round.sent
@@ -206,113 +186,125 @@ module _ {C : Type 0} (step : Step C) (serve : Serve C) (ps : List Planned) (are
         given_are = gives;
       }
 
-module _ {C : Type 0} (step : Step C) (serve : Serve C) (may : ℕ → Ending → Type 0) (registered : Registrations) (arguments : List (List (List ℕ))) (ps : List Planned) (round : Round) (start : State C) (asked_start : List Batch → Type 0) (gave_start : List (List Answer) → Type 0)
-    (before : List (Result Value ErrorParts)) where
+module _ {S : Type 0} (N : Ghosts S) (old : S) (arguments : List (List (List ℕ))) (ps : List Planned) (round : Round) (before : List (Result Value ErrorParts)) where
   -- so many rounds were sent, and these parts go out next
-  pub record IsSoFar (kept : Type 0) (k : ℕ) (now : State C) (asked_now : List Batch → Type 0) (gave_now : List (List Answer) → Type 0) (all : List (Result Value ErrorParts)) (out : Outgoing) : Type 0 where
+  pub record IsSoFar (k : ℕ) (now : S) (all : List (Result Value ErrorParts)) (out : Outgoing) : Type 0 where
     pub rounds : List Round
     pub many : length rounds ≡ k
-    pub again : AreRounds step serve kept may registered arguments round rounds start now
-    pub asked : Grew asked_start asked_now (flat_map round_batches rounds)
-    pub gave : Grew gave_start gave_now (flat_map round_answers rounds)
+    pub again : AreRounds N.step N.serve (N.kept now) (N.may_refuse old) (N.registered old) arguments round rounds (N.state old) (N.state now)
+    pub asked : Grew (N.asked old) (N.asked now) (flat_map round_batches rounds)
+    pub gave : Grew (N.gave old) (N.gave now) (flat_map round_answers rounds)
     pub behind : GoesBehind ps (last_round round rounds) out
     pub latest : map answer_of all ≡ latest_answers (map answer_of before) rounds
-    pub stands : kept → All (StaysHere serve) (map (λ p. p.task) ps) → (ks : Keyspace C) (refusals : Refusals) → Stands step serve ps refusals round ks start.keyspace before
-        → Stands step serve ps (after_rounds refusals rounds) (last_round round rounds) ks now.keyspace all
+    pub stands : N.kept now → All (StaysHere N.serve) (map (λ p. p.task) ps) → (ks : Keyspace N.Cell) (refusals : Refusals) → Stands N.step N.serve ps refusals round ks (N.state old).keyspace before
+        → Stands N.step N.serve ps (after_rounds refusals rounds) (last_round round rounds) ks (N.state now).keyspace all
 
-  pub none_so_far : (kept : Type 0) (out : Outgoing) → GoesBehind ps round out → IsSoFar kept 0 start asked_start gave_start before out
-  none_so_far kept out gone = record {
+  pub none_so_far : (out : Outgoing) → GoesBehind ps round out → IsSoFar 0 old before out
+  none_so_far out gone = record {
     rounds = [];
     many = refl;
     again = refl;
-    asked = asked_none asked_start;
-    gave = asked_none gave_start;
+    asked = asked_none (N.asked old);
+    gave = asked_none (N.gave old);
     behind = gone;
     latest = refl;
     stands = λ keep own ks refusals is. is;
   }
 
-  module _ (kept_then kept : Type 0) (earlier : kept → kept_then) (k : ℕ) (now new : State C) (asked_now asked_new : List Batch → Type 0) (gave_now gave_new : List (List Answer) → Type 0) (all more : List (Result Value ErrorParts)) (out later : Outgoing)
-      (so_far : IsSoFar kept_then k now asked_now gave_now all out) where
+  module _ (k : ℕ) (now new : S) (all : List (Result Value ErrorParts)) (out : Outgoing) (so_far : IsSoFar k now all out) (frame : SameNodes N old now) (one : SameNodes N now new) where
     -- the last round so far
     abbrev pub latest : Round
     latest = last_round round so_far.rounds
 
-    pub one_round_more : All (λ p. AreSlotsOf p.task p.slots) ps → (is : IsNextServed step serve kept may registered arguments ps latest now new asked_now asked_new gave_now gave_new all more later)
-        → map (λ z. z.0) (zip latest.sent is.follows.on) ≡ latest.sent → IsSoFar kept (k + 1) new asked_new gave_new more later
-    one_round_more are is fronts =
-        let longer : List Round = so_far.rounds ++ is.next ∷ [] in
+    were : AreRounds N.step N.serve (N.kept new) (N.may_refuse old) (N.registered old) arguments round so_far.rounds (N.state old) (N.state now)
+    were = rounds_wider N.step N.serve (N.registered old) arguments (N.kept now) (N.kept new) one.kept (N.may_refuse old) (N.may_refuse old) (λ count ending may. may) round so_far.rounds (N.state old) (N.state now) so_far.again
+
+    -- one more was sent
+    module _ (is : IsNextSent N now new arguments latest) where
+      abbrev longer : List Round
+      longer = so_far.rounds ++ is.next ∷ []
+
+      again_more : AreRounds N.step N.serve (N.kept new) (N.may_refuse old) (N.registered old) arguments round longer (N.state old) (N.state new)
+      again_more = rounds_more N.step N.serve (N.registered old) arguments (N.kept new) (N.may_refuse old) round so_far.rounds is.next (N.state old) (N.state now) (N.state new) were is.follows
+          (round_since N old now new frame arguments is.next (N.state now) (N.state new) is.served)
+
+      grew_more : {X : Type 0} (f : Round → List X) (start middle end : List X → Type 0) → Grew start middle (flat_map f so_far.rounds) → Grew middle end (f is.next) → Grew start end (flat_map f longer)
+      grew_more f start middle end first then = subst (Grew start end) (sym (one_more f so_far.rounds is.next)) (asked_more start middle end (flat_map f so_far.rounds) (f is.next) first then)
+
+      asked_longer : Grew (N.asked old) (N.asked new) (flat_map round_batches longer)
+      asked_longer = grew_more round_batches (N.asked old) (N.asked now) (N.asked new) so_far.asked is.asked
+
+      gave_longer : Grew (N.gave old) (N.gave new) (flat_map round_answers longer)
+      gave_longer = grew_more round_answers (N.gave old) (N.gave now) (N.gave new) so_far.gave is.gave
+
+    pub one_round_more : All (λ p. AreSlotsOf p.task p.slots) ps → (more : List (Result Value ErrorParts)) (later : Outgoing) → IsNextServed N now new arguments latest ps all more later → IsSoFar (k + 1) new more later
+    one_round_more are more later served =
+        let is = served.sent in
         let last = last_more round so_far.rounds is.next in
         record {
-          rounds = longer;
+          rounds = longer is;
           many = length_push so_far.rounds is.next ∙ ap (λ n. n + 1) so_far.many;
-          again = rounds_more step serve registered arguments kept may round so_far.rounds is.next start now new
-              (rounds_wider step serve registered arguments kept_then kept earlier may may (λ count ending is. is) round so_far.rounds start now so_far.again) is.follows is.served;
-          asked = subst (Grew asked_start asked_new) (sym (one_more round_batches so_far.rounds is.next)) (asked_more asked_start asked_now asked_new (flat_map round_batches so_far.rounds) (round_batches is.next) so_far.asked is.asked);
-          gave = subst (Grew gave_start gave_new) (sym (one_more round_answers so_far.rounds is.next)) (asked_more gave_start gave_now gave_new (flat_map round_answers so_far.rounds) (round_answers is.next) so_far.gave is.gave);
-          behind = subst (λ r. GoesBehind ps r later) (sym last) is.behind;
-          latest = is.put.all_are ∙ ap (λ l. put_at l (map (λ (x : Numbered). x.0) is.next.sent) is.next.given) so_far.latest ∙ sym (latest_more (map answer_of before) so_far.rounds is.next);
+          again = again_more is;
+          asked = asked_longer is;
+          gave = gave_longer is;
+          behind = subst (λ r. GoesBehind ps r later) (sym last) served.behind;
+          latest = served.put.all_are ∙ ap (λ l. put_at l (map (λ (x : Numbered). x.0) is.next.sent) is.next.given) so_far.latest ∙ sym (latest_more (map answer_of before) so_far.rounds is.next);
           stands = λ keep own ks refusals was.
-              let stands : Stands step serve ps (after_rounds refusals so_far.rounds) latest ks now.keyspace all = so_far.stands (earlier keep) own ks refusals was in
-              let served = is.served.served in
-              let stay : All (λ x. StaysHere serve x.1.task) latest.sent = from_all (λ x. StaysHere serve x.1.task) latest.sent (numbered ps) so_far.behind.last (numbered_stay serve ps own) in
-              let mine : All (λ x. IsOwnPart x.1) is.next.sent = from_all (λ x. IsOwnPart x.1) is.next.sent (numbered ps) is.behind.last (numbered_own ps are) in
-              let next : Stands step serve ps (after_round (after_rounds refusals so_far.rounds) is.next) is.next ks new.keyspace more =
-              stands_next step serve ps are latest is.next stay is.follows fronts is.behind.last ks now.keyspace new.keyspace (after_rounds refusals so_far.rounds) all more is.replies stands
-              (served.keyspace keep ∙ alone_leaves step serve is.next.refusals served.refusals is.next.sent mine is.served.refusals_are now.keyspace)
-              (served.answers_are keep ∙ alone_answers step serve is.next.refusals served.refusals is.next.sent mine is.served.refusals_are now.keyspace)
-              is.put in
-              subst (λ r. Stands step serve ps r (last_round round longer) ks new.keyspace more) (sym (refusals_more refusals so_far.rounds is.next))
-              (subst (λ r. Stands step serve ps (after_round (after_rounds refusals so_far.rounds) is.next) r ks new.keyspace more) (sym last) next);
+              let stands : Stands N.step N.serve ps (after_rounds refusals so_far.rounds) latest ks (N.state now).keyspace all = so_far.stands (one.kept keep) own ks refusals was in
+              let its = is.served.served in
+              let stay : All (λ x. StaysHere N.serve x.1.task) latest.sent = from_all (λ x. StaysHere N.serve x.1.task) latest.sent (numbered ps) so_far.behind.last (numbered_stay N.serve ps own) in
+              let mine : All (λ x. IsOwnPart x.1) is.next.sent = from_all (λ x. IsOwnPart x.1) is.next.sent (numbered ps) served.behind.last (numbered_own ps are) in
+              let next : Stands N.step N.serve ps (after_round (after_rounds refusals so_far.rounds) is.next) is.next ks (N.state new).keyspace more =
+              stands_next N.step N.serve ps are latest is.next stay is.follows (fronts_of latest is.follows.on is.follows.on_are so_far.behind.long) served.behind.last ks (N.state now).keyspace (N.state new).keyspace
+              (after_rounds refusals so_far.rounds) all more served.replies stands
+              (its.keyspace keep ∙ alone_leaves N.step N.serve is.next.refusals its.refusals is.next.sent mine is.served.refusals_are (N.state now).keyspace)
+              (its.answers_are keep ∙ alone_answers N.step N.serve is.next.refusals its.refusals is.next.sent mine is.served.refusals_are (N.state now).keyspace)
+              served.put in
+              subst (λ r. Stands N.step N.serve ps r (last_round round (longer is)) ks (N.state new).keyspace more) (sym (refusals_more refusals so_far.rounds is.next))
+              (subst (λ r. Stands N.step N.serve ps (after_round (after_rounds refusals so_far.rounds) is.next) r ks (N.state new).keyspace more) (sym last) next);
         }
 
     -- why the next one was not served
-    pub fault_after : (retries : ℕ) → k < retries → (error : PipelineError) → IsNextFault step serve kept may registered arguments ps latest now new asked_now asked_new gave_now gave_new error
-        → IsAgainFault step serve kept may registered arguments ps round retries start new asked_start asked_new gave_start gave_new (fault_behind error (k + 1))
+    pub fault_after : (retries : ℕ) → k < retries → (error : PipelineError) → IsNextFault N now new arguments latest error → IsAgainFault N old new arguments round retries (fault_behind error (k + 1))
     fault_after retries few error is = by_error error is
       where
-        were : AreRounds step serve kept may registered arguments round so_far.rounds start now
-        were = rounds_wider step serve registered arguments kept_then kept earlier may may (λ count ending is. is) round so_far.rounds start now so_far.again
-
-        by_error : (e : PipelineError) → IsNextFault step serve kept may registered arguments ps latest now new asked_now asked_new gave_now gave_new e → IsAgainFault step serve kept may registered arguments ps round retries start new asked_start asked_new gave_start gave_new (fault_behind e (k + 1))
+        by_error : (e : PipelineError) → IsNextFault N now new arguments latest e → IsAgainFault N old new arguments round retries (fault_behind e (k + 1))
         by_error (driven.Plan fault) is = absurd is
         by_error driven.BadOrder is = absurd is
-        by_error (driven.Node stop) is = (
-          so_far.rounds,
-          omega (arith, few, so_far.many),
-          now,
-          were,
-          is.0,
-          is.1,
-          record { prepared = is.2.prepared; stopped = is.2.stopped },
-          asked_until_more asked_start asked_now asked_new (flat_map round_batches so_far.rounds) (batches_before is.0 stop.answered) (batch_after is.0 stop.answered) stop.error so_far.asked is.3,
-          subst (λ l. HaveAnswered gave_start gave_new l stop.answered) (append-nil (flat_map round_answers so_far.rounds)) (answered_more gave_start gave_now gave_new (flat_map round_answers so_far.rounds) [] stop.answered so_far.gave is.4),
-          ap (λ n. n + 1) (sym so_far.many),
-        )
-        by_error driven.Memory (inl same) = (
-          so_far.rounds,
-          omega (arith, few, so_far.many),
-          subst (λ s. AreRounds step serve kept may registered arguments round so_far.rounds start s) (sym same.0) were,
-          subst (Grew asked_start asked_new) (append-nil (flat_map round_batches so_far.rounds)) (asked_more asked_start asked_now asked_new (flat_map round_batches so_far.rounds) [] so_far.asked same.1),
-          subst (Grew gave_start gave_new) (append-nil (flat_map round_answers so_far.rounds)) (asked_more gave_start gave_now gave_new (flat_map round_answers so_far.rounds) [] so_far.gave same.2),
-        )
-        by_error driven.Memory (inr is) = (
-          so_far.rounds ++ is.0 ∷ [],
-          omega (arith, few, so_far.many, length_push so_far.rounds is.0),
-          rounds_more step serve registered arguments kept may round so_far.rounds is.0 start now new were is.1 is.2,
-          subst (Grew asked_start asked_new) (sym (one_more round_batches so_far.rounds is.0)) (asked_more asked_start asked_now asked_new (flat_map round_batches so_far.rounds) (round_batches is.0) so_far.asked is.3),
-          subst (Grew gave_start gave_new) (sym (one_more round_answers so_far.rounds is.0)) (asked_more gave_start gave_now gave_new (flat_map round_answers so_far.rounds) (round_answers is.0) so_far.gave is.4),
-        )
+        by_error (driven.Node stop) is =
+            let stopped = stopped_since N old now new frame arguments is.next (N.state now) (N.state new) stop is.stopped in
+            record {
+              rounds = so_far.rounds;
+              few = omega (arith, few, so_far.many);
+              counted = ap (λ n. n + 1) (sym so_far.many);
+              between = N.state now;
+              again = were;
+              next = is.next;
+              follows = is.follows;
+              stopped = record { prepared = stopped.prepared; stopped = stopped.stopped };
+              asked = asked_until_more (N.asked old) (N.asked now) (N.asked new) (flat_map round_batches so_far.rounds) (batches_before is.next stop.answered) (batch_after is.next stop.answered) stop.error so_far.asked is.asked;
+              gave = subst (λ l. HaveAnswered (N.gave old) (N.gave new) l stop.answered) (append-nil (flat_map round_answers so_far.rounds))
+                  (answered_more (N.gave old) (N.gave now) (N.gave new) (flat_map round_answers so_far.rounds) [] stop.answered so_far.gave is.gave);
+            }
+        by_error driven.Memory (inl same) = subst (λ s. WereSentAgain N old s arguments round retries) (sym same) (record {
+          rounds = so_far.rounds;
+          few = omega (arith, few, so_far.many);
+          again = so_far.again;
+          asked = so_far.asked;
+          gave = so_far.gave;
+        })
+        by_error driven.Memory (inr is) = record {
+          rounds = longer is;
+          few = omega (arith, few, so_far.many, length_push so_far.rounds is.next);
+          again = again_more is;
+          asked = asked_longer is;
+          gave = gave_longer is;
+        }
 
   -- In the end they were sent again as often as there are retries, or no part goes out again.
-  pub all_so_far : (kept : Type 0) (k retries : ℕ) (now : State C) (asked_now : List Batch → Type 0) (gave_now : List (List Answer) → Type 0) (all : List (Result Value ErrorParts)) (out : Outgoing) → (so_far : IsSoFar kept k now asked_now gave_now all out) → k ≤ retries → (k ≡ retries) ⊎ (out.numbers.items ≡ [])
-      → AreSentAgain step serve kept may registered arguments ps round retries start now asked_start asked_now gave_start gave_now before all
-  all_so_far kept k retries now asked_now gave_now all out so_far few end = record {
-    rounds = so_far.rounds;
-    few = omega (arith, so_far.many, few);
-    again = so_far.again;
-    asked = so_far.asked;
-    gave = so_far.gave;
+  pub all_so_far : (k retries : ℕ) (now : S) (all : List (Result Value ErrorParts)) (out : Outgoing) → IsSoFar k now all out → k ≤ retries → (k ≡ retries) ⊎ (out.numbers.items ≡ []) → AreSentAgain N old now arguments round retries ps before all
+  all_so_far k retries now all out so_far few end = record {
+    sent = record { rounds = so_far.rounds; few = omega (arith, so_far.many, few); again = so_far.again; asked = so_far.asked; gave = so_far.gave };
     done = ending end;
     latest = so_far.latest;
     as_one = λ keep own ks refusals is. (so_far.stands keep own ks refusals is).as_one;

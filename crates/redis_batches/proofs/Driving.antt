@@ -1,90 +1,131 @@
 -- A pipeline that was planned and sent: what its replies are, and what stands after a fault.
-use Rattle.std.proofs.Common.{◌≡◌, ◌<◌, ◌∙◌, ℕ, List, All, subst, map, length}
+use Rattle.std.proofs.Common.{◌≡◌, ◌∙◌, ℕ, List, Option, All, refl, subst, sym, map, length}
 use Rattle.std.specs.List.{AllByRecursion}
 use Rattle.cluster_slots.specs.Address.{Address}
 use Rattle.redis_routing.specs.Registry.{Registrations}
+use Rattle.redis_routing.specs.Split.{Split}
 use Rattle.redis_cluster.specs.Driven.{AreAllAnswered}
-use Rattle.redis_cluster.specs.Trace.{Ending}
-use Rattle.redis_cluster.specs.Unsplit.{Step}
-use Rattle.redis_cluster.specs.State.{State}
-use Rattle.redis_batches.specs.Pipeline.{Answer, AreSlotsOf, Planned, Serve}
+use Rattle.redis_batches.specs.BatchSends.{AreBatchesSent, AreBatchesStopped}
 use Rattle.redis_batches.specs.Batched.{AreBatches}
 use Rattle.redis_batches.specs.Driven.{AlwaysAnswers, IsServed, NeverRefuses, WasStopped}
-use Rattle.redis_batches.specs.DrivenPipeline.{AreAllTaken, IsOneServer, IsPipelineFault, IsPipelineServed, IsSendable, IsWantOfMemory}
+use Rattle.redis_batches.specs.DrivenPipeline.{AreAllAsked, AreAllGiven, AreAllTaken, AreAskedUntil, AreMade, IsOneServer, IsPipelineFault, IsPipelineServed, IsSendable, IsWantOfMemory}
+use Rattle.redis_batches.specs.Pipeline.{Answer, AreSlotsOf, Planned, Task}
 use Rattle.redis_batches.specs.PipelinePlan.{PipelineBatches}
 use Rattle.redis_batches.specs.Placed.{Ranges}
 use Rattle.redis_batches.specs.Plan.{Batches, batch_of}
-use Rattle.redis_batches.specs.Replies.{AreRepliesTo}
-use Rattle.redis_batches.specs.Tasks.{with_slots}
+use Rattle.redis_batches.specs.Replies.{AreRepliesFor, AreRepliesTo}
+use Rattle.redis_batches.specs.Tasks.{AreSplitsFor, AreSplitsOf, with_slots}
+use Rattle.redis_batches.specs.declared.nodes.BatchNodes.{Ghosts}
 use Rattle.redis_batches.specs.declared.send.Stopped.{Stopped}
 use Rattle.redis_batches.specs.declared.fault.PipelineError.TheVariants.{Node}
+use Rattle.redis_batches.proofs.Amid.{served_amid}
+use Rattle.redis_batches.proofs.InTurn.{pipeline_in_turn}
 use Rattle.redis_batches.proofs.OneServer.{all_answered, as_one_server}
 use Rattle.redis_batches.proofs.Planning.{plan_has_batches, slots_of_all}
-use Rattle.redis_batches.proofs.ServerReplies.{IsShared, server_replies, slots_leave}
+use Rattle.redis_batches.proofs.ServerReplies.{IsShared, server_replies, shared_by_splits, slots_leave}
 use Rattle.redis_batches.proofs.Untaken.{stopped_for_memory}
 use Rattle.redis_batches.proofs.Untouched.{replies_untouched}
 
-module _ {C : Type 0} (step : Step C) (serve : Serve C) (kept : Type 0) (may_refuse : ℕ → Ending → Type 0) (registered : Registrations) (is_node : ℕ → Address → Type 0) (commands : List (List (List ℕ))) (order : List ℕ) (old new : State C) where
-  -- what the loop that sends batches says of them
-  abbrev pub ServesAll : List Answer → Batches → Type 0
-  ServesAll given batches = (ps : List Planned) → All (λ p. AreSlotsOf p.task p.slots) ps → (is : AreBatches registered ps batches.parts batches.places)
-      → IsServed step serve kept may_refuse ps batches.parts batches.nodes is.batch order old new given
+-- the batches of a plan of commands
+pub has_batches : {registered : Registrations} {is_node : ℕ → Address → Type 0} {commands : List (List (List ℕ))} {order : List ℕ} {plan : PipelineBatches} (sendable : IsSendable registered is_node commands order plan) {batches : Batches} → batches ≡ plan.batches
+    → (ps : List Planned) × All (λ p. AreSlotsOf p.task p.slots) ps × AreBatches registered ps batches.parts batches.places
+has_batches {registered} {is_node} {commands} {order} {plan} sendable same =
+    let ps = map with_slots sendable.of_commands.tasks in
+    (ps, slots_of_all sendable.of_commands.tasks, subst (λ b. AreBatches registered ps b.parts b.places) (sym same) (plan_has_batches registered is_node commands plan sendable.of_commands))
 
-  abbrev pub Stops : Stopped → Batches → Type 0
-  Stops stop batches = (ps : List Planned) → All (λ p. AreSlotsOf p.task p.slots) ps → (is : AreBatches registered ps batches.parts batches.places)
-      → WasStopped step serve registered kept may_refuse ps batches.parts batches.nodes is.batch order old new stop.answered stop.error
+-- the answers to the parts of tasks, and the replies that they make
+pub record AreCombined (tasks : List Task) (given replies : List Answer) : Type 0 where
+  pub share : AllByRecursion IsShared tasks
+  pub made : AreRepliesTo tasks given replies
 
-  pub all_taken : (plan : PipelineBatches) (batches : Batches) → batches ≡ plan.batches → IsSendable registered is_node commands order plan → (given : List Answer) → ServesAll given batches
-      → AreAllTaken step serve kept may_refuse registered is_node commands order old new given
-  all_taken plan batches same sendable given serves = record {
+pub combined : {registered : Registrations} {is_node : ℕ → Address → Type 0} {commands : List (List (List ℕ))} {order : List ℕ} {plan : PipelineBatches} (sendable : IsSendable registered is_node commands order plan) → AreSplitsFor registered commands plan.splits
+    → {of : List (Option Split)} → of ≡ plan.splits → {given answers : List Answer} → answers ≡ given → (replies : List Answer) → AreRepliesFor of answers replies → AreCombined sendable.of_commands.tasks given replies
+combined {registered} {is_node} {commands} {order} {plan} sendable splits of_are {given} answers_are replies made =
+    let tasks = sendable.of_commands.tasks in
+    let own = splits tasks sendable.of_commands.tasks_are in
+    record {
+      share = shared_by_splits registered plan.splits tasks own;
+      made = subst (λ l. AreRepliesTo tasks l replies) answers_are (made registered tasks (subst (λ s. AreSplitsOf registered s tasks) (sym of_are) own));
+    }
+
+module _ {S : Type 0} {N : Ghosts S} {old new : S} {batches : Batches} {order : List ℕ} {given : List Answer} (sent : AreBatchesSent N old new batches order given)
+    {is_node : ℕ → Address → Type 0} {commands : List (List (List ℕ))} {plan : PipelineBatches} (sendable : IsSendable (N.registered old) is_node commands order plan) (same : batches ≡ plan.batches) where
+  abbrev pub tasks : List Task
+  tasks = sendable.of_commands.tasks
+
+  -- its batches were sent, as those of a plan of the commands
+  pub own_sent : AreBatchesSent N old new plan.batches order given
+  own_sent = subst (λ b. AreBatchesSent N old new b order given) same sent
+
+  abbrev own_batches : AreBatches (N.registered old) (map with_slots tasks) plan.batches.parts plan.batches.places
+  own_batches = plan_has_batches (N.registered old) is_node commands plan sendable.of_commands
+
+  pub own_served : IsServed N.step N.serve (N.kept new) (N.may_refuse old) (map with_slots tasks) plan.batches.parts plan.batches.nodes (batch_of sendable.of_commands.node_of plan.batches) order (N.state old) (N.state new) given
+  own_served = own_sent.served (map with_slots tasks) (slots_of_all tasks) own_batches
+
+  abbrev pub all_taken : AreAllTaken N.step N.serve (N.kept new) (N.may_refuse old) (N.registered old) is_node commands order (N.state old) (N.state new) given
+  all_taken = record { plan = plan; sendable = sendable; served = own_served }
+
+  pub all_asked : AreAllAsked N old new is_node commands order
+  all_asked = (plan, sendable, own_sent.asked)
+
+  abbrev pub all_given : length given ≡ length batches.parts → AreAllGiven N old new is_node commands order given
+  all_given long = record {
     plan = plan;
     sendable = sendable;
-    served = subst (ServesAll given) same serves (map with_slots sendable.of_commands.tasks) (slots_of_all sendable.of_commands.tasks) (plan_has_batches registered is_node commands plan sendable.of_commands);
+    asked = own_sent.asked;
+    in_turn = pipeline_in_turn (N.registered old) (map with_slots tasks) plan.batches order own_batches sendable.order_is;
+    long = subst (λ (b : Batches). length given ≡ length b.parts) same long;
+    gave = own_sent.gave;
   }
 
-  pub pipeline_served : (plan : PipelineBatches) (batches : Batches) → batches ≡ plan.batches → (sendable : IsSendable registered is_node commands order plan) → (given replies : List Answer) → ServesAll given batches
-      → AllByRecursion IsShared sendable.of_commands.tasks → AreRepliesTo sendable.of_commands.tasks given replies → IsPipelineServed step serve kept may_refuse registered is_node commands order old new replies
-  pipeline_served plan batches same sendable given replies serves share made =
-      let tasks = sendable.of_commands.tasks in
-      let served : IsServed step serve kept may_refuse (map with_slots tasks) plan.batches.parts plan.batches.nodes (batch_of sendable.of_commands.node_of plan.batches) order old new given = subst (ServesAll given) same serves (map with_slots tasks) (slots_of_all tasks) (plan_has_batches registered is_node commands plan sendable.of_commands) in
-      record {
-        given = given;
-        taken = record { plan = plan; sendable = sendable; served = served };
-        replies_are = made;
-        untouched = λ keep. replies_untouched step serve served.refusals tasks share (slots_of_all tasks) old.keyspace replies
-            (subst (λ answers. AreRepliesTo tasks answers replies) (served.answers_are keep) made);
-      }
-
-  pub pipeline_as_one : (plan : PipelineBatches) (batches : Batches) → batches ≡ plan.batches → (sendable : IsSendable registered is_node commands order plan) → (given replies : List Answer) → ServesAll given batches
-      → AllByRecursion IsShared sendable.of_commands.tasks → AreRepliesTo sendable.of_commands.tasks given replies → AreAllAnswered old.trace new.trace → kept → IsOneServer step serve registered commands old new replies
-  pipeline_as_one plan batches same sendable given replies serves share made all keep =
-      let tasks = sendable.of_commands.tasks in
-      let served : IsServed step serve kept may_refuse (map with_slots tasks) plan.batches.parts plan.batches.nodes (batch_of sendable.of_commands.node_of plan.batches) order old new given = subst (ServesAll given) same serves (map with_slots tasks) (slots_of_all tasks) (plan_has_batches registered is_node commands plan sendable.of_commands) in
-      let both = as_one_server step serve registered kept may_refuse (map with_slots tasks) (slots_of_all tasks) plan.batches.parts plan.batches.places (plan_has_batches registered is_node commands plan sendable.of_commands) plan.batches.nodes order sendable.order_is old new given served all keep in (
-        tasks,
-        sendable.of_commands.tasks_are,
-        both.0 ∙ slots_leave step serve tasks old.keyspace,
-        server_replies step serve tasks share old.keyspace replies (subst (λ answers. AreRepliesTo tasks answers replies) both.1 made),
-      )
-
   -- where nodes may refuse nothing, no part was refused
-  pub pipeline_answered : (plan : PipelineBatches) (batches : Batches) → batches ≡ plan.batches → IsSendable registered is_node commands order plan → (given : List Answer) → ServesAll given batches
-      → NeverRefuses may_refuse (length old.trace) → AreAllAnswered old.trace new.trace
-  pipeline_answered plan batches same sendable given serves never =
-      let tasks = sendable.of_commands.tasks in
-      let served : IsServed step serve kept may_refuse (map with_slots tasks) plan.batches.parts plan.batches.nodes (batch_of sendable.of_commands.node_of plan.batches) order old new given = subst (ServesAll given) same serves (map with_slots tasks) (slots_of_all tasks) (plan_has_batches registered is_node commands plan sendable.of_commands) in
-      all_answered step serve registered kept may_refuse (map with_slots tasks) (slots_of_all tasks) plan.batches.parts plan.batches.places (plan_has_batches registered is_node commands plan sendable.of_commands) plan.batches.nodes order sendable.order_is old new given served never
+  pub pipeline_answered : NeverRefuses (N.may_refuse old) (length (N.state old).trace) → AreAllAnswered (N.state old).trace (N.state new).trace
+  pipeline_answered never =
+      all_answered N.step N.serve (N.registered old) (N.kept new) (N.may_refuse old) (map with_slots tasks) (slots_of_all tasks) plan.batches.parts plan.batches.places own_batches plan.batches.nodes order sendable.order_is (N.state old) (N.state new) given own_served never
 
-  pub pipeline_stopped : (plan : PipelineBatches) (batches : Batches) → batches ≡ plan.batches → IsSendable registered is_node commands order plan → (stop : Stopped) → stop.answered < length order → stop.rounds ≡ 0 → Stops stop batches
-      → (ranges : Ranges) → IsPipelineFault step serve kept may_refuse registered is_node commands order old new ranges (Node stop)
-  pipeline_stopped plan batches same sendable stop within first stops ranges =
-      (plan, sendable, within, first, subst (Stops stop) same stops (map with_slots sendable.of_commands.tasks) (slots_of_all sendable.of_commands.tasks) (plan_has_batches registered is_node commands plan sendable.of_commands))
+  module _ {replies : List Answer} (all : AreCombined tasks given replies) where
+    pub pipeline_served : IsPipelineServed N old new is_node commands order replies
+    pipeline_served = record {
+      given = given;
+      taken = all_taken;
+      replies_are = all.made;
+      untouched = λ keep. replies_untouched N.step N.serve own_served.refusals tasks all.share (slots_of_all tasks) (N.state old).keyspace replies
+          (subst (λ answers. AreRepliesTo tasks answers replies) (own_served.answers_are keep) all.made);
+    }
+
+    pub pipeline_made : length given ≡ length batches.parts → AreMade N old new is_node commands order replies
+    pipeline_made long = record {
+      given = given;
+      all = all_given long;
+      replies_are = all.made;
+      amid = served_amid N.Cell tasks given replies all.share all.made;
+    }
+
+    pub pipeline_as_one : AreAllAnswered (N.state old).trace (N.state new).trace → N.kept new → IsOneServer N.step N.serve (N.registered old) commands (N.state old) (N.state new) replies
+    pipeline_as_one none keep =
+        let both = as_one_server N.step N.serve (N.registered old) (N.kept new) (N.may_refuse old) (map with_slots tasks) (slots_of_all tasks) plan.batches.parts plan.batches.places own_batches plan.batches.nodes order sendable.order_is (N.state old) (N.state new) given own_served none keep in (
+          tasks,
+          sendable.of_commands.tasks_are,
+          both.0 ∙ slots_leave N.step N.serve tasks (N.state old).keyspace,
+          server_replies N.step N.serve tasks all.share (N.state old).keyspace replies (subst (λ answers. AreRepliesTo tasks answers replies) both.1 all.made),
+        )
+
+module _ {S : Type 0} {N : Ghosts S} {old new : S} {batches : Batches} {order : List ℕ} {stop : Stopped} (is : AreBatchesStopped N old new batches order stop)
+    {is_node : ℕ → Address → Type 0} {commands : List (List (List ℕ))} {plan : PipelineBatches} (sendable : IsSendable (N.registered old) is_node commands order plan) (same : batches ≡ plan.batches) where
+  own : AreBatchesStopped N old new plan.batches order stop
+  own = subst (λ b. AreBatchesStopped N old new b order stop) same is
+
+  own_stopped : WasStopped N.step N.serve (N.registered old) (N.kept new) (N.may_refuse old) (map with_slots sendable.of_commands.tasks) plan.batches.parts plan.batches.nodes (batch_of sendable.of_commands.node_of plan.batches) order (N.state old) (N.state new) stop.answered stop.error
+  own_stopped = own.stopped (map with_slots sendable.of_commands.tasks) (slots_of_all sendable.of_commands.tasks) (plan_has_batches (N.registered old) is_node commands plan sendable.of_commands)
+
+  pub pipeline_stopped : (ranges : Ranges) → IsPipelineFault N old new is_node commands order ranges (Node stop)
+  pipeline_stopped ranges = (plan, sendable, is.within, is.first_round, own_stopped)
+
+  pub asked_until : AreAskedUntil N old new is_node commands order (Node stop)
+  asked_until = (plan, sendable, own.asked)
 
   -- where nodes may do nothing but answer, it stopped for want of memory
-  pub pipeline_unhindered : (plan : PipelineBatches) (batches : Batches) → batches ≡ plan.batches → IsSendable registered is_node commands order plan → (stop : Stopped) → Stops stop batches → AlwaysAnswers may_refuse (length old.trace)
-      → IsWantOfMemory new.mark (Node stop)
-  pipeline_unhindered plan batches same sendable stop stops answers =
-      let tasks = sendable.of_commands.tasks in
-      let stopped : WasStopped step serve registered kept may_refuse (map with_slots tasks) plan.batches.parts plan.batches.nodes (batch_of sendable.of_commands.node_of plan.batches) order old new stop.answered stop.error =
-      subst (Stops stop) same stops (map with_slots tasks) (slots_of_all tasks) (plan_has_batches registered is_node commands plan sendable.of_commands) in
-      stopped_for_memory step serve registered kept may_refuse (map with_slots tasks) plan.batches.parts plan.batches.nodes (batch_of sendable.of_commands.node_of plan.batches) order old new stop.answered stop.error answers stopped
+  pub pipeline_unhindered : AlwaysAnswers (N.may_refuse old) (length (N.state old).trace) → IsWantOfMemory (N.state new).mark (Node stop)
+  pipeline_unhindered answers =
+      stopped_for_memory N.step N.serve (N.registered old) (N.kept new) (N.may_refuse old) (map with_slots sendable.of_commands.tasks) plan.batches.parts plan.batches.nodes (batch_of sendable.of_commands.node_of plan.batches) order (N.state old) (N.state new) stop.answered stop.error answers own_stopped

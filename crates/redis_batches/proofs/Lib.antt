@@ -1,3 +1,4 @@
+pub mod Frame
 pub mod Lists
 pub mod Schedule
 pub mod Local

@@ -8,11 +8,7 @@ use Rattle.cluster_map.specs.SlotNodes.{SlotNodes}
 use Rattle.redis_routing.specs.Names.{Names}
 use Rattle.redis_routing.specs.Registry.{Registrations}
 use Rattle.redis_routing.specs.Routing.{nodes_for}
-use Rattle.redis_cluster.specs.State.{State}
-use Rattle.redis_cluster.specs.Trace.{Ending}
-use Rattle.redis_cluster.specs.Unsplit.{Step}
-use Rattle.redis_batches.specs.DrivenPipeline.{IsPipelineServed, IsSendable}
-use Rattle.redis_batches.specs.Pipeline.{Answer, Part, Serve}
+use Rattle.redis_batches.specs.Pipeline.{Part}
 use Rattle.redis_batches.specs.Placed.{IsPrimaryOf, Ranges}
 use Rattle.redis_batches.specs.PipelinePlan.{IsPlanOfCommands, PipelineBatches, pieces_of}
 use Rattle.redis_batches.specs.Reads.{is_written}
@@ -43,31 +39,6 @@ plan_with registered one other weaker commands plan is = record {
   by_node = is.by_node;
   slots_are = is.slots_are;
   targets_are = is.targets_are;
-}
-
--- so does an order of its batches
-sendable_with : (registered : Registrations) (one other : ℕ → Address → Type 0) → ((slot : ℕ) (address : Address) → one slot address → other slot address) → (commands : List (List (List ℕ))) (order : List ℕ) (plan : PipelineBatches)
-    → IsSendable registered one commands order plan → IsSendable registered other commands order plan
-unfolding plan_with
-sendable_with registered one other weaker commands order plan is = record {
-  of_commands = plan_with registered one other weaker commands plan is.of_commands;
-  order_is = is.order_is;
-}
-
--- and what was sent and answered
-served_with : {C : Type 0} (step : Step C) (serve : Serve C) (kept : Type 0) (may_refuse : ℕ → Ending → Type 0) (registered : Registrations) (one other : ℕ → Address → Type 0)
-    → ((slot : ℕ) (address : Address) → one slot address → other slot address) → (commands : List (List (List ℕ))) (order : List ℕ) (old new : State C) (replies : List Answer)
-    → IsPipelineServed step serve kept may_refuse registered one commands order old new replies → IsPipelineServed step serve kept may_refuse registered other commands order old new replies
-unfolding sendable_with plan_with
-served_with step serve kept may_refuse registered one other weaker commands order old new replies is = record {
-  given = is.given;
-  taken = record {
-    plan = is.taken.plan;
-    sendable = sendable_with registered one other weaker commands order is.taken.plan is.taken.sendable;
-    served = is.taken.served;
-  };
-  replies_are = is.replies_are;
-  untouched = is.untouched;
 }
 
 module _ (registered : Registrations) (ranges : Ranges) (names : Names) (commands : List (List (List ℕ))) where

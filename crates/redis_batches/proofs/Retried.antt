@@ -1,43 +1,47 @@
 -- A pipeline that was sent in rounds: what its replies are, and what stands after a fault.
-use Rattle.std.proofs.Common.{◌≡◌, ◌≤◌, ℕ, ◌+◌, List, [], ◌∷◌, ◌++◌, true, Some, None, Result, All, inr, refl, sym, ap, subst, ◌∙◌, append_assoc, filter, map, length}
-use Rattle.std.specs.List.{AllByRecursion, AllZip, enumerate_from, flat_map, range_with_len, zip}
+use Rattle.std.proofs.Common.{◌≡◌, ◌≤◌, ℕ, ◌+◌, List, [], ◌∷◌, ◌++◌, true, Some, None, Result, All, inr, refl, sym, ap, subst, ◌∙◌, append_assoc, arith, filter, map, length}
+use Rattle.std.specs.List.{AllZip, enumerate_from, flat_map, range_with_len, zip}
 use Rattle.std.proofs.lemmas.List.{length-map}
 use Rattle.std.proofs.lemmas.List.FromFn.{length-enumerate_from}
 use Rattle.cluster_slots.specs.Address.{Address}
 use Rattle.resp_core.specs.ErrorParts.{ErrorParts}
 use Rattle.resp_core.specs.declared.value.Value.{Value}
-use Rattle.redis_routing.specs.Registry.{Registrations}
 use Rattle.redis_cluster.specs.State.{State}
-use Rattle.redis_cluster.specs.Trace.{Ending}
-use Rattle.redis_cluster.specs.Unsplit.{Step}
-use Rattle.redis_batches.specs.Driven.{Grew, IsServed, WereAskedUntil, answers_in, batch_at, parts_by_batch}
-use Rattle.redis_batches.specs.DrivenInRounds.{AreServedInRounds, IsRoundsFault, SentSoFar, WereSent}
+use Rattle.redis_batches.specs.BatchSends.{AreBatchesSent}
+use Rattle.redis_batches.specs.Driven.{IsServed, WereAskedUntil, answers_in, batch_at, parts_by_batch}
+use Rattle.redis_batches.specs.DrivenInRounds.{AreServedInRounds, IsRoundsFault, SentSoFar, StoppedInRounds, WereSent}
 use Rattle.redis_batches.specs.DrivenPipeline.{AreAllTaken, IsOneServer, IsSendable}
-use Rattle.redis_batches.specs.InRounds.{AreSentAgain, IsAgainFault, Stands}
+use Rattle.redis_batches.specs.Frame.{SameNodes}
+use Rattle.redis_batches.specs.InRounds.{AreSentAgain, IsAgainFault, Stands, StoppedAgain, WereSentAgain}
 use Rattle.redis_batches.specs.Outgoing.{ArePartsOf, GoesBehind, IsNext, slot_at}
-use Rattle.redis_batches.specs.Pipeline.{Answer, Numbered, Part, Planned, Refusals, Serve, numbered, pieces, slot_of}
+use Rattle.redis_batches.specs.Pipeline.{Answer, Numbered, Part, Planned, Refusals, numbered, pieces, slot_of}
 use Rattle.redis_batches.specs.PipelinePlan.{PipelineBatches}
+use Rattle.redis_batches.specs.Placed.{Ranges}
 use Rattle.redis_batches.specs.Plan.{Batches, batch_of}
 use Rattle.redis_batches.specs.Replies.{AreRepliesTo}
 use Rattle.redis_batches.specs.Rounds.{AreRounds, IsAsOne, IsSentOn, Round, after_rounds, batch_after, batches_before, by_last_answer, go_on, goes_to, latest_answers, round_answers, round_batches, StaysHere}
 use Rattle.redis_batches.specs.Sent.{AreApart}
-use Rattle.redis_batches.specs.Taken.{Batch, answer_of, task_of}
+use Rattle.redis_batches.specs.Taken.{answer_of, task_of}
 use Rattle.redis_batches.specs.Tasks.{with_slots}
 use Rattle.redis_batches.specs.Turns.{of_slot}
 use Rattle.redis_batches.specs.declared.fault.PipelineError.{PipelineError}
 use Rattle.redis_batches.specs.declared.fault.PipelineError.TheVariants as driven
 use Rattle.redis_batches.specs.declared.going.Outgoing.{Outgoing}
+use Rattle.redis_batches.specs.declared.nodes.BatchNodes.{Ghosts}
+use Rattle.redis_batches.specs.declared.send.Stopped.{Stopped}
 use Rattle.redis_batches.proofs.Again.{all_last}
 use Rattle.redis_batches.proofs.Amid.{served_amid}
 use Rattle.redis_batches.proofs.Alone.{slots_at}
-use Rattle.redis_batches.proofs.Asked.{answered_more, asked_more, asked_until_more}
-use Rattle.redis_batches.proofs.Driving.{ServesAll}
+use Rattle.redis_batches.proofs.Asked.{answered_more, asked_more, asked_none, asked_until_more}
+use Rattle.redis_batches.proofs.Chain.{rounds_since, stopped_since}
+use Rattle.redis_batches.proofs.Driving.{AreCombined, own_sent, own_served}
 use Rattle.redis_batches.proofs.Ends.{after_agree, answers_agree, numbers_apart}
+use Rattle.redis_batches.proofs.Frame.{frame_none}
 use Rattle.redis_batches.proofs.GoOn.{go_by, goes_by}
 use Rattle.redis_batches.proofs.InTurn.{last_in_turn, pipeline_in_turn}
 use Rattle.redis_batches.proofs.KeptSlots.{numbered_after, numbered_list}
 use Rattle.redis_batches.proofs.Planning.{plan_has_batches, slots_of_all}
-use Rattle.redis_batches.proofs.ServerReplies.{IsShared, server_replies, slots_leave}
+use Rattle.redis_batches.proofs.ServerReplies.{server_replies, slots_leave}
 use Rattle.redis_batches.proofs.StayHere.{tasks_stay}
 use Rattle.redis_batches.proofs.Untouched.{replies_untouched}
 use Rattle.redis_batches.proofs.Whole.{pieces_answer, pieces_leave}
@@ -79,168 +83,181 @@ behind_first ps slots nodes node_of given batches refusals out slots_are nodes_a
 none : Refusals
 none x = None
 
-module _ {C : Type 0} (step : Step C) (serve : Serve C) (may : ℕ → Ending → Type 0) (registered : Registrations) (is_node : ℕ → Address → Type 0) (commands : List (List (List ℕ))) (order : List ℕ) (retries : ℕ) (old between : State C)
-    (plan : PipelineBatches) (sendable : IsSendable registered is_node commands order plan) where
+module _ {S : Type 0} {N : Ghosts S} {old mid : S} {batches : Batches} {order : List ℕ} {given : List Answer} (sent : AreBatchesSent N old mid batches order given)
+    {is_node : ℕ → Address → Type 0} {commands : List (List (List ℕ))} {plan : PipelineBatches} (sendable : IsSendable (N.registered old) is_node commands order plan) (same : batches ≡ plan.batches) where
   abbrev pub ps : List Planned
   ps = map with_slots sendable.of_commands.tasks
 
-  -- its parts, with their arguments and slots
-  pub parts_of_plan : (arguments : List (List (List ℕ))) (slots : List ℕ) → arguments ≡ plan.batches.parts → slots ≡ plan.slots → ArePartsOf registered ps arguments slots
-  parts_of_plan arguments slots are same = record {
-    are = slots_of_all sendable.of_commands.tasks;
-    tasks = ap (map (task_of registered)) are ∙ sendable.of_commands.parts_are;
-    slots_are = same ∙ sendable.of_commands.slots_are;
-  }
+  abbrev served : IsServed N.step N.serve (N.kept mid) (N.may_refuse old) ps plan.batches.parts plan.batches.nodes (batch_of sendable.of_commands.node_of plan.batches) order (N.state old) (N.state mid) given
+  served = own_served sent sendable same
 
-  -- as many answers as parts
-  pub answers_many : (out : List (Result Value ErrorParts)) → length out ≡ length plan.batches.parts → length (map answer_of out) ≡ length (pieces ps)
-  answers_many out room =
-      length-map out answer_of ∙ room ∙ sym (length-map plan.batches.parts (task_of registered)) ∙ ap length sendable.of_commands.parts_are ∙ length-map (pieces ps) (λ q. Some q.task)
+  -- the first round
+  abbrev pub first : Round
+  first = record { sent = numbered ps; node_of = sendable.of_commands.node_of; batches = plan.batches; given = given; refusals = served.refusals }
 
-  -- as many slots and nodes
-  pub slots_many : (slots : List ℕ) → slots ≡ plan.slots → length slots ≡ length (pieces ps)
-  slots_many slots are = ap length are ∙ ap length sendable.of_commands.slots_are ∙ length-map (pieces ps) (λ q. q.slot)
+  -- as many slots, nodes and answers as parts
+  pub slots_many : {slots : List ℕ} → slots ≡ plan.slots → length slots ≡ length (pieces ps)
+  slots_many are = ap length are ∙ ap length sendable.of_commands.slots_are ∙ length-map (pieces ps) (λ q. q.slot)
 
-  pub nodes_many : (nodes : List Address) → nodes ≡ plan.targets → length nodes ≡ length (pieces ps)
-  nodes_many nodes are = ap length are ∙ ap length sendable.of_commands.targets_are ∙ length-map (pieces ps) (λ q. sendable.of_commands.node_of q.slot)
+  pub nodes_many : {nodes : List Address} → nodes ≡ plan.targets → length nodes ≡ length (pieces ps)
+  nodes_many are = ap length are ∙ ap length sendable.of_commands.targets_are ∙ length-map (pieces ps) (λ q. sendable.of_commands.node_of q.slot)
 
-  -- the first round was served
-  pub first_served : (batches : Batches) → batches ≡ plan.batches → (kept_then : Type 0) (given : List Answer) → ServesAll step serve kept_then may registered is_node commands order old between given batches
-      → IsServed step serve kept_then may ps plan.batches.parts plan.batches.nodes (batch_of sendable.of_commands.node_of plan.batches) order old between given
-  first_served batches same kept_then given serves =
-      subst (ServesAll step serve kept_then may registered is_node commands order old between given) same serves ps (slots_of_all sendable.of_commands.tasks) (plan_has_batches registered is_node commands plan sendable.of_commands)
+  pub answers_many : length given ≡ length batches.parts → length given ≡ length (pieces ps)
+  answers_many long =
+      long ∙ ap (λ (b : Batches). length b.parts) same ∙ sym (length-map plan.batches.parts (task_of (N.registered old))) ∙ ap length sendable.of_commands.parts_are ∙ length-map (pieces ps) (λ q. Some q.task)
 
-  module _ (kept_then : Type 0) (given : List Answer) (served : IsServed step serve kept_then may ps plan.batches.parts plan.batches.nodes (batch_of sendable.of_commands.node_of plan.batches) order old between given) where
-    -- the first round
-    abbrev pub first : Round
-    first = record { sent = numbered ps; node_of = sendable.of_commands.node_of; batches = plan.batches; given = given; refusals = served.refusals }
+  -- its parts, and what follows the first round
+  pub record GoesAgain (arguments : List (List (List ℕ))) (slots : List ℕ) (out : Outgoing) : Type 0 where
+    pub arguments_are : arguments ≡ plan.batches.parts
+    pub of : ArePartsOf (N.registered mid) ps arguments slots
+    pub gone : GoesBehind ps first out
 
-    -- what follows it is found
-    pub first_behind : (slots : List ℕ) (nodes : List Address) (out : Outgoing) → slots ≡ plan.slots → nodes ≡ plan.targets → length given ≡ length (pieces ps) → IsNext slots (range_with_len 0 (length slots)) nodes given out → GoesBehind ps first out
-    first_behind slots nodes out slots_are nodes_are many is =
-        behind_first ps slots nodes sendable.of_commands.node_of given plan.batches served.refusals out (slots_are ∙ sendable.of_commands.slots_are) (nodes_are ∙ sendable.of_commands.targets_are) many is
-
-    module _ (kept : Type 0) (earlier : kept → kept_then) (new : State C) where
-      taken : AreAllTaken step serve kept may registered is_node commands order old between given
-      taken = record {
-        plan = plan;
-        sendable = sendable;
-        served = record {
-          refusals = served.refusals;
-          trace = served.trace;
-          allowed = served.allowed;
-          errors = served.errors;
-          keyspace = λ keep. served.keyspace (earlier keep);
-          answers_are = λ keep. served.answers_are (earlier keep);
+  pub goes_again : SameNodes N old mid → length given ≡ length batches.parts → {arguments : List (List (List ℕ))} → arguments ≡ batches.parts → {own slots : List ℕ} → own ≡ slots → slots ≡ plan.slots → {nodes : List Address} → nodes ≡ plan.targets
+      → {told : List Answer} → told ≡ given → {out : Outgoing} → IsNext slots (range_with_len 0 (length slots)) nodes told out → GoesAgain arguments own out
+  goes_again frame long {arguments} are {own} {slots} own_are slots_are {nodes} nodes_are {told} told_are {out} found =
+      let arguments_are = are ∙ ap (λ (b : Batches). b.parts) same in
+      record {
+        arguments_are = arguments_are;
+        of = record {
+          are = slots_of_all sendable.of_commands.tasks;
+          tasks = ap (λ registered. map (task_of registered) arguments) frame.registered ∙ ap (map (task_of (N.registered old))) arguments_are ∙ sendable.of_commands.parts_are;
+          slots_are = own_are ∙ slots_are ∙ sendable.of_commands.slots_are;
         };
+        gone = behind_first ps slots nodes sendable.of_commands.node_of given plan.batches served.refusals out (slots_are ∙ sendable.of_commands.slots_are) (nodes_are ∙ sendable.of_commands.targets_are) (answers_many long)
+            (subst (λ l. IsNext slots (range_with_len 0 (length slots)) nodes l out) told_are found);
       }
 
-      -- these rounds were sent
-      so_far : (rounds : List Round) (now : State C) → AreRounds step serve kept may registered plan.batches.parts first rounds between now → SentSoFar step serve kept may registered is_node commands order old now
-      unfolding taken
-      so_far rounds now again = record {
-        given = given;
-        between = between;
-        taken = taken;
-        rounds = rounds;
-        again = again;
+  module _ (frame : SameNodes N old mid) (long : length given ≡ length batches.parts) {new : S} (one : SameNodes N mid new) where
+    abbrev taken : AreAllTaken N.step N.serve (N.kept new) (N.may_refuse old) (N.registered old) is_node commands order (N.state old) (N.state mid) given
+    taken = record {
+      plan = plan;
+      sendable = sendable;
+      served = record {
+        refusals = served.refusals;
+        trace = served.trace;
+        allowed = served.allowed;
+        errors = served.errors;
+        keyspace = λ keep. served.keyspace (one.kept keep);
+        answers_are = λ keep. served.answers_are (one.kept keep);
+      };
+    }
+
+    -- these rounds were sent
+    abbrev so_far : (rounds : List Round) (now : State N.Cell) → AreRounds N.step N.serve (N.kept new) (N.may_refuse mid) (N.registered mid) plan.batches.parts first rounds (N.state mid) now
+        → SentSoFar N.step N.serve (N.kept new) (N.may_refuse old) (N.registered old) is_node commands order (N.state old) now
+    so_far rounds now again = record {
+      given = given;
+      between = N.state mid;
+      taken = taken;
+      rounds = rounds;
+      again = rounds_since N old mid new frame plan.batches.parts first rounds (N.state mid) now again;
+    }
+
+    many : length given ≡ length plan.batches.parts
+    many = long ∙ ap (λ (b : Batches). length b.parts) same
+
+    module _ (retries : ℕ) where
+      -- no more than retries, and nothing else
+      abbrev all_sent : WereSentAgain N mid new plan.batches.parts first retries → WereSent N old new is_node commands order retries
+      all_sent again = record {
+        so_far = so_far again.rounds (N.state new) again.again;
+        few = again.few;
+        asked = asked_more (N.asked old) (N.asked mid) (N.asked new) (map (batch_at plan.batches) order) (flat_map round_batches again.rounds) (own_sent sent sendable same).asked again.asked;
+        long = many;
+        gave = asked_more (N.gave old) (N.gave mid) (N.gave new) (answers_in plan.batches given order) (flat_map round_answers again.rounds) (own_sent sent sendable same).gave again.gave;
       }
 
-      module _ (asked_old asked_between asked_new : List Batch → Type 0) (asked : Grew asked_old asked_between (map (batch_at plan.batches) order)) (long : length given ≡ length plan.batches.parts)
-          (gave_old gave_between gave_new : List (List Answer) → Type 0) (gave : Grew gave_old gave_between (answers_in plan.batches given order)) where
-        -- no more than retries, and nothing else
-        pub were_sent : (rounds : List Round) → length rounds ≤ retries → AreRounds step serve kept may registered plan.batches.parts first rounds between new → Grew asked_between asked_new (flat_map round_batches rounds)
-            → Grew gave_between gave_new (flat_map round_answers rounds) → WereSent step serve kept may registered is_node commands order retries asked_old asked_new gave_old gave_new old new
-        unfolding taken so_far
-        were_sent rounds few again more further = record {
-          so_far = so_far rounds new again;
-          few = few;
-          asked = asked_more asked_old asked_between asked_new (map (batch_at plan.batches) order) (flat_map round_batches rounds) asked more;
-          long = long;
-          gave = asked_more gave_old gave_between gave_new (answers_in plan.batches given order) (flat_map round_answers rounds) gave further;
-        }
+      stopped : {stop : Stopped} → StoppedAgain N mid new plan.batches.parts first retries stop → StoppedInRounds N old new is_node commands order retries stop
+      stopped {stop} is =
+          let front = map (batch_at plan.batches) order in
+          let rounds = flat_map round_batches is.rounds in
+          let last = batches_before is.next stop.answered in
+          let all : WereAskedUntil (N.asked old) (N.asked new) (front ++ (rounds ++ last)) (batch_after is.next stop.answered) stop.error =
+          asked_until_more (N.asked old) (N.asked mid) (N.asked new) front (rounds ++ last) (batch_after is.next stop.answered) stop.error (own_sent sent sendable same).asked is.asked in
+          record {
+            before = is.between;
+            so_far = so_far is.rounds is.between is.again;
+            few = is.few;
+            counted = is.counted;
+            next = is.next;
+            follows = is.follows;
+            stopped = stopped_since N old mid new frame plan.batches.parts is.next is.between (N.state new) stop is.stopped;
+            asked = subst (λ l. WereAskedUntil (N.asked old) (N.asked new) l (batch_after is.next stop.answered) stop.error) (sym (append_assoc front rounds last)) all;
+            long = many;
+            gave = answered_more (N.gave old) (N.gave mid) (N.gave new) (answers_in plan.batches given order) (flat_map round_answers is.rounds) stop.answered (own_sent sent sendable same).gave is.gave;
+          }
+
+      module _ {arguments : List (List (List ℕ))} {slots : List ℕ} {out : Outgoing} (goes : GoesAgain arguments slots out) where
+        pub were_sent : WereSentAgain N mid new arguments first retries → WereSent N old new is_node commands order retries
+        were_sent again = all_sent (subst (λ a. WereSentAgain N mid new a first retries) goes.arguments_are again)
 
         -- what follows the first round stopped
-        pub later_fault : (ranges : _) (error : PipelineError) → IsAgainFault step serve kept may registered plan.batches.parts ps first retries between new asked_between asked_new gave_between gave_new error
-            → IsRoundsFault step serve kept may registered is_node commands order retries asked_old asked_new gave_old gave_new old new ranges error
-        unfolding taken so_far
+        pub later_fault : (ranges : Ranges) (error : PipelineError) → IsAgainFault N mid new arguments first retries error → IsRoundsFault N old new is_node commands order retries ranges error
         later_fault ranges (driven.Plan fault) is = absurd is
         later_fault ranges driven.BadOrder is = absurd is
-        later_fault ranges (driven.Node stop) is =
-            let front = map (batch_at plan.batches) order in
-            let rounds = flat_map round_batches is.0 in
-            let last = batches_before is.4 stop.answered in
-            let all : WereAskedUntil asked_old asked_new (front ++ (rounds ++ last)) (batch_after is.4 stop.answered) stop.error =
-            asked_until_more asked_old asked_between asked_new front (rounds ++ last) (batch_after is.4 stop.answered) stop.error asked is.7 in
-            inr (record {
-              before = is.2;
-              so_far = so_far is.0 is.2 is.3;
-              few = is.1;
-              counted = is.9;
-              next = is.4;
-              follows = is.5;
-              stopped = is.6;
-              asked = subst (λ l. WereAskedUntil asked_old asked_new l (batch_after is.4 stop.answered) stop.error) (sym (append_assoc front rounds last)) all;
-              long = long;
-              gave = answered_more gave_old gave_between gave_new (answers_in plan.batches given order) (flat_map round_answers is.0) stop.answered gave is.8;
-            })
-        later_fault ranges driven.Memory is = were_sent is.0 is.1 is.2 is.3 is.4
+        later_fault ranges (driven.Node stop) is = inr (stopped (subst (λ a. StoppedAgain N mid new a first retries stop) goes.arguments_are is))
+        later_fault ranges driven.Memory is = were_sent is
 
-      module _ (asked_old asked_between asked_new : List Batch → Type 0) (gave_old gave_between gave_new : List (List Answer) → Type 0) (before after : List (Result Value ErrorParts)) (given_are : given ≡ map answer_of before) where
-        stands : kept → Stands step serve ps served.refusals first old.keyspace between.keyspace before
-        stands keep = record {
-          as_one = record { keyspace = served.keyspace (earlier keep); answers_are = sym given_are ∙ served.answers_are (earlier keep) };
-          own = λ k d inside. refl;
-          before = old.keyspace;
-          given_are = served.answers_are (earlier keep);
-        }
+        module _ (before after : List (Result Value ErrorParts)) (given_are : given ≡ map answer_of before) (was : AreSentAgain N mid new arguments first retries ps before after)
+            {replies : List Answer} (combined : AreCombined sendable.of_commands.tasks (map answer_of after) replies) where
+          again : AreSentAgain N mid new plan.batches.parts first retries ps before after
+          again = subst (λ a. AreSentAgain N mid new a first retries ps before after) goes.arguments_are was
 
-        module _ (again : AreSentAgain step serve kept may registered plan.batches.parts ps first retries between new asked_between asked_new gave_between gave_new before after) (asked : Grew asked_old asked_between (map (batch_at plan.batches) order))
-            (many : length before ≡ length plan.batches.parts) (gave : Grew gave_old gave_between (answers_in plan.batches given order))
-            (replies : List Answer) (share : AllByRecursion IsShared sendable.of_commands.tasks) (made : AreRepliesTo sendable.of_commands.tasks (map answer_of after) replies) where
+          stands : N.kept new → Stands N.step N.serve ps served.refusals first (N.state old).keyspace (N.state mid).keyspace before
+          stands keep = record {
+            as_one = record { keyspace = served.keyspace (one.kept keep); answers_are = sym given_are ∙ served.answers_are (one.kept keep) };
+            own = λ k d inside. refl;
+            before = (N.state old).keyspace;
+            given_are = served.answers_are (one.kept keep);
+          }
+
           -- which parts were refused at last
           abbrev last : Refusals
-          last = after_rounds served.refusals again.rounds
+          last = after_rounds served.refusals again.sent.rounds
 
-          as_one : kept → All (StaysHere serve) sendable.of_commands.tasks → IsAsOne step serve ps last old.keyspace new.keyspace (map answer_of after)
-          as_one keep own = again.as_one keep (tasks_stay serve sendable.of_commands.tasks own) old.keyspace served.refusals (stands keep)
+          as_one : N.kept new → All (StaysHere N.serve) sendable.of_commands.tasks → IsAsOne N.step N.serve ps last (N.state old).keyspace (N.state new).keyspace (map answer_of after)
+          as_one keep own = again.as_one keep (tasks_stay N.serve sendable.of_commands.tasks own) (N.state old).keyspace served.refusals (stands keep)
 
-          as_one_server : kept → All (StaysHere serve) sendable.of_commands.tasks → All (λ x. last x ≡ None) (numbered ps) → IsOneServer step serve registered commands old new replies
+          as_one_server : N.kept new → All (StaysHere N.serve) sendable.of_commands.tasks → All (λ x. last x ≡ None) (numbered ps) → IsOneServer N.step N.serve (N.registered old) commands (N.state old) (N.state new) replies
           unfolding none
           as_one_server keep own all =
               let tasks = sendable.of_commands.tasks in
               let are = slots_of_all tasks in
+              let ks = (N.state old).keyspace in
               let is = as_one keep own in
               let same : All (λ x. last x ≡ none x) (numbered ps) = all in (
                 tasks,
                 sendable.of_commands.tasks_are,
-                is.keyspace ∙ after_agree step serve last none (numbered ps) same old.keyspace ∙ numbered_after step serve 0 (pieces ps) old.keyspace ∙ pieces_leave step serve ps are old.keyspace
-                    ∙ slots_leave step serve tasks old.keyspace,
-                server_replies step serve tasks share old.keyspace replies
+                is.keyspace ∙ after_agree N.step N.serve last none (numbered ps) same ks ∙ numbered_after N.step N.serve 0 (pieces ps) ks ∙ pieces_leave N.step N.serve ps are ks ∙ slots_leave N.step N.serve tasks ks,
+                server_replies N.step N.serve tasks combined.share ks replies
                     (subst (λ l. AreRepliesTo tasks l replies)
-                    (is.answers_are ∙ ap (map (λ (a : Numbered × Answer). a.1)) (answers_agree step serve last none (numbered ps) same old.keyspace)
-                    ∙ numbered_list step serve 0 (pieces ps) old.keyspace ∙ pieces_answer step serve ps are old.keyspace) made),
+                    (is.answers_are ∙ ap (map (λ (a : Numbered × Answer). a.1)) (answers_agree N.step N.serve last none (numbered ps) same ks)
+                    ∙ numbered_list N.step N.serve 0 (pieces ps) ks ∙ pieces_answer N.step N.serve ps are ks) combined.made),
               )
 
           -- of each slot the last answers come in the order of the pipeline
-          in_turn : (s : ℕ) → of_slot slot_of s (numbered ps) ≡ of_slot slot_of s (by_last_answer (parts_by_batch plan.batches (numbered ps) order) again.rounds)
+          in_turn : (s : ℕ) → of_slot slot_of s (numbered ps) ≡ of_slot slot_of s (by_last_answer (parts_by_batch plan.batches (numbered ps) order) again.sent.rounds)
           in_turn =
-              last_in_turn step serve kept may registered plan.batches.parts first again.rounds (parts_by_batch plan.batches (numbered ps) order) between new again.again
-              (ap length given_are ∙ answers_many before many ∙ sym (length-enumerate_from 0 (pieces ps))) (all_apart (pieces ps)) (pipeline_in_turn registered ps plan.batches order (plan_has_batches registered is_node commands plan sendable.of_commands) sendable.order_is)
+              last_in_turn N.step N.serve (N.kept new) (N.may_refuse mid) (N.registered mid) plan.batches.parts first again.sent.rounds (parts_by_batch plan.batches (numbered ps) order) (N.state mid) (N.state new) again.sent.again
+              (answers_many long ∙ sym (length-enumerate_from 0 (pieces ps))) (all_apart (pieces ps)) (pipeline_in_turn (N.registered old) ps plan.batches order (plan_has_batches (N.registered old) is_node commands plan sendable.of_commands) sendable.order_is)
 
           -- The pipeline was served in rounds.
-          pub served_in_rounds : AreServedInRounds step serve kept may registered is_node commands order retries asked_old asked_new gave_old gave_new old new replies
-          unfolding taken so_far were_sent
+          pub served_in_rounds : AreServedInRounds N old new is_node commands order retries replies
           served_in_rounds = record {
-            sent = were_sent asked_old asked_between asked_new asked (ap length given_are ∙ length-map before answer_of ∙ many) gave_old gave_between gave_new gave again.rounds again.few again.again again.asked again.gave;
+            sent = all_sent again.sent;
             done = again.done;
             answers = map answer_of after;
-            latest = again.latest ∙ ap (λ l. latest_answers l again.rounds) (sym given_are);
-            replies_are = made;
-            amid = served_amid C sendable.of_commands.tasks (map answer_of after) replies share made;
+            latest = again.latest ∙ ap (λ l. latest_answers l again.sent.rounds) (sym given_are);
+            replies_are = combined.made;
+            amid = served_amid N.Cell sendable.of_commands.tasks (map answer_of after) replies combined.share combined.made;
             in_turn = in_turn;
             as_one = as_one;
-            untouched = λ keep own. replies_untouched step serve last sendable.of_commands.tasks share (slots_of_all sendable.of_commands.tasks) old.keyspace replies
-                (subst (λ l. AreRepliesTo sendable.of_commands.tasks l replies) (as_one keep own).answers_are made);
+            untouched = λ keep own. replies_untouched N.step N.serve last sendable.of_commands.tasks combined.share (slots_of_all sendable.of_commands.tasks) (N.state old).keyspace replies
+                (subst (λ l. AreRepliesTo sendable.of_commands.tasks l replies) (as_one keep own).answers_are combined.made);
             one_server = as_one_server;
           }
+
+  -- the first round alone
+  pub only_first : SameNodes N old mid → length given ≡ length batches.parts → (retries : ℕ) → WereSent N old mid is_node commands order retries
+  only_first frame long retries =
+      all_sent frame long (frame_none N mid) retries (record { rounds = []; few = omega arith; again = refl; asked = asked_none (N.asked mid); gave = asked_none (N.gave mid) })

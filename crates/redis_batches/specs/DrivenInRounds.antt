@@ -1,5 +1,5 @@
 -- How a pipeline was sent in rounds, and its replies.
-use Rattle.std.specs.Prelude.{◌≡◌, ◌≤◌, ◌⊎◌, ◌+◌, ◌++◌, ◌<◌, ℕ, List, [], None, length, map}
+use Rattle.std.specs.Prelude.{◌≡◌, ◌≤◌, ◌⊎◌, ◌+◌, ◌++◌, ◌<◌, ℕ, List, [], None, get_or, length, map, take}
 use Rattle.std.specs.List.{All, flat_map}
 use Rattle.cluster_slots.specs.Address.{Address}
 use Rattle.redis_routing.specs.Registry.{Registrations}
@@ -9,12 +9,14 @@ use Rattle.redis_cluster.specs.State.{State}
 use Rattle.redis_batches.specs.Amid.{AreServedAmid}
 use Rattle.redis_batches.specs.Pipeline.{Answer, KeepsSlots, Refusals, Serve, Task, numbered}
 use Rattle.redis_batches.specs.Driven.{Grew, HaveAnswered, WereAskedUntil, answers_in, batch_at, parts_by_batch}
-use Rattle.redis_batches.specs.DrivenPipeline.{AreAllTaken, AreAskedBefore, IsEarlyFault, IsOneServer, IsPipelineFault}
+use Rattle.redis_batches.specs.DrivenPipeline.{AreAllTaken, IsEarlyFault, IsOneServer, IsPipelineFault, IsSendable}
+use Rattle.redis_batches.specs.PipelinePlan.{PipelineBatches}
 use Rattle.redis_batches.specs.Placed.{Ranges}
 use Rattle.redis_batches.specs.Replies.{AreRepliesTo, AreUntouched}
 use Rattle.redis_batches.specs.Rounds.{AreRounds, Follows, IsAsOne, IsLast, IsRoundStopped, Round, StaysHere, after_rounds, batch_after, batches_before, by_last_answer, last_round, latest_answers, round_answers, round_batches}
 use Rattle.redis_batches.specs.Taken.{Batch}
 use Rattle.redis_batches.specs.Tasks.{with_slots}
+use Rattle.redis_batches.specs.declared.nodes.BatchNodes.{Ghosts}
 use Rattle.redis_batches.specs.declared.fault.PipelineError.{PipelineError}
 use Rattle.redis_batches.specs.declared.send.Stopped.{Stopped}
 use Rattle.redis_batches.specs.declared.fault.PipelineError.TheVariants.{Node, Memory}
@@ -76,19 +78,17 @@ module _ {C : Type 0} {step : Step C} {serve : Serve C} {kept : Type 0}
   abbrev pub refused_at_last : Refusals
   refused_at_last = after_rounds sent.taken.served.refusals sent.rounds
 
-module _ {C : Type 0} (step : Step C) (serve : Serve C) (kept : Type 0)
-    (may_refuse : ℕ → Ending → Type 0) (registered : Registrations)
-    (is_node : ℕ → Address → Type 0) (commands : List (List (List ℕ))) (order : List ℕ)
-    (retries : ℕ) (asked_old asked_new : List Batch → Type 0)
-    (gave_old gave_new : List (List Answer) → Type 0) (old new : State C) where
+module _ {S : Type 0} (N : Ghosts S) (old new : S) (is_node : ℕ → Address → Type 0)
+    (commands : List (List (List ℕ))) (order : List ℕ) (retries : ℕ) where
   -- No more rounds than retries were sent, and nothing else. What they are answered is what the nodes
   -- gave.
   pub record WereSent : Type 0 where
-    pub so_far : SentSoFar step serve kept may_refuse registered is_node commands order old new
+    pub so_far : SentSoFar N.step N.serve (N.kept new) (N.may_refuse old) (N.registered old) is_node
+        commands order (N.state old) (N.state new)
     pub few : length so_far.rounds ≤ retries
-    pub asked : Grew asked_old asked_new (batches_sent so_far)
+    pub asked : Grew (N.asked old) (N.asked new) (batches_sent so_far)
     pub long : length so_far.given ≡ length so_far.taken.plan.batches.parts
-    pub gave : Grew gave_old gave_new (answers_sent so_far)
+    pub gave : Grew (N.gave old) (N.gave new) (answers_sent so_far)
 
   -- Rounds were sent until no part went out again, or as many as retries. The replies are made of the
   -- last answer to each part. Others may write the same keys meanwhile: a command over many keys has
@@ -102,44 +102,49 @@ module _ {C : Type 0} (step : Step C) (serve : Serve C) (kept : Type 0)
     pub answers : List Answer
     pub latest : answers ≡ latest_answers sent.so_far.given sent.so_far.rounds
     pub replies_are : AreRepliesTo (tasks_sent sent.so_far) answers replies
-    pub amid : AreServedAmid C (tasks_sent sent.so_far) answers replies
+    pub amid : AreServedAmid N.Cell (tasks_sent sent.so_far) answers replies
     pub in_turn : KeepsSlots (map with_slots (tasks_sent sent.so_far))
         (by_last_answer (parts_by_batch sent.so_far.taken.plan.batches
         (numbered (map with_slots (tasks_sent sent.so_far))) order) sent.so_far.rounds)
-    pub as_one : kept → All (StaysHere serve) (tasks_sent sent.so_far)
-        → IsAsOne step serve (map with_slots (tasks_sent sent.so_far)) (refused_at_last sent.so_far)
-        old.keyspace new.keyspace answers
-    pub untouched : kept → All (StaysHere serve) (tasks_sent sent.so_far)
-        → AreUntouched step serve (refused_at_last sent.so_far) (tasks_sent sent.so_far) old.keyspace
+    pub as_one : N.kept new → All (StaysHere N.serve) (tasks_sent sent.so_far)
+        → IsAsOne N.step N.serve (map with_slots (tasks_sent sent.so_far)) (refused_at_last sent.so_far)
+        (N.state old).keyspace (N.state new).keyspace answers
+    pub untouched : N.kept new → All (StaysHere N.serve) (tasks_sent sent.so_far)
+        → AreUntouched N.step N.serve (refused_at_last sent.so_far) (tasks_sent sent.so_far) (N.state old).keyspace
         replies
-    pub one_server : kept → All (StaysHere serve) (tasks_sent sent.so_far)
+    pub one_server : N.kept new → All (StaysHere N.serve) (tasks_sent sent.so_far)
         → All (λ x. refused_at_last sent.so_far x ≡ None)
         (numbered (map with_slots (tasks_sent sent.so_far)))
-        → IsOneServer step serve registered commands old new replies
+        → IsOneServer N.step N.serve (N.registered old) commands (N.state old) (N.state new)
+        replies
 
   -- Some rounds were sent, and of the next one the batches up to one that was not taken. The first
   -- round counts, too.
   pub record StoppedInRounds (stop : Stopped) : Type 0 where
-    pub before : State C
-    pub so_far : SentSoFar step serve kept may_refuse registered is_node commands order old before
+    pub before : State N.Cell
+    pub so_far : SentSoFar N.step N.serve (N.kept new) (N.may_refuse old) (N.registered old) is_node
+        commands order (N.state old) before
     pub few : length so_far.rounds < retries
     pub counted : stop.rounds ≡ length so_far.rounds + 1
     pub next : Round
     pub follows : Follows (last_sent so_far) next
-    pub stopped : IsRoundStopped step serve kept may_refuse registered
-        so_far.taken.plan.batches.parts next before new stop
-    pub asked : WereAskedUntil asked_old asked_new
+    pub stopped : IsRoundStopped N.step N.serve (N.kept new) (N.may_refuse old) (N.registered old)
+        so_far.taken.plan.batches.parts next before (N.state new) stop
+    pub asked : WereAskedUntil (N.asked old) (N.asked new)
         (batches_sent so_far ++ batches_before next stop.answered) (batch_after next stop.answered)
         stop.error
     pub long : length so_far.given ≡ length so_far.taken.plan.batches.parts
-    pub gave : HaveAnswered gave_old gave_new (answers_sent so_far) stop.answered
+    pub gave : HaveAnswered (N.gave old) (N.gave new) (answers_sent so_far) stop.answered
 
   -- why there are no replies
   abbrev pub IsRoundsFault : Ranges → PipelineError → Type 0
   IsRoundsFault ranges (Node stop) =
-      (IsPipelineFault step serve kept may_refuse registered is_node commands order old new ranges
-      (Node stop) × AreAskedBefore registered is_node commands order asked_old asked_new stop
-      × HaveAnswered gave_old gave_new [] stop.answered)
+      (IsPipelineFault N old new is_node commands order ranges (Node stop)
+      × ((plan : PipelineBatches) × IsSendable (N.registered old) is_node commands order plan
+      × WereAskedUntil (N.asked old) (N.asked new)
+      (map (batch_at plan.batches) (take stop.answered order))
+      (batch_at plan.batches (get_or order stop.answered 0)) stop.error)
+      × HaveAnswered (N.gave old) (N.gave new) [] stop.answered)
       ⊎ StoppedInRounds stop
   IsRoundsFault ranges Memory = WereSent
-  IsRoundsFault ranges fault = IsEarlyFault registered ranges is_node commands order fault
+  IsRoundsFault ranges fault = IsEarlyFault (N.registered old) ranges is_node commands order fault

@@ -15,9 +15,8 @@ use Rattle.redis_batches.specs.Placed.{Ranges}
 use Rattle.redis_batches.specs.Plan.{batch_of}
 use Rattle.redis_batches.specs.PipelinePlan.{IsPipelinePlanFault, IsPlanOfCommands, PipelineBatches}
 use Rattle.redis_batches.specs.Replies.{AreRepliesTo, AreUntouched}
-use Rattle.redis_batches.specs.Taken.{Batch}
 use Rattle.redis_cluster.specs.declared.nodes.SendError.TheVariants as sent
-use Rattle.redis_batches.specs.declared.send.Stopped.{Stopped}
+use Rattle.redis_batches.specs.declared.nodes.BatchNodes.{Ghosts}
 use Rattle.redis_batches.specs.declared.fault.PipelineError.{PipelineError}
 use Rattle.redis_batches.specs.declared.fault.PipelineError.TheVariants.{Plan, BadOrder, Node, Memory}
 
@@ -57,74 +56,75 @@ module _ {C : Type 0} (step : Step C) (serve : Serve C) (kept : Type 0)
         plan.batches.parts plan.batches.nodes
         (batch_of sendable.of_commands.node_of plan.batches) order old new given
 
-  -- And these are the replies to the commands. If nodes keep to the meaning, a command with no refused
-  -- part has the reply of one server. It takes the parts that were not refused.
+module _ {S : Type 0} (N : Ghosts S) (old new : S) (is_node : ℕ → Address → Type 0)
+    (commands : List (List (List ℕ))) (order : List ℕ) where
+  -- The batches of a plan were all taken, and these are the replies to the commands. If nodes keep to
+  -- the meaning, a command with no refused part has the reply of one server. It takes the parts that
+  -- were not refused.
   pub record IsPipelineServed (replies : List Answer) : Type 0 where
     pub given : List Answer
-    pub taken : AreAllTaken given
+    pub taken : AreAllTaken N.step N.serve (N.kept new) (N.may_refuse old) (N.registered old) is_node
+        commands order (N.state old) (N.state new) given
     pub replies_are : AreRepliesTo taken.sendable.of_commands.tasks given replies
-    pub untouched : kept → AreUntouched step serve taken.served.refusals
-        taken.sendable.of_commands.tasks old.keyspace replies
+    pub untouched : N.kept new → AreUntouched N.step N.serve taken.served.refusals
+        taken.sendable.of_commands.tasks (N.state old).keyspace replies
 
   -- Why there are no replies. All batches before the one that was not taken were taken, or all
   -- batches were.
   abbrev pub IsPipelineFault : Ranges → PipelineError → Type 0
   IsPipelineFault ranges (Node stop) =
-      (plan : PipelineBatches) × (sendable : IsSendable registered is_node commands order plan)
+      (plan : PipelineBatches)
+      × (sendable : IsSendable (N.registered old) is_node commands order plan)
       × (stop.answered < length order) × (stop.rounds ≡ 0)
-      × WasStopped step serve registered kept may_refuse (map with_slots sendable.of_commands.tasks)
-      plan.batches.parts plan.batches.nodes (batch_of sendable.of_commands.node_of plan.batches)
-      order old new stop.answered stop.error
-  IsPipelineFault ranges Memory = (given : List Answer) × AreAllTaken given
-  IsPipelineFault ranges fault = IsEarlyFault registered ranges is_node commands order fault
+      × WasStopped N.step N.serve (N.registered old) (N.kept new) (N.may_refuse old)
+      (map with_slots sendable.of_commands.tasks) plan.batches.parts plan.batches.nodes
+      (batch_of sendable.of_commands.node_of plan.batches) order (N.state old) (N.state new)
+      stop.answered stop.error
+  IsPipelineFault ranges Memory = (given : List Answer) × AreAllTaken N.step N.serve (N.kept new)
+      (N.may_refuse old) (N.registered old) is_node commands order (N.state old) (N.state new) given
+  IsPipelineFault ranges fault = IsEarlyFault (N.registered old) ranges is_node commands order fault
 
-module _ (registered : Registrations) (is_node : ℕ → Address → Type 0)
-    (commands : List (List (List ℕ))) (order : List ℕ) (old new : List Batch → Type 0) where
   -- Each batch of a plan of the commands was sent once, in the order given, and no other was.
   abbrev pub AreAllAsked : Type 0
-  AreAllAsked = (plan : PipelineBatches) × IsSendable registered is_node commands order plan
-      × Grew old new (map (batch_at plan.batches) order)
+  AreAllAsked =
+      (plan : PipelineBatches) × IsSendable (N.registered old) is_node commands order plan
+      × Grew (N.asked old) (N.asked new) (map (batch_at plan.batches) order)
 
-  -- So were the batches up to the one that was not taken.
-  abbrev pub AreAskedBefore : Stopped → Type 0
-  AreAskedBefore stop =
-      (plan : PipelineBatches) × IsSendable registered is_node commands order plan
-      × WereAskedUntil old new (map (batch_at plan.batches) (take stop.answered order))
-      (batch_at plan.batches (get_or order stop.answered 0)) stop.error
-
-  -- what was sent if there are no replies
+  -- What was sent if there are no replies: so were the batches up to the one that was not taken, or
+  -- all.
   abbrev pub AreAskedUntil : PipelineError → Type 0
-  AreAskedUntil (Node stop) = AreAskedBefore stop
+  AreAskedUntil (Node stop) =
+      (plan : PipelineBatches) × IsSendable (N.registered old) is_node commands order plan
+      × WereAskedUntil (N.asked old) (N.asked new)
+      (map (batch_at plan.batches) (take stop.answered order))
+      (batch_at plan.batches (get_or order stop.answered 0)) stop.error
   AreAskedUntil Memory = AreAllAsked
   AreAskedUntil _ = Unit {0}
 
-module _ (registered : Registrations) (is_node : ℕ → Address → Type 0)
-    (commands : List (List (List ℕ))) (order : List ℕ) (asked_old asked_new : List Batch → Type 0)
-    (gave_old gave_new : List (List Answer) → Type 0) where
   -- Each batch of a plan of the commands was sent once, and no other was. Per slot, the parts went out
   -- in the order of the pipeline. The nodes gave these answers: to each batch those that stand at the
   -- places of its parts.
   pub record AreAllGiven (given : List Answer) : Type 0 where
     pub plan : PipelineBatches
-    pub sendable : IsSendable registered is_node commands order plan
-    pub asked : Grew asked_old asked_new (map (batch_at plan.batches) order)
+    pub sendable : IsSendable (N.registered old) is_node commands order plan
+    pub asked : Grew (N.asked old) (N.asked new) (map (batch_at plan.batches) order)
     pub in_turn : AreInTurn plan.batches (map with_slots sendable.of_commands.tasks) order
     pub long : length given ≡ length plan.batches.parts
-    pub gave : Grew gave_old gave_new (answers_in plan.batches given order)
+    pub gave : Grew (N.gave old) (N.gave new) (answers_in plan.batches given order)
 
   -- The replies are made of these. Others may write the same keys meanwhile: a command over many keys
   -- has the reply of the unsplit command on what the nodes held when they ran its parts. Per slot, the
   -- parts ran in the order of the pipeline, since they went out so: field `in_turn` of `all`.
-  pub record AreMade (C : Type 0) (replies : List Answer) : Type 0 where
+  pub record AreMade (replies : List Answer) : Type 0 where
     pub given : List Answer
     pub all : AreAllGiven given
     pub replies_are : AreRepliesTo all.sendable.of_commands.tasks given replies
-    pub amid : AreServedAmid C all.sendable.of_commands.tasks given replies
+    pub amid : AreServedAmid N.Cell all.sendable.of_commands.tasks given replies
 
   -- What the nodes gave if there are no replies: the answers to the batches before the one that was not
   -- taken, or to all.
   abbrev pub AreGivenUntil : PipelineError → Type 0
-  AreGivenUntil (Node stop) = HaveAnswered gave_old gave_new [] stop.answered
+  AreGivenUntil (Node stop) = HaveAnswered (N.gave old) (N.gave new) [] stop.answered
   AreGivenUntil Memory = (given : List Answer) × AreAllGiven given
   AreGivenUntil _ = Unit {0}
 

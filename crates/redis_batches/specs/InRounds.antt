@@ -3,15 +3,15 @@ use Rattle.std.specs.Prelude.{◌≡◌, ◌≤◌, ◌<◌, ◌⊎◌, ◌+◌,
 use Rattle.std.specs.List.{All, flat_map}
 use Rattle.resp_core.specs.ErrorParts.{ErrorParts}
 use Rattle.resp_core.specs.declared.value.Value.{Value}
-use Rattle.redis_routing.specs.Registry.{Registrations}
 use Rattle.redis_cluster.specs.State.{State}
-use Rattle.redis_cluster.specs.Trace.{Ending}
 use Rattle.redis_cluster.specs.Unsplit.{Keyspace, Step}
 use Rattle.redis_batches.specs.Driven.{Grew, HaveAnswered, WereAskedUntil}
 use Rattle.redis_batches.specs.Pipeline.{Answer, Planned, Refusals, Serve, ended}
 use Rattle.redis_batches.specs.Rounds.{AreRounds, Follows, IsAsOne, IsLast, IsRoundStopped, Round, after_rounds, batch_after, batches_before, last_round, latest_answers, round_answers, round_batches, StaysHere}
-use Rattle.redis_batches.specs.Taken.{Batch, answer_of}
+use Rattle.redis_batches.specs.Taken.{answer_of}
 use Rattle.redis_batches.specs.Turns.{answers}
+use Rattle.redis_batches.specs.declared.nodes.BatchNodes.{Ghosts}
+use Rattle.redis_batches.specs.declared.send.Stopped.{Stopped}
 use Rattle.redis_batches.specs.declared.fault.PipelineError.{PipelineError}
 use Rattle.redis_batches.specs.declared.fault.PipelineError.TheVariants.{Plan, BadOrder, Node, Memory}
 
@@ -32,42 +32,49 @@ pub record Stands {C : Type 0} (step : Step C) (serve : Serve C) (ps : List Plan
   pub given_are : round.given
       ≡ map (λ a. a.1) (answers (ended step serve round.refusals) round.sent before)
 
-module _ {C : Type 0} (step : Step C) (serve : Serve C) (kept : Type 0)
-    (may_refuse : ℕ → Ending → Type 0) (registered : Registrations)
-    (arguments : List (List (List ℕ))) (ps : List Planned) (round : Round) (retries : ℕ)
-    (old new : State C) where
-  -- Rounds were sent after this one until no part went out again, or as many as retries.
-  pub record AreSentAgain (asked_old asked_new : List Batch → Type 0)
-      (gave_old gave_new : List (List Answer) → Type 0)
-      (before after : List (Result Value ErrorParts)) : Type 0 where
+module _ {S : Type 0} (N : Ghosts S) (old new : S) (arguments : List (List (List ℕ)))
+    (round : Round) (retries : ℕ) where
+  -- rounds were sent after this one, no more than retries
+  pub record WereSentAgain : Type 0 where
     pub rounds : List Round
     pub few : length rounds ≤ retries
-    pub again : AreRounds step serve kept may_refuse registered arguments round rounds old new
-    pub asked : Grew asked_old asked_new (flat_map round_batches rounds)
-    pub gave : Grew gave_old gave_new (flat_map round_answers rounds)
-    pub done : (length rounds ≡ retries) ⊎ IsLast (last_round round rounds)
-    pub latest : map answer_of after ≡ latest_answers (map answer_of before) rounds
-    pub as_one : kept → All (StaysHere serve) (map (λ p. p.task) ps) → (start : Keyspace C) (refusals : Refusals)
-        → Stands step serve ps refusals round start old.keyspace before
-        → IsAsOne step serve ps (after_rounds refusals rounds) start new.keyspace (map answer_of after)
+    pub again : AreRounds N.step N.serve (N.kept new) (N.may_refuse old) (N.registered old)
+        arguments round rounds (N.state old) (N.state new)
+    pub asked : Grew (N.asked old) (N.asked new) (flat_map round_batches rounds)
+    pub gave : Grew (N.gave old) (N.gave new) (flat_map round_answers rounds)
 
-  -- Why they were not, or their answers are lost. The round in front of them counts, too.
-  abbrev pub IsAgainFault : (asked_old asked_new : List Batch → Type 0)
-      → (gave_old gave_new : List (List Answer) → Type 0) → PipelineError → Type 0
-  IsAgainFault asked_old asked_new gave_old gave_new (Plan fault) = ⊥
-  IsAgainFault asked_old asked_new gave_old gave_new BadOrder = ⊥
-  IsAgainFault asked_old asked_new gave_old gave_new (Node stop) =
-      (rounds : List Round) × (length rounds < retries) × (between : State C)
-      × AreRounds step serve kept may_refuse registered arguments round rounds old between
-      × (next : Round) × Follows (last_round round rounds) next
-      × IsRoundStopped step serve kept may_refuse registered arguments next between new stop
-      × WereAskedUntil asked_old asked_new
-      (flat_map round_batches rounds ++ batches_before next stop.answered)
-      (batch_after next stop.answered) stop.error
-      × HaveAnswered gave_old gave_new (flat_map round_answers rounds) stop.answered
-      × (stop.rounds ≡ length rounds + 1)
-  IsAgainFault asked_old asked_new gave_old gave_new Memory =
-      (rounds : List Round) × (length rounds ≤ retries)
-      × AreRounds step serve kept may_refuse registered arguments round rounds old new
-      × Grew asked_old asked_new (flat_map round_batches rounds)
-      × Grew gave_old gave_new (flat_map round_answers rounds)
+  -- Rounds were sent, and of the next one the batches up to one that was not taken. The round in front
+  -- of them counts, too.
+  pub record StoppedAgain (stop : Stopped) : Type 0 where
+    pub rounds : List Round
+    pub few : length rounds < retries
+    pub counted : stop.rounds ≡ length rounds + 1
+    pub between : State N.Cell
+    pub again : AreRounds N.step N.serve (N.kept new) (N.may_refuse old) (N.registered old)
+        arguments round rounds (N.state old) between
+    pub next : Round
+    pub follows : Follows (last_round round rounds) next
+    pub stopped : IsRoundStopped N.step N.serve (N.kept new) (N.may_refuse old) (N.registered old)
+        arguments next between (N.state new) stop
+    pub asked : WereAskedUntil (N.asked old) (N.asked new)
+        (flat_map round_batches rounds ++ batches_before next stop.answered)
+        (batch_after next stop.answered) stop.error
+    pub gave : HaveAnswered (N.gave old) (N.gave new) (flat_map round_answers rounds) stop.answered
+
+  -- why they were not all sent, or their answers are lost
+  abbrev pub IsAgainFault : PipelineError → Type 0
+  IsAgainFault (Plan fault) = ⊥
+  IsAgainFault BadOrder = ⊥
+  IsAgainFault (Node stop) = StoppedAgain stop
+  IsAgainFault Memory = WereSentAgain
+
+  -- Rounds were sent until no part went out again, or as many as retries.
+  pub record AreSentAgain (ps : List Planned) (before after : List (Result Value ErrorParts)) : Type 0 where
+    pub sent : WereSentAgain
+    pub done : (length sent.rounds ≡ retries) ⊎ IsLast (last_round round sent.rounds)
+    pub latest : map answer_of after ≡ latest_answers (map answer_of before) sent.rounds
+    pub as_one : N.kept new → All (StaysHere N.serve) (map (λ p. p.task) ps)
+        → (start : Keyspace N.Cell) (refusals : Refusals)
+        → Stands N.step N.serve ps refusals round start (N.state old).keyspace before
+        → IsAsOne N.step N.serve ps (after_rounds refusals sent.rounds) start
+        (N.state new).keyspace (map answer_of after)

@@ -6,6 +6,8 @@ pub mod Batched
 pub mod Grouped
 pub mod Plan
 pub mod Driven
+pub mod Frame
+pub mod BatchSends
 pub mod PartArguments
 pub mod Tasks
 pub mod CommandTask

@@ -8,20 +8,20 @@ use Rattle.cluster_slots.specs.Address.{Address}
 use Rattle.resp_core.specs.ErrorParts.{ErrorParts}
 use Rattle.resp_core.specs.declared.value.Value.{Value}
 use Rattle.redis_routing.specs.Registry.{Registrations}
-use Rattle.redis_cluster.specs.State.{State}
-use Rattle.redis_cluster.specs.Trace.{Ending}
-use Rattle.redis_cluster.specs.Unsplit.{Step}
 use Rattle.redis_batches.specs.Batched.{AreFor, IsRight, put_at}
 use Rattle.redis_batches.specs.Chosen.{has_slot}
 use Rattle.redis_batches.specs.Driven.{Grew, HaveAnswered, WereAskedUntil}
-use Rattle.redis_batches.specs.Pipeline.{Answer, AreSlotsOf, Planned, Serve, numbered, pieces, slot_of}
+use Rattle.redis_batches.specs.Pipeline.{Answer, AreSlotsOf, Planned, numbered, pieces, slot_of}
+use Rattle.redis_batches.specs.Plan.{Batches, IsByNode, IsPlan}
 use Rattle.redis_batches.specs.Rounds.{AreSentOn, Follows, IsRoundServed, IsRoundStopped, IsSentOn, Round, batch_after, batches_before, go_on, goes_to, is_settled, round_answers, round_batches}
 use Rattle.redis_batches.specs.Sent.{AreApart, AreLast}
-use Rattle.redis_batches.specs.Taken.{Batch, answer_of, task_of}
+use Rattle.redis_batches.specs.Taken.{answer_of, task_of}
 use Rattle.redis_batches.specs.declared.fault.PipelineError.{PipelineError}
 use Rattle.redis_batches.specs.declared.fault.PipelineError.TheVariants.{Plan, BadOrder, Node, Memory}
 use Rattle.redis_batches.specs.declared.going.Outgoing.{Outgoing}
 use Rattle.redis_batches.specs.declared.going.Walk.{Walk}
+use Rattle.redis_batches.specs.declared.nodes.BatchNodes.{Ghosts}
+use Rattle.redis_batches.specs.declared.send.Stopped.{Stopped}
 
 -- the slot of the part of a number
 abbrev pub slot_at : List ℕ → ℕ → ℕ
@@ -66,6 +66,13 @@ pub record GoesBehind (ps : List Planned) (round : Round) (out : Outgoing) : Typ
   pub numbers_are : out.numbers.items ≡ map (λ x. x.0) (go_on slot_of (zip round.sent on))
   pub nodes_are : (s : ℕ) → node_in out.nodes.entries s ≡ goes_to slot_of s (zip round.sent on)
 
+-- The batches of the parts of these numbers, one for each of these nodes.
+pub record IsPlanFor (arguments : List (List (List ℕ))) (numbers : List ℕ) (nodes : List Address)
+    (plan : Batches) : Type 0 where
+  pub whole : IsPlan plan
+  pub by_node : IsByNode plan nodes
+  pub parts : plan.parts ≡ map (λ number. get_or arguments number []) numbers
+
 -- These answers were put at the places of the parts of a round.
 pub record ArePutAt (round : Round) (replies old new : List (Result Value ErrorParts)) : Type 0 where
   pub given_are : round.given ≡ map answer_of replies
@@ -76,35 +83,38 @@ pub record ArePutAt (round : Round) (replies old new : List (Result Value ErrorP
   pub others : (all : List Answer) → AreFor all (map (λ x. x.0) round.sent) replies
       → (place : ℕ) → IsRight old all place → IsRight new all place
 
-module _ {C : Type 0} (step : Step C) (serve : Serve C) (kept : Type 0)
-    (may_refuse : ℕ → Ending → Type 0) (registered : Registrations)
-    (arguments : List (List (List ℕ))) (ps : List Planned) (round : Round) (old new : State C) where
-  -- The next round was served, its answers were put at their places, and these go out after it.
-  pub record IsNextServed (asked_old asked_new : List Batch → Type 0)
-      (gave_old gave_new : List (List Answer) → Type 0)
-      (before after : List (Result Value ErrorParts)) (out : Outgoing) : Type 0 where
+module _ {S : Type 0} (N : Ghosts S) (old new : S) (arguments : List (List (List ℕ)))
+    (round : Round) where
+  -- the next round was served
+  pub record IsNextSent : Type 0 where
     pub next : Round
     pub follows : Follows round next
-    pub served : IsRoundServed step serve kept may_refuse registered arguments next old new
-    pub asked : Grew asked_old asked_new (round_batches next)
-    pub gave : Grew gave_old gave_new (round_answers next)
-    pub replies : List (Result Value ErrorParts)
-    pub put : ArePutAt next replies before after
-    pub behind : GoesBehind ps next out
+    pub served : IsRoundServed N.step N.serve (N.kept new) (N.may_refuse old) (N.registered old)
+        arguments next (N.state old) (N.state new)
+    pub asked : Grew (N.asked old) (N.asked new) (round_batches next)
+    pub gave : Grew (N.gave old) (N.gave new) (round_answers next)
 
-  -- why the next round was not served, or its answers are lost
-  abbrev pub IsNextFault : (asked_old asked_new : List Batch → Type 0)
-      → (gave_old gave_new : List (List Answer) → Type 0) → PipelineError → Type 0
-  IsNextFault asked_old asked_new gave_old gave_new (Plan fault) = ⊥
-  IsNextFault asked_old asked_new gave_old gave_new BadOrder = ⊥
-  IsNextFault asked_old asked_new gave_old gave_new (Node stop) = (next : Round) × Follows round next
-      × IsRoundStopped step serve kept may_refuse registered arguments next old new stop
-      × WereAskedUntil asked_old asked_new (batches_before next stop.answered)
-      (batch_after next stop.answered) stop.error
-      × HaveAnswered gave_old gave_new [] stop.answered
-  IsNextFault asked_old asked_new gave_old gave_new Memory =
-      ((new ≡ old) × Grew asked_old asked_new [] × Grew gave_old gave_new [])
-      ⊎ ((next : Round) × Follows round next
-      × IsRoundServed step serve kept may_refuse registered arguments next old new
-      × Grew asked_old asked_new (round_batches next)
-      × Grew gave_old gave_new (round_answers next))
+  -- it stopped before a batch that was not taken
+  pub record IsNextStopped (stop : Stopped) : Type 0 where
+    pub next : Round
+    pub follows : Follows round next
+    pub stopped : IsRoundStopped N.step N.serve (N.kept new) (N.may_refuse old) (N.registered old)
+        arguments next (N.state old) (N.state new) stop
+    pub asked : WereAskedUntil (N.asked old) (N.asked new) (batches_before next stop.answered)
+        (batch_after next stop.answered) stop.error
+    pub gave : HaveAnswered (N.gave old) (N.gave new) [] stop.answered
+
+  -- why it was not served, or its answers are lost
+  abbrev pub IsNextFault : PipelineError → Type 0
+  IsNextFault (Plan fault) = ⊥
+  IsNextFault BadOrder = ⊥
+  IsNextFault (Node stop) = IsNextStopped stop
+  IsNextFault Memory = (new ≡ old) ⊎ IsNextSent
+
+  -- It was served, its answers were put at their places, and these go out after it.
+  pub record IsNextServed (ps : List Planned) (before after : List (Result Value ErrorParts))
+      (out : Outgoing) : Type 0 where
+    pub sent : IsNextSent
+    pub replies : List (Result Value ErrorParts)
+    pub put : ArePutAt sent.next replies before after
+    pub behind : GoesBehind ps sent.next out

@@ -1,10 +1,10 @@
-ghost use Rattle.std.specs.Prelude.{◌≡◌, ◌↔◌, ◌⊎◌, ℕ, false, length, map, IfOk, IfErr, OnOk};
+ghost use Rattle.std.specs.Prelude.{◌≡◌, ◌⊎◌, false, length, map, IfOk, IfErr, OnOk};
 ghost use Rattle.std.specs.List.{All};
 ghost use Rattle.redis_routing.specs.Names.{names_of};
 ghost use Rattle.redis_cluster.specs.Driven.{AreAllAnswered};
-ghost use Rattle.redis_cluster.specs.Trace.{Ending};
 ghost use Rattle.redis_batches.specs.Driven.{AlwaysAnswers, NeverRefuses};
 ghost use Rattle.redis_batches.specs.DrivenPipeline.{AreAllAsked, AreAskedUntil, AreGivenUntil, AreMade, IsBeforeSending, IsEarlyFault, IsOneServer, IsPipelineFault, IsPipelineServed, IsSendable, IsWantOfMemory};
+ghost use Rattle.redis_batches.specs.Frame.{SameNodes};
 ghost use Rattle.redis_batches.specs.Plan.{IsPlan};
 ghost use Rattle.redis_batches.specs.Reads.{IsSlotNode};
 ghost use Rattle.redis_batches.specs.Taken.{answer_of};
@@ -54,22 +54,18 @@ pub fn drive_pipeline<N: BatchNodes>(
     // Where the nodes keep to the meaning, keyspace and answers are those of the parts in the order
     // of the pipeline.
     ensures served { IfOk result (λ replies.
-        IsPipelineServed N.step N.serve (N.kept nodes.new) (N.may_refuse nodes.old)
-        (N.registered nodes.old)
+        IsPipelineServed ⟦<N as BatchNodes>⟧ nodes.old nodes.new
         (IsSlotNode strategy.entry (λ s. picks s.now) slot_map.now
         (names_of read_only.now (N.registered nodes.old)) commands.now)
-        commands.now order.now
-        (N.state nodes.old) (N.state nodes.new)
-        (map answer_of replies.items)) }
+        commands.now order.now (map answer_of replies.items)) }
     // The replies are made of the answers that the nodes gave, whatever they mean. Others may write the
     // same keys meanwhile, and replicas may lag. Field `amid`: a command over many keys has the reply
     // of the unsplit command on what the nodes held when they ran its parts. Field `in_turn` of `all`:
     // per slot, the parts went out in the order of the pipeline.
-    ensures made { IfOk result (λ replies. AreMade (N.registered nodes.old)
+    ensures made { IfOk result (λ replies. AreMade ⟦<N as BatchNodes>⟧ nodes.old nodes.new
         (IsSlotNode strategy.entry (λ s. picks s.now) slot_map.now
         (names_of read_only.now (N.registered nodes.old)) commands.now)
-        commands.now order.now (N.asked nodes.old) (N.asked nodes.new)
-        (N.gave nodes.old) (N.gave nodes.new) N.Cell (map answer_of replies.items)) }
+        commands.now order.now (map answer_of replies.items)) }
     // Where no part was refused and the nodes keep to the meaning, keyspace and replies are those of
     // one server that takes the commands.
     ensures one_server { IfOk result (λ replies.
@@ -82,39 +78,33 @@ pub fn drive_pipeline<N: BatchNodes>(
         (NeverRefuses (N.may_refuse nodes.old) (length (N.state nodes.old).trace)
         → AreAllAnswered (N.state nodes.old).trace (N.state nodes.new).trace) }
     // Each batch was sent once, in the order given,
-    ensures each_once { OnOk result (AreAllAsked (N.registered nodes.old)
+    ensures each_once { OnOk result (AreAllAsked ⟦<N as BatchNodes>⟧ nodes.old nodes.new
         (IsSlotNode strategy.entry (λ s. picks s.now) slot_map.now
         (names_of read_only.now (N.registered nodes.old)) commands.now)
-        commands.now order.now (N.asked nodes.old) (N.asked nodes.new)) }
+        commands.now order.now) }
     // up to the one that was not taken.
-    ensures none_later { IfErr result (λ error. AreAskedUntil (N.registered nodes.old)
+    ensures none_later { IfErr result (λ error. AreAskedUntil ⟦<N as BatchNodes>⟧ nodes.old nodes.new
         (IsSlotNode strategy.entry (λ s. picks s.now) slot_map.now
         (names_of read_only.now (N.registered nodes.old)) commands.now)
-        commands.now order.now (N.asked nodes.old) (N.asked nodes.new) error) }
+        commands.now order.now error) }
     // The nodes gave answers to the batches before it, and no others.
-    ensures given { IfErr result (λ error. AreGivenUntil (N.registered nodes.old)
+    ensures given { IfErr result (λ error. AreGivenUntil ⟦<N as BatchNodes>⟧ nodes.old nodes.new
         (IsSlotNode strategy.entry (λ s. picks s.now) slot_map.now
         (names_of read_only.now (N.registered nodes.old)) commands.now)
-        commands.now order.now (N.asked nodes.old) (N.asked nodes.new)
-        (N.gave nodes.old) (N.gave nodes.new) error) }
+        commands.now order.now error) }
     // Each fault has its cause.
     ensures fault { IfErr result (λ error.
-        IsPipelineFault N.step N.serve (N.kept nodes.new) (N.may_refuse nodes.old)
-        (N.registered nodes.old)
+        IsPipelineFault ⟦<N as BatchNodes>⟧ nodes.old nodes.new
         (IsSlotNode strategy.entry (λ s. picks s.now) slot_map.now
         (names_of read_only.now (N.registered nodes.old)) commands.now)
-        commands.now order.now
-        (N.state nodes.old) (N.state nodes.new) slot_map.now error) }
+        commands.now order.now slot_map.now error) }
     // Where nodes may do nothing but answer, it is what a plan or the order lacks, or memory.
     ensures unhindered { IfErr result (λ error.
         AlwaysAnswers (N.may_refuse nodes.old) (length (N.state nodes.old).trace)
         → IsBeforeSending error ⊎ IsWantOfMemory (N.state nodes.new).mark error) }
     // Where the commands, the map or the order is at fault, nothing was sent.
     ensures untouched { IfErr result (λ error. IsBeforeSending error → nodes.new ≡ nodes.old) }
-    ensures kept { N.kept nodes.new → N.kept nodes.old }
-    ensures may_refuse { (count : ℕ) (ending : Ending) → N.may_refuse nodes.new count ending
-        ↔ N.may_refuse nodes.old count ending }
-    ensures registered { N.registered nodes.new ≡ N.registered nodes.old }
+    ensures frame { SameNodes ⟦<N as BatchNodes>⟧ nodes.old nodes.new }
 {
     let plan = match plan_in_order(alloc, commands, read_only, slot_map, strategy, order, nodes) {
         Ok(plan) => plan,

@@ -1,12 +1,12 @@
-ghost use Rattle.std.specs.Prelude.{◌≡◌, ◌++◌, ◌↔◌, ℕ, List, length, map, IfOk, IfErr, OnOk};
+ghost use Rattle.std.specs.Prelude.{◌≡◌, ◌++◌, List, length, map, IfOk, IfErr, OnOk};
 ghost use Rattle.std.specs.List.{flat_map, range_with_len};
 ghost use Rattle.redis_routing.specs.Names.{names_of};
 ghost use Rattle.redis_routing.specs.RoutingInfo.{route_lists};
 ghost use Rattle.redis_routing.specs.Split.{slots_of};
-ghost use Rattle.redis_cluster.specs.Trace.{Ending};
 ghost use Rattle.redis_batches.specs.CommandTask.{slots_kept};
 ghost use Rattle.redis_batches.specs.DrivenInRounds.{AreServedInRounds, IsRoundsFault};
 ghost use Rattle.redis_batches.specs.DrivenPipeline.{IsBeforeSending};
+ghost use Rattle.redis_batches.specs.Frame.{SameNodes};
 ghost use Rattle.redis_batches.specs.InRounds.{AreSentAgain, IsAgainFault, fault_behind};
 ghost use Rattle.redis_batches.specs.Outgoing.{ArePartsOf, GoesBehind, IsNext};
 ghost use Rattle.redis_batches.specs.PartArguments.{sent_args};
@@ -79,29 +79,20 @@ pub fn drive_pipeline_retrying<N: BatchNodes>(
     // the meaning, and no command of the pipeline answers an error of its own that reads as one of the
     // three, keyspace and answers are those of the parts in the order of the pipeline.
     ensures served { IfOk result (λ replies.
-        AreServedInRounds N.step N.serve (N.kept nodes.new) (N.may_refuse nodes.old)
-        (N.registered nodes.old)
+        AreServedInRounds ⟦<N as BatchNodes>⟧ nodes.old nodes.new
         (IsSlotNode strategy.entry (λ s. picks s.now) slot_map.now
         (names_of read_only.now (N.registered nodes.old)) commands.now)
-        commands.now order.now retries (N.asked nodes.old) (N.asked nodes.new)
-        (N.gave nodes.old) (N.gave nodes.new) (N.state nodes.old) (N.state nodes.new)
-        (map answer_of replies.items)) }
+        commands.now order.now retries (map answer_of replies.items)) }
     // Each fault has its cause: up to the batch that was not taken, or up to the last round, each batch
     // was sent once, no other was, and the nodes gave the answers to just these.
     ensures fault { IfErr result (λ error.
-        IsRoundsFault N.step N.serve (N.kept nodes.new) (N.may_refuse nodes.old)
-        (N.registered nodes.old)
+        IsRoundsFault ⟦<N as BatchNodes>⟧ nodes.old nodes.new
         (IsSlotNode strategy.entry (λ s. picks s.now) slot_map.now
         (names_of read_only.now (N.registered nodes.old)) commands.now)
-        commands.now order.now retries (N.asked nodes.old) (N.asked nodes.new)
-        (N.gave nodes.old) (N.gave nodes.new) (N.state nodes.old) (N.state nodes.new) slot_map.now
-        error) }
+        commands.now order.now retries slot_map.now error) }
     // Where the commands, the map or the order is at fault, nothing was sent.
     ensures untouched { IfErr result (λ error. IsBeforeSending error → nodes.new ≡ nodes.old) }
-    ensures kept { N.kept nodes.new → N.kept nodes.old }
-    ensures may_refuse { (count : ℕ) (ending : Ending) → N.may_refuse nodes.new count ending
-        ↔ N.may_refuse nodes.old count ending }
-    ensures registered { N.registered nodes.new ≡ N.registered nodes.old }
+    ensures frame { SameNodes ⟦<N as BatchNodes>⟧ nodes.old nodes.new }
 {
     let plan = match plan_in_order(alloc, commands, read_only, slot_map, strategy, order, nodes) {
         Ok(plan) => plan,
@@ -111,13 +102,10 @@ pub fn drive_pipeline_retrying<N: BatchNodes>(
     if let Err(stop) = send_batches(alloc, &mut batches, order, nodes) {
         return Err(PipelineError::Node(stop));
     }
-    let Ok(slots) = all_slots(alloc, tasks.as_slice()) else {
-        return Err(PipelineError::Memory);
-    };
     let (parts, mut answers) = batches.into_rest();
-    let Ok(out) = first_parts(
+    let Ok((slots, out)) = behind_first(
         alloc,
-        slots.as_slice(),
+        tasks.as_slice(),
         targets.as_slice(),
         answers.as_slice(),
     ) else {
@@ -150,22 +138,14 @@ fn send_again<N: BatchNodes>(
     ensures again { OnOk result ((ps : List Planned) (round : Round)
         → ArePartsOf (N.registered nodes.old) ps (map sent_args parts.now) slots.now
         → GoesBehind ps round out
-        → AreSentAgain N.step N.serve (N.kept nodes.new) (N.may_refuse nodes.old)
-        (N.registered nodes.old) (map sent_args parts.now) ps round retries
-        (N.state nodes.old) (N.state nodes.new) (N.asked nodes.old) (N.asked nodes.new)
-        (N.gave nodes.old) (N.gave nodes.new) answers.old.items answers.new.items) }
+        → AreSentAgain ⟦<N as BatchNodes>⟧ nodes.old nodes.new (map sent_args parts.now) round retries ps
+        answers.old.items answers.new.items) }
     ensures fault { IfErr result (λ error. (ps : List Planned) (round : Round)
         → ArePartsOf (N.registered nodes.old) ps (map sent_args parts.now) slots.now
         → GoesBehind ps round out
-        → IsAgainFault N.step N.serve (N.kept nodes.new) (N.may_refuse nodes.old)
-        (N.registered nodes.old) (map sent_args parts.now) ps round retries
-        (N.state nodes.old) (N.state nodes.new) (N.asked nodes.old) (N.asked nodes.new)
-        (N.gave nodes.old) (N.gave nodes.new) error) }
+        → IsAgainFault ⟦<N as BatchNodes>⟧ nodes.old nodes.new (map sent_args parts.now) round retries error) }
     ensures room { OnOk result (length answers.new.items ≡ length answers.old.items) }
-    ensures kept { N.kept nodes.new → N.kept nodes.old }
-    ensures may_refuse { (count : ℕ) (ending : Ending) → N.may_refuse nodes.new count ending
-        ↔ N.may_refuse nodes.old count ending }
-    ensures registered { N.registered nodes.new ≡ N.registered nodes.old }
+    ensures frame { SameNodes ⟦<N as BatchNodes>⟧ nodes.old nodes.new }
 {
     let mut out = out;
     for round in 0..retries {
@@ -191,6 +171,25 @@ fn fault_behind(error: PipelineError, rounds: usize) -> PipelineError
         }
         error => error,
     }
+}
+
+/// The slot of each part of some commands, and the parts that go out again after all were answered.
+fn behind_first(
+    alloc: Global,
+    tasks: &[CommandTask<'_>],
+    targets: &[&NodeAddress],
+    given: &[Result<Value, RedisError>],
+) -> Result<(Vec<u16>, Outgoing), AllocError>
+    requires targets { length targets.now ≡ length (flat_map slots_kept tasks.now) }
+    requires given { length given.now ≡ length (flat_map slots_kept tasks.now) }
+    ensures slots { IfOk result (λ found. found.0.items ≡ flat_map slots_kept tasks.now) }
+    ensures next { IfOk result (λ found. IsNext found.0.items
+        (range_with_len 0 (length found.0.items)) (map (λ node. node.now) targets.now)
+        (map answer_of given.now) found.1) }
+{
+    let slots = all_slots(alloc, tasks)?;
+    let out = first_parts(alloc, slots.as_slice(), targets, given)?;
+    Ok((slots, out))
 }
 
 /// The parts that go out again after all parts were answered.

@@ -1,10 +1,9 @@
-ghost use Rattle.std.specs.Prelude.{◌≡◌, ◌<◌, ◌↔◌, [], ℕ, List, false, IsSome, get_or, map, length, IfOk, IfErr, OnOk};
+ghost use Rattle.std.specs.Prelude.{◌≡◌, ◌<◌, [], ℕ, List, false, IsSome, get_or, map, length, IfOk, IfErr, OnOk};
 ghost use Rattle.std.specs.List.{All, range_with_len};
-ghost use Rattle.redis_cluster.specs.Trace.{Ending};
-ghost use Rattle.redis_batches.specs.Outgoing.{ArePartsOf, GoesBehind, IsNextFault, IsNextServed, node_for, node_in, slot_at};
+ghost use Rattle.redis_batches.specs.Frame.{SameNodes};
+ghost use Rattle.redis_batches.specs.Outgoing.{ArePartsOf, GoesBehind, IsNextFault, IsNextServed, IsPlanFor, node_for, node_in, slot_at};
 ghost use Rattle.redis_batches.specs.PartArguments.{sent_args};
 ghost use Rattle.redis_batches.specs.Pipeline.{Planned};
-ghost use Rattle.redis_batches.specs.Plan.{IsByNode, IsPlan};
 ghost use Rattle.redis_batches.specs.Rounds.{Round};
 
 use crate::fault::PipelineError;
@@ -67,11 +66,9 @@ fn round_plan<'b>(
 ) -> Result<BatchPlan<'b>, AllocError>
     requires within { All (λ number. number < length parts.now) numbers.now }
     requires same { length nodes.now ≡ length numbers.now }
-    ensures by_node { IfOk result (λ plan. IsByNode plan (map (λ node. node.now) nodes.now)) }
-    ensures parts { IfOk result (λ plan. plan.parts
-        ≡ map (λ number. get_or (map sent_args parts.now) number []) numbers.now) }
+    ensures planned { IfOk result (λ plan. IsPlanFor (map sent_args parts.now) numbers.now
+        (map (λ node. node.now) nodes.now) plan) }
     ensures untold { IfOk result (λ plan. All (λ told. told ≡ false) plan.told) }
-    ensures plan { IfOk result (λ plan. IsPlan plan) }
 {
     let refs = refs_of(alloc, parts, numbers)?;
     BatchPlan::new(alloc, refs, nodes)
@@ -102,22 +99,14 @@ pub(super) fn send_round<N: BatchNodes>(
     ensures served { IfOk result (λ next. (ps : List Planned) (round : Round)
         → ArePartsOf (N.registered nodes.old) ps (map sent_args parts.now) slots.now
         → GoesBehind ps round out.now
-        → IsNextServed N.step N.serve (N.kept nodes.new) (N.may_refuse nodes.old)
-        (N.registered nodes.old) (map sent_args parts.now) ps round
-        (N.state nodes.old) (N.state nodes.new) (N.asked nodes.old) (N.asked nodes.new)
-        (N.gave nodes.old) (N.gave nodes.new) answers.old.items answers.new.items next) }
+        → IsNextServed ⟦<N as BatchNodes>⟧ nodes.old nodes.new (map sent_args parts.now) round ps
+        answers.old.items answers.new.items next) }
     ensures fault { IfErr result (λ error. (ps : List Planned) (round : Round)
         → ArePartsOf (N.registered nodes.old) ps (map sent_args parts.now) slots.now
         → GoesBehind ps round out.now
-        → IsNextFault N.step N.serve (N.kept nodes.new) (N.may_refuse nodes.old)
-        (N.registered nodes.old) (map sent_args parts.now) ps round
-        (N.state nodes.old) (N.state nodes.new) (N.asked nodes.old) (N.asked nodes.new)
-        (N.gave nodes.old) (N.gave nodes.new) error) }
+        → IsNextFault ⟦<N as BatchNodes>⟧ nodes.old nodes.new (map sent_args parts.now) round error) }
     ensures room { OnOk result (length answers.new.items ≡ length answers.old.items) }
-    ensures kept { N.kept nodes.new → N.kept nodes.old }
-    ensures may_refuse { (count : ℕ) (ending : Ending) → N.may_refuse nodes.new count ending
-        ↔ N.may_refuse nodes.old count ending }
-    ensures registered { N.registered nodes.new ≡ N.registered nodes.old }
+    ensures frame { SameNodes ⟦<N as BatchNodes>⟧ nodes.old nodes.new }
 {
     let numbers = out.numbers.as_slice();
     let Ok(targets) = nodes_of(alloc, slots, numbers, &out.nodes) else {

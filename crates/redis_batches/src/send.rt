@@ -1,11 +1,12 @@
-ghost use Rattle.std.specs.Prelude.{◌≡◌, ◌<◌, ◌↔◌, ◌∷◌, [], ℕ, List, Some, true, false, length, map, get_or, slice_get, slice_set, take, IfOk, IfErr, OnOk, OnErr};
+ghost use Rattle.std.specs.Prelude.{◌≡◌, ◌<◌, ◌∷◌, [], ℕ, List, Some, true, false, length, map, slice_get, slice_set, IfOk, IfErr, OnOk, OnErr};
 ghost use Rattle.std.specs.List.{All};
 ghost use Rattle.redis_cluster.specs.Orders.{NamesOnce, in_order};
-ghost use Rattle.redis_cluster.specs.Trace.{Ending};
 ghost use Rattle.redis_batches.specs.Pipeline.{Answer, AreSlotsOf, Planned};
 ghost use Rattle.redis_batches.specs.Batched.{AreBatches, AreFor, IsRight, put_at};
-ghost use Rattle.redis_batches.specs.Taken.{answer_of, IsTaken, IsNotTaken};
-ghost use Rattle.redis_batches.specs.Driven.{Grew, HaveAnswered, answers_in, batch_at, node_at, IsServed, WasStopped, WereAskedUntil};
+ghost use Rattle.redis_batches.specs.BatchSends.{AreBatchesSent, AreBatchesStopped, IsBatchNotTaken, IsBatchTaken};
+ghost use Rattle.redis_batches.specs.Taken.{answer_of};
+ghost use Rattle.redis_batches.specs.Driven.{Grew, batch_at, WereAskedUntil};
+ghost use Rattle.redis_batches.specs.Frame.{SameNodes};
 ghost use Rattle.redis_batches.specs.Plan.{IsPlan};
 
 use crate::nodes::BatchNodes;
@@ -64,39 +65,13 @@ pub fn send_batches<N: BatchNodes>(
     requires order { NamesOnce (length plan.old.places) order.now }
     requires batches { (ps : List Planned) × All (λ p. AreSlotsOf p.task p.slots) ps
         × AreBatches (N.registered nodes.old) ps plan.old.parts plan.old.places }
-    ensures served { OnOk result ((ps : List Planned) → All (λ p. AreSlotsOf p.task p.slots) ps
-        → (is : AreBatches (N.registered nodes.old) ps plan.old.parts plan.old.places)
-        → IsServed N.step N.serve (N.kept nodes.new) (N.may_refuse nodes.old) ps plan.old.parts
-        plan.old.nodes is.batch order.now
-        (N.state nodes.old) (N.state nodes.new)
+    ensures sent { OnOk result (AreBatchesSent ⟦<N as BatchNodes>⟧ nodes.old nodes.new plan.old order.now
         (map answer_of plan.new.answers)) }
-    // The batches before the one that was not taken were, and that one was not as its node may, or
-    // for want of memory.
-    ensures stopped { IfErr result (λ stop. (ps : List Planned)
-        → All (λ p. AreSlotsOf p.task p.slots) ps
-        → (is : AreBatches (N.registered nodes.old) ps plan.old.parts plan.old.places)
-        → WasStopped N.step N.serve (N.registered nodes.old) (N.kept nodes.new) (N.may_refuse nodes.old)
-        ps plan.old.parts plan.old.nodes is.batch order.now
-        (N.state nodes.old) (N.state nodes.new) stop.answered stop.error) }
-    // Each batch was sent once, in the order given, up to the one that was not taken.
-    ensures asked { OnOk result (Grew (N.asked nodes.old) (N.asked nodes.new)
-        (map (batch_at plan.old) order.now)) }
-    ensures asked_until { IfErr result (λ stop. WereAskedUntil (N.asked nodes.old) (N.asked nodes.new)
-        (map (batch_at plan.old) (take stop.answered order.now))
-        (batch_at plan.old (get_or order.now stop.answered 0)) stop.error) }
-    // These are the answers that the nodes gave, batch after batch.
-    ensures gave { OnOk result (Grew (N.gave nodes.old) (N.gave nodes.new)
-        (answers_in plan.old (map answer_of plan.new.answers) order.now)) }
-    ensures gave_until { IfErr result
-        (λ stop. HaveAnswered (N.gave nodes.old) (N.gave nodes.new) [] stop.answered) }
-    ensures within { IfErr result (λ stop. stop.answered < length order.now) }
-    ensures first_round { IfErr result (λ stop. stop.rounds ≡ 0) }
+    ensures stopped { IfErr result (λ stop.
+        AreBatchesStopped ⟦<N as BatchNodes>⟧ nodes.old nodes.new plan.old order.now stop) }
     ensures room { length plan.new.answers ≡ length plan.old.parts }
     ensures parts { plan.new.parts ≡ plan.old.parts }
-    ensures kept { N.kept nodes.new → N.kept nodes.old }
-    ensures may_refuse { (count : ℕ) (ending : Ending) → N.may_refuse nodes.new count ending
-        ↔ N.may_refuse nodes.old count ending }
-    ensures registered { N.registered nodes.new ≡ N.registered nodes.old }
+    ensures frame { SameNodes ⟦<N as BatchNodes>⟧ nodes.old nodes.new }
 {
     let mut answered = 0;
     for number in order {
@@ -126,17 +101,10 @@ fn send_one<N: BatchNodes>(
     ensures answers { IfOk result (λ answers. (places : List ℕ)
         → slice_get plan.now.places number ≡ Some places
         → length answers.items ≡ length (in_order plan.now.parts places)) }
-    ensures taken { IfOk result (λ answers. (places : List ℕ)
-        → slice_get plan.now.places number ≡ Some places
-        → IsTaken N.step N.serve (N.registered nodes.old) (N.kept nodes.new) (N.may_refuse nodes.old)
-        (node_at plan.now.nodes number) (in_order plan.now.parts places)
-        (N.state nodes.old) (N.state nodes.new)
-        (map answer_of answers.items)) }
-    ensures untaken { IfErr result (λ error. (places : List ℕ)
-        → slice_get plan.now.places number ≡ Some places
-        → IsNotTaken N.step N.serve (N.registered nodes.old) (N.kept nodes.new) (N.may_refuse nodes.old)
-        (node_at plan.now.nodes number) (in_order plan.now.parts places)
-        (N.state nodes.old) (N.state nodes.new) error) }
+    ensures taken { IfOk result (λ answers. IsBatchTaken ⟦<N as BatchNodes>⟧ nodes.old nodes.new
+        (batch_at plan.now number) (map answer_of answers.items)) }
+    ensures untaken { IfErr result (λ error. IsBatchNotTaken ⟦<N as BatchNodes>⟧ nodes.old nodes.new
+        (batch_at plan.now number) error) }
     ensures asked { OnOk result (Grew (N.asked nodes.old) (N.asked nodes.new)
         (batch_at plan.now number ∷ [])) }
     ensures asked_until { IfErr result (λ error. WereAskedUntil (N.asked nodes.old) (N.asked nodes.new)
@@ -144,10 +112,7 @@ fn send_one<N: BatchNodes>(
     ensures gave { IfOk result (λ answers. Grew (N.gave nodes.old) (N.gave nodes.new)
         (map answer_of answers.items ∷ [])) }
     ensures gave_none { OnErr result (Grew (N.gave nodes.old) (N.gave nodes.new) []) }
-    ensures kept { N.kept nodes.new → N.kept nodes.old }
-    ensures may_refuse { (count : ℕ) (ending : Ending) → N.may_refuse nodes.new count ending
-        ↔ N.may_refuse nodes.old count ending }
-    ensures registered { N.registered nodes.new ≡ N.registered nodes.old }
+    ensures frame { SameNodes ⟦<N as BatchNodes>⟧ nodes.old nodes.new }
 {
     let batch = match plan.batch(alloc, number) {
         Ok(batch) => batch,

@@ -1,20 +1,24 @@
-use Rattle.std.proofs.Common.{◌≡◌, ◌<◌, ◌∙◌, ℕ, ◌+◌, List, [], ◌∷◌, All, false, true, Some, refl, sym, ap, subst, arith, cond, map, length, get_or, take, take_all}
+use Rattle.std.proofs.Common.{◌≡◌, ◌<◌, ◌≤◌, ◌∙◌, ℕ, ◌+◌, List, [], ◌∷◌, All, false, true, Some, refl, sym, ap, subst, arith, cond, map, length, get_or, take, take_all}
 use Rattle.std.specs.Prelude.{nat_eq, slice_get, slice_set}
 use Rattle.std.proofs.lemmas.List.{append-nil, length-map, length-take-le}
+use Rattle.std.proofs.lemmas.Option.{same_Some}
 use Rattle.resp_core.proofs.Cases.{by_test}
-use Rattle.cluster_slots.specs.Address.{Address}
+use Rattle.redis_routing.specs.Registry.{Registrations}
 use Rattle.redis_cluster.specs.Orders.{NamesOnce, in_order, times}
-use Rattle.redis_cluster.specs.Trace.{Ending, refused}
-use Rattle.redis_cluster.specs.Unsplit.{Step}
+use Rattle.redis_cluster.specs.Trace.{refused}
+use Rattle.redis_cluster.specs.declared.nodes.SendError.{SendError}
 use Rattle.redis_cluster.proofs.Counts.{same_number}
 use Rattle.redis_cluster.proofs.Once.{times_more, times-take, names_once-apart}
-use Rattle.redis_cluster.specs.State.{State}
-use Rattle.redis_routing.specs.Registry.{Registrations}
-use Rattle.redis_batches.specs.Pipeline.{Answer, Serve}
-use Rattle.redis_batches.specs.Batched.{AreFor, numbers_in, put_at}
-use Rattle.redis_batches.specs.Taken.{answer_of, IsNotTaken, IsTaken}
+use Rattle.redis_batches.specs.Pipeline.{Answer, Planned}
+use Rattle.redis_batches.specs.BatchSends.{IsBatchNotTaken, IsBatchTaken}
+use Rattle.redis_batches.specs.Batched.{AreBatches, AreFor, numbers_in, put_at}
+use Rattle.redis_batches.specs.Frame.{SameNodes}
+use Rattle.redis_batches.specs.Plan.{Batches}
+use Rattle.redis_batches.specs.Taken.{Batch, answer_of, batch_for, IsNotTaken, IsTaken}
 use Rattle.redis_batches.specs.Driven.{Grew, WereAskedUntil, answers_in, batch_at, node_at}
+use Rattle.redis_batches.specs.declared.nodes.BatchNodes.{Ghosts}
 use Rattle.redis_batches.proofs.Asked.{asked_last, asked_more, asked_next, asked_none, same_batch}
+use Rattle.redis_batches.proofs.Frame.{frame_more, frame_none}
 use Rattle.redis_batches.proofs.Untaken.{not_taken_wider}
 use Rattle.redis_batches.proofs.Entries.{get_there}
 use Rattle.redis_batches.proofs.Given.{given_next}
@@ -41,17 +45,33 @@ untold_less told order i count inside untold k none below =
     (λ own. absurd (omega (arith, none, times_more k order i 0 inside ∙ ap (λ b. times k (take i order) + cond b 1 0) own)))
     (λ other. set_there told n k true other ∙ untold k (omega (arith, none, times_more k order i 0 inside ∙ ap (λ b. times k (take i order) + cond b 1 0) other)) below)
 
--- what was taken by nodes that may refuse less
-widened : {C : Type 0} {step : Step C} {serve : Serve C} {registered : Registrations} {kept : Type 0} {node : Address} {batch : List (List (List ℕ))} {old new : State C} {given : List Answer} (may wide : ℕ → Ending → Type 0)
-    → ((count : ℕ) (ending : Ending) → may count ending → wide count ending) → IsTaken step serve registered kept may node batch old new given → IsTaken step serve registered kept wide node batch old new given
-widened may wide more taken = record {
-  ends = taken.ends;
-  long = taken.long;
-  trace = taken.trace;
-  allowed = λ i error at. more _ (refused error) (taken.allowed i error at);
-  errors = taken.errors;
-  served = taken.served;
-}
+-- the parts of a batch are those of its number
+own_parts : {registered : Registrations} {ps : List Planned} (plan : Batches) (is : AreBatches registered ps plan.parts plan.places) (k : ℕ) → k < length plan.places → in_order plan.parts (get_or plan.places k []) ≡ in_order plan.parts (numbers_in is.batch ps k)
+own_parts {registered} {ps} plan is k below = ap (in_order plan.parts) (same_Some (get_or plan.places k []) (numbers_in is.batch ps k) (sym (get_there plan.places k [] below) ∙ is.places_are k below))
+
+module _ {S : Type 0} {N : Ghosts S} {old now new : S} (frame : SameNodes N old now) (plan : Batches) {ps : List Planned} (is : AreBatches (N.registered old) ps plan.parts plan.places) (k : ℕ) (below : k < length plan.places) (batch : Batch) (same : batch ≡ batch_at plan k) where
+  -- what was taken of it, by nodes that may refuse no more than before
+  taken_since : {given : List Answer} → IsBatchTaken N now new batch given → IsTaken N.step N.serve (N.registered old) (N.kept new) (N.may_refuse old) (node_at plan.nodes k) (in_order plan.parts (numbers_in is.batch ps k)) (N.state now) (N.state new) given
+  taken_since {given} was =
+      let Taken : Registrations → Batch → Type 0 = λ r b. IsTaken N.step N.serve r (N.kept new) (N.may_refuse now) b.node b.commands (N.state now) (N.state new) given in
+      let of : Taken (N.registered old) (batch_at plan k) = subst (Taken (N.registered old)) same (subst (λ r. Taken r batch) frame.registered was) in
+      let taken : Taken (N.registered old) (batch_for (node_at plan.nodes k) (in_order plan.parts (numbers_in is.batch ps k))) = subst (λ parts. Taken (N.registered old) (batch_for (node_at plan.nodes k) parts)) (own_parts plan is k below) of in
+      record {
+        ends = taken.ends;
+        long = taken.long;
+        trace = taken.trace;
+        allowed = λ i error at. (frame.may_refuse _ (refused error)).0 (taken.allowed i error at);
+        errors = taken.errors;
+        served = taken.served;
+      }
+
+  -- or why it was not
+  not_taken_since : {error : SendError} → IsBatchNotTaken N now new batch error → IsNotTaken N.step N.serve (N.registered old) (N.kept new) (N.may_refuse old) (node_at plan.nodes k) (in_order plan.parts (numbers_in is.batch ps k)) (N.state now) (N.state new) error
+  not_taken_since {error} was =
+      let Untaken : Registrations → Batch → Type 0 = λ r b. IsNotTaken N.step N.serve r (N.kept new) (N.may_refuse now) b.node b.commands (N.state now) (N.state new) error in
+      let of : Untaken (N.registered old) (batch_at plan k) = subst (Untaken (N.registered old)) same (subst (λ r. Untaken r batch) frame.registered was) in
+      not_taken_wider N.step N.serve (N.registered old) (N.kept new) (node_at plan.nodes k) (in_order plan.parts (numbers_in is.batch ps k)) (N.state now) (N.state new) (N.may_refuse now) (N.may_refuse old) (λ count ending. (frame.may_refuse count ending).0) error
+      (subst (λ parts. Untaken (N.registered old) (batch_for (node_at plan.nodes k) parts)) (own_parts plan is k below) of)
 
 pub send_one-requires : goal.send_one-requires
 send_one-requires g c = record {
@@ -67,27 +87,20 @@ tell_first-requires-clause-first g c =
 
 pub tell_first-requires-clause-long : goal.tell_first-requires-clause-long
 tell_first-requires-clause-long g c =
-    let nodes = g.N.BatchNodes in
     let plan = c.args.plan.now in
-    let order = c.args.order.now in
-    let i = c.loop-number.number-index in
-    let k = get_or order i 0 in
+    let k = get_or c.args.order.now c.loop-number.number-index 0 in
     let inv = c.loop-number.invariant in
-    let ps = c.requires.batches.0 in
     let is = c.requires.batches.2 in
-    let below : k < length plan.places = c.requires.order.below i 0 c.loop-number-test.true in
-    let at : slice_get c.loop-number.plan.places k ≡ Some (numbers_in is.batch ps k) = ap (λ ls. slice_get ls k) inv.same_places ∙ is.places_are k below in (
-      numbers_in is.batch ps k,
+    let list = numbers_in is.batch c.requires.batches.0 k in
+    let at : slice_get c.loop-number.plan.places k ≡ Some list = ap (λ ls. slice_get ls k) inv.same_places ∙ is.places_are k (c.requires.order.below c.loop-number.number-index 0 c.loop-number-test.true) in (
+      list,
       at,
-      c.in-Ok.ensures.answers (numbers_in is.batch ps k) at
-          ∙ ap (λ parts. length (in_order parts (numbers_in is.batch ps k))) inv.same_parts
-          ∙ round.batch_long nodes.step nodes.serve (nodes.registered c.args.nodes.now) ps c.requires.batches.1 plan.parts plan.places is order c.requires.order plan.nodes
-          (nodes.state c.args.nodes.now) k,
+      c.in-Ok.ensures.answers list at ∙ ap (λ parts. length (in_order parts list)) inv.same_parts ∙ round.batch_long g.N.BatchNodes c.args.nodes.now plan c.requires.batches.1 is c.requires.order k,
     )
 
 pub loop-number-init : goal.loop-number-init
 loop-number-init g c =
-    let nodes = g.N.BatchNodes in
+    let N = g.N.BatchNodes in
     let plan = c.args.plan.now in
     record {
       same_nodes = refl;
@@ -97,172 +110,111 @@ loop-number-init g c =
       untold = λ k none below.
           let within : k < length plan.told = subst (λ n. k < n) (sym c.requires.plan.told) below in
           get_there plan.told k true within ∙ ap Some (c.requires.untold k true within);
-      so_far = λ ps are is names. round.at_first nodes.step nodes.serve (nodes.registered c.args.nodes.now) ps are plan.parts plan.places is c.args.order.now names plan.nodes
-          (nodes.state c.args.nodes.now) (nodes.kept c.args.nodes.now) (nodes.may_refuse c.args.nodes.now) plan.answers;
-      kept = λ now. now;
-      may_refuse = λ count ending. (λ may. may, λ may. may);
-      registered = refl;
-      asked = asked_none (nodes.asked c.args.nodes.now);
-      given = asked_none (nodes.gave c.args.nodes.now);
+      so_far = λ ps are is names. round.at_first N c.args.nodes.now plan are is names plan.answers;
+      frame = frame_none N c.args.nodes.now;
+      asked = asked_none (N.asked c.args.nodes.now);
+      given = asked_none (N.gave c.args.nodes.now);
       answered = refl;
     }
 
 pub loop-number-preserved : goal.loop-number-preserved
 loop-number-preserved g c =
-    let nodes = g.N.BatchNodes in
+    let N = g.N.BatchNodes in
+    let first = c.args.nodes.now in
     let plan = c.args.plan.now in
     let order = c.args.order.now in
-    let i = c.loop-number.number-index in
+    let l = c.loop-number in
+    let inv = l.invariant in
+    let i = l.number-index in
     let k = get_or order i 0 in
-    let inv = c.loop-number.invariant in
     let inside : i < length order = c.loop-number-test.true in
     let below : k < length plan.places = c.requires.order.below i 0 inside in
-    let old = nodes.state c.args.nodes.now in
-    let now = nodes.state c.loop-number.nodes in
-    let new = nodes.state c.send_one.new.nodes in
     let same = c.tell_first.ensures.same in
+    let own = same_batch l.plan plan k inv.same_nodes inv.same_places inv.same_parts in
+    let before = l.plan.answers in
+    let replies = c.in-Ok.answers.items in
     record {
       same_nodes = same.0 ∙ inv.same_nodes;
       same_places = same.1 ∙ inv.same_places;
       same_parts = same.2 ∙ inv.same_parts;
       room = same.3 ∙ inv.room;
       untold = subst (λ told. (j : ℕ) → times j (take (i + 1) order) ≡ 0 → j < length plan.places → slice_get told j ≡ Some false) (sym c.tell_first.ensures.told)
-          (untold_less c.loop-number.plan.told order i (length plan.places) inside inv.untold);
+          (untold_less l.plan.told order i (length plan.places) inside inv.untold);
       so_far = λ ps are is names.
           let list = numbers_in is.batch ps k in
-          let at : slice_get c.loop-number.plan.places k ≡ Some list = ap (λ ls. slice_get ls k) inv.same_places ∙ is.places_are k below in
+          let at : slice_get l.plan.places k ≡ Some list = ap (λ ls. slice_get ls k) inv.same_places ∙ is.places_are k below in
           let so_far = inv.so_far ps are is names in
-          let named : IsTaken nodes.step nodes.serve (nodes.registered c.args.nodes.now) (nodes.kept c.send_one.new.nodes) (nodes.may_refuse c.loop-number.nodes) (node_at c.loop-number.plan.nodes k) (in_order c.loop-number.plan.parts list) now new (map answer_of c.in-Ok.answers.items) =
-          subst (λ r. IsTaken nodes.step nodes.serve r (nodes.kept c.send_one.new.nodes) (nodes.may_refuse c.loop-number.nodes) (node_at c.loop-number.plan.nodes k) (in_order c.loop-number.plan.parts list) now new (map answer_of c.in-Ok.answers.items)) inv.registered (c.in-Ok.ensures.taken list at) in
-          let sent = widened (nodes.may_refuse c.loop-number.nodes) (nodes.may_refuse c.args.nodes.now) (λ count ending. (inv.may_refuse count ending).0) named in
-          let taken : IsTaken nodes.step nodes.serve (nodes.registered c.args.nodes.now) (nodes.kept c.send_one.new.nodes) (nodes.may_refuse c.args.nodes.now) (node_at plan.nodes k) (in_order plan.parts list) now new (map answer_of c.in-Ok.answers.items) =
-          subst (λ ns. IsTaken nodes.step nodes.serve (nodes.registered c.args.nodes.now) (nodes.kept c.send_one.new.nodes) (nodes.may_refuse c.args.nodes.now) (node_at ns k) (in_order plan.parts list) now new (map answer_of c.in-Ok.answers.items)) inv.same_nodes
-          (subst (λ parts. IsTaken nodes.step nodes.serve (nodes.registered c.args.nodes.now) (nodes.kept c.send_one.new.nodes) (nodes.may_refuse c.args.nodes.now) (node_at c.loop-number.plan.nodes k) (in_order parts list) now new (map answer_of c.in-Ok.answers.items)) inv.same_parts sent) in
-          let all = round.expected_next nodes.step nodes.serve (nodes.registered c.args.nodes.now) ps are plan.parts plan.places is order names plan.nodes old i k inside refl (nodes.kept c.loop-number.nodes) (nodes.kept c.send_one.new.nodes) c.send_one.ensures.kept (nodes.may_refuse c.args.nodes.now) now new c.loop-number.plan.answers c.in-Ok.answers.items so_far taken in
-          let for : nodes.kept c.send_one.new.nodes → AreFor all list c.in-Ok.answers.items =
-          λ keep. round.replies_right nodes.step nodes.serve (nodes.registered c.args.nodes.now) ps are plan.parts plan.places is order names plan.nodes old i k inside refl (nodes.kept c.loop-number.nodes) (nodes.kept c.send_one.new.nodes) c.send_one.ensures.kept (nodes.may_refuse c.args.nodes.now) now new c.loop-number.plan.answers c.in-Ok.answers.items so_far taken keep in
-          round.one_more nodes.step nodes.serve (nodes.registered c.args.nodes.now) ps are plan.parts plan.places is order names plan.nodes old i k inside refl (nodes.kept c.loop-number.nodes) (nodes.kept c.send_one.new.nodes) c.send_one.ensures.kept (nodes.may_refuse c.args.nodes.now) now new c.loop-number.plan.answers c.in-Ok.answers.items so_far taken
+          let taken = taken_since inv.frame plan is k below (batch_at l.plan k) own c.in-Ok.ensures.taken in
+          let all = round.expected_next N first plan are is names i k inside refl c.send_one.ensures.frame.kept before replies so_far taken in
+          let for : N.kept c.send_one.new.nodes → AreFor all list replies = λ keep. round.replies_right N first plan are is names i k inside refl c.send_one.ensures.frame.kept before replies so_far taken keep in
+          round.one_more N first plan are is names i k inside refl c.send_one.ensures.frame.kept before replies so_far taken
           c.tell_first.new.plan.answers (c.tell_first.ensures.put list at) inv.room
-          (c.in-Ok.ensures.answers list at ∙ ap (λ parts. length (in_order parts list)) inv.same_parts
-          ∙ round.batch_long nodes.step nodes.serve (nodes.registered c.args.nodes.now) ps are plan.parts plan.places is order names plan.nodes old k)
+          (c.in-Ok.ensures.answers list at ∙ ap (λ parts. length (in_order parts list)) inv.same_parts ∙ round.batch_long N first plan are is names k)
           (λ keep. c.tell_first.ensures.right all list at (for keep)) (λ keep. c.tell_first.ensures.others all list at (for keep));
-      kept = λ keep. inv.kept (c.send_one.ensures.kept keep);
-      may_refuse = λ count ending.
-          let one = c.send_one.ensures.may_refuse count ending in
-          let before = inv.may_refuse count ending in
-          (λ may. before.0 (one.0 may), λ may. one.1 (before.1 may));
-      registered = c.send_one.ensures.registered ∙ inv.registered;
-      asked = asked_next (nodes.asked c.args.nodes.now) (nodes.asked c.loop-number.nodes) (nodes.asked c.send_one.new.nodes) plan order i (batch_at c.loop-number.plan k) (same_batch c.loop-number.plan plan k inv.same_nodes inv.same_places inv.same_parts) inv.asked inside c.in-Ok.ensures.asked;
+      frame = frame_more N first l.nodes c.send_one.new.nodes inv.frame c.send_one.ensures.frame;
+      asked = asked_next (N.asked first) (N.asked l.nodes) (N.asked c.send_one.new.nodes) plan order i (batch_at l.plan k) own inv.asked inside c.in-Ok.ensures.asked;
       given =
           let ps = c.requires.batches.0 in
           let is = c.requires.batches.2 in
-          let own = numbers_in is.batch ps k in
-          let at : slice_get c.loop-number.plan.places k ≡ Some own = ap (λ ls. slice_get ls k) inv.same_places ∙ is.places_are k below in
-          let before = c.loop-number.plan.answers in
-          let replies = c.in-Ok.answers.items in
+          let list = numbers_in is.batch ps k in
+          let at : slice_get l.plan.places k ≡ Some list = ap (λ ls. slice_get ls k) inv.same_places ∙ is.places_are k below in
           let many : length (map answer_of before) ≡ length plan.parts = length-map before answer_of ∙ inv.room in
-          let within : All (λ p. p < length (map answer_of before)) own =
-          subst (λ n. All (λ p. p < n) own) (sym many)
-          (round.within nodes.step nodes.serve (nodes.registered c.args.nodes.now) ps c.requires.batches.1 plan.parts plan.places is order c.requires.order plan.nodes old k) in
-          let long : length (map answer_of replies) ≡ length own =
-          length-map replies answer_of ∙ c.in-Ok.ensures.answers own at ∙ ap (λ parts. length (in_order parts own)) inv.same_parts
-          ∙ round.batch_long nodes.step nodes.serve (nodes.registered c.args.nodes.now) ps c.requires.batches.1 plan.parts plan.places is order c.requires.order plan.nodes old k in
-          let put : map answer_of c.tell_first.new.plan.answers ≡ put_at (map answer_of before) own (map answer_of replies) =
-          ap (map answer_of) (c.tell_first.ensures.put own at) ∙ map-put_at answer_of before own replies in
-          subst (Grew (nodes.gave c.args.nodes.now) (nodes.gave c.send_one.new.nodes))
-          (sym (given_next (nodes.registered c.args.nodes.now) ps plan is order c.requires.order i inside (fresh (length plan.places) order i c.requires.order inside) (map answer_of before) (map answer_of c.tell_first.new.plan.answers) (map answer_of replies) put within long))
-          (asked_more (nodes.gave c.args.nodes.now) (nodes.gave c.loop-number.nodes) (nodes.gave c.send_one.new.nodes) (answers_in plan (map answer_of before) (take i order)) (map answer_of replies ∷ []) inv.given c.in-Ok.ensures.gave);
+          let within : All (λ p. p < length (map answer_of before)) list = subst (λ n. All (λ p. p < n) list) (sym many) (round.within N first plan c.requires.batches.1 is c.requires.order k) in
+          let long : length (map answer_of replies) ≡ length list =
+          length-map replies answer_of ∙ c.in-Ok.ensures.answers list at ∙ ap (λ parts. length (in_order parts list)) inv.same_parts ∙ round.batch_long N first plan c.requires.batches.1 is c.requires.order k in
+          let put : map answer_of c.tell_first.new.plan.answers ≡ put_at (map answer_of before) list (map answer_of replies) = ap (map answer_of) (c.tell_first.ensures.put list at) ∙ map-put_at answer_of before list replies in
+          subst (Grew (N.gave first) (N.gave c.send_one.new.nodes))
+          (sym (given_next (N.registered first) ps plan is order c.requires.order i inside (fresh (length plan.places) order i c.requires.order inside) (map answer_of before) (map answer_of c.tell_first.new.plan.answers) (map answer_of replies) put within long))
+          (asked_more (N.gave first) (N.gave l.nodes) (N.gave c.send_one.new.nodes) (answers_in plan (map answer_of before) (take i order)) (map answer_of replies ∷ []) inv.given c.in-Ok.ensures.gave);
       answered = omega (arith, inv.answered);
     }
 
-pub returns-clause-served : goal.returns-clause-served
-returns-clause-served g c = λ ps are is.
-    let nodes = g.N.BatchNodes in
+pub returns-clause-sent : goal.returns-clause-sent
+returns-clause-sent g c =
+    let N = g.N.BatchNodes in
     let plan = c.args.plan.now in
-    let old = nodes.state c.args.nodes.now in
-    let now = nodes.state c.loop-number.nodes in
-    round.at_end nodes.step nodes.serve (nodes.registered c.args.nodes.now) ps are plan.parts plan.places is c.args.order.now c.requires.order plan.nodes old (nodes.kept c.loop-number.nodes) (nodes.may_refuse c.args.nodes.now)
-    c.loop-number.number-index (omega (arith, c.loop-number-test.false)) now c.loop-number.plan.answers c.loop-number.invariant.room (c.loop-number.invariant.so_far ps are is c.requires.order)
+    let order = c.args.order.now in
+    let l = c.loop-number in
+    let past : length order ≤ l.number-index = omega (arith, c.loop-number-test.false) in
+    let all = take_all l.number-index order past in
+    record {
+      served = λ ps are is. round.at_end N c.args.nodes.now plan are is c.requires.order l.number-index past l.nodes l.plan.answers l.invariant.room (l.invariant.so_far ps are is c.requires.order);
+      asked = subst (λ o. Grew (N.asked c.args.nodes.now) (N.asked l.nodes) (map (batch_at plan) o)) all l.invariant.asked;
+      gave = subst (λ o. Grew (N.gave c.args.nodes.now) (N.gave l.nodes) (answers_in plan (map answer_of l.plan.answers) o)) all l.invariant.given;
+    }
 
 pub returns-in-Err-clause-stopped : goal.returns-in-Err-clause-stopped
-returns-in-Err-clause-stopped g c = λ ps are is.
-    let nodes = g.N.BatchNodes in
+returns-in-Err-clause-stopped g c =
+    let N = g.N.BatchNodes in
     let plan = c.args.plan.now in
     let order = c.args.order.now in
-    let inv = c.loop-number.invariant in
-    let old = nodes.state c.args.nodes.now in
-    let now = nodes.state c.loop-number.nodes in
-    let so_far = inv.so_far ps are is c.requires.order in
-    let earlier = round.only_kept nodes.step nodes.serve (nodes.registered c.args.nodes.now) ps are plan.parts plan.places is order c.requires.order plan.nodes old (nodes.kept c.loop-number.nodes) (nodes.kept c.send_one.new.nodes) c.send_one.ensures.kept (nodes.may_refuse c.args.nodes.now)
-    c.loop-number.number-index now c.loop-number.plan.answers so_far in
-    let i = c.loop-number.number-index in
+    let l = c.loop-number in
+    let inv = l.invariant in
+    let i = l.number-index in
     let k = get_or order i 0 in
-    let list = numbers_in is.batch ps k in
     let inside : i < length order = c.loop-number-test.true in
-    let at : slice_get c.loop-number.plan.places k ≡ Some list = ap (λ ls. slice_get ls k) inv.same_places ∙ is.places_are k (c.requires.order.below i 0 inside) in
-    let error = c.in-Err.error in
-    let new = nodes.state c.send_one.new.nodes in
-    let named : IsNotTaken nodes.step nodes.serve (nodes.registered c.args.nodes.now) (nodes.kept c.send_one.new.nodes) (nodes.may_refuse c.loop-number.nodes) (node_at c.loop-number.plan.nodes k) (in_order c.loop-number.plan.parts list) now new error =
-    subst (λ r. IsNotTaken nodes.step nodes.serve r (nodes.kept c.send_one.new.nodes) (nodes.may_refuse c.loop-number.nodes) (node_at c.loop-number.plan.nodes k) (in_order c.loop-number.plan.parts list) now new error) inv.registered (c.in-Err.ensures.untaken list at) in
-    let wide = not_taken_wider nodes.step nodes.serve (nodes.registered c.args.nodes.now) (nodes.kept c.send_one.new.nodes) (node_at c.loop-number.plan.nodes k) (in_order c.loop-number.plan.parts list) now new (nodes.may_refuse c.loop-number.nodes) (nodes.may_refuse c.args.nodes.now) (λ count ending. (inv.may_refuse count ending).0) error named in
-    let last : IsNotTaken nodes.step nodes.serve (nodes.registered c.args.nodes.now) (nodes.kept c.send_one.new.nodes) (nodes.may_refuse c.args.nodes.now) (node_at plan.nodes k) (in_order plan.parts list) now new error =
-    subst (λ ns. IsNotTaken nodes.step nodes.serve (nodes.registered c.args.nodes.now) (nodes.kept c.send_one.new.nodes) (nodes.may_refuse c.args.nodes.now) (node_at ns k) (in_order plan.parts list) now new error) inv.same_nodes
-    (subst (λ parts. IsNotTaken nodes.step nodes.serve (nodes.registered c.args.nodes.now) (nodes.kept c.send_one.new.nodes) (nodes.may_refuse c.args.nodes.now) (node_at c.loop-number.plan.nodes k) (in_order parts list) now new error) inv.same_parts wide) in
+    let own = same_batch l.plan plan k inv.same_nodes inv.same_places inv.same_parts in
+    let gave_old = N.gave c.args.nodes.now in
+    let gave_new = N.gave c.send_one.new.nodes in
+    let these = answers_in plan (map answer_of l.plan.answers) (take i order) in
+    let asked = asked_last (N.asked c.args.nodes.now) (N.asked l.nodes) (N.asked c.send_one.new.nodes) plan order i (batch_at l.plan k) own inv.asked c.in-Err.error c.in-Err.ensures.asked_until in
     record {
-      between = now;
-      taken = rw inv.answered (round.taken_so_far nodes.step nodes.serve (nodes.registered c.args.nodes.now) ps are plan.parts plan.places is order c.requires.order plan.nodes old (nodes.kept c.send_one.new.nodes) (nodes.may_refuse c.args.nodes.now)
-          c.loop-number.number-index now c.loop-number.plan.answers earlier);
-      number = k;
-      next = ap (slice_get order) inv.answered ∙ get_there order i 0 inside;
-      untaken = last;
+      within = omega (arith, inv.answered, inside);
+      first_round = refl;
+      stopped = λ ps are is. record {
+        between = N.state l.nodes;
+        taken = rw inv.answered (round.taken_so_far N c.args.nodes.now plan are is c.requires.order i c.send_one.ensures.frame.kept (inv.so_far ps are is c.requires.order));
+        number = k;
+        next = ap (slice_get order) inv.answered ∙ get_there order i 0 inside;
+        untaken = not_taken_since inv.frame plan is k (c.requires.order.below i 0 inside) (batch_at l.plan k) own c.in-Err.ensures.untaken;
+      };
+      asked = subst (λ n. WereAskedUntil (N.asked c.args.nodes.now) (N.asked c.send_one.new.nodes) (map (batch_at plan) (take n order)) (batch_at plan (get_or order n 0)) c.in-Err.error) (sym inv.answered) asked;
+      gave = record {
+        more = these;
+        each = length-map (take i order) (λ j. in_order (map answer_of l.plan.answers) (get_or plan.places j [])) ∙ length-take-le i order (omega (arith, inside)) ∙ sym inv.answered;
+        gave = subst (Grew gave_old gave_new) (append-nil these) (asked_more gave_old (N.gave l.nodes) gave_new these [] inv.given c.in-Err.ensures.gave_none);
+      };
     }
 
-pub returns-clause-asked : goal.returns-clause-asked
-returns-clause-asked g c =
-    let nodes = g.N.BatchNodes in
-    let order = c.args.order.now in
-    subst (λ o. Grew (nodes.asked c.args.nodes.now) (nodes.asked c.loop-number.nodes) (map (batch_at c.args.plan.now) o)) (take_all c.loop-number.number-index order (omega (arith, c.loop-number-test.false))) c.loop-number.invariant.asked
-
-pub returns-in-Err-clause-asked_until : goal.returns-in-Err-clause-asked_until
-returns-in-Err-clause-asked_until g c =
-    let nodes = g.N.BatchNodes in
-    let plan = c.args.plan.now in
-    let order = c.args.order.now in
-    let i = c.loop-number.number-index in
-    let k = get_or order i 0 in
-    let inv = c.loop-number.invariant in
-    let last = asked_last (nodes.asked c.args.nodes.now) (nodes.asked c.loop-number.nodes) (nodes.asked c.send_one.new.nodes) plan order i (batch_at c.loop-number.plan k) (same_batch c.loop-number.plan plan k inv.same_nodes inv.same_places inv.same_parts) inv.asked c.in-Err.error c.in-Err.ensures.asked_until in
-    subst (λ n. WereAskedUntil (nodes.asked c.args.nodes.now) (nodes.asked c.send_one.new.nodes) (map (batch_at plan) (take n order)) (batch_at plan (get_or order n 0)) c.in-Err.error) (sym inv.answered) last
-
-pub returns-clause-gave : goal.returns-clause-gave
-returns-clause-gave g c =
-    let nodes = g.N.BatchNodes in
-    subst (λ o. Grew (nodes.gave c.args.nodes.now) (nodes.gave c.loop-number.nodes) (answers_in c.args.plan.now (map answer_of c.loop-number.plan.answers) o))
-    (take_all c.loop-number.number-index c.args.order.now (omega (arith, c.loop-number-test.false))) c.loop-number.invariant.given
-
-pub returns-in-Err-clause-gave_until : goal.returns-in-Err-clause-gave_until
-returns-in-Err-clause-gave_until g c =
-    let nodes = g.N.BatchNodes in
-    let order = c.args.order.now in
-    let i = c.loop-number.number-index in
-    let inv = c.loop-number.invariant in
-    let these = answers_in c.args.plan.now (map answer_of c.loop-number.plan.answers) (take i order) in
-    let old = nodes.gave c.args.nodes.now in
-    let new = nodes.gave c.send_one.new.nodes in
-    record {
-      more = these;
-      each = length-map (take i order) (λ k. in_order (map answer_of c.loop-number.plan.answers) (get_or c.args.plan.now.places k [])) ∙ length-take-le i order (omega (arith, c.loop-number-test.true)) ∙ sym inv.answered;
-      gave = subst (Grew old new) (append-nil these) (asked_more old (nodes.gave c.loop-number.nodes) new these [] inv.given c.in-Err.ensures.gave_none);
-    }
-
-pub returns-in-Err-clause-within : goal.returns-in-Err-clause-within
-returns-in-Err-clause-within g c = omega (arith, c.loop-number.invariant.answered, c.loop-number-test.true)
-
-pub returns-in-Err-clause-kept : goal.returns-in-Err-clause-kept
-returns-in-Err-clause-kept g c = λ keep. c.loop-number.invariant.kept (c.send_one.ensures.kept keep)
-
-pub returns-in-Err-clause-may_refuse : goal.returns-in-Err-clause-may_refuse
-returns-in-Err-clause-may_refuse g c = λ count ending.
-    let one = c.send_one.ensures.may_refuse count ending in
-    let before = c.loop-number.invariant.may_refuse count ending in
-    (λ may. before.0 (one.0 may), λ may. one.1 (before.1 may))
+pub returns-in-Err-clause-frame : goal.returns-in-Err-clause-frame
+returns-in-Err-clause-frame g c = frame_more g.N.BatchNodes c.args.nodes.now c.loop-number.nodes c.send_one.new.nodes c.loop-number.invariant.frame c.send_one.ensures.frame

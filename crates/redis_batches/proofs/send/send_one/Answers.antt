@@ -1,9 +1,11 @@
 use Rattle.std.proofs.Common.{◌≡◌, ◌<◌, ◌∙◌, ℕ, List, [], ◌∷◌, Some, inl, inr, arith, ap, refl, sym, subst, map, length, option_map, get_or}
-use Rattle.std.specs.Prelude.{IfErr, OnOk, slice_get}
+use Rattle.std.specs.Prelude.{IfErr, IfOk, OnOk, slice_get}
 use Rattle.std.proofs.lemmas.Option.{same_Some}
-use Rattle.std.proofs.lemmas.Result.{IfErr-weaker, IfOk-weaker}
+use Rattle.std.proofs.lemmas.Result.{IfErr-weaker}
+use Rattle.cluster_slots.specs.Address.{Address}
 use Rattle.redis_cluster.specs.Orders.{in_order}
-use Rattle.redis_batches.specs.Taken.{answer_of, IsNotTaken, IsTaken, batch_for}
+use Rattle.redis_batches.specs.BatchSends.{IsBatchNotTaken, IsBatchTaken}
+use Rattle.redis_batches.specs.Taken.{answer_of, batch_for}
 use Rattle.redis_batches.specs.Driven.{Grew, WereAskedUntil, batch_at, node_at}
 use Rattle.redis_batches.specs.Plan.{Batches, IsPlan}
 use Rattle.redis_batches.proofs.Asked.{asked_none, none_more}
@@ -14,6 +16,13 @@ use Rattle.redis_batches.proofs.send.send_one.Goals as goal
 has_node : (plan : Batches) (number : ℕ) → IsPlan plan → number < length plan.places → slice_get plan.nodes number ≡ Some (node_at plan.nodes number)
 has_node plan number is within = get_there plan.nodes number (record { host = []; port = 0 }) (omega (arith, within, is.nodes))
 
+-- what was read of a plan is the batch of the number
+own_batch : (plan : Batches) (number : ℕ) → IsPlan plan → number < length plan.places → (node : Address) → slice_get plan.nodes number ≡ Some node
+    → (parts : List (List (List ℕ))) → option_map (in_order plan.parts) (slice_get plan.places number) ≡ Some parts → batch_for node parts ≡ batch_at plan number
+own_batch plan number is within node there parts read =
+    ap (λ n. batch_for n parts) (same_Some node (node_at plan.nodes number) (sym there ∙ has_node plan number is within))
+    ∙ ap (batch_for (node_at plan.nodes number)) (same_Some parts (in_order plan.parts (get_or plan.places number [])) (sym read ∙ ap (option_map (in_order plan.parts)) (get_there plan.places number [] within)))
+
 pub unreachable-requires-in_default-node : goal.unreachable-requires-in_default-node
 unreachable-requires-in_default-node g c =
     let there = has_node c.args.plan.now c.args.number c.node.ensures.plan c.requires.within in
@@ -22,82 +31,34 @@ unreachable-requires-in_default-node g c =
 
 pub returns-clause-taken : goal.returns-clause-taken
 returns-clause-taken g c =
-    let nodes = g.N.BatchNodes in
-    let plan = c.args.plan.now in
-    let old = nodes.state c.args.nodes.now in
-    let new = nodes.state c.send_batch.new.self in
-    let sent = map (λ cmd. cmd.now) c.as_slice.result.now in
-    let node : c.in-Some-node.node.now ≡ node_at plan.nodes c.args.number =
-    same_Some c.in-Some-node.node.now (node_at plan.nodes c.args.number)
-    (sym (ap (option_map (λ node. node.now)) c.in-Some-node.is) ∙ c.node.ensures.node ∙ has_node plan c.args.number c.node.ensures.plan c.requires.within) in
-    let batch : (places : List ℕ) → slice_get plan.places c.args.number ≡ Some places → sent ≡ in_order plan.parts places =
-    λ places at. ap (map (λ cmd. cmd.now)) c.as_slice.ensures.value
-    ∙ same_Some (map (λ cmd. cmd.now) c.in-Some.batch.items) (in_order plan.parts places)
-    (sym (ap (option_map (λ v. map (λ part. part.now) v.items)) c.in-Some.is) ∙ c.in-Ok.ensures ∙ ap (option_map (in_order plan.parts)) at) in
-    IfOk-weaker c.send_batch.result _ _
-    (λ answers taken places at.
-    subst (λ ps. IsTaken nodes.step nodes.serve (nodes.registered c.args.nodes.now) (nodes.kept c.send_batch.new.self) (nodes.may_refuse c.args.nodes.now) (node_at plan.nodes c.args.number) ps old new (map answer_of answers.items)) (batch places at)
-    (subst (λ n. IsTaken nodes.step nodes.serve (nodes.registered c.args.nodes.now) (nodes.kept c.send_batch.new.self) (nodes.may_refuse c.args.nodes.now) n sent old new (map answer_of answers.items)) node taken))
-    c.send_batch.ensures.taken
+    let own = own_batch c.args.plan.now c.args.number c.node.ensures.plan c.requires.within c.in-Some-node.node.now (sym c.node.ensures.node ∙ ap (option_map (λ node. node.now)) c.in-Some-node.is) (map (λ cmd. cmd.now) c.as_slice.result.now)
+    (sym c.in-Ok.ensures ∙ ap (option_map (λ v. map (λ part. part.now) v.items)) c.in-Some.is ∙ ap (λ l. Some (map (λ part. part.now) l)) (sym c.as_slice.ensures.value)) in
+    let N = g.N.BatchNodes in
+    subst (λ b. IfOk c.send_batch.result (λ answers. IsBatchTaken N c.args.nodes.now c.send_batch.new.self b (map answer_of answers.items))) own c.send_batch.ensures.taken
 
 pub returns-clause-untaken : goal.returns-clause-untaken
 returns-clause-untaken g c =
-    let nodes = g.N.BatchNodes in
-    let plan = c.args.plan.now in
-    let old = nodes.state c.args.nodes.now in
-    let new = nodes.state c.send_batch.new.self in
-    let sent = map (λ cmd. cmd.now) c.as_slice.result.now in
-    let node : c.in-Some-node.node.now ≡ node_at plan.nodes c.args.number =
-    same_Some c.in-Some-node.node.now (node_at plan.nodes c.args.number)
-    (sym (ap (option_map (λ node. node.now)) c.in-Some-node.is) ∙ c.node.ensures.node ∙ has_node plan c.args.number c.node.ensures.plan c.requires.within) in
-    let batch : (places : List ℕ) → slice_get plan.places c.args.number ≡ Some places → sent ≡ in_order plan.parts places =
-    λ places at. ap (map (λ cmd. cmd.now)) c.as_slice.ensures.value
-    ∙ same_Some (map (λ cmd. cmd.now) c.in-Some.batch.items) (in_order plan.parts places)
-    (sym (ap (option_map (λ v. map (λ part. part.now) v.items)) c.in-Some.is) ∙ c.in-Ok.ensures ∙ ap (option_map (in_order plan.parts)) at) in
-    IfErr-weaker c.send_batch.result _ _
-    (λ error untaken places at.
-    subst (λ ps. IsNotTaken nodes.step nodes.serve (nodes.registered c.args.nodes.now) (nodes.kept c.send_batch.new.self) (nodes.may_refuse c.args.nodes.now) (node_at plan.nodes c.args.number) ps old new error) (batch places at)
-    (subst (λ n. IsNotTaken nodes.step nodes.serve (nodes.registered c.args.nodes.now) (nodes.kept c.send_batch.new.self) (nodes.may_refuse c.args.nodes.now) n sent old new error) node (inl untaken)))
-    c.send_batch.ensures.untaken
+    let own = own_batch c.args.plan.now c.args.number c.node.ensures.plan c.requires.within c.in-Some-node.node.now (sym c.node.ensures.node ∙ ap (option_map (λ node. node.now)) c.in-Some-node.is) (map (λ cmd. cmd.now) c.as_slice.result.now)
+    (sym c.in-Ok.ensures ∙ ap (option_map (λ v. map (λ part. part.now) v.items)) c.in-Some.is ∙ ap (λ l. Some (map (λ part. part.now) l)) (sym c.as_slice.ensures.value)) in
+    let N = g.N.BatchNodes in
+    IfErr-weaker c.send_batch.result _ _ (λ error untaken. subst (λ b. IsBatchNotTaken N c.args.nodes.now c.send_batch.new.self b error) own (inl untaken)) c.send_batch.ensures.untaken
 
 pub returns-clause-asked : goal.returns-clause-asked
 returns-clause-asked g c =
-    let nodes = g.N.BatchNodes in
-    let plan = c.args.plan.now in
-    let old = nodes.state c.args.nodes.now in
-    let new = nodes.state c.send_batch.new.self in
-    let sent = map (λ cmd. cmd.now) c.as_slice.result.now in
-    let node : c.in-Some-node.node.now ≡ node_at plan.nodes c.args.number =
-    same_Some c.in-Some-node.node.now (node_at plan.nodes c.args.number)
-    (sym (ap (option_map (λ node. node.now)) c.in-Some-node.is) ∙ c.node.ensures.node ∙ has_node plan c.args.number c.node.ensures.plan c.requires.within) in
-    let batch : (places : List ℕ) → slice_get plan.places c.args.number ≡ Some places → sent ≡ in_order plan.parts places =
-    λ places at. ap (map (λ cmd. cmd.now)) c.as_slice.ensures.value
-    ∙ same_Some (map (λ cmd. cmd.now) c.in-Some.batch.items) (in_order plan.parts places)
-    (sym (ap (option_map (λ v. map (λ part. part.now) v.items)) c.in-Some.is) ∙ c.in-Ok.ensures ∙ ap (option_map (in_order plan.parts)) at) in
-    let own : batch_for c.in-Some-node.node.now sent ≡ batch_at plan c.args.number =
-    ap (λ n. batch_for n sent) node ∙ ap (batch_for (node_at plan.nodes c.args.number)) (batch (get_or plan.places c.args.number []) (get_there plan.places c.args.number [] c.requires.within)) in
-    subst (λ b. OnOk c.send_batch.result (Grew (nodes.asked c.args.nodes.now) (nodes.asked c.send_batch.new.self) (b ∷ []))) own c.send_batch.ensures.asked
+    let own = own_batch c.args.plan.now c.args.number c.node.ensures.plan c.requires.within c.in-Some-node.node.now (sym c.node.ensures.node ∙ ap (option_map (λ node. node.now)) c.in-Some-node.is) (map (λ cmd. cmd.now) c.as_slice.result.now)
+    (sym c.in-Ok.ensures ∙ ap (option_map (λ v. map (λ part. part.now) v.items)) c.in-Some.is ∙ ap (λ l. Some (map (λ part. part.now) l)) (sym c.as_slice.ensures.value)) in
+    let N = g.N.BatchNodes in
+    subst (λ b. OnOk c.send_batch.result (Grew (N.asked c.args.nodes.now) (N.asked c.send_batch.new.self) (b ∷ []))) own c.send_batch.ensures.asked
 
 pub returns-clause-asked_until : goal.returns-clause-asked_until
 returns-clause-asked_until g c =
-    let nodes = g.N.BatchNodes in
-    let plan = c.args.plan.now in
-    let old = nodes.state c.args.nodes.now in
-    let new = nodes.state c.send_batch.new.self in
-    let sent = map (λ cmd. cmd.now) c.as_slice.result.now in
-    let node : c.in-Some-node.node.now ≡ node_at plan.nodes c.args.number =
-    same_Some c.in-Some-node.node.now (node_at plan.nodes c.args.number)
-    (sym (ap (option_map (λ node. node.now)) c.in-Some-node.is) ∙ c.node.ensures.node ∙ has_node plan c.args.number c.node.ensures.plan c.requires.within) in
-    let batch : (places : List ℕ) → slice_get plan.places c.args.number ≡ Some places → sent ≡ in_order plan.parts places =
-    λ places at. ap (map (λ cmd. cmd.now)) c.as_slice.ensures.value
-    ∙ same_Some (map (λ cmd. cmd.now) c.in-Some.batch.items) (in_order plan.parts places)
-    (sym (ap (option_map (λ v. map (λ part. part.now) v.items)) c.in-Some.is) ∙ c.in-Ok.ensures ∙ ap (option_map (in_order plan.parts)) at) in
-    let own : batch_for c.in-Some-node.node.now sent ≡ batch_at plan c.args.number =
-    ap (λ n. batch_for n sent) node ∙ ap (batch_for (node_at plan.nodes c.args.number)) (batch (get_or plan.places c.args.number []) (get_there plan.places c.args.number [] c.requires.within)) in
-    subst (λ b. IfErr c.send_batch.result (λ error. WereAskedUntil (nodes.asked c.args.nodes.now) (nodes.asked c.send_batch.new.self) [] b error)) own c.send_batch.ensures.asked_untaken
+    let own = own_batch c.args.plan.now c.args.number c.node.ensures.plan c.requires.within c.in-Some-node.node.now (sym c.node.ensures.node ∙ ap (option_map (λ node. node.now)) c.in-Some-node.is) (map (λ cmd. cmd.now) c.as_slice.result.now)
+    (sym c.in-Ok.ensures ∙ ap (option_map (λ v. map (λ part. part.now) v.items)) c.in-Some.is ∙ ap (λ l. Some (map (λ part. part.now) l)) (sym c.as_slice.ensures.value)) in
+    let N = g.N.BatchNodes in
+    subst (λ b. IfErr c.send_batch.result (λ error. WereAskedUntil (N.asked c.args.nodes.now) (N.asked c.send_batch.new.self) [] b error)) own c.send_batch.ensures.asked_untaken
 
 pub returns-in-Err-clause-untaken : goal.returns-in-Err-clause-untaken
-returns-in-Err-clause-untaken g c = λ places at. inr (refl, refl)
+returns-in-Err-clause-untaken g c = inr (refl, refl)
 
 pub returns-in-Err-clause-asked_until : goal.returns-in-Err-clause-asked_until
 returns-in-Err-clause-asked_until g c = inr (refl, asked_none (g.N.BatchNodes.asked c.args.nodes.now))
