@@ -6,18 +6,19 @@ use Rattle.std.proofs.lemmas.List.{append-nil, length-map, length_push}
 use Rattle.cluster_slots.specs.Address.{Address}
 use Rattle.resp_core.specs.ErrorParts.{ErrorParts}
 use Rattle.resp_core.specs.declared.value.Value.{Value}
-use Rattle.redis_routing.specs.Registry.{Registrations}
+use Rattle.redis_cluster.specs.Orders.{in_order}
 use Rattle.redis_cluster.specs.State.{State}
-use Rattle.redis_cluster.specs.Trace.{Ending, refused}
+use Rattle.redis_cluster.specs.Trace.{refused}
 use Rattle.redis_cluster.specs.Unsplit.{Step, Keyspace}
-use Rattle.redis_batches.specs.Batched.{put_at}
-use Rattle.redis_batches.specs.Driven.{Grew, HaveAnswered}
+use Rattle.redis_batches.specs.Batched.{numbers_in, put_at}
+use Rattle.redis_batches.specs.Driven.{Grew, HaveAnswered, node_at}
+use Rattle.redis_batches.specs.Plan.{batch_of}
 use Rattle.redis_batches.specs.DrivenPipeline.{IsBeforeSending}
 use Rattle.redis_batches.specs.Frame.{SameNodes}
 use Rattle.redis_batches.specs.InRounds.{AreSentAgain, IsAgainFault, Stands, WereSentAgain, fault_behind}
 use Rattle.redis_batches.specs.Outgoing.{ArePutAt, GoesBehind, IsNextFault, IsNextSent, IsNextServed}
 use Rattle.redis_batches.specs.Pipeline.{Answer, AreSlotsOf, Numbered, Planned, Refusals, Serve, ended, numbered, slot_of}
-use Rattle.redis_batches.specs.Rounds.{AreRounds, AreSentOn, Follows, IsLast, IsRoundServed, IsRoundStopped, IsSentOn, Round, StaysHere, after_rounds, batch_after, batches_before, go_on, last_round, latest_answers, round_answers, round_batches}
+use Rattle.redis_batches.specs.Rounds.{AreRounds, AreSentOn, Follows, IsLast, IsRoundServed, IsRoundStopped, IsSentOn, Round, StaysHere, after_rounds, alone, batch_after, batches_before, go_on, last_round, latest_answers, round_answers, round_batches}
 use Rattle.redis_batches.specs.Sent.{AreLast}
 use Rattle.redis_batches.specs.Taken.{answer_of}
 use Rattle.redis_batches.specs.Turns.{all_after, answers}
@@ -31,7 +32,7 @@ use Rattle.redis_batches.specs.declared.fault.PipelineError.{PipelineError}
 use Rattle.redis_batches.specs.declared.fault.PipelineError.TheVariants as driven
 use Rattle.redis_batches.proofs.StayHere.{numbered_stay}
 use Rattle.redis_batches.proofs.GoOn.{any_all, go_all, go_refused, zip_fronts}
-use Rattle.redis_batches.proofs.Untaken.{not_taken_wider}
+use Rattle.redis_batches.proofs.Untaken.{not_taken_since}
 use Rattle.redis_batches.proofs.Written.{zip_long}
 
 -- the last of rounds with one more is that one
@@ -63,78 +64,72 @@ none_left (x ∷ xs) none = absurd (cc none)
 pub is_last : (ps : List Planned) (round : Round) (out : Outgoing) → GoesBehind ps round out → out.numbers.items ≡ [] → IsLast round
 is_last ps round out gone none = (gone.on, gone.on_are, none_left (go_on slot_of (zip round.sent gone.on)) (sym gone.numbers_are ∙ none))
 
-module _ {C : Type 0} (step : Step C) (serve : Serve C) (registered : Registrations) (arguments : List (List (List ℕ))) where
-  -- what nodes served that kept to the meaning before, and may refuse less
-  pub round_wider : (kept_then kept : Type 0) → (kept → kept_then) → (may wide : ℕ → Ending → Type 0) → ((count : ℕ) (ending : Ending) → may count ending → wide count ending) → (round : Round) (old new : State C)
-      → IsRoundServed step serve kept_then may registered arguments round old new → IsRoundServed step serve kept wide registered arguments round old new
-  round_wider kept_then kept before may wide more round old new is = record {
+-- what was served or stopped since then, as counted from before
+module _ {S : Type 0} (N : Ghosts S) (old now new : S) (frame : SameNodes N old now) (arguments : List (List (List ℕ))) where
+  pub round_since : {round : Round} {from to : State N.Cell} → IsRoundServed N now new arguments round from to → IsRoundServed N old new arguments round from to
+  round_since is = record {
     prepared = is.prepared;
     long = is.long;
     served = record {
       refusals = is.served.refusals;
       trace = is.served.trace;
-      allowed = λ i error at. more _ (refused error) (is.served.allowed i error at);
+      allowed = λ i error at. (frame.may_refuse _ (refused error)).0 (is.served.allowed i error at);
       errors = is.served.errors;
-      keyspace = λ keep. is.served.keyspace (before keep);
-      answers_are = λ keep. is.served.answers_are (before keep);
+      keyspace = is.served.keyspace;
+      answers_are = is.served.answers_are;
     };
     refusals_are = is.refusals_are;
   }
 
-  pub rounds_wider : (kept_then kept : Type 0) → (kept → kept_then) → (may wide : ℕ → Ending → Type 0) → ((count : ℕ) (ending : Ending) → may count ending → wide count ending) → (round : Round) (rounds : List Round) (old new : State C)
-      → AreRounds step serve kept_then may registered arguments round rounds old new → AreRounds step serve kept wide registered arguments round rounds old new
-  rounds_wider kept_then kept before may wide more round [] old new are = are
-  rounds_wider kept_then kept before may wide more round (next ∷ rounds) old new are =
-      (are.0, are.1, round_wider kept_then kept before may wide more next old are.1 are.2, rounds_wider kept_then kept before may wide more next rounds are.1 new are.3)
+  pub rounds_since : (round : Round) (rounds : List Round) (from to : State N.Cell) → AreRounds N now new arguments round rounds from to → AreRounds N old new arguments round rounds from to
+  rounds_since round [] from to are = are
+  rounds_since round (next ∷ rounds) from to are = (are.0, are.1, round_since are.2, rounds_since next rounds are.1 to are.3)
 
-  -- what stopped at nodes that may refuse less
-  pub stopped_wider : (kept : Type 0) → (may wide : ℕ → Ending → Type 0) → ((count : ℕ) (ending : Ending) → may count ending → wide count ending) → (round : Round) (old new : State C) (stop : Stopped)
-      → IsRoundStopped step serve kept may registered arguments round old new stop → IsRoundStopped step serve kept wide registered arguments round old new stop
-  stopped_wider kept may wide more round old new stop is = record {
+  pub stopped_since : {round : Round} {from to : State N.Cell} {stop : Stopped} → IsRoundStopped N now new arguments round from to stop → IsRoundStopped N old new arguments round from to stop
+  stopped_since {round} {from} {to} {stop} is = record {
     prepared = is.prepared;
     stopped = record {
       between = is.stopped.between;
       taken = record {
         refusals = is.stopped.taken.refusals;
         trace = is.stopped.taken.trace;
-        allowed = λ i error at. more _ (refused error) (is.stopped.taken.allowed i error at);
+        allowed = λ i error at. (frame.may_refuse _ (refused error)).0 (is.stopped.taken.allowed i error at);
         keyspace = is.stopped.taken.keyspace;
       };
       number = is.stopped.number;
       next = is.stopped.next;
-      untaken = not_taken_wider step serve registered kept _ _ is.stopped.between new may wide more stop.error is.stopped.untaken;
+      untaken = not_taken_since frame new (node_at round.batches.nodes is.stopped.number) (in_order round.batches.parts (numbers_in (batch_of round.node_of round.batches) (alone round.sent) is.stopped.number)) is.stopped.between to stop.error is.stopped.untaken;
     };
   }
 
-  -- one round more
-  pub rounds_more : (kept : Type 0) (may : ℕ → Ending → Type 0) (round : Round) (rounds : List Round) (next : Round) (old now new : State C) → AreRounds step serve kept may registered arguments round rounds old now
-      → Follows (last_round round rounds) next → IsRoundServed step serve kept may registered arguments next now new → AreRounds step serve kept may registered arguments round (rounds ++ next ∷ []) old new
-  rounds_more kept may round [] next old now new are follows served =
-      (follows, new, subst (λ s. IsRoundServed step serve kept may registered arguments next s new) are served, refl)
-  rounds_more kept may round (r ∷ rounds) next old now new are follows served =
-      (are.0, are.1, are.2, rounds_more kept may r rounds next are.1 now new are.3 follows served)
+-- what nodes served that kept to the meaning then
+module _ {S : Type 0} (N : Ghosts S) (old now new : S) (kept : N.kept new → N.kept now) (arguments : List (List (List ℕ))) where
+  round_kept : {round : Round} {from to : State N.Cell} → IsRoundServed N old now arguments round from to → IsRoundServed N old new arguments round from to
+  round_kept is = record {
+    prepared = is.prepared;
+    long = is.long;
+    served = record {
+      refusals = is.served.refusals;
+      trace = is.served.trace;
+      allowed = is.served.allowed;
+      errors = is.served.errors;
+      keyspace = λ keep. is.served.keyspace (kept keep);
+      answers_are = λ keep. is.served.answers_are (kept keep);
+    };
+    refusals_are = is.refusals_are;
+  }
 
--- what was served or stopped since then, as counted from before
-module _ {S : Type 0} (N : Ghosts S) (old now new : S) (frame : SameNodes N old now) (arguments : List (List (List ℕ))) where
-  more : (count : ℕ) (ending : Ending) → N.may_refuse now count ending → N.may_refuse old count ending
-  more count ending = (frame.may_refuse count ending).0
+  rounds_kept : (round : Round) (rounds : List Round) (from to : State N.Cell) → AreRounds N old now arguments round rounds from to → AreRounds N old new arguments round rounds from to
+  rounds_kept round [] from to are = are
+  rounds_kept round (next ∷ rounds) from to are = (are.0, are.1, round_kept are.2, rounds_kept next rounds are.1 to are.3)
 
-  pub round_since : (round : Round) (from to : State N.Cell) → IsRoundServed N.step N.serve (N.kept new) (N.may_refuse now) (N.registered now) arguments round from to
-      → IsRoundServed N.step N.serve (N.kept new) (N.may_refuse old) (N.registered old) arguments round from to
-  round_since round from to is =
-      round_wider N.step N.serve (N.registered old) arguments (N.kept new) (N.kept new) (λ keep. keep) (N.may_refuse now) (N.may_refuse old) more round from to
-      (subst (λ r. IsRoundServed N.step N.serve (N.kept new) (N.may_refuse now) r arguments round from to) frame.registered is)
-
-  pub rounds_since : (round : Round) (rounds : List Round) (from to : State N.Cell) → AreRounds N.step N.serve (N.kept new) (N.may_refuse now) (N.registered now) arguments round rounds from to
-      → AreRounds N.step N.serve (N.kept new) (N.may_refuse old) (N.registered old) arguments round rounds from to
-  rounds_since round [] from to are = are
-  rounds_since round (next ∷ rounds) from to are = (are.0, are.1, round_since next from are.1 are.2, rounds_since next rounds are.1 to are.3)
-
-  pub stopped_since : (round : Round) (from to : State N.Cell) (stop : Stopped) → IsRoundStopped N.step N.serve (N.kept new) (N.may_refuse now) (N.registered now) arguments round from to stop
-      → IsRoundStopped N.step N.serve (N.kept new) (N.may_refuse old) (N.registered old) arguments round from to stop
-  stopped_since round from to stop is =
-      stopped_wider N.step N.serve (N.registered old) arguments (N.kept new) (N.may_refuse now) (N.may_refuse old) more round from to stop
-      (subst (λ r. IsRoundStopped N.step N.serve (N.kept new) (N.may_refuse now) r arguments round from to stop) frame.registered is)
+-- one round more
+rounds_more : {S : Type 0} (N : Ghosts S) (old new : S) (arguments : List (List (List ℕ))) (round : Round) (rounds : List Round) (next : Round) (from now to : State N.Cell) → AreRounds N old new arguments round rounds from now
+    → Follows (last_round round rounds) next → IsRoundServed N old new arguments next now to → AreRounds N old new arguments round (rounds ++ next ∷ []) from to
+rounds_more N old new arguments round [] next from now to are follows served =
+    (follows, to, subst (λ s. IsRoundServed N old new arguments next s to) are served, refl)
+rounds_more N old new arguments round (r ∷ rounds) next from now to are follows served =
+    (are.0, are.1, are.2, rounds_more N old new arguments r rounds next are.1 now to are.3 follows served)
 
 -- something was sent before
 pub not_before : {S : Type 0} (N : Ghosts S) (old new : S) (arguments : List (List (List ℕ))) (round : Round) (retries : ℕ) (error : PipelineError)
@@ -191,7 +186,7 @@ module _ {S : Type 0} (N : Ghosts S) (old : S) (arguments : List (List (List ℕ
   pub record IsSoFar (k : ℕ) (now : S) (all : List (Result Value ErrorParts)) (out : Outgoing) : Type 0 where
     pub rounds : List Round
     pub many : length rounds ≡ k
-    pub again : AreRounds N.step N.serve (N.kept now) (N.may_refuse old) (N.registered old) arguments round rounds (N.state old) (N.state now)
+    pub again : AreRounds N old now arguments round rounds (N.state old) (N.state now)
     pub asked : Grew (N.asked old) (N.asked now) (flat_map round_batches rounds)
     pub gave : Grew (N.gave old) (N.gave now) (flat_map round_answers rounds)
     pub behind : GoesBehind ps (last_round round rounds) out
@@ -216,17 +211,17 @@ module _ {S : Type 0} (N : Ghosts S) (old : S) (arguments : List (List (List ℕ
     abbrev pub latest : Round
     latest = last_round round so_far.rounds
 
-    were : AreRounds N.step N.serve (N.kept new) (N.may_refuse old) (N.registered old) arguments round so_far.rounds (N.state old) (N.state now)
-    were = rounds_wider N.step N.serve (N.registered old) arguments (N.kept now) (N.kept new) one.kept (N.may_refuse old) (N.may_refuse old) (λ count ending may. may) round so_far.rounds (N.state old) (N.state now) so_far.again
+    were : AreRounds N old new arguments round so_far.rounds (N.state old) (N.state now)
+    were = rounds_kept N old now new one.kept arguments round so_far.rounds (N.state old) (N.state now) so_far.again
 
     -- one more was sent
     module _ (is : IsNextSent N now new arguments latest) where
       abbrev longer : List Round
       longer = so_far.rounds ++ is.next ∷ []
 
-      again_more : AreRounds N.step N.serve (N.kept new) (N.may_refuse old) (N.registered old) arguments round longer (N.state old) (N.state new)
-      again_more = rounds_more N.step N.serve (N.registered old) arguments (N.kept new) (N.may_refuse old) round so_far.rounds is.next (N.state old) (N.state now) (N.state new) were is.follows
-          (round_since N old now new frame arguments is.next (N.state now) (N.state new) is.served)
+      again_more : AreRounds N old new arguments round longer (N.state old) (N.state new)
+      again_more = rounds_more N old new arguments round so_far.rounds is.next (N.state old) (N.state now) (N.state new) were is.follows
+          (round_since N old now new frame arguments is.served)
 
       grew_more : {X : Type 0} (f : Round → List X) (start middle end : List X → Type 0) → Grew start middle (flat_map f so_far.rounds) → Grew middle end (f is.next) → Grew start end (flat_map f longer)
       grew_more f start middle end first then = subst (Grew start end) (sym (one_more f so_far.rounds is.next)) (asked_more start middle end (flat_map f so_far.rounds) (f is.next) first then)
@@ -272,7 +267,7 @@ module _ {S : Type 0} (N : Ghosts S) (old : S) (arguments : List (List (List ℕ
         by_error (driven.Plan fault) is = absurd is
         by_error driven.BadOrder is = absurd is
         by_error (driven.Node stop) is =
-            let stopped = stopped_since N old now new frame arguments is.next (N.state now) (N.state new) stop is.stopped in
+            let stopped = stopped_since N old now new frame arguments is.stopped in
             record {
               rounds = so_far.rounds;
               few = omega (arith, few, so_far.many);

@@ -1,13 +1,13 @@
 -- A pipeline that was planned and sent: what its replies are, and what stands after a fault.
-use Rattle.std.proofs.Common.{◌≡◌, ◌∙◌, ℕ, List, Option, All, refl, subst, sym, map, length}
+use Rattle.std.proofs.Common.{◌≡◌, ◌∙◌, ℕ, List, Option, All, subst, sym, map, length}
 use Rattle.std.specs.List.{AllByRecursion}
 use Rattle.cluster_slots.specs.Address.{Address}
 use Rattle.redis_routing.specs.Registry.{Registrations}
 use Rattle.redis_routing.specs.Split.{Split}
 use Rattle.redis_cluster.specs.Driven.{AreAllAnswered}
-use Rattle.redis_batches.specs.BatchSends.{AreBatchesSent, AreBatchesStopped}
+use Rattle.redis_batches.specs.BatchSends.{AreBatchesSent, AreBatchesStopped, IsServed, WasStopped}
 use Rattle.redis_batches.specs.Batched.{AreBatches}
-use Rattle.redis_batches.specs.Driven.{AlwaysAnswers, IsServed, NeverRefuses, WasStopped}
+use Rattle.redis_batches.specs.Driven.{AlwaysAnswers, NeverRefuses}
 use Rattle.redis_batches.specs.DrivenPipeline.{AreAllAsked, AreAllGiven, AreAllTaken, AreAskedUntil, AreMade, IsOneServer, IsPipelineFault, IsPipelineServed, IsSendable, IsWantOfMemory}
 use Rattle.redis_batches.specs.Pipeline.{Answer, AreSlotsOf, Planned, Task}
 use Rattle.redis_batches.specs.PipelinePlan.{PipelineBatches}
@@ -60,10 +60,10 @@ module _ {S : Type 0} {N : Ghosts S} {old new : S} {batches : Batches} {order : 
   abbrev own_batches : AreBatches (N.registered old) (map with_slots tasks) plan.batches.parts plan.batches.places
   own_batches = plan_has_batches (N.registered old) is_node commands plan sendable.of_commands
 
-  pub own_served : IsServed N.step N.serve (N.kept new) (N.may_refuse old) (map with_slots tasks) plan.batches.parts plan.batches.nodes (batch_of sendable.of_commands.node_of plan.batches) order (N.state old) (N.state new) given
+  pub own_served : IsServed N old new (map with_slots tasks) plan.batches (batch_of sendable.of_commands.node_of plan.batches) order (N.state old) (N.state new) given
   own_served = own_sent.served (map with_slots tasks) (slots_of_all tasks) own_batches
 
-  abbrev pub all_taken : AreAllTaken N.step N.serve (N.kept new) (N.may_refuse old) (N.registered old) is_node commands order (N.state old) (N.state new) given
+  abbrev pub all_taken : AreAllTaken N old new is_node commands order (N.state new) given
   all_taken = record { plan = plan; sendable = sendable; served = own_served }
 
   pub all_asked : AreAllAsked N old new is_node commands order
@@ -82,7 +82,7 @@ module _ {S : Type 0} {N : Ghosts S} {old new : S} {batches : Batches} {order : 
   -- where nodes may refuse nothing, no part was refused
   pub pipeline_answered : NeverRefuses (N.may_refuse old) (length (N.state old).trace) → AreAllAnswered (N.state old).trace (N.state new).trace
   pipeline_answered never =
-      all_answered N.step N.serve (N.registered old) (N.kept new) (N.may_refuse old) (map with_slots tasks) (slots_of_all tasks) plan.batches.parts plan.batches.places own_batches plan.batches.nodes order sendable.order_is (N.state old) (N.state new) given own_served never
+      all_answered (slots_of_all tasks) plan.batches own_batches sendable.order_is own_served never
 
   module _ {replies : List Answer} (all : AreCombined tasks given replies) where
     pub pipeline_served : IsPipelineServed N old new is_node commands order replies
@@ -104,7 +104,7 @@ module _ {S : Type 0} {N : Ghosts S} {old new : S} {batches : Batches} {order : 
 
     pub pipeline_as_one : AreAllAnswered (N.state old).trace (N.state new).trace → N.kept new → IsOneServer N.step N.serve (N.registered old) commands (N.state old) (N.state new) replies
     pipeline_as_one none keep =
-        let both = as_one_server N.step N.serve (N.registered old) (N.kept new) (N.may_refuse old) (map with_slots tasks) (slots_of_all tasks) plan.batches.parts plan.batches.places own_batches plan.batches.nodes order sendable.order_is (N.state old) (N.state new) given own_served none keep in (
+        let both = as_one_server (slots_of_all tasks) plan.batches own_batches sendable.order_is own_served none keep in (
           tasks,
           sendable.of_commands.tasks_are,
           both.0 ∙ slots_leave N.step N.serve tasks (N.state old).keyspace,
@@ -116,7 +116,7 @@ module _ {S : Type 0} {N : Ghosts S} {old new : S} {batches : Batches} {order : 
   own : AreBatchesStopped N old new plan.batches order stop
   own = subst (λ b. AreBatchesStopped N old new b order stop) same is
 
-  own_stopped : WasStopped N.step N.serve (N.registered old) (N.kept new) (N.may_refuse old) (map with_slots sendable.of_commands.tasks) plan.batches.parts plan.batches.nodes (batch_of sendable.of_commands.node_of plan.batches) order (N.state old) (N.state new) stop.answered stop.error
+  own_stopped : WasStopped N old new (map with_slots sendable.of_commands.tasks) plan.batches (batch_of sendable.of_commands.node_of plan.batches) order (N.state old) (N.state new) stop.answered stop.error
   own_stopped = own.stopped (map with_slots sendable.of_commands.tasks) (slots_of_all sendable.of_commands.tasks) (plan_has_batches (N.registered old) is_node commands plan sendable.of_commands)
 
   pub pipeline_stopped : (ranges : Ranges) → IsPipelineFault N old new is_node commands order ranges (Node stop)
@@ -127,5 +127,4 @@ module _ {S : Type 0} {N : Ghosts S} {old new : S} {batches : Batches} {order : 
 
   -- where nodes may do nothing but answer, it stopped for want of memory
   pub pipeline_unhindered : AlwaysAnswers (N.may_refuse old) (length (N.state old).trace) → IsWantOfMemory (N.state new).mark (Node stop)
-  pipeline_unhindered answers =
-      stopped_for_memory N.step N.serve (N.registered old) (N.kept new) (N.may_refuse old) (map with_slots sendable.of_commands.tasks) plan.batches.parts plan.batches.nodes (batch_of sendable.of_commands.node_of plan.batches) order (N.state old) (N.state new) stop.answered stop.error answers own_stopped
+  pipeline_unhindered answers = stopped_for_memory answers own_stopped

@@ -11,12 +11,11 @@ use Rattle.resp_core.proofs.Cases.{by_test}
 use Rattle.redis_routing.specs.Registry.{Registrations}
 use Rattle.redis_cluster.specs.Orders.{NamesOnce, in_order}
 use Rattle.redis_cluster.specs.State.{State}
-use Rattle.redis_cluster.specs.Trace.{Ending}
-use Rattle.redis_cluster.specs.Unsplit.{Step}
 use Rattle.redis_cluster.proofs.Constructors.{same_head, same_tail}
 use Rattle.redis_batches.specs.Batched.{AreBatches, numbers_in}
 use Rattle.redis_batches.specs.Driven.{AreInTurn, parts_by_batch}
-use Rattle.redis_batches.specs.Pipeline.{Numbered, Part, Planned, Serve, numbered, pieces, slot_of}
+use Rattle.redis_batches.specs.declared.nodes.BatchNodes.{Ghosts}
+use Rattle.redis_batches.specs.Pipeline.{Numbered, Part, Planned, numbered, pieces, slot_of}
 use Rattle.redis_batches.specs.Plan.{Batches, batch_of}
 use Rattle.redis_batches.specs.Rounds.{AreRounds, Follows, Round, alone, by_last_answer, go_on, is_among}
 use Rattle.redis_batches.specs.Sent.{AreApart, AreLast}
@@ -137,19 +136,19 @@ module _ (round next : Round) (follows : Follows round next) (long : length roun
         (next_last s).1 ∙ ap (λ l. before ++ l) rest ∙ ap (λ l. l ++ of_slot slot_of s later) (sym those_stay)
         ∙ sym (filter-append (λ x. nat_eq (slot_of x) s) (filter stays parts) later)
 
-module _ {C : Type 0} (step : Step C) (serve : Serve C) (kept : Type 0) (may : ℕ → Ending → Type 0) (registered : Registrations) (arguments : List (List (List ℕ))) where
+module _ {S : Type 0} (N : Ghosts S) (old new : S) (arguments : List (List (List ℕ))) where
   -- Of each slot, the last answers come in the order of the parts.
-  pub last_in_turn : (round : Round) (rounds : List Round) (parts : List Numbered) (old new : State C) → AreRounds step serve kept may registered arguments round rounds old new → length round.given ≡ length round.sent → AreApart round.sent
+  pub last_in_turn : (round : Round) (rounds : List Round) (parts : List Numbered) (from to : State N.Cell) → AreRounds N old new arguments round rounds from to → length round.given ≡ length round.sent → AreApart round.sent
       → ((s : ℕ) → of_slot slot_of s round.sent ≡ of_slot slot_of s parts) → (s : ℕ) → of_slot slot_of s round.sent ≡ of_slot slot_of s (by_last_answer parts rounds)
-  last_in_turn round [] parts old new again long apart same s = same s
-  last_in_turn round (next ∷ rounds) parts old new again long apart same s =
+  last_in_turn round [] parts from to again long apart same s = same s
+  last_in_turn round (next ∷ rounds) parts from to again long apart same s =
       let count : ℕ = length next.batches.places in
       let own : ℕ → Address = next.node_of in
       let by_slot : map (λ (x : Numbered). own (slot_of x)) next.sent ≡ map (λ (q : Part). own q.slot) (pieces (alone next.sent)) =
       map_map own slot_of next.sent ∙ ap (map own) (sym (slots_alone next.sent)) ∙ sym (map_map own (λ (q : Part). q.slot) (pieces (alone next.sent))) in
       let nodes : List Address = map (λ (x : Numbered). own (slot_of x)) next.sent in
       one_round round next again.0 long apart s parts (same s) (by_last_answer (round_parts next) rounds)
-      (last_in_turn next rounds (round_parts next) again.1 new again.3 again.2.long (next_apart round next again.0 long apart)
+      (last_in_turn next rounds (round_parts next) again.1 to again.3 again.2.long (next_apart round next again.0 long apart)
       (sent_in_turn (alone next.sent) next.batches (batch_of own next.batches)
       (by_node_below (alone next.sent) next.batches nodes own by_slot again.2.prepared.by_node) (by_node_places (alone next.sent) next.batches nodes own by_slot again.2.prepared.by_node)
       next.sent (slots_alone next.sent) (range_with_len 0 count) (each_once count)) s)

@@ -40,4 +40,3 @@ pub mod Walking
 pub mod InTurn
 pub mod Retried
 pub mod Ascending
-pub mod RoundSteps

@@ -4,18 +4,17 @@ use Rattle.std.specs.Prelude.{nat_eq}
 use Rattle.std.proofs.lemmas.List.{append_cancel_left}
 use Rattle.std.proofs.lemmas.List.Elements.{All-nil, All-cons, All-filter, All-map}
 use Rattle.resp_core.specs.ErrorParts.{ErrorParts}
-use Rattle.cluster_slots.specs.Address.{Address}
-use Rattle.redis_routing.specs.Registry.{Registrations}
 use Rattle.redis_cluster.specs.Orders.{NamesOnce}
 use Rattle.redis_cluster.specs.Driven.{AreAllAnswered}
 use Rattle.redis_cluster.specs.Trace.{Entry, Ending, answered, refused}
-use Rattle.redis_cluster.specs.Unsplit.{Step}
-use Rattle.redis_cluster.specs.State.{State}
 use Rattle.redis_batches.specs.Turns.{all_after}
-use Rattle.redis_batches.specs.Pipeline.{Answer, Serve, run, AreSlotsOf, Planned, pieces, piece_answers, Numbered, numbered, slot_of, Refusals}
+use Rattle.redis_batches.specs.Pipeline.{Answer, run, AreSlotsOf, Planned, pieces, piece_answers, Numbered, numbered, slot_of, Refusals}
+use Rattle.redis_batches.specs.BatchSends.{IsServed}
+use Rattle.redis_batches.specs.Plan.{Batches}
+use Rattle.redis_batches.specs.declared.nodes.BatchNodes.{Ghosts}
 use Rattle.redis_batches.specs.Batched.{AreBatches, part_entry}
 use Rattle.redis_batches.specs.Taken.{AreAllowed, ending_by}
-use Rattle.redis_batches.specs.Driven.{IsServed, NeverRefuses, in_batches, node_at}
+use Rattle.redis_batches.specs.Driven.{NeverRefuses, in_batches, node_at}
 use Rattle.redis_batches.proofs.Ends.{after_agree, answers_agree}
 use Rattle.redis_batches.proofs.KeptSlots.{batches_keep_slots, numbered_after, numbered_list}
 use Rattle.redis_batches.proofs.Lists.{all_by_slot}
@@ -45,9 +44,8 @@ not_refused (Some error) is = absurd (cc is)
 none_not_refused : (refusals : Refusals) (xs : List Numbered) → All (λ x. ending_by (refusals x) ≡ answered) xs → All (λ x. refusals x ≡ None) xs
 none_not_refused refusals xs all = λ n d inside. not_refused _ (all n d inside)
 
-module _ {C : Type 0} (step : Step C) (serve : Serve C) (registered : Registrations) (kept : Type 0) (may_refuse : ℕ → Ending → Type 0) (ps : List Planned) (are : All (λ p. AreSlotsOf p.task p.slots) ps)
-    (parts : List (List (List ℕ))) (places : List (List ℕ)) (is : AreBatches registered ps parts places) (nodes : List Address) (order : List ℕ) (names : NamesOnce (length places) order)
-    (old new : State C) (given : List Answer) (served : IsServed step serve kept may_refuse ps parts nodes is.batch order old new given) where
+module _ {S : Type 0} {N : Ghosts S} {old new : S} {ps : List Planned} (are : All (λ p. AreSlotsOf p.task p.slots) ps) (plan : Batches) (is : AreBatches (N.registered old) ps plan.parts plan.places)
+    {order : List ℕ} (names : NamesOnce (length plan.places) order) {given : List Answer} (served : IsServed N old new ps plan is.batch order (N.state old) (N.state new) given) where
   none : Refusals
   none x = None
 
@@ -55,32 +53,32 @@ module _ {C : Type 0} (step : Step C) (serve : Serve C) (registered : Registrati
   sent = in_batches is.batch order ps
 
   abbrev entry_of : Numbered → Entry
-  entry_of = part_entry (node_at nodes) is.batch parts served.refusals
+  entry_of = part_entry (node_at plan.nodes) is.batch plan.parts served.refusals
 
   -- where nodes may refuse nothing, each part was answered
-  pub all_answered : NeverRefuses may_refuse (length old.trace) → AreAllAnswered old.trace new.trace
+  pub all_answered : NeverRefuses (N.may_refuse old) (length (N.state old).trace) → AreAllAnswered (N.state old).trace (N.state new).trace
   all_answered never =
-      let taken : All (λ x. served.refusals x ≡ None) sent = none_refused may_refuse served.refusals (length old.trace) (length old.trace) never (omega arith) sent served.allowed in (
+      let taken : All (λ x. served.refusals x ≡ None) sent = none_refused (N.may_refuse old) served.refusals (length (N.state old).trace) (length (N.state old).trace) never (omega arith) sent served.allowed in (
         map entry_of sent,
         served.trace,
         All-map (λ (e : Entry). e.ending ≡ answered) entry_of sent (λ n d inside. ap ending_by (taken n d inside)),
       )
 
-  module _ (all : AreAllAnswered old.trace new.trace) where
+  module _ (all : AreAllAnswered (N.state old).trace (N.state new).trace) where
     agree : All (λ x. served.refusals x ≡ none x) (numbered ps)
     unfolding none
     agree =
-        let same : all.0 ≡ map entry_of sent = append_cancel_left old.trace all.0 (map entry_of sent) (sym all.1 ∙ served.trace) in
+        let same : all.0 ≡ map entry_of sent = append_cancel_left (N.state old).trace all.0 (map entry_of sent) (sym all.1 ∙ served.trace) in
         let ended : All (λ (e : Entry). e.ending ≡ answered) (map entry_of sent) = subst (All (λ (e : Entry). e.ending ≡ answered)) same all.2 in
         let taken : All (λ x. served.refusals x ≡ None) sent = none_not_refused served.refusals sent (all_unmap entry_of (λ (e : Entry). e.ending ≡ answered) sent ended) in
         all_by_slot slot_of (λ x. served.refusals x ≡ None) (numbered ps)
-        (λ s. subst (All (λ x. served.refusals x ≡ None)) (sym (batches_keep_slots is.batch (length places) order names ps is.below s))
+        (λ s. subst (All (λ x. served.refusals x ≡ None)) (sym (batches_keep_slots is.batch (length plan.places) order names ps is.below s))
         (All-filter (λ x. nat_eq (slot_of x) s) (λ x. served.refusals x ≡ None) sent taken))
 
-    pub as_one_server : kept → (new.keyspace ≡ all_after (λ p. run step serve p.task) ps old.keyspace) × (given ≡ piece_answers step serve ps old.keyspace)
+    pub as_one_server : N.kept new → ((N.state new).keyspace ≡ all_after (λ p. run N.step N.serve p.task) ps (N.state old).keyspace) × (given ≡ piece_answers N.step N.serve ps (N.state old).keyspace)
     unfolding none
     as_one_server keep = (
-      served.keyspace keep ∙ after_agree step serve served.refusals none (numbered ps) agree old.keyspace ∙ numbered_after step serve 0 (pieces ps) old.keyspace ∙ pieces_leave step serve ps are old.keyspace,
-      served.answers_are keep ∙ ap (map (λ (a : Numbered × Answer). a.1)) (answers_agree step serve served.refusals none (numbered ps) agree old.keyspace)
-          ∙ numbered_list step serve 0 (pieces ps) old.keyspace ∙ pieces_answer step serve ps are old.keyspace,
+      served.keyspace keep ∙ after_agree N.step N.serve served.refusals none (numbered ps) agree (N.state old).keyspace ∙ numbered_after N.step N.serve 0 (pieces ps) (N.state old).keyspace ∙ pieces_leave N.step N.serve ps are (N.state old).keyspace,
+      served.answers_are keep ∙ ap (map (λ (a : Numbered × Answer). a.1)) (answers_agree N.step N.serve served.refusals none (numbered ps) agree (N.state old).keyspace)
+          ∙ numbered_list N.step N.serve 0 (pieces ps) (N.state old).keyspace ∙ pieces_answer N.step N.serve ps are (N.state old).keyspace,
     )

@@ -1,5 +1,5 @@
 -- A pipeline that was sent in rounds: what its replies are, and what stands after a fault.
-use Rattle.std.proofs.Common.{◌≡◌, ◌≤◌, ℕ, ◌+◌, List, [], ◌∷◌, ◌++◌, true, Some, None, Result, All, inr, refl, sym, ap, subst, ◌∙◌, append_assoc, arith, filter, map, length}
+use Rattle.std.proofs.Common.{◌≡◌, ℕ, ◌+◌, List, [], ◌∷◌, ◌++◌, true, Some, None, Result, All, inr, refl, sym, ap, subst, ◌∙◌, append_assoc, arith, filter, map, length}
 use Rattle.std.specs.List.{AllZip, enumerate_from, flat_map, range_with_len, zip}
 use Rattle.std.proofs.lemmas.List.{length-map}
 use Rattle.std.proofs.lemmas.List.FromFn.{length-enumerate_from}
@@ -7,8 +7,8 @@ use Rattle.cluster_slots.specs.Address.{Address}
 use Rattle.resp_core.specs.ErrorParts.{ErrorParts}
 use Rattle.resp_core.specs.declared.value.Value.{Value}
 use Rattle.redis_cluster.specs.State.{State}
-use Rattle.redis_batches.specs.BatchSends.{AreBatchesSent}
-use Rattle.redis_batches.specs.Driven.{IsServed, WereAskedUntil, answers_in, batch_at, parts_by_batch}
+use Rattle.redis_batches.specs.BatchSends.{AreBatchesSent, IsServed}
+use Rattle.redis_batches.specs.Driven.{WereAskedUntil, answers_in, batch_at, parts_by_batch}
 use Rattle.redis_batches.specs.DrivenInRounds.{AreServedInRounds, IsRoundsFault, SentSoFar, StoppedInRounds, WereSent}
 use Rattle.redis_batches.specs.DrivenPipeline.{AreAllTaken, IsOneServer, IsSendable}
 use Rattle.redis_batches.specs.Frame.{SameNodes}
@@ -88,7 +88,7 @@ module _ {S : Type 0} {N : Ghosts S} {old mid : S} {batches : Batches} {order : 
   abbrev pub ps : List Planned
   ps = map with_slots sendable.of_commands.tasks
 
-  abbrev served : IsServed N.step N.serve (N.kept mid) (N.may_refuse old) ps plan.batches.parts plan.batches.nodes (batch_of sendable.of_commands.node_of plan.batches) order (N.state old) (N.state mid) given
+  abbrev served : IsServed N old mid ps plan.batches (batch_of sendable.of_commands.node_of plan.batches) order (N.state old) (N.state mid) given
   served = own_served sent sendable same
 
   -- the first round
@@ -128,7 +128,7 @@ module _ {S : Type 0} {N : Ghosts S} {old mid : S} {batches : Batches} {order : 
       }
 
   module _ (frame : SameNodes N old mid) (long : length given ≡ length batches.parts) {new : S} (one : SameNodes N mid new) where
-    abbrev taken : AreAllTaken N.step N.serve (N.kept new) (N.may_refuse old) (N.registered old) is_node commands order (N.state old) (N.state mid) given
+    abbrev taken : AreAllTaken N old new is_node commands order (N.state mid) given
     taken = record {
       plan = plan;
       sendable = sendable;
@@ -143,8 +143,8 @@ module _ {S : Type 0} {N : Ghosts S} {old mid : S} {batches : Batches} {order : 
     }
 
     -- these rounds were sent
-    abbrev so_far : (rounds : List Round) (now : State N.Cell) → AreRounds N.step N.serve (N.kept new) (N.may_refuse mid) (N.registered mid) plan.batches.parts first rounds (N.state mid) now
-        → SentSoFar N.step N.serve (N.kept new) (N.may_refuse old) (N.registered old) is_node commands order (N.state old) now
+    abbrev so_far : (rounds : List Round) (now : State N.Cell) → AreRounds N mid new plan.batches.parts first rounds (N.state mid) now
+        → SentSoFar N old new is_node commands order now
     so_far rounds now again = record {
       given = given;
       between = N.state mid;
@@ -181,7 +181,7 @@ module _ {S : Type 0} {N : Ghosts S} {old mid : S} {batches : Batches} {order : 
             counted = is.counted;
             next = is.next;
             follows = is.follows;
-            stopped = stopped_since N old mid new frame plan.batches.parts is.next is.between (N.state new) stop is.stopped;
+            stopped = stopped_since N old mid new frame plan.batches.parts is.stopped;
             asked = subst (λ l. WereAskedUntil (N.asked old) (N.asked new) l (batch_after is.next stop.answered) stop.error) (sym (append_assoc front rounds last)) all;
             long = many;
             gave = answered_more (N.gave old) (N.gave mid) (N.gave new) (answers_in plan.batches given order) (flat_map round_answers is.rounds) stop.answered (own_sent sent sendable same).gave is.gave;
@@ -238,7 +238,7 @@ module _ {S : Type 0} {N : Ghosts S} {old mid : S} {batches : Batches} {order : 
           -- of each slot the last answers come in the order of the pipeline
           in_turn : (s : ℕ) → of_slot slot_of s (numbered ps) ≡ of_slot slot_of s (by_last_answer (parts_by_batch plan.batches (numbered ps) order) again.sent.rounds)
           in_turn =
-              last_in_turn N.step N.serve (N.kept new) (N.may_refuse mid) (N.registered mid) plan.batches.parts first again.sent.rounds (parts_by_batch plan.batches (numbered ps) order) (N.state mid) (N.state new) again.sent.again
+              last_in_turn N mid new plan.batches.parts first again.sent.rounds (parts_by_batch plan.batches (numbered ps) order) (N.state mid) (N.state new) again.sent.again
               (answers_many long ∙ sym (length-enumerate_from 0 (pieces ps))) (all_apart (pieces ps)) (pipeline_in_turn (N.registered old) ps plan.batches order (plan_has_batches (N.registered old) is_node commands plan sendable.of_commands) sendable.order_is)
 
           -- The pipeline was served in rounds.

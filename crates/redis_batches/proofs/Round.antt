@@ -17,7 +17,8 @@ use Rattle.redis_batches.specs.Served.{Effect}
 use Rattle.redis_batches.specs.Turns.{all_after, answers, of_slot, batch_by_batch}
 use Rattle.redis_batches.specs.Pipeline.{Answer, Task, AreSlotsOf, Planned, Part, pieces, Numbered, numbered, slot_of, KeepsSlots, Refusals, ended, run_ended}
 use Rattle.redis_batches.specs.Taken.{answer_of, task_of, AreAllowed, AreServed, IsTaken, batch_entries}
-use Rattle.redis_batches.specs.Driven.{node_at, IsServed, AreTaken}
+use Rattle.redis_batches.specs.Driven.{node_at}
+use Rattle.redis_batches.specs.BatchSends.{AreTaken, IsServed}
 use Rattle.redis_batches.specs.Plan.{Batches}
 use Rattle.redis_batches.specs.declared.nodes.BatchNodes.{Ghosts}
 use Rattle.redis_cluster.specs.Trace.{Entry}
@@ -289,7 +290,7 @@ module _ {S : Type 0} (N : Ghosts S) (at_start : S) (plan : Batches) {ps : List 
         }
 
   -- the first batches were taken
-  pub taken_so_far : (i : ℕ) {now new : S} → (N.kept new → N.kept now) → {out : List (Result Value ErrorParts)} → IsSoFar i now out → AreTaken N.step N.serve (N.kept new) (N.may_refuse at_start) ps plan.parts plan.nodes is.batch (take i order) (N.state at_start) (N.state now)
+  pub taken_so_far : (i : ℕ) {now new : S} → (N.kept new → N.kept now) → {out : List (Result Value ErrorParts)} → IsSoFar i now out → AreTaken N at_start new ps plan is.batch (take i order) (N.state at_start) (N.state now)
   taken_so_far i before_it so_far = record {
     refusals = so_far.refusals;
     trace = so_far.trace;
@@ -299,7 +300,7 @@ module _ {S : Type 0} (N : Ghosts S) (at_start : S) (plan : Batches) {ps : List 
 
   -- In the end the pipeline was served.
   pub at_end : (i : ℕ) → length order ≤ i → (now : S) (out : List (Result Value ErrorParts)) → length out ≡ length plan.parts → IsSoFar i now out
-      → IsServed N.step N.serve (N.kept now) (N.may_refuse at_start) ps plan.parts plan.nodes is.batch order (N.state at_start) (N.state now) (map answer_of out)
+      → IsServed N at_start now ps plan is.batch order (N.state at_start) (N.state now) (map answer_of out)
   at_end i past now out room so_far =
       let r = so_far.refusals in
       let full = batch_by_batch batch_of order (numbered ps) in

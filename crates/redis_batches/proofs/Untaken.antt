@@ -1,5 +1,5 @@
 -- Batches that were not taken.
-use Rattle.std.proofs.Common.{◌≡◌, ◌≤◌, ◌⊎◌, inl, inr, ℕ, List, refl, ap, true, length, arith, ◌∙◌}
+use Rattle.std.proofs.Common.{◌≡◌, ◌≤◌, ◌⊎◌, inl, inr, ℕ, List, refl, ap, subst, true, length, arith, ◌∙◌}
 use Rattle.std.proofs.lemmas.List.{length-append}
 use Rattle.cluster_slots.specs.Address.{Address}
 use Rattle.redis_routing.specs.Registry.{Registrations}
@@ -9,7 +9,11 @@ use Rattle.redis_cluster.specs.Unsplit.{Step}
 use Rattle.redis_cluster.specs.declared.nodes.SendError.{SendError}
 use Rattle.redis_cluster.specs.declared.nodes.SendError.TheVariants as sent
 use Rattle.redis_batches.specs.Pipeline.{Planned, Serve}
-use Rattle.redis_batches.specs.Driven.{AlwaysAnswers, WasStopped}
+use Rattle.redis_batches.specs.Driven.{AlwaysAnswers}
+use Rattle.redis_batches.specs.BatchSends.{WasStopped}
+use Rattle.redis_batches.specs.Frame.{SameNodes}
+use Rattle.redis_batches.specs.Plan.{Batches}
+use Rattle.redis_batches.specs.declared.nodes.BatchNodes.{Ghosts}
 use Rattle.redis_batches.specs.Taken.{IsCutShort, IsLost, IsNotTaken, IsRefused, IsUntaken}
 
 module _ {C : Type 0} (step : Step C) (serve : Serve C) (registered : Registrations) (kept : Type 0) (node : Address) (batch : List (List (List ℕ))) (old new : State C) (may wide : ℕ → Ending → Type 0)
@@ -31,9 +35,16 @@ module _ {C : Type 0} (step : Step C) (serve : Serve C) (registered : Registrati
   untaken_wider sent.Memory is = is
 
   -- a batch that was not taken by nodes that may refuse less
-  pub not_taken_wider : (error : SendError) → IsNotTaken step serve registered kept may node batch old new error → IsNotTaken step serve registered kept wide node batch old new error
+  not_taken_wider : (error : SendError) → IsNotTaken step serve registered kept may node batch old new error → IsNotTaken step serve registered kept wide node batch old new error
   not_taken_wider error (inl is) = inl (untaken_wider error is)
   not_taken_wider error (inr short) = inr short
+
+-- nor by the nodes of before, whose names and refusals are the same
+pub not_taken_since : {S : Type 0} {N : Ghosts S} {old now : S} (frame : SameNodes N old now) (new : S) (node : Address) (batch : List (List (List ℕ))) (from to : State N.Cell) (error : SendError)
+    → IsNotTaken N.step N.serve (N.registered now) (N.kept new) (N.may_refuse now) node batch from to error → IsNotTaken N.step N.serve (N.registered old) (N.kept new) (N.may_refuse old) node batch from to error
+not_taken_since {S} {N} {old} {now} frame new node batch from to error is =
+    not_taken_wider N.step N.serve (N.registered old) (N.kept new) node batch from to (N.may_refuse now) (N.may_refuse old) (λ count ending. (frame.may_refuse count ending).0) error
+    (subst (λ r. IsNotTaken N.step N.serve r (N.kept new) (N.may_refuse now) node batch from to error) frame.registered is)
 
 module _ {C : Type 0} (step : Step C) (serve : Serve C) (registered : Registrations) (kept : Type 0) (may_refuse : ℕ → Ending → Type 0) (node : Address) (batch : List (List (List ℕ))) (old new : State C)
     (from : ℕ) (later : from ≤ length old.trace) (answers : AlwaysAnswers may_refuse from) where
@@ -58,9 +69,8 @@ module _ {C : Type 0} (step : Step C) (serve : Serve C) (registered : Registrati
   not_taken_for_memory error (inr short) = inl short.0
 
 -- Where nodes may do nothing but answer, batches stop for want of memory alone.
-pub stopped_for_memory : {C : Type 0} (step : Step C) (serve : Serve C) (registered : Registrations) (kept : Type 0) (may_refuse : ℕ → Ending → Type 0) (ps : List Planned) (parts : List (List (List ℕ))) (nodes : List Address) (batch : ℕ → ℕ)
-    (order : List ℕ) (old new : State C) (many : ℕ) (error : SendError) → AlwaysAnswers may_refuse (length old.trace) → WasStopped step serve registered kept may_refuse ps parts nodes batch order old new many error
-    → (error ≡ sent.Memory) ⊎ (new.mark ≡ true)
-stopped_for_memory step serve registered kept may_refuse ps parts nodes batch order old new many error answers stopped =
-    let later : length old.trace ≤ length stopped.between.trace = omega (arith, ap length stopped.taken.trace ∙ length-append old.trace _) in
-    not_taken_for_memory step serve registered kept may_refuse _ _ stopped.between new (length old.trace) later answers error stopped.untaken
+pub stopped_for_memory : {S : Type 0} {N : Ghosts S} {old new : S} {ps : List Planned} {plan : Batches} {batch : ℕ → ℕ} {order : List ℕ} {many : ℕ} {error : SendError} → AlwaysAnswers (N.may_refuse old) (length (N.state old).trace)
+    → WasStopped N old new ps plan batch order (N.state old) (N.state new) many error → (error ≡ sent.Memory) ⊎ ((N.state new).mark ≡ true)
+stopped_for_memory {S} {N} {old} {new} {ps} {plan} {batch} {order} {many} {error} answers stopped =
+    let later : length (N.state old).trace ≤ length stopped.between.trace = omega (arith, ap length stopped.taken.trace ∙ length-append (N.state old).trace _) in
+    not_taken_for_memory N.step N.serve (N.registered old) (N.kept new) (N.may_refuse old) _ _ stopped.between (N.state new) (length (N.state old).trace) later answers error stopped.untaken

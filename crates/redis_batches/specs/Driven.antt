@@ -1,20 +1,16 @@
 -- How the batches of a pipeline were sent, and what they leave and answer.
-use Rattle.std.specs.Prelude.{◌≡◌, ◌≤◌, ◌⊎◌, ◌++◌, ◌∷◌, ℕ, List, [], Some, map, length, get_or, slice_get, take}
+use Rattle.std.specs.Prelude.{◌≡◌, ◌≤◌, ◌⊎◌, ◌++◌, ◌∷◌, ℕ, List, [], map, length, get_or}
 use Rattle.std.specs.List.{flat_map}
 use Rattle.resp_core.specs.ErrorParts.{ErrorParts}
 use Rattle.cluster_slots.specs.Address.{Address}
-use Rattle.redis_routing.specs.Registry.{Registrations}
 use Rattle.redis_cluster.specs.Orders.{in_order}
 use Rattle.redis_cluster.specs.Trace.{Ending, answered, refused}
-use Rattle.redis_cluster.specs.Unsplit.{Step}
-use Rattle.redis_cluster.specs.State.{State}
-use Rattle.redis_batches.specs.Turns.{all_after, answers, batch_by_batch}
-use Rattle.redis_batches.specs.Pipeline.{Answer, KeepsSlots, Serve, Planned, Numbered, numbered, slot_of, Refusals, ended}
-use Rattle.redis_batches.specs.Batched.{numbers_in, part_entry}
+use Rattle.redis_batches.specs.Turns.{batch_by_batch}
+use Rattle.redis_batches.specs.Pipeline.{Answer, KeepsSlots, Planned, Numbered, numbered, slot_of}
 use Rattle.redis_cluster.specs.declared.nodes.SendError.{SendError}
 use Rattle.redis_cluster.specs.declared.nodes.SendError.TheVariants.{Memory}
 use Rattle.redis_batches.specs.Plan.{Batches}
-use Rattle.redis_batches.specs.Taken.{AnswersRefusals, AreAllowed, Batch, IsNotTaken, batch_for}
+use Rattle.redis_batches.specs.Taken.{Batch, batch_for}
 
 -- the node at a number of a list
 abbrev pub node_at : List Address → ℕ → Address
@@ -23,33 +19,6 @@ node_at nodes k = get_or nodes k (record { host = []; port = 0 })
 -- the parts of these batches, batch after batch
 abbrev pub in_batches : (ℕ → ℕ) → List ℕ → List Planned → List Numbered
 in_batches batch order ps = batch_by_batch (λ x. batch (slot_of x)) order (numbered ps)
-
-module _ {C : Type 0} (step : Step C) (serve : Serve C) (kept : Type 0)
-    (may_refuse : ℕ → Ending → Type 0) (ps : List Planned) (parts : List (List (List ℕ)))
-    (nodes : List Address) (batch : ℕ → ℕ) (order : List ℕ) (old new : State C) where
-  -- Batches of these numbers were taken, one after the other, and nothing else was. The trace grew by
-  -- an entry for each part, at the node of its batch: answered, or refused as it may be. If nodes keep
-  -- to the meaning, the keyspace is that of the parts that were not refused.
-  pub record AreTaken : Type 0 where
-    pub refusals : Refusals
-    pub trace : new.trace ≡ old.trace
-        ++ map (part_entry (node_at nodes) batch parts refusals) (in_batches batch order ps)
-    pub allowed : AreAllowed may_refuse (length old.trace) (map refusals (in_batches batch order ps))
-    pub keyspace : kept
-        → new.keyspace ≡ all_after (ended step serve refusals) (in_batches batch order ps) old.keyspace
-
-  -- All were taken, and what was refused is answered by its error. If nodes keep to the meaning,
-  -- keyspace and answers are those of one server. It takes the parts in the order of the pipeline, and
-  -- refused parts do nothing.
-  pub record IsServed (given : List Answer) : Type 0 where
-    pub refusals : Refusals
-    pub trace : new.trace ≡ old.trace
-        ++ map (part_entry (node_at nodes) batch parts refusals) (in_batches batch order ps)
-    pub allowed : AreAllowed may_refuse (length old.trace) (map refusals (in_batches batch order ps))
-    pub errors : AnswersRefusals (map refusals (numbered ps)) given
-    pub keyspace : kept → new.keyspace ≡ all_after (ended step serve refusals) (numbered ps) old.keyspace
-    pub answers_are : kept
-        → given ≡ map (λ a. a.1) (answers (ended step serve refusals) (numbered ps) old.keyspace)
 
 -- from this place in the trace on, nodes may refuse nothing
 abbrev pub NeverRefuses : (ℕ → Ending → Type 0) → ℕ → Type 0
@@ -60,19 +29,6 @@ NeverRefuses may_refuse from =
 abbrev pub AlwaysAnswers : (ℕ → Ending → Type 0) → ℕ → Type 0
 AlwaysAnswers may_refuse from =
     (place : ℕ) (ending : Ending) → from ≤ place → may_refuse place ending → ending ≡ answered
-
--- The first `many` batches of the order were taken, and the next one was not: as its node may, or
--- since memory ran out.
-pub record WasStopped {C : Type 0} (step : Step C) (serve : Serve C) (registered : Registrations)
-    (kept : Type 0) (may_refuse : ℕ → Ending → Type 0) (ps : List Planned)
-    (parts : List (List (List ℕ))) (nodes : List Address) (batch : ℕ → ℕ) (order : List ℕ)
-    (old new : State C) (many : ℕ) (error : SendError) : Type 0 where
-  pub between : State C
-  pub taken : AreTaken step serve kept may_refuse ps parts nodes batch (take many order) old between
-  pub number : ℕ
-  pub next : slice_get order many ≡ Some number
-  pub untaken : IsNotTaken step serve registered kept may_refuse (node_at nodes number)
-      (in_order parts (numbers_in batch ps number)) between new error
 
 -- the batch of this number
 abbrev pub batch_at : Batches → ℕ → Batch

@@ -2,12 +2,9 @@
 use Rattle.std.specs.Prelude.{◌≡◌, ◌≤◌, ◌⊎◌, ◌+◌, ◌++◌, ◌<◌, ℕ, List, [], None, get_or, length, map, take}
 use Rattle.std.specs.List.{All, flat_map}
 use Rattle.cluster_slots.specs.Address.{Address}
-use Rattle.redis_routing.specs.Registry.{Registrations}
-use Rattle.redis_cluster.specs.Trace.{Ending}
-use Rattle.redis_cluster.specs.Unsplit.{Step}
 use Rattle.redis_cluster.specs.State.{State}
 use Rattle.redis_batches.specs.Amid.{AreServedAmid}
-use Rattle.redis_batches.specs.Pipeline.{Answer, KeepsSlots, Refusals, Serve, Task, numbered}
+use Rattle.redis_batches.specs.Pipeline.{Answer, KeepsSlots, Refusals, Task, numbered}
 use Rattle.redis_batches.specs.Driven.{Grew, HaveAnswered, WereAskedUntil, answers_in, batch_at, parts_by_batch}
 use Rattle.redis_batches.specs.DrivenPipeline.{AreAllTaken, IsEarlyFault, IsOneServer, IsPipelineFault, IsSendable}
 use Rattle.redis_batches.specs.PipelinePlan.{PipelineBatches}
@@ -21,11 +18,9 @@ use Rattle.redis_batches.specs.declared.fault.PipelineError.{PipelineError}
 use Rattle.redis_batches.specs.declared.send.Stopped.{Stopped}
 use Rattle.redis_batches.specs.declared.fault.PipelineError.TheVariants.{Node, Memory}
 
-module _ {C : Type 0} {step : Step C} {serve : Serve C} {kept : Type 0}
-    {may_refuse : ℕ → Ending → Type 0} {registered : Registrations}
-    {is_node : ℕ → Address → Type 0} {commands : List (List (List ℕ))} {order : List ℕ}
-    {old between : State C} {given : List Answer} (taken : AreAllTaken step serve kept may_refuse
-    registered is_node commands order old between given) where
+module _ {S : Type 0} {N : Ghosts S} {old new : S} {is_node : ℕ → Address → Type 0}
+    {commands : List (List (List ℕ))} {order : List ℕ} {after : State N.Cell} {given : List Answer}
+    (taken : AreAllTaken N old new is_node commands order after given) where
   -- the first round: all parts of the commands
   abbrev pub first_round : Round
   first_round = record {
@@ -36,26 +31,20 @@ module _ {C : Type 0} {step : Step C} {serve : Serve C} {kept : Type 0}
     refusals = taken.served.refusals;
   }
 
-module _ {C : Type 0} (step : Step C) (serve : Serve C) (kept : Type 0)
-    (may_refuse : ℕ → Ending → Type 0) (registered : Registrations)
-    (is_node : ℕ → Address → Type 0) (commands : List (List (List ℕ))) (order : List ℕ)
-    (old now : State C) where
+module _ {S : Type 0} (N : Ghosts S) (old new : S) (is_node : ℕ → Address → Type 0)
+    (commands : List (List (List ℕ))) (order : List ℕ) (after : State N.Cell) where
   -- The batches of a plan of the commands were taken, and after them some rounds, each of the parts
   -- that go out again.
   pub record SentSoFar : Type 0 where
     pub given : List Answer
-    pub between : State C
-    pub taken : AreAllTaken step serve kept may_refuse registered is_node commands order old between
-        given
+    pub between : State N.Cell
+    pub taken : AreAllTaken N old new is_node commands order between given
     pub rounds : List Round
-    pub again : AreRounds step serve kept may_refuse registered taken.plan.batches.parts
-        (first_round taken) rounds between now
+    pub again : AreRounds N old new taken.plan.batches.parts (first_round taken) rounds between after
 
-module _ {C : Type 0} {step : Step C} {serve : Serve C} {kept : Type 0}
-    {may_refuse : ℕ → Ending → Type 0} {registered : Registrations}
-    {is_node : ℕ → Address → Type 0} {commands : List (List (List ℕ))} {order : List ℕ}
-    {old now : State C}
-    (sent : SentSoFar step serve kept may_refuse registered is_node commands order old now) where
+module _ {S : Type 0} {N : Ghosts S} {old new : S} {is_node : ℕ → Address → Type 0}
+    {commands : List (List (List ℕ))} {order : List ℕ} {after : State N.Cell}
+    (sent : SentSoFar N old new is_node commands order after) where
   -- what the commands mean
   abbrev pub tasks_sent : List Task
   tasks_sent = sent.taken.sendable.of_commands.tasks
@@ -83,8 +72,7 @@ module _ {S : Type 0} (N : Ghosts S) (old new : S) (is_node : ℕ → Address �
   -- No more rounds than retries were sent, and nothing else. What they are answered is what the nodes
   -- gave.
   pub record WereSent : Type 0 where
-    pub so_far : SentSoFar N.step N.serve (N.kept new) (N.may_refuse old) (N.registered old) is_node
-        commands order (N.state old) (N.state new)
+    pub so_far : SentSoFar N old new is_node commands order (N.state new)
     pub few : length so_far.rounds ≤ retries
     pub asked : Grew (N.asked old) (N.asked new) (batches_sent so_far)
     pub long : length so_far.given ≡ length so_far.taken.plan.batches.parts
@@ -122,14 +110,12 @@ module _ {S : Type 0} (N : Ghosts S) (old new : S) (is_node : ℕ → Address �
   -- round counts, too.
   pub record StoppedInRounds (stop : Stopped) : Type 0 where
     pub before : State N.Cell
-    pub so_far : SentSoFar N.step N.serve (N.kept new) (N.may_refuse old) (N.registered old) is_node
-        commands order (N.state old) before
+    pub so_far : SentSoFar N old new is_node commands order before
     pub few : length so_far.rounds < retries
     pub counted : stop.rounds ≡ length so_far.rounds + 1
     pub next : Round
     pub follows : Follows (last_sent so_far) next
-    pub stopped : IsRoundStopped N.step N.serve (N.kept new) (N.may_refuse old) (N.registered old)
-        so_far.taken.plan.batches.parts next before (N.state new) stop
+    pub stopped : IsRoundStopped N old new so_far.taken.plan.batches.parts next before (N.state new) stop
     pub asked : WereAskedUntil (N.asked old) (N.asked new)
         (batches_sent so_far ++ batches_before next stop.answered) (batch_after next stop.answered)
         stop.error

@@ -3,14 +3,14 @@ use Rattle.std.specs.Prelude.{◌≡◌, ◌<◌, ◌⊎◌, ℕ, List, [], Bool
 use Rattle.cluster_slots.specs.Address.{Address}
 use Rattle.redis_routing.specs.Registry.{Registrations}
 use Rattle.redis_cluster.specs.Orders.{NamesOnce}
-use Rattle.redis_cluster.specs.Trace.{Ending}
 use Rattle.redis_cluster.specs.Unsplit.{Step}
 use Rattle.redis_cluster.specs.State.{State}
+use Rattle.redis_batches.specs.BatchSends.{IsServed, WasStopped}
 use Rattle.redis_batches.specs.Amid.{AreServedAmid}
 use Rattle.redis_batches.specs.Turns.{all_after, answers}
 use Rattle.redis_batches.specs.Pipeline.{Answer, Serve, Task, run}
 use Rattle.redis_batches.specs.Tasks.{AreTasksOf, with_slots}
-use Rattle.redis_batches.specs.Driven.{AreInTurn, Grew, HaveAnswered, IsServed, WasStopped, WereAskedUntil, answers_in, batch_at}
+use Rattle.redis_batches.specs.Driven.{AreInTurn, Grew, HaveAnswered, WereAskedUntil, answers_in, batch_at}
 use Rattle.redis_batches.specs.Placed.{Ranges}
 use Rattle.redis_batches.specs.Plan.{batch_of}
 use Rattle.redis_batches.specs.PipelinePlan.{IsPipelinePlanFault, IsPlanOfCommands, PipelineBatches}
@@ -44,27 +44,20 @@ IsEarlyFault registered ranges is_node commands order BadOrder =
     × (NamesOnce (length plan.batches.places) order → ⊥)
 IsEarlyFault registered ranges is_node commands order _ = ⊥
 
-module _ {C : Type 0} (step : Step C) (serve : Serve C) (kept : Type 0)
-    (may_refuse : ℕ → Ending → Type 0) (registered : Registrations)
-    (is_node : ℕ → Address → Type 0) (commands : List (List (List ℕ))) (order : List ℕ)
-    (old new : State C) where
-  -- The batches of a plan of the commands were all taken, and these are the answers to the parts.
-  pub record AreAllTaken (given : List Answer) : Type 0 where
-    pub plan : PipelineBatches
-    pub sendable : IsSendable registered is_node commands order plan
-    pub served : IsServed step serve kept may_refuse (map with_slots sendable.of_commands.tasks)
-        plan.batches.parts plan.batches.nodes
-        (batch_of sendable.of_commands.node_of plan.batches) order old new given
-
 module _ {S : Type 0} (N : Ghosts S) (old new : S) (is_node : ℕ → Address → Type 0)
     (commands : List (List (List ℕ))) (order : List ℕ) where
-  -- The batches of a plan were all taken, and these are the replies to the commands. If nodes keep to
-  -- the meaning, a command with no refused part has the reply of one server. It takes the parts that
-  -- were not refused.
+  -- The batches of a plan of the commands were all taken, and these are the answers to the parts.
+  pub record AreAllTaken (after : State N.Cell) (given : List Answer) : Type 0 where
+    pub plan : PipelineBatches
+    pub sendable : IsSendable (N.registered old) is_node commands order plan
+    pub served : IsServed N old new (map with_slots sendable.of_commands.tasks) plan.batches
+        (batch_of sendable.of_commands.node_of plan.batches) order (N.state old) after given
+
+  -- And these are the replies to the commands. If nodes keep to the meaning, a command with no refused
+  -- part has the reply of one server. It takes the parts that were not refused.
   pub record IsPipelineServed (replies : List Answer) : Type 0 where
     pub given : List Answer
-    pub taken : AreAllTaken N.step N.serve (N.kept new) (N.may_refuse old) (N.registered old) is_node
-        commands order (N.state old) (N.state new) given
+    pub taken : AreAllTaken (N.state new) given
     pub replies_are : AreRepliesTo taken.sendable.of_commands.tasks given replies
     pub untouched : N.kept new → AreUntouched N.step N.serve taken.served.refusals
         taken.sendable.of_commands.tasks (N.state old).keyspace replies
@@ -76,12 +69,10 @@ module _ {S : Type 0} (N : Ghosts S) (old new : S) (is_node : ℕ → Address �
       (plan : PipelineBatches)
       × (sendable : IsSendable (N.registered old) is_node commands order plan)
       × (stop.answered < length order) × (stop.rounds ≡ 0)
-      × WasStopped N.step N.serve (N.registered old) (N.kept new) (N.may_refuse old)
-      (map with_slots sendable.of_commands.tasks) plan.batches.parts plan.batches.nodes
+      × WasStopped N old new (map with_slots sendable.of_commands.tasks) plan.batches
       (batch_of sendable.of_commands.node_of plan.batches) order (N.state old) (N.state new)
       stop.answered stop.error
-  IsPipelineFault ranges Memory = (given : List Answer) × AreAllTaken N.step N.serve (N.kept new)
-      (N.may_refuse old) (N.registered old) is_node commands order (N.state old) (N.state new) given
+  IsPipelineFault ranges Memory = (given : List Answer) × AreAllTaken (N.state new) given
   IsPipelineFault ranges fault = IsEarlyFault (N.registered old) ranges is_node commands order fault
 
   -- Each batch of a plan of the commands was sent once, in the order given, and no other was.

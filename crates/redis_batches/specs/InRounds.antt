@@ -6,7 +6,7 @@ use Rattle.resp_core.specs.declared.value.Value.{Value}
 use Rattle.redis_cluster.specs.State.{State}
 use Rattle.redis_cluster.specs.Unsplit.{Keyspace, Step}
 use Rattle.redis_batches.specs.Driven.{Grew, HaveAnswered, WereAskedUntil}
-use Rattle.redis_batches.specs.Pipeline.{Answer, Planned, Refusals, Serve, ended}
+use Rattle.redis_batches.specs.Pipeline.{Planned, Refusals, Serve, ended}
 use Rattle.redis_batches.specs.Rounds.{AreRounds, Follows, IsAsOne, IsLast, IsRoundStopped, Round, after_rounds, batch_after, batches_before, last_round, latest_answers, round_answers, round_batches, StaysHere}
 use Rattle.redis_batches.specs.Taken.{answer_of}
 use Rattle.redis_batches.specs.Turns.{answers}
@@ -38,8 +38,7 @@ module _ {S : Type 0} (N : Ghosts S) (old new : S) (arguments : List (List (List
   pub record WereSentAgain : Type 0 where
     pub rounds : List Round
     pub few : length rounds ≤ retries
-    pub again : AreRounds N.step N.serve (N.kept new) (N.may_refuse old) (N.registered old)
-        arguments round rounds (N.state old) (N.state new)
+    pub again : AreRounds N old new arguments round rounds (N.state old) (N.state new)
     pub asked : Grew (N.asked old) (N.asked new) (flat_map round_batches rounds)
     pub gave : Grew (N.gave old) (N.gave new) (flat_map round_answers rounds)
 
@@ -50,12 +49,10 @@ module _ {S : Type 0} (N : Ghosts S) (old new : S) (arguments : List (List (List
     pub few : length rounds < retries
     pub counted : stop.rounds ≡ length rounds + 1
     pub between : State N.Cell
-    pub again : AreRounds N.step N.serve (N.kept new) (N.may_refuse old) (N.registered old)
-        arguments round rounds (N.state old) between
+    pub again : AreRounds N old new arguments round rounds (N.state old) between
     pub next : Round
     pub follows : Follows (last_round round rounds) next
-    pub stopped : IsRoundStopped N.step N.serve (N.kept new) (N.may_refuse old) (N.registered old)
-        arguments next between (N.state new) stop
+    pub stopped : IsRoundStopped N old new arguments next between (N.state new) stop
     pub asked : WereAskedUntil (N.asked old) (N.asked new)
         (flat_map round_batches rounds ++ batches_before next stop.answered)
         (batch_after next stop.answered) stop.error

@@ -89,8 +89,7 @@ module _ {S : Type 0} (N : Ghosts S) (old new : S) (arguments : List (List (List
   pub record IsNextSent : Type 0 where
     pub next : Round
     pub follows : Follows round next
-    pub served : IsRoundServed N.step N.serve (N.kept new) (N.may_refuse old) (N.registered old)
-        arguments next (N.state old) (N.state new)
+    pub served : IsRoundServed N old new arguments next (N.state old) (N.state new)
     pub asked : Grew (N.asked old) (N.asked new) (round_batches next)
     pub gave : Grew (N.gave old) (N.gave new) (round_answers next)
 
@@ -98,8 +97,7 @@ module _ {S : Type 0} (N : Ghosts S) (old new : S) (arguments : List (List (List
   pub record IsNextStopped (stop : Stopped) : Type 0 where
     pub next : Round
     pub follows : Follows round next
-    pub stopped : IsRoundStopped N.step N.serve (N.kept new) (N.may_refuse old) (N.registered old)
-        arguments next (N.state old) (N.state new) stop
+    pub stopped : IsRoundStopped N old new arguments next (N.state old) (N.state new) stop
     pub asked : WereAskedUntil (N.asked old) (N.asked new) (batches_before next stop.answered)
         (batch_after next stop.answered) stop.error
     pub gave : HaveAnswered (N.gave old) (N.gave new) [] stop.answered

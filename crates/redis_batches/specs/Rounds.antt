@@ -5,17 +5,17 @@ use Rattle.std.specs.Option.{option_or, unwrap_or}
 use Rattle.resp_core.specs.ErrorParts.{ErrorParts}
 use Rattle.cluster_slots.specs.Address.{Address}
 use Rattle.redis_routing.specs.RedirectText.{IsRedirectText, redirect_address}
-use Rattle.redis_routing.specs.Registry.{Registrations}
 use Rattle.redis_routing.specs.declared.info.Redirect.{Redirect}
-use Rattle.redis_cluster.specs.Trace.{Ending}
 use Rattle.redis_cluster.specs.Unsplit.{Keyspace, Step}
 use Rattle.redis_cluster.specs.State.{State}
 use Rattle.redis_batches.specs.Turns.{all_after, of_slot}
 use Rattle.redis_batches.specs.Pipeline.{Answer, Numbered, Planned, Refusals, Serve, Task, over_keys, in_slot, ended, ended_answers, numbered, slot_of}
+use Rattle.redis_batches.specs.BatchSends.{IsServed, WasStopped}
 use Rattle.redis_batches.specs.Batched.{put_at}
 use Rattle.redis_batches.specs.Plan.{Batches, IsByNode, batch_of}
-use Rattle.redis_batches.specs.Driven.{IsServed, WasStopped, answers_in, batch_at, parts_by_batch}
+use Rattle.redis_batches.specs.Driven.{answers_in, batch_at, parts_by_batch}
 use Rattle.redis_batches.specs.Taken.{Batch}
+use Rattle.redis_batches.specs.declared.nodes.BatchNodes.{Ghosts}
 use Rattle.redis_batches.specs.declared.send.Stopped.{Stopped}
 
 -- The text of a node's error sends a command on to this address. `MOVED` and `ASK` name the address.
@@ -101,32 +101,30 @@ pub record IsPrepared (arguments : List (List (List ℕ))) (round : Round) : Typ
   pub by_node : IsByNode round.batches (map (λ x. round.node_of (slot_of x)) round.sent)
   pub arguments_are : round.batches.parts ≡ map (λ x. get_or arguments x.0 []) round.sent
 
-module _ {C : Type 0} (step : Step C) (serve : Serve C) (kept : Type 0)
-    (may_refuse : ℕ → Ending → Type 0) (registered : Registrations)
-    (arguments : List (List (List ℕ))) where
+module _ {S : Type 0} (N : Ghosts S) (old new : S) (arguments : List (List (List ℕ))) where
   -- A round was served, as a pipeline of its own: each of its parts once, batch after batch.
-  pub record IsRoundServed (round : Round) (old new : State C) : Type 0 where
+  pub record IsRoundServed (round : Round) (before after : State N.Cell) : Type 0 where
     pub prepared : IsPrepared arguments round
     pub long : length round.given ≡ length round.sent
-    pub served : IsServed step serve kept may_refuse (alone round.sent) round.batches.parts
-        round.batches.nodes (batch_of round.node_of round.batches)
-        (range_with_len 0 (length round.batches.places)) old new round.given
+    pub served : IsServed N old new (alone round.sent) round.batches
+        (batch_of round.node_of round.batches)
+        (range_with_len 0 (length round.batches.places)) before after round.given
     pub refusals_are : map round.refusals round.sent
         ≡ map served.refusals (numbered (alone round.sent))
 
   -- these rounds were served after a first one, one after the other
-  abbrev pub AreRounds : Round → List Round → (old new : State C) → Type 0
-  AreRounds round [] old new = new ≡ old
-  AreRounds round (next ∷ rounds) old new =
-      Follows round next × (between : State C) × IsRoundServed next old between
-      × AreRounds next rounds between new
+  abbrev pub AreRounds : Round → List Round → (before after : State N.Cell) → Type 0
+  AreRounds round [] before after = after ≡ before
+  AreRounds round (next ∷ rounds) before after =
+      Follows round next × (between : State N.Cell) × IsRoundServed next before between
+      × AreRounds next rounds between after
 
   -- a round stopped before a batch that was not taken
-  pub record IsRoundStopped (round : Round) (old new : State C) (stop : Stopped) : Type 0 where
+  pub record IsRoundStopped (round : Round) (before after : State N.Cell) (stop : Stopped) : Type 0 where
     pub prepared : IsPrepared arguments round
-    pub stopped : WasStopped step serve registered kept may_refuse (alone round.sent)
-        round.batches.parts round.batches.nodes (batch_of round.node_of round.batches)
-        (range_with_len 0 (length round.batches.places)) old new stop.answered stop.error
+    pub stopped : WasStopped N old new (alone round.sent) round.batches
+        (batch_of round.node_of round.batches)
+        (range_with_len 0 (length round.batches.places)) before after stop.answered stop.error
 
 -- the batches of a round, each once
 abbrev pub round_batches : Round → List Batch

@@ -1,4 +1,4 @@
-ghost use Rattle.std.specs.Prelude.{◌≡◌, ◌<◌, [], ℕ, List, false, IsSome, get_or, map, length, IfOk, IfErr, OnOk};
+ghost use Rattle.std.specs.Prelude.{◌≡◌, ◌<◌, [], List, false, IsSome, get_or, map, length, IfOk, IfErr, OnOk};
 ghost use Rattle.std.specs.List.{All, range_with_len};
 ghost use Rattle.redis_batches.specs.Frame.{SameNodes};
 ghost use Rattle.redis_batches.specs.Outgoing.{ArePartsOf, GoesBehind, IsNextFault, IsNextServed, IsPlanFor, node_for, node_in, slot_at};

@@ -1,4 +1,4 @@
-use Rattle.std.proofs.Common.{◌≡◌, ◌∙◌, ap, inr, map}
+use Rattle.std.proofs.Common.{◌∙◌, ap, inr, map}
 use Rattle.std.proofs.lemmas.List.{length-map}
 use Rattle.redis_batches.specs.CommandTask.{split_in}
 use Rattle.redis_batches.specs.Taken.{answer_of}

@@ -1,4 +1,4 @@
-use Rattle.std.proofs.Common.{◌≡◌, ◌∙◌, ap, inl, length, map, refl, sym}
+use Rattle.std.proofs.Common.{◌∙◌, ap, inl, length, map, refl, sym}
 use Rattle.std.specs.List.{flat_map}
 use Rattle.std.proofs.lemmas.List.{length-map}
 use Rattle.redis_batches.specs.CommandTask.{slots_kept, split_in}

@@ -1,17 +1,17 @@
-use Rattle.std.proofs.Common.{◌≡◌, ◌∙◌, ap, inr, length, map, subst, sym}
+use Rattle.std.proofs.Common.{◌∙◌, ap, inr, length, map, subst, sym}
 use Rattle.std.specs.List.{range_with_len}
 use Rattle.std.proofs.lemmas.List.{length-map}
 use Rattle.redis_batches.specs.Outgoing.{IsNext}
 use Rattle.redis_batches.specs.PartArguments.{sent_args}
 use Rattle.redis_batches.specs.Taken.{answer_of}
-use Rattle.redis_batches.proofs.RoundSteps as steps
+use Rattle.redis_batches.proofs.Following as steps
 use Rattle.redis_batches.proofs.rounds.send_round.Goals as goal
 
 pub nodes_of-requires-clause-within : goal.nodes_of-requires-clause-within
 nodes_of-requires-clause-within g c = steps.within_slots c.requires.parts.1 c.requires.parts.3 c.as_slice-numbers.ensures.value
 
 pub nodes_of-requires-clause-there : goal.nodes_of-requires-clause-there
-nodes_of-requires-clause-there g c = steps.there c.requires.parts.1 c.requires.parts.3 c.as_slice-numbers.ensures.value
+nodes_of-requires-clause-there g c = steps.nodes_there c.requires.parts.1 c.requires.parts.3 c.as_slice-numbers.ensures.value
 
 pub round_plan-requires-clause-within : goal.round_plan-requires-clause-within
 round_plan-requires-clause-within g c =
@@ -27,7 +27,7 @@ send_batches-requires-clause-batches g c =
 
 pub returns-in-Err-clause-fault : goal.returns-in-Err-clause-fault
 returns-in-Err-clause-fault g c = λ ps round of gone.
-    steps.stopped of gone c.as_slice-numbers.ensures.value c.in-Ok-round_plan.ensures.planned (ap (map (λ node. node.now)) c.as_slice.ensures.value ∙ c.in-Ok.ensures)
+    steps.next_stopped of gone c.as_slice-numbers.ensures.value c.in-Ok-round_plan.ensures.planned (ap (map (λ node. node.now)) c.as_slice.ensures.value ∙ c.in-Ok.ensures)
     (c.as_slice-2.ensures.value ∙ c.in-Ok-first_numbers.ensures ∙ ap (range_with_len 0) c.len.ensures.len) c.in-Err.ensures.stopped
 
 pub next_parts-requires-clause-within : goal.next_parts-requires-clause-within

@@ -19,7 +19,7 @@ use Rattle.redis_batches.specs.Driven.{Grew, WereAskedUntil, answers_in, batch_a
 use Rattle.redis_batches.specs.declared.nodes.BatchNodes.{Ghosts}
 use Rattle.redis_batches.proofs.Asked.{asked_last, asked_more, asked_next, asked_none, same_batch}
 use Rattle.redis_batches.proofs.Frame.{frame_more, frame_none}
-use Rattle.redis_batches.proofs.Untaken.{not_taken_wider}
+use Rattle.redis_batches.proofs.Untaken.{not_taken_since}
 use Rattle.redis_batches.proofs.Entries.{get_there}
 use Rattle.redis_batches.proofs.Given.{given_next}
 use Rattle.redis_cluster.proofs.Sending.{set_there}
@@ -51,11 +51,11 @@ own_parts {registered} {ps} plan is k below = ap (in_order plan.parts) (same_Som
 
 module _ {S : Type 0} {N : Ghosts S} {old now new : S} (frame : SameNodes N old now) (plan : Batches) {ps : List Planned} (is : AreBatches (N.registered old) ps plan.parts plan.places) (k : ℕ) (below : k < length plan.places) (batch : Batch) (same : batch ≡ batch_at plan k) where
   -- what was taken of it, by nodes that may refuse no more than before
-  taken_since : {given : List Answer} → IsBatchTaken N now new batch given → IsTaken N.step N.serve (N.registered old) (N.kept new) (N.may_refuse old) (node_at plan.nodes k) (in_order plan.parts (numbers_in is.batch ps k)) (N.state now) (N.state new) given
-  taken_since {given} was =
-      let Taken : Registrations → Batch → Type 0 = λ r b. IsTaken N.step N.serve r (N.kept new) (N.may_refuse now) b.node b.commands (N.state now) (N.state new) given in
-      let of : Taken (N.registered old) (batch_at plan k) = subst (Taken (N.registered old)) same (subst (λ r. Taken r batch) frame.registered was) in
-      let taken : Taken (N.registered old) (batch_for (node_at plan.nodes k) (in_order plan.parts (numbers_in is.batch ps k))) = subst (λ parts. Taken (N.registered old) (batch_for (node_at plan.nodes k) parts)) (own_parts plan is k below) of in
+  own_taken : {given : List Answer} → IsBatchTaken N now new batch given → IsTaken N.step N.serve (N.registered old) (N.kept new) (N.may_refuse old) (node_at plan.nodes k) (in_order plan.parts (numbers_in is.batch ps k)) (N.state now) (N.state new) given
+  own_taken {given} was =
+      let of = subst (λ b. IsBatchTaken N now new b given) same was in
+      let own = subst (λ parts. IsBatchTaken N now new (batch_for (node_at plan.nodes k) parts) given) (own_parts plan is k below) of in
+      let taken = subst (λ r. IsTaken N.step N.serve r (N.kept new) (N.may_refuse now) (node_at plan.nodes k) (in_order plan.parts (numbers_in is.batch ps k)) (N.state now) (N.state new) given) frame.registered own in
       record {
         ends = taken.ends;
         long = taken.long;
@@ -66,12 +66,11 @@ module _ {S : Type 0} {N : Ghosts S} {old now new : S} (frame : SameNodes N old 
       }
 
   -- or why it was not
-  not_taken_since : {error : SendError} → IsBatchNotTaken N now new batch error → IsNotTaken N.step N.serve (N.registered old) (N.kept new) (N.may_refuse old) (node_at plan.nodes k) (in_order plan.parts (numbers_in is.batch ps k)) (N.state now) (N.state new) error
-  not_taken_since {error} was =
-      let Untaken : Registrations → Batch → Type 0 = λ r b. IsNotTaken N.step N.serve r (N.kept new) (N.may_refuse now) b.node b.commands (N.state now) (N.state new) error in
-      let of : Untaken (N.registered old) (batch_at plan k) = subst (Untaken (N.registered old)) same (subst (λ r. Untaken r batch) frame.registered was) in
-      not_taken_wider N.step N.serve (N.registered old) (N.kept new) (node_at plan.nodes k) (in_order plan.parts (numbers_in is.batch ps k)) (N.state now) (N.state new) (N.may_refuse now) (N.may_refuse old) (λ count ending. (frame.may_refuse count ending).0) error
-      (subst (λ parts. Untaken (N.registered old) (batch_for (node_at plan.nodes k) parts)) (own_parts plan is k below) of)
+  own_not_taken : {error : SendError} → IsBatchNotTaken N now new batch error → IsNotTaken N.step N.serve (N.registered old) (N.kept new) (N.may_refuse old) (node_at plan.nodes k) (in_order plan.parts (numbers_in is.batch ps k)) (N.state now) (N.state new) error
+  own_not_taken {error} was =
+      let of = subst (λ b. IsBatchNotTaken N now new b error) same was in
+      let own = subst (λ parts. IsBatchNotTaken N now new (batch_for (node_at plan.nodes k) parts) error) (own_parts plan is k below) of in
+      not_taken_since frame new (node_at plan.nodes k) (in_order plan.parts (numbers_in is.batch ps k)) (N.state now) (N.state new) error own
 
 pub send_one-requires : goal.send_one-requires
 send_one-requires g c = record {
@@ -144,7 +143,7 @@ loop-number-preserved g c =
           let list = numbers_in is.batch ps k in
           let at : slice_get l.plan.places k ≡ Some list = ap (λ ls. slice_get ls k) inv.same_places ∙ is.places_are k below in
           let so_far = inv.so_far ps are is names in
-          let taken = taken_since inv.frame plan is k below (batch_at l.plan k) own c.in-Ok.ensures.taken in
+          let taken = own_taken inv.frame plan is k below (batch_at l.plan k) own c.in-Ok.ensures.taken in
           let all = round.expected_next N first plan are is names i k inside refl c.send_one.ensures.frame.kept before replies so_far taken in
           let for : N.kept c.send_one.new.nodes → AreFor all list replies = λ keep. round.replies_right N first plan are is names i k inside refl c.send_one.ensures.frame.kept before replies so_far taken keep in
           round.one_more N first plan are is names i k inside refl c.send_one.ensures.frame.kept before replies so_far taken
@@ -206,7 +205,7 @@ returns-in-Err-clause-stopped g c =
         taken = rw inv.answered (round.taken_so_far N c.args.nodes.now plan are is c.requires.order i c.send_one.ensures.frame.kept (inv.so_far ps are is c.requires.order));
         number = k;
         next = ap (slice_get order) inv.answered ∙ get_there order i 0 inside;
-        untaken = not_taken_since inv.frame plan is k (c.requires.order.below i 0 inside) (batch_at l.plan k) own c.in-Err.ensures.untaken;
+        untaken = own_not_taken inv.frame plan is k (c.requires.order.below i 0 inside) (batch_at l.plan k) own c.in-Err.ensures.untaken;
       };
       asked = subst (λ n. WereAskedUntil (N.asked c.args.nodes.now) (N.asked c.send_one.new.nodes) (map (batch_at plan) (take n order)) (batch_at plan (get_or order n 0)) c.in-Err.error) (sym inv.answered) asked;
       gave = record {
