@@ -2,7 +2,7 @@
 use cluster_map::{
     ClusterTopology, DefaultFactory, ReadRoutingStrategy, ReadRoutingStrategyFactory,
 };
-use example_strategies::{FirstReplica, PickIndex, ShardAware};
+use memory_nodes::strategies::{FirstReplica, PickIndex, ShardAware};
 use fixtures::{Turns, bad_row, number};
 use resp_core::RedisResult;
 use std::alloc::Global;

@@ -5,3 +5,5 @@ pub mod Undoing
 pub mod TakenApart
 pub mod KeyTuples
 pub mod Running
+pub mod KnownShards
+pub mod Indices

@@ -4,3 +4,4 @@ pub mod Undo
 pub mod Parts
 pub mod Results
 pub mod Nodes
+pub mod Picks

@@ -1,4 +1,5 @@
-//! Nodes that keep their keys in memory, for tests of programs that send commands to nodes.
+//! Nodes that keep their keys in memory, and read strategies, for tests of programs that send
+//! commands to nodes.
 #![tactic(auto)]
 
 mod action;
@@ -8,6 +9,7 @@ mod name;
 mod nodes;
 mod planned;
 mod results;
+pub mod strategies;
 mod trace_entry;
 mod tree;
 mod tuples;

@@ -2,7 +2,7 @@
 use crate::Rows;
 use crate::texts::{Answers, answers_text, order_of};
 use cluster_map::ReadRoutingStrategy;
-use example_strategies::FirstReplica;
+use memory_nodes::strategies::FirstReplica;
 use fixtures::{cmds, number};
 use redis_batches::{PipelineError, drive_pipeline, drive_pipeline_retrying};
 use resp_core::{Cmd, RedisResult};

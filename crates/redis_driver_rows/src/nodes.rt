@@ -3,7 +3,7 @@ use crate::cluster::Cluster;
 use crate::lent::Lent;
 use crate::texts::driven_text;
 use cluster_map::{ReadRoutingStrategy, SlotMap};
-use example_strategies::{FirstReplica, PickIndex};
+use memory_nodes::strategies::{FirstReplica, PickIndex};
 use fixtures::{cmd, number, values};
 use redis_cluster::driver::{DriveError, Nodes, drive, drive_retrying};
 use redis_cluster::routing::{ReadOnlyNames, Routable};

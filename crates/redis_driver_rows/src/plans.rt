@@ -3,7 +3,7 @@ use crate::cluster::Cluster;
 use crate::lent::Lent;
 use crate::nodes::{cut, order};
 use cluster_map::{ReadRoutingStrategy, Route, SlotAddr, SlotMap};
-use example_strategies::{FirstReplica, PickIndex};
+use memory_nodes::strategies::{FirstReplica, PickIndex};
 use fixtures::{bad_row, cmd, nested, number, value};
 use redis_cluster::driver::{PlanFault, Retry, SplitPlan, names_once};
 use redis_cluster::routing::Names;

@@ -13,7 +13,7 @@
 ghost use Rattle.std.specs.Prelude.{◌≤◌, IfOk};
 
 use cluster_map::ReadRoutingStrategy;
-use example_strategies::{FirstReplica, PickIndex, ShardAware};
+use memory_nodes::strategies::{FirstReplica, PickIndex, ShardAware};
 use slotroute_serve::{StrategyName, USAGE, serve, strategy_of};
 use std::alloc::Global;
 use std::env;

@@ -5,7 +5,7 @@ ghost use Rattle.cluster_map.specs.ReadCandidates.{addresses_of, candidates_of};
 
 use crate::runs::{Run, Written, serve_all};
 use cluster_map::{ClusterTopology, NodeAddress, ReadCandidates, ReadRoutingStrategy, Replicas};
-use example_strategies::{FirstReplica, PickIndex, ShardAware};
+use memory_nodes::strategies::{FirstReplica, PickIndex, ShardAware};
 use fixtures::{bad_row, number};
 use resp_core::RedisResult;
 use std::alloc::Global;

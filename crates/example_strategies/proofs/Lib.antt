@@ -1,2 +1,0 @@
-pub mod KnownShards
-pub mod Indices
