@@ -1,9 +1,8 @@
 //! Pipelines that are driven over nodes in memory.
-use crate::Rows;
-use crate::texts::{Answers, answers_text, order_of};
+use crate::batches::Batches;
+use crate::texts::{Answers, answers_text};
 use cluster_map::ReadRoutingStrategy;
-use memory_nodes::strategies::FirstReplica;
-use fixtures::{cmds, number};
+use fixtures::{cmds, number, numbers, shown, two};
 use redis_batches::{PipelineError, drive_pipeline, drive_pipeline_retrying};
 use resp_core::{Cmd, RedisResult};
 use std::alloc::Global;
@@ -17,17 +16,17 @@ pub struct Pipeline {
 
 /// The pipeline of an order, a space, and the commands.
 pub fn pipeline_of(alloc: Global, words: &str) -> RedisResult<Pipeline> {
-    let (order, commands) = words.split_once(' ').unwrap_or((words, ""));
+    let (order, commands) = two(words);
     Ok(Pipeline {
         commands: cmds(alloc, commands)?,
-        order: order_of(alloc, order)?,
+        order: numbers(alloc, order)?,
     })
 }
 
-fn driven(alloc: Global, rows: &mut Rows, sent: &Pipeline) -> Result<Answers, PipelineError> {
-    let strategy: Option<&dyn ReadRoutingStrategy> = match rows.at_replicas {
-        true => Some(&FirstReplica),
-        false => None,
+fn driven(alloc: Global, rows: &mut Batches, sent: &Pipeline) -> Result<Answers, PipelineError> {
+    let strategy: Option<&dyn ReadRoutingStrategy> = match &rows.lent {
+        Some(lent) => Some(lent),
+        None => None,
     };
     drive_pipeline(
         alloc,
@@ -42,7 +41,7 @@ fn driven(alloc: Global, rows: &mut Rows, sent: &Pipeline) -> Result<Answers, Pi
 
 fn driven_again(
     alloc: Global,
-    rows: &mut Rows,
+    rows: &mut Batches,
     sent: &Pipeline,
     retries: usize,
 ) -> Result<Answers, PipelineError> {
@@ -62,19 +61,19 @@ fn driven_again(
 pub fn replies_text(alloc: Global, driven: Result<Answers, PipelineError>) -> RedisResult<String> {
     match driven {
         Ok(replies) => answers_text(alloc, replies.as_slice()),
-        Err(error) => Ok(format!(in alloc; "{error}")?),
+        Err(error) => shown(alloc, &error),
     }
 }
 
 /// The replies to a pipeline.
-pub fn drive(alloc: Global, rows: &mut Rows, words: &str) -> RedisResult<String> {
+pub fn drive(alloc: Global, rows: &mut Batches, words: &str) -> RedisResult<String> {
     let sent = pipeline_of(alloc, words)?;
     replies_text(alloc, driven(alloc, rows, &sent))
 }
 
 /// The replies to a pipeline whose refused parts are sent again, in this many rounds.
-pub fn drive_again(alloc: Global, rows: &mut Rows, words: &str) -> RedisResult<String> {
-    let (retries, words) = words.split_once(' ').unwrap_or((words, ""));
+pub fn drive_again(alloc: Global, rows: &mut Batches, words: &str) -> RedisResult<String> {
+    let (retries, words) = two(words);
     let retries = number(retries)?;
     let sent = pipeline_of(alloc, words)?;
     replies_text(alloc, driven_again(alloc, rows, &sent, retries))

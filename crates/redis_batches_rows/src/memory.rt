@@ -1,7 +1,7 @@
 //! Nodes in memory that take batches.
 use crate::texts::{answers_text, error_of};
 use cluster_slots::NodeAddress;
-use fixtures::{bytes, cmds, number};
+use fixtures::{bytes, bytes_or_none, cmds, lines, number, push_next, shown, two};
 use memory_batches::MemoryBatchNodes;
 use redis_batches::BatchNodes;
 use resp_core::{Cmd, RedisError, RedisResult};
@@ -9,7 +9,7 @@ use std::alloc::Global;
 
 /// Adds the refusal of the command with a number, after the refusals of earlier commands.
 fn add_refusal(plan: &mut Vec<Option<RedisError>>, text: &str) -> RedisResult<()> {
-    let (place, error) = text.split_once(' ').unwrap_or((text, ""));
+    let (place, error) = two(text);
     for _ in plan.len()..number(place)? {
         plan.push(None)?;
     }
@@ -20,7 +20,7 @@ fn add_refusal(plan: &mut Vec<Option<RedisError>>, text: &str) -> RedisResult<()
 /// From now on nodes refuse the commands with these numbers, each with its error.
 pub fn refuse(alloc: Global, nodes: &mut MemoryBatchNodes, text: &str) -> RedisResult<()> {
     let mut plan = Vec::new(alloc);
-    for refusal in text.split("; ") {
+    for refusal in &lines(alloc, text)? {
         add_refusal(&mut plan, refusal)?;
     }
     nodes.plan(plan);
@@ -43,13 +43,13 @@ fn sent(
 ) -> RedisResult<String> {
     match nodes.send_batch(node, batch) {
         Ok(answers) => answers_text(alloc, answers.as_slice()),
-        Err(error) => Ok(format!(in alloc; "{error}")?),
+        Err(error) => shown(alloc, &error),
     }
 }
 
 /// What a node answers to a batch.
 pub fn batch(alloc: Global, nodes: &mut MemoryBatchNodes, words: &str) -> RedisResult<String> {
-    let (node, commands) = words.split_once(' ').unwrap_or((words, ""));
+    let (node, commands) = two(words);
     let node = NodeAddress::try_from(alloc, node)?;
     let commands = cmds(alloc, commands)?;
     let batch = batch_of(alloc, commands.as_slice())?;
@@ -58,20 +58,14 @@ pub fn batch(alloc: Global, nodes: &mut MemoryBatchNodes, words: &str) -> RedisR
 
 /// The string at a key.
 pub fn value(alloc: Global, nodes: &MemoryBatchNodes, key: &str) -> RedisResult<String> {
-    match nodes.get(&bytes(alloc, key)?, b"") {
-        Some(value) => Ok(String::from_utf8_lossy(alloc, value)?),
-        None => Ok(String::from_str(alloc, "nil")?),
-    }
+    bytes_or_none(alloc, nodes.get(&bytes(alloc, key)?, b""))
 }
 
 /// The hosts that commands were sent to, in order.
 pub fn hosts(alloc: Global, nodes: &MemoryBatchNodes) -> RedisResult<String> {
     let mut text = String::new(alloc);
     for entry in nodes.trace() {
-        if !text.is_empty() {
-            text.push(' ')?;
-        }
-        text.push_str(entry.node.host())?;
+        push_next(&mut text, " ", entry.node.host())?;
     }
     Ok(text)
 }

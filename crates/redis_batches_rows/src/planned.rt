@@ -1,8 +1,8 @@
 //! Pipelines that are planned, and get their answers by hand.
-use crate::Rows;
+use crate::batches::Batches;
 use crate::texts::{answers_of, answers_text};
 use cluster_map::ReadRoutingStrategy;
-use fixtures::{Turns, bad_row, cmds, number};
+use fixtures::{Turns, bad_row, cmd_text, cmds, cut, lines, number, push, push_shown, shown, two};
 use redis_batches::{PipelineFault, PipelinePlan};
 use redis_cluster::routing::{Names, Registry};
 use resp_core::{Cmd, RedisResult};
@@ -10,7 +10,7 @@ use std::alloc::Global;
 
 fn plan_of<'a>(
     alloc: Global,
-    rows: &'a Rows,
+    rows: &'a Batches,
     commands: &'a [Cmd],
     strategy: Option<&dyn ReadRoutingStrategy>,
 ) -> Result<PipelinePlan<'a>, PipelineFault> {
@@ -22,21 +22,12 @@ fn plan_of<'a>(
     PipelinePlan::new(alloc, commands, names, &rows.map, strategy)
 }
 
-fn push_command(alloc: Global, text: &mut String, command: &Cmd) -> RedisResult<()> {
-    text.push(':')?;
-    for word in command.args() {
-        text.push(' ')?;
-        text.push_str(&String::from_utf8_lossy(alloc, word)?)?;
-    }
-    Ok(())
-}
-
 fn push_batch(alloc: Global, text: &mut String, batch: &[&Cmd]) -> RedisResult<()> {
     for command in batch {
-        push_command(alloc, text, *command)?;
+        push(text, ": ")?;
+        push(text, &cmd_text(alloc, *command)?)?;
     }
-    text.push(';')?;
-    Ok(())
+    push(text, ";")
 }
 
 fn push_number(
@@ -48,7 +39,7 @@ fn push_number(
     let Some(node) = plan.node(number) else {
         return Err(bad_row("no node"));
     };
-    text.push_str(&format!(in alloc; "{node}")?)?;
+    push_shown(alloc, text, "", node)?;
     match plan.batch(alloc, number)? {
         Some(batch) => push_batch(alloc, text, batch.as_slice()),
         None => Err(bad_row("no batch")),
@@ -65,17 +56,17 @@ fn plan_text(alloc: Global, plan: &PipelinePlan<'_>) -> RedisResult<String> {
 }
 
 /// The batches of commands, whose reads go to primaries.
-pub fn planned(alloc: Global, rows: &Rows, words: &str) -> RedisResult<String> {
+pub fn planned(alloc: Global, rows: &Batches, words: &str) -> RedisResult<String> {
     let commands = cmds(alloc, words)?;
     match plan_of(alloc, rows, commands.as_slice(), None) {
         Ok(plan) => plan_text(alloc, &plan),
-        Err(fault) => Ok(format!(in alloc; "{fault}")?),
+        Err(fault) => shown(alloc, &fault),
     }
 }
 
 /// Passes the answers to a batch. Returns whether the plan takes them.
 fn tell(alloc: Global, plan: &mut PipelinePlan<'_>, words: &str) -> RedisResult<&'static str> {
-    let (batch, answers) = words.split_once(' ').unwrap_or((words, ""));
+    let (batch, answers) = two(words);
     let batch = number(batch)?;
     match plan.tell(batch, answers_of(alloc, answers)?) {
         Ok(()) => Ok("told; "),
@@ -85,21 +76,17 @@ fn tell(alloc: Global, plan: &mut PipelinePlan<'_>, words: &str) -> RedisResult<
 
 fn tell_all(alloc: Global, plan: &mut PipelinePlan<'_>, told: &str) -> RedisResult<String> {
     let mut text = String::new(alloc);
-    if told.is_empty() {
-        return Ok(text);
-    }
-    for words in told.split("; ") {
-        text.push_str(tell(alloc, plan, words)?)?;
+    for words in &lines(alloc, told)? {
+        push(&mut text, tell(alloc, plan, words)?)?;
     }
     Ok(text)
 }
 
 fn push_combined(alloc: Global, text: &mut String, plan: PipelinePlan<'_>) -> RedisResult<()> {
     match plan.combine(alloc) {
-        Ok(replies) => text.push_str(&answers_text(alloc, replies.as_slice())?)?,
-        Err(error) => text.push_str(&format!(in alloc; "{error}")?)?,
+        Ok(replies) => push(text, &answers_text(alloc, replies.as_slice())?),
+        Err(error) => push_shown(alloc, text, "", &error),
     }
-    Ok(())
 }
 
 fn told_text(alloc: Global, mut plan: PipelinePlan<'_>, told: &str) -> RedisResult<String> {
@@ -109,22 +96,21 @@ fn told_text(alloc: Global, mut plan: PipelinePlan<'_>, told: &str) -> RedisResu
 }
 
 /// Which answers the plan of commands takes, and the replies that it then makes.
-pub fn told(alloc: Global, rows: &Rows, words: &str) -> RedisResult<String> {
-    let (commands, told) = words.split_once(" | ").unwrap_or((words, ""));
+pub fn told(alloc: Global, rows: &Batches, words: &str) -> RedisResult<String> {
+    let (commands, told) = cut(words, " | ");
     let commands = cmds(alloc, commands)?;
     match plan_of(alloc, rows, commands.as_slice(), None) {
         Ok(plan) => told_text(alloc, plan, told),
-        Err(fault) => Ok(format!(in alloc; "{fault}")?),
+        Err(fault) => shown(alloc, &fault),
     }
 }
 
 /// How often a strategy is asked for the plan of commands.
-pub fn asked(alloc: Global, rows: &Rows, words: &str) -> RedisResult<String> {
+pub fn asked(alloc: Global, rows: &Batches, words: &str) -> RedisResult<String> {
     let commands = cmds(alloc, words)?;
     let turns = Turns::new();
     if let Err(fault) = plan_of(alloc, rows, commands.as_slice(), Some(&turns)) {
-        return Ok(format!(in alloc; "{fault}")?);
+        return shown(alloc, &fault);
     }
-    let asked = turns.asked();
-    Ok(format!(in alloc; "{asked}")?)
+    shown(alloc, &turns.asked())
 }

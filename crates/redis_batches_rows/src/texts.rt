@@ -1,22 +1,10 @@
-//! Orders, answers and errors, as rows write them.
-use fixtures::{bad_row, number, value, value_text};
+//! Answers and errors, as rows write them.
+use fixtures::{bad_row, pieces, push_next, shown, value, value_text};
 use resp_core::{ErrorKind, RedisError, RedisResult, Value};
 use std::alloc::Global;
 
 /// The answers to the commands of a batch or of a pipeline.
 pub type Answers = Vec<Result<Value, RedisError>>;
-
-/// The numbers of batches in an order, a comma apart; `-` names none.
-pub fn order_of(alloc: Global, text: &str) -> RedisResult<Vec<usize>> {
-    let mut order = Vec::new(alloc);
-    if text == "-" {
-        return Ok(order);
-    }
-    for word in text.split(',') {
-        order.push(number(word)?)?;
-    }
-    Ok(order)
-}
 
 /// The errors that nodes refuse a command with. The text of an error is fixed.
 const ERRORS: [&str; 8] = [
@@ -40,18 +28,19 @@ pub fn error_of(text: &str) -> RedisResult<RedisError> {
     Err(bad_row("no error of this text"))
 }
 
+/// The answer of a word.
+fn answer_of(alloc: Global, word: &str) -> RedisResult<Result<Value, RedisError>> {
+    match word {
+        "error" => Ok(Err(error_of(word)?)),
+        _ => Ok(Ok(value(alloc, word)?)),
+    }
+}
+
 /// The answers of a text, a space apart: values without items, and `error` for an error.
 pub fn answers_of(alloc: Global, text: &str) -> RedisResult<Answers> {
     let mut answers = Vec::new(alloc);
-    if text.is_empty() {
-        return Ok(answers);
-    }
-    for word in text.split(' ') {
-        let answer = match word {
-            "error" => Err(error_of(word)?),
-            _ => Ok(value(alloc, word)?),
-        };
-        answers.push(answer)?;
+    for word in &pieces(alloc, text, " ")? {
+        answers.push(answer_of(alloc, word)?)?;
     }
     Ok(answers)
 }
@@ -59,18 +48,15 @@ pub fn answers_of(alloc: Global, text: &str) -> RedisResult<Answers> {
 fn answer_text(alloc: Global, answer: &Result<Value, RedisError>) -> RedisResult<String> {
     match answer {
         Ok(value) => value_text(alloc, value),
-        Err(error) => Ok(format!(in alloc; "{error}")?),
+        Err(error) => shown(alloc, error),
     }
 }
 
 /// The text of answers, a semicolon and a space apart.
 pub fn answers_text(alloc: Global, answers: &[Result<Value, RedisError>]) -> RedisResult<String> {
     let mut text = String::new(alloc);
-    for (place, answer) in answers.iter().enumerate() {
-        if place > 0 {
-            text.push_str("; ")?;
-        }
-        text.push_str(&answer_text(alloc, answer)?)?;
+    for answer in answers {
+        push_next(&mut text, "; ", &answer_text(alloc, answer)?)?;
     }
     Ok(text)
 }

@@ -2,6 +2,7 @@
 use crate::driven::{Pipeline, pipeline_of, replies_text};
 use crate::texts::{Answers, answers_of, error_of};
 use cluster_map::SlotMap;
+use fixtures::{cut, lines, push, push_shown};
 use redis_batches::{PipelineError, drive_pipeline};
 use redis_cluster::routing::{ReadOnlyNames, Registry};
 use resp_core::{Cmd, ErrorKind, RedisError, RedisResult};
@@ -42,9 +43,10 @@ fn outcome_of(alloc: Global, text: &str) -> RedisResult<Result<Answers, SendErro
 
 fn transport_of(alloc: Global, text: &str) -> RedisResult<Scripted> {
     let mut outcomes = Vec::new(alloc);
-    for outcome in text.rsplit("; ") {
+    for outcome in &lines(alloc, text)? {
         outcomes.push(outcome_of(alloc, outcome)?)?;
     }
+    outcomes.reverse();
     Ok(Scripted {
         outcomes,
         sent: Vec::new(alloc),
@@ -72,9 +74,9 @@ fn driven(
 }
 
 fn push_sent(alloc: Global, text: &mut String, sent: &[usize]) -> RedisResult<()> {
-    text.push_str("; sent")?;
+    push(text, "; sent")?;
     for count in sent {
-        text.push_str(&format!(in alloc; " {count}")?)?;
+        push_shown(alloc, text, " ", count)?;
     }
     Ok(())
 }
@@ -82,7 +84,7 @@ fn push_sent(alloc: Global, text: &mut String, sent: &[usize]) -> RedisResult<()
 /// The replies to a pipeline whose batches have these outcomes, and the number of commands in each
 /// batch that was sent.
 pub fn drive(alloc: Global, map: &SlotMap, words: &str) -> RedisResult<String> {
-    let (outcomes, words) = words.split_once(" | ").unwrap_or(("", words));
+    let (outcomes, words) = cut(words, " | ");
     let sent = pipeline_of(alloc, words)?;
     let (driven, transport) = driven(alloc, map, &sent, transport_of(alloc, outcomes)?);
     let mut text = replies_text(alloc, driven)?;

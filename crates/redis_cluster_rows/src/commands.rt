@@ -1,9 +1,11 @@
 //! Commands: where they go, how they are split, and their arguments.
 use crate::known::Known;
-use crate::replies::{indices, is_reply, reply};
-use crate::texts::{bytes_text, cmd_text, equality, routes_text, routing_text};
+use crate::texts::{routes_text, routing_text};
 use cluster_map::Route;
-use fixtures::{bad_row, bytes, cmd, number};
+use fixtures::{
+    bad_row, bytes, bytes_or_none, cmd, cmd_text, equality, kind, number, numbers, plain,
+    shown_or_none, two, value,
+};
 use redis_cluster::routing::{
     Routable, RoutingInfo, SplitCommand, command_for_multi_slot_indices,
     command_for_multi_slot_indices_with, multi_slot_routes,
@@ -14,13 +16,11 @@ use std::alloc::{AllocError, Global};
 /// What the call of this name returns for a command, which is the last of the words.
 pub fn call(alloc: Global, known: &Known, name: &str, text: &str) -> RedisResult<String> {
     let (first, text) = match name {
-        "arg" | "position" | "part" | "take" | "take_two" => {
-            text.split_once(' ').unwrap_or((text, ""))
-        }
+        "arg" | "position" | "part" | "take" | "take_two" => two(text),
         _ => ("", text),
     };
-    if is_reply(text) {
-        told(alloc, known, name, first, &reply(alloc, text)?)
+    if text == "nil" || text.starts_with('[') {
+        told(alloc, known, name, first, &value(alloc, text)?)
     } else {
         told(alloc, known, name, first, &cmd(alloc, text)?)
     }
@@ -40,11 +40,11 @@ fn told<R: Routable>(
         "parts" => parts(alloc, known, command),
         "routes" => routes(alloc, known, command),
         "part" => part(alloc, known, number(first)?, command),
-        "take" => taken(alloc, take(alloc, command, &indices(alloc, first)?)),
-        "take_two" => taken(alloc, take_two(alloc, command, &indices(alloc, first)?)),
-        "name" => bytes_text(alloc, command.command(alloc)?.as_deref()),
-        "arg" => bytes_text(alloc, command.arg_idx(number(first)?)),
-        "position" => position(alloc, command.position(&bytes(alloc, first)?)),
+        "take" => taken(alloc, take(alloc, command, &numbers(alloc, first)?)),
+        "take_two" => taken(alloc, take_two(alloc, command, &numbers(alloc, first)?)),
+        "name" => bytes_or_none(alloc, command.command(alloc)?.as_deref()),
+        "arg" => bytes_or_none(alloc, command.arg_idx(number(first)?)),
+        "position" => shown_or_none(alloc, command.position(&bytes(alloc, first)?).as_ref()),
         _ => Err(bad_row("no call of this name")),
     }
 }
@@ -72,8 +72,8 @@ fn route<R: Routable>(alloc: Global, known: &Known, command: &R) -> RedisResult<
 /// Whether a copy of where a command goes is equal, or `none` if it goes nowhere.
 fn clone_route<R: Routable>(alloc: Global, known: &Known, command: &R) -> RedisResult<String> {
     match found(alloc, known, command)? {
-        Some(info) => Ok(equality(alloc, &info)?),
-        None => Ok(String::from_str(alloc, "none")?),
+        Some(info) => equality(alloc, &info),
+        None => plain(alloc, "none"),
     }
 }
 
@@ -111,7 +111,7 @@ fn routes_of<R: Routable>(
 fn routes<R: Routable>(alloc: Global, known: &Known, command: &R) -> RedisResult<String> {
     match routes_of(alloc, known, command)? {
         Some(routes) => routes_text(alloc, &routes),
-        None => Ok(String::from_str(alloc, "none")?),
+        None => plain(alloc, "none"),
     }
 }
 
@@ -124,7 +124,7 @@ fn part<R: Routable>(
 ) -> RedisResult<String> {
     match split(alloc, known, command)? {
         Some(split) if number < split.len() => cmd_text(alloc, &split.part(alloc, number)?),
-        _ => Ok(String::from_str(alloc, "none")?),
+        _ => plain(alloc, "none"),
     }
 }
 
@@ -140,13 +140,6 @@ fn take_two<R: Routable>(alloc: Global, command: &R, indices: &[usize]) -> Redis
 fn taken(alloc: Global, given: RedisResult<Cmd>) -> RedisResult<String> {
     match given {
         Ok(cmd) => cmd_text(alloc, &cmd),
-        Err(error) => Ok(format!(in alloc; "{:?}", error.kind())?),
-    }
-}
-
-fn position(alloc: Global, place: Option<usize>) -> RedisResult<String> {
-    match place {
-        Some(place) => Ok(format!(in alloc; "{place}")?),
-        None => Ok(String::from_str(alloc, "none")?),
+        Err(error) => kind(alloc, &error),
     }
 }

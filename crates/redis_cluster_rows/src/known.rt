@@ -1,7 +1,8 @@
 //! The names that only read, and those that are registered.
+use crate::commands;
 use crate::replies::{pattern, policy};
-use crate::texts::equality;
-use fixtures::{bytes, words};
+use crate::tables;
+use fixtures::{bytes, equality, plain, shown, two, words};
 use redis_cluster::routing::{Names, ReadOnlyNames, RegisterError, Registry};
 use resp_core::RedisResult;
 use std::alloc::Global;
@@ -33,21 +34,24 @@ impl Known {
     }
 }
 
-/// What a call of this name returns, if it is one of these.
+/// What a call of this name returns.
 pub fn call(
-    alloc: Global,
     known: &mut Known,
+    alloc: Global,
     name: &str,
     text: &str,
-) -> Option<RedisResult<String>> {
+) -> RedisResult<String> {
     match name {
-        "reading" => Some(reading(alloc, known, text)),
-        "reads" => Some(reads(alloc, known, text)),
-        "registry" => Some(registry(alloc, known, text)),
-        "register" => Some(register(alloc, known, text)),
-        "clone_registry" => Some(clone_registry(alloc, known)),
-        "refusals" => Some(refusals(alloc)),
-        _ => None,
+        "reading" => reading(alloc, known, text),
+        "reads" => shown(alloc, &known.read_only.contains(&bytes(alloc, text)?)),
+        "registry" => registry(alloc, known, text),
+        "register" => register(alloc, known, text),
+        "clone_registry" => equality(alloc, &known.registry),
+        "refusals" => refusals(alloc),
+        "routing" | "policy" | "redirect" | "clone_redirect" | "clone_address" => {
+            tables::call(alloc, name, text)
+        }
+        _ => commands::call(alloc, known, name, text),
     }
 }
 
@@ -57,12 +61,7 @@ fn reading(alloc: Global, known: &mut Known, text: &str) -> RedisResult<String> 
     for name in &words(alloc, text)? {
         known.read_only.insert(alloc, name)?;
     }
-    Ok(String::from_str(alloc, "ok")?)
-}
-
-fn reads(alloc: Global, known: &Known, text: &str) -> RedisResult<String> {
-    let contains = known.read_only.contains(&bytes(alloc, text)?);
-    Ok(format!(in alloc; "{contains}")?)
+    plain(alloc, "ok")
 }
 
 /// A new registry, or a copy that replaces the old one. Returns how many names it has.
@@ -71,24 +70,19 @@ fn registry(alloc: Global, known: &mut Known, text: &str) -> RedisResult<String>
         "new" => Registry::new(alloc),
         _ => known.registry.clone()?,
     };
-    Ok(format!(in alloc; "{}", known.registry.len())?)
+    shown(alloc, &known.registry.len())
 }
 
 /// Registers a name, after its pattern and its policy.
 fn register(alloc: Global, known: &mut Known, text: &str) -> RedisResult<String> {
-    let mut fields = text.splitn(3, ' ');
-    let pattern = pattern(fields.next().unwrap_or(""))?;
-    let policy = policy(fields.next().unwrap_or(""))?;
-    let name = bytes(alloc, fields.next().unwrap_or(""))?;
+    let (first, rest) = two(text);
+    let (second, name) = two(rest);
+    let (pattern, policy) = (pattern(first)?, policy(second)?);
+    let name = bytes(alloc, name)?;
     match known.registry.register(alloc, &name, pattern, policy) {
-        Ok(()) => Ok(String::from_str(alloc, "ok")?),
-        Err(refusal) => Ok(format!(in alloc; "{refusal}")?),
+        Ok(()) => plain(alloc, "ok"),
+        Err(refusal) => shown(alloc, &refusal),
     }
-}
-
-/// Whether a copy of the registry is equal.
-fn clone_registry(alloc: Global, known: &Known) -> RedisResult<String> {
-    Ok(equality(alloc, &known.registry)?)
 }
 
 /// The texts of all refusals.

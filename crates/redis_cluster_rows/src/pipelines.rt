@@ -1,24 +1,23 @@
 //! Pipelines, and which of them a cluster refuses.
-use fixtures::{number, words};
+use fixtures::{bad_row, debug, kind_and_text, number, plain, shown, two, words};
 use redis_cluster::pipeline::{ClusterPipeline, UNROUTABLE_ERROR, cluster_pipe};
 use resp_core::{RedisError, RedisResult};
 use std::alloc::Global;
 
-/// What a call of this name returns, if it is one of these.
+/// What a call of this name returns. The pipeline is that of earlier rows.
 pub fn call(
-    alloc: Global,
     pipeline: &mut ClusterPipeline,
+    alloc: Global,
     name: &str,
     text: &str,
-) -> Option<RedisResult<String>> {
+) -> RedisResult<String> {
     match name {
-        "unroutable" => Some(unroutable(alloc)),
-        "pipe" => Some(pipe(alloc, pipeline, text)),
-        "write" => Some(write(alloc, pipeline, text)),
-        "room" => Some(room(alloc, pipeline, text)),
-        "cmd" | "add" | "ignore" | "copy" => Some(changed(alloc, pipeline, name, text)),
-        "ignored" => Some(ignored(alloc, pipeline, text)),
-        _ => None,
+        "unroutable" => unroutable(alloc),
+        "pipe" => pipe(alloc, pipeline, text),
+        "write" => write(alloc, pipeline, text),
+        "room" => room(alloc, pipeline, text),
+        "ignored" => shown(alloc, &pipeline.ignored(number(text)?)),
+        _ => changed(alloc, pipeline, name, text),
     }
 }
 
@@ -31,8 +30,8 @@ fn unroutable(alloc: Global) -> RedisResult<String> {
 /// `ok`, the detail of a refusal, or another error.
 fn checked(alloc: Global, checked: RedisResult<()>) -> RedisResult<String> {
     match checked {
-        Ok(()) => Ok(String::from_str(alloc, "ok")?),
-        Err(error) => Ok(String::from_str(alloc, told(&error))?),
+        Ok(()) => plain(alloc, "ok"),
+        Err(error) => plain(alloc, told(&error)),
     }
 }
 
@@ -62,7 +61,7 @@ fn write(alloc: Global, pipeline: &mut ClusterPipeline, text: &str) -> RedisResu
 
 /// How many commands a pipeline has.
 fn len(alloc: Global, pipeline: &ClusterPipeline) -> RedisResult<String> {
-    Ok(format!(in alloc; "{}", pipeline.commands().len())?)
+    shown(alloc, &pipeline.commands().len())
 }
 
 /// A new pipeline with room for this many commands.
@@ -82,20 +81,19 @@ fn change(
     name: &str,
     text: &str,
 ) -> RedisResult<()> {
-    match (name, text.split_once(' ')) {
-        ("cmd", Some((name, arg))) => {
+    match name {
+        "cmd" => {
+            let (name, arg) = two(text);
             pipeline.cmd(alloc, name.as_bytes())?.arg(arg.as_bytes())?;
         }
-        ("cmd", None) => {
-            pipeline.cmd(alloc, text.as_bytes())?;
-        }
-        ("add", _) => {
+        "add" => {
             pipeline.arg(text.as_bytes())?;
         }
-        ("ignore", _) => {
+        "ignore" => {
             pipeline.ignore()?;
         }
-        _ => *pipeline = pipeline.clone()?,
+        "copy" => *pipeline = pipeline.clone()?,
+        _ => return Err(bad_row("no call of this name")),
     }
     Ok(())
 }
@@ -108,16 +106,10 @@ fn changed(
     name: &str,
     text: &str,
 ) -> RedisResult<String> {
-    let before = format!(in alloc; "{pipeline:?}")?;
+    let before = debug(alloc, pipeline)?;
     match change(alloc, pipeline, name, text) {
         Ok(()) => len(alloc, pipeline),
-        Err(_) if format!(in alloc; "{pipeline:?}")? != before => {
-            Ok(String::from_str(alloc, "changed")?)
-        }
-        Err(error) => Ok(format!(in alloc; "{:?}: {error}", error.kind())?),
+        Err(_) if debug(alloc, pipeline)?.as_str() != before.as_str() => plain(alloc, "changed"),
+        Err(error) => kind_and_text(alloc, &error),
     }
-}
-
-fn ignored(alloc: Global, pipeline: &ClusterPipeline, text: &str) -> RedisResult<String> {
-    Ok(format!(in alloc; "{}", pipeline.ignored(number(text)?))?)
 }

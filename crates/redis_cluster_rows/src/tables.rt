@@ -1,74 +1,59 @@
 //! What the tables say of names, and the redirects in texts.
-use crate::texts::{equality, policy_text};
-use cluster_map::NodeAddress;
-use fixtures::{bad_row, bytes};
+use crate::texts::policy_text;
+use cluster_map::Slot;
+use fixtures::{bad_row, bytes, debug, equality, plain, text};
 use redis_cluster::routing::{Redirect, ResponsePolicy, SingleNodeRoutingInfo};
 use redis_routing::base_routing;
 use resp_core::RedisResult;
-use std::alloc::{AllocError, Global};
+use std::alloc::Global;
 
-/// What a call of this name returns, if it is one of these.
-pub fn call(alloc: Global, name: &str, text: &str) -> Option<RedisResult<String>> {
+/// What a call of this name returns.
+pub fn call(alloc: Global, name: &str, words: &str) -> RedisResult<String> {
     match name {
-        "routing" => Some(routing(alloc, text)),
-        "policy" => Some(policy(alloc, text)),
-        "redirect" => Some(redirect(alloc, text)),
-        "clone_redirect" => Some(clone_redirect(alloc, text)),
-        "clone_address" => Some(clone_address(alloc, text)),
-        _ => None,
+        "routing" => routing(alloc, words),
+        "policy" => policy_text(alloc, ResponsePolicy::for_command(&bytes(alloc, words)?)),
+        "redirect" => redirect(alloc, words),
+        "clone_redirect" => clone_redirect(alloc, words),
+        "clone_address" => clone_address(alloc, words),
+        _ => Err(bad_row("no call of this name")),
     }
 }
 
 /// How commands of a name are routed.
-fn routing(alloc: Global, text: &str) -> RedisResult<String> {
-    match base_routing(&bytes(alloc, text)?) {
-        Some(routing) => Ok(format!(in alloc; "{routing:?}")?),
-        None => Ok(String::from_str(alloc, "none")?),
+fn routing(alloc: Global, words: &str) -> RedisResult<String> {
+    match base_routing(&bytes(alloc, words)?) {
+        Some(routing) => debug(alloc, &routing),
+        None => plain(alloc, "none"),
     }
-}
-
-/// How the replies to commands of a name make one.
-fn policy(alloc: Global, text: &str) -> RedisResult<String> {
-    policy_text(alloc, ResponsePolicy::for_command(&bytes(alloc, text)?))
 }
 
 /// The redirect in a text from the node `n1`.
-fn told(alloc: Global, text: &str) -> RedisResult<Option<(u16, Redirect)>> {
-    let Ok(text) = String::from_utf8(bytes(alloc, text)?) else {
-        return Err(bad_row("not a text"));
-    };
-    match Redirect::from_error_text(alloc, &text, "n1")? {
-        Some((slot, redirect)) => Ok(Some((slot.number(), redirect))),
-        None => Ok(None),
-    }
+fn told(alloc: Global, words: &str) -> RedisResult<Option<(Slot, Redirect)>> {
+    Ok(Redirect::from_error_text(alloc, &text(alloc, words)?, "n1")?)
 }
 
-fn shown(alloc: Global, slot: u16, redirect: Redirect) -> Result<String, AllocError> {
+/// `moved` or `ask`, the slot, the host and the port.
+fn redirect(alloc: Global, words: &str) -> RedisResult<String> {
+    let Some((slot, redirect)) = told(alloc, words)? else {
+        return plain(alloc, "none");
+    };
     let word = match &redirect {
         Redirect::Moved(_) => "moved",
         Redirect::Ask(_) => "ask",
     };
     let address = redirect.into_address();
-    format!(in alloc; "{word} {slot} {} {}", address.host(), address.port())
+    let (slot, host, port) = (slot.number(), address.host(), address.port());
+    Ok(format!(in alloc; "{word} {slot} {host} {port}")?)
 }
 
-/// `moved` or `ask`, the slot, the host and the port.
-fn redirect(alloc: Global, text: &str) -> RedisResult<String> {
-    match told(alloc, text)? {
-        Some((slot, redirect)) => Ok(shown(alloc, slot, redirect)?),
-        None => Ok(String::from_str(alloc, "none")?),
+fn clone_redirect(alloc: Global, words: &str) -> RedisResult<String> {
+    match told(alloc, words)? {
+        Some((_, redirect)) => equality(alloc, &redirect),
+        None => plain(alloc, "none"),
     }
 }
 
-fn clone_redirect(alloc: Global, text: &str) -> RedisResult<String> {
-    match told(alloc, text)? {
-        Some((_, redirect)) => Ok(equality(alloc, &redirect)?),
-        None => Ok(String::from_str(alloc, "none")?),
-    }
-}
-
-fn clone_address(alloc: Global, text: &str) -> RedisResult<String> {
-    let host = String::from_str(alloc, text)?;
-    let info = SingleNodeRoutingInfo::ByAddress { host, port: 1 };
-    Ok(equality(alloc, &info)?)
+fn clone_address(alloc: Global, host: &str) -> RedisResult<String> {
+    let host = plain(alloc, host)?;
+    equality(alloc, &SingleNodeRoutingInfo::ByAddress { host, port: 1 })
 }

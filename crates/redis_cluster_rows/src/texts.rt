@@ -1,54 +1,25 @@
-//! Routings, commands and arguments as texts.
+//! Routings and policies as texts.
 use cluster_map::Route;
+use fixtures::{debug, plain, push_next};
 use redis_cluster::routing::{
     MultipleNodeRoutingInfo, ResponsePolicy, RoutingInfo, SingleNodeRoutingInfo,
 };
-use resp_core::{Cmd, RedisResult};
-use std::alloc::{AllocError, Global};
-
-/// Whether the clone of a value is equal to it.
-pub fn equality<T: Clone + PartialEq>(alloc: Global, value: &T) -> Result<String, AllocError> {
-    let text = if value.clone()? == *value {
-        "equal"
-    } else {
-        "another"
-    };
-    String::from_str(alloc, text)
-}
+use resp_core::RedisResult;
+use std::alloc::Global;
 
 /// A policy, or `none`.
 pub fn policy_text(alloc: Global, policy: Option<ResponsePolicy>) -> RedisResult<String> {
     match policy {
-        Some(policy) => Ok(format!(in alloc; "{policy:?}")?),
-        None => Ok(String::from_str(alloc, "none")?),
+        Some(policy) => debug(alloc, &policy),
+        None => plain(alloc, "none"),
     }
-}
-
-/// Bytes as a text, or `none`.
-pub fn bytes_text(alloc: Global, bytes: Option<&[u8]>) -> RedisResult<String> {
-    match bytes {
-        Some(bytes) => Ok(String::from_utf8_lossy(alloc, bytes)?),
-        None => Ok(String::from_str(alloc, "none")?),
-    }
-}
-
-/// The words of a command, one space apart.
-pub fn cmd_text(alloc: Global, cmd: &Cmd) -> RedisResult<String> {
-    let mut text = String::new(alloc);
-    for place in 0..cmd.len() {
-        if place > 0 {
-            text.push(' ')?;
-        }
-        text.push_str(&bytes_text(alloc, cmd.arg_idx(place))?)?;
-    }
-    Ok(text)
 }
 
 /// Where a command goes: `none`, `any`, a slot and which of its nodes, or several nodes and the
 /// policy of their replies.
 pub fn routing_text(alloc: Global, info: &Option<RoutingInfo>) -> RedisResult<String> {
     match info {
-        None => Ok(String::from_str(alloc, "none")?),
+        None => plain(alloc, "none"),
         Some(RoutingInfo::SingleNode(node)) => node_text(alloc, node),
         Some(RoutingInfo::MultiNode((nodes, policy))) => nodes_text(alloc, nodes, *policy),
     }
@@ -56,9 +27,9 @@ pub fn routing_text(alloc: Global, info: &Option<RoutingInfo>) -> RedisResult<St
 
 fn node_text(alloc: Global, node: &SingleNodeRoutingInfo) -> RedisResult<String> {
     match node {
-        SingleNodeRoutingInfo::Random => Ok(String::from_str(alloc, "any")?),
+        SingleNodeRoutingInfo::Random => plain(alloc, "any"),
         SingleNodeRoutingInfo::SpecificNode(route) => route_text(alloc, route),
-        _ => Ok(format!(in alloc; "{node:?}")?),
+        _ => debug(alloc, node),
     }
 }
 
@@ -85,11 +56,8 @@ fn nodes_text(
 pub fn routes_text(alloc: Global, routes: &[(Route, Vec<usize>)]) -> RedisResult<String> {
     let mut text = String::new(alloc);
     for (route, places) in routes {
-        if !text.is_empty() {
-            text.push_str(", ")?;
-        }
-        text.push_str(&route_text(alloc, route)?)?;
-        text.push_str(&format!(in alloc; " {places:?}")?)?;
+        let route = route_text(alloc, route)?;
+        push_next(&mut text, ", ", &format!(in alloc; "{route} {places:?}")?)?;
     }
     Ok(text)
 }

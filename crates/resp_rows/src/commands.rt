@@ -1,36 +1,30 @@
 //! Commands, errors and deep values.
 use crate::deep;
-use crate::texts::{command, escaped, first};
-use fixtures::{bad_row, number, words};
+use fixtures::{bad_row, cmd, debug, escaped, number, quoted, shown, two, words};
 use resp_core::{Cmd, ErrorKind, RedisError, RedisResult};
 use std::alloc::Global;
 
-/// What a call of `resp_core` answers.
-pub fn call(alloc: Global, name: &str, words: &str) -> Option<RedisResult<String>> {
-    Some(match name {
-        "debug" => debug(alloc, words),
+/// What a call of this name returns.
+pub fn call(alloc: Global, name: &str, words: &str) -> RedisResult<String> {
+    match name {
+        "debug" => debug(alloc, &cmd(alloc, words)?),
         "debug_lines" => debug_lines(alloc, words),
-        "with_capacity" => with_capacity(alloc, words),
-        "with_room" => with_room(alloc, words),
+        "with_capacity" => emptiness(alloc, &Cmd::with_capacity(alloc, number(words)?)?),
+        "with_room" => emptiness(alloc, &roomy(alloc, words)?.0),
         "arg" => arg(alloc, words),
         "many_items" => many_items(alloc, words),
         "long_item" => long_item(alloc, words),
-        "error" => error(alloc),
-        "error_with" => error_with(alloc, words),
+        "error" => printed(alloc, &RedisError::from((ErrorKind::Client, "bad text"))),
+        "error_with" => printed(alloc, &detailed(alloc, words)?),
         "same_error" => same_error(alloc, words),
         "deep" => deep::compare(alloc, words),
         "deep_debug" => deep::debug(alloc, words),
-        _ => return None,
-    })
-}
-
-fn debug(alloc: Global, words: &str) -> RedisResult<String> {
-    let cmd = command(alloc, words)?;
-    Ok(format!(in alloc; "{cmd:?}")?)
+        _ => Err(bad_row("no call of this name")),
+    }
 }
 
 fn debug_lines(alloc: Global, words: &str) -> RedisResult<String> {
-    let cmd = command(alloc, words)?;
+    let cmd = cmd(alloc, words)?;
     escaped(alloc, format!(in alloc; "{cmd:#?}")?.as_bytes())
 }
 
@@ -39,22 +33,12 @@ fn emptiness(alloc: Global, cmd: &Cmd) -> RedisResult<String> {
     Ok(format!(in alloc; "empty {}", cmd.is_empty())?)
 }
 
-fn with_capacity(alloc: Global, words: &str) -> RedisResult<String> {
-    let cmd = Cmd::with_capacity(alloc, number(words)?)?;
-    emptiness(alloc, &cmd)
-}
-
 /// A command with room for these numbers of items and bytes, and the words after them.
 fn roomy(alloc: Global, words: &str) -> RedisResult<(Cmd, &str)> {
-    let (items, rest) = first(words);
-    let (bytes, rest) = first(rest);
+    let (items, rest) = two(words);
+    let (bytes, rest) = two(rest);
     let cmd = Cmd::with_room(alloc, number(items)?, number(bytes)?)?;
     Ok((cmd, rest))
-}
-
-fn with_room(alloc: Global, words: &str) -> RedisResult<String> {
-    let (cmd, _) = roomy(alloc, words)?;
-    emptiness(alloc, &cmd)
 }
 
 /// Adds items. An item that is refused must not change the command.
@@ -74,10 +58,10 @@ fn add(cmd: &mut Cmd, items: &[Vec<u8>]) -> RedisResult<()> {
 
 /// Whether a command that had room for items is equal to one that had none.
 fn arg(alloc: Global, text: &str) -> RedisResult<String> {
-    let (mut cmd, rest) = roomy(alloc, text)?;
-    add(&mut cmd, &words(alloc, rest)?)?;
-    let same = cmd == command(alloc, rest)?;
-    Ok(format!(in alloc; "{} items, equal {same}", cmd.len())?)
+    let (mut command, rest) = roomy(alloc, text)?;
+    add(&mut command, &words(alloc, rest)?)?;
+    let same = command == cmd(alloc, rest)?;
+    Ok(format!(in alloc; "{} items, equal {same}", command.len())?)
 }
 
 /// A command of this many items, each of which is its own index.
@@ -91,8 +75,8 @@ fn counted(alloc: Global, items: usize) -> RedisResult<Cmd> {
 
 /// Whether each item of a command is its own index.
 fn is_counted(cmd: &Cmd) -> bool {
-    for (place, item) in (0..cmd.len()).zip(cmd.args()) {
-        if item != place.to_be_bytes().as_slice() {
+    for place in 0..cmd.len() {
+        if cmd.arg_idx(place) != Some(place.to_be_bytes().as_slice()) {
             return false;
         }
     }
@@ -123,9 +107,9 @@ fn long_item(alloc: Global, words: &str) -> RedisResult<String> {
     kept(alloc, &cmd, cmd.arg_idx(1) == Some(long.as_slice()))
 }
 
-fn error(alloc: Global) -> RedisResult<String> {
-    let error = RedisError::from((ErrorKind::Client, "bad text"));
-    Ok(format!(in alloc; "\"{error}\"")?)
+/// What an error prints, in quotes.
+fn printed(alloc: Global, error: &RedisError) -> RedisResult<String> {
+    quoted(alloc, shown(alloc, error)?.as_bytes())
 }
 
 fn detailed(alloc: Global, detail: &str) -> RedisResult<RedisError> {
@@ -133,14 +117,9 @@ fn detailed(alloc: Global, detail: &str) -> RedisResult<RedisError> {
     Ok(RedisError::from((ErrorKind::Client, "bad text", detail)))
 }
 
-fn error_with(alloc: Global, detail: &str) -> RedisResult<String> {
-    let error = detailed(alloc, detail)?;
-    Ok(format!(in alloc; "\"{error}\"")?)
-}
-
 /// Whether the errors of two details are equal.
 fn same_error(alloc: Global, words: &str) -> RedisResult<String> {
-    let (one, other) = first(words);
+    let (one, other) = two(words);
     let same = detailed(alloc, one)? == detailed(alloc, other)?;
-    Ok(format!(in alloc; "{same}")?)
+    shown(alloc, &same)
 }

@@ -1,6 +1,5 @@
 //! Values that are nested deeply, of each shape. Code that recurses down one ends the program.
-use crate::texts::first;
-use fixtures::{bad_row, number};
+use fixtures::{bad_row, number, pieces, two};
 use resp_core::{RedisResult, Value};
 use std::alloc::Global;
 
@@ -57,13 +56,10 @@ struct Shape<'a> {
 
 /// The shape of a text: the depth, the levels, and after `in` the outermost level.
 fn read_shape(alloc: Global, words: &str) -> RedisResult<Shape<'_>> {
-    let (depth, rest) = first(words);
+    let (depth, rest) = two(words);
     let (inner, root) = rest.split_once(" in ").unwrap_or((rest, "alone"));
     let depth = number(depth)?;
-    let mut levels = Vec::new(alloc);
-    for level in inner.split(' ') {
-        levels.push(level)?;
-    }
+    let levels = pieces(alloc, inner, " ")?;
     Ok(Shape {
         depth,
         levels,
@@ -74,8 +70,14 @@ fn read_shape(alloc: Global, words: &str) -> RedisResult<Shape<'_>> {
 /// A number in the levels of a shape.
 fn nested(alloc: Global, shape: &Shape<'_>, number: i64) -> RedisResult<Value> {
     let mut value = Value::Int(number);
-    for level in shape.levels.iter().cycle().take(shape.depth) {
-        value = around(alloc, level, value)?;
+    let mut depth = 0;
+    while depth < shape.depth {
+        for level in &shape.levels {
+            if depth < shape.depth {
+                value = around(alloc, level, value)?;
+                depth += 1;
+            }
+        }
     }
     around(alloc, shape.root, value)
 }

@@ -1,46 +1,33 @@
-//! Answers rows of calls of `resp_core`, `resp`, `redis_bytes` and `redis_batch_bytes`.
+//! Answers rows of calls of `resp_core`, `resp` and `redis_bytes`.
 #![tactic(auto)]
 
 mod commands;
 mod deep;
-mod pipelines;
 mod replies;
 mod requests;
 mod routing;
 mod tables;
-mod texts;
 
-use self::pipelines::Pipelines;
 use self::tables::Tables;
 use fixtures::{Calls, bad_row, run};
 use resp_core::RedisResult;
 use std::alloc::Global;
 use std::process::ExitCode;
 
-/// The state that later rows use.
+/// The table that later rows use.
 #[derive(Drop)]
 struct Rows {
     tables: Tables,
-    pipelines: Pipelines,
 }
 
 impl Calls for Rows {
-    fn call(&mut self, alloc: Global, name: &str, words: &str) -> RedisResult<String> {
-        if let Some(answer) = commands::call(alloc, name, words) {
-            return answer;
-        }
-        if let Some(answer) = replies::call(alloc, name, words) {
-            return answer;
-        }
-        if let Some(answer) = requests::call(alloc, name, words) {
-            return answer;
-        }
-        if let Some(answer) = self.tables.call(alloc, name, words) {
-            return answer;
-        }
-        match self.pipelines.call(alloc, name, words) {
-            Some(answer) => answer,
-            None => Err(bad_row("no call of this name")),
+    fn call(&mut self, alloc: Global, topic: &str, name: &str, words: &str) -> RedisResult<String> {
+        match topic {
+            "commands" => commands::call(alloc, name, words),
+            "replies" => replies::call(alloc, name, words),
+            "requests" => requests::call(alloc, name, words),
+            "tables" => self.tables.call(alloc, name, words),
+            _ => Err(bad_row("no topic of this name")),
         }
     }
 }
@@ -48,7 +35,6 @@ impl Calls for Rows {
 fn main(rt: HostRuntime) -> ExitCode {
     let mut rows = Rows {
         tables: Tables::new(rt.alloc()),
-        pipelines: Pipelines::new(rt.alloc()),
     };
     run(&rt, &mut rows)
 }

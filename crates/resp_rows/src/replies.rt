@@ -1,21 +1,20 @@
 //! Replies as bytes.
-use crate::texts::{escaped, quoted};
-use fixtures::{bytes, nested, number, value, value_text};
+use fixtures::{bad_row, bytes, escaped, nested, number, quoted, shown, value, value_text};
 use resp::{Fault, ReadError, Response, read, write};
 use resp_core::{RedisResult, Value};
 use std::alloc::Global;
 
-/// What a call answers that reads or writes a reply.
-pub fn call(alloc: Global, name: &str, words: &str) -> Option<RedisResult<String>> {
-    Some(match name {
+/// What a call of this name returns.
+pub fn call(alloc: Global, name: &str, words: &str) -> RedisResult<String> {
+    match name {
         "read" => read_row(alloc, words),
         "read_len" => read_len(alloc, words),
         "read_cuts" => read_cuts(alloc, words),
         "read_flips" => read_flips(alloc, words),
-        "write" => write_row(alloc, words),
-        "write_nested" => write_nested(alloc, words),
-        _ => return None,
-    })
+        "write" => written(alloc, &value(alloc, words)?),
+        "write_nested" => written(alloc, &nested(alloc, number(words)?)?),
+        _ => Err(bad_row("no call of this name")),
+    }
 }
 
 fn response_text(alloc: Global, response: &Response) -> RedisResult<String> {
@@ -35,15 +34,15 @@ fn read_row(alloc: Global, words: &str) -> RedisResult<String> {
     let bytes = bytes(alloc, words)?;
     match read(alloc, &bytes) {
         Ok((response, rest)) => found_text(alloc, response, rest.len()),
-        Err(error) => Ok(format!(in alloc; "{error}")?),
+        Err(error) => shown(alloc, &error),
     }
 }
 
 fn read_len(alloc: Global, words: &str) -> RedisResult<String> {
     let bytes = bytes(alloc, words)?;
     match read(alloc, &bytes) {
-        Ok((_, rest)) => Ok(format!(in alloc; "{}", bytes.len().saturating_sub(rest.len()))?),
-        Err(error) => Ok(format!(in alloc; "{error}")?),
+        Ok((_, rest)) => shown(alloc, &bytes.len().saturating_sub(rest.len())),
+        Err(error) => shown(alloc, &error),
     }
 }
 
@@ -95,15 +94,6 @@ fn read_flips(alloc: Global, words: &str) -> RedisResult<String> {
 fn written(alloc: Global, value: &Value) -> RedisResult<String> {
     match write(alloc, value) {
         Ok(bytes) => escaped(alloc, &bytes),
-        Err(error) => Ok(format!(in alloc; "{error}")?),
+        Err(error) => shown(alloc, &error),
     }
-}
-
-fn write_row(alloc: Global, words: &str) -> RedisResult<String> {
-    written(alloc, &value(alloc, words)?)
-}
-
-/// The bytes of a nil in nested arrays.
-fn write_nested(alloc: Global, words: &str) -> RedisResult<String> {
-    written(alloc, &nested(alloc, number(words)?)?)
 }

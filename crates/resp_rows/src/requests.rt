@@ -1,33 +1,32 @@
 //! Requests as bytes, and where they go.
 use crate::routing;
-use crate::texts::{command, escaped, quoted};
-use fixtures::bytes;
+use fixtures::{bad_row, bytes, cmd, escaped, push, quoted, shown};
 use resp::{RequestError, RequestFault, read_request, request_len, write_command};
 use resp_core::{Cmd, RedisResult};
 use std::alloc::Global;
 
-/// What a call on one request returns.
-pub fn call(alloc: Global, name: &str, words: &str) -> Option<RedisResult<String>> {
-    Some(match name {
+/// What a call of this name returns.
+pub fn call(alloc: Global, name: &str, words: &str) -> RedisResult<String> {
+    match name {
         "request" => request(alloc, words),
         "request_len" => request_len_row(alloc, words),
         "request_cuts" => request_cuts(alloc, words),
-        "write_command" => write_row(alloc, words),
+        "write_command" => escaped(alloc, &write_command(alloc, &cmd(alloc, words)?)?),
         "route" => routing::route(alloc, words),
         "parts" => routing::parts(alloc, words),
         "part" => routing::part(alloc, words),
         "combine" => routing::combine(alloc, words),
-        _ => return None,
-    })
+        _ => Err(bad_row("no call of this name")),
+    }
 }
 
 fn items_text(alloc: Global, cmd: &Cmd) -> RedisResult<String> {
     let mut text = String::from_str(alloc, "[")?;
     for item in cmd.args() {
-        text.push(' ')?;
-        text.push_str(&quoted(alloc, item)?)?;
+        push(&mut text, " ")?;
+        push(&mut text, &quoted(alloc, item)?)?;
     }
-    text.push_str(" ]")?;
+    push(&mut text, " ]")?;
     Ok(text)
 }
 
@@ -40,14 +39,14 @@ fn request(alloc: Global, words: &str) -> RedisResult<String> {
     let bytes = bytes(alloc, words)?;
     match read_request(alloc, &bytes) {
         Ok((cmd, rest)) => found_text(alloc, cmd, rest.len()),
-        Err(error) => Ok(format!(in alloc; "{error}")?),
+        Err(error) => shown(alloc, &error),
     }
 }
 
 fn request_len_row(alloc: Global, words: &str) -> RedisResult<String> {
     match request_len(&bytes(alloc, words)?) {
-        Ok(length) => Ok(format!(in alloc; "{length}")?),
-        Err(fault) => Ok(format!(in alloc; "{fault}")?),
+        Ok(length) => shown(alloc, &length),
+        Err(fault) => shown(alloc, &fault),
     }
 }
 
@@ -70,9 +69,4 @@ fn request_cuts(alloc: Global, words: &str) -> RedisResult<String> {
         }
     }
     Ok(format!(in alloc; "{cuts} of {} incomplete", whole.len())?)
-}
-
-fn write_row(alloc: Global, words: &str) -> RedisResult<String> {
-    let cmd = command(alloc, words)?;
-    escaped(alloc, &write_command(alloc, &cmd)?)
 }

@@ -1,7 +1,6 @@
 //! Where a request goes, its parts, and the one reply, if no name only reads and none is
 //! registered.
-use crate::texts::{command, escaped, first, halves};
-use fixtures::{bytes, number};
+use fixtures::{bytes, cmd, cut, debug, escaped, number, shown, two};
 use redis_bytes::{BytesFault, Parts};
 use redis_routing::{Names, ReadOnlyNames, Registry, RoutingInfo};
 use resp::write_command;
@@ -10,13 +9,7 @@ use std::alloc::Global;
 
 /// The request of some words.
 fn request(alloc: Global, words: &str) -> RedisResult<Vec<u8>> {
-    let cmd = command(alloc, words)?;
-    Ok(write_command(alloc, &cmd)?)
-}
-
-/// The text of a fault.
-pub fn fault_text(alloc: Global, fault: BytesFault) -> RedisResult<String> {
-    Ok(format!(in alloc; "{fault}")?)
+    Ok(write_command(alloc, &cmd(alloc, words)?)?)
 }
 
 fn routed(alloc: Global, request: &[u8]) -> Result<Option<RoutingInfo>, BytesFault> {
@@ -31,8 +24,8 @@ fn routed(alloc: Global, request: &[u8]) -> Result<Option<RoutingInfo>, BytesFau
 /// Where a request goes.
 pub fn route(alloc: Global, words: &str) -> RedisResult<String> {
     match routed(alloc, &request(alloc, words)?) {
-        Ok(info) => Ok(format!(in alloc; "{info:?}")?),
-        Err(fault) => fault_text(alloc, fault),
+        Ok(info) => debug(alloc, &info),
+        Err(fault) => shown(alloc, &fault),
     }
 }
 
@@ -58,12 +51,12 @@ fn parts_text(alloc: Global, parts: Parts) -> RedisResult<String> {
 pub fn parts(alloc: Global, words: &str) -> RedisResult<String> {
     match split(alloc, &request(alloc, words)?) {
         Ok(parts) => parts_text(alloc, parts),
-        Err(fault) => fault_text(alloc, fault),
+        Err(fault) => shown(alloc, &fault),
     }
 }
 
 /// The bytes between an end and the one before it.
-pub fn piece<'a>(bytes: &'a [u8], ends: &[usize], index: usize) -> &'a [u8] {
+fn piece<'a>(bytes: &'a [u8], ends: &[usize], index: usize) -> &'a [u8] {
     let start = match index.checked_sub(1) {
         Some(before) => ends.get(before).copied().unwrap_or(0),
         None => 0,
@@ -76,11 +69,11 @@ pub fn piece<'a>(bytes: &'a [u8], ends: &[usize], index: usize) -> &'a [u8] {
 
 /// The bytes of one part of a request.
 pub fn part(alloc: Global, words: &str) -> RedisResult<String> {
-    let (index, words) = first(words);
+    let (index, words) = two(words);
     let index = number(index)?;
     match split(alloc, &request(alloc, words)?) {
         Ok(parts) => escaped(alloc, piece(&parts.bytes, &parts.ends, index)),
-        Err(fault) => fault_text(alloc, fault),
+        Err(fault) => shown(alloc, &fault),
     }
 }
 
@@ -95,10 +88,10 @@ fn combined(alloc: Global, request: &[u8], replies: &[u8]) -> Result<Vec<u8>, By
 
 /// The one reply to a request by the replies to its parts.
 pub fn combine(alloc: Global, words: &str) -> RedisResult<String> {
-    let (words, replies) = halves(words);
+    let (words, replies) = cut(words, " | ");
     let request = request(alloc, words)?;
     match combined(alloc, &request, &bytes(alloc, replies)?) {
         Ok(reply) => escaped(alloc, &reply),
-        Err(fault) => fault_text(alloc, fault),
+        Err(fault) => shown(alloc, &fault),
     }
 }

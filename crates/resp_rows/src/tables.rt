@@ -1,8 +1,6 @@
 //! Tables of slots.
-use crate::routing::fault_text;
-use crate::texts::{escaped, first};
 use cluster_map::SlotAddr;
-use fixtures::{bytes, number};
+use fixtures::{bad_row, bytes, escaped, number, plain, shown, two};
 use redis_bytes::{BytesFault, NO_NODE, Table, slot_map, slot_table};
 use resp_core::RedisResult;
 use std::alloc::Global;
@@ -22,21 +20,21 @@ impl Tables {
         }
     }
 
-    /// What a call of tables answers.
-    pub fn call(&mut self, alloc: Global, name: &str, words: &str) -> Option<RedisResult<String>> {
-        Some(match name {
+    /// What a call of this name returns.
+    pub fn call(&mut self, alloc: Global, name: &str, words: &str) -> RedisResult<String> {
+        match name {
             "slot_map" => map_row(alloc, words),
             "slot_table" => self.keep(alloc, words),
             "number" => self.number(alloc, words),
-            _ => return None,
-        })
+            _ => Err(bad_row("no call of this name")),
+        }
     }
 
     /// Keeps the table of the primaries in a reply.
     fn keep(&mut self, alloc: Global, words: &str) -> RedisResult<String> {
         match table_of(alloc, words)? {
             Ok(table) => self.table = table,
-            Err(fault) => return fault_text(alloc, fault),
+            Err(fault) => return shown(alloc, &fault),
         }
         let nodes = escaped(alloc, &self.table.nodes)?;
         Ok(format!(in alloc; "{} slots, {nodes}", self.table.numbers.len())?)
@@ -45,25 +43,25 @@ impl Tables {
     /// The number that a slot has in the table.
     fn number(&self, alloc: Global, words: &str) -> RedisResult<String> {
         let slot: usize = number(words)?;
-        Ok(match self.table.numbers.get(slot) {
-            Some(number) if *number == NO_NODE => String::from_str(alloc, "no node")?,
-            Some(number) => format!(in alloc; "{number}")?,
-            None => String::from_str(alloc, "no slot")?,
-        })
+        match self.table.numbers.get(slot) {
+            Some(number) if *number == NO_NODE => plain(alloc, "no node"),
+            Some(number) => shown(alloc, number),
+            None => plain(alloc, "no slot"),
+        }
     }
 }
 
 fn table_of(alloc: Global, words: &str) -> RedisResult<Result<Table, BytesFault>> {
-    let (answering, reply) = first(words);
+    let (answering, reply) = two(words);
     let reply = bytes(alloc, reply)?;
     Ok(slot_table(alloc, &reply, answering, SlotAddr::Master, 0))
 }
 
 /// How many ranges the map of a reply has.
 fn map_row(alloc: Global, words: &str) -> RedisResult<String> {
-    let (answering, reply) = first(words);
+    let (answering, reply) = two(words);
     match slot_map(alloc, &bytes(alloc, reply)?, answering) {
         Ok(map) => Ok(format!(in alloc; "{} ranges", map.values().count())?),
-        Err(fault) => fault_text(alloc, fault),
+        Err(fault) => shown(alloc, &fault),
     }
 }

@@ -1,7 +1,7 @@
 //! Runs over a stream that fails at each call in turn.
-use crate::runs::{Run, Written, serve_over, shown};
+use crate::runs::{Modes, Run, Written, serve_with, shown};
 use crate::streams::Mode;
-use fixtures::bad_row;
+use fixtures::{bad_row, push};
 use resp_core::RedisResult;
 use std::alloc::Global;
 
@@ -15,12 +15,13 @@ pub enum Failing {
 
 /// The run whose stream fails after this many calls.
 fn serve_failing(alloc: Global, failing: Failing, run: &Run, calls: usize) -> Written {
-    let fails = Mode::Fails(calls);
+    let mut modes = Modes::whole();
     match failing {
-        Failing::Reading => serve_over(alloc, run, fails, Mode::Whole, Mode::Whole),
-        Failing::Writing => serve_over(alloc, run, Mode::Whole, fails, Mode::Whole),
-        Failing::Telling => serve_over(alloc, run, Mode::Whole, Mode::Whole, fails),
+        Failing::Reading => modes.reading = Mode::Fails(calls),
+        Failing::Writing => modes.writing = Mode::Fails(calls),
+        Failing::Telling => modes.telling = Mode::Fails(calls),
     }
+    serve_with(alloc, run, modes, None)
 }
 
 /// How many bytes of the output a run wrote that reported this fault, if they are its first bytes.
@@ -84,7 +85,10 @@ struct Stretch {
 /// Adds a stretch, unless it is one run whose length is one more.
 fn push_stretch(alloc: Global, text: &mut String, stretch: Stretch) -> RedisResult<()> {
     if stretch.times != 1 || !stretch.is_next {
-        text.push_str(&format!(in alloc; " {}*{}", stretch.length, stretch.times)?)?;
+        push(
+            text,
+            &format!(in alloc; " {}*{}", stretch.length, stretch.times)?,
+        )?;
     }
     Ok(())
 }
@@ -112,11 +116,11 @@ fn push_lengths(alloc: Global, text: &mut String, lengths: &[usize]) -> RedisRes
 
 /// How many runs fail, the lengths that do not grow by one, and what the next run writes.
 pub fn answer(alloc: Global, failing: Failing, run: &Run) -> RedisResult<String> {
-    let whole = serve_over(alloc, run, Mode::Whole, Mode::Whole, Mode::Whole);
+    let whole = serve_with(alloc, run, Modes::whole(), None);
     let (lengths, next) = fail_in_turn(alloc, failing, run, &whole)?;
     let mut text = format!(in alloc; "{} fail", lengths.len())?;
     push_lengths(alloc, &mut text, &lengths)?;
-    text.push_str(", then ")?;
-    text.push_str(&shown(alloc, &next)?)?;
+    push(&mut text, ", then ")?;
+    push(&mut text, &shown(alloc, &next)?)?;
     Ok(text)
 }

@@ -1,7 +1,7 @@
 //! Runs of the whole program, over streams in memory.
 use crate::streams::{Mode, Reader, Writer};
 use cluster_map::ReadRoutingStrategy;
-use fixtures::{bad_row, bytes, number, words};
+use fixtures::{bytes, cut, expanded, pieces, push, push_byte, text};
 use resp_core::RedisResult;
 use slotroute_serve::serve;
 use std::alloc::Global;
@@ -11,6 +11,25 @@ use std::alloc::Global;
 pub struct Run {
     pub words: Vec<String>,
     pub input: Vec<u8>,
+}
+
+/// What the calls of the streams of a run do.
+#[derive(Clone, Copy)]
+pub struct Modes {
+    pub reading: Mode,
+    pub writing: Mode,
+    pub telling: Mode,
+}
+
+impl Modes {
+    /// Streams that do not fail.
+    pub fn whole() -> Modes {
+        Modes {
+            reading: Mode::Whole,
+            writing: Mode::Whole,
+            telling: Mode::Whole,
+        }
+    }
 }
 
 /// What a run wrote, and how it read.
@@ -24,46 +43,14 @@ pub struct Written {
     pub reading: Mode,
 }
 
-/// Adds a piece several times, with the number of the repetition for each `#` in it.
-fn push_numbered(alloc: Global, input: &mut Vec<u8>, piece: &str, times: u32) -> RedisResult<()> {
-    for time in 0..times {
-        let digits = format!(in alloc; "{time}")?;
-        input.extend_from_slice(&bytes(alloc, &piece.replace(alloc, "#", &digits)?)?)?;
-    }
-    Ok(())
-}
-
-fn push_input(alloc: Global, input: &mut Vec<u8>, piece: &str) -> RedisResult<()> {
-    match piece.split_once("\\#") {
-        Some((piece, times)) => push_numbered(alloc, input, piece, number(times)?),
-        None => Ok(input.extend_from_slice(&bytes(alloc, piece)?)?),
-    }
-}
-
-fn input_of(alloc: Global, text: &str) -> RedisResult<Vec<u8>> {
-    let mut input = Vec::new(alloc);
-    for piece in text.split("\\|") {
-        push_input(alloc, &mut input, piece)?;
-    }
-    Ok(input)
-}
-
-fn words_of(alloc: Global, text: &str) -> RedisResult<Vec<String>> {
-    let mut texts = Vec::new(alloc);
-    for word in words(alloc, text)? {
-        match String::from_utf8(word) {
-            Ok(text) => texts.push(text)?,
-            Err(_) => return Err(bad_row("not a text")),
-        }
-    }
-    Ok(texts)
-}
-
 /// The run of a text: its words, and after a bar its input.
-pub fn run_of(alloc: Global, text: &str) -> RedisResult<Run> {
-    let (texts, input) = text.split_once(" | ").unwrap_or((text, ""));
-    let words = words_of(alloc, texts)?;
-    let input = input_of(alloc, input)?;
+pub fn run_of(alloc: Global, row: &str) -> RedisResult<Run> {
+    let (texts, input) = cut(row, " | ");
+    let mut words = Vec::new(alloc);
+    for word in &pieces(alloc, &expanded(alloc, texts)?, " ")? {
+        words.push(text(alloc, word)?)?;
+    }
+    let input = bytes(alloc, &expanded(alloc, input)?)?;
     Ok(Run { words, input })
 }
 
@@ -75,18 +62,19 @@ fn writer(alloc: Global, mode: Mode) -> Writer {
     }
 }
 
-fn serve_with(
+/// A run over streams whose calls do this, with a strategy.
+pub fn serve_with(
     alloc: Global,
     run: &Run,
-    modes: (Mode, Mode, Mode),
+    modes: Modes,
     strategy: Option<Box<dyn ReadRoutingStrategy>>,
 ) -> Written {
     let mut reader = Reader {
         rest: &run.input,
-        mode: modes.0,
+        mode: modes.reading,
     };
-    let mut out = writer(alloc, modes.1);
-    let mut err = writer(alloc, modes.2);
+    let mut out = writer(alloc, modes.writing);
+    let mut err = writer(alloc, modes.telling);
     let status = serve(alloc, &run.words, &mut reader, &mut out, &mut err, strategy);
     Written {
         output: out.bytes,
@@ -97,59 +85,22 @@ fn serve_with(
     }
 }
 
-/// A run over streams that do not fail, with the strategy that is passed.
-pub fn serve_all(
-    alloc: Global,
-    run: &Run,
-    strategy: Option<Box<dyn ReadRoutingStrategy>>,
-) -> Written {
-    serve_with(
-        alloc,
-        run,
-        (Mode::Whole, Mode::Whole, Mode::Whole),
-        strategy,
-    )
-}
-
-/// A run over streams whose calls do this.
-pub fn serve_over(
-    alloc: Global,
-    run: &Run,
-    reading: Mode,
-    writing: Mode,
-    telling: Mode,
-) -> Written {
-    serve_with(alloc, run, (reading, writing, telling), None)
-}
-
-/// Adds bytes as a row writes them.
-pub fn push_bytes(alloc: Global, text: &mut String, bytes: &[u8]) -> RedisResult<()> {
-    for byte in bytes {
-        match byte {
-            b'\n' => text.push_str("\\n")?,
-            b' '..=b'~' => text.push(*byte as char)?,
-            _ => text.push_str(&format!(in alloc; "\\x{byte:02x}")?)?,
-        }
-    }
-    Ok(())
-}
-
-/// Adds what a run wrote to the error stream, if anything, after ` ! `.
-pub fn push_errors(alloc: Global, text: &mut String, errors: &[u8]) -> RedisResult<()> {
-    if errors.is_empty() {
+/// Adds bytes as a row writes them, after this text, if there are any.
+fn push_bytes(alloc: Global, text: &mut String, before: &str, bytes: &[u8]) -> RedisResult<()> {
+    if bytes.is_empty() {
         return Ok(());
     }
-    text.push_str(" ! ")?;
-    push_bytes(alloc, text, errors)
+    push(text, before)?;
+    for byte in bytes {
+        push_byte(alloc, text, *byte)?;
+    }
+    Ok(())
 }
 
 /// The status of a run, its output, and what it wrote to the error stream.
 pub fn shown(alloc: Global, written: &Written) -> RedisResult<String> {
     let mut text = format!(in alloc; "{}", written.status)?;
-    if !written.output.is_empty() {
-        text.push(' ')?;
-        push_bytes(alloc, &mut text, &written.output)?;
-    }
-    push_errors(alloc, &mut text, &written.errors)?;
+    push_bytes(alloc, &mut text, " ", &written.output)?;
+    push_bytes(alloc, &mut text, " ! ", &written.errors)?;
     Ok(text)
 }

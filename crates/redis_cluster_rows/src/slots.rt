@@ -1,7 +1,6 @@
 //! Slots of keys, beside remainders by bitwise division.
-use crate::texts::two;
 use cluster_map::{Route, SLOT_SIZE, Slot, SlotAddr};
-use fixtures::{bytes, number};
+use fixtures::{bad_row, bytes, number, two};
 use resp_core::RedisResult;
 use std::alloc::Global;
 
@@ -30,8 +29,17 @@ fn remainder_by_bits(bytes: &[u8]) -> u16 {
     crc
 }
 
+/// What a call of this name returns.
+pub fn call(alloc: Global, name: &str, words: &str) -> RedisResult<String> {
+    match name {
+        "slot" => slot(alloc, words),
+        "slots_of_bytes" => slots_of_bytes(alloc, words),
+        _ => Err(bad_row("no call of this name")),
+    }
+}
+
 /// The slot of a key, a route to it, and the slot by the remainder of its hash tag.
-pub fn slot(alloc: Global, words: &str) -> RedisResult<String> {
+fn slot(alloc: Global, words: &str) -> RedisResult<String> {
     let (key, tag) = two(words);
     let (key, tag) = (bytes(alloc, key)?, bytes(alloc, tag)?);
     let slot = Slot::for_key(&key).number();
@@ -42,7 +50,7 @@ pub fn slot(alloc: Global, words: &str) -> RedisResult<String> {
 }
 
 /// How many keys of one byte, up to a last byte, have the slot of the bitwise remainder.
-pub fn slots_of_bytes(alloc: Global, word: &str) -> RedisResult<String> {
+fn slots_of_bytes(alloc: Global, word: &str) -> RedisResult<String> {
     let mut count: u16 = 0;
     for byte in 0..=number::<u8>(word)? {
         let by_bits = remainder_by_bits(&[byte]) % SLOT_SIZE;

@@ -1,7 +1,6 @@
 //! Shards, and the topologies that they make.
-use crate::texts::{push_next, two};
 use cluster_map::{ClusterTopology, NodeAddress, Shard};
-use fixtures::{bad_row, number};
+use fixtures::{bad_row, cut, lines, number, pieces, plain, push_next, two};
 use resp_core::RedisResult;
 use std::alloc::Global;
 
@@ -9,8 +8,8 @@ use std::alloc::Global;
 fn shard_of(alloc: Global, words: &str) -> RedisResult<Shard> {
     let (primary, others) = two(words);
     let mut ranges = Vec::new(alloc);
-    for word in others.split(' ') {
-        let (start, end) = word.split_once('-').unwrap_or((word, ""));
+    for word in &pieces(alloc, others, " ")? {
+        let (start, end) = cut(word, "-");
         ranges.push((number(start)?, number(end)?))?;
     }
     let primary = NodeAddress::try_from(alloc, primary)?;
@@ -20,7 +19,7 @@ fn shard_of(alloc: Global, words: &str) -> RedisResult<Shard> {
 /// The topology of shards, a semicolon and a space apart.
 pub fn topology_of(alloc: Global, words: &str) -> RedisResult<ClusterTopology> {
     let mut shards = Vec::new(alloc);
-    for line in words.split("; ") {
+    for line in &lines(alloc, words)? {
         shards.push(shard_of(alloc, line)?)?;
     }
     Ok(ClusterTopology::from_shards(alloc, shards)?)
@@ -45,7 +44,7 @@ pub fn shard_at(
         return Err(bad_row("no topology"));
     };
     let Some(shard) = topology.shard_for_slot(number(word)?) else {
-        return Ok(String::from_str(alloc, "none")?);
+        return plain(alloc, "none");
     };
     let (primary, ranges, replicas) = (shard.primary(), shard.slot_ranges(), shard.replicas());
     Ok(format!(in alloc; "{primary} {ranges:?} {replicas:?}")?)

@@ -1,8 +1,6 @@
 //! Pipelines as bytes, with no registered name.
-use crate::routing::piece;
-use crate::texts::{escaped, first, halves};
 use cluster_map::SlotMap;
-use fixtures::{bad_row, bytes, cmds, map, number};
+use fixtures::{bad_row, bytes, cmds, cut, escaped, map, number, pieces, shown, two};
 use redis_batch_bytes::{BatchBytes, BatchFault, combine_pipeline, numbered_map, split_pipeline};
 use redis_bytes::{NO_NODE, SLOTS};
 use redis_routing::Registry;
@@ -30,17 +28,17 @@ impl Pipelines {
         Pipelines { map, batches }
     }
 
-    /// What a call of pipelines answers.
-    pub fn call(&mut self, alloc: Global, name: &str, words: &str) -> Option<RedisResult<String>> {
-        Some(match name {
+    /// What a call of this name returns.
+    pub fn call(&mut self, alloc: Global, name: &str, words: &str) -> RedisResult<String> {
+        match name {
             "map" => self.keep(alloc, map(alloc, words)),
             "numbered_map" => self.keep(alloc, map_of_numbers(alloc, words)),
             "split_pipeline" => self.split(alloc, requests(alloc, words)),
             "split_bytes" => self.split(alloc, bytes(alloc, words)),
             "batch" => self.batch(alloc, words),
             "combine_pipeline" => self.combine(alloc, words),
-            _ => return None,
-        })
+            _ => Err(bad_row("no call of this name")),
+        }
     }
 
     /// Keeps a map.
@@ -53,7 +51,7 @@ impl Pipelines {
     fn split(&mut self, alloc: Global, requests: RedisResult<Vec<u8>>) -> RedisResult<String> {
         match split_by(alloc, &requests?, &self.map) {
             Ok(batches) => self.batches = batches,
-            Err(fault) => return fault_text(alloc, fault),
+            Err(fault) => return shown(alloc, &fault),
         }
         batches_text(alloc, &self.batches)
     }
@@ -76,12 +74,12 @@ impl Pipelines {
 
     /// The replies to a pipeline, by the replies to its batches.
     fn combine(&self, alloc: Global, words: &str) -> RedisResult<String> {
-        let (commands, replies) = halves(words);
+        let (commands, replies) = cut(words, " | ");
         let requests = requests(alloc, commands)?;
         let replies = bytes(alloc, replies)?;
         match combined_by(alloc, &requests, &self.map, &replies) {
             Ok(found) => escaped(alloc, &found),
-            Err(fault) => fault_text(alloc, fault),
+            Err(fault) => shown(alloc, &fault),
         }
     }
 }
@@ -101,8 +99,16 @@ fn combined_by(
     combine_pipeline(alloc, requests, &registry, map, replies)
 }
 
-fn fault_text(alloc: Global, fault: BatchFault) -> RedisResult<String> {
-    Ok(format!(in alloc; "{fault}")?)
+/// The bytes between an end and the one before it.
+fn piece<'a>(bytes: &'a [u8], ends: &[usize], index: usize) -> &'a [u8] {
+    let start = match index.checked_sub(1) {
+        Some(before) => ends.get(before).copied().unwrap_or(0),
+        None => 0,
+    };
+    match ends.get(index) {
+        Some(end) => bytes.get(start..*end).unwrap_or(&[]),
+        None => &[],
+    }
 }
 
 fn batches_text(alloc: Global, batches: &BatchBytes) -> RedisResult<String> {
@@ -127,7 +133,7 @@ fn requests(alloc: Global, words: &str) -> RedisResult<Vec<u8>> {
 
 /// Sets the number of a slot, as `3300=0` writes it; `none` is the number of no node.
 fn put_number(numbers: &mut [u16], word: &str) -> RedisResult<()> {
-    let (slot, digits) = word.split_once('=').unwrap_or((word, "none"));
+    let (slot, digits) = cut(word, "=");
     let slot: usize = number(slot)?;
     let Some(place) = numbers.get_mut(slot) else {
         return Err(bad_row("no slot"));
@@ -141,12 +147,9 @@ fn put_number(numbers: &mut [u16], word: &str) -> RedisResult<()> {
 
 /// The numbers of all slots: the first word, except for the slots of later words.
 fn numbers_of(alloc: Global, words: &str) -> RedisResult<Vec<u16>> {
-    let (all, rest) = first(words);
+    let (all, rest) = two(words);
     let mut numbers = vec![in alloc; number(all)?; usize::from(SLOTS)]?;
-    if rest.is_empty() {
-        return Ok(numbers);
-    }
-    for word in rest.split(' ') {
+    for word in &pieces(alloc, rest, " ")? {
         put_number(&mut numbers, word)?;
     }
     Ok(numbers)
@@ -154,7 +157,7 @@ fn numbers_of(alloc: Global, words: &str) -> RedisResult<Vec<u16>> {
 
 /// The map of the first numbers, as many as the first word says.
 fn map_of_numbers(alloc: Global, words: &str) -> RedisResult<SlotMap> {
-    let (count, rest) = first(words);
+    let (count, rest) = two(words);
     let count: usize = number(count)?;
     let numbers = numbers_of(alloc, rest)?;
     Ok(numbered_map(alloc, numbers.get(..count).unwrap_or(&[]))?)

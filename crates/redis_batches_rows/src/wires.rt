@@ -1,14 +1,38 @@
 //! Commands that are driven over connections, which return what a row says.
-use crate::cluster::Cluster;
-use crate::nodes::{cut, order};
 use crate::script::Script;
 use crate::scripted::{Exchange, ScriptedWire};
-use crate::texts::{driven_text, push_sent};
-use fixtures::{cmd, values};
-use redis_cluster::routing::Registry;
-use resp_core::{RedisResult, Value};
+use cluster_map::{NodeAddress, SlotMap};
+use fixtures::{
+    bad_row, cmd, cmd_text, cut, numbers, push, push_shown, shown, two, value_text, values,
+};
+use redis_cluster::routing::{ReadOnlyNames, Registry};
+use resp_core::{Cmd, RedisResult, Value};
 use std::alloc::Global;
 use wire::{Any, Logged, Wire, WireNodes, drive_over};
+
+/// What a call of this name returns over a map.
+pub fn call(alloc: Global, map: &SlotMap, name: &str, words: &str) -> RedisResult<String> {
+    let (script, words) = cut(words, "; ");
+    match name {
+        "over" => over(alloc, map, script, words),
+        "logged" => logged(alloc, map, script, words),
+        "own" => own(alloc, map, script, words),
+        _ => Err(bad_row("no call of this name")),
+    }
+}
+
+/// Adds what was sent over a connection, closed by `;`.
+pub fn push_sent(
+    alloc: Global,
+    text: &mut String,
+    node: &NodeAddress,
+    cmd: &Cmd,
+) -> RedisResult<()> {
+    push_shown(alloc, text, "", node)?;
+    push(text, " ")?;
+    push(text, &cmd_text(alloc, cmd)?)?;
+    push(text, ";")
+}
 
 /// The outcomes of a text, the last one first.
 fn outcomes(alloc: Global, text: &str) -> RedisResult<Vec<Value>> {
@@ -17,37 +41,34 @@ fn outcomes(alloc: Global, text: &str) -> RedisResult<Vec<Value>> {
     Ok(outcomes)
 }
 
-/// A row, cut into the outcomes and the command with its order.
-fn cut_script(words: &str) -> (&str, &str) {
-    words.split_once("; ").unwrap_or(("", words))
-}
-
 /// The outcome of a command over connections.
 fn driven<W: Wire>(
     alloc: Global,
-    cluster: &Cluster,
+    map: &SlotMap,
     words: &str,
     nodes: &mut WireNodes<W, Any>,
 ) -> RedisResult<String> {
-    let (word, text) = cut(words);
-    let order = order(alloc, word)?;
+    let (word, text) = two(words);
+    let order = numbers(alloc, word)?;
     let command = cmd(alloc, text)?;
     let given = drive_over(
         alloc,
         &command,
-        &cluster.read_only,
-        &cluster.map,
+        &ReadOnlyNames::new(alloc),
+        map,
         None,
         0,
         &order,
         nodes,
     );
-    driven_text(alloc, &given)
+    match &given {
+        Ok(reply) => value_text(alloc, reply),
+        Err(error) => shown(alloc, error),
+    }
 }
 
 /// The outcome of a command over a borrowed transport, and what was sent.
-pub fn over(alloc: Global, cluster: &Cluster, words: &str) -> RedisResult<String> {
-    let (script, words) = cut_script(words);
+fn over(alloc: Global, map: &SlotMap, script: &str, words: &str) -> RedisResult<String> {
     let mut transport = Script {
         alloc,
         outcomes: outcomes(alloc, script)?,
@@ -57,13 +78,13 @@ pub fn over(alloc: Global, cluster: &Cluster, words: &str) -> RedisResult<String
         &mut transport,
         Registry::new(alloc),
     );
-    let driven = driven(alloc, cluster, words, &mut nodes);
+    let driven = driven(alloc, map, words, &mut nodes);
     let _ = nodes.into_wire().into_transport();
     Ok(format!(in alloc; "{};{}", driven?, transport.sent)?)
 }
 
 fn with_sent(alloc: Global, mut text: String, sent: &[Exchange]) -> RedisResult<String> {
-    text.push(';')?;
+    push(&mut text, ";")?;
     for exchange in sent {
         push_sent(alloc, &mut text, &exchange.node, &exchange.cmd)?;
     }
@@ -78,21 +99,19 @@ fn wire(alloc: Global, script: &str) -> RedisResult<ScriptedWire> {
 }
 
 /// The outcome of a command over an owned transport, and what was sent.
-pub fn logged(alloc: Global, cluster: &Cluster, words: &str) -> RedisResult<String> {
-    let (script, words) = cut_script(words);
+fn logged(alloc: Global, map: &SlotMap, script: &str, words: &str) -> RedisResult<String> {
     let logged = Logged::new(wire(alloc, script)?);
     let mut nodes = WireNodes::<Logged<ScriptedWire>, Any>::new(logged, Registry::new(alloc));
-    let driven = driven(alloc, cluster, words, &mut nodes);
+    let driven = driven(alloc, map, words, &mut nodes);
     let wire = nodes.into_wire().into_transport();
     with_sent(alloc, driven?, &wire.sent)
 }
 
 /// The outcome of a command over connections that keep a log of their own, and what was sent.
-pub fn own(alloc: Global, cluster: &Cluster, words: &str) -> RedisResult<String> {
-    let (script, words) = cut_script(words);
+fn own(alloc: Global, map: &SlotMap, script: &str, words: &str) -> RedisResult<String> {
     let wire = wire(alloc, script)?;
     let mut nodes = WireNodes::<ScriptedWire, Any>::new(wire, Registry::new(alloc));
-    let driven = driven(alloc, cluster, words, &mut nodes);
+    let driven = driven(alloc, map, words, &mut nodes);
     let wire = nodes.into_wire();
     with_sent(alloc, driven?, &wire.sent)
 }

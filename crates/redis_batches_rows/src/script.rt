@@ -1,5 +1,5 @@
 //! A transport that returns what a row says.
-use crate::texts::push_sent;
+use crate::wires::push_sent;
 use resp_core::{ErrorKind, RedisError};
 use std::alloc::Global;
 use wire::{Cmd, NodeAddress, SendError, Transport, Value};
