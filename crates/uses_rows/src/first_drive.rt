@@ -1,13 +1,12 @@
 use cluster_map::{NodeAddress, SlotMap, SlotRange};
-use memory_nodes::{MemoryNodes, Planned};
+use memory_nodes::MemoryNodes;
 use redis_cluster::driver::{DriveError, drive};
 use redis_cluster::routing::ReadOnlyNames;
 use resp_core::{Cmd, RedisResult, Value};
 use std::alloc::Global;
-use std::test::Fail;
 
 /// A map of two nodes, each with half of the slots.
-fn two_nodes(alloc: Global) -> RedisResult<SlotMap> {
+pub fn two_nodes(alloc: Global) -> RedisResult<SlotMap> {
     let low = NodeAddress::try_from(alloc, "10.0.0.1:6379")?;
     let high = NodeAddress::try_from(alloc, "10.0.0.2:6379")?;
     let slots = vec![in alloc;
@@ -18,7 +17,7 @@ fn two_nodes(alloc: Global) -> RedisResult<SlotMap> {
 }
 
 /// Sends a command of these words, whose keys lie in two slots, part 0 first.
-fn send(
+pub fn send(
     alloc: Global,
     words: &str,
     slot_map: &SlotMap,
@@ -39,30 +38,4 @@ fn send(
         &[0, 1],
         nodes,
     )
-}
-
-#[test]
-fn both_keys_are_written(rt: HostRuntime) -> Result<(), Fail> {
-    let alloc = rt.alloc();
-    let slot_map = two_nodes(alloc)?;
-    let mut nodes = MemoryNodes::new(alloc);
-    let written = send(alloc, "MSET foo 1 bar 2", &slot_map, &mut nodes)?;
-    assert!(rt; written == Value::Okay);
-    let there = send(alloc, "EXISTS foo bar", &slot_map, &mut nodes)?;
-    assert!(rt; there == Value::Int(2));
-    Ok(())
-}
-
-#[test]
-fn a_refused_part_ends_the_command(rt: HostRuntime) -> Result<(), Fail> {
-    let alloc = rt.alloc();
-    let slot_map = two_nodes(alloc)?;
-    let mut nodes = MemoryNodes::new(alloc);
-    nodes.plan(vec![in alloc; Planned::Answer, Planned::Refuse]?);
-    let answered = match send(alloc, "MSET foo 1 bar 2", &slot_map, &mut nodes) {
-        Ok(_) => 2,
-        Err(error) => error.answered,
-    };
-    assert_eq!(rt; answered, 1);
-    Ok(())
 }
