@@ -5,7 +5,7 @@ use Rattle.std.proofs.lemmas.Bool.Decides.{nat_tests}
 use Rattle.std.specs.Io.{StopsAt}
 use Rattle.std.specs.Io.BufRead.{take_through, drop_through}
 use Rattle.std.specs.Io.KnownBytes.{Consumes}
-use Rattle.slotroute_serve.specs.Lines.{after_lines, after_map, leading_lines, StopsInLine, StopsInMap}
+use Rattle.slotroute_serve.specs.Lines.{after_lines, after_map, StopsInLine, StopsInMap}
 use Rattle.slotroute_serve.specs.Streams.{Leaves}
 
 -- an input is its first line and what follows it
@@ -65,11 +65,7 @@ not_read xs = record { read = []; more = take_through 10 xs; begun = refl; ends 
 
 -- after the map the reading stopped right after the line that ends it
 pub stops_after_map : (input : List ℕ) → StopsInMap input (after_map input)
-stops_after_map input = record {
-  count = length (leading_lines input);
-  within = omega arith;
-  stops = rw (after_lines-more (length (leading_lines input)) input) (line_read (after_lines (length (leading_lines input)) input));
-}
+stops_after_map input = grind (arith, after_lines-more, line_read)
 
 pub left_after_map : (input left : Option (List ℕ)) → Leaves input left (λ bytes rest. rest ≡ after_map bytes) → Leaves input left StopsInMap
 left_after_map None left h = tt

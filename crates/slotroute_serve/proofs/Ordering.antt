@@ -13,9 +13,7 @@ ascending_at : (n i d : ℕ) → i < n → get_or (range_with_len 0 n) i d ≡ i
 ascending_at n i d l = omega (arith, get_or-range_with_len 0 n i d l)
 
 descending_at : (n i d : ℕ) → i < n → get_or (reverse (range_with_len 0 n)) i d ≡ n - 1 - i
-descending_at n i d l =
-    let long : length (range_with_len 0 n) ≡ n = length-range_with_len 0 n in
-    get_or-reverse (range_with_len 0 n) i d (omega (arith, long)) ∙ ascending_at n (length (range_with_len 0 n) - 1 - i) d (omega (arith, long)) ∙ omega (arith, long)
+descending_at n i d l = grind (arith, length-range_with_len, get_or-reverse, ascending_at)
 
 pub names_once : (direction : Direction) (n : ℕ) → NamesOnce n (send_order direction n)
 names_once Forward n =

@@ -1,11 +1,11 @@
 -- Taking one line off the input, and what the lines so far say of its map.
-use Rattle.std.proofs.Common.{◌≡◌, ◌≢◌, ℕ, ◌+◌, ◌-◌, ◌<◌, List, [], ◌∷◌, ◌++◌, map, length, refl, sym, ◌∙◌, ap, true, false, Bool, arith, rules, cond, take, drop, nat_lt, ◌==◌, get_or, suc, zero, Bor, append_assoc, subst, length-append, ◌≤◌}
+use Rattle.std.proofs.Common.{◌≡◌, ◌≢◌, ℕ, ◌+◌, ◌-◌, ◌<◌, List, [], ◌∷◌, ◌++◌, map, length, refl, sym, ◌∙◌, ap, true, false, arith, rules, cond, take, drop, nat_lt, ◌==◌, get_or, suc, zero, Bor, append_assoc, subst, length-append, ◌≤◌}
 use Rattle.std.specs.Prelude.{Option, Some, None, Result, Ok, Err, ⊤, IfSome, MatchResult}
 use Rattle.std.specs.Result.{IsErrAnd}
 use Rattle.std.specs.List.{AllZip}
-use Rattle.std.specs.Io.BufRead.{take_through, drop_through, strip_last, first_piece, ends_with_byte, DropsThrough}
-use native.Mathlib.Numerals.{unary_clauses}
+use Rattle.std.specs.Io.BufRead.{take_through, drop_through, strip_last, first_piece, DropsThrough}
 use Rattle.std.proofs.lemmas.List.{append-nil, length_push, take_more, take_rest, map-append}
+use Rattle.std.proofs.lemmas.Grind.{common_steps}
 use Rattle.cluster_map.specs.Address.{Address}
 use Rattle.cluster_map.specs.SlotNodes.{RangeNodes}
 use Rattle.slotroute_serve.specs.Lines.{onto_first_line, raw_lines, lines_of, line_of, fields_of, until_blank, leading_lines, after_lines, after_map, StopsInLine, StopsInMap}
@@ -33,28 +33,9 @@ something_there None line e l = tt
 something_there (Some []) line e l = absurd (omega (arith, ap length e))
 something_there (Some (x ∷ xs)) line e l = sym (positive (length xs))
 
--- a longer list ends as its tail does
-ends-cons : (x y : ℕ) (ys : List ℕ) → ends_with_byte 10 (x ∷ y ∷ ys) ≡ ends_with_byte 10 (y ∷ ys)
-ends-cons x y ys = rw (positive (suc (length ys)), positive (length ys)) (simp unary_clauses refl)
-
-strip-cons : (x y : ℕ) (ys : List ℕ) → strip_last 10 (x ∷ y ∷ ys) ≡ x ∷ strip_last 10 (y ∷ ys)
-strip-cons x y ys =
-    ap (λ v. cond v (take (length (x ∷ y ∷ ys) - 1) (x ∷ y ∷ ys)) (x ∷ y ∷ ys)) (ends-cons x y ys)
-    ∙ elim (ends_with_byte 10 (y ∷ ys)) as (λ v. cond v (take (length (x ∷ y ∷ ys) - 1) (x ∷ y ∷ ys)) (x ∷ y ∷ ys) ≡ x ∷ cond v (take (length (y ∷ ys) - 1) (y ∷ ys)) (y ∷ ys)) [ true ↦ simp unary_clauses refl | false ↦ refl ]
-
--- what is left of a text that begins with another byte
-first_piece-cons : (x : ℕ) (xs : List ℕ) → x == 10 ≡ false → first_piece 10 (x ∷ xs) ≡ x ∷ first_piece 10 xs
-first_piece-cons x [] h = rw h (rw h refl)
-first_piece-cons x (y ∷ ys) h = rw h (elim (y == 10) as (λ v. strip_last 10 (x ∷ cond v (y ∷ []) (y ∷ take_through 10 ys)) ≡ x ∷ strip_last 10 (cond v (y ∷ []) (y ∷ take_through 10 ys))) [ true ↦ strip-cons x y [] | false ↦ strip-cons x y (take_through 10 ys) ])
-
-first_piece-feed : (x : ℕ) (xs : List ℕ) → x == 10 ≡ true → first_piece 10 (x ∷ xs) ≡ []
-first_piece-feed x xs h = rw h (rw h refl)
-
 first_piece-before : (xs : List ℕ) → first_piece 10 xs ≡ before xs
 first_piece-before [] = refl
-first_piece-before (x ∷ xs) =
-    let P : Bool → Type 0 = λ v. x == 10 ≡ v → first_piece 10 (x ∷ xs) ≡ cond v [] (x ∷ before xs) in
-    (elim (x == 10) as P [ true ↦ λ h. first_piece-feed x xs h | false ↦ λ h. first_piece-cons x xs h ∙ ap (λ p. x ∷ p) (first_piece-before xs) ]) refl
+first_piece-before (x ∷ xs) = grind (arith, common_steps, first_piece-before xs)
 
 raw_lines-first : (x : ℕ) (xs : List ℕ) → raw_lines (x ∷ xs) ≡ before (x ∷ xs) ∷ raw_lines (drop_through 10 (x ∷ xs))
 raw_lines-first x [] = elim (x == 10) as (λ v. cond v ([] ∷ []) (onto_first_line x []) ≡ cond v [] (x ∷ []) ∷ raw_lines (cond v [] [])) [ true ↦ refl | false ↦ refl ]
@@ -96,9 +77,7 @@ all_lead : (input : List ℕ) (front rest : List (List (List ℕ))) → leading_
 all_lead input front rest e n = e ∙ ap (λ r. front ++ r) n ∙ append-nil front
 
 ended : (input : List ℕ) (front rest : List (List (List ℕ))) (made : Made) → leading_lines input ≡ front ++ rest → rest ≡ [] → IsMap front made → IsMap (leading_lines input) made
-ended input front rest made e n m =
-    let P : List (List (List ℕ)) → Type 0 = λ ls. IsMap ls made in
-    subst P (sym (all_lead input front rest e n)) m
+ended input front rest made e n m = grind (arith, common_steps)
 
 numbered : (input : List ℕ) (front rest : List (List (List ℕ))) (number : ℕ) → leading_lines input ≡ front ++ rest → rest ≡ [] → number ≡ length front + 1 → number + 1 ≡ first_after_map input
 numbered input front rest number e n c = rw (all_lead input front rest e n, c) (omega arith)

@@ -1,5 +1,5 @@
 -- Replies in a list, as they are printed.
-use Rattle.std.proofs.Common.{◌≡◌, ◌≤◌, ℕ, ◌-◌, List, [], ◌∷◌, ◌++◌, arith, refl, sym, ap, ◌∙◌, append_assoc, length, map, take, drop, get_or, codes}
+use Rattle.std.proofs.Common.{◌≡◌, ◌≤◌, ℕ, ◌-◌, List, [], ◌∷◌, ◌++◌, arith, refl, ap, ◌∙◌, append_assoc, length, map, take, drop, get_or, codes}
 use Rattle.std.specs.List.{flat_map}
 use Rattle.std.proofs.lemmas.List.{take_rest, take_all}
 use Rattle.resp_core.specs.Reply.{replies_of}
@@ -19,7 +19,4 @@ each_later (x ∷ xs) = ap (λ t. codes ", " ++ printed (view x) ++ t) (each_lat
 pub items_after : (text mid new : List ℕ) (items : List Value) (first : Value) (count : ℕ) → 1 ≤ length items → first ≡ get_or items 0 first → mid ≡ text ++ printed (view first)
     → length (take (length items - 1) (drop 1 items)) ≤ count → new ≡ mid ++ flat_map later (take count (take (length items - 1) (drop 1 items))) → new ≡ text ++ printed_items (replies_of (map view items))
 items_after text mid new [] first count some is m all n = absurd (omega arith)
-items_after text mid new (x ∷ xs) first count some is m all n =
-    n ∙ ap (λ t. mid ++ flat_map later t) (take_all count _ all ∙ take_rest (x ∷ xs) 1)
-    ∙ ap (λ t. t ++ flat_map later xs) m ∙ append_assoc text (printed (view first)) (flat_map later xs)
-    ∙ ap (λ t. text ++ (printed (view t) ++ flat_map later xs)) is ∙ ap (λ t. text ++ (printed (view x) ++ t)) (sym (each_later xs))
+items_after text mid new (x ∷ xs) first count some is m all n = grind (arith, take_all, take_rest, append_assoc, each_later)

@@ -141,11 +141,4 @@ module _ (handed : Bool) (direction : Direction) (registered : Registrations) (e
 
   -- a refused command's line was read whole
   pub begins_at_refused : (first : ℕ) (input left text : List ℕ) (number : ℕ) (refusal : Refusal) → RefusedAt handed direction registered entries first input left text number refusal → StopsAfter handed direction registered entries input left text
-  begins_at_refused first input left text number refusal at = record {
-    before = at.before;
-    later = at.command ∷ at.later;
-    lines = at.lines;
-    keyspace = at.keyspace;
-    run = at.run;
-    stops = subst (λ (l : List ℕ). StopsInLine (after_lines (length at.before) input) l) (sym (at.left_is ∙ after_lines-more (length at.before) input)) (line_read (after_lines (length at.before) input));
-  }
+  begins_at_refused first input left text number refusal at = grind (arith, after_lines-more, line_read)

@@ -4,6 +4,7 @@ use Rattle.std.proofs.Math.Path.{fun_ext}
 use Rattle.std.proofs.Math.Seq.{drop-append_seam}
 use Rattle.std.proofs.lemmas.List.{drop-map, take_rest, length-map}
 use Rattle.std.specs.List.{AllZip}
+use Rattle.std.proofs.lemmas.Grind.{common_steps}
 use Rattle.cluster_map.specs.Address.{Address}
 use Rattle.cluster_map.specs.Candidates.{Candidates, IsCandidate}
 use Rattle.cluster_map.specs.RangeMap as ranges
@@ -63,9 +64,7 @@ driven_by strategy picks plan names registered words entries order old new value
 
 -- the order that is made for a plan's routes is that of the command's
 pub plan_order : (direction : Direction) (names : Names) (words : List (List ℕ)) (order : List ℕ) (routes : List (SlotRoute × List ℕ)) → command_routes_by names (map Some words) ≡ Some (map (λ t. t.0) routes) → order ≡ send_order direction (length routes) → IsOrderOf direction names words order
-plan_order direction names words order routes are is =
-    subst (λ (found : Option (List SlotRoute)). IfSome found (λ rs. order ≡ send_order direction (length rs))) (sym are)
-    (is ∙ ap (send_order direction) (sym (length-map routes (λ t. t.0))))
+plan_order direction names words order routes are is = grind (arith, common_steps)
 
 -- the order of a command by the read-only names of the program
 pub order_with : (direction : Direction) (names : List (List ℕ)) (registered : Registrations) (words : List (List ℕ)) (order : List ℕ) → AreReadOnly names → IsOrderOf direction (names_of names registered) words order → IsOrderOf direction (names_with registered) words order

@@ -1,10 +1,10 @@
 -- The lines of the parts of a command.
-use Rattle.std.proofs.Common.{◌≡◌, ℕ, ◌+◌, ◌<◌, List, [], ◌∷◌, ◌++◌, Bool, true, false, cond, ◌||◌, sym, ◌∙◌, ap, subst, length, take, get_or, map, Bor, Vec, Global, option_map, option_copied, is_none, is_some, not}
+use Rattle.std.proofs.Common.{◌≡◌, ℕ, ◌+◌, ◌<◌, List, [], ◌∷◌, ◌++◌, Bool, true, false, cond, ◌||◌, sym, ◌∙◌, ap, subst, length, take, get_or, map, Bor, Vec, Global, option_map, option_copied, is_none, is_some, not, arith}
 use Rattle.std.proofs.lemmas.List.{take_more, map-append, flat_map_more}
 use Rattle.std.proofs.lemmas.List.Folds.{list_any-append}
 use Rattle.std.proofs.lemmas.Option.{slice_get-map, slice_get-get_or}
 use Rattle.std.proofs.Math.Path.{fun_ext}
-use Rattle.std.specs.Prelude.{Option, Some, None, MatchOption, slice_get}
+use Rattle.std.specs.Prelude.{Option, Some, None, MatchOption}
 use Rattle.std.specs.List.{flat_map, list_any}
 use Rattle.cluster_slots.specs.declared.arg_pattern.MultiSlotArgPattern.{MultiSlotArgPattern}
 use Rattle.cluster_map.specs.Address.{Address}
@@ -18,7 +18,7 @@ use Rattle.redis_cluster.specs.ReadOnly.{is_among}
 use Rattle.redis_routing.specs.Names.{names_of}
 use Rattle.redis_routing.specs.Registry.{Registrations}
 use Rattle.redis_cluster.specs.Split.{Split, route_part, split_part}
-use Rattle.redis_cluster.specs.RoutingInfo.{route_list, route_lists}
+use Rattle.redis_cluster.specs.RoutingInfo.{route_lists}
 use Rattle.slotroute_serve.specs.Commands.{run_only_reads, names_with}
 use Rattle.slotroute_serve.specs.Split.{RoutedPart, IsRoutedPart, ArePartLines, IsSplitAnswer, part_line}
 use Rattle.slotroute_serve.proofs.Reading.{AllZip-more}
@@ -37,11 +37,7 @@ none_is (Some address) false here e h = h
 -- The part of the route of a number is that of the route's slot.
 pub words_of_part : (split : Split) (routes : List (SlotRoute × Vec ℕ Global)) (i : ℕ) (route : SlotRoute × Vec ℕ Global) (words : List (List ℕ)) → route_lists routes ≡ split.routes → i < length routes → route ≡ get_or routes i route
     → Some (map Some words) ≡ route_part split i → map Some words ≡ split_part split route.0.slot
-words_of_part split routes i route words routes-are inside is part =
-    let there : slice_get split.routes i ≡ Some (route_list route) =
-    ap (λ rs. slice_get rs i) (sym routes-are) ∙ slice_get-map route_list routes i ∙ ap (option_map route_list) (slice_get-get_or routes i route inside ∙ ap Some (sym is)) in
-    let whole : Some (map Some words) ≡ Some (split_part split route.0.slot) = part ∙ ap (option_map (λ r. split_part split r.0.slot)) there in
-    cc whole
+words_of_part split routes i route words routes-are inside is part = grind (arith, slice_get-map, option_map, slice_get-get_or)
 
 -- The parts of slots by the pattern of the name are those of the command.
 pub same_parts : (registered : Registrations) (args : Arguments) (pattern : MultiSlotArgPattern) → Some pattern ≡ pattern_by_name registered (command_name args) → part_of_slot pattern args ≡ part_by_name registered args
