@@ -1,7 +1,7 @@
 //! Pipelines over nodes in memory, and the state that their rows set.
 use crate::{driven, memory, planned, wired, wires};
 use cluster_map::SlotMap;
-use fixtures::{Lent, map, okay, words};
+use fixtures::{Lent, map, okay, pieces};
 use memory_batches::MemoryBatchNodes;
 use redis_cluster::routing::ReadOnlyNames;
 use resp_core::RedisResult;
@@ -33,29 +33,38 @@ impl Batches {
 /// What a call of this name returns.
 pub fn call(batches: &mut Batches, alloc: Global, name: &str, words: &str) -> RedisResult<String> {
     match name {
-        "nodes" => {
-            batches.map = map(alloc, words)?;
-            batches.nodes = MemoryBatchNodes::new(alloc);
-        }
-        "empty" => batches.nodes = MemoryBatchNodes::new(alloc),
-        "only-read" => set_read_only(batches, alloc, words)?,
-        "strategy" => batches.lent = Lent::new(words)?,
-        "refuse" => memory::refuse(alloc, &mut batches.nodes, words)?,
-        _ => return ask(batches, alloc, name, words),
+        "nodes" => set_nodes(batches, alloc, words),
+        "empty" => empty(batches, alloc),
+        "only-read" => set_read_only(batches, alloc, words),
+        "strategy" => set_strategy(batches, alloc, words),
+        "refuse" => memory::refuse(alloc, &mut batches.nodes, words),
+        _ => ask(batches, alloc, name, words),
     }
+}
+
+/// Nodes of this map, with no keys.
+fn set_nodes(batches: &mut Batches, alloc: Global, text: &str) -> RedisResult<String> {
+    batches.map = map(alloc, text)?;
+    empty(batches, alloc)
+}
+
+fn empty(batches: &mut Batches, alloc: Global) -> RedisResult<String> {
+    batches.nodes = MemoryBatchNodes::new(alloc);
+    okay(alloc)
+}
+
+fn set_strategy(batches: &mut Batches, alloc: Global, name: &str) -> RedisResult<String> {
+    batches.lent = Lent::new(name)?;
     okay(alloc)
 }
 
 /// From now on only the commands of these names only read.
-fn set_read_only(batches: &mut Batches, alloc: Global, text: &str) -> RedisResult<()> {
+fn set_read_only(batches: &mut Batches, alloc: Global, text: &str) -> RedisResult<String> {
     batches.read_only = ReadOnlyNames::new(alloc);
-    if text.is_empty() {
-        return Ok(());
+    for name in &pieces(alloc, text, " ")? {
+        batches.read_only.insert(alloc, name.as_bytes())?;
     }
-    for name in &words(alloc, text)? {
-        batches.read_only.insert(alloc, name)?;
-    }
-    Ok(())
+    okay(alloc)
 }
 
 /// What a call of this name returns that sets nothing.

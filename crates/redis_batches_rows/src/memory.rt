@@ -1,7 +1,7 @@
 //! Nodes in memory that take batches.
 use crate::texts::{answers_text, error_of};
 use cluster_slots::NodeAddress;
-use fixtures::{bytes, bytes_or_none, cmds, lines, number, push_next, shown, two};
+use fixtures::{bytes, bytes_or_none, cmds, lines, number, okay, push_next, shown, two};
 use memory_batches::MemoryBatchNodes;
 use redis_batches::BatchNodes;
 use resp_core::{Cmd, RedisError, RedisResult};
@@ -18,13 +18,13 @@ fn add_refusal(plan: &mut Vec<Option<RedisError>>, text: &str) -> RedisResult<()
 }
 
 /// From now on nodes refuse the commands with these numbers, each with its error.
-pub fn refuse(alloc: Global, nodes: &mut MemoryBatchNodes, text: &str) -> RedisResult<()> {
+pub fn refuse(alloc: Global, nodes: &mut MemoryBatchNodes, text: &str) -> RedisResult<String> {
     let mut plan = Vec::new(alloc);
     for refusal in &lines(alloc, text)? {
         add_refusal(&mut plan, refusal)?;
     }
     nodes.plan(plan);
-    Ok(())
+    okay(alloc)
 }
 
 fn batch_of<'a>(alloc: Global, commands: &'a [Cmd]) -> RedisResult<Vec<&'a Cmd>> {

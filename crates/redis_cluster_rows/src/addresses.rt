@@ -1,6 +1,6 @@
 //! Addresses of nodes.
 use cluster_map::{NodeAddress, split_node_address};
-use fixtures::{bad_row, equality, kind_and_text, number, text, two};
+use fixtures::{bad_row, equality, is_same, kind_and_text, number, text, two};
 use resp_core::RedisResult;
 use std::alloc::Global;
 
@@ -10,13 +10,21 @@ pub fn call(alloc: Global, name: &str, words: &str) -> RedisResult<String> {
         "address" => address(alloc, words, false),
         "address_size" => address(alloc, words, true),
         "printed" => printed(alloc, words),
-        "copied" => equality(alloc, &NodeAddress::try_from(alloc, &text(alloc, words)?)?),
-        "default" => {
-            let address = NodeAddress::default(alloc)?;
-            said(alloc, address.host(), address.port(), true)
-        }
+        "copied" => copied(alloc, words),
+        "default" => default_address(alloc),
         _ => Err(bad_row("no call of this name")),
     }
+}
+
+/// Whether the clone of the address of a text is equal to it.
+fn copied(alloc: Global, word: &str) -> RedisResult<String> {
+    equality(alloc, &NodeAddress::try_from(alloc, &text(alloc, word)?)?)
+}
+
+/// How many bytes the host of the default address has, and its port.
+fn default_address(alloc: Global) -> RedisResult<String> {
+    let address = NodeAddress::default(alloc)?;
+    said(alloc, address.host(), address.port(), true)
 }
 
 /// A host, or how many bytes it has, and a port.
@@ -49,7 +57,7 @@ fn address(alloc: Global, word: &str, size: bool) -> RedisResult<String> {
     let text = text(alloc, word)?;
     let cut = cut(alloc, &text, size)?;
     let read = read(alloc, &text, size)?;
-    if cut.as_str() == read.as_str() {
+    if is_same(&cut, &read) {
         return Ok(cut);
     }
     Ok(format!(in alloc; "{cut}, but the address: {read}")?)

@@ -96,7 +96,9 @@ fn part_count<R: Routable>(alloc: Global, known: &Known, command: &R) -> RedisRe
 fn parts<R: Routable>(alloc: Global, known: &Known, command: &R) -> RedisResult<String> {
     let route = route(alloc, known, command)?;
     let parts = part_count(alloc, known, command)?;
-    let route = if parts > 1 { "many" } else { route.as_str() };
+    if parts > 1 {
+        return Ok(format!(in alloc; "many in {parts}")?);
+    }
     Ok(format!(in alloc; "{route} in {parts}")?)
 }
 

@@ -1,7 +1,6 @@
 //! The names that only read, and those that are registered.
-use crate::commands;
 use crate::replies::{pattern, policy};
-use crate::tables;
+use crate::{commands, tables};
 use fixtures::{bytes, equality, plain, shown, two, words};
 use redis_cluster::routing::{Names, ReadOnlyNames, RegisterError, Registry};
 use resp_core::RedisResult;
@@ -35,12 +34,7 @@ impl Known {
 }
 
 /// What a call of this name returns.
-pub fn call(
-    known: &mut Known,
-    alloc: Global,
-    name: &str,
-    text: &str,
-) -> RedisResult<String> {
+pub fn call(known: &mut Known, alloc: Global, name: &str, text: &str) -> RedisResult<String> {
     match name {
         "reading" => reading(alloc, known, text),
         "reads" => shown(alloc, &known.read_only.contains(&bytes(alloc, text)?)),

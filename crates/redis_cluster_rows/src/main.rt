@@ -35,13 +35,7 @@ struct Rows {
 }
 
 impl Calls for Rows {
-    fn call(
-        &mut self,
-        alloc: Global,
-        topic: &str,
-        name: &str,
-        words: &str,
-    ) -> RedisResult<String> {
+    fn call(&mut self, alloc: Global, topic: &str, name: &str, words: &str) -> RedisResult<String> {
         match topic {
             "slots" => slots::call(alloc, name, words),
             "addresses" => addresses::call(alloc, name, words),

@@ -1,7 +1,8 @@
 //! The map of a cluster, the strategy that it borrows, and its shards.
 use crate::shards;
 use cluster_map::{
-    ClusterTopology, ReadRoutingStrategy, Route, SlotAddr, SlotMap, SlotRange, parse_slots, slot_cmd,
+    ClusterTopology, ReadRoutingStrategy, Route, SlotAddr, SlotMap, SlotRange, parse_slots,
+    slot_cmd,
 };
 use fixtures::{
     Lent, bad_row, bytes, cmd_text, debug, equality, expanded, joined, lines, map, number, okay,
@@ -32,28 +33,38 @@ impl Maps {
 /// What a call of this name returns that sets something, or that asks for a node.
 pub fn call(maps: &mut Maps, alloc: Global, name: &str, words: &str) -> RedisResult<String> {
     match name {
-        "map" => {
-            maps.map = map(alloc, &expanded(alloc, words)?)?;
-            count(alloc, &maps.map)
-        }
-        "fill" => {
-            maps.map.fill_slots(ranges(alloc, &expanded(alloc, words)?)?)?;
-            count(alloc, &maps.map)
-        }
+        "map" => set_map(maps, alloc, words),
+        "fill" => fill(maps, alloc, words),
         "reply" => reply(maps, alloc, words),
-        "strategy" => {
-            maps.lent = Lent::new(words)?;
-            okay(alloc)
-        }
+        "strategy" => set_strategy(maps, alloc, words),
         "tell" => tell(maps, alloc),
-        "topology" => {
-            let topology = maps.map.topology(alloc)?;
-            set_topology(maps, alloc, topology)
-        }
+        "topology" => map_topology(maps, alloc),
         "shards" => set_topology(maps, alloc, shards::topology_of(alloc, words)?),
         "copied_topology" => copied_topology(maps, alloc),
         _ => ask(maps, alloc, name, words),
     }
+}
+
+fn set_map(maps: &mut Maps, alloc: Global, words: &str) -> RedisResult<String> {
+    maps.map = map(alloc, &expanded(alloc, words)?)?;
+    count(alloc, &maps.map)
+}
+
+fn fill(maps: &mut Maps, alloc: Global, words: &str) -> RedisResult<String> {
+    maps.map
+        .fill_slots(ranges(alloc, &expanded(alloc, words)?)?)?;
+    count(alloc, &maps.map)
+}
+
+fn set_strategy(maps: &mut Maps, alloc: Global, name: &str) -> RedisResult<String> {
+    maps.lent = Lent::new(name)?;
+    okay(alloc)
+}
+
+/// Keeps the topology of the map.
+fn map_topology(maps: &mut Maps, alloc: Global) -> RedisResult<String> {
+    let topology = maps.map.topology(alloc)?;
+    set_topology(maps, alloc, topology)
 }
 
 /// What a call of this name returns that sets nothing.
@@ -139,11 +150,7 @@ fn tell(maps: &mut Maps, alloc: Global) -> RedisResult<String> {
 }
 
 /// Keeps a topology. Returns the primaries of its shards.
-fn set_topology(
-    maps: &mut Maps,
-    alloc: Global,
-    topology: ClusterTopology,
-) -> RedisResult<String> {
+fn set_topology(maps: &mut Maps, alloc: Global, topology: ClusterTopology) -> RedisResult<String> {
     let primaries = shards::primaries(alloc, &topology);
     maps.topology = Some(topology);
     primaries

@@ -1,5 +1,5 @@
 //! Pipelines, and which of them a cluster refuses.
-use fixtures::{bad_row, debug, kind_and_text, number, plain, shown, two, words};
+use fixtures::{bad_row, debug, is_same, kind_and_text, number, plain, shown, two, words};
 use redis_cluster::pipeline::{ClusterPipeline, UNROUTABLE_ERROR, cluster_pipe};
 use resp_core::{RedisError, RedisResult};
 use std::alloc::Global;
@@ -109,7 +109,7 @@ fn changed(
     let before = debug(alloc, pipeline)?;
     match change(alloc, pipeline, name, text) {
         Ok(()) => len(alloc, pipeline),
-        Err(_) if debug(alloc, pipeline)?.as_str() != before.as_str() => plain(alloc, "changed"),
+        Err(_) if !is_same(&debug(alloc, pipeline)?, &before) => plain(alloc, "changed"),
         Err(error) => kind_and_text(alloc, &error),
     }
 }

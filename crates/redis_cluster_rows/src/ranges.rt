@@ -17,6 +17,7 @@ pub fn call(
             insert(map, alloc, words)
         }
         "insert" => insert(map, alloc, words),
+        "all" => listed(alloc, map, usize::MAX),
         "at" => shown_or_none(alloc, map.get(number(words)?)),
         "descending" => descending(map, alloc, words),
         "printed" => debug(alloc, map),
@@ -42,18 +43,22 @@ fn insert(map: &mut SlotRangeMap<String>, alloc: Global, words: &str) -> RedisRe
     for line in &lines(alloc, words)? {
         insert_range(map, alloc, line)?;
     }
-    listed(alloc, map)
+    listed(alloc, map, 10)
 }
 
-/// The ranges in their order, or how many there are if that is more than 10.
-fn listed(alloc: Global, map: &SlotRangeMap<String>) -> RedisResult<String> {
+/// The ranges in their order, or how many there are if that is more than this.
+fn listed(alloc: Global, map: &SlotRangeMap<String>, most: usize) -> RedisResult<String> {
     let mut text = String::new(alloc);
     let mut count: usize = 0;
     for (start, end, value) in map {
-        push_next(&mut text, "; ", &format!(in alloc; "{start} {end} {value}")?)?;
+        push_next(
+            &mut text,
+            "; ",
+            &format!(in alloc; "{start} {end} {value}")?,
+        )?;
         count = count.saturating_add(1);
     }
-    if count > 10 {
+    if count > most {
         return Ok(format!(in alloc; "{count} ranges")?);
     }
     Ok(text)
@@ -74,7 +79,7 @@ fn descending(map: &mut SlotRangeMap<String>, alloc: Global, words: &str) -> Red
             found = found.saturating_add(usize::from(number::<u16>(value)? == slot));
         }
     }
-    let listed = listed(alloc, map)?;
+    let listed = listed(alloc, map, 10)?;
     Ok(format!(in alloc; "{listed}, {found} found")?)
 }
 
@@ -94,5 +99,5 @@ fn extended(alloc: Global, words: &str) -> RedisResult<String> {
     let mut map = SlotRangeMap::default(alloc);
     map.extend(one_for_each(alloc, number(before)?)?)?;
     map.extend(one_for_each(alloc, number(count)?)?)?;
-    listed(alloc, &map)
+    listed(alloc, &map, 10)
 }

@@ -70,14 +70,8 @@ fn read_shape(alloc: Global, words: &str) -> RedisResult<Shape<'_>> {
 /// A number in the levels of a shape.
 fn nested(alloc: Global, shape: &Shape<'_>, number: i64) -> RedisResult<Value> {
     let mut value = Value::Int(number);
-    let mut depth = 0;
-    while depth < shape.depth {
-        for level in &shape.levels {
-            if depth < shape.depth {
-                value = around(alloc, level, value)?;
-                depth += 1;
-            }
-        }
+    for level in shape.levels.iter().cycle().take(shape.depth) {
+        value = around(alloc, level, value)?;
     }
     around(alloc, shape.root, value)
 }

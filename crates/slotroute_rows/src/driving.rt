@@ -53,14 +53,8 @@ pub fn call(driven: &mut Driven, alloc: Global, name: &str, words: &str) -> Redi
     match name {
         "reads" => reads(alloc, driven, words),
         "nodes" => start(alloc, driven, words),
-        "strategy" => {
-            driven.lent = Lent::new(words)?;
-            okay(alloc)
-        }
-        "fuse" => {
-            driven.nodes.fuse(number(words)?);
-            okay(alloc)
-        }
+        "strategy" => set_strategy(alloc, driven, words),
+        "fuse" => fuse(alloc, driven, words),
         "plan" => plan(alloc, driven, words),
         "asked" => shown(alloc, &Lent::asked(&driven.lent)?),
         "sent" => sent(alloc, driven),
@@ -89,6 +83,17 @@ fn reads(alloc: Global, driven: &mut Driven, text: &str) -> RedisResult<String> 
     for name in &words(alloc, text)? {
         driven.read_only.insert(alloc, name)?;
     }
+    okay(alloc)
+}
+
+fn set_strategy(alloc: Global, driven: &mut Driven, name: &str) -> RedisResult<String> {
+    driven.lent = Lent::new(name)?;
+    okay(alloc)
+}
+
+/// Refuses the send of this number, counted from 1, and each later one.
+fn fuse(alloc: Global, driven: &mut Driven, word: &str) -> RedisResult<String> {
+    driven.nodes.fuse(number(word)?);
     okay(alloc)
 }
 

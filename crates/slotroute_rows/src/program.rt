@@ -16,19 +16,24 @@ pub fn call(
     words: &str,
 ) -> RedisResult<String> {
     match name {
-        "strategy" => {
-            *strategy = Lent::new(words)?;
-            plain(alloc, "handed in")
-        }
+        "strategy" => hand_in(strategy, alloc, words),
         "serve" => serve(strategy, alloc, &run_of(alloc, words)?),
         "prints" => prints(alloc, words, true),
         "ends" => prints(alloc, words, false),
-        "fault" => {
-            let fault = CommandFault::Refused(Refusal::NotCovered(number(words)?));
-            fixtures::shown(alloc, &fault)
-        }
+        "fault" => fault(alloc, words),
         _ => serve_over(alloc, name, &run_of(alloc, words)?),
     }
+}
+
+fn hand_in(strategy: &mut Option<Lent>, alloc: Global, name: &str) -> RedisResult<String> {
+    *strategy = Lent::new(name)?;
+    plain(alloc, "handed in")
+}
+
+/// What the fault of a command prints, if no node has this slot of its key.
+fn fault(alloc: Global, slot: &str) -> RedisResult<String> {
+    let fault = CommandFault::Refused(Refusal::NotCovered(number(slot)?));
+    fixtures::shown(alloc, &fault)
 }
 
 /// What a run writes with the strategy that was passed, which it uses up.
