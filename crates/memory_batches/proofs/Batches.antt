@@ -3,6 +3,7 @@ use Rattle.std.proofs.Common.{◌≡◌, ℕ, ◌+◌, zero, suc, List, [], ◌�
 use Rattle.std.specs.List.{zip}
 use Rattle.std.proofs.lemmas.List.{map-append, length-append, length-map}
 use Rattle.std.proofs.lemmas.Option.{same_Some}
+use Rattle.std.proofs.lemmas.Grind.{common_steps}
 use Rattle.cluster_slots.specs.Address.{Address}
 use Rattle.resp_core.specs.ErrorParts.{ErrorParts}
 use Rattle.redis_routing.specs.Registry.{Registrations}
@@ -57,9 +58,7 @@ tasks_long registered xs tasks are = sym (length-map tasks Some) ∙ ap length (
 
 module _ (node : Address) (xs ys : List (List (List ℕ))) (ends others : List (Option ErrorParts)) (long : length ends ≡ length xs) where
   entries_append : batch_entries node (xs ++ ys) (ends ++ others) ≡ batch_entries node xs ends ++ batch_entries node ys others
-  entries_append =
-      ap (map (λ x. entry node x.0 (ending_by x.1))) (zip_append xs ys ends others long)
-      ∙ map-append (λ x. entry node x.0 (ending_by x.1)) (zip xs ends) (zip ys others)
+  entries_append = grind (arith, zip_append, map-append)
 
   entries_long : length (batch_entries node xs ends) ≡ length ends
   entries_long = length-map (zip xs ends) (λ x. entry node x.0 (ending_by x.1)) ∙ zip_long xs ends long
@@ -154,9 +153,7 @@ module _ {C : Type 0} (step : Step C) (serve : Serve C) where
 
         one_task : (tasks : List Task) → task_of registered args ∷ [] ≡ map Some tasks → AreServed step serve tasks (end ∷ []) old.keyspace new.keyspace (answer ∷ [])
         one_task [] are = absurd (cc are)
-        one_task (t ∷ []) are =
-            let done = does t (cc are) in
-            record { keyspace = done.0; answers_are = ap (λ a. a ∷ []) done.1 }
+        one_task (t ∷ []) are = grind (arith, common_steps)
         one_task (t ∷ u ∷ tasks) are = absurd (cc are)
 
 -- One command more was taken, by nodes that have the same names and the same plan.

@@ -1,9 +1,9 @@
 -- What stands where memory ran out in the midst of a batch.
-use Rattle.std.proofs.Common.{◌≡◌, ◌≤◌, ℕ, zero, suc, List, [], ◌∷◌, ◌++◌, Option, None, Some, length, map, take, refl, sym, ap, subst, ◌∙◌, arith}
+use Rattle.std.proofs.Common.{◌≡◌, ◌≤◌, ℕ, zero, suc, List, [], ◌∷◌, ◌++◌, Option, None, Some, length, map, take, refl, sym, ap, ◌∙◌, arith}
 use Rattle.std.specs.Prelude.{slice_get}
 use Rattle.std.specs.List.{zip}
 use Rattle.std.proofs.lemmas.List.{length-take-le, take-map}
-use Rattle.std.proofs.lemmas.Option.{same_Some}
+use Rattle.std.proofs.lemmas.Grind.{common_steps}
 use Rattle.cluster_slots.specs.Address.{Address}
 use Rattle.redis_routing.specs.Registry.{Registrations}
 use Rattle.redis_cluster.specs.Trace.{Ending, entry}
@@ -39,12 +39,8 @@ pub record HasTask (registered : Registrations) (tasks : List Task) (i : ℕ) (a
 pub task_there : (registered : Registrations) (batch : List (List (List ℕ))) (tasks : List Task) (i : ℕ) (args : List (List ℕ)) → map (task_of registered) batch ≡ map Some tasks → slice_get batch i ≡ Some args → HasTask registered tasks i args
 task_there registered [] tasks i args are at = absurd (cc at)
 task_there registered (x ∷ xs) [] i args are at = absurd (cc are)
-task_there registered (x ∷ xs) (t ∷ tasks) zero args are at =
-    let means : task_of registered x ≡ Some t = cc are in
-    record { task = t; there = refl; means = ap (task_of registered) (sym (same_Some x args at)) ∙ means }
-task_there registered (x ∷ xs) (t ∷ tasks) (suc i) args are at =
-    let rest = task_there registered xs tasks i args (cc are) at in
-    record { task = rest.task; there = rest.there; means = rest.means }
+task_there registered (x ∷ xs) (t ∷ tasks) zero args are at = grind (arith, common_steps)
+task_there registered (x ∷ xs) (t ∷ tasks) (suc i) args are at = grind (arith, common_steps, task_there registered xs tasks i args (cc are) at)
 
 -- where nothing changed no command was begun
 pub not_begun : {C : Type 0} (o : Option Task) (old new : Keyspace C) → new ≡ old → IsBegunAtMost o old new
@@ -63,10 +59,7 @@ module _ {C : Type 0} (step : Step C) (serve : Serve C) (registered : Registrati
       served.keyspace ∙ ap (λ l. all_after (run_ended step serve) l old.keyspace) (zip_take i tasks taken.ends long)
 
   broken_off : i ≤ length batch → (new : Keyspace C) → IsBegunAtMost (slice_get tasks i) between.keyspace new → IsBegunAtMost (slice_get tasks (length taken.ends)) (all_after (run_ended step serve) (zip tasks taken.ends) old.keyspace) new
-  broken_off within new begun =
-      let many : length taken.ends ≡ i = taken.long ∙ length-take-le i batch within in
-      subst (λ n. IsBegunAtMost (slice_get tasks n) (all_after (run_ended step serve) (zip tasks taken.ends) old.keyspace) new) (sym many)
-      (subst (λ ks. IsBegunAtMost (slice_get tasks i) ks new) served_front begun)
+  broken_off within new begun = grind (arith, length-take-le, served_front)
 
 -- so it is with nodes in memory
 pub begun_by : (node : Address) (batch : List (List (List ℕ))) (i : ℕ) (old between new : MemoryBatchNodes) (given : List Answer)

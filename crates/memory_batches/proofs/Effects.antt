@@ -5,7 +5,6 @@ use Rattle.std.specs.Fmt.{signed_decimal}
 use Rattle.std.proofs.lemmas.Bool.Decides.{nat_tests}
 use Rattle.resp_core.proofs.Cases.{by_test}
 use Rattle.resp_core.proofs.Views.{view-Int, view-Okay}
-use Rattle.resp_core.specs.Reply.{int}
 use Rattle.resp_core.specs.ErrorParts.{ErrorParts}
 use Rattle.resp_core.specs.declared.value.Value.TheVariants as value
 use Rattle.cluster_slots.specs.KeySlot.{key_slot}
@@ -15,7 +14,7 @@ use Rattle.redis_batches.specs.Served.{in_shelf, shelf, with_shelf}
 use Rattle.memory_nodes.specs.Cells.{Cell, value_at}
 use Rattle.memory_nodes.specs.Steps.{single_value, written}
 use Rattle.memory_batches.specs.Meaning.{IsDone}
-use Rattle.memory_batches.specs.Strings.{arguments_after_name, by_verb, incremented, cross_slot, fails, in_64_bits, list_length_at, length_of, list_length, lpush, integer_at, one_more, own_error, pushed, raised, raised_from, rename, rename_in_slot, renamed, serve, string_at, verb_in, with_length, with_string}
+use Rattle.memory_batches.specs.Strings.{arguments_after_name, by_verb, cross_slot, fails, in_64_bits, list_length_at, length_of, list_length, lpush, integer_at, one_more, own_error, raised, rename, rename_in_slot, renamed, serve, string_at, verb_in, with_length, with_string}
 use Rattle.memory_batches.specs.declared.verb.Verb.{Verb}
 use Rattle.memory_batches.proofs.Shelves.{put_elsewhere, put_here, put_more, shelf_back}
 use Rattle.memory_batches.proofs.Verbs.{wrong_number}
@@ -47,12 +46,7 @@ module _ (slot : ℕ) (ks : Keyspace Cell) where
   -- a list that is one longer
   pub pushed_done : (key text : List ℕ) (n m : ℤ) (new : Keyspace Cell) → one_more (list_length (string_at (shelf slot ks) key) (list_length_at (shelf slot ks) key)) ≡ Some n → text ≡ signed_decimal n → m ≡ n
       → new ≡ with_shelf slot (with_length key text (shelf slot ks)) ks → IsDone (in_shelf slot (lpush key)) ks new (Ok (value.Int m))
-  pushed_done key text n m new is text_is same grew =
-      let effect = ap (λ o. pushed key o (shelf slot ks)) is in
-      record {
-        keyspace = grew ∙ ap (λ t. with_shelf slot (with_length key t (shelf slot ks)) ks) text_is ∙ sym (ap (λ s. with_shelf slot s.keys ks) effect);
-        reply = ap Ok (view-Int m ∙ ap int same) ∙ sym (ap (λ s. s.reply) effect);
-      }
+  pushed_done key text n m new is text_is same grew = grind (arith, view-Int)
 
   -- a command that answers an error alone
   pub fails_done : (text : List ℕ) (error : ErrorParts) → error ≡ own_error text → IsDone (in_shelf slot (fails text)) ks ks (Err error)
@@ -69,12 +63,7 @@ module _ (slot : ℕ) (ks : Keyspace Cell) where
   -- a number that is one more
   pub incr_done : (key text : List ℕ) (old n m : ℤ) (new : Keyspace Cell) → integer_at (string_at (shelf slot ks) key) ≡ Some old → in_64_bits (old +ℤ pos 1) ≡ Some n → text ≡ signed_decimal n → m ≡ n
       → new ≡ with_shelf slot (with_string key text (shelf slot ks)) ks → IsDone (in_shelf slot (raised key)) ks new (Ok (value.Int m))
-  incr_done key text old n m new there is text_is same written =
-      let effect = ap (λ o. raised_from key o (shelf slot ks)) there ∙ ap (λ o. incremented key o (shelf slot ks)) is in
-      record {
-        keyspace = written ∙ ap (λ t. with_shelf slot (with_string key t (shelf slot ks)) ks) text_is ∙ sym (ap (λ s. with_shelf slot s.keys ks) effect);
-        reply = ap Ok (view-Int m ∙ ap int same) ∙ sym (ap (λ s. s.reply) effect);
-      }
+  incr_done key text old n m new there is text_is same written = grind (arith, view-Int)
 
   -- a key with a string is of the slot
   pub own_key : (key string : List ℕ) → string_at (shelf slot ks) key ≡ Some string → nat_eq (key_slot key) slot ≡ true

@@ -5,7 +5,7 @@ use Rattle.std.proofs.lemmas.Fmt.{IsAscii-signed, parse-signed_decimal}
 use Rattle.std.proofs.lemmas.Slice.Eq.{bytes_eq-Decides}
 use Rattle.std.proofs.lemmas.Str.{IsUtf8-from_ascii}
 use Rattle.std.specs.Fmt.{signed_decimal}
-use Rattle.std.specs.Str.{bytes_eq, IsUtf8}
+use Rattle.std.specs.Str.{IsUtf8}
 use Rattle.std.specs.Str.Parse.{ParsesSigned, signed_digits_value}
 use Rattle.resp_core.proofs.Cases.{by_test}
 use Rattle.memory_batches.specs.Strings.{has_64_bits, in_64_bits, integer_in}
@@ -23,10 +23,7 @@ module _ (text : List ℕ) where
 
   -- where there is no number it is not written so, or does not fit
   pub no_number : (signed_decimal value ≡ text → FitsSigned w64 value → ⊥) → integer_in text ≡ None
-  no_number none =
-      by_test (bytes_eq (signed_decimal value) text)
-      (λ same. ap (λ b. cond b (in_64_bits value) None) same ∙ in_64_bits_none value (none ((bytes_eq-Decides (signed_decimal value) text).0 same)))
-      (λ differs. ap (λ b. cond b (in_64_bits value) None) differs)
+  no_number none = grind (arith, by_test, in_64_bits_none, bytes_eq-Decides)
 
   -- a text that is none
   pub not_text : (IsUtf8 text → ⊥) → integer_in text ≡ None

@@ -3,9 +3,9 @@ use Rattle.std.proofs.Common.{All, ◌≡◌, ℕ, List, [], ◌∷◌, ◌++◌
 use Rattle.std.specs.Prelude.{◌+ℤ◌, codes, nat_eq, pos}
 use Rattle.std.specs.Option.{unwrap_or}
 use Rattle.std.proofs.lemmas.Bool.Decides.{nat_tests}
+use Rattle.std.proofs.lemmas.Grind.{common_steps}
 use Rattle.resp_core.proofs.Cases.{by_test}
 use Rattle.resp_core.specs.ErrorParts.{ErrorParts}
-use Rattle.cluster_slots.specs.KeySlot.{key_slot}
 use Rattle.cluster_slots.specs.Address.{Address}
 use Rattle.redis_routing.specs.RedirectText.{IsRedirectText}
 use Rattle.redis_routing.specs.declared.info.Redirect.{Redirect}
@@ -96,9 +96,7 @@ module _ (ks : Keyspace Cell) where
   by_verb_own (Some Incr) (key ∷ other ∷ more) = unknown
   by_verb_own (Some Rename) [] = unknown
   by_verb_own (Some Rename) (key ∷ []) = unknown
-  by_verb_own (Some Rename) (key ∷ new ∷ []) =
-      by_test (nat_eq (key_slot key) (key_slot new)) (λ same. rw same (renamed_own key new (string_at ks key)))
-      (λ other. rw other (fails_own (codes "CROSSSLOT Keys in request don't hash to the same slot") (by_first _ refl refl refl)))
+  by_verb_own (Some Rename) (key ∷ new ∷ []) = grind (arith, common_steps)
   by_verb_own (Some Rename) (key ∷ new ∷ other ∷ more) = unknown
   by_verb_own (Some Lpush) [] = unknown
   by_verb_own (Some Lpush) (key ∷ []) = unknown

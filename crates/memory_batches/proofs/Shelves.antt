@@ -1,5 +1,5 @@
 -- What a write leaves of which the keys of one slot alone are kept.
-use Rattle.std.proofs.Common.{◌≡◌, List, ℕ, Bool, true, false, Option, refl, sym, ap, ◌∙◌}
+use Rattle.std.proofs.Common.{◌≡◌, List, ℕ, Bool, true, false, Option, refl, sym, ap, ◌∙◌, arith}
 use Rattle.std.specs.Prelude.{nat_eq}
 use Rattle.std.specs.Str.{bytes_eq}
 use Rattle.std.proofs.lemmas.Slice.Eq.{bytes_eq-Decides}
@@ -36,10 +36,7 @@ module _ {C : Type 0} (slot : ℕ) (ks : Keyspace C) where
 
     -- it leaves the keys of other slots
     pub put_apart : nat_eq (key_slot key) slot ≡ true → AgreeElsewhere slot ks (put key x ks)
-    put_apart is other there =
-        by_test (bytes_eq key other)
-        (λ same. absurd (let both : true ≡ false = sym (same_slot other true is same) ∙ there in cc both))
-        (λ differs. rw differs refl)
+    put_apart is other there = grind (arith, by_test, same_slot)
 
     -- a write at a key of another slot
     pub put_elsewhere : nat_eq (key_slot key) slot ≡ false → with_shelf slot (put key x (shelf slot ks)) ks ≡ ks

@@ -1,9 +1,10 @@
 -- What stands in a trace, and what a plan refuses.
-use Rattle.std.proofs.Common.{◌≡◌, ◌<◌, ◌≤◌, ℕ, List, [], ◌∷◌, ◌++◌, Option, Some, Result, Ok, Err, map, length, refl, sym, ap, subst, ◌∙◌, arith, inl, inr}
+use Rattle.std.proofs.Common.{◌≡◌, ◌<◌, ◌≤◌, ℕ, List, [], ◌∷◌, ◌++◌, Option, Some, Result, Ok, Err, map, length, refl, sym, ap, subst, ◌∙◌, arith}
 use Rattle.std.specs.Prelude.{OnErr, slice_get}
 use Rattle.std.proofs.lemmas.Bool.{cases_lt}
-use Rattle.std.proofs.lemmas.List.{length-append, map-append}
+use Rattle.std.proofs.lemmas.List.{length-append}
 use Rattle.std.proofs.lemmas.Option.{same_Some, slice_get_within}
+use Rattle.std.proofs.lemmas.Grind.{common_steps}
 use Rattle.cluster_slots.specs.Address.{Address}
 use Rattle.resp_core.specs.ErrorParts.{ErrorParts}
 use Rattle.redis_cluster.specs.Trace.{Entry, refused, entry}
@@ -21,10 +22,7 @@ on_err_always (Err error) is = is
 -- an entry more
 pub noted : (items more : List BatchEntry) (e : BatchEntry) (node : Address) (args : List (List ℕ)) (end : Option ErrorParts) → more ≡ items ++ e ∷ [] → e.node ≡ node → e.command ≡ args → e.refusal ≡ end
     → map command_entry more ≡ map command_entry items ++ entry node args (ending_by end) ∷ []
-noted items more e node args end is node_is args_are end_is =
-    ap (map command_entry) is
-    ∙ map-append command_entry items (e ∷ [])
-    ∙ ap (λ l. map command_entry items ++ l ∷ []) (ap (λ n. entry n e.command (ending_by e.refusal)) node_is ∙ ap (λ a. entry node a (ending_by e.refusal)) args_are ∙ ap (λ o. entry node args (ending_by o)) end_is)
+noted items more e node args end is node_is args_are end_is = grind (arith, common_steps)
 
 -- what is planned may happen
 pub as_planned : (nodes : MemoryBatchNodes) (end : Option ErrorParts) → end ≡ refusal_in nodes (length (batch_trace nodes)) → (error : ErrorParts) → end ≡ Some error → MayRefuseCommand nodes (length (batch_trace nodes)) (refused error)
@@ -43,14 +41,7 @@ abbrev EndSo : (ℕ → Option ErrorParts) → ℕ → List Entry → Type 0
 EndSo planned from trace = (place : ℕ) (e : Entry) → from ≤ place → slice_get trace place ≡ Some e → e.ending ≡ ending_by (planned place)
 
 end_so_next : (planned : ℕ → Option ErrorParts) (from : ℕ) (trace : List Entry) (last : Entry) → EndSo planned from trace → last.ending ≡ ending_by (planned (length trace)) → EndSo planned from (trace ++ last ∷ [])
-end_so_next planned from trace last are is place e later at =
-    elim (cases_lt place (length trace)) as (λ _. e.ending ≡ ending_by (planned place)) [
-      | inl small ↦ are place e later (sym (get_front trace (last ∷ []) place small) ∙ at)
-      | inr large ↦
-          let below : place < length (trace ++ last ∷ []) = slice_get_within (trace ++ last ∷ []) place e at in
-          let same : place ≡ length trace = omega (arith, large, below, length-append trace (last ∷ [])) in
-          ap (λ (x : Entry). x.ending) (same_Some e last (sym at ∙ ap (slice_get (trace ++ last ∷ [])) same ∙ get_last trace last)) ∙ is ∙ ap (λ p. ending_by (planned p)) (sym same)
-    ]
+end_so_next planned from trace last are is place e later at = grind (arith, cases_lt, get_front, slice_get_within, length-append, same_Some, get_last)
 
 -- no entry yet
 pub planned_none : (nodes : MemoryBatchNodes) → AreAsPlanned nodes nodes

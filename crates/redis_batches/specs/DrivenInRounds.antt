@@ -98,13 +98,12 @@ module _ {S : Type 0} (N : Ghosts S) (old new : S) (is_node : ℕ → Address �
         → IsAsOne N.step N.serve (map with_slots (tasks_sent sent.so_far)) (refused_at_last sent.so_far)
         (N.state old).keyspace (N.state new).keyspace answers
     pub untouched : N.kept new → All (StaysHere N.serve) (tasks_sent sent.so_far)
-        → AreUntouched N.step N.serve (refused_at_last sent.so_far) (tasks_sent sent.so_far) (N.state old).keyspace
-        replies
+        → AreUntouched N.step N.serve (refused_at_last sent.so_far) (tasks_sent sent.so_far)
+        (N.state old).keyspace replies
     pub one_server : N.kept new → All (StaysHere N.serve) (tasks_sent sent.so_far)
         → All (λ x. refused_at_last sent.so_far x ≡ None)
         (numbered (map with_slots (tasks_sent sent.so_far)))
-        → IsOneServer N.step N.serve (N.registered old) commands (N.state old) (N.state new)
-        replies
+        → IsOneServer N.step N.serve (N.registered old) commands (N.state old) (N.state new) replies
 
   -- Some rounds were sent, and of the next one the batches up to one that was not taken. The first
   -- round counts, too.
