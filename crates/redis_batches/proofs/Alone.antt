@@ -1,11 +1,12 @@
 -- Parts of a pipeline as a pipeline of their own.
-use Rattle.std.proofs.Common.{◌≡◌, ◌<◌, ◌≤◌, ℕ, ◌+◌, zero, suc, List, [], ◌∷◌, Bool, Option, None, Some, All, refl, sym, ap, subst, ◌∙◌, arith, map, length, get_or, option_map, zero-add}
+use Rattle.std.proofs.Common.{◌≡◌, ◌<◌, ◌≤◌, ℕ, ◌+◌, zero, suc, List, [], ◌∷◌, Bool, Option, None, Some, All, refl, sym, ap, ◌∙◌, arith, map, length, get_or, option_map, zero-add}
 use Rattle.std.specs.Prelude.{nat_eq, slice_get}
 use Rattle.std.specs.List.{enumerate_from}
 use Rattle.std.proofs.lemmas.List.{length-map}
 use Rattle.std.proofs.lemmas.List.FromFn.{length-enumerate_from}
 use Rattle.std.proofs.lemmas.List.Elements.{All-nil, All-cons, All-head, All-tail, All-append, filter_passes}
 use Rattle.std.proofs.lemmas.Option.{same_Some, slice_get-map}
+use Rattle.std.proofs.lemmas.Grind.{common_steps}
 use Rattle.cluster_slots.specs.KeySlot.{key_slot}
 use Rattle.resp_core.proofs.Cases.{by_test}
 use Rattle.redis_routing.specs.Registry.{Registrations}
@@ -55,9 +56,7 @@ slots_own command (slot ∷ slots) = All-cons IsOwnPart _ _ (keys_own command sl
 
 parts_own : (task : Task) (slots : List ℕ) → AreSlotsOf task slots → All IsOwnPart (parts_of (record { task = task; slots = slots }))
 parts_own (over_keys command) slots are = slots_own command slots
-parts_own (in_slot own args) slots are =
-    subst (λ l. All IsOwnPart (parts_of (record { task = in_slot own args; slots = l }))) (sym are)
-    (All-cons IsOwnPart (record { slot = own; task = in_slot own args }) [] (record { whole = refl; slots = refl }) (All-nil IsOwnPart))
+parts_own (in_slot own args) slots are = grind (arith, common_steps)
 
 pub pieces_own : (ps : List Planned) → All (λ p. AreSlotsOf p.task p.slots) ps → All IsOwnPart (pieces ps)
 pieces_own [] are = All-nil IsOwnPart

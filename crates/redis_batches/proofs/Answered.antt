@@ -1,9 +1,10 @@
 -- The answers to the parts of a command, taken out of a list from its end.
-use Rattle.std.proofs.Common.{◌≡◌, ◌<◌, ◌≤◌, ℕ, List, [], ◌∷◌, ◌++◌, Ok, Err, Result, refl, sym, ap, ◌∙◌, arith, length, map, reverse, length-append}
+use Rattle.std.proofs.Common.{◌≡◌, ◌<◌, ◌≤◌, ℕ, List, [], ◌∷◌, ◌++◌, Ok, Err, Result, refl, sym, ap, ◌∙◌, arith, length, map, reverse}
 use Rattle.std.proofs.lemmas.List.{length-map, reverse-append, length-reverse}
 use Rattle.std.specs.declared.alloc.Global.{Global}
 use Rattle.std.specs.Result.{result_map_both}
 use Rattle.std.specs.declared.vec.Vec.{Vec}
+use Rattle.std.proofs.lemmas.Grind.{common_steps}
 use Rattle.resp_core.specs.ErrorParts.{ErrorParts}
 use Rattle.resp_core.specs.Reply.{Reply}
 use Rattle.resp_core.specs.View.{view}
@@ -14,8 +15,7 @@ use Rattle.redis_batches.specs.Replies.{all_replies, values_among}
 
 -- none is left only where as many were taken out
 pub none_left : {X : Type 0} (all left own : List X) (count : ℕ) → all ≡ left ++ reverse own → left ≡ [] → length own < count → count ≤ length all → ⊥
-none_left all left own count is none few room =
-    omega (arith, room, few, ap length is, length-append left (reverse own), ap length none, length-reverse own)
+none_left all left own count is none few room = grind (arith, common_steps)
 
 -- one reply more in front, unless there was an error
 abbrev pub with_reply : Reply → Result (List Reply) ErrorParts → Result (List Reply) ErrorParts
@@ -45,21 +45,9 @@ then_none (r ∷ replies) = ap (with_reply r) (then_none replies)
 pub from_end : {X Y : Type 0} (f : X → Y) (left rest : List X) (x : X) → left ≡ rest ++ x ∷ [] → map f (reverse left) ≡ f x ∷ map f (reverse rest)
 from_end f left rest x is = ap (λ l. map f (reverse l)) is ∙ ap (map f) (reverse-append rest (x ∷ []))
 
--- replies that were found to all answers are as many
-replies_long : (answer : Answer) (answers : List Answer) (replies : List Reply) → ((found : List Reply) → all_replies answers ≡ Ok found → length found ≡ length answers)
-    → (later : Result (List Reply) ErrorParts) → all_replies answers ≡ later → all_replies (answer ∷ answers) ≡ Ok replies → length replies ≡ length (answer ∷ answers)
-replies_long (Ok reply) answers replies shorter (Ok found) is all =
-    let e : Ok (reply ∷ found) ≡ Ok replies = ap (with_reply reply) (sym is) ∙ all in
-    let same : reply ∷ found ≡ replies = cc in
-    omega (arith, ap length same, shorter found is)
-replies_long (Ok reply) answers replies shorter (Err error) is all =
-    let e : Err error ≡ Ok replies = ap (with_reply reply) (sym is) ∙ all in absurd (cc)
-replies_long (Err error) answers replies shorter later is all = absurd (cc)
-
 pub all_replies_long : (answers : List Answer) (replies : List Reply) → all_replies answers ≡ Ok replies → length replies ≡ length answers
 all_replies_long [] replies all = let same : [] ≡ replies = cc in ap length (sym same)
-all_replies_long (answer ∷ answers) replies all =
-    replies_long answer answers replies (all_replies_long answers) (all_replies answers) refl all
+all_replies_long (answer ∷ answers) replies all = grind (arith, common_steps, all_replies_long answers)
 
 -- values that were found of all answers are as many
 pub values_long : (found : Result (Vec Value Global) ErrorParts) (values : Vec Value Global) (answers : List (Result Value ErrorParts)) → found ≡ Ok values

@@ -7,6 +7,7 @@ use Rattle.std.proofs.lemmas.Bool.Decides.{nat_tests}
 use Rattle.std.proofs.lemmas.List.{append-nil, length_push, map_push, length-map, length-take-le, take_more}
 use Rattle.std.proofs.lemmas.List.Elements.{filter-append, All-nil, All-cons, All-head, All-tail, All-append}
 use Rattle.std.proofs.lemmas.Option.{same_Some, slice_get-map}
+use Rattle.std.proofs.lemmas.Grind.{common_steps}
 use Rattle.cluster_slots.specs.Address.{Address, same_address}
 use Rattle.cluster_slots.proofs.Orders.{address_decides, same_from_address}
 use Rattle.cluster_map.proofs.Groups.{same_sym}
@@ -49,10 +50,7 @@ index_here node first nodes same = ap (λ b. cond b 0 (index_of node nodes + 1))
 -- it is no more than how many there are
 pub index_most : (node : Address) (nodes : List Address) → index_of node nodes ≤ length nodes
 index_most node [] = omega arith
-index_most node (first ∷ nodes) =
-    by_test (same_address first node)
-    (λ same. omega (arith, index_here node first nodes same))
-    (λ other. omega (arith, index_next node first nodes other, index_most node nodes))
+index_most node (first ∷ nodes) = grind (arith, common_steps, index_most node nodes)
 
 -- a node that is there has its number with one more at the end, too
 index_stays : (node last : Address) (nodes : List Address) → index_of node nodes < length nodes → index_of node (nodes ++ last ∷ []) ≡ index_of node nodes
@@ -147,9 +145,7 @@ places_push numbers number k =
 places_by : {X : Type 0} (number : X → ℕ) (k n : ℕ) (xs : List X)
     → map (λ (x : ℕ × ℕ). x.0) (filter (λ (x : ℕ × ℕ). nat_eq x.1 k) (enumerate_from n (map number xs))) ≡ map (λ (x : ℕ × X). x.0) (filter (λ (x : ℕ × X). nat_eq (number x.1) k) (enumerate_from n xs))
 places_by number k n [] = refl
-places_by number k n (x ∷ xs) =
-    let rest = places_by number k (n + 1) xs in
-    by_test (nat_eq (number x) k) (λ here. rw here (ap (λ l. n ∷ l) rest)) (λ there. rw there rest)
+places_by number k n (x ∷ xs) = grind (arith, common_steps, places_by number k (n + 1) xs)
 
 -- Where the slots of a pipeline's parts decide their numbers, the places of a number are a batch.
 pub places_are_batch : (ps : List Planned) (batch : ℕ → ℕ) (numbers : List ℕ) → numbers ≡ map (λ q. batch q.slot) (pieces ps) → (k : ℕ) → places_in numbers k ≡ numbers_in batch ps k

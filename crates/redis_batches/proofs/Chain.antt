@@ -3,6 +3,7 @@ use Rattle.std.proofs.Common.{◌≡◌, ◌<◌, ◌≤◌, ℕ, ◌+◌, List,
 use Rattle.std.specs.List.{flat_map, zip}
 use Rattle.std.proofs.lemmas.Grind.{flat_map-append}
 use Rattle.std.proofs.lemmas.List.{append-nil, length-map, length_push}
+use Rattle.std.proofs.lemmas.Grind.{common_steps}
 use Rattle.cluster_slots.specs.Address.{Address}
 use Rattle.resp_core.specs.ErrorParts.{ErrorParts}
 use Rattle.resp_core.specs.declared.value.Value.{Value}
@@ -27,7 +28,7 @@ use Rattle.redis_batches.specs.declared.nodes.BatchNodes.{Ghosts}
 use Rattle.redis_batches.specs.declared.send.Stopped.{Stopped}
 use Rattle.redis_batches.proofs.Again.{IsRefusedBy, from_all, put_back, replies_for, round_leaves, same_sent, after_round}
 use Rattle.redis_batches.proofs.Alone.{IsOwnPart, alone_answers, alone_leaves, numbered_own}
-use Rattle.redis_batches.proofs.Asked.{answered_more, asked_more, asked_none, asked_until_more}
+use Rattle.redis_batches.proofs.Asked.{answered_more, asked_more, asked_until_more}
 use Rattle.redis_batches.specs.declared.fault.PipelineError.{PipelineError}
 use Rattle.redis_batches.specs.declared.fault.PipelineError.TheVariants as driven
 use Rattle.redis_batches.proofs.StayHere.{numbered_stay}
@@ -126,8 +127,7 @@ module _ {S : Type 0} (N : Ghosts S) (old now new : S) (kept : N.kept new → N.
 -- one round more
 rounds_more : {S : Type 0} (N : Ghosts S) (old new : S) (arguments : List (List (List ℕ))) (round : Round) (rounds : List Round) (next : Round) (from now to : State N.Cell) → AreRounds N old new arguments round rounds from now
     → Follows (last_round round rounds) next → IsRoundServed N old new arguments next now to → AreRounds N old new arguments round (rounds ++ next ∷ []) from to
-rounds_more N old new arguments round [] next from now to are follows served =
-    (follows, to, subst (λ s. IsRoundServed N old new arguments next s to) are served, refl)
+rounds_more N old new arguments round [] next from now to are follows served = grind (arith, common_steps)
 rounds_more N old new arguments round (r ∷ rounds) next from now to are follows served =
     (are.0, are.1, are.2, rounds_more N old new arguments r rounds next are.1 now to are.3 follows served)
 
@@ -195,16 +195,7 @@ module _ {S : Type 0} (N : Ghosts S) (old : S) (arguments : List (List (List ℕ
         → Stands N.step N.serve ps (after_rounds refusals rounds) (last_round round rounds) ks (N.state now).keyspace all
 
   pub none_so_far : (out : Outgoing) → GoesBehind ps round out → IsSoFar 0 old before out
-  none_so_far out gone = record {
-    rounds = [];
-    many = refl;
-    again = refl;
-    asked = asked_none (N.asked old);
-    gave = asked_none (N.gave old);
-    behind = gone;
-    latest = refl;
-    stands = λ keep own ks refusals is. is;
-  }
+  none_so_far out gone = grind (arith, common_steps)
 
   module _ (k : ℕ) (now new : S) (all : List (Result Value ErrorParts)) (out : Outgoing) (so_far : IsSoFar k now all out) (frame : SameNodes N old now) (one : SameNodes N now new) where
     -- the last round so far

@@ -1,17 +1,15 @@
 -- The node of a slot is chosen once.
-use Rattle.std.proofs.Common.{◌≡◌, ℕ, Bool, true, false, not, cond, List, Option, None, Some, IsSome, Bor, refl, sym, ap, subst, ◌∙◌, option_map}
-use Rattle.std.specs.Prelude.{nat_eq}
+use Rattle.std.proofs.Common.{◌≡◌, ℕ, Bool, true, false, not, cond, List, Option, None, Some, IsSome, Bor, sym, ap, ◌∙◌, arith}
 use Rattle.std.specs.List.{flat_map}
 use Rattle.std.specs.Map.{lookup}
 use Rattle.std.specs.Ordering.{is_eq, nat_cmp}
-use Rattle.std.proofs.lemmas.Bool.{eqb-true}
 use Rattle.std.proofs.lemmas.Option.{same_Some}
-use Rattle.resp_core.proofs.Cases.{by_test}
+use Rattle.std.proofs.lemmas.Grind.{common_steps}
 use Rattle.cluster_slots.specs.Address.{Address}
 use Rattle.cluster_map.specs.Candidates.{Candidates}
 use Rattle.cluster_map.specs.RangeMap.{Ascends}
 use Rattle.cluster_map.specs.ReplyNode.{IsCovered}
-use Rattle.cluster_map.specs.RouteNode.{IsNodeFor, IsRouteNode}
+use Rattle.cluster_map.specs.RouteNode.{IsNodeFor}
 use Rattle.cluster_map.specs.SlotNodes.{SlotNodes}
 use Rattle.cluster_map.proofs.Ranges.{IsAnswerAt-unique}
 use Rattle.redis_routing.specs.Names.{Names}
@@ -19,29 +17,14 @@ use Rattle.redis_routing.specs.Routing.{nodes_for}
 use Rattle.redis_batches.specs.Placed.{IsPrimaryOf, Ranges}
 use Rattle.redis_batches.specs.Chosen.{AreRight, AreSlots, AreStill, IsChosen, IsRoutedBy, chosen_for}
 use Rattle.redis_batches.specs.Reads.{IsSlotNode, is_written, slots_written}
-use Rattle.redis_batches.proofs.Written.{same_slot}
 
 module _ (old new : List (ℕ × Bor Address)) (slot : ℕ) (node : Bor Address)
     (updates : (q : ℕ) → lookup (λ other. is_eq (nat_cmp q other)) new ≡ cond (is_eq (nat_cmp slot q)) (Some node) (lookup (λ other. is_eq (nat_cmp q other)) old)) where
-  -- after a slot was given a node
-  chosen_after : (q : ℕ) → chosen_for new q ≡ cond (nat_eq slot q) (Some node.now) (chosen_for old q)
-  chosen_after q =
-      ap (option_map (λ n. n.now)) (updates q) ∙ ap (λ b. option_map (λ n. n.now) (cond b (Some node) (lookup (λ other. is_eq (nat_cmp q other)) old))) (same_slot slot q)
-      ∙ by_test (nat_eq slot q) (λ here. rw here refl) (λ there. rw there refl)
-
   pub others_still : chosen_for old slot ≡ None → AreStill old new
-  others_still none = λ q n was.
-      by_test (nat_eq slot q)
-      (λ here. let e : None ≡ Some n = sym none ∙ ap (chosen_for old) (eqb-true slot q here) ∙ was in absurd (cc e))
-      (λ there. chosen_after q ∙ ap (λ b. cond b (Some node.now) (chosen_for old q)) there ∙ was)
+  others_still none = grind (arith, common_steps)
 
   pub right_after : (is_node : ℕ → Address → Type 0) → is_node slot node.now → AreRight is_node old → AreRight is_node new
-  right_after is_node own right = λ q n is.
-      by_test (nat_eq slot q)
-      (λ here.
-      let same : node.now ≡ n = same_Some node.now n (sym (ap (λ b. cond b (Some node.now) (chosen_for old q)) here) ∙ sym (chosen_after q) ∙ is) in
-      subst (λ s. is_node s n) (eqb-true slot q here) (subst (is_node slot) same own))
-      (λ there. right q n (sym (ap (λ b. cond b (Some node.now) (chosen_for old q)) there) ∙ sym (chosen_after q) ∙ is))
+  right_after is_node own right = grind (arith, common_steps)
 
 -- what is chosen stays chosen
 pub chosen_still : {S : Type 0} (strategy : Option S) (ranges : Ranges) (old new : List (ℕ × Bor Address)) → AreStill old new → (slot : ℕ) (node : Address) → IsChosen strategy ranges old slot node → IsChosen strategy ranges new slot node
@@ -73,5 +56,4 @@ pub is_slot_node : {S : Type 0} (strategy : Option S) (picks_of : S → Candidat
     → (IsSome strategy → AreSlots (flat_map (slots_written names) commands) written) → AreRight (IsRoutedBy strategy picks_of ranges written) chosen
     → (slot : ℕ) (address : Address) → IsChosen strategy ranges chosen slot address → IsSlotNode strategy picks_of ranges names commands slot address
 is_slot_node None picks_of ranges names commands written chosen are right slot address is = (is.0, is.1, primary_for is.0 (not (is_written names commands slot)) address is.2)
-is_slot_node (Some s) picks_of ranges names commands written chosen are right slot address is =
-    subst (λ b. IsRouteNode (Some s) picks_of ranges 0 (record { slot = slot; addr = nodes_for (not b) }) address) (are refl slot) (right slot address is)
+is_slot_node (Some s) picks_of ranges names commands written chosen are right slot address is = grind (arith, common_steps)

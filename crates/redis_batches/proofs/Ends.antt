@@ -3,7 +3,8 @@ use Rattle.std.proofs.Common.{◌≡◌, ◌<◌, ℕ, ◌+◌, List, [], ◌∷
 use Rattle.std.specs.Prelude.{nat_eq}
 use Rattle.std.specs.List.{enumerate_from, zip}
 use Rattle.std.proofs.lemmas.Bool.Decides.{nat_tests}
-use Rattle.std.proofs.lemmas.List.Elements.{All-nil, All-cons, All-head, All-tail, All-append, filter_passes}
+use Rattle.std.proofs.lemmas.List.Elements.{All-nil, All-head, All-tail, All-append, filter_passes}
+use Rattle.std.proofs.lemmas.Grind.{common_steps}
 use Rattle.resp_core.proofs.Cases.{by_test}
 use Rattle.resp_core.specs.ErrorParts.{ErrorParts}
 use Rattle.redis_cluster.specs.Orders.{times}
@@ -23,12 +24,7 @@ end_of (m ∷ ms) (e ∷ ends) n = cond (nat_eq n m) e (end_of ms ends n)
 -- numbers that are counted on lie above the first
 numbers_above : {Y : Type 0} (p : ℕ × Y → Bool) (m n : ℕ) (xs : List Y) → m < n → All (λ (y : ℕ × Y). nat_eq y.0 m ≡ false) (filter p (enumerate_from n xs))
 numbers_above p m n [] less = All-nil (λ (y : ℕ × _). nat_eq y.0 m ≡ false)
-numbers_above p m n (x ∷ xs) less =
-    let rest = numbers_above p m (n + 1) xs (omega arith) in
-    let first : nat_eq n m ≡ false = grind (arith, nat_tests) in
-    by_test (p (n, x))
-    (λ here. rw here (All-cons (λ (y : ℕ × _). nat_eq y.0 m ≡ false) (n, x) (filter p (enumerate_from (n + 1) xs)) first rest))
-    (λ there. rw there rest)
+numbers_above p m n (x ∷ xs) less = grind (arith, common_steps, numbers_above p m (n + 1) xs (omega arith))
 
 pub numbers_apart : {Y : Type 0} (p : ℕ × Y → Bool) (n : ℕ) (xs : List Y) → AreApart (filter p (enumerate_from n xs))
 numbers_apart p n [] = tt

@@ -5,6 +5,7 @@ use Rattle.std.specs.List.{AllZip, zip}
 use Rattle.std.specs.Option.{option_or, unwrap_or}
 use Rattle.std.proofs.lemmas.Bool.{eqb-true}
 use Rattle.std.proofs.lemmas.List.Elements.{All-nil, All-cons, All-head, All-tail}
+use Rattle.std.proofs.lemmas.Grind.{common_steps}
 use Rattle.cluster_slots.specs.Address.{Address}
 use Rattle.resp_core.specs.ErrorParts.{ErrorParts}
 use Rattle.resp_core.proofs.Cases.{by_test}
@@ -58,10 +59,7 @@ module _ {X : Type 0} (slot : X → ℕ) where
   -- what holds of those that go on, and of one more where it was sent on
   go_more : (P : X → Type 0) (x : X) (on : Option Address) (zs : List (X × Option Address)) → (IsSome on → P x) → All P (go_on slot zs) → All P (go_on slot ((x, on) ∷ zs))
   go_more P x None zs own rest = rest
-  go_more P x (Some node) zs own rest =
-      by_test (is_settled slot (slot x) zs)
-      (λ ends. rw ends rest)
-      (λ goes. rw goes (All-cons P x (go_on slot zs) (own refl) rest))
+  go_more P x (Some node) zs own rest = grind (arith, common_steps)
 
   -- what holds of all parts, as they were sent on, holds of those that go on
   pub go_all : (P : X → Type 0) (zs : List (X × Option Address)) → All (λ z. IsSome z.1 → P z.0) zs → All P (go_on slot zs)

@@ -1,7 +1,8 @@
 -- Filters inside filters, and facts that hold of a list slot by slot.
-use Rattle.std.proofs.Common.{◌≡◌, ℕ, List, [], ◌∷◌, Bool, true, false, cond, All, refl, sym, ap, ◌∙◌, filter}
+use Rattle.std.proofs.Common.{◌≡◌, ℕ, List, [], ◌∷◌, Bool, true, false, All, refl, ap, ◌∙◌, filter, arith}
 use Rattle.std.specs.Prelude.{nat_eq}
 use Rattle.std.proofs.lemmas.List.Elements.{All-nil, All-cons, All-head, All-tail}
+use Rattle.std.proofs.lemmas.Grind.{common_steps}
 use Rattle.resp_core.proofs.Cases.{by_test}
 use Rattle.redis_cluster.proofs.Counts.{same_number}
 use Rattle.redis_batches.specs.Turns.{of_slot}
@@ -10,23 +11,13 @@ use Rattle.redis_batches.specs.Turns.{of_slot}
 pub filter_inside : {X : Type 0} (p q : X → Bool) → ((x : X) → p x ≡ true → q x ≡ true) → (xs : List X)
     → filter p (filter q xs) ≡ filter p xs
 filter_inside p q under [] = refl
-filter_inside p q under (x ∷ xs) =
-    let rest = filter_inside p q under xs in
-    by_test (q x)
-    (λ here. rw here (ap (λ l. cond (p x) (x ∷ l) l) rest))
-    (λ there. by_test (p x)
-    (λ h. absurd (let e = under x h in cc))
-    (λ h. rw (there, h) rest))
+filter_inside p q under (x ∷ xs) = grind (arith, common_steps, filter_inside p q under xs)
 
 -- a filter that takes nothing of what another one takes leaves nothing of it
 pub filter_apart : {X : Type 0} (p q : X → Bool) → ((x : X) → q x ≡ true → p x ≡ false) → (xs : List X)
     → filter p (filter q xs) ≡ []
 filter_apart p q apart [] = refl
-filter_apart p q apart (x ∷ xs) =
-    let rest = filter_apart p q apart xs in
-    by_test (q x)
-    (λ here. rw (here, filter, apart x here) rest)
-    (λ there. rw there rest)
+filter_apart p q apart (x ∷ xs) = grind (arith, common_steps, filter_apart p q apart xs)
 
 -- a filter keeps what passes, and drops what does not
 pub filter_kept : {X : Type 0} (p : X → Bool) (xs : List X) → All (λ x. p x ≡ true) xs → filter p xs ≡ xs
@@ -47,15 +38,7 @@ filter_later p x xs there = rw there refl
 -- two filters may change places
 pub filter_swap : {X : Type 0} (p q : X → Bool) (xs : List X) → filter p (filter q xs) ≡ filter q (filter p xs)
 filter_swap p q [] = refl
-filter_swap p q (x ∷ xs) =
-    let rest = filter_swap p q xs in
-    by_test (p x)
-    (λ one. by_test (q x)
-    (λ two. ap (filter p) (filter_first q x xs two) ∙ filter_first p x (filter q xs) one ∙ ap (λ l. x ∷ l) rest ∙ sym (ap (filter q) (filter_first p x xs one) ∙ filter_first q x (filter p xs) two))
-    (λ two. ap (filter p) (filter_later q x xs two) ∙ rest ∙ sym (ap (filter q) (filter_first p x xs one) ∙ filter_later q x (filter p xs) two)))
-    (λ one. by_test (q x)
-    (λ two. ap (filter p) (filter_first q x xs two) ∙ filter_later p x (filter q xs) one ∙ rest ∙ sym (ap (filter q) (filter_later p x xs one)))
-    (λ two. ap (filter p) (filter_later q x xs two) ∙ rest ∙ sym (ap (filter q) (filter_later p x xs one))))
+filter_swap p q (x ∷ xs) = grind (arith, common_steps, filter_swap p q xs)
 
 -- what holds of each element of each slot holds of each element
 pub all_by_slot : {Y : Type 0} (slot : Y → ℕ) (P : Y → Type 0) (ys : List Y) → ((s : ℕ) → All P (of_slot slot s ys)) → All P ys

@@ -1,7 +1,8 @@
 -- The part of a slot reads and writes nothing but the keys of the slot.
-use Rattle.std.proofs.Common.{◌≡◌, ℕ, List, [], ◌∷◌, true, false, cond, Ok, refl, sym, ap, ◌∙◌}
+use Rattle.std.proofs.Common.{◌≡◌, ℕ, List, [], ◌∷◌, true, false, Ok, refl, sym, ap, ◌∙◌, arith}
 use Rattle.std.specs.Prelude.{nat_eq}
 use Rattle.std.proofs.lemmas.List.{append-nil}
+use Rattle.std.proofs.lemmas.Grind.{common_steps}
 use Rattle.cluster_slots.specs.KeySlot.{key_slot}
 use Rattle.resp_core.proofs.Cases.{by_test}
 use Rattle.redis_cluster.specs.MultiKey.{KeyTuple, MultiKey, tuples_of_slot, part_of}
@@ -22,14 +23,7 @@ module _ {C R : Type 0} (slot : ℕ) (effect : Effect C R) where
 
   -- Whatever is done to a shelf is local.
   pub shelf_local : IsLocal slot (in_shelf slot effect)
-  shelf_local = record {
-    elsewhere = λ ks key away. ap (λ b. cond b ((effect (shelf slot ks)).keys key) (ks key)) away;
-    here = λ ks other agree key own.
-        ap (λ b. cond b ((effect (shelf slot ks)).keys key) (ks key)) own
-        ∙ ap (λ s. (effect s).keys key) (one_shelf ks other agree)
-        ∙ sym (ap (λ b. cond b ((effect (shelf slot other)).keys key) (other key)) own);
-    reply = λ ks other agree. ap (λ s. (effect s).reply) (one_shelf ks other agree);
-  }
+  shelf_local = grind (arith, common_steps)
 
 module _ {C : Type 0} (act : Act C) (slot : ℕ) (ts : List KeyTuple) where
   -- a part is the only one of its slot

@@ -1,14 +1,14 @@
 -- Parts are placed one by one, up to the first whose slot has no node.
-use Rattle.std.proofs.Common.{◌≡◌, ◌<◌, ◌+◌, ℕ, List, [], ◌∷◌, ◌++◌, Option, Some, Result, Ok, Err, IfErr, IsErrAnd, OnOk, All, Bor, refl, sym, ap, subst, ◌∙◌, length, map, option_map, take, drop, get_or}
+use Rattle.std.proofs.Common.{◌≡◌, ◌<◌, ◌+◌, ℕ, List, [], ◌∷◌, ◌++◌, Option, Some, Result, Ok, Err, IfErr, IsErrAnd, OnOk, All, Bor, refl, sym, ap, subst, ◌∙◌, length, map, option_map, take, drop, get_or, arith}
 use Rattle.std.specs.Prelude.{slice_get}
 use Rattle.std.specs.List.{AllZip, flat_map}
 use Rattle.std.specs.declared.alloc.Global.{Global}
 use Rattle.std.specs.declared.vec.Vec.{Vec}
-use Rattle.std.proofs.lemmas.Grind.{flat_map-append}
-use Rattle.std.proofs.lemmas.List.{append_assoc, append-nil, map_push, take-append-drop, take-map, take_more}
+use Rattle.std.proofs.lemmas.List.{append_assoc, map_push, take-append-drop, take-map}
 use Rattle.std.proofs.lemmas.List.Elements.{All-append, All-cons, All-map, All-more, All-nil}
-use Rattle.std.proofs.lemmas.Option.{same_Some, slice_get-map, slice_get_read}
+use Rattle.std.proofs.lemmas.Option.{slice_get-map, slice_get_read}
 use Rattle.std.proofs.lemmas.Slice.Zip.{all_zipped_more}
+use Rattle.std.proofs.lemmas.Grind.{common_steps}
 use Rattle.cluster_slots.specs.Address.{Address}
 use Rattle.cluster_slots.specs.SlotRoute.{SlotRoute}
 use Rattle.cluster_map.specs.RangeMap.{IsUncovered}
@@ -86,8 +86,7 @@ parts_next split i route at =
     at_take part (slots_of split.routes) i route.0.slot (slice_get-map (λ (r : SlotRoute × List ℕ). r.0.slot) split.routes i ∙ ap (option_map (λ (r : SlotRoute × List ℕ). r.0.slot)) at)
 
 pub part_next : (split : Split) (i : ℕ) (route : SlotRoute × List ℕ) (args : List (List ℕ)) → slice_get split.routes i ≡ Some route → Some (map Some args) ≡ route_part split i → map Some args ≡ split_part split route.0.slot
-part_next split i route args at is =
-    same_Some (map Some args) (split_part split route.0.slot) (is ∙ ap (option_map (λ (r : SlotRoute × List ℕ). split_part split r.0.slot)) at)
+part_next split i route args at is = grind (arith, common_steps)
 
 -- one that is covered, after those before
 pub covered_next : (ranges : Ranges) {X : Type 0} (slot : X → ℕ) (xs : List X) (i : ℕ) (x : X) → slice_get xs i ≡ Some x → IsCovered ranges (slot x) → All (IsCovered ranges) (take i (map slot xs)) → All (IsCovered ranges) (take (i + 1) (map slot xs))
@@ -138,9 +137,7 @@ fault_of_command ranges tasks i task (NotCovered number slot) within is covered 
 
 -- one command more
 pub command_next : (tasks : List CommandTask) (i : ℕ) (task : CommandTask) → i < length tasks → task ≡ get_or tasks i task → flat_map slot_parts (take i tasks) ++ slot_parts task ≡ flat_map slot_parts (take (i + 1) tasks)
-command_next tasks i task within is =
-    sym (ap (flat_map slot_parts) (take_more tasks i task within ∙ ap (λ t. take i tasks ++ t ∷ []) (sym is)) ∙ flat_map-append slot_parts (take i tasks) (task ∷ [])
-    ∙ ap (λ l. flat_map slot_parts (take i tasks) ++ l) (append-nil (slot_parts task)))
+command_next tasks i task within is = grind (arith, common_steps)
 
 pub commands_covered : (ranges : Ranges) (tasks : List CommandTask) (i : ℕ) (task : CommandTask) → i < length tasks → task ≡ get_or tasks i task → All (λ t. All (IsCovered ranges) (slots_kept t)) (take i tasks)
     → All (IsCovered ranges) (slots_kept task) → All (λ t. All (IsCovered ranges) (slots_kept t)) (take (i + 1) tasks)

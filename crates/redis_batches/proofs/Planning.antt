@@ -2,11 +2,10 @@
 use Rattle.std.proofs.Common.{◌≡◌, ◌≤◌, ◌+◌, ℕ, zero, suc, List, [], ◌∷◌, ◌++◌, Bool, true, false, cond, Some, All, refl, sym, ap, subst, ◌∙◌, arith, map, length, get_or}
 use Rattle.std.specs.Prelude.{nat_eq}
 use Rattle.std.specs.List.{AllZip, flat_map, list_any, sum_by}
-use Rattle.std.specs.Option.{option_map_or}
 use Rattle.std.proofs.lemmas.Bool.{eqb-true}
-use Rattle.std.proofs.lemmas.List.{length-append, length-map, map-append}
-use Rattle.std.proofs.lemmas.List.Sums.{sum_by-cons}
+use Rattle.std.proofs.lemmas.List.{length-map, map-append}
 use Rattle.std.proofs.lemmas.List.Elements.{All-nil, All-cons, All-head, All-tail, All-weaker}
+use Rattle.std.proofs.lemmas.Grind.{common_steps}
 use Rattle.resp_core.proofs.Cases.{by_test, or_second}
 use Rattle.cluster_slots.specs.Address.{Address}
 use Rattle.cluster_slots.specs.KeySlot.{key_slot}
@@ -96,8 +95,7 @@ meant registered [] [] (q ∷ qs) same each = absurd each
 meant registered (a ∷ parts) [] qs same each = absurd (cc same)
 meant registered [] (p ∷ of) qs same each = absurd (cc same)
 meant registered (a ∷ parts) (p ∷ of) [] same each = absurd each
-meant registered (a ∷ parts) (p ∷ of) (q ∷ qs) same each =
-    ap (λ t. t ∷ map (task_of registered) parts) (each.0.1 a (same_head same)) ∙ ap (λ l. Some q.task ∷ l) (meant registered parts of qs (same_tail same) each.1)
+meant registered (a ∷ parts) (p ∷ of) (q ∷ qs) same each = grind (arith, common_steps, meant registered parts of qs (same_tail same) each.1)
 
 -- the nodes of the parts
 nodes_of : (is_node : ℕ → Address → Type 0) (registered : Registrations) (of : List SlotPart) (qs : List Part) (nodes : List Address) → AllZip (λ p node. is_node p.0 node) of nodes → AllZip (IsPartOf registered) of qs
@@ -148,19 +146,11 @@ all_slots_of_kept : (registered : Registrations) (tasks : List Task) (kept : Lis
 all_slots_of_kept registered [] [] each = refl
 all_slots_of_kept registered [] (k ∷ kept) each = absurd each
 all_slots_of_kept registered (t ∷ tasks) [] each = absurd each
-all_slots_of_kept registered (t ∷ tasks) (k ∷ kept) each =
-    ap (λ s. s ∷ map slots_kept kept) (slots_of_kept registered t k each.0) ∙ ap (λ l. slots_of_task t ∷ l) (all_slots_of_kept registered tasks kept each.1)
-
--- how many parts there are
-count_of_kept : (kept : CommandTask) → length (slot_parts kept) ≡ part_count (split_in kept)
-count_of_kept (InSlot slot command) = refl
-count_of_kept (OverKeys split) = length-map (slots_of split.routes) (λ slot. (slot, split_part split slot)) ∙ length-map split.routes (λ r. r.0.slot)
+all_slots_of_kept registered (t ∷ tasks) (k ∷ kept) each = grind (arith, common_steps, all_slots_of_kept registered tasks kept each.1)
 
 counts_of_kept : (kept : List CommandTask) → length (flat_map slot_parts kept) ≡ sum_by part_count (map split_in kept)
 counts_of_kept [] = refl
-counts_of_kept (k ∷ kept) =
-    length-append (slot_parts k) (flat_map slot_parts kept) ∙ ap (λ n. n + length (flat_map slot_parts kept)) (count_of_kept k) ∙ ap (λ n. part_count (split_in k) + n) (counts_of_kept kept)
-    ∙ sym (sum_by-cons part_count (split_in k) (map split_in kept))
+counts_of_kept (k ∷ kept) = grind (arith, common_steps, counts_of_kept kept)
 
 pub has_parts : (is_node : ℕ → Address → Type 0) (kept : List CommandTask) (parts : List (List (List ℕ))) (nodes : List Address) → ArePlaced is_node (flat_map slot_parts kept) parts nodes → sum_by part_count (map split_in kept) ≡ length parts
 has_parts is_node kept parts nodes placed =
@@ -180,8 +170,7 @@ nodes_for_parts is_node of parts nodes placed =
 -- the parts as a plan has them
 pub placed_parts : (is_node : ℕ → Address → Type 0) (tasks kept : List CommandTask) (made parts : List (List (List ℕ))) (nodes : List Address) → tasks ≡ kept → parts ≡ made → ArePlaced is_node (flat_map slot_parts tasks) made nodes
     → ArePlaced is_node (flat_map slot_parts kept) parts nodes
-placed_parts is_node tasks kept made parts nodes is same placed =
-    subst (λ ps. ArePlaced is_node (flat_map slot_parts kept) ps nodes) (sym same) (subst (λ ks. ArePlaced is_node (flat_map slot_parts ks) made nodes) is placed)
+placed_parts is_node tasks kept made parts nodes is same placed = grind (arith, common_steps)
 
 -- there are as many tasks as commands
 pub tasks_long : (registered : Registrations) (commands : List (List (List ℕ))) (kept : List CommandTask) → AllZip (IsTaskFor registered) commands kept → length kept ≡ length commands
@@ -195,9 +184,7 @@ pub written_is : (names : Names) (commands : List (List (List ℕ))) (kept : Lis
 written_is names [] [] each = refl
 written_is names [] (k ∷ kept) each = absurd each
 written_is names (a ∷ commands) [] each = absurd each
-written_is names (a ∷ commands) (k ∷ kept) each =
-    let slots : slots_kept k ≡ option_map_or slots_of_task (task_of names.registered a) [] = slots_of_kept names.registered each.0.0 k each.0.2 ∙ sym (ap (λ t. option_map_or slots_of_task t []) each.0.1) in
-    ap (λ own. cond (only_reads names.only_reads a) [] own ++ all_written names.only_reads commands kept) slots ∙ ap (λ l. slots_written names a ++ l) (written_is names commands kept each.1)
+written_is names (a ∷ commands) (k ∷ kept) each = grind (arith, common_steps, written_is names commands kept each.1)
 
 -- the slots of the parts of a command are its own
 part_slots : (task : Task) (slots : List ℕ) → map (λ (q : Part). q.slot) (map (λ slot. record { slot = slot; task = part task slot }) slots) ≡ slots

@@ -1,6 +1,6 @@
 -- Where no strategy is lent, the node of a slot is its primary.
-use Rattle.std.proofs.Common.{◌≡◌, ℕ, Bool, true, false, not, List}
-use Rattle.std.proofs.lemmas.List.Elements.{All-weaker}
+use Rattle.std.proofs.Common.{◌≡◌, ℕ, Bool, true, false, not, List, arith}
+use Rattle.std.proofs.lemmas.Grind.{common_steps}
 use Rattle.cluster_slots.specs.Address.{Address}
 use Rattle.cluster_slots.specs.SlotRoute.{SlotRoute}
 use Rattle.cluster_map.specs.RouteNode.{IsNodeFor, IsNodeOfRoute}
@@ -8,9 +8,8 @@ use Rattle.cluster_map.specs.SlotNodes.{SlotNodes}
 use Rattle.redis_routing.specs.Names.{Names}
 use Rattle.redis_routing.specs.Registry.{Registrations}
 use Rattle.redis_routing.specs.Routing.{nodes_for}
-use Rattle.redis_batches.specs.Pipeline.{Part}
 use Rattle.redis_batches.specs.Placed.{IsPrimaryOf, Ranges}
-use Rattle.redis_batches.specs.PipelinePlan.{IsPlanOfCommands, PipelineBatches, pieces_of}
+use Rattle.redis_batches.specs.PipelinePlan.{IsPlanOfCommands, PipelineBatches}
 use Rattle.redis_batches.specs.Reads.{is_written}
 
 -- the route of a slot in a pipeline
@@ -28,18 +27,7 @@ primary_of_slot ranges names commands slot address is = (is.0, is.1, primary_for
 -- a plan holds for whatever its nodes are
 plan_with : (registered : Registrations) (one other : ℕ → Address → Type 0) → ((slot : ℕ) (address : Address) → one slot address → other slot address) → (commands : List (List (List ℕ))) (plan : PipelineBatches)
     → IsPlanOfCommands registered one commands plan → IsPlanOfCommands registered other commands plan
-plan_with registered one other weaker commands plan is = record {
-  tasks = is.tasks;
-  tasks_are = is.tasks_are;
-  parts_are = is.parts_are;
-  arguments = is.arguments;
-  node_of = is.node_of;
-  nodes_are = All-weaker (λ (q : Part). one q.slot (is.node_of q.slot)) (λ q. other q.slot (is.node_of q.slot))
-      (λ q has. weaker q.slot (is.node_of q.slot) has) (pieces_of is.tasks) is.nodes_are;
-  by_node = is.by_node;
-  slots_are = is.slots_are;
-  targets_are = is.targets_are;
-}
+plan_with registered one other weaker commands plan is = grind (arith, common_steps)
 
 module _ (registered : Registrations) (ranges : Ranges) (names : Names) (commands : List (List (List ℕ))) where
   pub to_primaries : (plan : PipelineBatches) → IsPlanOfCommands registered (λ slot address. IsNodeOfRoute ranges (pipeline_route names commands slot) 0 address) commands plan

@@ -1,8 +1,9 @@
 -- Replies are put back in the order of the commands, from the last command to the first.
 use Rattle.std.proofs.Common.{◌≡◌, ◌<◌, ℕ, ◌+◌, List, [], ◌∷◌, ◌++◌, Result, refl, sym, ap, subst, ◌∙◌, arith, length, map, reverse, append_assoc, length-append, take, get_or}
 use Rattle.std.specs.List.{sum_by}
-use Rattle.std.proofs.lemmas.List.{append-nil, drop_at, length-map, map-append, map_push, nil_from_length, reverse-append, take_at, take_more}
+use Rattle.std.proofs.lemmas.List.{append-nil, length-map, map-append, map_push, nil_from_length, reverse-append, take_more}
 use Rattle.std.proofs.lemmas.List.Sums.{sum_by_push}
+use Rattle.std.proofs.lemmas.Grind.{common_steps}
 use Rattle.resp_core.specs.ErrorParts.{ErrorParts}
 use Rattle.resp_core.specs.declared.value.Value.{Value}
 use Rattle.redis_batches.specs.declared.task.CommandTask.{CommandTask}
@@ -16,10 +17,7 @@ use Rattle.redis_batches.proofs.ServerReplies.{as_many_parts}
 -- one command more in front
 pub reply_in_front : (task : Task) (tasks : List Task) (own answers : List Answer) (reply : Answer) (replies : List Answer) → length own ≡ length (slots_of_task task)
     → IsReplyTo task own reply → AreRepliesTo tasks answers replies → AreRepliesTo (task ∷ tasks) (own ++ answers) (reply ∷ replies)
-reply_in_front task tasks own answers reply replies long is later = (
-  subst (λ l. IsReplyTo task l reply) (sym (take_at own answers (length (slots_of_task task)) long)) is,
-  subst (λ l. AreRepliesTo tasks l replies) (sym (drop_at own answers (length (slots_of_task task)) long)) later,
-)
+reply_in_front task tasks own answers reply replies long is later = grind (arith, common_steps)
 
 -- the replies to some commands, whatever they mean
 abbrev AreFor : List CommandTask → List Answer → List Answer → Type 0

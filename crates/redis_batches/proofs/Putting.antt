@@ -2,9 +2,10 @@
 use Rattle.std.proofs.Common.{◌≡◌, ◌<◌, ◌≤◌, ℕ, ◌+◌, zero, suc, List, [], ◌∷◌, ◌++◌, Some, Result, All, refl, sym, ap, ◌∙◌, subst, arith, length, drop, get_or, option_map, map}
 use Rattle.std.specs.Prelude.{nat_eq, slice_get, slice_set}
 use Rattle.std.proofs.lemmas.Bool.{eqb-true}
-use Rattle.std.proofs.lemmas.List.{drop_all, drop_more, length-set, length_push, map-set}
-use Rattle.std.proofs.lemmas.List.Elements.{All-cons, All-nil}
+use Rattle.std.proofs.lemmas.List.{drop_more, length-set, length_push, map-set}
+use Rattle.std.proofs.lemmas.List.Elements.{All-cons}
 use Rattle.std.proofs.lemmas.Option.{same_Some, slice_get-map, slice_get_read}
+use Rattle.std.proofs.lemmas.Grind.{common_steps}
 use Rattle.resp_core.proofs.Cases.{by_test}
 use Rattle.resp_core.specs.ErrorParts.{ErrorParts}
 use Rattle.resp_core.specs.declared.value.Value.{Value}
@@ -29,11 +30,6 @@ drop_there [] n x at = absurd (cc at)
 drop_there (y ∷ xs) zero x at = ap (λ z. z ∷ xs) (same_Some y x at)
 drop_there (y ∷ xs) (suc n) x at = drop_there xs n x at
 
--- nothing is put anywhere
-put_none : {X : Type 0} (all : List X) (places : List ℕ) → put_at all places [] ≡ all
-put_none all [] = refl
-put_none all (place ∷ places) = refl
-
 -- what is made of each stands at the same places
 pub map-put_at : {X Y : Type 0} (f : X → Y) (all : List X) (places : List ℕ) (xs : List X) → map f (put_at all places xs) ≡ put_at (map f all) places (map f xs)
 map-put_at f all [] xs = refl
@@ -51,14 +47,7 @@ pub record ArePut (out now : List (Result Value ErrorParts)) (given left : List 
 
 -- none is put at its place at first
 pub none_put : (out given : List (Result Value ErrorParts)) (places : List ℕ) → length given ≡ length places → ArePut out out given given places
-none_put out given places same = record {
-  put = sym (ap (put_at out (drop (length given) places)) (drop_all (length given) given (omega arith)) ∙ put_none out (drop (length given) places));
-  len = refl;
-  few = omega (arith, same);
-  front = λ i under. refl;
-  right = λ all for. subst (All (IsRight out all)) (sym (drop_all (length given) places (omega (arith, same)))) (All-nil (IsRight out all));
-  kept = λ all for place was. was;
-}
+none_put out given places same = grind (arith, common_steps)
 
 -- one answer more is put at its place
 pub put_one : (out now given left rest : List (Result Value ErrorParts)) (answer : Result Value ErrorParts) (places : List ℕ)

@@ -1,7 +1,8 @@
 -- Where nodes refuse some parts: what stands, and what is answered, is as if one server had taken the others alone.
-use Rattle.std.proofs.Common.{◌≡◌, ℕ, List, [], ◌∷◌, Option, None, Some, All, refl, sym, subst, filter}
+use Rattle.std.proofs.Common.{◌≡◌, ℕ, List, [], ◌∷◌, Option, None, Some, All, sym, subst, arith}
 use Rattle.std.specs.Prelude.{nat_eq}
 use Rattle.std.proofs.lemmas.List.Elements.{All-nil, All-cons, All-head, All-tail, All-filter}
+use Rattle.std.proofs.lemmas.Grind.{common_steps}
 use Rattle.resp_core.specs.ErrorParts.{ErrorParts}
 use Rattle.redis_cluster.specs.Unsplit.{Step, Keyspace}
 use Rattle.redis_batches.specs.Served.{Effect, IsLocal}
@@ -15,11 +16,7 @@ use Rattle.redis_batches.proofs.KeptSlots.{numbered_local}
 -- a refusal touches no slot
 refused_local : {C : Type 0} (s : ℕ) (effect : Effect C Answer) (o : Option ErrorParts) → IsLocal s effect → IsLocal s (refused_by o effect)
 refused_local s effect None local = local
-refused_local s effect (Some error) local = record {
-  elsewhere = λ ks key away. refl;
-  here = λ ks other agree. agree;
-  reply = λ ks other agree. refl;
-}
+refused_local s effect (Some error) local = grind (arith, common_steps)
 
 module _ {C : Type 0} (step : Step C) (serve : Serve C) (refusals : Refusals) where
   pub ended_local : (xs : List Numbered) → All (λ x. IsLocal (slot_of x) (piece_of step serve x)) xs → All (λ x. IsLocal (slot_of x) ((ended step serve refusals) x)) xs

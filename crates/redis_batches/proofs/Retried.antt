@@ -1,8 +1,9 @@
 -- A pipeline that was sent in rounds: what its replies are, and what stands after a fault.
-use Rattle.std.proofs.Common.{◌≡◌, ℕ, ◌+◌, List, [], ◌∷◌, ◌++◌, true, Some, None, Result, All, inr, refl, sym, ap, subst, ◌∙◌, append_assoc, arith, filter, map, length}
+use Rattle.std.proofs.Common.{◌≡◌, ℕ, ◌+◌, List, [], ◌∷◌, ◌++◌, true, None, Result, All, inr, refl, sym, ap, subst, ◌∙◌, append_assoc, arith, filter, map, length}
 use Rattle.std.specs.List.{AllZip, enumerate_from, flat_map, range_with_len, zip}
 use Rattle.std.proofs.lemmas.List.{length-map}
 use Rattle.std.proofs.lemmas.List.FromFn.{length-enumerate_from}
+use Rattle.std.proofs.lemmas.Grind.{common_steps}
 use Rattle.cluster_slots.specs.Address.{Address}
 use Rattle.resp_core.specs.ErrorParts.{ErrorParts}
 use Rattle.resp_core.specs.declared.value.Value.{Value}
@@ -103,8 +104,7 @@ module _ {S : Type 0} {N : Ghosts S} {old mid : S} {batches : Batches} {order : 
   nodes_many are = ap length are ∙ ap length sendable.of_commands.targets_are ∙ length-map (pieces ps) (λ q. sendable.of_commands.node_of q.slot)
 
   pub answers_many : length given ≡ length batches.parts → length given ≡ length (pieces ps)
-  answers_many long =
-      long ∙ ap (λ (b : Batches). length b.parts) same ∙ sym (length-map plan.batches.parts (task_of (N.registered old))) ∙ ap length sendable.of_commands.parts_are ∙ length-map (pieces ps) (λ q. Some q.task)
+  answers_many long = grind (arith, common_steps)
 
   -- its parts, and what follows the first round
   pub record GoesAgain (arguments : List (List (List ℕ))) (slots : List ℕ) (out : Outgoing) : Type 0 where
@@ -204,12 +204,7 @@ module _ {S : Type 0} {N : Ghosts S} {old mid : S} {batches : Batches} {order : 
           again = subst (λ a. AreSentAgain N mid new a first retries ps before after) goes.arguments_are was
 
           stands : N.kept new → Stands N.step N.serve ps served.refusals first (N.state old).keyspace (N.state mid).keyspace before
-          stands keep = record {
-            as_one = record { keyspace = served.keyspace (one.kept keep); answers_are = sym given_are ∙ served.answers_are (one.kept keep) };
-            own = λ k d inside. refl;
-            before = (N.state old).keyspace;
-            given_are = served.answers_are (one.kept keep);
-          }
+          stands keep = grind (arith, common_steps)
 
           -- which parts were refused at last
           abbrev last : Refusals

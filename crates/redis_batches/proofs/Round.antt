@@ -5,7 +5,7 @@ use Rattle.std.specs.List.{enumerate_from, zip}
 use Rattle.std.proofs.lemmas.List.{append-nil, length-append, length-map, map-append}
 use Rattle.std.proofs.lemmas.List.FromFn.{length-enumerate_from}
 use Rattle.std.proofs.lemmas.List.Elements.{All-nil, All-cons, All-append, All-filter, All-map}
-use Rattle.std.proofs.lemmas.Option.{same_Some}
+use Rattle.std.proofs.lemmas.Grind.{common_steps}
 use Rattle.resp_core.specs.ErrorParts.{ErrorParts}
 use Rattle.resp_core.specs.declared.value.Value.{Value}
 use Rattle.redis_cluster.specs.Orders.{times, NamesOnce, in_order}
@@ -78,9 +78,7 @@ module _ {S : Type 0} (N : Ghosts S) (at_start : S) (plan : Batches) {ps : List 
   module _ (i k : ℕ) (inside : i < length order) (at : k ≡ get_or order i 0) where
     -- the places that are read are those of the batch
     pub places_at : (found : List ℕ) → slice_get plan.places k ≡ Some found → found ≡ numbers_in is.batch ps k
-    places_at found there =
-        let below : k < length plan.places = subst (λ j. j < length plan.places) (sym at) (names.below i 0 inside) in
-        same_Some found (numbers_in is.batch ps k) (sym there ∙ is.places_are k below)
+    places_at found there = grind (arith, common_steps)
 
   -- what is answered in the end, where these parts are refused
   abbrev pub expected : Refusals → List Answer
@@ -291,12 +289,7 @@ module _ {S : Type 0} (N : Ghosts S) (at_start : S) (plan : Batches) {ps : List 
 
   -- the first batches were taken
   pub taken_so_far : (i : ℕ) {now new : S} → (N.kept new → N.kept now) → {out : List (Result Value ErrorParts)} → IsSoFar i now out → AreTaken N at_start new ps plan is.batch (take i order) (N.state at_start) (N.state now)
-  taken_so_far i before_it so_far = record {
-    refusals = so_far.refusals;
-    trace = so_far.trace;
-    allowed = so_far.allowed;
-    keyspace = λ keep. so_far.keyspace (before_it keep);
-  }
+  taken_so_far i before_it so_far = grind (arith, common_steps)
 
   -- In the end the pipeline was served.
   pub at_end : (i : ℕ) → length order ≤ i → (now : S) (out : List (Result Value ErrorParts)) → length out ≡ length plan.parts → IsSoFar i now out

@@ -5,9 +5,10 @@ use Rattle.std.specs.List.{enumerate_from}
 use Rattle.std.specs.Option.{option_to_list}
 use Rattle.std.proofs.lemmas.Bool.Decides.{nat_tests}
 use Rattle.std.proofs.lemmas.Grind.{flat_map-append}
-use Rattle.std.proofs.lemmas.List.{append-nil, drop_more, take_more, take-append-drop}
+use Rattle.std.proofs.lemmas.List.{drop_more, take-append-drop}
 use Rattle.std.proofs.lemmas.List.Elements.{All-nil, All-cons, All-head, All-tail}
 use Rattle.std.proofs.lemmas.Option.{same_Some}
+use Rattle.std.proofs.lemmas.Grind.{common_steps}
 use Rattle.resp_core.proofs.Cases.{by_test}
 use Rattle.redis_cluster.specs.Orders.{in_order}
 use Rattle.redis_cluster.specs.Unsplit.{Keyspace}
@@ -62,19 +63,12 @@ picked all n p (x ∷ xs) at =
 -- numbers are below what comes after the last
 pub numbers_below : {X : Type 0} (n m : ℕ) (p : ℕ × X → Bool) (xs : List X) → n + length xs ≤ m → All (λ k. k < m) (map (λ (x : ℕ × X). x.0) (filter p (enumerate_from n xs)))
 numbers_below n m p [] le = All-nil (λ k. k < m)
-numbers_below n m p (x ∷ xs) le =
-    let rest = numbers_below (n + 1) m p xs (omega arith) in
-    by_test (p (n, x))
-    (λ here. rw here (All-cons (λ k. k < m) n (map (λ (y : _ × _). y.0) (filter p (enumerate_from (n + 1) xs))) (omega arith) rest))
-    (λ there. rw there rest)
+numbers_below n m p (x ∷ xs) le = grind (arith, common_steps, numbers_below (n + 1) m p xs (omega arith))
 
 module _ {X : Type 0} (batch : X → ℕ) (xs : List X) (order : List ℕ) (i k : ℕ) (within : i < length order) (is : k ≡ get_or order i 0) where
   -- one batch more comes at the end
   pub one_batch_more : batch_by_batch batch (take (i + 1) order) xs ≡ batch_by_batch batch (take i order) xs ++ of_slot batch k xs
-  one_batch_more =
-      ap (λ o. batch_by_batch batch o xs) (take_more order i 0 within ∙ ap (λ j. take i order ++ j ∷ []) (sym is))
-      ∙ flat_map-append (λ j. of_slot batch j xs) (take i order) (k ∷ [])
-      ∙ ap (λ l. batch_by_batch batch (take i order) xs ++ l) (append-nil (of_slot batch k xs))
+  one_batch_more = grind (arith, common_steps)
 
   -- all batches are those so far, this one, and the others
   pub batches_split : batch_by_batch batch order xs ≡ batch_by_batch batch (take i order) xs ++ (of_slot batch k xs ++ batch_by_batch batch (drop (i + 1) order) xs)

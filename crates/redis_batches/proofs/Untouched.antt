@@ -1,10 +1,11 @@
 -- The reply to a command none of whose parts was refused, among others that were.
-use Rattle.std.proofs.Common.{◌≡◌, ◌≤◌, ℕ, ◌+◌, suc, List, [], ◌∷◌, ◌++◌, None, Some, All, refl, sym, ap, subst, ◌∙◌, arith, length, map, take, drop, length-append, append_assoc}
+use Rattle.std.proofs.Common.{◌≡◌, ◌≤◌, ℕ, ◌+◌, suc, List, [], ◌∷◌, ◌++◌, None, Some, All, refl, sym, ap, subst, ◌∙◌, arith, length, map, drop, append_assoc}
 use Rattle.std.specs.Prelude.{slice_get}
 use Rattle.std.specs.List.{AllByRecursion, enumerate_from}
-use Rattle.std.proofs.lemmas.List.{drop-append-le, length-drop, length-map, map-append, nil_from_length, take_at}
+use Rattle.std.proofs.lemmas.List.{drop-append-le, length-drop, length-map, map-append}
 use Rattle.std.proofs.lemmas.List.Elements.{All-head, All-tail}
 use Rattle.std.proofs.lemmas.List.FromFn.{length-enumerate_from}
+use Rattle.std.proofs.lemmas.Grind.{common_steps}
 use Rattle.redis_cluster.specs.Unsplit.{Step, Keyspace}
 use Rattle.redis_batches.specs.Served.{Effect}
 use Rattle.redis_batches.specs.Turns.{all_after, answers}
@@ -18,18 +19,13 @@ use Rattle.redis_batches.proofs.Whole.{answers-append, task_answers}
 
 -- one command more has its parts in front
 pub pieces_more : (task : Task) (tasks : List Task) → length (pieces (map with_slots (task ∷ tasks))) ≡ length (slots_of_task task) + length (pieces (map with_slots tasks))
-pieces_more task tasks =
-    length-append (parts_of (with_slots task)) (pieces (map with_slots tasks)) ∙ ap (λ n. n + length (pieces (map with_slots tasks))) (length-map (slots_of_task task) _)
+pieces_more task tasks = grind (arith, common_steps)
 
 -- The reply to a command is made of the answers to its own parts, whatever others answer.
 pub own_reply : (before later : List Task) (task : Task) (first own rest replies : List Answer) → length first ≡ length (pieces (map with_slots before)) → length own ≡ length (slots_of_task task)
     → AreRepliesTo (before ++ task ∷ later) (first ++ (own ++ rest)) replies → IsMadeOf replies (length before) task own
 own_reply [] later task first own rest [] as_many long made = absurd made
-own_reply [] later task first own rest (reply ∷ replies) as_many long made =
-    let none : first ++ (own ++ rest) ≡ own ++ rest = ap (λ l. l ++ (own ++ rest)) (nil_from_length first as_many) in
-    let count = length (slots_of_task task) in
-    let own_first : take count (first ++ (own ++ rest)) ≡ own = ap (take count) none ∙ take_at own rest count long in
-    (reply, refl, subst (λ l. IsReplyTo task l reply) own_first made.0)
+own_reply [] later task first own rest (reply ∷ replies) as_many long made = grind (arith, common_steps)
 own_reply (t ∷ before) later task first own rest [] as_many long made = absurd made
 own_reply (t ∷ before) later task first own rest (reply ∷ replies) as_many long made =
     let count = length (slots_of_task t) in

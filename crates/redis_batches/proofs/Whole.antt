@@ -2,6 +2,7 @@
 use Rattle.std.proofs.Common.{◌≡◌, ◌≤◌, ℕ, List, [], ◌∷◌, ◌++◌, Ok, All, refl, sym, ap, subst, ◌∙◌, arith, map, append_assoc}
 use Rattle.std.proofs.lemmas.List.{append-nil, map-append}
 use Rattle.std.proofs.lemmas.List.Elements.{All-head, All-tail, All-nil, All-cons, All-append}
+use Rattle.std.proofs.lemmas.Grind.{common_steps}
 use Rattle.redis_cluster.specs.MultiKey.{MultiKey, tuples_of_slot, part_of}
 use Rattle.redis_cluster.specs.Orders.{times}
 use Rattle.redis_cluster.specs.SlotItems.{items_of_slot}
@@ -71,16 +72,13 @@ module _ {C : Type 0} (step : Step C) (serve : Serve C) where
   task_leaves (over_keys command) slots are ks =
       parts_leave command ks [] slots
       ∙ joined_is_whole (act_of step command) slots command.tuples ks (names_slots_from slots command.tuples are.each)
-  task_leaves (in_slot own args) slots are ks =
-      ap (λ l. all_after (piece step serve) (parts_of (record { task = in_slot own args; slots = l })) ks) are
+  task_leaves (in_slot own args) slots are ks = grind (arith, common_steps)
 
   -- and answer what its tuples do
   pub task_answers : (task : Task) (slots : List ℕ) → AreSlotsOf task slots → (ks : Keyspace C)
       → map (λ a. a.1) (answers (piece step serve) (parts_of (record { task = task; slots = slots })) ks) ≡ map (part_answer step serve task ks) slots
   task_answers (over_keys command) slots are ks = parts_answer command ks [] slots are.apart
-  task_answers (in_slot own args) slots are ks =
-      ap (λ l. map (λ (a : Part × Answer). a.1) (answers (piece step serve) (parts_of (record { task = in_slot own args; slots = l })) ks)) are
-      ∙ sym (ap (map (part_answer step serve (in_slot own args) ks)) are)
+  task_answers (in_slot own args) slots are ks = grind (arith, common_steps)
 
   -- The parts of a pipeline, one after the other, leave what its commands leave.
   pub pieces_leave : (ps : List Planned) → All (λ p. AreSlotsOf p.task p.slots) ps → (ks : Keyspace C)

@@ -1,49 +1,31 @@
 -- The slots that a pipeline may write to are gathered command by command.
-use Rattle.std.proofs.Common.{◌≡◌, ◌<◌, ◌+◌, ◌||◌, ℕ, zero, suc, Bool, true, false, cond, List, [], ◌∷◌, ◌++◌, refl, sym, ap, ◌∙◌, arith, length, take, get_or}
-use Rattle.std.specs.Prelude.{nat_eq, nat_lt}
-use Rattle.std.specs.List.{flat_map, list_any, zip}
+use Rattle.std.proofs.Common.{◌≡◌, ◌<◌, ◌+◌, ◌||◌, ℕ, zero, suc, Bool, true, cond, List, [], ◌∷◌, ◌++◌, refl, sym, ap, ◌∙◌, arith, length, take, get_or}
+use Rattle.std.specs.Prelude.{nat_eq}
+use Rattle.std.specs.List.{flat_map, zip}
 use Rattle.std.specs.Ordering.{is_eq, nat_cmp}
 use Rattle.std.specs.declared.alloc.Global.{Global}
 use Rattle.std.specs.declared.vec.Vec.{Vec}
-use Rattle.std.proofs.lemmas.Bool.Decides.{nat_tests}
 use Rattle.std.proofs.lemmas.Grind.{flat_map-append}
-use Rattle.std.proofs.lemmas.List.{append_assoc, append-nil, map_push}
-use Rattle.resp_core.proofs.Cases.{by_test, or_second}
+use Rattle.std.proofs.lemmas.List.{append-nil}
+use Rattle.std.proofs.lemmas.Grind.{common_steps}
 use Rattle.cluster_slots.specs.SlotRoute.{SlotRoute}
 use Rattle.redis_routing.specs.RoutingInfo.{route_lists}
 use Rattle.redis_routing.specs.Split.{slots_of}
-use Rattle.redis_cluster.proofs.Covered.{route_lists_more}
 use Rattle.redis_batches.specs.Chosen.{AreSlots, has_slot, kept_written}
 use Rattle.redis_batches.specs.declared.task.CommandTask.{CommandTask}
 
 -- slots are compared as numbers
 pub same_slot : (a b : ℕ) → is_eq (nat_cmp a b) ≡ nat_eq a b
-same_slot a b =
-    by_test (nat_lt a b)
-    (λ below. let other : nat_eq a b ≡ false = grind (arith, nat_tests) in rw below (sym other))
-    (λ above. rw above (by_test (nat_eq a b) (λ here. rw here refl) (λ there. rw there refl)))
-
--- one more behind others
-any_push : (before : List ℕ) (slot q : ℕ) → list_any (λ other. nat_eq other q) (before ++ slot ∷ []) ≡ cond (nat_eq slot q) true (list_any (λ other. nat_eq other q) before)
-any_push [] slot q = by_test (nat_eq slot q) (λ here. rw here refl) (λ there. rw there refl)
-any_push (x ∷ before) slot q =
-    let rest : Bool = list_any (λ other. nat_eq other q) before in
-    ap (λ b. nat_eq x q || b) (any_push before slot q)
-    ∙ by_test (nat_eq slot q)
-    (λ here. ap (λ b. nat_eq x q || cond b true rest) here ∙ or_second (nat_eq x q) true refl ∙ sym (ap (λ b. cond b true (nat_eq x q || rest)) here))
-    (λ there. ap (λ b. nat_eq x q || cond b true rest) there ∙ sym (ap (λ b. cond b true (nat_eq x q || rest)) there))
+same_slot a b = grind (arith, common_steps)
 
 -- a slot was put into a set
 pub slot_added : (old new before : List ℕ) (slot : ℕ) → ((q : ℕ) → has_slot new q ≡ cond (is_eq (nat_cmp slot q)) true (has_slot old q)) → AreSlots before old → AreSlots (before ++ slot ∷ []) new
-slot_added old new before slot added are = λ q.
-    added q ∙ ap (λ b. cond b true (has_slot old q)) (same_slot slot q) ∙ ap (cond (nat_eq slot q) true) (are q) ∙ sym (any_push before slot q)
+slot_added old new before slot added are = grind (arith, common_steps)
 
 -- the slot of one route more
 pub route_added : (routes : List (SlotRoute × Vec ℕ Global)) (i slot : ℕ) (route : SlotRoute × Vec ℕ Global) (before : List ℕ) → i < length routes → route ≡ get_or routes i route → slot ≡ route.0.slot
     → (before ++ slots_of (route_lists (take i routes))) ++ slot ∷ [] ≡ before ++ slots_of (route_lists (take (i + 1) routes))
-route_added routes i slot route before within is same =
-    append_assoc before (slots_of (route_lists (take i routes))) (slot ∷ []) ∙ ap (λ s. before ++ (slots_of (route_lists (take i routes)) ++ s ∷ [])) same
-    ∙ ap (λ l. before ++ l) (sym (ap slots_of (route_lists_more routes i route within is) ∙ map_push (λ (r : SlotRoute × List ℕ). r.0.slot) (route_lists (take i routes)) (route.0, route.1.items)))
+route_added routes i slot route before within is same = grind (arith, common_steps)
 
 -- two lists side by side
 pub zip_long : {A B : Type 0} (xs : List A) (ys : List B) → length ys ≡ length xs → length (zip xs ys) ≡ length xs
