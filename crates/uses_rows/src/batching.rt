@@ -5,7 +5,7 @@ use fixtures::{
 };
 use memory_batches::MemoryBatchNodes;
 use redis_cluster::routing::ReadOnlyNames;
-use resp_core::{Cmd, ErrorKind, RedisError, RedisResult};
+use resp_core::{Cmd, ErrorKind, RedisError, RedisResult, Value};
 use std::alloc::{AllocError, Global};
 use std::mem;
 use uses::batched_pipelines::send_over;
@@ -55,6 +55,41 @@ pub fn batched(alloc: Global, words: &str) -> RedisResult<String> {
     }
 }
 
+/// What went out to nodes: each command behind its node.
+fn sent_text(alloc: Global, nodes: &MemoryBatchNodes) -> RedisResult<String> {
+    let mut text = String::new(alloc);
+    for entry in nodes.trace() {
+        push_next(&mut text, "; ", "")?;
+        push_shown(alloc, &mut text, "", &entry.node)?;
+        push(&mut text, " ")?;
+        push(&mut text, &cmd_text(alloc, &entry.command)?)?;
+    }
+    Ok(text)
+}
+
+/// Adds the last reply, if it is a value.
+fn push_last(
+    alloc: Global,
+    text: &mut String,
+    replies: &[Result<Value, RedisError>],
+) -> RedisResult<()> {
+    let Some(Ok(last)) = replies.last() else {
+        return Ok(());
+    };
+    push_next(text, "; ", &value_text(alloc, last)?)
+}
+
+/// What went out to nodes, and then the last reply.
+fn run_text(
+    alloc: Global,
+    nodes: &MemoryBatchNodes,
+    replies: &[Result<Value, RedisError>],
+) -> RedisResult<String> {
+    let mut text = sent_text(alloc, nodes)?;
+    push_last(alloc, &mut text, replies)?;
+    Ok(text)
+}
+
 /// What goes out for a pipeline, its batches in an order, and then its last reply.
 pub fn pipeline(alloc: Global, words: &str) -> RedisResult<String> {
     let (order, commands) = two(words);
@@ -62,18 +97,8 @@ pub fn pipeline(alloc: Global, words: &str) -> RedisResult<String> {
     let commands = cmds(alloc, commands)?;
     let (map, none) = (two_nodes(alloc)?, ReadOnlyNames::new(alloc));
     let mut nodes = MemoryBatchNodes::new(alloc);
-    let mut text = String::new(alloc);
-    let sent = send_over(alloc, &commands, &none, &map, None, &order, &mut nodes);
-    for entry in nodes.trace() {
-        push_next(&mut text, "; ", "")?;
-        push_shown(alloc, &mut text, "", &entry.node)?;
-        push(&mut text, " ")?;
-        push(&mut text, &cmd_text(alloc, &entry.command)?)?;
+    match send_over(alloc, &commands, &none, &map, None, &order, &mut nodes) {
+        Ok(replies) => run_text(alloc, &nodes, &replies),
+        Err(_) => sent_text(alloc, &nodes),
     }
-    if let Ok(replies) = &sent
-        && let Some(Ok(last)) = replies.last()
-    {
-        push_next(&mut text, "; ", &value_text(alloc, last)?)?;
-    }
-    Ok(text)
 }
