@@ -1,0 +1,37 @@
+//! What a user of the layer writes: one file for each example. The program runs those that send
+//! commands, and prints a line for each run.
+#![tactic(auto)]
+
+pub mod batched_bytes;
+pub mod batched_client;
+pub mod batched_pipelines;
+pub mod batcher;
+pub mod bytes;
+pub mod client;
+pub mod commands;
+pub mod deleting;
+pub mod first_drive;
+pub mod interleaved;
+pub mod node_of_key;
+pub mod pipelines;
+pub mod planning;
+pub mod redirects;
+pub mod registering;
+pub mod replies;
+pub mod retrying;
+pub mod routing;
+mod runs;
+pub mod sending;
+pub mod shared_strategy;
+pub mod side_by_side;
+pub mod splitting_bytes;
+pub mod threads;
+
+use std::process::ExitCode;
+
+fn main(rt: HostRuntime) -> ExitCode {
+    match runs::run(&rt) {
+        Ok(()) => ExitCode::SUCCESS,
+        Err(_) => ExitCode::FAILURE,
+    }
+}
