@@ -3,7 +3,6 @@ mod answers;
 mod driven;
 mod memory;
 mod planned;
-mod script;
 mod scripted;
 mod wired;
 mod wires;

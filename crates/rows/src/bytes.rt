@@ -4,7 +4,7 @@ pub mod pipelines;
 pub mod replies;
 pub mod tables;
 
-use crate::fixtures::{bad_row, bytes, cmd, escaped, push, quoted, shown};
+use crate::fixtures::{bad_row, bytes, cmd, escaped, or_text, push, quoted, shown};
 use resp::{RequestError, RequestFault, read_request, request_len, write_command};
 use resp_core::{Cmd, RedisResult};
 use std::alloc::Global;
@@ -14,7 +14,7 @@ pub fn call(alloc: Global, name: &str, words: &str) -> RedisResult<String> {
     match name {
         "request" => request(alloc, words),
         "request_len" => request_len_row(alloc, words),
-        "request_cuts" => request_cuts(alloc, words),
+        "request_cuts" => cuts(alloc, words, true),
         "write_command" => escaped(alloc, &write_command(alloc, &cmd(alloc, words)?)?),
         "route" => parts::route(alloc, words),
         "parts" => parts::parts(alloc, words),
@@ -41,17 +41,12 @@ fn found_text(alloc: Global, cmd: Cmd, left: usize) -> RedisResult<String> {
 
 fn request(alloc: Global, words: &str) -> RedisResult<String> {
     let bytes = bytes(alloc, words)?;
-    match read_request(alloc, &bytes) {
-        Ok((cmd, rest)) => found_text(alloc, cmd, rest.len()),
-        Err(error) => shown(alloc, &error),
-    }
+    let (cmd, rest) = or_text(alloc, read_request(alloc, &bytes))?;
+    found_text(alloc, cmd, rest.len())
 }
 
 fn request_len_row(alloc: Global, words: &str) -> RedisResult<String> {
-    match request_len(&bytes(alloc, words)?) {
-        Ok(length) => shown(alloc, &length),
-        Err(fault) => shown(alloc, &fault),
-    }
+    shown(alloc, &or_text(alloc, request_len(&bytes(alloc, words)?))?)
 }
 
 /// Whether both readers of a request say that these bytes are incomplete.
@@ -63,14 +58,17 @@ fn is_incomplete(alloc: Global, bytes: &[u8]) -> bool {
     read && request_len(bytes) == Err(RequestFault::Incomplete)
 }
 
-/// How many of the cuts of a request are incomplete.
-fn request_cuts(alloc: Global, words: &str) -> RedisResult<String> {
+/// How many of the cuts of a request, or of a reply, are incomplete.
+pub fn cuts(alloc: Global, words: &str, of_request: bool) -> RedisResult<String> {
     let whole = bytes(alloc, words)?;
     let mut cuts: usize = 0;
     for end in 0..whole.len() {
-        if is_incomplete(alloc, &whole[..end]) {
-            cuts = cuts.saturating_add(1);
-        }
+        let cut = &whole[..end];
+        let is_cut = match of_request {
+            true => is_incomplete(alloc, cut),
+            false => replies::is_incomplete(alloc, cut),
+        };
+        cuts = cuts.saturating_add(usize::from(is_cut));
     }
     Ok(format!(in alloc; "{cuts} of {} incomplete", whole.len())?)
 }

@@ -10,13 +10,11 @@ pub fn call(alloc: Global, name: &str, words: &str) -> RedisResult<String> {
     match name {
         "debug" => debug(alloc, &cmd(alloc, words)?),
         "debug_lines" => debug_lines(alloc, words),
-        "with_capacity" => emptiness(alloc, &Cmd::with_capacity(alloc, number(words)?)?),
-        "with_room" => emptiness(alloc, &roomy(alloc, words)?.0),
+        "with_capacity" | "with_room" => emptiness(alloc, name, words),
         "arg" => arg(alloc, words),
         "many_items" => many_items(alloc, words),
         "long_item" => long_item(alloc, words),
-        "error" => printed(alloc, &RedisError::from((ErrorKind::Client, "bad text"))),
-        "error_with" => printed(alloc, &detailed(alloc, words)?),
+        "error" | "error_with" => printed(alloc, name, words),
         "same_error" => same_error(alloc, words),
         "deep" => deep::compare(alloc, words),
         "deep_debug" => deep::debug(alloc, words),
@@ -29,8 +27,12 @@ fn debug_lines(alloc: Global, words: &str) -> RedisResult<String> {
     escaped(alloc, format!(in alloc; "{cmd:#?}")?.as_bytes())
 }
 
-/// Whether a command has no item, as a row says it.
-fn emptiness(alloc: Global, cmd: &Cmd) -> RedisResult<String> {
+/// Whether a new command with room has no item, as a row says it.
+fn emptiness(alloc: Global, name: &str, words: &str) -> RedisResult<String> {
+    let cmd = match name {
+        "with_capacity" => Cmd::with_capacity(alloc, number(words)?)?,
+        _ => roomy(alloc, words)?.0,
+    };
     Ok(format!(in alloc; "empty {}", cmd.is_empty())?)
 }
 
@@ -109,8 +111,12 @@ fn long_item(alloc: Global, words: &str) -> RedisResult<String> {
 }
 
 /// What an error prints, in quotes.
-fn printed(alloc: Global, error: &RedisError) -> RedisResult<String> {
-    quoted(alloc, shown(alloc, error)?.as_bytes())
+fn printed(alloc: Global, name: &str, words: &str) -> RedisResult<String> {
+    let error = match name {
+        "error" => RedisError::from((ErrorKind::Client, "bad text")),
+        _ => detailed(alloc, words)?,
+    };
+    quoted(alloc, shown(alloc, &error)?.as_bytes())
 }
 
 fn detailed(alloc: Global, detail: &str) -> RedisResult<RedisError> {

@@ -1,14 +1,12 @@
 //! Commands that are driven over nodes in memory.
 mod plans;
-mod traces;
 
-use crate::driving::traces::trace_text;
 use crate::fixtures::{
-    Cluster, Lent, bad_row, bytes, bytes_or_none, cmd, number, numbers, okay, reply_text, shown,
-    two, value,
+    Cluster, Lent, bad_row, bytes, bytes_or_none, cmd, number, numbers, okay, push, push_shown,
+    reply_text, shown, two, value,
 };
 use cluster_map::{NodeAddress, ReadRoutingStrategy};
-use memory_nodes::{MemoryNodes, Planned};
+use memory_nodes::{MemoryNodes, Planned, TraceEntry};
 use redis_cluster::driver::{DriveError, drive, drive_retrying};
 use redis_cluster::routing::{Redirect, Routable};
 use resp_core::{Cmd, RedisResult, Value};
@@ -75,6 +73,37 @@ fn start(alloc: Global, driven: &mut Driven, text: &str) -> RedisResult<String> 
     driven.nodes = MemoryNodes::new(alloc);
     driven.told = 0;
     driven.cluster.set_map(alloc, text)
+}
+
+/// Adds the word and the address of a redirect.
+fn push_redirect(alloc: Global, text: &mut String, redirect: &Redirect) -> RedisResult<()> {
+    match redirect {
+        Redirect::Moved(address) => push_shown(alloc, text, " moved ", address),
+        Redirect::Ask(address) => push_shown(alloc, text, " ask ", address),
+    }
+}
+
+fn push_entry(alloc: Global, text: &mut String, entry: &TraceEntry) -> RedisResult<()> {
+    push_shown(alloc, text, "", &entry.node)?;
+    for word in &entry.args {
+        push(text, " ")?;
+        push(text, &bytes_or_none(alloc, Some(word))?)?;
+    }
+    match &entry.redirect {
+        Some(redirect) => push_redirect(alloc, text, redirect)?,
+        None if entry.answered => {}
+        None => push(text, " refused")?,
+    }
+    push(text, ";")
+}
+
+/// What was sent, one entry after the other, each closed by `;`.
+fn trace_text(alloc: Global, trace: &[TraceEntry]) -> RedisResult<String> {
+    let mut text = String::new(alloc);
+    for entry in trace {
+        push_entry(alloc, &mut text, entry)?;
+    }
+    Ok(text)
 }
 
 /// What was sent since the last call.

@@ -6,10 +6,9 @@ mod row_values;
 mod row_words;
 mod rows;
 mod texts;
-mod turns;
 
 pub use cluster::Cluster;
-pub use lent::Lent;
+pub use lent::{Lent, Turns};
 pub use row_values::{
     nested, outcome_size, outcome_text, reply_text, reversed, value, value_text, values,
 };
@@ -20,6 +19,5 @@ pub use row_words::{
 pub use rows::{bad_row, run};
 pub use texts::{
     bytes_or_none, cmd_text, debug, debug_or_none, equality, escaped, is_same, joined, kind,
-    kind_and_text, okay, plain, push, push_next, push_shown, quoted, shown, shown_or_none,
+    kind_and_text, okay, or_text, plain, push, push_next, push_shown, quoted, shown, shown_or_none,
 };
-pub use turns::Turns;

@@ -1,6 +1,6 @@
 //! Nodes in memory that take batches.
 use crate::batches::answers::{answers_text, error_of};
-use crate::fixtures::{bytes, bytes_or_none, cmds, lines, number, okay, push_next, shown, two};
+use crate::fixtures::{bytes, bytes_or_none, cmds, lines, number, okay, or_text, push_next, two};
 use cluster_map::NodeAddress;
 use memory_batches::MemoryBatchNodes;
 use redis_batches::BatchNodes;
@@ -41,10 +41,8 @@ fn sent(
     node: &NodeAddress,
     batch: &[&Cmd],
 ) -> RedisResult<String> {
-    match nodes.send_batch(node, batch) {
-        Ok(answers) => answers_text(alloc, answers.as_slice()),
-        Err(error) => shown(alloc, &error),
-    }
+    let answers = or_text(alloc, nodes.send_batch(node, batch))?;
+    answers_text(alloc, answers.as_slice())
 }
 
 /// What a node answers to a batch.

@@ -2,10 +2,10 @@
 use crate::batches::Batches;
 use crate::batches::answers::{answers_of, answers_text};
 use crate::fixtures::{
-    Turns, bad_row, cmd_text, cmds, cut, lines, number, push, push_shown, shown, two,
+    Turns, bad_row, cmd_text, cmds, cut, lines, number, or_text, push, push_shown, shown, two,
 };
 use cluster_map::ReadRoutingStrategy;
-use redis_batches::{PipelineFault, PipelinePlan};
+use redis_batches::PipelinePlan;
 use redis_cluster::routing::{Names, Registry};
 use resp_core::{Cmd, RedisResult};
 use std::alloc::Global;
@@ -15,13 +15,14 @@ fn plan_of<'a>(
     rows: &'a Batches,
     commands: &'a [Cmd],
     strategy: Option<&dyn ReadRoutingStrategy>,
-) -> Result<PipelinePlan<'a>, PipelineFault> {
+) -> RedisResult<PipelinePlan<'a>> {
     let registry = Registry::new(alloc);
     let names = Names {
         read_only: &rows.cluster.read_only,
         registry: &registry,
     };
-    PipelinePlan::new(alloc, commands, names, &rows.cluster.map, strategy)
+    let plan = PipelinePlan::new(alloc, commands, names, &rows.cluster.map, strategy);
+    or_text(alloc, plan)
 }
 
 fn push_batch(alloc: Global, text: &mut String, batch: &[&Cmd]) -> RedisResult<()> {
@@ -60,10 +61,7 @@ fn plan_text(alloc: Global, plan: &PipelinePlan<'_>) -> RedisResult<String> {
 /// The batches of commands, whose reads go to primaries.
 pub fn planned(alloc: Global, rows: &Batches, words: &str) -> RedisResult<String> {
     let commands = cmds(alloc, words)?;
-    match plan_of(alloc, rows, commands.as_slice(), None) {
-        Ok(plan) => plan_text(alloc, &plan),
-        Err(fault) => shown(alloc, &fault),
-    }
+    plan_text(alloc, &plan_of(alloc, rows, commands.as_slice(), None)?)
 }
 
 /// Passes the answers to a batch. Returns whether the plan takes them.
@@ -101,18 +99,17 @@ fn told_text(alloc: Global, mut plan: PipelinePlan<'_>, told: &str) -> RedisResu
 pub fn told(alloc: Global, rows: &Batches, words: &str) -> RedisResult<String> {
     let (commands, told) = cut(words, " | ");
     let commands = cmds(alloc, commands)?;
-    match plan_of(alloc, rows, commands.as_slice(), None) {
-        Ok(plan) => told_text(alloc, plan, told),
-        Err(fault) => shown(alloc, &fault),
-    }
+    told_text(
+        alloc,
+        plan_of(alloc, rows, commands.as_slice(), None)?,
+        told,
+    )
 }
 
 /// How often a strategy is asked for the plan of commands.
 pub fn asked(alloc: Global, rows: &Batches, words: &str) -> RedisResult<String> {
     let commands = cmds(alloc, words)?;
     let turns = Turns::new();
-    if let Err(fault) = plan_of(alloc, rows, commands.as_slice(), Some(&turns)) {
-        return shown(alloc, &fault);
-    }
+    plan_of(alloc, rows, commands.as_slice(), Some(&turns))?;
     shown(alloc, &turns.asked())
 }

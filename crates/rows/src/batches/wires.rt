@@ -1,14 +1,13 @@
 //! Commands that are driven over connections, which return what a row says.
-use crate::batches::script::Script;
 use crate::batches::scripted::{Exchange, ScriptedWire};
 use crate::fixtures::{
     bad_row, cmd, cmd_text, cut, numbers, push, push_shown, reply_text, reversed, two,
 };
 use cluster_map::{NodeAddress, SlotMap};
 use redis_cluster::routing::{ReadOnlyNames, Registry};
-use resp_core::{Cmd, RedisResult};
+use resp_core::{Cmd, ErrorKind, RedisError, RedisResult, Value};
 use std::alloc::Global;
-use wire::{Any, Logged, Wire, WireNodes, drive_over};
+use wire::{Any, Logged, SendError, Transport, Wire, WireNodes, drive_over};
 
 /// What a call of this name returns over a map.
 pub fn call(alloc: Global, map: &SlotMap, name: &str, words: &str) -> RedisResult<String> {
@@ -32,6 +31,39 @@ pub fn push_sent(
     push(text, " ")?;
     push(text, &cmd_text(alloc, cmd)?)?;
     push(text, ";")
+}
+
+/// Connections that return these outcomes, the last one first, whatever is sent: `refused`, `lost`
+/// for a lost reply, and any other value as an answer. They have no contract.
+#[derive(Drop)]
+struct Script {
+    alloc: Global,
+    outcomes: Vec<Value>,
+    /// What was sent.
+    sent: String,
+}
+
+fn outcome(value: Value) -> Result<Value, SendError> {
+    match value.as_bulk_string() {
+        Some(b"refused") => Err(SendError::Refused(RedisError::from((
+            ErrorKind::Client,
+            "read only",
+        )))),
+        Some(b"lost") => Err(SendError::Lost(RedisError::from((ErrorKind::Client, "no reply")))),
+        _ => Ok(value),
+    }
+}
+
+impl Transport for Script {
+    fn exchange(&mut self, node: &NodeAddress, cmd: &Cmd) -> Result<Value, SendError> {
+        if push_sent(self.alloc, &mut self.sent, node, cmd).is_err() {
+            return Err(SendError::Memory);
+        }
+        match self.outcomes.pop() {
+            Some(value) => outcome(value),
+            None => Err(SendError::Memory),
+        }
+    }
 }
 
 /// The outcome of a command over connections.

@@ -1,8 +1,8 @@
 //! Where a request goes, its parts, and the one reply, if no name only reads and none is
 //! registered.
-use crate::fixtures::{bytes, cmd, cut, debug, escaped, number, piece, shown, two};
+use crate::fixtures::{bytes, cmd, cut, debug, escaped, number, or_text, piece, two};
 use crate::routing::Known;
-use redis_bytes::{BytesFault, Parts};
+use redis_bytes::Parts;
 use redis_routing::RoutingInfo;
 use resp::write_command;
 use resp_core::RedisResult;
@@ -13,62 +13,51 @@ fn request(alloc: Global, words: &str) -> RedisResult<Vec<u8>> {
     Ok(write_command(alloc, &cmd(alloc, words)?)?)
 }
 
-fn routed(alloc: Global, request: &[u8]) -> Result<Option<RoutingInfo>, BytesFault> {
+fn routed(alloc: Global, request: &[u8]) -> RedisResult<Option<RoutingInfo>> {
     let none = Known::new(alloc);
-    redis_bytes::route(alloc, request, none.names())
+    or_text(alloc, redis_bytes::route(alloc, request, none.names()))
 }
 
 /// Where a request goes.
 pub fn route(alloc: Global, words: &str) -> RedisResult<String> {
-    match routed(alloc, &request(alloc, words)?) {
-        Ok(info) => debug(alloc, &info),
-        Err(fault) => shown(alloc, &fault),
-    }
+    debug(alloc, &routed(alloc, &request(alloc, words)?)?)
 }
 
-fn split(alloc: Global, request: &[u8]) -> Result<Parts, BytesFault> {
+fn split(alloc: Global, words: &str) -> RedisResult<Parts> {
+    let request = request(alloc, words)?;
     let none = Known::new(alloc);
-    redis_bytes::split(alloc, request, none.names())
-}
-
-fn parts_text(alloc: Global, parts: Parts) -> RedisResult<String> {
-    let Parts {
-        routes,
-        ends,
-        bytes,
-    } = parts;
-    Ok(format!(in alloc; "{} routes, ends {ends:?} of {}", routes.len(), bytes.len())?)
+    or_text(alloc, redis_bytes::split(alloc, &request, none.names()))
 }
 
 /// How many parts a request has, and where their bytes end.
 pub fn parts(alloc: Global, words: &str) -> RedisResult<String> {
-    match split(alloc, &request(alloc, words)?) {
-        Ok(parts) => parts_text(alloc, parts),
-        Err(fault) => shown(alloc, &fault),
-    }
+    let Parts {
+        routes,
+        ends,
+        bytes,
+    } = split(alloc, words)?;
+    Ok(format!(in alloc; "{} routes, ends {ends:?} of {}", routes.len(), bytes.len())?)
 }
 
 /// The bytes of one part of a request.
 pub fn part(alloc: Global, words: &str) -> RedisResult<String> {
     let (index, words) = two(words);
     let index = number(index)?;
-    match split(alloc, &request(alloc, words)?) {
-        Ok(parts) => escaped(alloc, piece(&parts.bytes, &parts.ends, index)),
-        Err(fault) => shown(alloc, &fault),
-    }
+    let parts = split(alloc, words)?;
+    escaped(alloc, piece(&parts.bytes, &parts.ends, index))
 }
 
-fn combined(alloc: Global, request: &[u8], replies: &[u8]) -> Result<Vec<u8>, BytesFault> {
+fn combined(alloc: Global, request: &[u8], replies: &[u8]) -> RedisResult<Vec<u8>> {
     let none = Known::new(alloc);
-    redis_bytes::combine(alloc, request, none.names(), replies)
+    or_text(
+        alloc,
+        redis_bytes::combine(alloc, request, none.names(), replies),
+    )
 }
 
 /// The one reply to a request by the replies to its parts.
 pub fn combine(alloc: Global, words: &str) -> RedisResult<String> {
     let (words, replies) = cut(words, " | ");
     let request = request(alloc, words)?;
-    match combined(alloc, &request, &bytes(alloc, replies)?) {
-        Ok(reply) => escaped(alloc, &reply),
-        Err(fault) => shown(alloc, &fault),
-    }
+    escaped(alloc, &combined(alloc, &request, &bytes(alloc, replies)?)?)
 }

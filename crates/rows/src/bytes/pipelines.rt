@@ -1,7 +1,9 @@
 //! Pipelines as bytes, with no registered name.
-use crate::fixtures::{bad_row, bytes, cmds, cut, escaped, map, number, piece, pieces, shown, two};
+use crate::fixtures::{
+    bad_row, bytes, cmds, cut, escaped, map, number, or_text, piece, pieces, two,
+};
 use cluster_map::SlotMap;
-use redis_batch_bytes::{BatchBytes, BatchFault, combine_pipeline, numbered_map, split_pipeline};
+use redis_batch_bytes::{BatchBytes, combine_pipeline, numbered_map, split_pipeline};
 use redis_bytes::{NO_NODE, SLOTS};
 use redis_routing::Registry;
 use resp::write_command;
@@ -12,20 +14,25 @@ use std::alloc::Global;
 #[derive(Drop)]
 pub struct Pipelines {
     map: SlotMap,
+    registry: Registry,
     batches: BatchBytes,
 }
 
 impl Pipelines {
     /// No map and no batches.
     pub fn new(alloc: Global) -> Self {
-        let map = SlotMap::default(alloc);
+        let (map, registry) = (SlotMap::default(alloc), Registry::new(alloc));
         let batches = BatchBytes {
             nodes: Vec::new(alloc),
             counts: Vec::new(alloc),
             ends: Vec::new(alloc),
             bytes: Vec::new(alloc),
         };
-        Pipelines { map, batches }
+        Pipelines {
+            map,
+            registry,
+            batches,
+        }
     }
 
     /// What a call of this name returns.
@@ -49,26 +56,19 @@ impl Pipelines {
 
     /// Splits the requests of a pipeline, and keeps the batches.
     fn split(&mut self, alloc: Global, requests: RedisResult<Vec<u8>>) -> RedisResult<String> {
-        match split_by(alloc, &requests?, &self.map) {
-            Ok(batches) => self.batches = batches,
-            Err(fault) => return shown(alloc, &fault),
-        }
+        let batches = split_pipeline(alloc, &requests?, &self.registry, &self.map);
+        self.batches = or_text(alloc, batches)?;
         batches_text(alloc, &self.batches)
     }
 
     /// The node of a batch, how many commands it has, and its bytes.
     fn batch(&self, alloc: Global, words: &str) -> RedisResult<String> {
         let index = number(words)?;
-        let BatchBytes {
-            nodes,
-            counts,
-            ends,
-            bytes,
-        } = &self.batches;
-        let (Some(node), Some(count)) = (nodes.get(index), counts.get(index)) else {
+        let batches = &self.batches;
+        let (Some(node), Some(count)) = (batches.nodes.get(index), batches.counts.get(index)) else {
             return Err(bad_row("no such batch"));
         };
-        let text = escaped(alloc, piece(bytes, ends, index))?;
+        let text = escaped(alloc, piece(&batches.bytes, &batches.ends, index))?;
         Ok(format!(in alloc; "{node}, {count} commands, {text}")?)
     }
 
@@ -77,36 +77,14 @@ impl Pipelines {
         let (commands, replies) = cut(words, " | ");
         let requests = requests(alloc, commands)?;
         let replies = bytes(alloc, replies)?;
-        match combined_by(alloc, &requests, &self.map, &replies) {
-            Ok(found) => escaped(alloc, &found),
-            Err(fault) => shown(alloc, &fault),
-        }
+        let reply = combine_pipeline(alloc, &requests, &self.registry, &self.map, &replies);
+        escaped(alloc, &or_text(alloc, reply)?)
     }
 }
 
-fn split_by(alloc: Global, requests: &[u8], map: &SlotMap) -> Result<BatchBytes, BatchFault> {
-    let registry = Registry::new(alloc);
-    split_pipeline(alloc, requests, &registry, map)
-}
-
-fn combined_by(
-    alloc: Global,
-    requests: &[u8],
-    map: &SlotMap,
-    replies: &[u8],
-) -> Result<Vec<u8>, BatchFault> {
-    let registry = Registry::new(alloc);
-    combine_pipeline(alloc, requests, &registry, map, replies)
-}
-
 fn batches_text(alloc: Global, batches: &BatchBytes) -> RedisResult<String> {
-    let BatchBytes {
-        nodes,
-        counts,
-        ends,
-        bytes,
-    } = batches;
-    let length = bytes.len();
+    let (nodes, counts, ends) = (&batches.nodes, &batches.counts, &batches.ends);
+    let length = batches.bytes.len();
     Ok(format!(in alloc; "nodes {nodes:?}, counts {counts:?}, ends {ends:?} of {length}")?)
 }
 

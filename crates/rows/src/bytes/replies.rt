@@ -1,5 +1,8 @@
 //! Replies as bytes.
-use crate::fixtures::{bad_row, bytes, escaped, nested, number, quoted, shown, value, value_text};
+use crate::bytes::cuts;
+use crate::fixtures::{
+    bad_row, bytes, escaped, nested, number, or_text, quoted, shown, value, value_text,
+};
 use resp::{Fault, ReadError, Response, read, write};
 use resp_core::{RedisResult, Value};
 use std::alloc::Global;
@@ -9,7 +12,7 @@ pub fn call(alloc: Global, name: &str, words: &str) -> RedisResult<String> {
     match name {
         "read" => read_row(alloc, words),
         "read_len" => read_len(alloc, words),
-        "read_cuts" => read_cuts(alloc, words),
+        "read_cuts" => cuts(alloc, words, false),
         "read_flips" => read_flips(alloc, words),
         "write" => written(alloc, &value(alloc, words)?),
         "write_nested" => written(alloc, &nested(alloc, number(words)?)?),
@@ -32,34 +35,19 @@ fn found_text(alloc: Global, response: Response, left: usize) -> RedisResult<Str
 
 fn read_row(alloc: Global, words: &str) -> RedisResult<String> {
     let bytes = bytes(alloc, words)?;
-    match read(alloc, &bytes) {
-        Ok((response, rest)) => found_text(alloc, response, rest.len()),
-        Err(error) => shown(alloc, &error),
-    }
+    let (response, rest) = or_text(alloc, read(alloc, &bytes))?;
+    found_text(alloc, response, rest.len())
 }
 
 fn read_len(alloc: Global, words: &str) -> RedisResult<String> {
     let bytes = bytes(alloc, words)?;
-    match read(alloc, &bytes) {
-        Ok((_, rest)) => shown(alloc, &bytes.len().saturating_sub(rest.len())),
-        Err(error) => shown(alloc, &error),
-    }
+    let (_, rest) = or_text(alloc, read(alloc, &bytes))?;
+    shown(alloc, &bytes.len().saturating_sub(rest.len()))
 }
 
-fn is_incomplete(alloc: Global, bytes: &[u8]) -> bool {
+/// Whether these bytes are incomplete.
+pub fn is_incomplete(alloc: Global, bytes: &[u8]) -> bool {
     matches!(read(alloc, bytes), Err(ReadError::Fault(Fault::Incomplete)))
-}
-
-/// How many of the cuts of a reply are incomplete.
-fn read_cuts(alloc: Global, words: &str) -> RedisResult<String> {
-    let whole = bytes(alloc, words)?;
-    let mut cuts: usize = 0;
-    for end in 0..whole.len() {
-        if is_incomplete(alloc, &whole[..end]) {
-            cuts = cuts.saturating_add(1);
-        }
-    }
-    Ok(format!(in alloc; "{cuts} of {} incomplete", whole.len())?)
 }
 
 fn is_answered(alloc: Global, bytes: &[u8]) -> bool {
@@ -92,8 +80,5 @@ fn read_flips(alloc: Global, words: &str) -> RedisResult<String> {
 }
 
 fn written(alloc: Global, value: &Value) -> RedisResult<String> {
-    match write(alloc, value) {
-        Ok(bytes) => escaped(alloc, &bytes),
-        Err(error) => shown(alloc, &error),
-    }
+    escaped(alloc, &or_text(alloc, write(alloc, value))?)
 }

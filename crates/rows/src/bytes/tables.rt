@@ -1,7 +1,7 @@
 //! Tables of slots.
-use crate::fixtures::{bad_row, bytes, escaped, number, plain, shown, two};
+use crate::fixtures::{bad_row, bytes, escaped, number, or_text, plain, shown, two};
 use cluster_map::SlotAddr;
-use redis_bytes::{BytesFault, NO_NODE, Table, slot_map, slot_table};
+use redis_bytes::{NO_NODE, Table, slot_map, slot_table};
 use resp_core::RedisResult;
 use std::alloc::Global;
 
@@ -23,10 +23,7 @@ pub fn call(table: &mut Table, alloc: Global, name: &str, words: &str) -> RedisR
 
 /// Keeps the table of the primaries in a reply.
 fn keep(table: &mut Table, alloc: Global, words: &str) -> RedisResult<String> {
-    match table_of(alloc, words)? {
-        Ok(found) => *table = found,
-        Err(fault) => return shown(alloc, &fault),
-    }
+    *table = table_of(alloc, words)?;
     let nodes = escaped(alloc, &table.nodes)?;
     Ok(format!(in alloc; "{} slots, {nodes}", table.numbers.len())?)
 }
@@ -41,17 +38,18 @@ fn number_of(table: &Table, alloc: Global, words: &str) -> RedisResult<String> {
     }
 }
 
-fn table_of(alloc: Global, words: &str) -> RedisResult<Result<Table, BytesFault>> {
+fn table_of(alloc: Global, words: &str) -> RedisResult<Table> {
     let (answering, reply) = two(words);
     let reply = bytes(alloc, reply)?;
-    Ok(slot_table(alloc, &reply, answering, SlotAddr::Master, 0))
+    or_text(
+        alloc,
+        slot_table(alloc, &reply, answering, SlotAddr::Master, 0),
+    )
 }
 
 /// How many ranges the map of a reply has.
 fn map_row(alloc: Global, words: &str) -> RedisResult<String> {
     let (answering, reply) = two(words);
-    match slot_map(alloc, &bytes(alloc, reply)?, answering) {
-        Ok(map) => Ok(format!(in alloc; "{} ranges", map.values().count())?),
-        Err(fault) => shown(alloc, &fault),
-    }
+    let map = or_text(alloc, slot_map(alloc, &bytes(alloc, reply)?, answering))?;
+    Ok(format!(in alloc; "{} ranges", map.values().count())?)
 }

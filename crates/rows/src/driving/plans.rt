@@ -1,8 +1,10 @@
 //! Plans and retries of a client with connections of its own.
 use crate::driving::Driven;
-use crate::fixtures::{bad_row, cmd, cut, kind, nested, number, numbers, plain, shown, two, value};
+use crate::fixtures::{
+    bad_row, cmd, cut, kind, nested, number, numbers, or_text, plain, shown, two, value,
+};
 use cluster_map::{ReadRoutingStrategy, Route, SlotAddr};
-use redis_cluster::driver::{Nodes, PlanFault, Retry, SendError, SplitPlan, names_once};
+use redis_cluster::driver::{Nodes, Retry, SendError, SplitPlan, names_once};
 use redis_cluster::routing::Names;
 use resp_core::{Cmd, ErrorKind, RedisError, RedisResult, Value};
 use std::alloc::{AllocError, Global};
@@ -37,12 +39,13 @@ fn plan_of<'a>(
     alloc: Global,
     driven: &'a Driven,
     command: &'a Cmd,
-) -> Result<SplitPlan<'a, Cmd>, PlanFault> {
+) -> RedisResult<SplitPlan<'a, Cmd>> {
     let names = Names {
         read_only: &driven.cluster.read_only,
         registry: driven.nodes.registry(),
     };
-    SplitPlan::new(alloc, command, names, &driven.cluster.map, None, 0)
+    let plan = SplitPlan::new(alloc, command, names, &driven.cluster.map, None, 0);
+    or_text(alloc, plan)
 }
 
 /// The reply of a text: a value, or after `deep=` a nil in nested arrays.
@@ -75,13 +78,9 @@ fn combined(alloc: Global, plan: SplitPlan<'_, Cmd>) -> RedisResult<String> {
 pub fn combine(alloc: Global, driven: &Driven, words: &str) -> RedisResult<String> {
     let (text, reply) = cut(words, "; ");
     let command = cmd(alloc, text)?;
-    match plan_of(alloc, driven, &command) {
-        Ok(mut plan) => {
-            tell(alloc, &mut plan, reply)?;
-            combined(alloc, plan)
-        }
-        Err(fault) => shown(alloc, &fault),
-    }
+    let mut plan = plan_of(alloc, driven, &command)?;
+    tell(alloc, &mut plan, reply)?;
+    combined(alloc, plan)
 }
 
 /// Whether an order names this many parts, each once.
