@@ -5,7 +5,7 @@ use crate::client::{ClientFault, write_and_read};
 use crate::node_of_key::two_nodes;
 use crate::sending::{self, Answer, Connections, Sockets};
 use crate::{first_drive, interleaved};
-use cluster_map::NodeAddress;
+use cluster_map::{NodeAddress, SlotMap};
 use memory_batches::MemoryBatchNodes;
 use memory_nodes::{MemoryNodes, Planned};
 use redis_cluster::routing::{ReadOnlyNames, Registry};
@@ -17,46 +17,35 @@ use wire::Client;
 
 /// Runs each example, and prints a line for each run.
 pub fn run(rt: &HostRuntime) -> io::Result<()> {
+    run_first(rt)?;
     run_in_turn(rt)?;
     run_at_once(rt)
+}
+
+/// The example that users read first.
+fn run_first(rt: &HostRuntime) -> io::Result<()> {
+    let alloc = rt.alloc();
+    let mut nodes = MemoryNodes::new(alloc);
+    let written = drive(alloc, "MSET foo 1 bar 2", &mut nodes);
+    print(rt, "both keys are written", written)?;
+    let counted = drive(alloc, "EXISTS foo bar", &mut nodes);
+    print(rt, "both keys are there", counted)
 }
 
 /// The examples that send parts one after the other.
 fn run_in_turn(rt: &HostRuntime) -> io::Result<()> {
     let alloc = rt.alloc();
-    print(rt, "both keys are written", write_both(alloc))?;
     print(rt, "the second part is refused", refuse_second(alloc))?;
-    print(
-        rt,
-        "a client reads what it wrote",
-        write_then_read(alloc, 4),
-    )?;
-    print(
-        rt,
-        "the reply to a write is lost",
-        write_then_read(alloc, 1),
-    )?;
-    print(rt, "the reply to a read is lost", write_then_read(alloc, 3))?;
-    print(
-        rt,
-        "both keys are deleted",
-        delete(alloc, Answer::Reply(Value::Int(2))),
-    )?;
-    print(
-        rt,
-        "one key is not deleted",
-        delete(alloc, Answer::Error(refusal())),
-    )?;
-    print(
-        rt,
-        "a write amid a read",
-        read_around(alloc, "MSET a 0 b 0", "MSET a 1 b 1"),
-    )?;
-    print(
-        rt,
-        "one server's reply",
-        read_around(alloc, "MSET a 0 b 1", "MSET c 2 d 2"),
-    )
+    print(rt, "a client reads what it wrote", read_back(alloc, 4))?;
+    print(rt, "the reply to a write is lost", read_back(alloc, 1))?;
+    print(rt, "the reply to a read is lost", read_back(alloc, 3))?;
+    let (two, refused) = (Answer::Reply(Value::Int(2)), Answer::Error(refusal()));
+    print(rt, "both keys are deleted", delete(alloc, two))?;
+    print(rt, "one key is not deleted", delete(alloc, refused))?;
+    let text = read_around(alloc, "MSET a 0 b 0", "MSET a 1 b 1");
+    print(rt, "a write amid a read", text)?;
+    let text = read_around(alloc, "MSET a 0 b 1", "MSET c 2 d 2");
+    print(rt, "one server's reply", text)
 }
 
 /// The examples that send parts, or batches of commands, at once.
@@ -65,22 +54,18 @@ fn run_at_once(rt: &HostRuntime) -> io::Result<()> {
     print(
         rt,
         "two parts at once",
-        batched(alloc, Ok(Value::Int(1)), Ok(Value::Int(0))),
+        batched(alloc, one(), Ok(Value::Int(0))),
     )?;
-    let late = Err(NoReply::TimedOut);
-    print(
-        rt,
-        "one part is late",
-        batched(alloc, Ok(Value::Int(1)), late),
-    )?;
-    let refused = Err(NoReply::Refused(refusal()));
-    print(
-        rt,
-        "one part is refused",
-        batched(alloc, refused, Ok(Value::Int(1))),
-    )?;
+    let late = batched(alloc, one(), Err(NoReply::TimedOut));
+    print(rt, "one part is late", late)?;
+    let refused = batched(alloc, Err(NoReply::Refused(refusal())), one());
+    print(rt, "one part is refused", refused)?;
     print(rt, "a pipeline", pipeline(alloc, &[0, 1]))?;
     print(rt, "a pipeline, node 1 first", pipeline(alloc, &[1, 0]))
+}
+
+fn one() -> batcher::Answer {
+    Ok(Value::Int(1))
 }
 
 /// Prints what a run returned, or why there is nothing.
@@ -112,32 +97,17 @@ fn refusal() -> RedisError {
     RedisError::from((ErrorKind::Client, "READONLY"))
 }
 
-/// Writes two keys, and counts them.
-fn write_both(alloc: Global) -> RedisResult<String> {
+/// The reply to a command over nodes in memory.
+fn drive(alloc: Global, words: &str, nodes: &mut MemoryNodes) -> RedisResult<String> {
     let map = first_drive::two_nodes(alloc)?;
-    let mut nodes = MemoryNodes::new(alloc);
-    let written = first_drive::send(alloc, "MSET foo 1 bar 2", &map, &mut nodes);
-    let counted = first_drive::send(alloc, "EXISTS foo bar", &map, &mut nodes);
-    both(
-        alloc,
-        &reply_text(alloc, &written)?,
-        &reply_text(alloc, &counted)?,
-    )
-}
-
-fn both(alloc: Global, first: &str, second: &str) -> RedisResult<String> {
-    Ok(format!(in alloc; "{first}, then {second}")?)
+    reply_text(alloc, &first_drive::send(alloc, words, &map, nodes))
 }
 
 /// Writes two keys, the second of which is refused.
 fn refuse_second(alloc: Global) -> RedisResult<String> {
-    let map = first_drive::two_nodes(alloc)?;
     let mut nodes = MemoryNodes::new(alloc);
     nodes.plan(vec![in alloc; Planned::Answer, Planned::Refuse]?);
-    reply_text(
-        alloc,
-        &first_drive::send(alloc, "MSET foo 1 bar 2", &map, &mut nodes),
-    )
+    drive(alloc, "MSET foo 1 bar 2", &mut nodes)
 }
 
 /// The reply of a list of one text.
@@ -157,7 +127,7 @@ fn sockets(alloc: Global, count: usize) -> RedisResult<Sockets> {
 }
 
 /// Writes two keys and reads them, over sockets that return this many answers.
-fn write_then_read(alloc: Global, count: usize) -> RedisResult<String> {
+fn read_back(alloc: Global, count: usize) -> RedisResult<String> {
     let map = two_nodes(alloc)?;
     let mut sockets = sockets(alloc, count)?;
     let connections = Connections {
@@ -178,14 +148,11 @@ fn client_text(alloc: Global, given: &Result<Value, ClientFault>) -> RedisResult
 
 /// Deletes two keys, over sockets that return 1 and then this answer.
 fn delete(alloc: Global, answer: Answer) -> RedisResult<String> {
-    let map = two_nodes(alloc)?;
     let answers = vec![in alloc; answer, Answer::Reply(Value::Int(1))]?;
+    let (map, command) = (two_nodes(alloc)?, command(alloc, "DEL foo bar")?);
     let mut sockets = Sockets { answers };
-    let command = command(alloc, "DEL foo bar")?;
-    reply_text(
-        alloc,
-        &sending::send(alloc, &command, &map, &[0, 1], &mut sockets),
-    )
+    let reply = sending::send(alloc, &command, &map, &[0, 1], &mut sockets);
+    reply_text(alloc, &reply)
 }
 
 /// What `MGET a b` replies after the first write, with the second one between its two parts.
@@ -193,8 +160,17 @@ fn read_around(alloc: Global, first: &str, second: &str) -> RedisResult<String> 
     let map = two_nodes(alloc)?;
     let mut nodes = MemoryNodes::new(alloc);
     interleaved::send(alloc, &command(alloc, first)?, &[0, 1], &map, &mut nodes);
-    let (read, write) = (command(alloc, "MGET a b")?, command(alloc, second)?);
-    let reply = interleaved::read_around(alloc, &read, &write, &map, &mut nodes);
+    read_amid(alloc, second, &map, &mut nodes)
+}
+
+fn read_amid(
+    alloc: Global,
+    words: &str,
+    map: &SlotMap,
+    nodes: &mut MemoryNodes,
+) -> RedisResult<String> {
+    let (read, write) = (command(alloc, "MGET a b")?, command(alloc, words)?);
+    let reply = interleaved::read_around(alloc, &read, &write, map, nodes);
     Ok(format!(in alloc; "{reply:?}")?)
 }
 
@@ -228,9 +204,18 @@ fn batched(alloc: Global, first: batcher::Answer, second: batcher::Answer) -> Re
 /// What goes out for a pipeline, its batches in this order, and then its last reply.
 fn pipeline(alloc: Global, order: &[usize]) -> RedisResult<String> {
     let commands = pipeline_of(alloc)?;
-    let (map, none) = (two_nodes(alloc)?, ReadOnlyNames::new(alloc));
+    sent_text(alloc, &commands, &two_nodes(alloc)?, order)
+}
+
+fn sent_text(
+    alloc: Global,
+    commands: &[Cmd],
+    map: &SlotMap,
+    order: &[usize],
+) -> RedisResult<String> {
+    let none = ReadOnlyNames::new(alloc);
     let mut nodes = MemoryBatchNodes::new(alloc);
-    match send_over(alloc, &commands, &none, &map, None, order, &mut nodes) {
+    match send_over(alloc, commands, &none, map, None, order, &mut nodes) {
         Ok(replies) => pipeline_text(alloc, &nodes, replies.last()),
         Err(error) => Ok(format!(in alloc; "{error}")?),
     }
