@@ -18,15 +18,16 @@ use Rattle.redis_bytes.specs.Replies.{HasNoForm, IsAnswer}
 use Rattle.redis_batches.specs.Batched.{IsRight}
 use Rattle.redis_batches.specs.Pipeline.{Answer}
 use Rattle.redis_batches.specs.Plan.{IsPlan}
-use Rattle.redis_batches.specs.PipelinePlan.{PipelineBatches}
+use Rattle.redis_batches.specs.PipelinePlan.{IsSameBut, PipelineBatches}
 use Rattle.redis_batches.specs.Replies.{AreRepliesFor}
 use Rattle.redis_batches.specs.Taken.{answer_of}
+use Rattle.redis_batches.proofs.Telling.{same_more}
 use Rattle.redis_batches.proofs.Entries.{get_there}
 use Rattle.redis_cluster.proofs.Sending.{set_there}
 use Rattle.redis_batch_bytes.specs.declared.fault.BatchFault.{BatchFault}
 use Rattle.redis_batch_bytes.specs.declared.fault.BatchFault.TheVariants as faults
 use Rattle.redis_batch_bytes.specs.Plans.{EachIsSent}
-use Rattle.redis_batch_bytes.specs.Replies.{BatchesAreAnswered, AreByBatch, AreTold, AreUnwritten, IsSameBut, IsToldBatch, IsUncombinedBy, StandAsTold}
+use Rattle.redis_batch_bytes.specs.Replies.{BatchesAreAnswered, AreByBatch, AreTold, AreUnwritten, IsToldBatch, IsUncombinedBy, StandAsTold}
 use Rattle.redis_batch_bytes.specs.Told.{answer_of_wire}
 use Rattle.redis_batch_bytes.specs.Unread.{AnswersAreFollowed, AreUnreadAnswers, IsFirstNoAnswer, IsFirstUnreadBatch, IsUnreadAnswer}
 use Rattle.redis_batch_bytes.proofs.Fronts.{more_stand}
@@ -63,7 +64,7 @@ pub record SoFar (old now : PipelineBatches) (count : ℕ) (bytes rest : List �
 
 pub none_so_far : (old : PipelineBatches) (bytes : List ℕ) → IsPlan old.batches → All (λ told. told ≡ false) old.batches.told → SoFar old old 0 bytes bytes
 none_so_far old bytes plan none = record {
-  same = (refl, refl, refl, refl, refl);
+  same = (refl, refl);
   given = [];
   stand = none_told bytes;
   long = refl;
@@ -76,10 +77,10 @@ none_so_far old bytes plan none = record {
 module _ (old now new : PipelineBatches) (count : ℕ) (bytes rest after : List ℕ) (plan : IsPlan old.batches) (so_far : SoFar old now count bytes rest) (own : List ℕ)
     (at : slice_get old.batches.places count ≡ Some own) (next : IsToldBatch now new count rest after) where
   here : slice_get now.batches.places count ≡ Some own
-  here = ap (λ (l : List (List ℕ)). slice_get l count) so_far.same.2 ∙ at
+  here = ap (λ (p : PipelineBatches). slice_get p.batches.places count) so_far.same.0 ∙ at
 
   room : (all : List Answer) → length all ≡ length old.batches.parts → length all ≡ length now.batches.parts
-  room all long = long ∙ sym (ap length so_far.same.3)
+  room all long = long ∙ sym (ap (λ (p : PipelineBatches). length p.batches.parts) so_far.same.0)
 
   -- the answers to the batches before, and those to this one
   apart : (all : List Answer) → length all ≡ length old.batches.parts → so_far.given ++ next.given ≡ in_order all (concat (take (count + 1) old.batches.places))
@@ -92,7 +93,7 @@ module _ (old now new : PipelineBatches) (count : ℕ) (bytes rest after : List 
 
   pub one_batch_more : IsSameBut now new → new.batches.told ≡ slice_set now.batches.told count true → SoFar old new (count + 1) bytes after
   one_batch_more same flags = record {
-    same = (same.0 ∙ so_far.same.0, same.1 ∙ so_far.same.1, same.2 ∙ so_far.same.2, same.3 ∙ so_far.same.3, same.4 ∙ so_far.same.4);
+    same = same_more old now new so_far.same same;
     given = so_far.given ++ next.given;
     stand = more_told bytes rest after so_far.given next.given so_far.stand next.stand;
     long = omega (arith, length-append so_far.given next.given, so_far.long, next.long own here, ap length (concat_more old.batches.places count own at), length-append (concat (take count old.batches.places)) own);

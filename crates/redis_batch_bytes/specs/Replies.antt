@@ -68,12 +68,6 @@ PipelineIsUncombined registered ranges requests bytes fault = IsUnplanned regist
 
 -- ---- passing answers to a plan
 
--- the plan is the same except for the answers
-abbrev pub IsSameBut : PipelineBatches → PipelineBatches → Type 0
-IsSameBut old new = (new.splits ≡ old.splits) × (new.batches.nodes ≡ old.batches.nodes)
-    × (new.batches.places ≡ old.batches.places) × (new.batches.parts ≡ old.batches.parts)
-    × (length new.batches.answers ≡ length old.batches.answers)
-
 -- The bytes begin with the answers to a batch, and the plan took these. If they are the batch's
 -- answers in `all`, the plan has the answers of `all` at the batch's indices. It keeps those that
 -- it had.

@@ -4,8 +4,8 @@ ghost use Rattle.redis_cluster.specs.Orders.{in_order};
 ghost use Rattle.redis_batches.specs.Batched.{IsRight};
 ghost use Rattle.redis_batches.specs.Pipeline.{Answer};
 ghost use Rattle.redis_batches.specs.Plan.{IsPlan};
-ghost use Rattle.redis_batches.specs.PipelinePlan.{PipelineBatches};
-ghost use Rattle.redis_batch_bytes.specs.Replies.{AreTold, IsSameBut, IsToldBatch};
+ghost use Rattle.redis_batches.specs.PipelinePlan.{IsSameBut, PipelineBatches};
+ghost use Rattle.redis_batch_bytes.specs.Replies.{AreTold, IsToldBatch};
 ghost use Rattle.redis_batch_bytes.specs.Unread.{AreUnreadAnswers, IsUnreadAnswer};
 
 use crate::answers::answers_at;
@@ -69,8 +69,6 @@ fn count_of(alloc: Global, plan: &PipelinePlan<'_>, number: usize) -> Result<usi
     ensures count { IfOk result (λ count. (places : List ℕ)
         → slice_get plan.now.batches.places number ≡ Some places → count ≡ length places) }
 {
-    // The indices of the plan's batches are within its parts.
-    let _count = plan.len();
     let Some(batch) = plan.batch(alloc, number)? else {
         unreachable!()
     };

@@ -11,14 +11,14 @@ use Rattle.redis_cluster.specs.Orders.{in_order}
 use Rattle.redis_cluster.specs.State.{State}
 use Rattle.redis_cluster.specs.Trace.{refused}
 use Rattle.redis_cluster.specs.Unsplit.{Step, Keyspace}
-use Rattle.redis_batches.specs.Batched.{numbers_in, put_at}
+use Rattle.redis_batches.specs.Batched.{IsRight, numbers_in, put_at}
 use Rattle.redis_batches.specs.Driven.{Grew, HaveAnswered, node_at}
 use Rattle.redis_batches.specs.Plan.{batch_of}
 use Rattle.redis_batches.specs.DrivenPipeline.{IsBeforeSending}
 use Rattle.redis_batches.specs.Frame.{SameNodes}
 use Rattle.redis_batches.specs.InRounds.{AreSentAgain, IsAgainFault, Stands, WereSentAgain, fault_behind}
 use Rattle.redis_batches.specs.Outgoing.{ArePutAt, GoesBehind, IsNextFault, IsNextSent, IsNextServed}
-use Rattle.redis_batches.specs.Pipeline.{Answer, AreSlotsOf, Numbered, Planned, Refusals, Serve, ended, numbered, slot_of}
+use Rattle.redis_batches.specs.Pipeline.{Answer, AreSlotsOf, Numbered, Planned, Refusals, Serve, ended, numbered, slot_of, ended_answers}
 use Rattle.redis_batches.specs.Rounds.{AreRounds, AreSentOn, Follows, IsLast, IsRoundServed, IsRoundStopped, IsSentOn, Round, StaysHere, after_rounds, alone, batch_after, batches_before, go_on, last_round, latest_answers, round_answers, round_batches}
 use Rattle.redis_batches.specs.Sent.{AreLast}
 use Rattle.redis_batches.specs.Taken.{answer_of}
@@ -26,6 +26,8 @@ use Rattle.redis_batches.specs.Turns.{all_after, answers}
 use Rattle.redis_batches.specs.declared.going.Outgoing.{Outgoing}
 use Rattle.redis_batches.specs.declared.nodes.BatchNodes.{Ghosts}
 use Rattle.redis_batches.specs.declared.send.Stopped.{Stopped}
+use Rattle.redis_batches.proofs.Putting.{length-put_at, map-put_at, put_kept, put_right}
+use Rattle.redis_batches.proofs.Sends.{length-answers}
 use Rattle.redis_batches.proofs.Again.{IsRefusedBy, from_all, put_back, replies_for, round_leaves, same_sent, after_round}
 use Rattle.redis_batches.proofs.Alone.{IsOwnPart, alone_answers, alone_leaves, numbered_own}
 use Rattle.redis_batches.proofs.Asked.{answered_more, asked_more, asked_until_more}
@@ -169,17 +171,28 @@ module _ {C : Type 0} (step : Step C) (serve : Serve C) (ps : List Planned) (are
   stands_next leaves gives put =
       let given : map answer_of replies ≡ map (λ (a : Numbered × Answer). a.1) (answers (ended step serve next.refusals) next.sent (all_after (ended step serve refusals) (numbered ps) start)) =
       sym put.given_are ∙ gives ∙ ap (λ (k : Keyspace C). map (λ (a : Numbered × Answer). a.1) (answers (ended step serve next.refusals) next.sent k)) stands.as_one.keyspace in
+      let ns = map (λ (x : Numbered). x.0) next.sent in
+      let long : length replies ≡ length ns =
+      sym (length-map replies answer_of) ∙ ap length (sym put.given_are ∙ gives) ∙ length-answers (ended step serve next.refusals) next.sent now ∙ sym (length-map next.sent (λ (x : Numbered). x.0)) in
+      let all = ended_answers step serve (after_round refusals next) ps start in
       let for = replies_for step serve ps are refusals next last all_refused start out more stands.as_one.answers_are replies given in
       record {
         as_one = record {
           keyspace = leaves ∙ ap (λ (k : Keyspace C). all_after (ended step serve next.refusals) next.sent k) stands.as_one.keyspace
               ∙ round_leaves step serve ps are refusals next last all_refused start;
-          answers_are = put_back step serve ps are refusals next last all_refused start out more stands.as_one.answers_are put.room (put.right _ for) (put.others _ for);
+          answers_are = put_back step serve ps are refusals next last all_refused start out more stands.as_one.answers_are (ap length put.put ∙ length-put_at out ns replies)
+              (subst (λ l. All (IsRight l all) ns) (sym put.put) (put_right out replies ns put.within long all for)) (λ place was. subst (λ l. IsRight l all place) (sym put.put) (put_kept out replies ns put.within all for place was));
         };
         own = λ k d inside. sym (same_sent step serve ps are refusals next last k d inside);
         before = now;
         given_are = gives;
       }
+
+-- the answers after a round
+put_as_answers : {round : Round} {replies old new : List (Result Value ErrorParts)} → ArePutAt round replies old new → map answer_of new ≡ put_at (map answer_of old) (map (λ x. x.0) round.sent) round.given
+put_as_answers {round} {replies} {old} put =
+    let ns = map (λ (x : Numbered). x.0) round.sent in
+    ap (map answer_of) put.put ∙ map-put_at answer_of old ns replies ∙ ap (put_at (map answer_of old) ns) (sym put.given_are)
 
 module _ {S : Type 0} (N : Ghosts S) (old : S) (arguments : List (List (List ℕ))) (ps : List Planned) (round : Round) (before : List (Result Value ErrorParts)) where
   -- so many rounds were sent, and these parts go out next
@@ -234,7 +247,7 @@ module _ {S : Type 0} (N : Ghosts S) (old : S) (arguments : List (List (List ℕ
           asked = asked_longer is;
           gave = gave_longer is;
           behind = subst (λ r. GoesBehind ps r later) (sym last) served.behind;
-          latest = served.put.all_are ∙ ap (λ l. put_at l (map (λ (x : Numbered). x.0) is.next.sent) is.next.given) so_far.latest ∙ sym (latest_more (map answer_of before) so_far.rounds is.next);
+          latest = put_as_answers served.put ∙ ap (λ l. put_at l (map (λ (x : Numbered). x.0) is.next.sent) is.next.given) so_far.latest ∙ sym (latest_more (map answer_of before) so_far.rounds is.next);
           stands = λ keep own ks refusals was.
               let stands : Stands N.step N.serve ps (after_rounds refusals so_far.rounds) latest ks (N.state now).keyspace all = so_far.stands (one.kept keep) own ks refusals was in
               let its = is.served.served in

@@ -12,7 +12,7 @@ use Rattle.redis_batches.specs.DrivenPipeline.{AreAllAsked, AreAllGiven, AreAllT
 use Rattle.redis_batches.specs.Pipeline.{Answer, AreSlotsOf, Planned, Task}
 use Rattle.redis_batches.specs.PipelinePlan.{PipelineBatches}
 use Rattle.redis_batches.specs.Placed.{Ranges}
-use Rattle.redis_batches.specs.Plan.{Batches, batch_of}
+use Rattle.redis_batches.specs.Plan.{batch_of}
 use Rattle.redis_batches.specs.Replies.{AreRepliesFor, AreRepliesTo}
 use Rattle.redis_batches.specs.Tasks.{AreSplitsFor, AreSplitsOf, with_slots}
 use Rattle.redis_batches.specs.declared.nodes.BatchNodes.{Ghosts}
@@ -27,11 +27,10 @@ use Rattle.redis_batches.proofs.Untaken.{stopped_for_memory}
 use Rattle.redis_batches.proofs.Untouched.{replies_untouched}
 
 -- the batches of a plan of commands
-pub has_batches : {registered : Registrations} {is_node : ℕ → Address → Type 0} {commands : List (List (List ℕ))} {order : List ℕ} {plan : PipelineBatches} (sendable : IsSendable registered is_node commands order plan) {batches : Batches} → batches ≡ plan.batches
-    → (ps : List Planned) × All (λ p. AreSlotsOf p.task p.slots) ps × AreBatches registered ps batches.parts batches.places
-has_batches {registered} {is_node} {commands} {order} {plan} sendable same =
-    let ps = map with_slots sendable.of_commands.tasks in
-    (ps, slots_of_all sendable.of_commands.tasks, subst (λ b. AreBatches registered ps b.parts b.places) (sym same) (plan_has_batches registered is_node commands plan sendable.of_commands))
+pub has_batches : {registered : Registrations} {is_node : ℕ → Address → Type 0} {commands : List (List (List ℕ))} {order : List ℕ} {plan : PipelineBatches} (sendable : IsSendable registered is_node commands order plan)
+    → (ps : List Planned) × All (λ p. AreSlotsOf p.task p.slots) ps × AreBatches registered ps plan.batches.parts plan.batches.places
+has_batches {registered} {is_node} {commands} {order} {plan} sendable =
+    (map with_slots sendable.of_commands.tasks, slots_of_all sendable.of_commands.tasks, plan_has_batches registered is_node commands plan sendable.of_commands)
 
 -- the answers to the parts of tasks, and the replies that they make
 pub record AreCombined (tasks : List Task) (given replies : List Answer) : Type 0 where
@@ -48,35 +47,31 @@ combined {registered} {is_node} {commands} {order} {plan} sendable splits of_are
       made = subst (λ l. AreRepliesTo tasks l replies) answers_are (made registered tasks (subst (λ s. AreSplitsOf registered s tasks) (sym of_are) own));
     }
 
-module _ {S : Type 0} {N : Ghosts S} {old new : S} {batches : Batches} {order : List ℕ} {given : List Answer} (sent : AreBatchesSent N old new batches order given)
-    {is_node : ℕ → Address → Type 0} {commands : List (List (List ℕ))} {plan : PipelineBatches} (sendable : IsSendable (N.registered old) is_node commands order plan) (same : batches ≡ plan.batches) where
+module _ {S : Type 0} {N : Ghosts S} {old new : S} (plan : PipelineBatches) {order : List ℕ} {given : List Answer} (sent : AreBatchesSent N old new plan.batches order given)
+    {is_node : ℕ → Address → Type 0} {commands : List (List (List ℕ))} (sendable : IsSendable (N.registered old) is_node commands order plan) where
   abbrev pub tasks : List Task
   tasks = sendable.of_commands.tasks
-
-  -- its batches were sent, as those of a plan of the commands
-  pub own_sent : AreBatchesSent N old new plan.batches order given
-  own_sent = subst (λ b. AreBatchesSent N old new b order given) same sent
 
   abbrev own_batches : AreBatches (N.registered old) (map with_slots tasks) plan.batches.parts plan.batches.places
   own_batches = plan_has_batches (N.registered old) is_node commands plan sendable.of_commands
 
   pub own_served : IsServed N old new (map with_slots tasks) plan.batches (batch_of sendable.of_commands.node_of plan.batches) order (N.state old) (N.state new) given
-  own_served = own_sent.served (map with_slots tasks) (slots_of_all tasks) own_batches
+  own_served = sent.served (map with_slots tasks) (slots_of_all tasks) own_batches
 
   abbrev pub all_taken : AreAllTaken N old new is_node commands order (N.state new) given
   all_taken = record { plan = plan; sendable = sendable; served = own_served }
 
   pub all_asked : AreAllAsked N old new is_node commands order
-  all_asked = (plan, sendable, own_sent.asked)
+  all_asked = (plan, sendable, sent.asked)
 
-  abbrev pub all_given : length given ≡ length batches.parts → AreAllGiven N old new is_node commands order given
+  abbrev pub all_given : length given ≡ length plan.batches.parts → AreAllGiven N old new is_node commands order given
   all_given long = record {
     plan = plan;
     sendable = sendable;
-    asked = own_sent.asked;
+    asked = sent.asked;
     in_turn = pipeline_in_turn (N.registered old) (map with_slots tasks) plan.batches order own_batches sendable.order_is;
-    long = subst (λ (b : Batches). length given ≡ length b.parts) same long;
-    gave = own_sent.gave;
+    long = long;
+    gave = sent.gave;
   }
 
   -- where nodes may refuse nothing, no part was refused
@@ -94,7 +89,7 @@ module _ {S : Type 0} {N : Ghosts S} {old new : S} {batches : Batches} {order : 
           (subst (λ answers. AreRepliesTo tasks answers replies) (own_served.answers_are keep) all.made);
     }
 
-    pub pipeline_made : length given ≡ length batches.parts → AreMade N old new is_node commands order replies
+    pub pipeline_made : length given ≡ length plan.batches.parts → AreMade N old new is_node commands order replies
     pipeline_made long = record {
       given = given;
       all = all_given long;
@@ -111,19 +106,16 @@ module _ {S : Type 0} {N : Ghosts S} {old new : S} {batches : Batches} {order : 
           server_replies N.step N.serve tasks all.share (N.state old).keyspace replies (subst (λ answers. AreRepliesTo tasks answers replies) both.1 all.made),
         )
 
-module _ {S : Type 0} {N : Ghosts S} {old new : S} {batches : Batches} {order : List ℕ} {stop : Stopped} (is : AreBatchesStopped N old new batches order stop)
-    {is_node : ℕ → Address → Type 0} {commands : List (List (List ℕ))} {plan : PipelineBatches} (sendable : IsSendable (N.registered old) is_node commands order plan) (same : batches ≡ plan.batches) where
-  own : AreBatchesStopped N old new plan.batches order stop
-  own = subst (λ b. AreBatchesStopped N old new b order stop) same is
-
+module _ {S : Type 0} {N : Ghosts S} {old new : S} (plan : PipelineBatches) {order : List ℕ} {stop : Stopped} (is : AreBatchesStopped N old new plan.batches order stop)
+    {is_node : ℕ → Address → Type 0} {commands : List (List (List ℕ))} (sendable : IsSendable (N.registered old) is_node commands order plan) where
   own_stopped : WasStopped N old new (map with_slots sendable.of_commands.tasks) plan.batches (batch_of sendable.of_commands.node_of plan.batches) order (N.state old) (N.state new) stop.answered stop.error
-  own_stopped = own.stopped (map with_slots sendable.of_commands.tasks) (slots_of_all sendable.of_commands.tasks) (plan_has_batches (N.registered old) is_node commands plan sendable.of_commands)
+  own_stopped = is.stopped (map with_slots sendable.of_commands.tasks) (slots_of_all sendable.of_commands.tasks) (plan_has_batches (N.registered old) is_node commands plan sendable.of_commands)
 
   pub pipeline_stopped : (ranges : Ranges) → IsPipelineFault N old new is_node commands order ranges (Node stop)
   pipeline_stopped ranges = (plan, sendable, is.within, is.first_round, own_stopped)
 
   pub asked_until : AreAskedUntil N old new is_node commands order (Node stop)
-  asked_until = (plan, sendable, own.asked)
+  asked_until = (plan, sendable, is.asked)
 
   -- where nodes may do nothing but answer, it stopped for want of memory
   pub pipeline_unhindered : AlwaysAnswers (N.may_refuse old) (length (N.state old).trace) → IsWantOfMemory (N.state new).mark (Node stop)

@@ -9,7 +9,7 @@ use Rattle.resp_core.specs.ErrorParts.{ErrorParts}
 use Rattle.resp_core.specs.declared.value.Value.{Value}
 use Rattle.redis_routing.specs.Registry.{Registrations}
 use Rattle.redis_cluster.specs.Orders.{NamesOnce}
-use Rattle.redis_batches.specs.Batched.{AreBatches, AreFor, IsRight, put_at}
+use Rattle.redis_batches.specs.Batched.{AreBatches, put_at}
 use Rattle.redis_batches.specs.BatchSends.{AreBatchesSent, AreBatchesStopped, IsServed}
 use Rattle.redis_batches.specs.Outgoing.{ArePartsOf, GoesBehind, IsNext, IsNextSent, IsNextServed, IsNextStopped, IsPlanFor, node_for, node_in, slot_at}
 use Rattle.redis_batches.specs.Pipeline.{Answer, AreSlotsOf, Numbered, Part, Planned, Refusals, numbered, pieces, slot_of}
@@ -26,7 +26,6 @@ use Rattle.redis_batches.proofs.Ascending.{each_once}
 use Rattle.redis_batches.proofs.ByNode.{by_node_batches, map_map}
 use Rattle.redis_batches.proofs.Entries.{map_agree_on}
 use Rattle.redis_batches.proofs.GoOn.{go_apart, go_are_last, go_by, go_somewhere, goes_by, zip_fronts}
-use Rattle.redis_batches.proofs.Putting.{map-put_at}
 use Rattle.redis_batches.proofs.Written.{zip_long}
 
 some_unwrap : {A : Type 0} (o : Option A) (d : A) → IsSome o → o ≡ Some (unwrap_or o d)
@@ -172,10 +171,9 @@ module _ {S : Type 0} {N : Ghosts S} {old new : S} {ps : List Planned} {argument
         }
 
     -- its answers were put at their places, and those that go out behind it are found
-    pub next_is : (replies before after : List (Result Value ErrorParts)) → given ≡ map answer_of replies → after ≡ put_at before ns replies → length after ≡ length before
-        → ((all : List Answer) → AreFor all ns replies → All (IsRight after all) ns) → ((all : List Answer) → AreFor all ns replies → (place : ℕ) → IsRight before all place → IsRight after all place)
+    pub next_is : (replies before after : List (Result Value ErrorParts)) → given ≡ map answer_of replies → after ≡ put_at before ns replies → All (λ n. n < length before) ns
         → (later : Outgoing) → IsNext slots ns nodes given later → IsNextServed N old new arguments round ps before after later
-    next_is replies before after given_are put room right others later found =
+    next_is replies before after given_are put within later found =
         let own = xs of gone ns_are in
         let numbers = numbers_are of gone ns_are in
         record {
@@ -183,11 +181,8 @@ module _ {S : Type 0} {N : Ghosts S} {old new : S} {ps : List Planned} {argument
           replies = replies;
           put = record {
             given_are = given_are;
-            all_are = ap (map answer_of) put ∙ map-put_at answer_of before ns replies ∙ ap (λ l. put_at (map answer_of before) l (map answer_of replies)) numbers
-                ∙ ap (put_at (map answer_of before) (map (λ (x : Numbered). x.0) own)) (sym given_are);
-            room = room;
-            right = λ all for. subst (All (IsRight after all)) numbers (right all (subst (λ l. AreFor all l replies) (sym numbers) for));
-            others = λ all for place was. others all (subst (λ l. AreFor all l replies) (sym numbers) for) place was;
+            within = subst (All (λ n. n < length before)) numbers within;
+            put = put ∙ ap (λ l. put_at before l replies) numbers;
           };
           behind = record {
             last = xs_last of gone ns_are;

@@ -10,6 +10,7 @@ pub mod Sends
 pub mod Putting
 pub mod ByNode
 pub mod Entries
+pub mod Telling
 pub mod Round
 pub mod OneServer
 pub mod Commands

@@ -1,5 +1,5 @@
 -- The plan of a pipeline over commands: what its parts mean, and the one node of each slot.
-use Rattle.std.proofs.Common.{◌≡◌, ◌≤◌, ◌+◌, ℕ, zero, suc, List, [], ◌∷◌, ◌++◌, Bool, true, false, cond, Some, All, refl, sym, ap, subst, ◌∙◌, arith, map, length, get_or}
+use Rattle.std.proofs.Common.{◌≡◌, ◌≤◌, ℕ, zero, suc, List, [], ◌∷◌, ◌++◌, Bool, true, false, cond, Some, All, refl, sym, ap, subst, ◌∙◌, arith, map, length, get_or}
 use Rattle.std.specs.Prelude.{nat_eq}
 use Rattle.std.specs.List.{AllZip, flat_map, list_any, sum_by}
 use Rattle.std.proofs.lemmas.Bool.{eqb-true}
@@ -24,10 +24,10 @@ use Rattle.redis_batches.specs.Taken.{task_of}
 use Rattle.redis_batches.specs.Tasks.{IsSplitOfTask, slots_of_task, with_slots}
 use Rattle.redis_batches.specs.CommandTask.{IsKeptOf, IsTaskFor, SlotPart, slot_parts, slots_kept, split_in, split_parts}
 use Rattle.redis_batches.specs.Placed.{ArePlaced, IsPartFault, Ranges}
-use Rattle.redis_batches.specs.Reads.{only_reads, slots_written}
+use Rattle.redis_batches.specs.Reads.{slots_written}
 use Rattle.redis_batches.specs.Chosen.{all_written}
 use Rattle.redis_batches.specs.PipelinePlan.{IsPipelinePlanFault, IsPlanOfCommands, PipelineBatches, pieces_of}
-use Rattle.redis_batches.specs.Plan.{Batches, IsByNode}
+use Rattle.redis_batches.specs.Plan.{IsByNode}
 use Rattle.redis_batches.specs.Replies.{part_count}
 use Rattle.redis_batches.specs.declared.fault.PipelineFault.{PipelineFault}
 use Rattle.redis_batches.specs.declared.fault.PipelineFault.TheVariants.{NotRoutable, NotCovered, Memory}
@@ -168,9 +168,9 @@ nodes_for_parts is_node of parts nodes placed =
     as_many is_node of nodes placed.nodes_are ∙ sym (length-map of (λ p. p.1)) ∙ sym (ap length placed.parts_are) ∙ length-map parts (map Some)
 
 -- the parts as a plan has them
-pub placed_parts : (is_node : ℕ → Address → Type 0) (tasks kept : List CommandTask) (made parts : List (List (List ℕ))) (nodes : List Address) → tasks ≡ kept → parts ≡ made → ArePlaced is_node (flat_map slot_parts tasks) made nodes
-    → ArePlaced is_node (flat_map slot_parts kept) parts nodes
-placed_parts is_node tasks kept made parts nodes is same placed = grind (arith, common_steps)
+pub placed_parts : (is_node : ℕ → Address → Type 0) (tasks kept : List CommandTask) (made parts : List (List (List ℕ))) (nodes targets : List Address) → tasks ≡ kept → parts ≡ made → targets ≡ nodes → ArePlaced is_node (flat_map slot_parts tasks) made nodes
+    → ArePlaced is_node (flat_map slot_parts kept) parts targets
+placed_parts is_node tasks kept made parts nodes targets is same at placed = grind (arith, common_steps)
 
 -- there are as many tasks as commands
 pub tasks_long : (registered : Registrations) (commands : List (List (List ℕ))) (kept : List CommandTask) → AllZip (IsTaskFor registered) commands kept → length kept ≡ length commands
@@ -202,10 +202,11 @@ slots_of_parts registered (t ∷ tasks) (k ∷ kept) each =
     ∙ sym (map-append (λ (q : Part). q.slot) (parts_of (with_slots t)) (pieces_of tasks))
 
 -- The plan of commands. Each slot has one node among those that were chosen, which is one that it may have.
-pub is_plan_of : (registered : Registrations) (chosen is_node : ℕ → Address → Type 0) (commands : List (List (List ℕ))) (kept : List CommandTask) (batches : Batches) (nodes : List Address) → IsOne chosen
-    → ((slot : ℕ) (node : Address) → chosen slot node → is_node slot node) → AllZip (IsTaskFor registered) commands kept → ArePlaced chosen (flat_map slot_parts kept) batches.parts nodes → IsByNode batches nodes
-    → IsPlanOfCommands registered is_node commands (record { splits = map split_in kept; batches = batches; slots = flat_map slots_kept kept; targets = nodes })
-is_plan_of registered chosen is_node commands kept batches nodes one may each placed by_node =
+pub is_plan_of : (registered : Registrations) (chosen is_node : ℕ → Address → Type 0) (commands : List (List (List ℕ))) (kept : List CommandTask) (plan : PipelineBatches) → IsOne chosen
+    → ((slot : ℕ) (node : Address) → chosen slot node → is_node slot node) → AllZip (IsTaskFor registered) commands kept → plan.slots ≡ flat_map slots_kept kept → ArePlaced chosen (flat_map slot_parts kept) plan.batches.parts plan.targets → IsByNode plan.batches plan.targets
+    → IsPlanOfCommands registered is_node commands plan
+is_plan_of registered chosen is_node commands kept plan one may each slots placed by_node =
+    let nodes = plan.targets in
     let found = tasks_from registered commands kept each in
     let tasks : List Task = found.0 in
     let qs : List Part = pieces_of tasks in
@@ -217,12 +218,12 @@ is_plan_of registered chosen is_node commands kept batches nodes one may each pl
     record {
       tasks = tasks;
       tasks_are = found.1;
-      parts_are = meant registered batches.parts (flat_map slot_parts kept) qs placed.parts_are parts;
+      parts_are = meant registered plan.batches.parts (flat_map slot_parts kept) qs placed.parts_are parts;
       arguments = placed.parts_are ∙ found.3;
       node_of = node;
       nodes_are = All-weaker (λ (q : Part). chosen q.slot (node q.slot)) (λ q. is_node q.slot (node q.slot)) (λ q is. may q.slot (node q.slot) is) qs all;
-      by_node = subst (IsByNode batches) (same_nodes chosen one node qs nodes at all) by_node;
-      slots_are = slots_of_parts registered tasks kept found.2;
+      by_node = subst (IsByNode plan.batches) (same_nodes chosen one node qs nodes at all) by_node;
+      slots_are = slots ∙ slots_of_parts registered tasks kept found.2;
       targets_are = same_nodes chosen one node qs nodes at all;
     }
 

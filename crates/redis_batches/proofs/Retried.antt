@@ -35,7 +35,7 @@ use Rattle.redis_batches.proofs.Amid.{served_amid}
 use Rattle.redis_batches.proofs.Alone.{slots_at}
 use Rattle.redis_batches.proofs.Asked.{answered_more, asked_more, asked_none, asked_until_more}
 use Rattle.redis_batches.proofs.Chain.{rounds_since, stopped_since}
-use Rattle.redis_batches.proofs.Driving.{AreCombined, own_sent, own_served}
+use Rattle.redis_batches.proofs.Driving.{AreCombined, own_served}
 use Rattle.redis_batches.proofs.Ends.{after_agree, answers_agree, numbers_apart}
 use Rattle.redis_batches.proofs.Frame.{frame_none}
 use Rattle.redis_batches.proofs.GoOn.{go_by, goes_by}
@@ -84,13 +84,13 @@ behind_first ps slots nodes node_of given batches refusals out slots_are nodes_a
 none : Refusals
 none x = None
 
-module _ {S : Type 0} {N : Ghosts S} {old mid : S} {batches : Batches} {order : List ℕ} {given : List Answer} (sent : AreBatchesSent N old mid batches order given)
-    {is_node : ℕ → Address → Type 0} {commands : List (List (List ℕ))} {plan : PipelineBatches} (sendable : IsSendable (N.registered old) is_node commands order plan) (same : batches ≡ plan.batches) where
+module _ {S : Type 0} {N : Ghosts S} {old mid : S} (plan : PipelineBatches) {order : List ℕ} {given : List Answer} (sent : AreBatchesSent N old mid plan.batches order given)
+    {is_node : ℕ → Address → Type 0} {commands : List (List (List ℕ))} (sendable : IsSendable (N.registered old) is_node commands order plan) where
   abbrev pub ps : List Planned
   ps = map with_slots sendable.of_commands.tasks
 
   abbrev served : IsServed N old mid ps plan.batches (batch_of sendable.of_commands.node_of plan.batches) order (N.state old) (N.state mid) given
-  served = own_served sent sendable same
+  served = own_served plan sent sendable
 
   -- the first round
   abbrev pub first : Round
@@ -103,7 +103,7 @@ module _ {S : Type 0} {N : Ghosts S} {old mid : S} {batches : Batches} {order : 
   pub nodes_many : {nodes : List Address} → nodes ≡ plan.targets → length nodes ≡ length (pieces ps)
   nodes_many are = ap length are ∙ ap length sendable.of_commands.targets_are ∙ length-map (pieces ps) (λ q. sendable.of_commands.node_of q.slot)
 
-  pub answers_many : length given ≡ length batches.parts → length given ≡ length (pieces ps)
+  pub answers_many : length given ≡ length plan.batches.parts → length given ≡ length (pieces ps)
   answers_many long = grind (arith, common_steps)
 
   -- its parts, and what follows the first round
@@ -112,22 +112,21 @@ module _ {S : Type 0} {N : Ghosts S} {old mid : S} {batches : Batches} {order : 
     pub of : ArePartsOf (N.registered mid) ps arguments slots
     pub gone : GoesBehind ps first out
 
-  pub goes_again : SameNodes N old mid → length given ≡ length batches.parts → {arguments : List (List (List ℕ))} → arguments ≡ batches.parts → {own slots : List ℕ} → own ≡ slots → slots ≡ plan.slots → {nodes : List Address} → nodes ≡ plan.targets
+  pub goes_again : SameNodes N old mid → length given ≡ length plan.batches.parts → {arguments : List (List (List ℕ))} → arguments ≡ plan.batches.parts → {own slots : List ℕ} → own ≡ slots → slots ≡ plan.slots → {nodes : List Address} → nodes ≡ plan.targets
       → {told : List Answer} → told ≡ given → {out : Outgoing} → IsNext slots (range_with_len 0 (length slots)) nodes told out → GoesAgain arguments own out
   goes_again frame long {arguments} are {own} {slots} own_are slots_are {nodes} nodes_are {told} told_are {out} found =
-      let arguments_are = are ∙ ap (λ (b : Batches). b.parts) same in
       record {
-        arguments_are = arguments_are;
+        arguments_are = are;
         of = record {
           are = slots_of_all sendable.of_commands.tasks;
-          tasks = ap (λ registered. map (task_of registered) arguments) frame.registered ∙ ap (map (task_of (N.registered old))) arguments_are ∙ sendable.of_commands.parts_are;
+          tasks = ap (λ registered. map (task_of registered) arguments) frame.registered ∙ ap (map (task_of (N.registered old))) are ∙ sendable.of_commands.parts_are;
           slots_are = own_are ∙ slots_are ∙ sendable.of_commands.slots_are;
         };
         gone = behind_first ps slots nodes sendable.of_commands.node_of given plan.batches served.refusals out (slots_are ∙ sendable.of_commands.slots_are) (nodes_are ∙ sendable.of_commands.targets_are) (answers_many long)
             (subst (λ l. IsNext slots (range_with_len 0 (length slots)) nodes l out) told_are found);
       }
 
-  module _ (frame : SameNodes N old mid) (long : length given ≡ length batches.parts) {new : S} (one : SameNodes N mid new) where
+  module _ (frame : SameNodes N old mid) (long : length given ≡ length plan.batches.parts) {new : S} (one : SameNodes N mid new) where
     abbrev taken : AreAllTaken N old new is_node commands order (N.state mid) given
     taken = record {
       plan = plan;
@@ -153,18 +152,15 @@ module _ {S : Type 0} {N : Ghosts S} {old mid : S} {batches : Batches} {order : 
       again = rounds_since N old mid new frame plan.batches.parts first rounds (N.state mid) now again;
     }
 
-    many : length given ≡ length plan.batches.parts
-    many = long ∙ ap (λ (b : Batches). length b.parts) same
-
     module _ (retries : ℕ) where
       -- no more than retries, and nothing else
       abbrev all_sent : WereSentAgain N mid new plan.batches.parts first retries → WereSent N old new is_node commands order retries
       all_sent again = record {
         so_far = so_far again.rounds (N.state new) again.again;
         few = again.few;
-        asked = asked_more (N.asked old) (N.asked mid) (N.asked new) (map (batch_at plan.batches) order) (flat_map round_batches again.rounds) (own_sent sent sendable same).asked again.asked;
-        long = many;
-        gave = asked_more (N.gave old) (N.gave mid) (N.gave new) (answers_in plan.batches given order) (flat_map round_answers again.rounds) (own_sent sent sendable same).gave again.gave;
+        asked = asked_more (N.asked old) (N.asked mid) (N.asked new) (map (batch_at plan.batches) order) (flat_map round_batches again.rounds) sent.asked again.asked;
+        long = long;
+        gave = asked_more (N.gave old) (N.gave mid) (N.gave new) (answers_in plan.batches given order) (flat_map round_answers again.rounds) sent.gave again.gave;
       }
 
       stopped : {stop : Stopped} → StoppedAgain N mid new plan.batches.parts first retries stop → StoppedInRounds N old new is_node commands order retries stop
@@ -173,7 +169,7 @@ module _ {S : Type 0} {N : Ghosts S} {old mid : S} {batches : Batches} {order : 
           let rounds = flat_map round_batches is.rounds in
           let last = batches_before is.next stop.answered in
           let all : WereAskedUntil (N.asked old) (N.asked new) (front ++ (rounds ++ last)) (batch_after is.next stop.answered) stop.error =
-          asked_until_more (N.asked old) (N.asked mid) (N.asked new) front (rounds ++ last) (batch_after is.next stop.answered) stop.error (own_sent sent sendable same).asked is.asked in
+          asked_until_more (N.asked old) (N.asked mid) (N.asked new) front (rounds ++ last) (batch_after is.next stop.answered) stop.error sent.asked is.asked in
           record {
             before = is.between;
             so_far = so_far is.rounds is.between is.again;
@@ -183,8 +179,8 @@ module _ {S : Type 0} {N : Ghosts S} {old mid : S} {batches : Batches} {order : 
             follows = is.follows;
             stopped = stopped_since N old mid new frame plan.batches.parts is.stopped;
             asked = subst (λ l. WereAskedUntil (N.asked old) (N.asked new) l (batch_after is.next stop.answered) stop.error) (sym (append_assoc front rounds last)) all;
-            long = many;
-            gave = answered_more (N.gave old) (N.gave mid) (N.gave new) (answers_in plan.batches given order) (flat_map round_answers is.rounds) stop.answered (own_sent sent sendable same).gave is.gave;
+            long = long;
+            gave = answered_more (N.gave old) (N.gave mid) (N.gave new) (answers_in plan.batches given order) (flat_map round_answers is.rounds) stop.answered sent.gave is.gave;
           }
 
       module _ {arguments : List (List (List ℕ))} {slots : List ℕ} {out : Outgoing} (goes : GoesAgain arguments slots out) where
@@ -253,6 +249,6 @@ module _ {S : Type 0} {N : Ghosts S} {old mid : S} {batches : Batches} {order : 
           }
 
   -- the first round alone
-  pub only_first : SameNodes N old mid → length given ≡ length batches.parts → (retries : ℕ) → WereSent N old mid is_node commands order retries
+  pub only_first : SameNodes N old mid → length given ≡ length plan.batches.parts → (retries : ℕ) → WereSent N old mid is_node commands order retries
   only_first frame long retries =
       all_sent frame long (frame_none N mid) retries (record { rounds = []; few = omega arith; again = refl; asked = asked_none (N.asked mid); gave = asked_none (N.gave mid) })

@@ -29,6 +29,7 @@ use Rattle.redis_batches.proofs.Given.{not_again}
 use Rattle.redis_batches.proofs.Lists.{all_by_slot}
 use Rattle.redis_batches.proofs.Whole.{all_after-append, answers-append}
 use Rattle.redis_batches.proofs.KeptSlots.{batches_keep_slots}
+use Rattle.redis_batches.proofs.Putting.{put_kept, put_right}
 use Rattle.redis_batches.proofs.Refused.{refused_leaves, refused_answers}
 use Rattle.redis_batches.proofs.Ends.{with_ends, ends_in_batch, ends_of_batch, ends_before, after_agree, answers_agree}
 use Rattle.redis_batches.proofs.Sends.{all_left, all_right, all_after-map, answers-map, length-answers, picked, numbers_below, one_batch_more, batches_split, are_for, answers_numbers, answers_whose, each_number, same_list, all_unmap}
@@ -240,15 +241,11 @@ module _ {S : Type 0} (N : Ghosts S) (at_start : S) (plan : Batches) {ps : List 
           (all_right (Expects next) (answers (ended N.step N.serve next) before old) (answers (ended N.step N.serve next) (own ++ rest) ks) parted))
 
       -- each answer is the one that is expected at its place
-      pub replies_right : AreFor (expected next) (numbers_in is.batch ps k) replies
+      replies_right : AreFor (expected next) (numbers_in is.batch ps k) replies
       replies_right =
           let ks = all_after (ended N.step N.serve next) before old in
           subst (λ l. AreFor (expected next) l replies) (answers_numbers (ended N.step N.serve next) own ks)
           (are_for (expected next) (answers (ended N.step N.serve next) own ks) replies expects_own answers_of)
-
-    -- what is expected with the refusals of this batch
-    abbrev pub expected_next : List Answer
-    expected_next = expected next
 
     -- what was refused is answered by its error
     errors_next : length out ≡ length plan.parts → length replies ≡ length (numbers_in is.batch ps k) → All (HasError next (put_at out (numbers_in is.batch ps k) replies)) (so_many (i + 1))
@@ -263,10 +260,8 @@ module _ {S : Type 0} (N : Ghosts S) (at_start : S) (plan : Batches) {ps : List 
     -- One batch more.
     pub one_more : (more : List (Result Value ErrorParts))
         → more ≡ put_at out (numbers_in is.batch ps k) replies → length out ≡ length plan.parts → length replies ≡ length (numbers_in is.batch ps k)
-        → (N.kept new → All (IsRight more (expected next)) (numbers_in is.batch ps k))
-        → (N.kept new → (place : ℕ) → IsRight out (expected next) place → IsRight more (expected next) place)
         → IsSoFar (i + 1) new more
-    one_more more put room long right others =
+    one_more more put room long =
         record {
           refusals = next;
           trace = trace_is;
@@ -275,13 +270,19 @@ module _ {S : Type 0} (N : Ghosts S) (at_start : S) (plan : Batches) {ps : List 
           keyspace = new_is;
           put = λ keep.
               let ks = all_after (ended N.step N.serve next) before old in
+              let list = numbers_in is.batch ps k in
+              let below : All (λ p. p < length out) list = subst (λ n. All (λ p. p < n) list) (sym room) (within k) in
+              let others : (p : ℕ) → IsRight out (expected next) p → IsRight more (expected next) p =
+              λ p was. subst (λ l. IsRight l (expected next) p) (sym put) (put_kept out replies list below (expected next) (replies_right keep) p was) in
+              let right : All (IsRight more (expected next)) list =
+              subst (λ l. All (IsRight l (expected next)) list) (sym put) (put_right out replies list below long (expected next) (replies_right keep)) in
               let was : All (IsPut out) (answers (ended N.step N.serve next) before old) =
               subst (All (IsPut out)) (sym (answers_agree N.step N.serve next so_far.refusals before same_before old)) (so_far.put (before_it keep)) in
               let put_before : All (IsPut more) (answers (ended N.step N.serve next) before old) =
-              λ n d under. others keep _ (was n d under ∙ sym (expects_before keep n d under)) ∙ expects_before keep n d under in
+              λ n d under. others _ (was n d under ∙ sym (expects_before keep n d under)) ∙ expects_before keep n d under in
               let right_own : All (λ (a : Numbered × Answer). IsRight more (expected next) a.0.0) (answers (ended N.step N.serve next) own ks) =
               all_unmap (λ (a : Numbered × Answer). a.0.0) (IsRight more (expected next)) (answers (ended N.step N.serve next) own ks)
-              (subst (All (IsRight more (expected next))) (sym (answers_numbers (ended N.step N.serve next) own ks)) (right keep)) in
+              (subst (All (IsRight more (expected next))) (sym (answers_numbers (ended N.step N.serve next) own ks)) right) in
               let put_own : All (IsPut more) (answers (ended N.step N.serve next) own ks) = λ n d under. right_own n d under ∙ expects_own keep n d under in
               subst (All (IsPut more)) (sym (ap (λ l. answers (ended N.step N.serve next) l old) (one_batch_more batch_of (numbered ps) order i k inside at) ∙ answers-append (ended N.step N.serve next) before own old))
               (All-append (IsPut more) (answers (ended N.step N.serve next) before old) (answers (ended N.step N.serve next) own ks) put_before put_own);

@@ -1,5 +1,5 @@
 -- Parts are gone through from the last one to the first.
-use Rattle.std.proofs.Common.{◌≡◌, ◌<◌, ◌≤◌, ℕ, ◌+◌, List, [], ◌∷◌, ◌++◌, cond, Option, None, Some, inl, inr, sym, subst, ◌∙◌, arith, length, drop, get_or}
+use Rattle.std.proofs.Common.{◌≡◌, ◌<◌, ◌≤◌, ℕ, ◌+◌, List, [], ◌∷◌, ◌++◌, cond, Option, None, Some, inl, inr, sym, subst, arith, length, drop, get_or}
 use Rattle.std.specs.Prelude.{codes, nat_eq}
 use Rattle.std.specs.List.{AllZip, zip}
 use Rattle.std.specs.Option.{option_or}

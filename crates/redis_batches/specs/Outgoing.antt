@@ -1,5 +1,5 @@
 -- The parts that go out in the next round, as they are found from the last part to the first.
-use Rattle.std.specs.Prelude.{◌≡◌, ◌⊎◌, ℕ, List, [], Option, Some, Result, get_or, map, length, reverse}
+use Rattle.std.specs.Prelude.{◌≡◌, ◌<◌, ◌⊎◌, ℕ, List, [], Option, Some, Result, get_or, map, length, reverse}
 use Rattle.std.specs.List.{All, AllZip, zip}
 use Rattle.std.specs.Map.{lookup}
 use Rattle.std.specs.Option.{unwrap_or}
@@ -8,7 +8,7 @@ use Rattle.cluster_slots.specs.Address.{Address}
 use Rattle.resp_core.specs.ErrorParts.{ErrorParts}
 use Rattle.resp_core.specs.declared.value.Value.{Value}
 use Rattle.redis_routing.specs.Registry.{Registrations}
-use Rattle.redis_batches.specs.Batched.{AreFor, IsRight, put_at}
+use Rattle.redis_batches.specs.Batched.{put_at}
 use Rattle.redis_batches.specs.Chosen.{has_slot}
 use Rattle.redis_batches.specs.Driven.{Grew, HaveAnswered, WereAskedUntil}
 use Rattle.redis_batches.specs.Pipeline.{Answer, AreSlotsOf, Planned, numbered, pieces, slot_of}
@@ -76,12 +76,8 @@ pub record IsPlanFor (arguments : List (List (List ℕ))) (numbers : List ℕ) (
 -- These answers were put at the places of the parts of a round.
 pub record ArePutAt (round : Round) (replies old new : List (Result Value ErrorParts)) : Type 0 where
   pub given_are : round.given ≡ map answer_of replies
-  pub all_are : map answer_of new ≡ put_at (map answer_of old) (map (λ x. x.0) round.sent) round.given
-  pub room : length new ≡ length old
-  pub right : (all : List Answer) → AreFor all (map (λ x. x.0) round.sent) replies
-      → All (IsRight new all) (map (λ x. x.0) round.sent)
-  pub others : (all : List Answer) → AreFor all (map (λ x. x.0) round.sent) replies
-      → (place : ℕ) → IsRight old all place → IsRight new all place
+  pub within : All (λ n. n < length old) (map (λ x. x.0) round.sent)
+  pub put : new ≡ put_at old (map (λ x. x.0) round.sent) replies
 
 module _ {S : Type 0} (N : Ghosts S) (old new : S) (arguments : List (List (List ℕ)))
     (round : Round) where

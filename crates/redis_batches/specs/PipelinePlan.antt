@@ -1,15 +1,18 @@
 -- The plan of a pipeline over commands.
-use Rattle.std.specs.Prelude.{◌≡◌, ℕ, List, Option, Some, map, length}
+use Rattle.std.specs.Prelude.{◌≡◌, ℕ, Bool, List, [], Option, Result, Some, true, get_or, map, length, slice_set}
 use Rattle.std.specs.List.{All, flat_map, sum_by, zip}
+use Rattle.resp_core.specs.ErrorParts.{ErrorParts}
+use Rattle.resp_core.specs.declared.value.Value.{Value}
 use Rattle.cluster_slots.specs.Address.{Address}
 use Rattle.redis_routing.specs.Registry.{Registrations}
 use Rattle.redis_routing.specs.Split.{Split}
+use Rattle.redis_batches.specs.Batched.{put_at}
 use Rattle.redis_batches.specs.Pipeline.{Part, Task, pieces}
 use Rattle.redis_batches.specs.Taken.{task_of}
 use Rattle.redis_batches.specs.Tasks.{AreTasksOf, part_arguments, slots_of_task, with_slots}
 use Rattle.redis_batches.specs.Pipelined.{IsFirstMeaningless}
 use Rattle.redis_batches.specs.Placed.{IsFirstWithoutNode, Ranges}
-use Rattle.redis_batches.specs.Plan.{Batches, IsByNode}
+use Rattle.redis_batches.specs.Plan.{Batches, IsByNode, IsPlan}
 use Rattle.redis_batches.specs.Replies.{part_count}
 use Rattle.redis_batches.specs.declared.fault.PipelineFault.{PipelineFault}
 use Rattle.redis_batches.specs.declared.fault.PipelineFault.TheVariants.{NotRoutable, NotCovered, Memory}
@@ -22,9 +25,26 @@ pub record PipelineBatches : Type 0 where
   pub slots : List ℕ
   pub targets : List Address
 
--- each command has its parts
-abbrev pub HasParts : PipelineBatches → Type 0
-HasParts plan = sum_by part_count plan.splits ≡ length plan.batches.parts
+-- each command has its parts, and these are in batches
+pub record IsWhole (plan : PipelineBatches) : Type 0 where
+  pub parts : sum_by part_count plan.splits ≡ length plan.batches.parts
+  pub batches : IsPlan plan.batches
+
+-- the plan with these answers
+abbrev pub with_answers : PipelineBatches → List Bool → List (Result Value ErrorParts) → PipelineBatches
+with_answers plan told answers =
+    record plan { batches = record plan.batches { told = told; answers = answers } }
+
+-- the plan after the answers to the batch of this number were told: each is at the place of its part
+abbrev pub told_batch : PipelineBatches → ℕ → List (Result Value ErrorParts) → PipelineBatches
+told_batch plan number answers =
+    with_answers plan (slice_set plan.batches.told number true)
+    (put_at plan.batches.answers (get_or plan.batches.places number []) answers)
+
+-- the plan is the same except for the answers
+abbrev pub IsSameBut : PipelineBatches → PipelineBatches → Type 0
+IsSameBut old new = (new ≡ with_answers old new.batches.told new.batches.answers)
+    × (length new.batches.answers ≡ length old.batches.answers)
 
 -- the parts of commands that mean this
 abbrev pub pieces_of : List Task → List Part

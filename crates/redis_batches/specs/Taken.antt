@@ -1,5 +1,5 @@
 -- What a node leaves that took a batch of commands.
-use Rattle.std.specs.Prelude.{◌≡◌, ◌<◌, ◌≤◌, ◌⊎◌, ◌+◌, ℕ, List, [], ◌++◌, Option, None, Some, Result, Ok, Err, true, false, map, length, option_map, slice_get}
+use Rattle.std.specs.Prelude.{◌≡◌, ◌<◌, ◌≤◌, ◌⊎◌, ◌+◌, ℕ, List, ◌++◌, Option, None, Some, Result, Ok, Err, true, false, map, length, option_map, slice_get}
 use Rattle.std.specs.Option.{option_or}
 use Rattle.std.specs.Global.{Vec}
 use Rattle.std.specs.List.{zip}

@@ -13,7 +13,6 @@ ghost use Rattle.redis_batches.specs.Tasks.{AreSplitsFor};
 use crate::fault::{PipelineError, PipelineFault};
 use crate::nodes::BatchNodes;
 use crate::pipeline::PipelinePlan;
-use crate::replies::replies_of;
 use crate::send::send_batches;
 use cluster_map::{ReadRoutingStrategy, SlotMap};
 use redis_cluster::driver::names_once;
@@ -106,15 +105,16 @@ pub fn drive_pipeline<N: BatchNodes>(
     ensures untouched { IfErr result (λ error. IsBeforeSending error → nodes.new ≡ nodes.old) }
     ensures frame { SameNodes ⟦<N as BatchNodes>⟧ nodes.old nodes.new }
 {
-    let plan = match plan_in_order(alloc, commands, read_only, slot_map, strategy, order, nodes) {
+    let mut plan = match plan_in_order(
+        alloc, commands, read_only, slot_map, strategy, order, nodes,
+    ) {
         Ok(plan) => plan,
         Err(error) => return Err(error),
     };
-    let (tasks, mut batches) = plan.into_parts();
-    if let Err(stop) = send_batches(alloc, &mut batches, order, nodes) {
+    if let Err(stop) = send_batches(alloc, &mut plan, order, nodes) {
         return Err(PipelineError::Node(stop));
     }
-    match replies_of(alloc, tasks.as_slice(), batches.into_answers()) {
+    match plan.combine(alloc) {
         Ok(replies) => Ok(replies),
         Err(_) => Err(PipelineError::Memory),
     }

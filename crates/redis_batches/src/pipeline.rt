@@ -1,29 +1,30 @@
-ghost use Rattle.std.specs.Prelude.{◌≡◌, ◌⊎◌, ℕ, List, Some, true, false, length, map, option_map, slice_get, slice_set, IfOk, OnOk, IfErr};
-ghost use Rattle.std.specs.List.{All, flat_map, list_all};
+ghost use Rattle.std.specs.Prelude.{◌≡◌, ◌⊎◌, ℕ, List, Some, true, false, length, map, option_map, slice_get, IfOk, OnOk, IfErr};
+ghost use Rattle.std.specs.List.{All, flat_map, list_all, sum_by};
 ghost use Rattle.std.specs.Result.{IsErrAnd};
 ghost use Rattle.resp_core.specs.declared.error.ErrorKind.TheVariants.{Client, OutOfMemory};
 ghost use Rattle.redis_routing.specs.Names.{names_in};
 ghost use Rattle.redis_cluster.specs.Orders.{in_order};
-ghost use Rattle.redis_batches.specs.Pipeline.{Answer};
-ghost use Rattle.redis_batches.specs.Batched.{AreFor, IsRight};
 ghost use Rattle.redis_batches.specs.CommandTask.{slots_kept, split_in};
-ghost use Rattle.redis_batches.specs.PipelinePlan.{HasParts, IsPipelinePlanFault, IsPlanOfCommands};
-ghost use Rattle.redis_batches.specs.Plan.{AreFewest, IsPlan};
+ghost use Rattle.redis_batches.specs.PartArguments.{sent_args};
+ghost use Rattle.redis_batches.specs.PipelinePlan.{IsPipelinePlanFault, IsPlanOfCommands, IsWhole, told_batch};
+ghost use Rattle.redis_batches.specs.Plan.{AreFewest, IsByNode, IsPlan};
 ghost use Rattle.redis_batches.specs.Reads.{IsSlotNode};
-ghost use Rattle.redis_batches.specs.Replies.{AreRepliesFor};
+ghost use Rattle.redis_batches.specs.Replies.{AreRepliesFor, part_count};
 ghost use Rattle.redis_batches.specs.Taken.{answer_of};
 ghost use Rattle.redis_batches.specs.Tasks.{AreSplitsFor};
 
 use crate::fault::PipelineFault;
+use crate::grouping::{number_nodes, places_by_number};
+use crate::part::PartCommand;
 use crate::parts::{Placed, parts_of};
-use crate::plan::BatchPlan;
+use crate::plan::{all_set, no_answers, put_answers, refs_at};
 use crate::reads::written_slots;
 use crate::replies::replies_of;
 use crate::task::{CommandTask, tasks_of};
 use cluster_map::{ReadRoutingStrategy, SlotMap};
 use cluster_slots::NodeAddress;
 use redis_routing::Names;
-use resp_core::{Cmd, RedisError, RedisResult, Value};
+use resp_core::{Cmd, ErrorKind, RedisError, RedisResult, Value};
 use std::alloc::{AllocError, Global};
 use std::marker::Model;
 
@@ -36,9 +37,17 @@ use std::marker::Model;
 #[derive(Drop)]
 pub struct PipelinePlan<'a> {
     tasks: Vec<CommandTask<'a>>,
-    batches: BatchPlan<'a>,
     /// The node of each part.
     targets: Vec<&'a NodeAddress>,
+    parts: Vec<PartCommand<'a>>,
+    /// The answer to each part, nil until its batch has its answers.
+    answers: Vec<Result<Value, RedisError>>,
+    /// The node of each batch.
+    nodes: Vec<&'a NodeAddress>,
+    /// The numbers of the parts of each batch.
+    places: Vec<Vec<usize>>,
+    /// Whether each batch has its answers.
+    told: Vec<bool>,
 }
 
 impl<'a> Model for PipelinePlan<'a> {
@@ -47,7 +56,8 @@ impl<'a> Model for PipelinePlan<'a> {
     ghost use Rattle.std.specs.Coded.{codes};
     ghost use Rattle.resp_core.specs.contracts.value.Value as value;
     ghost use Rattle.redis_batches.specs.CommandTask.{slots_kept, split_in};
-    ghost use Rattle.redis_batches.specs.PipelinePlan.{HasParts, PipelineBatches};
+    ghost use Rattle.redis_batches.specs.PartArguments.{sent_args};
+    ghost use Rattle.redis_batches.specs.PipelinePlan.{IsWhole, PipelineBatches};
 
     ghost Value = { PipelineBatches };
 
@@ -55,14 +65,26 @@ impl<'a> Model for PipelinePlan<'a> {
 
     ghost view = { λ p. record {
       splits = map split_in p.tasks.items;
-      batches = p.batches;
+      batches = record {
+        nodes = map (λ node. node.now) p.nodes.items;
+        places = map (λ v. v.items) p.places.items;
+        told = p.told.items;
+        parts = map sent_args p.parts.items;
+        answers = p.answers.items;
+      };
       slots = flat_map slots_kept p.tasks.items;
       targets = map (λ node. node.now) p.targets.items;
     } };
 
-    ghost invariant = { λ p. HasParts (record {
+    ghost invariant = { λ p. IsWhole (record {
       splits = map split_in p.tasks.items;
-      batches = p.batches;
+      batches = record {
+        nodes = map (λ node. node.now) p.nodes.items;
+        places = map (λ v. v.items) p.places.items;
+        told = p.told.items;
+        parts = map sent_args p.parts.items;
+        answers = p.answers.items;
+      };
       slots = flat_map slots_kept p.tasks.items;
       targets = map (λ node. node.now) p.targets.items;
     }) };
@@ -109,11 +131,42 @@ impl<'a> PipelinePlan<'a> {
             nodes,
             chosen: _,
         } = placed;
-        let batches = BatchPlan::new(alloc, parts, nodes.as_slice())?;
+        let plan = PipelinePlan::of_parts(alloc, tasks, parts, nodes)?;
+        Ok(plan)
+    }
+
+    /// Puts the parts of commands in batches by their nodes, one batch for each node, the nodes by
+    /// first appearance. The parts `SET a 1`, `SET b 2`, `GET a` for the nodes n2, n1, n2 make two
+    /// batches: `SET a 1` and `GET a` for n2, and `SET b 2` for n1. No part is copied.
+    pub(super) fn of_parts(
+        alloc: Global,
+        tasks: Vec<CommandTask<'a>>,
+        parts: Vec<PartCommand<'a>>,
+        targets: Vec<&'a NodeAddress>,
+    ) -> Result<Self, AllocError>
+        requires nodes { length targets.items ≡ length parts.items }
+        requires parts { sum_by part_count (map split_in tasks.items) ≡ length parts.items }
+        ensures by_node { IfOk result (λ plan. IsByNode plan.batches plan.targets) }
+        ensures splits { IfOk result (λ plan. plan.splits ≡ map split_in tasks.entry.items) }
+        ensures slots { IfOk result (λ plan. plan.slots ≡ flat_map slots_kept tasks.entry.items) }
+        ensures targets { IfOk result (λ plan.
+            plan.targets ≡ map (λ node. node.now) targets.entry.items) }
+        ensures parts { IfOk result (λ plan. plan.batches.parts ≡ map sent_args parts.entry.items) }
+        ensures untold { IfOk result (λ plan. All (λ told. told ≡ false) plan.batches.told) }
+        ensures plan { IfOk result (λ plan. IsPlan plan.batches) }
+    {
+        let (nodes, numbers) = number_nodes(alloc, targets.as_slice())?;
+        let places = places_by_number(alloc, nodes.len(), numbers.as_slice())?;
+        let told = vec![in alloc; false; places.len()]?;
+        let answers = no_answers(alloc, parts.len())?;
         Ok(PipelinePlan {
             tasks,
-            batches,
-            targets: nodes,
+            targets,
+            parts,
+            answers,
+            nodes,
+            places,
+            told,
         })
     }
 
@@ -122,7 +175,7 @@ impl<'a> PipelinePlan<'a> {
         ensures len { result ≡ length self.now.batches.places }
         ensures plan { IsPlan self.now.batches }
     {
-        self.batches.len()
+        self.places.len()
     }
 
     /// The node that a batch goes to, if there is such a batch.
@@ -131,7 +184,8 @@ impl<'a> PipelinePlan<'a> {
             ≡ slice_get self.now.batches.nodes number }
         ensures plan { IsPlan self.now.batches }
     {
-        self.batches.node(number)
+        let node = self.nodes.get(number)?;
+        Some(*node)
     }
 
     /// The commands of a batch, in the order in which its node is to take them, if there is such a
@@ -141,11 +195,16 @@ impl<'a> PipelinePlan<'a> {
     ///
     /// If memory runs out.
     pub fn batch(&self, alloc: Global, number: usize) -> Result<Option<Vec<&Cmd>>, AllocError>
-        ensures { IfOk result (λ batch. option_map (λ v. map (λ part. part.now) v.items) batch
+        ensures batch { IfOk result (λ batch. option_map (λ v. map (λ part. part.now) v.items) batch
             ≡ option_map (in_order self.now.batches.parts)
             (slice_get self.now.batches.places number)) }
+        ensures plan { IsPlan self.now.batches }
     {
-        self.batches.batch(alloc, number)
+        let Some(places) = self.places.get(number) else {
+            return Ok(None);
+        };
+        let batch = refs_at(alloc, self.parts.as_slice(), places.as_slice())?;
+        Ok(Some(batch))
     }
 
     /// Tells the answers to the commands of a batch, in their order. No memory is taken. An error is
@@ -164,29 +223,21 @@ impl<'a> PipelinePlan<'a> {
         ensures long { OnOk result ((places : List ℕ)
             → slice_get self.old.batches.places number ≡ Some places
             → length answers.items ≡ length places) }
-        ensures told { OnOk result
-            (self.new.batches.told ≡ slice_set self.old.batches.told number true) }
-        ensures same { (self.new.splits ≡ self.old.splits)
-            × (self.new.batches.nodes ≡ self.old.batches.nodes)
-            × (self.new.batches.places ≡ self.old.batches.places)
-            × (self.new.batches.parts ≡ self.old.batches.parts)
-            × (length self.new.batches.answers ≡ length self.old.batches.answers) }
-        ensures placed { (self.new.slots ≡ self.old.slots) × (self.new.targets ≡ self.old.targets) }
-        ensures right { OnOk result ((all : List Answer) (places : List ℕ)
-            → slice_get self.old.batches.places number ≡ Some places
-            → AreFor all places answers.items
-            → All (IsRight self.new.batches.answers all) places) }
-        ensures others { OnOk result ((all : List Answer) (places : List ℕ)
-            → slice_get self.old.batches.places number ≡ Some places
-            → AreFor all places answers.items → (place : ℕ)
-            → IsRight self.old.batches.answers all place
-            → IsRight self.new.batches.answers all place) }
+        ensures told { OnOk result (self.new ≡ told_batch self.old number answers.items) }
         ensures back { IfErr result (λ back. (back ≡ answers) × (self.new ≡ self.old)
             × (slice_get self.old.batches.told number ≡ Some false → (places : List ℕ)
             → slice_get self.old.batches.places number ≡ Some places
             → length answers.items ≡ length places → ⊥)) }
     {
-        self.batches.tell(number, answers)
+        if number >= self.told.len() || self.told[number] {
+            return Err(answers);
+        }
+        if answers.len() != self.places[number].len() {
+            return Err(answers);
+        }
+        self.told[number] = true;
+        put_answers(&mut self.answers, answers, self.places[number].as_slice());
+        Ok(())
     }
 
     /// The reply to each command, in the order of the commands, once each batch has its answers. It
@@ -208,30 +259,35 @@ impl<'a> PipelinePlan<'a> {
     {
         let PipelinePlan {
             tasks,
-            batches,
             targets: _,
+            parts: _,
+            answers,
+            nodes: _,
+            places: _,
+            told,
         } = self;
-        let answers = batches.finish()?;
+        if !all_set(&told) {
+            return Err(RedisError::from((ErrorKind::Client, "a batch has no answers")));
+        }
         replies_of(alloc, tasks.as_slice(), answers)
     }
 
-    /// What is kept of each command, and the batches.
-    pub(super) fn into_parts(self) -> (Vec<CommandTask<'a>>, BatchPlan<'a>)
+    /// What is kept of each command, the parts and the node of each, and the answers.
+    pub(super) fn into_parts(
+        self,
+    ) -> (
+        Vec<CommandTask<'a>>,
+        Vec<PartCommand<'a>>,
+        Vec<&'a NodeAddress>,
+        Vec<Result<Value, RedisError>>,
+    )
         ensures splits { map split_in result.0.items ≡ self.entry.splits }
-        ensures batches { result.1 ≡ self.entry.batches }
-        ensures parts { HasParts self.entry }
-    {
-        (self.tasks, self.batches)
-    }
-
-    /// The same, and the node of each part.
-    pub(super) fn into_placed(self) -> (Vec<CommandTask<'a>>, BatchPlan<'a>, Vec<&'a NodeAddress>)
-        ensures splits { map split_in result.0.items ≡ self.entry.splits }
-        ensures batches { result.1 ≡ self.entry.batches }
         ensures slots { flat_map slots_kept result.0.items ≡ self.entry.slots }
+        ensures parts { map sent_args result.1.items ≡ self.entry.batches.parts }
         ensures targets { map (λ node. node.now) result.2.items ≡ self.entry.targets }
-        ensures parts { HasParts self.entry }
+        ensures answers { result.3.items ≡ self.entry.batches.answers }
+        ensures whole { IsWhole self.entry }
     {
-        (self.tasks, self.batches, self.targets)
+        (self.tasks, self.parts, self.targets, self.answers)
     }
 }

@@ -94,15 +94,16 @@ pub fn drive_pipeline_retrying<N: BatchNodes>(
     ensures untouched { IfErr result (λ error. IsBeforeSending error → nodes.new ≡ nodes.old) }
     ensures frame { SameNodes ⟦<N as BatchNodes>⟧ nodes.old nodes.new }
 {
-    let plan = match plan_in_order(alloc, commands, read_only, slot_map, strategy, order, nodes) {
+    let mut plan = match plan_in_order(
+        alloc, commands, read_only, slot_map, strategy, order, nodes,
+    ) {
         Ok(plan) => plan,
         Err(error) => return Err(error),
     };
-    let (tasks, mut batches, targets) = plan.into_placed();
-    if let Err(stop) = send_batches(alloc, &mut batches, order, nodes) {
+    if let Err(stop) = send_batches(alloc, &mut plan, order, nodes) {
         return Err(PipelineError::Node(stop));
     }
-    let (parts, mut answers) = batches.into_rest();
+    let (tasks, parts, targets, mut answers) = plan.into_parts();
     let Ok((slots, out)) = behind_first(
         alloc,
         tasks.as_slice(),

@@ -1,17 +1,21 @@
 ghost use Rattle.std.specs.Prelude.{◌≡◌, ◌<◌, [], List, false, IsSome, get_or, map, length, IfOk, IfErr, OnOk};
-ghost use Rattle.std.specs.List.{All, range_with_len};
+ghost use Rattle.std.specs.List.{All, range_with_len, sum_by};
+ghost use Rattle.redis_batches.specs.CommandTask.{split_in};
 ghost use Rattle.redis_batches.specs.Frame.{SameNodes};
 ghost use Rattle.redis_batches.specs.Outgoing.{ArePartsOf, GoesBehind, IsNextFault, IsNextServed, IsPlanFor, node_for, node_in, slot_at};
 ghost use Rattle.redis_batches.specs.PartArguments.{sent_args};
 ghost use Rattle.redis_batches.specs.Pipeline.{Planned};
+ghost use Rattle.redis_batches.specs.Replies.{part_count};
 ghost use Rattle.redis_batches.specs.Rounds.{Round};
 
 use crate::fault::PipelineError;
 use crate::going::{Outgoing, next_parts};
 use crate::nodes::BatchNodes;
 use crate::part::PartCommand;
-use crate::plan::{BatchPlan, put_answers};
+use crate::pipeline::PipelinePlan;
+use crate::plan::put_answers;
 use crate::send::send_batches;
+use crate::task::CommandTask;
 use cluster_slots::NodeAddress;
 use resp_core::{RedisError, Value};
 use std::alloc::{AllocError, Global};
@@ -40,38 +44,49 @@ fn nodes_of<'b>(
     Ok(nodes)
 }
 
-/// The parts of these numbers, none of which is copied.
+/// The parts of these numbers, each as a command of its slot. None is copied.
 fn refs_of<'b>(
     alloc: Global,
     parts: &'b [PartCommand<'_>],
+    slots: &[u16],
     numbers: &[usize],
-) -> Result<Vec<PartCommand<'b>>, AllocError>
+) -> Result<(Vec<CommandTask<'b>>, Vec<PartCommand<'b>>), AllocError>
     requires within { All (λ number. number < length parts.now) numbers.now }
-    ensures { IfOk result (λ refs. map sent_args refs.items
+    requires within_slots { All (λ number. number < length slots.now) numbers.now }
+    ensures tasks { IfOk result (λ refs.
+        sum_by part_count (map split_in refs.0.items) ≡ length numbers.now) }
+    ensures parts { IfOk result (λ refs. map sent_args refs.1.items
         ≡ map (λ number. get_or (map sent_args parts.now) number []) numbers.now) }
 {
+    let mut tasks = Vec::with_capacity(alloc, numbers.len())?;
     let mut refs = Vec::with_capacity(alloc, numbers.len())?;
     for number in numbers {
-        refs.push(PartCommand::Whole(parts[*number].command()))?;
+        let command = parts[*number].command();
+        tasks.push(CommandTask::InSlot(slots[*number], command))?;
+        refs.push(PartCommand::Whole(command))?;
     }
-    Ok(refs)
+    Ok((tasks, refs))
 }
 
-/// The batches of the parts of these numbers, one for each of their nodes.
+/// The parts of these numbers as a pipeline of their own, in a batch for each of their nodes.
 fn round_plan<'b>(
     alloc: Global,
     parts: &'b [PartCommand<'_>],
+    slots: &[u16],
     numbers: &[usize],
-    nodes: &[&'b NodeAddress],
-) -> Result<BatchPlan<'b>, AllocError>
+    nodes: Vec<&'b NodeAddress>,
+) -> Result<PipelinePlan<'b>, AllocError>
     requires within { All (λ number. number < length parts.now) numbers.now }
-    requires same { length nodes.now ≡ length numbers.now }
+    requires within_slots { All (λ number. number < length slots.now) numbers.now }
+    requires same { length nodes.items ≡ length numbers.now }
     ensures planned { IfOk result (λ plan. IsPlanFor (map sent_args parts.now) numbers.now
-        (map (λ node. node.now) nodes.now) plan) }
-    ensures untold { IfOk result (λ plan. All (λ told. told ≡ false) plan.told) }
+        (map (λ node. node.now) nodes.entry.items) plan.batches) }
+    ensures targets { IfOk result (λ plan.
+        plan.targets ≡ map (λ node. node.now) nodes.entry.items) }
+    ensures untold { IfOk result (λ plan. All (λ told. told ≡ false) plan.batches.told) }
 {
-    let refs = refs_of(alloc, parts, numbers)?;
-    BatchPlan::new(alloc, refs, nodes)
+    let (tasks, refs) = refs_of(alloc, parts, slots, numbers)?;
+    PipelinePlan::of_parts(alloc, tasks, refs, nodes)
 }
 
 /// So many numbers, from 0 on.
@@ -112,7 +127,7 @@ pub(super) fn send_round<N: BatchNodes>(
     let Ok(targets) = nodes_of(alloc, slots, numbers, &out.nodes) else {
         return Err(PipelineError::Memory);
     };
-    let Ok(mut plan) = round_plan(alloc, parts, numbers, targets.as_slice()) else {
+    let Ok(mut plan) = round_plan(alloc, parts, slots, numbers, targets) else {
         return Err(PipelineError::Memory);
     };
     let Ok(order) = first_numbers(alloc, plan.len()) else {
@@ -121,7 +136,7 @@ pub(super) fn send_round<N: BatchNodes>(
     if let Err(stop) = send_batches(alloc, &mut plan, order.as_slice(), nodes) {
         return Err(PipelineError::Node(stop));
     }
-    let given = plan.into_answers();
+    let (_, _, targets, given) = plan.into_parts();
     let Ok(next) = next_parts(alloc, slots, numbers, targets.as_slice(), given.as_slice()) else {
         return Err(PipelineError::Memory);
     };

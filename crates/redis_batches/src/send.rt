@@ -1,16 +1,17 @@
-ghost use Rattle.std.specs.Prelude.{◌≡◌, ◌<◌, ◌∷◌, [], ℕ, List, Some, true, false, length, map, slice_get, slice_set, IfOk, IfErr, OnOk, OnErr};
+ghost use Rattle.std.specs.Prelude.{◌≡◌, ◌<◌, ◌∷◌, [], ℕ, List, Some, false, length, map, slice_get, IfOk, IfErr, OnOk, OnErr};
 ghost use Rattle.std.specs.List.{All};
 ghost use Rattle.redis_cluster.specs.Orders.{NamesOnce, in_order};
-ghost use Rattle.redis_batches.specs.Pipeline.{Answer, AreSlotsOf, Planned};
-ghost use Rattle.redis_batches.specs.Batched.{AreBatches, AreFor, IsRight, put_at};
+ghost use Rattle.redis_batches.specs.Pipeline.{AreSlotsOf, Planned};
+ghost use Rattle.redis_batches.specs.Batched.{AreBatches};
 ghost use Rattle.redis_batches.specs.BatchSends.{AreBatchesSent, AreBatchesStopped, IsBatchNotTaken, IsBatchTaken};
 ghost use Rattle.redis_batches.specs.Taken.{answer_of};
 ghost use Rattle.redis_batches.specs.Driven.{Grew, batch_at, WereAskedUntil};
 ghost use Rattle.redis_batches.specs.Frame.{SameNodes};
+ghost use Rattle.redis_batches.specs.PipelinePlan.{IsSameBut, told_batch};
 ghost use Rattle.redis_batches.specs.Plan.{IsPlan};
 
 use crate::nodes::BatchNodes;
-use crate::plan::BatchPlan;
+use crate::pipeline::PipelinePlan;
 use redis_cluster::driver::SendError;
 use resp_core::{RedisError, Value};
 use std::alloc::Global;
@@ -54,23 +55,23 @@ impl Error for Stopped {}
 /// # Errors
 ///
 /// If a node took none of a batch, or memory ran out: how many batches were taken before it.
-pub fn send_batches<N: BatchNodes>(
+pub(super) fn send_batches<N: BatchNodes>(
     alloc: Global,
-    plan: &mut BatchPlan<'_>,
+    plan: &mut PipelinePlan<'_>,
     order: &[usize],
     nodes: &mut N,
 ) -> Result<(), Stopped>
-    requires plan { IsPlan plan.old }
-    requires untold { All (λ told. told ≡ false) plan.old.told }
-    requires order { NamesOnce (length plan.old.places) order.now }
+    requires plan { IsPlan plan.old.batches }
+    requires untold { All (λ told. told ≡ false) plan.old.batches.told }
+    requires order { NamesOnce (length plan.old.batches.places) order.now }
     requires batches { (ps : List Planned) × All (λ p. AreSlotsOf p.task p.slots) ps
-        × AreBatches (N.registered nodes.old) ps plan.old.parts plan.old.places }
-    ensures sent { OnOk result (AreBatchesSent ⟦<N as BatchNodes>⟧ nodes.old nodes.new plan.old order.now
-        (map answer_of plan.new.answers)) }
+        × AreBatches (N.registered nodes.old) ps plan.old.batches.parts plan.old.batches.places }
+    ensures sent { OnOk result (AreBatchesSent ⟦<N as BatchNodes>⟧ nodes.old nodes.new plan.old.batches order.now
+        (map answer_of plan.new.batches.answers)) }
     ensures stopped { IfErr result (λ stop.
-        AreBatchesStopped ⟦<N as BatchNodes>⟧ nodes.old nodes.new plan.old order.now stop) }
-    ensures room { length plan.new.answers ≡ length plan.old.parts }
-    ensures parts { plan.new.parts ≡ plan.old.parts }
+        AreBatchesStopped ⟦<N as BatchNodes>⟧ nodes.old nodes.new plan.old.batches order.now stop) }
+    ensures room { length plan.new.batches.answers ≡ length plan.old.batches.parts }
+    ensures same { IsSameBut plan.old plan.new }
     ensures frame { SameNodes ⟦<N as BatchNodes>⟧ nodes.old nodes.new }
 {
     let mut answered = 0;
@@ -93,22 +94,22 @@ pub fn send_batches<N: BatchNodes>(
 /// Sends one batch.
 fn send_one<N: BatchNodes>(
     alloc: Global,
-    plan: &BatchPlan<'_>,
+    plan: &PipelinePlan<'_>,
     number: usize,
     nodes: &mut N,
 ) -> Result<Vec<Result<Value, RedisError>>, SendError>
-    requires within { number < length plan.now.places }
+    requires within { number < length plan.now.batches.places }
     ensures answers { IfOk result (λ answers. (places : List ℕ)
-        → slice_get plan.now.places number ≡ Some places
-        → length answers.items ≡ length (in_order plan.now.parts places)) }
+        → slice_get plan.now.batches.places number ≡ Some places
+        → length answers.items ≡ length (in_order plan.now.batches.parts places)) }
     ensures taken { IfOk result (λ answers. IsBatchTaken ⟦<N as BatchNodes>⟧ nodes.old nodes.new
-        (batch_at plan.now number) (map answer_of answers.items)) }
+        (batch_at plan.now.batches number) (map answer_of answers.items)) }
     ensures untaken { IfErr result (λ error. IsBatchNotTaken ⟦<N as BatchNodes>⟧ nodes.old nodes.new
-        (batch_at plan.now number) error) }
+        (batch_at plan.now.batches number) error) }
     ensures asked { OnOk result (Grew (N.asked nodes.old) (N.asked nodes.new)
-        (batch_at plan.now number ∷ [])) }
+        (batch_at plan.now.batches number ∷ [])) }
     ensures asked_until { IfErr result (λ error. WereAskedUntil (N.asked nodes.old) (N.asked nodes.new)
-        [] (batch_at plan.now number) error) }
+        [] (batch_at plan.now.batches number) error) }
     ensures gave { IfOk result (λ answers. Grew (N.gave nodes.old) (N.gave nodes.new)
         (map answer_of answers.items ∷ [])) }
     ensures gave_none { OnErr result (Grew (N.gave nodes.old) (N.gave nodes.new) []) }
@@ -126,21 +127,11 @@ fn send_one<N: BatchNodes>(
 }
 
 /// Gives the plan the answers to a batch that has none yet.
-fn tell_first(plan: &mut BatchPlan<'_>, number: usize, answers: Vec<Result<Value, RedisError>>)
-    requires first { slice_get plan.old.told number ≡ Some false }
-    requires long { (places : List ℕ) × (slice_get plan.old.places number ≡ Some places)
+fn tell_first(plan: &mut PipelinePlan<'_>, number: usize, answers: Vec<Result<Value, RedisError>>)
+    requires first { slice_get plan.old.batches.told number ≡ Some false }
+    requires long { (places : List ℕ) × (slice_get plan.old.batches.places number ≡ Some places)
         × (length answers.items ≡ length places) }
-    ensures told { plan.new.told ≡ slice_set plan.old.told number true }
-    ensures same { (plan.new.nodes ≡ plan.old.nodes) × (plan.new.places ≡ plan.old.places)
-        × (plan.new.parts ≡ plan.old.parts) × (length plan.new.answers ≡ length plan.old.answers) }
-    ensures put { (places : List ℕ) → slice_get plan.old.places number ≡ Some places
-        → plan.new.answers ≡ put_at plan.old.answers places answers.items }
-    ensures right { (all : List Answer) (places : List ℕ)
-        → slice_get plan.old.places number ≡ Some places → AreFor all places answers.items
-        → All (IsRight plan.new.answers all) places }
-    ensures others { (all : List Answer) (places : List ℕ)
-        → slice_get plan.old.places number ≡ Some places → AreFor all places answers.items
-        → (place : ℕ) → IsRight plan.old.answers all place → IsRight plan.new.answers all place }
+    ensures { plan.new ≡ told_batch plan.old number answers.items }
 {
     match plan.tell(number, answers) {
         Ok(()) => {}

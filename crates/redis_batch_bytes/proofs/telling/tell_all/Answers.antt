@@ -1,7 +1,8 @@
-use Rattle.std.proofs.Common.{◌≡◌, ◌<◌, ◌≤◌, [], ℕ, List, Some, length, get_or, ap, ◌∙◌, arith}
+use Rattle.std.proofs.Common.{◌≡◌, ◌<◌, ◌≤◌, [], Some, length, get_or, ap, ◌∙◌, arith}
 use Rattle.std.specs.Prelude.{slice_get}
 use Rattle.std.proofs.lemmas.Bool.Decides.{nat_tests}
 use Rattle.std.proofs.lemmas.Result.{err_from_is_err_and}
+use Rattle.redis_batches.specs.PipelinePlan.{PipelineBatches}
 use Rattle.redis_batches.proofs.Entries.{get_there}
 use Rattle.redis_batch_bytes.proofs.Batchwise.{all_told, one_batch_more, unread}
 use Rattle.redis_batch_bytes.proofs.telling.tell_all.Goals as goal
@@ -14,7 +15,7 @@ returns-in_err-rest-clause-fault c =
     let inside : i < length old.batches.places = omega (arith, c.loop-number-test.true, c.len-number-end.ensures.len) in
     let own = get_or old.batches.places i [] in
     let at : slice_get old.batches.places i ≡ Some own = get_there old.batches.places i [] inside in
-    let here : slice_get now.batches.places i ≡ Some own = ap (λ (l : List (List ℕ)). slice_get l i) c.loop-number.invariant.same.2 ∙ at in
+    let here : slice_get now.batches.places i ≡ Some own = ap (λ (p : PipelineBatches). slice_get p.batches.places i) c.loop-number.invariant.same.0 ∙ at in
     let p = err_from_is_err_and c.from_residual.result c.from_residual.ensures.1 in
     rw (p.1, p.2) (unread old now i c.args.bytes.now c.loop-number.rest.now own c.in_err-rest.field-0.0 c.loop-number.invariant at (c.in_err-rest.ensures.fault own here))
 

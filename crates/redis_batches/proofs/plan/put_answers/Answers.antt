@@ -9,14 +9,14 @@ loop-answer-init c = none_put c.args.out.now.items c.args.answers.items c.args.p
 pub loop-answer-preserved : goal.loop-answer-preserved
 loop-answer-preserved c =
     put_next c.args.out.now.items c.loop-answer.out.items c.args.answers.items c.loop-answer.answers.items c.pop.new.self.items c.in-Some.answer c.args.places.now c.len.result
-    c.loop-answer.invariant c.in-Some.ensures.items (omega (arith, c.len.ensures, c.pop.new.self.ok.0)) c.requires.within
+    c.loop-answer.invariant c.in-Some.ensures.items (omega (arith, c.len.ensures, c.pop.new.self.ok.0))
 
 pub loop-answer-preserved-in-Some : goal.loop-answer-preserved-in-Some
 loop-answer-preserved-in-Some c =
     put_next c.args.out.now.items c.loop-answer.out.items c.args.answers.items c.loop-answer.answers.items c.pop.new.self.items c.in-Some.answer c.args.places.now c.len.result
-    c.loop-answer.invariant c.in-Some.ensures.items (omega (arith, c.len.ensures, c.pop.new.self.ok.0)) c.requires.within
+    c.loop-answer.invariant c.in-Some.ensures.items (omega (arith, c.len.ensures, c.pop.new.self.ok.0))
 
 pub loop-answer-preserved-in-Some-2 : goal.loop-answer-preserved-in-Some-2
 loop-answer-preserved-in-Some-2 c =
     put_next c.args.out.now.items c.loop-answer.out.items c.args.answers.items c.loop-answer.answers.items c.pop.new.self.items c.in-Some.answer c.args.places.now c.len.result
-    c.loop-answer.invariant c.in-Some.ensures.items (omega (arith, c.len.ensures, c.pop.new.self.ok.0)) c.requires.within
+    c.loop-answer.invariant c.in-Some.ensures.items (omega (arith, c.len.ensures, c.pop.new.self.ok.0))

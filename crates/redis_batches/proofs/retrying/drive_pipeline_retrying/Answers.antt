@@ -3,6 +3,7 @@ use Rattle.std.specs.List.{flat_map}
 use Rattle.std.proofs.lemmas.List.{length-map}
 use Rattle.redis_batches.specs.CommandTask.{slots_kept, split_in}
 use Rattle.redis_batches.specs.PartArguments.{sent_args}
+use Rattle.redis_batches.specs.PipelinePlan.{PipelineBatches}
 use Rattle.redis_batches.specs.Taken.{answer_of}
 use Rattle.redis_batches.proofs.Chain.{not_before}
 use Rattle.redis_batches.proofs.Driving as driving
@@ -10,69 +11,69 @@ use Rattle.redis_batches.proofs.Retried as retried
 use Rattle.redis_batches.proofs.retrying.drive_pipeline_retrying.Goals as goal
 
 pub send_batches-requires-clause-batches : goal.send_batches-requires-clause-batches
-send_batches-requires-clause-batches g c = driving.has_batches c.in-Ok.ensures.sendable c.into_placed-tasks.ensures.batches
+send_batches-requires-clause-batches g c = driving.has_batches c.in-Ok.ensures.sendable
 
 pub returns-in-Err-send_batches-clause-fault : goal.returns-in-Err-send_batches-clause-fault
 returns-in-Err-send_batches-clause-fault g c = inl (
-  driving.pipeline_stopped c.in-Err-send_batches.ensures.stopped c.in-Ok.ensures.sendable c.into_placed-tasks.ensures.batches c.args.slot_map.now,
-  driving.asked_until c.in-Err-send_batches.ensures.stopped c.in-Ok.ensures.sendable c.into_placed-tasks.ensures.batches,
+  driving.pipeline_stopped c.in-Ok.plan c.in-Err-send_batches.ensures.stopped c.in-Ok.ensures.sendable c.args.slot_map.now,
+  driving.asked_until c.in-Ok.plan c.in-Err-send_batches.ensures.stopped c.in-Ok.ensures.sendable,
   c.in-Err-send_batches.ensures.stopped.gave,
 )
 
 pub behind_first-requires-clause-targets : goal.behind_first-requires-clause-targets
 behind_first-requires-clause-targets g c =
-    sym (length-map c.as_slice-2.result.now (λ node. node.now)) ∙ retried.nodes_many c.in_default.ensures.sent c.in-Ok.ensures.sendable c.into_placed-tasks.ensures.batches (ap (map (λ node. node.now)) c.as_slice-2.ensures.value ∙ c.into_placed-tasks.ensures.targets)
-    ∙ sym (retried.slots_many c.in_default.ensures.sent c.in-Ok.ensures.sendable c.into_placed-tasks.ensures.batches (ap (flat_map slots_kept) c.as_slice.ensures.value ∙ c.into_placed-tasks.ensures.slots))
+    sym (length-map c.as_slice-2.result.now (λ node. node.now)) ∙ retried.nodes_many c.in-Ok.plan c.in_default.ensures.sent c.in-Ok.ensures.sendable (ap (map (λ node. node.now)) c.as_slice-2.ensures.value ∙ c.into_parts-tasks.ensures.targets ∙ ap (λ (p : PipelineBatches). p.targets) c.send_batches.ensures.same.0)
+    ∙ sym (retried.slots_many c.in-Ok.plan c.in_default.ensures.sent c.in-Ok.ensures.sendable (ap (flat_map slots_kept) c.as_slice.ensures.value ∙ c.into_parts-tasks.ensures.slots ∙ ap (λ (p : PipelineBatches). p.slots) c.send_batches.ensures.same.0))
 
 pub behind_first-requires-clause-given : goal.behind_first-requires-clause-given
 behind_first-requires-clause-given g c =
-    ap length (c.as_slice-3.ensures.value ∙ c.into_rest-parts.ensures.answers) ∙ sym (length-map c.send_batches.new.plan.answers answer_of) ∙ retried.answers_many c.in_default.ensures.sent c.in-Ok.ensures.sendable c.into_placed-tasks.ensures.batches (length-map c.send_batches.new.plan.answers answer_of ∙ c.send_batches.ensures.room)
-    ∙ sym (retried.slots_many c.in_default.ensures.sent c.in-Ok.ensures.sendable c.into_placed-tasks.ensures.batches (ap (flat_map slots_kept) c.as_slice.ensures.value ∙ c.into_placed-tasks.ensures.slots))
+    ap length (c.as_slice-3.ensures.value ∙ c.into_parts-tasks.ensures.answers) ∙ sym (length-map c.send_batches.new.plan.batches.answers answer_of) ∙ retried.answers_many c.in-Ok.plan c.in_default.ensures.sent c.in-Ok.ensures.sendable (length-map c.send_batches.new.plan.batches.answers answer_of ∙ c.send_batches.ensures.room)
+    ∙ sym (retried.slots_many c.in-Ok.plan c.in_default.ensures.sent c.in-Ok.ensures.sendable (ap (flat_map slots_kept) c.as_slice.ensures.value ∙ c.into_parts-tasks.ensures.slots ∙ ap (λ (p : PipelineBatches). p.slots) c.send_batches.ensures.same.0))
 
 pub returns-in_default-behind_first-clause-fault : goal.returns-in_default-behind_first-clause-fault
-returns-in_default-behind_first-clause-fault g c = retried.only_first c.in_default.ensures.sent c.in-Ok.ensures.sendable c.into_placed-tasks.ensures.batches c.send_batches.ensures.frame (length-map c.send_batches.new.plan.answers answer_of ∙ c.send_batches.ensures.room) c.args.retries
+returns-in_default-behind_first-clause-fault g c = retried.only_first c.in-Ok.plan c.in_default.ensures.sent c.in-Ok.ensures.sendable c.send_batches.ensures.frame (length-map c.send_batches.new.plan.batches.answers answer_of ∙ c.send_batches.ensures.room) c.args.retries
 
 pub send_again-requires-clause-parts : goal.send_again-requires-clause-parts
 send_again-requires-clause-parts g c =
-    let goes = retried.goes_again c.in_default.ensures.sent c.in-Ok.ensures.sendable c.into_placed-tasks.ensures.batches c.send_batches.ensures.frame (length-map c.send_batches.new.plan.answers answer_of ∙ c.send_batches.ensures.room)
-    (ap (map sent_args) c.as_slice-parts.ensures.value ∙ c.into_rest-parts.ensures.parts ∙ c.send_batches.ensures.parts) c.as_slice-slots.ensures.value
-    (c.in-Ok-behind_first.ensures.slots ∙ ap (flat_map slots_kept) c.as_slice.ensures.value ∙ c.into_placed-tasks.ensures.slots) (ap (map (λ node. node.now)) c.as_slice-2.ensures.value ∙ c.into_placed-tasks.ensures.targets)
-    (ap (map answer_of) (c.as_slice-3.ensures.value ∙ c.into_rest-parts.ensures.answers)) c.in-Ok-behind_first.ensures.next in
-    (retried.ps c.in_default.ensures.sent c.in-Ok.ensures.sendable c.into_placed-tasks.ensures.batches, goes.of, retried.first c.in_default.ensures.sent c.in-Ok.ensures.sendable c.into_placed-tasks.ensures.batches, goes.gone)
+    let goes = retried.goes_again c.in-Ok.plan c.in_default.ensures.sent c.in-Ok.ensures.sendable c.send_batches.ensures.frame (length-map c.send_batches.new.plan.batches.answers answer_of ∙ c.send_batches.ensures.room)
+    (ap (map sent_args) c.as_slice-parts.ensures.value ∙ c.into_parts-tasks.ensures.parts ∙ ap (λ (p : PipelineBatches). p.batches.parts) c.send_batches.ensures.same.0) c.as_slice-slots.ensures.value
+    (c.in-Ok-behind_first.ensures.slots ∙ ap (flat_map slots_kept) c.as_slice.ensures.value ∙ c.into_parts-tasks.ensures.slots ∙ ap (λ (p : PipelineBatches). p.slots) c.send_batches.ensures.same.0) (ap (map (λ node. node.now)) c.as_slice-2.ensures.value ∙ c.into_parts-tasks.ensures.targets ∙ ap (λ (p : PipelineBatches). p.targets) c.send_batches.ensures.same.0)
+    (ap (map answer_of) (c.as_slice-3.ensures.value ∙ c.into_parts-tasks.ensures.answers)) c.in-Ok-behind_first.ensures.next in
+    (retried.ps c.in-Ok.plan c.in_default.ensures.sent c.in-Ok.ensures.sendable, goes.of, retried.first c.in-Ok.plan c.in_default.ensures.sent c.in-Ok.ensures.sendable, goes.gone)
 
 pub returns-in-Err-send_again-clause-fault : goal.returns-in-Err-send_again-clause-fault
 returns-in-Err-send_again-clause-fault g c =
-    let goes = retried.goes_again c.in_default.ensures.sent c.in-Ok.ensures.sendable c.into_placed-tasks.ensures.batches c.send_batches.ensures.frame (length-map c.send_batches.new.plan.answers answer_of ∙ c.send_batches.ensures.room)
-    (ap (map sent_args) c.as_slice-parts.ensures.value ∙ c.into_rest-parts.ensures.parts ∙ c.send_batches.ensures.parts) c.as_slice-slots.ensures.value
-    (c.in-Ok-behind_first.ensures.slots ∙ ap (flat_map slots_kept) c.as_slice.ensures.value ∙ c.into_placed-tasks.ensures.slots) (ap (map (λ node. node.now)) c.as_slice-2.ensures.value ∙ c.into_placed-tasks.ensures.targets)
-    (ap (map answer_of) (c.as_slice-3.ensures.value ∙ c.into_rest-parts.ensures.answers)) c.in-Ok-behind_first.ensures.next in
-    retried.later_fault c.in_default.ensures.sent c.in-Ok.ensures.sendable c.into_placed-tasks.ensures.batches c.send_batches.ensures.frame (length-map c.send_batches.new.plan.answers answer_of ∙ c.send_batches.ensures.room) c.send_again.ensures.frame c.args.retries goes c.args.slot_map.now c.in-Err-send_again.error
-    (c.in-Err-send_again.ensures.fault (retried.ps c.in_default.ensures.sent c.in-Ok.ensures.sendable c.into_placed-tasks.ensures.batches) (retried.first c.in_default.ensures.sent c.in-Ok.ensures.sendable c.into_placed-tasks.ensures.batches) goes.of goes.gone)
+    let goes = retried.goes_again c.in-Ok.plan c.in_default.ensures.sent c.in-Ok.ensures.sendable c.send_batches.ensures.frame (length-map c.send_batches.new.plan.batches.answers answer_of ∙ c.send_batches.ensures.room)
+    (ap (map sent_args) c.as_slice-parts.ensures.value ∙ c.into_parts-tasks.ensures.parts ∙ ap (λ (p : PipelineBatches). p.batches.parts) c.send_batches.ensures.same.0) c.as_slice-slots.ensures.value
+    (c.in-Ok-behind_first.ensures.slots ∙ ap (flat_map slots_kept) c.as_slice.ensures.value ∙ c.into_parts-tasks.ensures.slots ∙ ap (λ (p : PipelineBatches). p.slots) c.send_batches.ensures.same.0) (ap (map (λ node. node.now)) c.as_slice-2.ensures.value ∙ c.into_parts-tasks.ensures.targets ∙ ap (λ (p : PipelineBatches). p.targets) c.send_batches.ensures.same.0)
+    (ap (map answer_of) (c.as_slice-3.ensures.value ∙ c.into_parts-tasks.ensures.answers)) c.in-Ok-behind_first.ensures.next in
+    retried.later_fault c.in-Ok.plan c.in_default.ensures.sent c.in-Ok.ensures.sendable c.send_batches.ensures.frame (length-map c.send_batches.new.plan.batches.answers answer_of ∙ c.send_batches.ensures.room) c.send_again.ensures.frame c.args.retries goes c.args.slot_map.now c.in-Err-send_again.error
+    (c.in-Err-send_again.ensures.fault (retried.ps c.in-Ok.plan c.in_default.ensures.sent c.in-Ok.ensures.sendable) (retried.first c.in-Ok.plan c.in_default.ensures.sent c.in-Ok.ensures.sendable) goes.of goes.gone)
 
 pub returns-in-Err-send_again-clause-untouched : goal.returns-in-Err-send_again-clause-untouched
 returns-in-Err-send_again-clause-untouched g c = λ early.
-    let goes = retried.goes_again c.in_default.ensures.sent c.in-Ok.ensures.sendable c.into_placed-tasks.ensures.batches c.send_batches.ensures.frame (length-map c.send_batches.new.plan.answers answer_of ∙ c.send_batches.ensures.room)
-    (ap (map sent_args) c.as_slice-parts.ensures.value ∙ c.into_rest-parts.ensures.parts ∙ c.send_batches.ensures.parts) c.as_slice-slots.ensures.value
-    (c.in-Ok-behind_first.ensures.slots ∙ ap (flat_map slots_kept) c.as_slice.ensures.value ∙ c.into_placed-tasks.ensures.slots) (ap (map (λ node. node.now)) c.as_slice-2.ensures.value ∙ c.into_placed-tasks.ensures.targets)
-    (ap (map answer_of) (c.as_slice-3.ensures.value ∙ c.into_rest-parts.ensures.answers)) c.in-Ok-behind_first.ensures.next in
-    absurd (not_before g.N.BatchNodes c.send_batches.new.nodes c.send_again.new.nodes (map sent_args c.as_slice-parts.result.now) (retried.first c.in_default.ensures.sent c.in-Ok.ensures.sendable c.into_placed-tasks.ensures.batches) c.args.retries c.in-Err-send_again.error
-    (c.in-Err-send_again.ensures.fault (retried.ps c.in_default.ensures.sent c.in-Ok.ensures.sendable c.into_placed-tasks.ensures.batches) (retried.first c.in_default.ensures.sent c.in-Ok.ensures.sendable c.into_placed-tasks.ensures.batches) goes.of goes.gone) early)
+    let goes = retried.goes_again c.in-Ok.plan c.in_default.ensures.sent c.in-Ok.ensures.sendable c.send_batches.ensures.frame (length-map c.send_batches.new.plan.batches.answers answer_of ∙ c.send_batches.ensures.room)
+    (ap (map sent_args) c.as_slice-parts.ensures.value ∙ c.into_parts-tasks.ensures.parts ∙ ap (λ (p : PipelineBatches). p.batches.parts) c.send_batches.ensures.same.0) c.as_slice-slots.ensures.value
+    (c.in-Ok-behind_first.ensures.slots ∙ ap (flat_map slots_kept) c.as_slice.ensures.value ∙ c.into_parts-tasks.ensures.slots ∙ ap (λ (p : PipelineBatches). p.slots) c.send_batches.ensures.same.0) (ap (map (λ node. node.now)) c.as_slice-2.ensures.value ∙ c.into_parts-tasks.ensures.targets ∙ ap (λ (p : PipelineBatches). p.targets) c.send_batches.ensures.same.0)
+    (ap (map answer_of) (c.as_slice-3.ensures.value ∙ c.into_parts-tasks.ensures.answers)) c.in-Ok-behind_first.ensures.next in
+    absurd (not_before g.N.BatchNodes c.send_batches.new.nodes c.send_again.new.nodes (map sent_args c.as_slice-parts.result.now) (retried.first c.in-Ok.plan c.in_default.ensures.sent c.in-Ok.ensures.sendable) c.args.retries c.in-Err-send_again.error
+    (c.in-Err-send_again.ensures.fault (retried.ps c.in-Ok.plan c.in_default.ensures.sent c.in-Ok.ensures.sendable) (retried.first c.in-Ok.plan c.in_default.ensures.sent c.in-Ok.ensures.sendable) goes.of goes.gone) early)
 
 pub returns-in-Ok-replies_of-clause-served : goal.returns-in-Ok-replies_of-clause-served
 returns-in-Ok-replies_of-clause-served g c =
-    let goes = retried.goes_again c.in_default.ensures.sent c.in-Ok.ensures.sendable c.into_placed-tasks.ensures.batches c.send_batches.ensures.frame (length-map c.send_batches.new.plan.answers answer_of ∙ c.send_batches.ensures.room)
-    (ap (map sent_args) c.as_slice-parts.ensures.value ∙ c.into_rest-parts.ensures.parts ∙ c.send_batches.ensures.parts) c.as_slice-slots.ensures.value
-    (c.in-Ok-behind_first.ensures.slots ∙ ap (flat_map slots_kept) c.as_slice.ensures.value ∙ c.into_placed-tasks.ensures.slots) (ap (map (λ node. node.now)) c.as_slice-2.ensures.value ∙ c.into_placed-tasks.ensures.targets)
-    (ap (map answer_of) (c.as_slice-3.ensures.value ∙ c.into_rest-parts.ensures.answers)) c.in-Ok-behind_first.ensures.next in
-    retried.served_in_rounds c.in_default.ensures.sent c.in-Ok.ensures.sendable c.into_placed-tasks.ensures.batches c.send_batches.ensures.frame (length-map c.send_batches.new.plan.answers answer_of ∙ c.send_batches.ensures.room) c.send_again.ensures.frame c.args.retries goes c.into_rest-parts.result.1.items c.send_again.new.answers.items (ap (map answer_of) (sym c.into_rest-parts.ensures.answers))
-    (c.in_default-send_again.ensures.again (retried.ps c.in_default.ensures.sent c.in-Ok.ensures.sendable c.into_placed-tasks.ensures.batches) (retried.first c.in_default.ensures.sent c.in-Ok.ensures.sendable c.into_placed-tasks.ensures.batches) goes.of goes.gone)
-    (driving.combined c.in-Ok.ensures.sendable c.in-Ok.ensures.splits (ap (map split_in) c.as_slice-4.ensures.value ∙ c.into_placed-tasks.ensures.splits) refl (map answer_of c.in-Ok-replies_of.replies.items) c.in-Ok-replies_of.ensures.replies)
+    let goes = retried.goes_again c.in-Ok.plan c.in_default.ensures.sent c.in-Ok.ensures.sendable c.send_batches.ensures.frame (length-map c.send_batches.new.plan.batches.answers answer_of ∙ c.send_batches.ensures.room)
+    (ap (map sent_args) c.as_slice-parts.ensures.value ∙ c.into_parts-tasks.ensures.parts ∙ ap (λ (p : PipelineBatches). p.batches.parts) c.send_batches.ensures.same.0) c.as_slice-slots.ensures.value
+    (c.in-Ok-behind_first.ensures.slots ∙ ap (flat_map slots_kept) c.as_slice.ensures.value ∙ c.into_parts-tasks.ensures.slots ∙ ap (λ (p : PipelineBatches). p.slots) c.send_batches.ensures.same.0) (ap (map (λ node. node.now)) c.as_slice-2.ensures.value ∙ c.into_parts-tasks.ensures.targets ∙ ap (λ (p : PipelineBatches). p.targets) c.send_batches.ensures.same.0)
+    (ap (map answer_of) (c.as_slice-3.ensures.value ∙ c.into_parts-tasks.ensures.answers)) c.in-Ok-behind_first.ensures.next in
+    retried.served_in_rounds c.in-Ok.plan c.in_default.ensures.sent c.in-Ok.ensures.sendable c.send_batches.ensures.frame (length-map c.send_batches.new.plan.batches.answers answer_of ∙ c.send_batches.ensures.room) c.send_again.ensures.frame c.args.retries goes c.into_parts-tasks.result.3.items c.send_again.new.answers.items (ap (map answer_of) (sym c.into_parts-tasks.ensures.answers))
+    (c.in_default-send_again.ensures.again (retried.ps c.in-Ok.plan c.in_default.ensures.sent c.in-Ok.ensures.sendable) (retried.first c.in-Ok.plan c.in_default.ensures.sent c.in-Ok.ensures.sendable) goes.of goes.gone)
+    (driving.combined c.in-Ok.ensures.sendable c.in-Ok.ensures.splits (ap (map split_in) c.as_slice-4.ensures.value ∙ c.into_parts-tasks.ensures.splits ∙ ap (λ (p : PipelineBatches). p.splits) c.send_batches.ensures.same.0) refl (map answer_of c.in-Ok-replies_of.replies.items) c.in-Ok-replies_of.ensures.replies)
 
 pub returns-clause-fault : goal.returns-clause-fault
 returns-clause-fault g c =
-    let goes = retried.goes_again c.in_default.ensures.sent c.in-Ok.ensures.sendable c.into_placed-tasks.ensures.batches c.send_batches.ensures.frame (length-map c.send_batches.new.plan.answers answer_of ∙ c.send_batches.ensures.room)
-    (ap (map sent_args) c.as_slice-parts.ensures.value ∙ c.into_rest-parts.ensures.parts ∙ c.send_batches.ensures.parts) c.as_slice-slots.ensures.value
-    (c.in-Ok-behind_first.ensures.slots ∙ ap (flat_map slots_kept) c.as_slice.ensures.value ∙ c.into_placed-tasks.ensures.slots) (ap (map (λ node. node.now)) c.as_slice-2.ensures.value ∙ c.into_placed-tasks.ensures.targets)
-    (ap (map answer_of) (c.as_slice-3.ensures.value ∙ c.into_rest-parts.ensures.answers)) c.in-Ok-behind_first.ensures.next in
-    retried.were_sent c.in_default.ensures.sent c.in-Ok.ensures.sendable c.into_placed-tasks.ensures.batches c.send_batches.ensures.frame (length-map c.send_batches.new.plan.answers answer_of ∙ c.send_batches.ensures.room) c.send_again.ensures.frame c.args.retries goes
-    (c.in_default-send_again.ensures.again (retried.ps c.in_default.ensures.sent c.in-Ok.ensures.sendable c.into_placed-tasks.ensures.batches) (retried.first c.in_default.ensures.sent c.in-Ok.ensures.sendable c.into_placed-tasks.ensures.batches) goes.of goes.gone).sent
+    let goes = retried.goes_again c.in-Ok.plan c.in_default.ensures.sent c.in-Ok.ensures.sendable c.send_batches.ensures.frame (length-map c.send_batches.new.plan.batches.answers answer_of ∙ c.send_batches.ensures.room)
+    (ap (map sent_args) c.as_slice-parts.ensures.value ∙ c.into_parts-tasks.ensures.parts ∙ ap (λ (p : PipelineBatches). p.batches.parts) c.send_batches.ensures.same.0) c.as_slice-slots.ensures.value
+    (c.in-Ok-behind_first.ensures.slots ∙ ap (flat_map slots_kept) c.as_slice.ensures.value ∙ c.into_parts-tasks.ensures.slots ∙ ap (λ (p : PipelineBatches). p.slots) c.send_batches.ensures.same.0) (ap (map (λ node. node.now)) c.as_slice-2.ensures.value ∙ c.into_parts-tasks.ensures.targets ∙ ap (λ (p : PipelineBatches). p.targets) c.send_batches.ensures.same.0)
+    (ap (map answer_of) (c.as_slice-3.ensures.value ∙ c.into_parts-tasks.ensures.answers)) c.in-Ok-behind_first.ensures.next in
+    retried.were_sent c.in-Ok.plan c.in_default.ensures.sent c.in-Ok.ensures.sendable c.send_batches.ensures.frame (length-map c.send_batches.new.plan.batches.answers answer_of ∙ c.send_batches.ensures.room) c.send_again.ensures.frame c.args.retries goes
+    (c.in_default-send_again.ensures.again (retried.ps c.in-Ok.plan c.in_default.ensures.sent c.in-Ok.ensures.sendable) (retried.first c.in-Ok.plan c.in_default.ensures.sent c.in-Ok.ensures.sendable) goes.of goes.gone).sent

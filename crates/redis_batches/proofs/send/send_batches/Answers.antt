@@ -11,8 +11,9 @@ use Rattle.redis_cluster.proofs.Counts.{same_number}
 use Rattle.redis_cluster.proofs.Once.{times_more, times-take, names_once-apart}
 use Rattle.redis_batches.specs.Pipeline.{Answer, Planned}
 use Rattle.redis_batches.specs.BatchSends.{IsBatchNotTaken, IsBatchTaken}
-use Rattle.redis_batches.specs.Batched.{AreBatches, AreFor, numbers_in, put_at}
+use Rattle.redis_batches.specs.Batched.{AreBatches, numbers_in, put_at}
 use Rattle.redis_batches.specs.Frame.{SameNodes}
+use Rattle.redis_batches.specs.PipelinePlan.{PipelineBatches}
 use Rattle.redis_batches.specs.Plan.{Batches}
 use Rattle.redis_batches.specs.Taken.{Batch, answer_of, batch_for, IsNotTaken, IsTaken}
 use Rattle.redis_batches.specs.Driven.{Grew, WereAskedUntil, answers_in, batch_at, node_at}
@@ -24,6 +25,7 @@ use Rattle.redis_batches.proofs.Entries.{get_there}
 use Rattle.redis_batches.proofs.Given.{given_next}
 use Rattle.redis_cluster.proofs.Sending.{set_there}
 use Rattle.redis_batches.proofs.Putting.{map-put_at}
+use Rattle.redis_batches.proofs.Telling.{same_more, told_put, told_same}
 use Rattle.redis_batches.proofs.Round as round
 use Rattle.redis_batches.proofs.send.send_batches.Goals as goal
 
@@ -74,7 +76,7 @@ module _ {S : Type 0} {N : Ghosts S} {old now new : S} (frame : SameNodes N old 
 
 pub send_one-requires : goal.send_one-requires
 send_one-requires g c = record {
-  within = subst (λ ps. get_or c.args.order.now c.loop-number.number-index 0 < length ps) (sym c.loop-number.invariant.same_places)
+  within = subst (λ ps. get_or c.args.order.now c.loop-number.number-index 0 < length ps) (sym (ap (λ (p : PipelineBatches). p.batches.places) c.loop-number.invariant.same.0))
       (c.requires.order.below c.loop-number.number-index 0 c.loop-number-test.true);
 }
 
@@ -82,29 +84,27 @@ pub tell_first-requires-clause-first : goal.tell_first-requires-clause-first
 tell_first-requires-clause-first g c =
     let order = c.args.order.now in
     let i = c.loop-number.number-index in
-    c.loop-number.invariant.untold (get_or order i 0) (fresh (length c.args.plan.now.places) order i c.requires.order c.loop-number-test.true) (c.requires.order.below i 0 c.loop-number-test.true)
+    c.loop-number.invariant.untold (get_or order i 0) (fresh (length c.args.plan.now.batches.places) order i c.requires.order c.loop-number-test.true) (c.requires.order.below i 0 c.loop-number-test.true)
 
 pub tell_first-requires-clause-long : goal.tell_first-requires-clause-long
 tell_first-requires-clause-long g c =
-    let plan = c.args.plan.now in
+    let plan = c.args.plan.now.batches in
     let k = get_or c.args.order.now c.loop-number.number-index 0 in
     let inv = c.loop-number.invariant in
     let is = c.requires.batches.2 in
     let list = numbers_in is.batch c.requires.batches.0 k in
-    let at : slice_get c.loop-number.plan.places k ≡ Some list = ap (λ ls. slice_get ls k) inv.same_places ∙ is.places_are k (c.requires.order.below c.loop-number.number-index 0 c.loop-number-test.true) in (
+    let at : slice_get c.loop-number.plan.batches.places k ≡ Some list = ap (λ ls. slice_get ls k) (ap (λ (p : PipelineBatches). p.batches.places) inv.same.0) ∙ is.places_are k (c.requires.order.below c.loop-number.number-index 0 c.loop-number-test.true) in (
       list,
       at,
-      c.in-Ok.ensures.answers list at ∙ ap (λ parts. length (in_order parts list)) inv.same_parts ∙ round.batch_long g.N.BatchNodes c.args.nodes.now plan c.requires.batches.1 is c.requires.order k,
+      c.in-Ok.ensures.answers list at ∙ ap (λ parts. length (in_order parts list)) (ap (λ (p : PipelineBatches). p.batches.parts) inv.same.0) ∙ round.batch_long g.N.BatchNodes c.args.nodes.now plan c.requires.batches.1 is c.requires.order k,
     )
 
 pub loop-number-init : goal.loop-number-init
 loop-number-init g c =
     let N = g.N.BatchNodes in
-    let plan = c.args.plan.now in
+    let plan = c.args.plan.now.batches in
     record {
-      same_nodes = refl;
-      same_places = refl;
-      same_parts = refl;
+      same = (refl, refl);
       room = c.requires.plan.answers;
       untold = λ k none below.
           let within : k < length plan.told = subst (λ n. k < n) (sym c.requires.plan.told) below in
@@ -120,7 +120,7 @@ pub loop-number-preserved : goal.loop-number-preserved
 loop-number-preserved g c =
     let N = g.N.BatchNodes in
     let first = c.args.nodes.now in
-    let plan = c.args.plan.now in
+    let plan = c.args.plan.now.batches in
     let order = c.args.order.now in
     let l = c.loop-number in
     let inv = l.invariant in
@@ -128,42 +128,39 @@ loop-number-preserved g c =
     let k = get_or order i 0 in
     let inside : i < length order = c.loop-number-test.true in
     let below : k < length plan.places = c.requires.order.below i 0 inside in
-    let same = c.tell_first.ensures.same in
-    let own = same_batch l.plan plan k inv.same_nodes inv.same_places inv.same_parts in
-    let before = l.plan.answers in
     let replies = c.in-Ok.answers.items in
+    let same = told_same l.plan c.tell_first.new.plan k replies c.tell_first.ensures in
+    let own = same_batch l.plan.batches plan k (ap (λ (p : PipelineBatches). p.batches.nodes) inv.same.0) (ap (λ (p : PipelineBatches). p.batches.places) inv.same.0) (ap (λ (p : PipelineBatches). p.batches.parts) inv.same.0) in
+    let before = l.plan.batches.answers in
+    let put : (list : List ℕ) → slice_get l.plan.batches.places k ≡ Some list → c.tell_first.new.plan.batches.answers ≡ put_at before list replies =
+    λ list at. told_put l.plan c.tell_first.new.plan k replies list c.tell_first.ensures at in
     record {
-      same_nodes = same.0 ∙ inv.same_nodes;
-      same_places = same.1 ∙ inv.same_places;
-      same_parts = same.2 ∙ inv.same_parts;
-      room = same.3 ∙ inv.room;
-      untold = subst (λ told. (j : ℕ) → times j (take (i + 1) order) ≡ 0 → j < length plan.places → slice_get told j ≡ Some false) (sym c.tell_first.ensures.told)
-          (untold_less l.plan.told order i (length plan.places) inside inv.untold);
+      same = same_more c.args.plan.now l.plan c.tell_first.new.plan inv.same same;
+      room = same.1 ∙ inv.room;
+      untold = subst (λ told. (j : ℕ) → times j (take (i + 1) order) ≡ 0 → j < length plan.places → slice_get told j ≡ Some false) (sym (ap (λ (p : PipelineBatches). p.batches.told) c.tell_first.ensures))
+          (untold_less l.plan.batches.told order i (length plan.places) inside inv.untold);
       so_far = λ ps are is names.
           let list = numbers_in is.batch ps k in
-          let at : slice_get l.plan.places k ≡ Some list = ap (λ ls. slice_get ls k) inv.same_places ∙ is.places_are k below in
+          let at : slice_get l.plan.batches.places k ≡ Some list = ap (λ ls. slice_get ls k) (ap (λ (p : PipelineBatches). p.batches.places) inv.same.0) ∙ is.places_are k below in
           let so_far = inv.so_far ps are is names in
-          let taken = own_taken inv.frame plan is k below (batch_at l.plan k) own c.in-Ok.ensures.taken in
-          let all = round.expected_next N first plan are is names i k inside refl c.send_one.ensures.frame.kept before replies so_far taken in
-          let for : N.kept c.send_one.new.nodes → AreFor all list replies = λ keep. round.replies_right N first plan are is names i k inside refl c.send_one.ensures.frame.kept before replies so_far taken keep in
+          let taken = own_taken inv.frame plan is k below (batch_at l.plan.batches k) own c.in-Ok.ensures.taken in
           round.one_more N first plan are is names i k inside refl c.send_one.ensures.frame.kept before replies so_far taken
-          c.tell_first.new.plan.answers (c.tell_first.ensures.put list at) inv.room
-          (c.in-Ok.ensures.answers list at ∙ ap (λ parts. length (in_order parts list)) inv.same_parts ∙ round.batch_long N first plan are is names k)
-          (λ keep. c.tell_first.ensures.right all list at (for keep)) (λ keep. c.tell_first.ensures.others all list at (for keep));
+          c.tell_first.new.plan.batches.answers (put list at) inv.room
+          (c.in-Ok.ensures.answers list at ∙ ap (λ parts. length (in_order parts list)) (ap (λ (p : PipelineBatches). p.batches.parts) inv.same.0) ∙ round.batch_long N first plan are is names k);
       frame = frame_more N first l.nodes c.send_one.new.nodes inv.frame c.send_one.ensures.frame;
-      asked = asked_next (N.asked first) (N.asked l.nodes) (N.asked c.send_one.new.nodes) plan order i (batch_at l.plan k) own inv.asked inside c.in-Ok.ensures.asked;
+      asked = asked_next (N.asked first) (N.asked l.nodes) (N.asked c.send_one.new.nodes) plan order i (batch_at l.plan.batches k) own inv.asked inside c.in-Ok.ensures.asked;
       given =
           let ps = c.requires.batches.0 in
           let is = c.requires.batches.2 in
           let list = numbers_in is.batch ps k in
-          let at : slice_get l.plan.places k ≡ Some list = ap (λ ls. slice_get ls k) inv.same_places ∙ is.places_are k below in
+          let at : slice_get l.plan.batches.places k ≡ Some list = ap (λ ls. slice_get ls k) (ap (λ (p : PipelineBatches). p.batches.places) inv.same.0) ∙ is.places_are k below in
           let many : length (map answer_of before) ≡ length plan.parts = length-map before answer_of ∙ inv.room in
           let within : All (λ p. p < length (map answer_of before)) list = subst (λ n. All (λ p. p < n) list) (sym many) (round.within N first plan c.requires.batches.1 is c.requires.order k) in
           let long : length (map answer_of replies) ≡ length list =
-          length-map replies answer_of ∙ c.in-Ok.ensures.answers list at ∙ ap (λ parts. length (in_order parts list)) inv.same_parts ∙ round.batch_long N first plan c.requires.batches.1 is c.requires.order k in
-          let put : map answer_of c.tell_first.new.plan.answers ≡ put_at (map answer_of before) list (map answer_of replies) = ap (map answer_of) (c.tell_first.ensures.put list at) ∙ map-put_at answer_of before list replies in
+          length-map replies answer_of ∙ c.in-Ok.ensures.answers list at ∙ ap (λ parts. length (in_order parts list)) (ap (λ (p : PipelineBatches). p.batches.parts) inv.same.0) ∙ round.batch_long N first plan c.requires.batches.1 is c.requires.order k in
+          let told : map answer_of c.tell_first.new.plan.batches.answers ≡ put_at (map answer_of before) list (map answer_of replies) = ap (map answer_of) (put list at) ∙ map-put_at answer_of before list replies in
           subst (Grew (N.gave first) (N.gave c.send_one.new.nodes))
-          (sym (given_next (N.registered first) ps plan is order c.requires.order i inside (fresh (length plan.places) order i c.requires.order inside) (map answer_of before) (map answer_of c.tell_first.new.plan.answers) (map answer_of replies) put within long))
+          (sym (given_next (N.registered first) ps plan is order c.requires.order i inside (fresh (length plan.places) order i c.requires.order inside) (map answer_of before) (map answer_of c.tell_first.new.plan.batches.answers) (map answer_of replies) told within long))
           (asked_more (N.gave first) (N.gave l.nodes) (N.gave c.send_one.new.nodes) (answers_in plan (map answer_of before) (take i order)) (map answer_of replies ∷ []) inv.given c.in-Ok.ensures.gave);
       answered = omega (arith, inv.answered);
     }
@@ -171,32 +168,32 @@ loop-number-preserved g c =
 pub returns-clause-sent : goal.returns-clause-sent
 returns-clause-sent g c =
     let N = g.N.BatchNodes in
-    let plan = c.args.plan.now in
+    let plan = c.args.plan.now.batches in
     let order = c.args.order.now in
     let l = c.loop-number in
     let past : length order ≤ l.number-index = omega (arith, c.loop-number-test.false) in
     let all = take_all l.number-index order past in
     record {
-      served = λ ps are is. round.at_end N c.args.nodes.now plan are is c.requires.order l.number-index past l.nodes l.plan.answers l.invariant.room (l.invariant.so_far ps are is c.requires.order);
+      served = λ ps are is. round.at_end N c.args.nodes.now plan are is c.requires.order l.number-index past l.nodes l.plan.batches.answers l.invariant.room (l.invariant.so_far ps are is c.requires.order);
       asked = subst (λ o. Grew (N.asked c.args.nodes.now) (N.asked l.nodes) (map (batch_at plan) o)) all l.invariant.asked;
-      gave = subst (λ o. Grew (N.gave c.args.nodes.now) (N.gave l.nodes) (answers_in plan (map answer_of l.plan.answers) o)) all l.invariant.given;
+      gave = subst (λ o. Grew (N.gave c.args.nodes.now) (N.gave l.nodes) (answers_in plan (map answer_of l.plan.batches.answers) o)) all l.invariant.given;
     }
 
 pub returns-in-Err-clause-stopped : goal.returns-in-Err-clause-stopped
 returns-in-Err-clause-stopped g c =
     let N = g.N.BatchNodes in
-    let plan = c.args.plan.now in
+    let plan = c.args.plan.now.batches in
     let order = c.args.order.now in
     let l = c.loop-number in
     let inv = l.invariant in
     let i = l.number-index in
     let k = get_or order i 0 in
     let inside : i < length order = c.loop-number-test.true in
-    let own = same_batch l.plan plan k inv.same_nodes inv.same_places inv.same_parts in
+    let own = same_batch l.plan.batches plan k (ap (λ (p : PipelineBatches). p.batches.nodes) inv.same.0) (ap (λ (p : PipelineBatches). p.batches.places) inv.same.0) (ap (λ (p : PipelineBatches). p.batches.parts) inv.same.0) in
     let gave_old = N.gave c.args.nodes.now in
     let gave_new = N.gave c.send_one.new.nodes in
-    let these = answers_in plan (map answer_of l.plan.answers) (take i order) in
-    let asked = asked_last (N.asked c.args.nodes.now) (N.asked l.nodes) (N.asked c.send_one.new.nodes) plan order i (batch_at l.plan k) own inv.asked c.in-Err.error c.in-Err.ensures.asked_until in
+    let these = answers_in plan (map answer_of l.plan.batches.answers) (take i order) in
+    let asked = asked_last (N.asked c.args.nodes.now) (N.asked l.nodes) (N.asked c.send_one.new.nodes) plan order i (batch_at l.plan.batches k) own inv.asked c.in-Err.error c.in-Err.ensures.asked_until in
     record {
       within = omega (arith, inv.answered, inside);
       first_round = refl;
@@ -205,12 +202,12 @@ returns-in-Err-clause-stopped g c =
         taken = rw inv.answered (round.taken_so_far N c.args.nodes.now plan are is c.requires.order i c.send_one.ensures.frame.kept (inv.so_far ps are is c.requires.order));
         number = k;
         next = ap (slice_get order) inv.answered ∙ get_there order i 0 inside;
-        untaken = own_not_taken inv.frame plan is k (c.requires.order.below i 0 inside) (batch_at l.plan k) own c.in-Err.ensures.untaken;
+        untaken = own_not_taken inv.frame plan is k (c.requires.order.below i 0 inside) (batch_at l.plan.batches k) own c.in-Err.ensures.untaken;
       };
       asked = subst (λ n. WereAskedUntil (N.asked c.args.nodes.now) (N.asked c.send_one.new.nodes) (map (batch_at plan) (take n order)) (batch_at plan (get_or order n 0)) c.in-Err.error) (sym inv.answered) asked;
       gave = record {
         more = these;
-        each = length-map (take i order) (λ j. in_order (map answer_of l.plan.answers) (get_or plan.places j [])) ∙ length-take-le i order (omega (arith, inside)) ∙ sym inv.answered;
+        each = length-map (take i order) (λ j. in_order (map answer_of l.plan.batches.answers) (get_or plan.places j [])) ∙ length-take-le i order (omega (arith, inside)) ∙ sym inv.answered;
         gave = subst (Grew gave_old gave_new) (append-nil these) (asked_more gave_old (N.gave l.nodes) gave_new these [] inv.given c.in-Err.ensures.gave_none);
       };
     }

@@ -25,35 +25,35 @@ own_batch plan number is within node there parts read =
 
 pub unreachable-requires-in_default-node : goal.unreachable-requires-in_default-node
 unreachable-requires-in_default-node g c =
-    let there = has_node c.args.plan.now c.args.number c.node.ensures.plan c.requires.within in
+    let there = has_node c.args.plan.now.batches c.args.number c.node.ensures.plan c.requires.within in
     let none = sym c.node.ensures.node ∙ ap (option_map (λ node. node.now)) c.in_default-node.is in
     absurd (cc (there, none))
 
 pub returns-clause-taken : goal.returns-clause-taken
 returns-clause-taken g c =
-    let own = own_batch c.args.plan.now c.args.number c.node.ensures.plan c.requires.within c.in-Some-node.node.now (sym c.node.ensures.node ∙ ap (option_map (λ node. node.now)) c.in-Some-node.is) (map (λ cmd. cmd.now) c.as_slice.result.now)
-    (sym c.in-Ok.ensures ∙ ap (option_map (λ v. map (λ part. part.now) v.items)) c.in-Some.is ∙ ap (λ l. Some (map (λ part. part.now) l)) (sym c.as_slice.ensures.value)) in
+    let own = own_batch c.args.plan.now.batches c.args.number c.node.ensures.plan c.requires.within c.in-Some-node.node.now (sym c.node.ensures.node ∙ ap (option_map (λ node. node.now)) c.in-Some-node.is) (map (λ cmd. cmd.now) c.as_slice.result.now)
+    (sym c.in-Ok.ensures.batch ∙ ap (option_map (λ v. map (λ part. part.now) v.items)) c.in-Some.is ∙ ap (λ l. Some (map (λ part. part.now) l)) (sym c.as_slice.ensures.value)) in
     let N = g.N.BatchNodes in
     subst (λ b. IfOk c.send_batch.result (λ answers. IsBatchTaken N c.args.nodes.now c.send_batch.new.self b (map answer_of answers.items))) own c.send_batch.ensures.taken
 
 pub returns-clause-untaken : goal.returns-clause-untaken
 returns-clause-untaken g c =
-    let own = own_batch c.args.plan.now c.args.number c.node.ensures.plan c.requires.within c.in-Some-node.node.now (sym c.node.ensures.node ∙ ap (option_map (λ node. node.now)) c.in-Some-node.is) (map (λ cmd. cmd.now) c.as_slice.result.now)
-    (sym c.in-Ok.ensures ∙ ap (option_map (λ v. map (λ part. part.now) v.items)) c.in-Some.is ∙ ap (λ l. Some (map (λ part. part.now) l)) (sym c.as_slice.ensures.value)) in
+    let own = own_batch c.args.plan.now.batches c.args.number c.node.ensures.plan c.requires.within c.in-Some-node.node.now (sym c.node.ensures.node ∙ ap (option_map (λ node. node.now)) c.in-Some-node.is) (map (λ cmd. cmd.now) c.as_slice.result.now)
+    (sym c.in-Ok.ensures.batch ∙ ap (option_map (λ v. map (λ part. part.now) v.items)) c.in-Some.is ∙ ap (λ l. Some (map (λ part. part.now) l)) (sym c.as_slice.ensures.value)) in
     let N = g.N.BatchNodes in
     IfErr-weaker c.send_batch.result _ _ (λ error untaken. subst (λ b. IsBatchNotTaken N c.args.nodes.now c.send_batch.new.self b error) own (inl untaken)) c.send_batch.ensures.untaken
 
 pub returns-clause-asked : goal.returns-clause-asked
 returns-clause-asked g c =
-    let own = own_batch c.args.plan.now c.args.number c.node.ensures.plan c.requires.within c.in-Some-node.node.now (sym c.node.ensures.node ∙ ap (option_map (λ node. node.now)) c.in-Some-node.is) (map (λ cmd. cmd.now) c.as_slice.result.now)
-    (sym c.in-Ok.ensures ∙ ap (option_map (λ v. map (λ part. part.now) v.items)) c.in-Some.is ∙ ap (λ l. Some (map (λ part. part.now) l)) (sym c.as_slice.ensures.value)) in
+    let own = own_batch c.args.plan.now.batches c.args.number c.node.ensures.plan c.requires.within c.in-Some-node.node.now (sym c.node.ensures.node ∙ ap (option_map (λ node. node.now)) c.in-Some-node.is) (map (λ cmd. cmd.now) c.as_slice.result.now)
+    (sym c.in-Ok.ensures.batch ∙ ap (option_map (λ v. map (λ part. part.now) v.items)) c.in-Some.is ∙ ap (λ l. Some (map (λ part. part.now) l)) (sym c.as_slice.ensures.value)) in
     let N = g.N.BatchNodes in
     subst (λ b. OnOk c.send_batch.result (Grew (N.asked c.args.nodes.now) (N.asked c.send_batch.new.self) (b ∷ []))) own c.send_batch.ensures.asked
 
 pub returns-clause-asked_until : goal.returns-clause-asked_until
 returns-clause-asked_until g c =
-    let own = own_batch c.args.plan.now c.args.number c.node.ensures.plan c.requires.within c.in-Some-node.node.now (sym c.node.ensures.node ∙ ap (option_map (λ node. node.now)) c.in-Some-node.is) (map (λ cmd. cmd.now) c.as_slice.result.now)
-    (sym c.in-Ok.ensures ∙ ap (option_map (λ v. map (λ part. part.now) v.items)) c.in-Some.is ∙ ap (λ l. Some (map (λ part. part.now) l)) (sym c.as_slice.ensures.value)) in
+    let own = own_batch c.args.plan.now.batches c.args.number c.node.ensures.plan c.requires.within c.in-Some-node.node.now (sym c.node.ensures.node ∙ ap (option_map (λ node. node.now)) c.in-Some-node.is) (map (λ cmd. cmd.now) c.as_slice.result.now)
+    (sym c.in-Ok.ensures.batch ∙ ap (option_map (λ v. map (λ part. part.now) v.items)) c.in-Some.is ∙ ap (λ l. Some (map (λ part. part.now) l)) (sym c.as_slice.ensures.value)) in
     let N = g.N.BatchNodes in
     subst (λ b. IfErr c.send_batch.result (λ error. WereAskedUntil (N.asked c.args.nodes.now) (N.asked c.send_batch.new.self) [] b error)) own c.send_batch.ensures.asked_untaken
 
