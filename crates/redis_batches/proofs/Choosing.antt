@@ -23,8 +23,9 @@ module _ (old new : List (ℕ × Bor Address)) (slot : ℕ) (node : Bor Address)
   pub others_still : chosen_for old slot ≡ None → AreStill old new
   others_still none = grind (arith, common_steps)
 
-  pub right_after : (is_node : ℕ → Address → Type 0) → is_node slot node.now → AreRight is_node old → AreRight is_node new
-  right_after is_node own right = grind (arith, common_steps)
+  pub right_after : {S : Type 0} (strategy : Option S) (picks_of : S → Candidates → Address → Type 0) (ranges : Ranges) (written : List ℕ) → IsRoutedBy strategy picks_of ranges written slot node.now
+      → AreRight strategy picks_of ranges written old → AreRight strategy picks_of ranges written new
+  right_after strategy picks_of ranges written own right = grind (arith, common_steps)
 
 -- what is chosen stays chosen
 pub chosen_still : {S : Type 0} (strategy : Option S) (ranges : Ranges) (old new : List (ℕ × Bor Address)) → AreStill old new → (slot : ℕ) (node : Address) → IsChosen strategy ranges old slot node → IsChosen strategy ranges new slot node
@@ -33,7 +34,7 @@ chosen_still (Some s) ranges old new still slot node is = still slot node is
 
 -- its slot is covered
 pub chosen_covered : {S : Type 0} (strategy : Option S) (picks_of : S → Candidates → Address → Type 0) (ranges : Ranges) (written : List ℕ) (chosen : List (ℕ × Bor Address)) (slot : ℕ) (node : Address)
-    → AreRight (IsRoutedBy strategy picks_of ranges written) chosen → IsChosen strategy ranges chosen slot node → IsCovered ranges slot
+    → AreRight strategy picks_of ranges written chosen → IsChosen strategy ranges chosen slot node → IsCovered ranges slot
 chosen_covered None picks_of ranges written chosen slot node right is = (is.0, is.1)
 chosen_covered (Some s) picks_of ranges written chosen slot node right is = let found = right slot node is in (found.0, found.1)
 
@@ -53,7 +54,7 @@ primary_for nodes false address is = is
 
 -- the node that was chosen is one that the slot has in the pipeline
 pub is_slot_node : {S : Type 0} (strategy : Option S) (picks_of : S → Candidates → Address → Type 0) (ranges : Ranges) (names : Names) (commands : List (List (List ℕ))) (written : List ℕ) (chosen : List (ℕ × Bor Address))
-    → (IsSome strategy → AreSlots (flat_map (slots_written names) commands) written) → AreRight (IsRoutedBy strategy picks_of ranges written) chosen
+    → (IsSome strategy → AreSlots (flat_map (slots_written names) commands) written) → AreRight strategy picks_of ranges written chosen
     → (slot : ℕ) (address : Address) → IsChosen strategy ranges chosen slot address → IsSlotNode strategy picks_of ranges names commands slot address
 is_slot_node None picks_of ranges names commands written chosen are right slot address is = (is.0, is.1, primary_for is.0 (not (is_written names commands slot)) address is.2)
 is_slot_node (Some s) picks_of ranges names commands written chosen are right slot address is = grind (arith, common_steps)

@@ -49,10 +49,11 @@ IsRoutedBy strategy picks_of ranges written slot address =
     IsRouteNode strategy picks_of ranges 0
     (record { slot = slot; addr = nodes_for (not (has_slot written slot)) }) address
 
--- each node that was chosen is one that its slot may have
-abbrev pub AreRight : (ℕ → Address → Type 0) → List (ℕ × Bor Address) → Type 0
-AreRight is_node chosen =
-    (slot : ℕ) (node : Address) → chosen_for chosen slot ≡ Some node → is_node slot node
+-- each node that was chosen is one that its slot's route has
+abbrev pub AreRight : {S : Type 0} → Option S → (S → Candidates → Address → Type 0) → Ranges
+    → List ℕ → List (ℕ × Bor Address) → Type 0
+AreRight strategy picks_of ranges written chosen = (slot : ℕ) (node : Address)
+    → chosen_for chosen slot ≡ Some node → IsRoutedBy strategy picks_of ranges written slot node
 
 -- what was chosen stays
 abbrev pub AreStill : List (ℕ × Bor Address) → List (ℕ × Bor Address) → Type 0

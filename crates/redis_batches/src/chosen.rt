@@ -1,7 +1,7 @@
 ghost use Rattle.std.specs.Prelude.{◌≡◌, Some, not, MatchOption, IfOk, OnOk};
 ghost use Rattle.cluster_map.specs.RangeMap.{IsUncovered};
 ghost use Rattle.redis_routing.specs.Routing.{nodes_for};
-ghost use Rattle.redis_batches.specs.Chosen.{AreRight, AreStill, IsChosen, IsRoutedBy, chosen_for, has_slot};
+ghost use Rattle.redis_batches.specs.Chosen.{AreRight, AreStill, IsChosen, chosen_for, has_slot};
 ghost use Rattle.redis_batches.specs.Placed.{IsPrimaryOf};
 
 use cluster_map::{ReadRoutingStrategy, SlotMap};
@@ -19,15 +19,13 @@ pub(super) fn node_of<'a>(
     slot_map: &'a SlotMap,
     strategy: Option<&dyn ReadRoutingStrategy>,
 ) -> Result<Option<&'a NodeAddress>, AllocError>
-    requires right { AreRight
-        (IsRoutedBy strategy (λ s. picks s.now) slot_map.now written.now.keys)
+    requires right { AreRight strategy (λ s. picks s.now) slot_map.now written.now.keys
         chosen.old.entries }
     ensures node { IfOk result (λ found. MatchOption found (IsUncovered slot_map.now slot)
         (λ node. IsChosen strategy.entry slot_map.now chosen.new.entries slot node.now)) }
     ensures still { OnOk result (AreStill chosen.old.entries chosen.new.entries) }
-    ensures right { OnOk result (AreRight
-        (IsRoutedBy strategy.entry (λ s. picks s.now) slot_map.now written.now.keys)
-        chosen.new.entries) }
+    ensures right { OnOk result (AreRight strategy.entry (λ s. picks s.now) slot_map.now
+        written.now.keys chosen.new.entries) }
 {
     match strategy {
         Some(_) => chosen_node(chosen, written, slot, slot_map, strategy),
@@ -43,15 +41,13 @@ fn chosen_node<'a>(
     slot_map: &'a SlotMap,
     strategy: Option<&dyn ReadRoutingStrategy>,
 ) -> Result<Option<&'a NodeAddress>, AllocError>
-    requires right { AreRight
-        (IsRoutedBy strategy (λ s. picks s.now) slot_map.now written.now.keys)
+    requires right { AreRight strategy (λ s. picks s.now) slot_map.now written.now.keys
         chosen.old.entries }
     ensures node { IfOk result (λ found. MatchOption found (IsUncovered slot_map.now slot)
         (λ node. chosen_for chosen.new.entries slot ≡ Some node.now)) }
     ensures still { OnOk result (AreStill chosen.old.entries chosen.new.entries) }
-    ensures right { OnOk result (AreRight
-        (IsRoutedBy strategy.entry (λ s. picks s.now) slot_map.now written.now.keys)
-        chosen.new.entries) }
+    ensures right { OnOk result (AreRight strategy.entry (λ s. picks s.now) slot_map.now
+        written.now.keys chosen.new.entries) }
 {
     if let Some(node) = chosen.get(&slot).copied() {
         return Ok(Some(node));

@@ -2,7 +2,7 @@ ghost use Rattle.std.specs.Prelude.{◌≡◌, ◌++◌, ◌∷◌, [], List, So
 ghost use Rattle.std.specs.List.{All, flat_map};
 ghost use Rattle.cluster_map.specs.ReplyNode.{IsCovered};
 ghost use Rattle.redis_routing.specs.Split.{slots_of};
-ghost use Rattle.redis_batches.specs.Chosen.{AreIn, AreRight, IsRoutedBy};
+ghost use Rattle.redis_batches.specs.Chosen.{AreIn, AreRight};
 ghost use Rattle.redis_batches.specs.CommandTask.{SlotPart, slot_parts, slots_kept, split_parts};
 ghost use Rattle.redis_batches.specs.PartArguments.{sent_args};
 ghost use Rattle.redis_batches.specs.Placed.{IsOwnFault, IsPartFault, IsSlotFault};
@@ -38,9 +38,8 @@ pub(super) fn parts_of<'a>(
 ) -> Result<Placed<'a>, PipelineFault>
     ensures placed { IfOk result (λ placed.
         AreIn strategy.entry slot_map.now (flat_map slot_parts tasks.now) placed) }
-    ensures right { IfOk result (λ placed. AreRight
-        (IsRoutedBy strategy.entry (λ s. picks s.now) slot_map.now written.now.keys)
-        placed.chosen.entries) }
+    ensures right { IfOk result (λ placed. AreRight strategy.entry (λ s. picks s.now) slot_map.now
+        written.now.keys placed.chosen.entries) }
     ensures fault { IfErr result (λ fault. IsPartFault slot_map.now (map slots_kept tasks.now) fault) }
 {
     let mut placed = Placed {
@@ -72,16 +71,14 @@ fn add_task<'a>(
     slot_map: &'a SlotMap,
     strategy: Option<&dyn ReadRoutingStrategy>,
 ) -> Result<(), PipelineFault>
-    requires right { AreRight
-        (IsRoutedBy strategy (λ s. picks s.now) slot_map.now written.now.keys)
+    requires right { AreRight strategy (λ s. picks s.now) slot_map.now written.now.keys
         placed.old.chosen.entries }
     ensures added { OnOk result ((of : List SlotPart)
         → AreIn strategy.entry slot_map.now of placed.old
         → AreIn strategy.entry slot_map.now (of ++ slot_parts task.now) placed.new) }
     ensures covered { OnOk result (All (IsCovered slot_map.now) (slots_kept task.now)) }
-    ensures right { OnOk result (AreRight
-        (IsRoutedBy strategy.entry (λ s. picks s.now) slot_map.now written.now.keys)
-        placed.new.chosen.entries) }
+    ensures right { OnOk result (AreRight strategy.entry (λ s. picks s.now) slot_map.now
+        written.now.keys placed.new.chosen.entries) }
     ensures fault { IfErr result (λ fault. IsOwnFault slot_map.now (slots_kept task.now) number fault) }
 {
     match task {
@@ -105,16 +102,14 @@ fn add_split<'a>(
     slot_map: &'a SlotMap,
     strategy: Option<&dyn ReadRoutingStrategy>,
 ) -> Result<(), PipelineFault>
-    requires right { AreRight
-        (IsRoutedBy strategy (λ s. picks s.now) slot_map.now written.now.keys)
+    requires right { AreRight strategy (λ s. picks s.now) slot_map.now written.now.keys
         placed.old.chosen.entries }
     ensures added { OnOk result ((of : List SlotPart)
         → AreIn strategy.entry slot_map.now of placed.old
         → AreIn strategy.entry slot_map.now (of ++ split_parts split.now) placed.new) }
     ensures covered { OnOk result (All (IsCovered slot_map.now) (slots_of split.now.routes)) }
-    ensures right { OnOk result (AreRight
-        (IsRoutedBy strategy.entry (λ s. picks s.now) slot_map.now written.now.keys)
-        placed.new.chosen.entries) }
+    ensures right { OnOk result (AreRight strategy.entry (λ s. picks s.now) slot_map.now
+        written.now.keys placed.new.chosen.entries) }
     ensures fault { IfErr result (λ fault.
         IsOwnFault slot_map.now (slots_of split.now.routes) number fault) }
 {
@@ -137,17 +132,15 @@ fn add_part<'a>(
     slot_map: &'a SlotMap,
     strategy: Option<&dyn ReadRoutingStrategy>,
 ) -> Result<(), PipelineFault>
-    requires right { AreRight
-        (IsRoutedBy strategy (λ s. picks s.now) slot_map.now written.now.keys)
+    requires right { AreRight strategy (λ s. picks s.now) slot_map.now written.now.keys
         placed.old.chosen.entries }
     ensures added { OnOk result ((of : List SlotPart)
         → AreIn strategy.entry slot_map.now of placed.old
         → AreIn strategy.entry slot_map.now (of ++ (slot, map Some (sent_args part.entry)) ∷ [])
         placed.new) }
     ensures covered { OnOk result (IsCovered slot_map.now slot) }
-    ensures right { OnOk result (AreRight
-        (IsRoutedBy strategy.entry (λ s. picks s.now) slot_map.now written.now.keys)
-        placed.new.chosen.entries) }
+    ensures right { OnOk result (AreRight strategy.entry (λ s. picks s.now) slot_map.now
+        written.now.keys placed.new.chosen.entries) }
     ensures fault { IfErr result (λ fault. IsSlotFault slot_map.now slot number fault) }
 {
     let Some(node) = node_of(&mut placed.chosen, written, slot, slot_map, strategy)? else {

@@ -1,5 +1,4 @@
-use Rattle.std.proofs.Common.{◌≡◌, ◌∙◌, ℕ, None, ap, subst, sym, option_map}
-use Rattle.cluster_slots.specs.Address.{Address}
+use Rattle.std.proofs.Common.{◌≡◌, ◌∙◌, None, ap, subst, sym, option_map}
 use Rattle.cluster_map.specs.RangeMap.{IsUncovered}
 use Rattle.cluster_map.specs.RouteNode.{IsRouteNode}
 use Rattle.redis_batches.specs.Chosen.{IsRoutedBy, chosen_for}
@@ -20,7 +19,7 @@ pub returns-clause-right : goal.returns-clause-right
 returns-clause-right g c =
     let ranges = c.args.slot_map.now in
     let node = c.in-Some-slot_addr_for_route.node in
-    let is_node : ℕ → Address → Type 0 = IsRoutedBy c.args.strategy (λ s. (goal.ReadRoutingStrategy-dyn g s.now).picks s.now.1) ranges c.args.written.now.keys in
-    let own : is_node c.args.slot node.now =
+    let written = c.args.written.now.keys in
+    let own : IsRoutedBy c.args.strategy (λ s. (goal.ReadRoutingStrategy-dyn g s.now).picks s.now.1) ranges written c.args.slot node.now =
     subst (λ route. IsRouteNode c.args.strategy (λ s. (goal.ReadRoutingStrategy-dyn g s.now).picks s.now.1) ranges 0 route node.now) c.route_of-route.ensures c.in-Some-slot_addr_for_route.ensures.node in
-    right_after c.args.chosen.now.entries c.insert.new.self.entries c.args.slot node c.in_ok-insert.ensures.updates.0 is_node own c.requires.right
+    right_after c.args.chosen.now.entries c.insert.new.self.entries c.args.slot node c.in_ok-insert.ensures.updates.0 c.args.strategy (λ s. (goal.ReadRoutingStrategy-dyn g s.now).picks s.now.1) ranges written own c.requires.right
