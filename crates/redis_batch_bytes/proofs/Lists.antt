@@ -9,10 +9,10 @@ use Rattle.resp_core.specs.ErrorParts.{ErrorParts}
 use Rattle.resp_core.specs.declared.value.Value.{Value}
 use Rattle.redis_cluster.specs.Orders.{in_order}
 use Rattle.redis_cluster.proofs.Orders.{get-in_order, length-in_order}
-use Rattle.redis_batches.specs.Batched.{AreFor}
 use Rattle.redis_batches.specs.Pipeline.{Answer}
 use Rattle.redis_batches.specs.Taken.{answer_of}
 use Rattle.redis_batches.proofs.Entries.{get_there}
+use Rattle.redis_batches.proofs.Putting.{AreFor}
 
 -- what is found in a list is within it
 pub within : {X : Type 0} (xs : List X) (n : ℕ) (x : X) → slice_get xs n ≡ Some x → n < length xs

@@ -16,7 +16,7 @@ use Rattle.redis_cluster.proofs.Counts.{same_number}
 use Rattle.redis_batches.specs.Served.{Agree, Effect, IsLocal}
 use Rattle.redis_batches.specs.Turns.{all_after, answers, of_slot}
 use Rattle.redis_batches.specs.Pipeline.{Answer, AreSlotsOf, Numbered, Part, Planned, Refusals, Serve, ended, ended_answers, numbered, pieces, refused_by, slot_of}
-use Rattle.redis_batches.specs.Batched.{AreFor, IsRight}
+use Rattle.redis_batches.specs.Batched.{IsRight}
 use Rattle.redis_batches.specs.Rounds.{Round, is_among}
 use Rattle.redis_batches.specs.Taken.{answer_of}
 use Rattle.redis_batches.specs.Sent.{AreApart, AreLast}
@@ -27,6 +27,7 @@ use Rattle.redis_batches.proofs.Refused.{ended_local}
 use Rattle.redis_batches.proofs.Schedule.{answers_alone, slot_alone}
 use Rattle.redis_batches.proofs.Sends.{all_left, all_right, all_unmap, answers_numbers, answers_whose, are_for, each_number, length-answers, same_list}
 use Rattle.redis_batches.proofs.Whole.{all_after-append, answers-append, pieces_local, piece_of}
+use Rattle.redis_batches.proofs.Putting.{AreFor}
 
 -- which parts are refused after one more round: of its own parts those that it refused, and others as before
 abbrev pub after_round : Refusals → Round → Refusals

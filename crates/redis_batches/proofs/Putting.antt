@@ -1,6 +1,6 @@
 -- Answers are put at their places.
 use Rattle.std.proofs.Common.{◌≡◌, ◌<◌, ◌≤◌, ℕ, ◌+◌, zero, suc, List, [], ◌∷◌, ◌++◌, false, Some, Result, All, refl, sym, ap, ◌∙◌, subst, arith, length, drop, get_or, option_map, map}
-use Rattle.std.specs.Prelude.{nat_eq, slice_get, slice_set}
+use Rattle.std.specs.Prelude.{nat_eq, slice_get, slice_index, slice_set}
 use Rattle.std.proofs.lemmas.Bool.{eqb-true}
 use Rattle.std.proofs.lemmas.List.{drop_more, length-set, length_push, map-set}
 use Rattle.std.proofs.lemmas.List.Elements.{All-cons, All-head, All-nil, All-tail}
@@ -12,7 +12,7 @@ use Rattle.resp_core.specs.declared.value.Value.{Value}
 use Rattle.redis_cluster.proofs.Counts.{same_number}
 use Rattle.redis_cluster.proofs.Sending.{set_here, set_there}
 use Rattle.redis_batches.specs.Pipeline.{Answer}
-use Rattle.redis_batches.specs.Batched.{AreFor, IsRight, put_at}
+use Rattle.redis_batches.specs.Batched.{IsRight, put_at}
 use Rattle.redis_batches.specs.Taken.{answer_of}
 
 -- the elements before the last, and the last
@@ -49,6 +49,11 @@ set_right : (now : List (Result Value ErrorParts)) (place : ℕ) (answer : Resul
 set_right now place answer all room is p was = by_test (nat_eq p place)
     (λ same. let e : p ≡ place = eqb-true p place same in ap (λ q. option_map answer_of (slice_get (slice_set now place answer) q)) e ∙ ap (option_map answer_of) (set_here now place answer room) ∙ is ∙ ap (slice_get all) (sym e))
     (λ apart. ap (option_map answer_of) (set_there now place p answer apart) ∙ was apart)
+
+-- each answer is the one that this list has at its place
+abbrev pub AreFor : List Answer → List ℕ → List (Result Value ErrorParts) → Type 0
+AreFor all places answers = (i : ℕ) → i < length places
+    → option_map answer_of (slice_get answers i) ≡ slice_get all (slice_index places i)
 
 -- answers that are put at their places are right there, and those that were right stay so
 pub put_kept : (out given : List (Result Value ErrorParts)) (places : List ℕ) → All (λ place. place < length out) places → (all : List Answer) → AreFor all places given

@@ -23,13 +23,13 @@ use Rattle.redis_batches.specs.Plan.{Batches}
 use Rattle.redis_batches.specs.declared.nodes.BatchNodes.{Ghosts}
 use Rattle.redis_cluster.specs.Trace.{Entry}
 use Rattle.redis_batches.proofs.Entries.{own_entries, entries_agree, allowed_append, map_agree_on}
-use Rattle.redis_batches.specs.Batched.{numbers_in, part_entry, put_at, AreBatches, IsRight, AreFor}
+use Rattle.redis_batches.specs.Batched.{numbers_in, part_entry, put_at, AreBatches, IsRight}
 use Rattle.redis_batches.proofs.Errors.{HasError, errors_at_end, errors_of_batch, errors_stay}
 use Rattle.redis_batches.proofs.Given.{not_again}
 use Rattle.redis_batches.proofs.Lists.{all_by_slot}
 use Rattle.redis_batches.proofs.Whole.{all_after-append, answers-append}
 use Rattle.redis_batches.proofs.KeptSlots.{batches_keep_slots}
-use Rattle.redis_batches.proofs.Putting.{put_kept, put_right}
+use Rattle.redis_batches.proofs.Putting.{AreFor, put_kept, put_right}
 use Rattle.redis_batches.proofs.Refused.{refused_leaves, refused_answers}
 use Rattle.redis_batches.proofs.Ends.{with_ends, ends_in_batch, ends_of_batch, ends_before, after_agree, answers_agree}
 use Rattle.redis_batches.proofs.Sends.{all_left, all_right, all_after-map, answers-map, length-answers, picked, numbers_below, one_batch_more, batches_split, are_for, answers_numbers, answers_whose, each_number, same_list, all_unmap}

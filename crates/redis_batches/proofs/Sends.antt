@@ -16,9 +16,9 @@ use Rattle.redis_batches.specs.Served.{Effect}
 use Rattle.resp_core.specs.ErrorParts.{ErrorParts}
 use Rattle.resp_core.specs.declared.value.Value.{Value}
 use Rattle.redis_batches.specs.Pipeline.{Answer, Numbered}
-use Rattle.redis_batches.specs.Batched.{AreFor}
 use Rattle.redis_batches.specs.Taken.{answer_of}
 use Rattle.redis_batches.specs.Turns.{all_after, answers, of_slot, batch_by_batch}
+use Rattle.redis_batches.proofs.Putting.{AreFor}
 
 -- what holds of all holds of the first of them, and of the others
 pub all_left : {X : Type 0} (P : X → Type 0) (xs ys : List X) → All P (xs ++ ys) → All P xs

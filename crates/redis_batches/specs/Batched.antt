@@ -1,5 +1,5 @@
 -- A pipeline in batches, one for each node, and what its replies are.
-use Rattle.std.specs.Prelude.{◌≡◌, ◌<◌, ℕ, List, [], ◌∷◌, Some, Result, map, length, slice_get, slice_index, slice_set, option_map, get_or}
+use Rattle.std.specs.Prelude.{◌≡◌, ◌<◌, ℕ, List, [], ◌∷◌, Some, Result, map, length, slice_get, slice_set, option_map, get_or}
 use Rattle.std.specs.List.{All}
 use Rattle.resp_core.specs.ErrorParts.{ErrorParts}
 use Rattle.resp_core.specs.declared.value.Value.{Value}
@@ -32,11 +32,6 @@ part_entry nodes batch parts refusals x =
 -- what was answered to the part of this number is this list's answer
 abbrev pub IsRight : List (Result Value ErrorParts) → List Answer → ℕ → Type 0
 IsRight out expected number = option_map answer_of (slice_get out number) ≡ slice_get expected number
-
--- each answer is the one that this list has at its place
-abbrev pub AreFor : List Answer → List ℕ → List (Result Value ErrorParts) → Type 0
-AreFor all places answers = (i : ℕ) → i < length places
-    → option_map answer_of (slice_get answers i) ≡ slice_get all (slice_index places i)
 
 -- what stands in a list after these were put at these places of it
 abbrev pub put_at : {X : Type 0} → List X → List ℕ → List X → List X

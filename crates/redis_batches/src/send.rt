@@ -66,10 +66,10 @@ pub(super) fn send_batches<N: BatchNodes>(
     requires order { NamesOnce (length plan.old.batches.places) order.now }
     requires batches { (ps : List Planned) × All (λ p. AreSlotsOf p.task p.slots) ps
         × AreBatches (N.registered nodes.old) ps plan.old.batches.parts plan.old.batches.places }
-    ensures sent { OnOk result (AreBatchesSent ⟦<N as BatchNodes>⟧ nodes.old nodes.new plan.old.batches order.now
-        (map answer_of plan.new.batches.answers)) }
-    ensures stopped { IfErr result (λ stop.
-        AreBatchesStopped ⟦<N as BatchNodes>⟧ nodes.old nodes.new plan.old.batches order.now stop) }
+    ensures sent { OnOk result (AreBatchesSent ⟦<N as BatchNodes>⟧ nodes.old nodes.new
+        plan.old.batches order.now (map answer_of plan.new.batches.answers)) }
+    ensures stopped { IfErr result (λ stop. AreBatchesStopped ⟦<N as BatchNodes>⟧
+        nodes.old nodes.new plan.old.batches order.now stop) }
     ensures room { length plan.new.batches.answers ≡ length plan.old.batches.parts }
     ensures same { IsSameBut plan.old plan.new }
     ensures frame { SameNodes ⟦<N as BatchNodes>⟧ nodes.old nodes.new }

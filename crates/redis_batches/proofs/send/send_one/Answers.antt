@@ -10,7 +10,9 @@ use Rattle.redis_batches.specs.Driven.{Grew, WereAskedUntil, batch_at, node_at}
 use Rattle.redis_batches.specs.Plan.{Batches, IsPlan}
 use Rattle.redis_batches.proofs.Asked.{asked_none, none_more}
 use Rattle.redis_batches.proofs.Entries.{get_there}
+use Rattle.redis_batches.proofs.send.send_one.Given.{Over}
 use Rattle.redis_batches.proofs.send.send_one.Goals as goal
+use Rattle.redis_batches.proofs.send.send_one.Goals.{After-as_slice}
 
 -- a batch has a node
 has_node : (plan : Batches) (number : ℕ) → IsPlan plan → number < length plan.places → slice_get plan.nodes number ≡ Some (node_at plan.nodes number)
@@ -23,6 +25,11 @@ own_batch plan number is within node there parts read =
     ap (λ n. batch_for n parts) (same_Some node (node_at plan.nodes number) (sym there ∙ has_node plan number is within))
     ∙ ap (batch_for (node_at plan.nodes number)) (same_Some parts (in_order plan.parts (get_or plan.places number [])) (sym read ∙ ap (option_map (in_order plan.parts)) (get_there plan.places number [] within)))
 
+own : (g : Over) (c : After-as_slice g) → batch_for c.in-Some-node.node.now (map (λ cmd. cmd.now) c.as_slice.result.now) ≡ batch_at c.args.plan.now.batches c.args.number
+own g c =
+    own_batch c.args.plan.now.batches c.args.number c.node.ensures.plan c.requires.within c.in-Some-node.node.now (sym c.node.ensures.node ∙ ap (option_map (λ node. node.now)) c.in-Some-node.is) (map (λ cmd. cmd.now) c.as_slice.result.now)
+    (sym c.in-Ok.ensures.batch ∙ ap (option_map (λ v. map (λ part. part.now) v.items)) c.in-Some.is ∙ ap (λ l. Some (map (λ part. part.now) l)) (sym c.as_slice.ensures.value))
+
 pub unreachable-requires-in_default-node : goal.unreachable-requires-in_default-node
 unreachable-requires-in_default-node g c =
     let there = has_node c.args.plan.now.batches c.args.number c.node.ensures.plan c.requires.within in
@@ -31,29 +38,25 @@ unreachable-requires-in_default-node g c =
 
 pub returns-clause-taken : goal.returns-clause-taken
 returns-clause-taken g c =
-    let own = own_batch c.args.plan.now.batches c.args.number c.node.ensures.plan c.requires.within c.in-Some-node.node.now (sym c.node.ensures.node ∙ ap (option_map (λ node. node.now)) c.in-Some-node.is) (map (λ cmd. cmd.now) c.as_slice.result.now)
-    (sym c.in-Ok.ensures.batch ∙ ap (option_map (λ v. map (λ part. part.now) v.items)) c.in-Some.is ∙ ap (λ l. Some (map (λ part. part.now) l)) (sym c.as_slice.ensures.value)) in
+    let own = own g (goal.at.returns-clause-taken g c).After-as_slice in
     let N = g.N.BatchNodes in
     subst (λ b. IfOk c.send_batch.result (λ answers. IsBatchTaken N c.args.nodes.now c.send_batch.new.self b (map answer_of answers.items))) own c.send_batch.ensures.taken
 
 pub returns-clause-untaken : goal.returns-clause-untaken
 returns-clause-untaken g c =
-    let own = own_batch c.args.plan.now.batches c.args.number c.node.ensures.plan c.requires.within c.in-Some-node.node.now (sym c.node.ensures.node ∙ ap (option_map (λ node. node.now)) c.in-Some-node.is) (map (λ cmd. cmd.now) c.as_slice.result.now)
-    (sym c.in-Ok.ensures.batch ∙ ap (option_map (λ v. map (λ part. part.now) v.items)) c.in-Some.is ∙ ap (λ l. Some (map (λ part. part.now) l)) (sym c.as_slice.ensures.value)) in
+    let own = own g (goal.at.returns-clause-untaken g c).After-as_slice in
     let N = g.N.BatchNodes in
     IfErr-weaker c.send_batch.result _ _ (λ error untaken. subst (λ b. IsBatchNotTaken N c.args.nodes.now c.send_batch.new.self b error) own (inl untaken)) c.send_batch.ensures.untaken
 
 pub returns-clause-asked : goal.returns-clause-asked
 returns-clause-asked g c =
-    let own = own_batch c.args.plan.now.batches c.args.number c.node.ensures.plan c.requires.within c.in-Some-node.node.now (sym c.node.ensures.node ∙ ap (option_map (λ node. node.now)) c.in-Some-node.is) (map (λ cmd. cmd.now) c.as_slice.result.now)
-    (sym c.in-Ok.ensures.batch ∙ ap (option_map (λ v. map (λ part. part.now) v.items)) c.in-Some.is ∙ ap (λ l. Some (map (λ part. part.now) l)) (sym c.as_slice.ensures.value)) in
+    let own = own g (goal.at.returns-clause-asked g c).After-as_slice in
     let N = g.N.BatchNodes in
     subst (λ b. OnOk c.send_batch.result (Grew (N.asked c.args.nodes.now) (N.asked c.send_batch.new.self) (b ∷ []))) own c.send_batch.ensures.asked
 
 pub returns-clause-asked_until : goal.returns-clause-asked_until
 returns-clause-asked_until g c =
-    let own = own_batch c.args.plan.now.batches c.args.number c.node.ensures.plan c.requires.within c.in-Some-node.node.now (sym c.node.ensures.node ∙ ap (option_map (λ node. node.now)) c.in-Some-node.is) (map (λ cmd. cmd.now) c.as_slice.result.now)
-    (sym c.in-Ok.ensures.batch ∙ ap (option_map (λ v. map (λ part. part.now) v.items)) c.in-Some.is ∙ ap (λ l. Some (map (λ part. part.now) l)) (sym c.as_slice.ensures.value)) in
+    let own = own g (goal.at.returns-clause-asked_until g c).After-as_slice in
     let N = g.N.BatchNodes in
     subst (λ b. IfErr c.send_batch.result (λ error. WereAskedUntil (N.asked c.args.nodes.now) (N.asked c.send_batch.new.self) [] b error)) own c.send_batch.ensures.asked_untaken
 
