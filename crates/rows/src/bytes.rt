@@ -1,10 +1,9 @@
 //! Requests as bytes, and where they go.
 mod parts;
-pub mod pipelines;
 pub mod replies;
 pub mod tables;
 
-use crate::fixtures::{bad_row, bytes, cmd, escaped, or_text, push, quoted, shown};
+use fixtures::{bad_row, bytes, cmd, escaped, or_text, push, quoted, shown};
 use resp::{RequestError, RequestFault, read_request, request_len, write_command};
 use resp_core::{Cmd, RedisResult};
 use std::alloc::Global;

@@ -1,7 +1,7 @@
 //! Commands, errors and deep values.
 mod deep;
 
-use crate::fixtures::{bad_row, cmd, debug, escaped, number, quoted, shown, two, words};
+use fixtures::{bad_row, cmd, debug, escaped, number, quoted, shown, two, words};
 use resp_core::{Cmd, ErrorKind, RedisError, RedisResult};
 use std::alloc::Global;
 

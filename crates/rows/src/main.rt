@@ -1,22 +1,16 @@
-//! Answers rows of calls of the libraries. A row names a call, its words and what it returns.
+//! Answers rows of calls that keep no node: of values, bytes, slots, maps, routing and combining. A row
+//! names a call, its words and what it returns.
 #![tactic(auto)]
 
-mod batches;
 mod bytes;
 mod commands;
-mod driving;
-mod fixtures;
 mod maps;
 mod routing;
-mod serving;
 
-use crate::batches::Batches;
-use crate::bytes::pipelines::Pipelines;
-use crate::driving::Driven;
-use crate::fixtures::{Lent, bad_row, run};
 use crate::maps::{Maps, addresses, ranges, slots};
 use crate::routing::{Known, combiners, pipelines};
 use cluster_map::SlotRangeMap;
+use fixtures::{Calls, bad_row, run};
 use redis_bytes::Table;
 use redis_cluster::pipeline::{ClusterPipeline, cluster_pipe};
 use resp_core::RedisResult;
@@ -25,35 +19,15 @@ use std::process::ExitCode;
 
 /// The state that later rows use.
 #[derive(Drop)]
-struct State {
+struct Rows {
     ranges: SlotRangeMap<String>,
     maps: Maps,
     known: Known,
     pipeline: ClusterPipeline,
     table: Table,
-    driven: Driven,
-    strategy: Option<Lent>,
-    batches: Batches,
-    pipelines: Pipelines,
 }
 
-impl State {
-    fn new(alloc: Global) -> State {
-        State {
-            ranges: SlotRangeMap::new(alloc),
-            maps: Maps::new(alloc),
-            known: Known::new(alloc),
-            pipeline: cluster_pipe(alloc),
-            table: bytes::tables::empty(alloc),
-            driven: Driven::new(alloc),
-            strategy: None,
-            batches: Batches::new(alloc),
-            pipelines: Pipelines::new(alloc),
-        }
-    }
-
-    /// What the call of this name returns for the words of its row, below the heading of this
-    /// topic. It may keep state for later rows.
+impl Calls for Rows {
     fn call(&mut self, alloc: Global, topic: &str, name: &str, words: &str) -> RedisResult<String> {
         match topic {
             "commands" => commands::call(alloc, name, words),
@@ -67,16 +41,19 @@ impl State {
             "routing" => routing::call(&mut self.known, alloc, name, words),
             "combining" => combiners::call(alloc, name, words),
             "pipelines" => pipelines::call(&mut self.pipeline, alloc, name, words),
-            "drive" => driving::call(&mut self.driven, alloc, name, words),
-            "serve" => serving::call(&mut self.strategy, alloc, name, words),
-            "batches" => batches::call(&mut self.batches, alloc, name, words),
-            "batch_bytes" => self.pipelines.call(alloc, name, words),
             _ => Err(bad_row("no topic of this name")),
         }
     }
 }
 
 fn main(rt: HostRuntime) -> ExitCode {
-    let mut state = State::new(rt.alloc());
-    run(&rt, &mut state)
+    let alloc = rt.alloc();
+    let mut rows = Rows {
+        ranges: SlotRangeMap::new(alloc),
+        maps: Maps::new(alloc),
+        known: Known::new(alloc),
+        pipeline: cluster_pipe(alloc),
+        table: bytes::tables::empty(alloc),
+    };
+    run(&rt, &mut rows)
 }

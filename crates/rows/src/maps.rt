@@ -4,13 +4,13 @@ pub mod ranges;
 mod shards;
 pub mod slots;
 
-use crate::fixtures::{
-    Cluster, Lent, bad_row, bytes, cmd_text, debug, equality, expanded, joined, lines, map, number,
-    okay, push_next, ranges, shown, shown_or_none, slot_addr, text, two, value,
-};
 use cluster_map::{
     ClusterTopology, ReadRoutingStrategy, Route, SlotAddr, SlotMap, SlotRange, parse_slots,
     slot_cmd,
+};
+use fixtures::{
+    Cluster, Lent, bad_row, bytes, cmd_text, debug, equality, expanded, joined, lines, map, number,
+    okay, push_next, ranges, shown, shown_or_none, slot_addr, text, two, value,
 };
 use resp_core::{RedisResult, Value};
 use std::alloc::Global;

@@ -6,8 +6,8 @@ mod routes;
 mod tables;
 mod texts;
 
-use crate::fixtures::{bytes, equality, plain, read_only_names, shown, two};
 use crate::routing::policies::{pattern, policy};
+use fixtures::{bytes, equality, plain, read_only_names, shown, two};
 use redis_cluster::routing::{Names, ReadOnlyNames, RegisterError, Registry};
 use resp_core::RedisResult;
 use std::alloc::Global;

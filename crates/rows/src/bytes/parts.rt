@@ -1,7 +1,7 @@
 //! Where a request goes, its parts, and the one reply, if no name only reads and none is
 //! registered.
-use crate::fixtures::{bytes, cmd, cut, debug, escaped, number, or_text, piece, two};
 use crate::routing::Known;
+use fixtures::{bytes, cmd, cut, debug, escaped, number, or_text, piece, two};
 use redis_bytes::Parts;
 use redis_routing::RoutingInfo;
 use resp::write_command;

@@ -1,6 +1,6 @@
 //! Replies as bytes.
 use crate::bytes::cuts;
-use crate::fixtures::{
+use fixtures::{
     bad_row, bytes, escaped, nested, number, or_text, quoted, shown, value, value_text,
 };
 use resp::{Fault, ReadError, Response, read, write};

@@ -1,6 +1,6 @@
 //! Tables of slots.
-use crate::fixtures::{bad_row, bytes, escaped, number, or_text, plain, shown, two};
 use cluster_map::SlotAddr;
+use fixtures::{bad_row, bytes, escaped, number, or_text, plain, shown, two};
 use redis_bytes::{NO_NODE, Table, slot_map, slot_table};
 use resp_core::RedisResult;
 use std::alloc::Global;

@@ -1,5 +1,5 @@
 //! Values that are nested deeply, of each shape. Code that recurses down one ends the program.
-use crate::fixtures::{bad_row, number, pieces, two};
+use fixtures::{bad_row, number, pieces, two};
 use resp_core::{RedisResult, Value};
 use std::alloc::Global;
 

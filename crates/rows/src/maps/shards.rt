@@ -1,6 +1,6 @@
 //! Shards, and the topologies that they make.
-use crate::fixtures::{bad_row, cut, lines, number, pieces, plain, push_next, two};
 use cluster_map::{ClusterTopology, NodeAddress, Shard};
+use fixtures::{bad_row, cut, lines, number, pieces, plain, push_next, two};
 use resp_core::RedisResult;
 use std::alloc::Global;
 

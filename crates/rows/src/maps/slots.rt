@@ -1,6 +1,6 @@
 //! Slots of keys, beside remainders by bitwise division.
-use crate::fixtures::{bad_row, bytes, number, two};
 use cluster_map::{Route, SLOT_SIZE, Slot, SlotAddr};
+use fixtures::{bad_row, bytes, number, two};
 use resp_core::RedisResult;
 use std::alloc::Global;
 

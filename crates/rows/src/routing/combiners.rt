@@ -1,7 +1,7 @@
 //! One reply by the replies of several nodes.
-use crate::fixtures::{expanded, outcome_size, outcome_text, two, values};
 use crate::routing::policies::{pattern, routes, routes_of_each};
 use cluster_map::Route;
+use fixtures::{expanded, outcome_size, outcome_text, two, values};
 use redis_cluster::routing::{
     AggregateOp, LogicalAggregateOp, MultiSlotArgPattern, aggregate,
     combine_and_sort_array_results, combine_array_results, combine_map_results, logical_aggregate,

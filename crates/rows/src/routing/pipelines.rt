@@ -1,5 +1,5 @@
 //! Pipelines, and which of them a cluster refuses.
-use crate::fixtures::{bad_row, debug, is_same, kind_and_text, number, plain, shown, two, words};
+use fixtures::{bad_row, debug, is_same, kind_and_text, number, plain, shown, two, words};
 use redis_cluster::pipeline::{ClusterPipeline, UNROUTABLE_ERROR, cluster_pipe};
 use resp_core::{RedisError, RedisResult};
 use std::alloc::Global;

@@ -1,6 +1,6 @@
 //! Patterns, policies and lists of indices, as rows write them.
-use crate::fixtures::{bad_row, numbers, pieces};
 use cluster_map::{Route, SlotAddr};
+use fixtures::{bad_row, numbers, pieces};
 use redis_cluster::routing::{AggregateOp, MultiSlotArgPattern, ResponsePolicy};
 use resp_core::RedisResult;
 use std::alloc::Global;

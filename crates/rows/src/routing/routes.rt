@@ -1,11 +1,11 @@
 //! Commands: where they go, how they are split, and their arguments.
-use crate::fixtures::{
-    bad_row, bytes, bytes_or_none, cmd, cmd_text, equality, kind, number, numbers, plain,
-    shown_or_none, two, value,
-};
 use crate::routing::Known;
 use crate::routing::texts::{routes_text, routing_text};
 use cluster_map::Route;
+use fixtures::{
+    bad_row, bytes, bytes_or_none, cmd, cmd_text, equality, kind, number, numbers, plain,
+    shown_or_none, two, value,
+};
 use redis_cluster::routing::{
     Routable, RoutingInfo, SplitCommand, command_for_multi_slot_indices,
     command_for_multi_slot_indices_with, multi_slot_routes,

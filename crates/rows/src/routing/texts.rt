@@ -1,6 +1,6 @@
 //! Routings as texts.
-use crate::fixtures::{debug, debug_or_none, plain, push_next};
 use cluster_map::Route;
+use fixtures::{debug, debug_or_none, plain, push_next};
 use redis_cluster::routing::{
     MultipleNodeRoutingInfo, ResponsePolicy, RoutingInfo, SingleNodeRoutingInfo,
 };
