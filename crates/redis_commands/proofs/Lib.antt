@@ -1,0 +1,10 @@
+pub mod Running
+pub mod RoutedSplits
+pub mod ByAddress
+pub mod Counts
+pub mod Listed
+pub mod Primaries
+pub mod Whole
+pub mod Nodes
+pub mod Told
+pub mod Splits

@@ -1,0 +1,75 @@
+-- Lists of keys, joined into one array, list the keys of the whole keyspace.
+use Rattle.std.proofs.Common.{◌≡◌, ℕ, Bool, List, [], ◌∷◌, ◌++◌, map, Option, Some, None, refl, sym, ap, subst, ◌∙◌, inl, inr}
+use Rattle.std.specs.Prelude.{option_map, Result, Ok, Err, IfOk}
+use Rattle.resp_core.specs.ErrorParts.{ErrorParts}
+use Rattle.resp_core.specs.Reply.{Reply, array, bulk, replies_of, items_in, array_of}
+use Rattle.resp_core.specs.View.{view}
+use Rattle.resp_core.specs.declared.value.Value.{Value}
+use Rattle.resp_core.specs.declared.error.ErrorKind.TheVariants.{UnexpectedReturnType}
+use Rattle.cluster_slots.specs.Address.{Address}
+use Rattle.cluster_map.specs.RangeMap.{RangeEntry}
+use Rattle.cluster_map.specs.SlotNodes.{SlotNodes}
+use Rattle.redis_combiners.specs.AllItems.{all_items}
+use Rattle.cluster_slots.specs.Lists.{all_some, flatten}
+use Rattle.redis_routing.specs.declared.policy.ResponsePolicy.TheVariants.{CombineArrays}
+use Rattle.redis_cluster.specs.Unsplit.{Keyspace}
+use Rattle.redis_commands.specs.Answers.{Answer, values_in, first_error}
+use Rattle.redis_commands.specs.Policy.{or_refused, reply_by_policy}
+use Rattle.redis_commands.specs.Rule.{ReplyRule, by_policy, IsCombined}
+use Rattle.redis_commands.specs.Targets.{primaries_in}
+use Rattle.redis_commands.specs.Keyspaces.{IsServed, AreMeasures, AreKeysOf, listed_answer, joined_measures}
+use Rattle.redis_commands.proofs.Counts.{lists_add, made_some}
+use Rattle.redis_commands.proofs.Whole.{whole_keyspace}
+
+abbrev joined_lists : List (List (List ℕ)) → List (List ℕ)
+joined_lists ls = joined_measures [] ◌++◌ ls
+
+items_are : (rs : List Reply) → items_in (replies_of rs) ≡ rs
+items_are [] = refl
+items_are (r ∷ rs) = ap (λ xs. r ∷ xs) (items_are rs)
+
+no_errors : (ls : List (List (List ℕ))) → first_error (map listed_answer ls) ≡ None
+no_errors [] = refl
+no_errors (l ∷ ls) = no_errors ls
+
+arrays_are : (ls : List (List (List ℕ))) → all_some (map array_of (values_in (map listed_answer ls))) ≡ Some (map (map bulk) ls)
+arrays_are [] = refl
+arrays_are (l ∷ ls) =
+    ap (λ xs. option_map (λ yss. xs ∷ yss) (all_some (map array_of (values_in (map listed_answer ls))))) (items_are (map bulk l))
+    ∙ ap (option_map (λ yss. map bulk l ∷ yss)) (arrays_are ls)
+
+map_append : (xs ys : List (List ℕ)) → map bulk xs ++ map bulk ys ≡ map bulk (xs ++ ys)
+map_append [] ys = refl
+map_append (x ∷ xs) ys = ap (λ rs. bulk x ∷ rs) (map_append xs ys)
+
+flat_are : (ls : List (List (List ℕ))) → flatten (map (map bulk) ls) ≡ map bulk (joined_lists ls)
+flat_are [] = refl
+flat_are (l ∷ ls) = ap (λ rs. map bulk l ++ rs) (flat_are ls) ∙ map_append l (joined_lists ls)
+
+items_of : (ls : List (List (List ℕ))) → all_items (values_in (map listed_answer ls)) ≡ Some (map bulk (joined_lists ls))
+items_of ls = ap (option_map flatten) (arrays_are ls) ∙ ap Some (flat_are ls)
+
+abbrev as_array : Option (List Reply) → Option Reply
+as_array o = option_map (λ items. array (replies_of items)) o
+
+some_is : (a b : Reply) → Some a ≡ Some b → b ≡ a
+some_is a b h = cc
+
+-- what is made of lists of keys lists the keys of the whole
+of_lists : (targets : List Address) (ls : List (List (List ℕ))) (value : Reply) → reply_by_policy (Some CombineArrays) targets (map listed_answer ls) ≡ Ok value → value ≡ array (replies_of (map bulk (joined_lists ls)))
+of_lists targets ls value made =
+    let plain : reply_by_policy (Some CombineArrays) targets (map listed_answer ls) ≡ or_refused UnexpectedReturnType (as_array (Some (map bulk (joined_lists ls)))) =
+    rw (no_errors ls, items_of ls) refl in
+    some_is (array (replies_of (map bulk (joined_lists ls)))) value (made_some (as_array (Some (map bulk (joined_lists ls)))) value (sym plain ∙ made))
+
+pub listed : (rule : ReplyRule) (targets : List Address) (answers : List Answer) (wanted : List ℕ → Bool) (entries : List (RangeEntry SlotNodes)) (keyspace : Keyspace (Unit {0})) (ls : List (List (List ℕ))) (result : Result Value ErrorParts) →
+    IsCombined rule targets answers result → rule ≡ by_policy (Some CombineArrays) → IsServed entries keyspace →
+    AreMeasures (AreKeysOf wanted) entries keyspace (primaries_in entries) ls → answers ≡ map listed_answer ls →
+    IfOk result (λ value. (keys : List (List ℕ)) × (view value ≡ array (replies_of (map bulk keys))) × AreKeysOf wanted keyspace keys)
+listed rule targets answers wanted entries keyspace ls (Err error) made is served each told = tt
+listed rule targets answers wanted entries keyspace ls (Ok value) made is served each told =
+    let whole = subst (λ answers. IsCombined (by_policy (Some CombineArrays)) targets answers (Ok value)) told (subst (λ r. IsCombined r targets answers (Ok value)) is made) in
+    elim whole [
+      | inl memory ↦ absurd (cc (memory.0))
+      | inr reply ↦ (joined_lists ls, of_lists targets ls (view value) reply, whole_keyspace (AreKeysOf wanted) [] ◌++◌ (lists_add wanted) entries keyspace served ls each)
+    ]

@@ -1,0 +1,157 @@
+-- Answers, if no target is missing.
+use Rattle.std.proofs.Common.{◌≡◌, ◌⊎◌, inl, inr, ◌+◌, ℕ, List, [], ◌∷◌, ◌++◌, true, false, Option, Some, None, Ok, Err, map, length, refl, sym, ap, subst, ◌∙◌, arith, append_assoc, length-append}
+use Rattle.std.specs.Prelude.{IfErr, OnOk, MatchOption, MatchResult, Result, is_none, slice_get, slice_set}
+use Rattle.std.specs.Result.{is_err}
+use Rattle.std.proofs.lemmas.List.{append-nil, map-append}
+use Rattle.std.specs.List.{list_any}
+use Rattle.resp_core.specs.ErrorParts.{ErrorParts, out_of_memory}
+use Rattle.cluster_slots.specs.Address.{Address}
+use Rattle.resp_core.specs.View.{view}
+use Rattle.resp_core.specs.declared.value.Value.{Value}
+use Rattle.redis_routing.specs.Split.{Split}
+use Rattle.redis_routing.specs.declared.policy.ResponsePolicy.TheVariants.{CombineArrays}
+use Rattle.redis_cluster.specs.Plan.{Plan, IsMadeOfParts}
+use Rattle.redis_commands.specs.Rule.{of_parts, takes_memory, IsCombined, IsJoinedOf, IsReplyBy}
+use Rattle.redis_commands.specs.Answers.{Answer, answers_in, values_in, first_error}
+
+-- without an error there is a value of each target
+pub value_of_each : (told : List (Option (Result Value ErrorParts))) → list_any is_none told ≡ false → first_error (answers_in told) ≡ None → length (values_in (answers_in told)) ≡ length told
+value_of_each [] all none = refl
+value_of_each (None ∷ told) all none = absurd (cc all)
+value_of_each (Some (Ok value) ∷ told) all none = let more : length (values_in (answers_in told)) ≡ length told = value_of_each told all none in omega (arith, more)
+value_of_each (Some (Err error) ∷ told) all none = absurd (cc none)
+
+-- the replies of a split command, after the first parts have answered
+abbrev pub replies_after : List Value → List (Option (Result Value ErrorParts)) → List (Option Value)
+replies_after values rest = map Some values ++ map (λ part. None) rest
+
+-- the next part has not answered
+pub next_untold : (values : List Value) (part : Option (Result Value ErrorParts)) (rest : List (Option (Result Value ErrorParts))) → slice_get (replies_after values (part ∷ rest)) (length values) ≡ Some None
+next_untold [] part rest = refl
+next_untold (v ∷ values) part rest = next_untold values part rest
+
+-- the replies after it has
+pub next_told : (values : List Value) (value : Value) (part : Option (Result Value ErrorParts)) (rest : List (Option (Result Value ErrorParts))) → slice_set (replies_after values (part ∷ rest)) (length values) (Some value) ≡ replies_after (values ++ value ∷ []) rest
+next_told [] value part rest = refl
+next_told (v ∷ values) value part rest = ap (λ rs. Some v ∷ rs) (next_told values value part rest)
+
+-- the answers of the first parts are values, and the plan of the split command has them
+pub record AreSoFar (split : Split) (told : List (Option (Result Value ErrorParts))) (plan : Plan) (number : ℕ) (rest : List (Option (Result Value ErrorParts))) : Type 0 where
+  pub values : List Value
+  pub split_is : plan.split ≡ split
+  pub replies_are : plan.replies ≡ replies_after values rest
+  pub number_is : length values ≡ number
+  pub count : number + length rest ≡ length told
+  pub answers_are : answers_in told ≡ map (λ v. Ok (view v)) values ++ answers_in rest
+  pub all : list_any is_none rest ≡ false
+
+-- values have no error
+no_error_before : (values : List Value) (answers : List Answer) → first_error (map (λ v. Ok (view v)) values ++ answers) ≡ first_error answers
+no_error_before [] answers = refl
+no_error_before (v ∷ values) answers = no_error_before values answers
+
+no_error : (values : List Value) → first_error (map (λ v. Ok (view v)) values) ≡ None
+no_error [] = refl
+no_error (v ∷ values) = no_error values
+
+each_value : (values : List Value) → values_in (map (λ v. Ok (view v)) values) ≡ map view values
+each_value [] = refl
+each_value (v ∷ values) = ap (λ vs. view v ∷ vs) (each_value values)
+
+abbrev none_of : (Z : Type 0) → Option Z
+none_of Z = None
+
+none_for_each : {X Y Z : Type 0} (xs : List X) (ys : List Y) → length xs ≡ length ys → map (λ x. none_of Z) xs ≡ map (λ y. none_of Z) ys
+none_for_each [] [] long = refl
+none_for_each [] (y ∷ ys) long = absurd (omega (arith, long))
+none_for_each (x ∷ xs) [] long = absurd (omega (arith, long))
+none_for_each (x ∷ xs) (y ∷ ys) long = ap (λ zs. None ∷ zs) (none_for_each xs ys (omega (arith, long)))
+
+-- before the first part
+pub none_so_far : (plan : Plan) (told rest : List (Option (Result Value ErrorParts))) → rest ≡ told → length told ≡ length plan.split.routes → plan.replies ≡ map (λ route. None) plan.split.routes → list_any is_none told ≡ false → AreSoFar plan.split told plan 0 rest
+none_so_far plan told rest same long untouched all = record {
+  values = [];
+  split_is = refl;
+  replies_are = untouched ∙ none_for_each plan.split.routes told (sym long) ∙ ap (map (λ part. None)) (sym same);
+  number_is = refl;
+  count = omega (arith, ap length same);
+  answers_are = ap answers_in (sym same);
+  all = ap (list_any is_none) same ∙ all;
+}
+
+module _ (split : Split) (told : List (Option (Result Value ErrorParts))) (plan : Plan) (number : ℕ) (rest later : List (Option (Result Value ErrorParts))) (so : AreSoFar split told plan number rest) where
+  -- the next part has not answered
+  pub still_untold : (part : Option (Result Value ErrorParts)) → rest ≡ part ∷ later → slice_get plan.replies number ≡ Some None
+  still_untold part first =
+      ap (λ rs. slice_get rs number) (so.replies_are ∙ ap (replies_after so.values) first)
+      ∙ ap (slice_get (replies_after so.values (part ∷ later))) (sym so.number_is)
+      ∙ next_untold so.values part later
+
+  -- and then it has
+  pub one_more : (value : Value) (new : Plan) → rest ≡ Some (Ok value) ∷ later → new.split ≡ plan.split → new.replies ≡ slice_set plan.replies number (Some value) → AreSoFar split told new (number + 1) later
+  one_more value new first same set = record {
+    values = so.values ++ value ∷ [];
+    split_is = same ∙ so.split_is;
+    replies_are =
+        set ∙ ap (λ rs. slice_set rs number (Some value)) (so.replies_are ∙ ap (replies_after so.values) first)
+        ∙ ap (λ n. slice_set (replies_after so.values (Some (Ok value) ∷ later)) n (Some value)) (sym so.number_is)
+        ∙ next_told so.values value (Some (Ok value)) later;
+    number_is = length-append so.values (value ∷ []) ∙ ap (λ n. n + 1) so.number_is;
+    count = omega (arith, so.count, ap length first);
+    answers_are =
+        so.answers_are ∙ ap (λ r. map (λ v. Ok (view v)) so.values ++ answers_in r) first
+        ∙ sym (append_assoc (map (λ v. Ok (view v)) so.values) (Ok (view value) ∷ []) (answers_in later))
+        ∙ ap (λ os. os ++ answers_in later) (sym (map-append (λ v. Ok (view v)) so.values (value ∷ [])));
+    all = sym (ap (list_any is_none) first) ∙ so.all;
+  }
+
+  -- the next one answered an error, which is the first
+  pub stopped : (error : ErrorParts) → rest ≡ Some (Err error) ∷ later → first_error (answers_in told) ≡ Some error
+  stopped error first =
+      ap first_error (so.answers_are ∙ ap (λ r. map (λ v. Ok (view v)) so.values ++ answers_in r) first)
+      ∙ no_error_before so.values (Err error ∷ answers_in later)
+
+  -- all have answered values
+  pub all_replies : rest ≡ [] → plan.replies ≡ map Some so.values
+  all_replies none = so.replies_are ∙ ap (replies_after so.values) none ∙ append-nil (map Some so.values)
+
+  pub all_answers : rest ≡ [] → answers_in told ≡ map (λ v. Ok (view v)) so.values
+  all_answers none = so.answers_are ∙ ap (λ r. map (λ v. Ok (view v)) so.values ++ answers_in r) none ∙ append-nil (map (λ v. Ok (view v)) so.values)
+
+-- the one reply of a split command is joined of the values
+pub joined : (split own : Split) (targets : List Address) (answers : List Answer) (values : List Value) (result : Result Value ErrorParts) → own ≡ split → answers ≡ map (λ v. Ok (view v)) values →
+    MatchResult result (λ value. IsMadeOfParts own (map view values) (Ok (view value)))
+    (λ error. ((error ≡ out_of_memory) × (own.policy ≡ CombineArrays)) ⊎ IsMadeOfParts own (map view values) (Err error.kind)) →
+    IsCombined (of_parts split) targets answers result
+joined split own targets answers values result same are made = by result made
+  where
+    at_split : (P : Split → Type 0) → P own → P split
+    at_split P holds = subst P same holds
+
+    reply : (r : Result Value ErrorParts) → IsJoinedOf split (map view values) r → IsReplyBy (of_parts split) targets answers r
+    reply r is =
+        let none : first_error answers ≡ None = ap first_error are ∙ no_error values in
+        let all : values_in answers ≡ map view values = ap values_in are ∙ each_value values in
+        subst (λ o. MatchOption o (IsJoinedOf split (values_in answers) r) (λ error. r ≡ Err error)) (sym none)
+        (subst (λ vs. IsJoinedOf split vs r) (sym all) is)
+
+    by : (r : Result Value ErrorParts) → MatchResult r (λ value. IsMadeOfParts own (map view values) (Ok (view value)))
+        (λ error. ((error ≡ out_of_memory) × (own.policy ≡ CombineArrays)) ⊎ IsMadeOfParts own (map view values) (Err error.kind)) → IsCombined (of_parts split) targets answers r
+    by (Ok value) is = inr (reply (Ok value) (at_split (λ s. IsMadeOfParts s (map view values) (Ok (view value))) is))
+    by (Err error) (inl memory) = inl (ap Err memory.0, ap (λ p. takes_memory (of_parts (record { arguments = split.arguments; routes = split.routes; pattern = split.pattern; policy = p }))) (at_split (λ s. s.policy ≡ CombineArrays) memory.1))
+    by (Err error) (inr is) = inr (reply (Err error) (at_split (λ s. IsMadeOfParts s (map view values) (Err error.kind)) is))
+
+-- the reply of a split command is the first error, if there is one
+pub only_error : (split : Split) (targets : List Address) (answers : List Answer) (error : ErrorParts) → first_error answers ≡ Some error → IsReplyBy (of_parts split) targets answers (Err error)
+only_error split targets answers error is =
+    let returned : Result Value ErrorParts = Err error in
+    subst (λ o. MatchOption o (IsJoinedOf split (values_in answers) returned) (λ e. returned ≡ Err e)) (sym is) (ap Err refl)
+
+-- what holds of the error, or of a success
+pub err_there : {T E : Type 0} (P : E → Type 0) (r : Result T E) → is_err r ≡ true → IfErr r P → (e : E) × P e
+err_there P (Ok x) is holds = absurd (cc is)
+err_there P (Err e) is holds = (e, holds)
+
+pub ok_there : {T E : Type 0} (P : Type 0) (r : Result T E) → is_err r ≡ false → OnOk r P → P
+ok_there P (Ok x) is holds = holds
+ok_there P (Err e) is holds = absurd (cc is)

@@ -1,0 +1,78 @@
+use Rattle.std.proofs.Common.{◌≡◌, None, Some, true, ap, sym, ◌∙◌, subst, length, replicate, rules}
+use Rattle.redis_routing.specs.Names.{names_in}
+use Rattle.redis_routing.specs.RoutingInfo.{as_routing, route_lists}
+use Rattle.redis_cluster.specs.MultiKey.{part_by_slot}
+use Rattle.redis_commands.specs.Rule.{rule_of}
+use Rattle.redis_commands.specs.Targets.{IsCommandPlanFault, is_slotless}
+use Rattle.redis_commands.proofs.Nodes.{no_node, no_primary, one_for_each}
+use Rattle.redis_commands.proofs.Splits.{as_split, if_err, if_err_and, parts_sent, same_routes, same_rule, several_fault, split_fault, split_targets}
+use Rattle.redis_commands.proofs.ways.way_of.Goals as goal
+
+pub returns-in_err-plan-in-MultiSlot-clause-fault :
+    goal.returns-in_err-plan-in-MultiSlot-clause-fault
+returns-in_err-plan-in-MultiSlot-clause-fault g c =
+    let entries = c.args.slot_map.now in
+    let names = names_in c.args.names in
+    let args = g.R.Routable.args c.args.command.now in
+    let m = c.in-MultiNode in
+    let parts = c.in-MultiSlot.field-0 in
+    let to = as_split c.args.info.now m.many m.policy parts m.is c.in-MultiSlot.is in
+    let err = c.in_err-plan-in-MultiSlot in
+    if_err_and _ _ c.from_residual-in_err-plan-in-MultiSlot.result c.from_residual-in_err-plan-in-MultiSlot.ensures.1
+    (λ fault is. subst (IsCommandPlanFault entries names args) (sym is)
+    (split_fault entries names args (route_lists parts.0.items) parts.1 m.policy (c.requires.routed ∙ ap Some to) err.field-0.0 err.ensures.fault))
+
+pub returns-in_ok-addresses_for_all_nodes-in-AllNodes-clause-fault :
+    goal.returns-in_ok-addresses_for_all_nodes-in-AllNodes-clause-fault
+returns-in_ok-addresses_for_all_nodes-in-AllNodes-clause-fault g c =
+    let entries = c.args.slot_map.now in
+    let slotless : is_slotless (as_routing c.args.info.now) ≡ true = search rules in
+    let found = c.in_ok-addresses_for_all_nodes-in-AllNodes in
+    if_err _ _ c.several.result c.several.ensures.fault
+    (several_fault entries (names_in c.args.names) (g.R.Routable.args c.args.command.now) (as_routing c.args.info.now) found.field-0.items c.requires.routed slotless
+    (no_node entries found.field-0.items found.ensures.all))
+
+pub returns-in_ok-addresses_for_all_primaries-in-AllMasters-clause-fault :
+    goal.returns-in_ok-addresses_for_all_primaries-in-AllMasters-clause-fault
+returns-in_ok-addresses_for_all_primaries-in-AllMasters-clause-fault g c =
+    let entries = c.args.slot_map.now in
+    let slotless : is_slotless (as_routing c.args.info.now) ≡ true = search rules in
+    let found = c.in_ok-addresses_for_all_primaries-in-AllMasters in
+    if_err _ _ c.several-in-AllMasters.result c.several-in-AllMasters.ensures.fault
+    (several_fault entries (names_in c.args.names) (g.R.Routable.args c.args.command.now) (as_routing c.args.info.now) found.field-0.items c.requires.routed slotless
+    (no_primary entries found.field-0.items found.ensures.all))
+
+pub returns-in_ok-answers-in-MultiSlot-clause-targets :
+    goal.returns-in_ok-answers-in-MultiSlot-clause-targets
+returns-in_ok-answers-in-MultiSlot-clause-targets g c =
+    let m = c.in-MultiNode in
+    let parts = c.in-MultiSlot.field-0 in
+    let planned = c.in_ok-plan-in-MultiSlot in
+    let to = as_split c.args.info.now m.many m.policy parts m.is c.in-MultiSlot.is in
+    let routes = same_routes (names_in c.args.names) (g.R.Routable.args c.args.command.now) (route_lists parts.0.items) parts.1 m.policy (c.requires.routed ∙ ap Some to) planned.plan.split planned.ensures.routes in
+    split_targets c.args.strategy (λ s. (goal.ReadRoutingStrategy-dyn g s.now).picks s.now.1) c.args.slot_map.now c.args.pick (as_routing c.args.info.now) planned.plan.split.routes (route_lists parts.0.items) parts.1 m.policy planned.plan.nodes to routes planned.ensures.nodes
+
+pub returns-in_ok-answers-in-MultiSlot-clause-rule :
+    goal.returns-in_ok-answers-in-MultiSlot-clause-rule
+returns-in_ok-answers-in-MultiSlot-clause-rule g c =
+    let args = g.R.Routable.args c.args.command.now in
+    let m = c.in-MultiNode in
+    let parts = c.in-MultiSlot.field-0 in
+    let planned = c.in_ok-plan-in-MultiSlot in
+    let new = planned.ensures in
+    let to = as_split c.args.info.now m.many m.policy parts m.is c.in-MultiSlot.is in
+    same_rule (names_in c.args.names) args (route_lists parts.0.items) parts.1 m.policy (c.requires.routed ∙ ap Some to) planned.plan.split new.arguments new.routes new.pattern new.policy
+    ∙ ap (rule_of args) (sym to)
+
+pub returns-in_ok-answers-in-MultiSlot-clause-sent :
+    goal.returns-in_ok-answers-in-MultiSlot-clause-sent
+returns-in_ok-answers-in-MultiSlot-clause-sent g c =
+    let planned = c.in_ok-plan-in-MultiSlot in
+    parts_sent (part_by_slot c.args.names.registry.now (g.R.Routable.args c.args.command.now)) planned.plan.split.routes planned.plan.parts planned.ensures.parts
+
+pub returns-in_ok-answers-in-MultiSlot-clause-untold :
+    goal.returns-in_ok-answers-in-MultiSlot-clause-untold
+returns-in_ok-answers-in-MultiSlot-clause-untold g c =
+    let nodes = c.in_ok-plan-in-MultiSlot.plan.nodes in
+    let many : c.len.result ≡ length nodes = c.len.ensures.len ∙ sym c.len.ensures.plan.nodes in
+    c.in_ok-answers-in-MultiSlot.ensures ∙ ap (λ n. replicate n None) many ∙ one_for_each None nodes

@@ -1,0 +1,10 @@
+pub mod Answers
+pub mod Policy
+pub mod Rule
+pub mod Planned
+pub mod Targets
+pub mod Keyspaces
+pub mod FaultText
+pub mod Part
+pub mod Way
+pub mod SplitFault

@@ -1,0 +1,160 @@
+ghost use Rattle.std.specs.Prelude.{◌≡◌, ◌⊎◌, List, map, length, true, false, Option, Some, None, Ok, Err, MatchResult, filter_map, IfOk, is_none};
+ghost use Rattle.std.specs.List.{list_any};
+ghost use Rattle.resp_core.specs.ErrorParts.{out_of_memory};
+ghost use Rattle.resp_core.specs.Reply.{nil};
+ghost use Rattle.resp_core.specs.View.{view};
+ghost use Rattle.resp_core.specs.declared.error.ErrorKind.TheVariants.{Client};
+ghost use Rattle.cluster_map.specs.Targets.{addresses_behind};
+ghost use Rattle.redis_commands.specs.Answers.{unless_nil, answers_in, first_in, values_in, non_nil_in, first_error, last_error};
+ghost use Rattle.redis_commands.specs.Policy.{Returns, reply_or, unless_error, or_refused, refused, by_address};
+ghost use Rattle.redis_commands.specs.Rule.{IsCombined, by_policy};
+
+use cluster_slots::NodeAddress;
+use redis_combiners::{aggregate, combine_array_results, combine_map_results, logical_aggregate};
+use redis_routing::ResponsePolicy;
+use resp_core::{ErrorKind, RedisError, RedisResult, Value};
+use std::alloc::{AllocError, Global};
+
+/// The one reply that a policy makes of the answers, one of each node, in the order of the nodes.
+pub(crate) fn combine_by_policy(
+    alloc: Global,
+    policy: Option<ResponsePolicy>,
+    nodes: &[&NodeAddress],
+    told: Vec<Option<RedisResult<Value>>>,
+) -> RedisResult<Value>
+    requires each { length nodes.now ≡ length told.items }
+    requires all { list_any is_none told.items ≡ false }
+    ensures { IsCombined (by_policy policy) (addresses_behind nodes.now) (answers_in told.items)
+        result }
+{
+    match policy {
+        Some(ResponsePolicy::OneSucceeded) => first_value(told),
+        Some(ResponsePolicy::FirstSucceededNonEmptyOrAllEmpty) => first_non_nil(told),
+        Some(ResponsePolicy::AllSucceeded) => first_of_all(told),
+        Some(ResponsePolicy::Aggregate(op)) => aggregate(all_values(alloc, told)?, op),
+        Some(ResponsePolicy::AggregateLogical(op)) => {
+            logical_aggregate(alloc, all_values(alloc, told)?, op)
+        }
+        Some(ResponsePolicy::CombineArrays) => {
+            combine_array_results(alloc, all_values(alloc, told)?)
+        }
+        Some(ResponsePolicy::CombineMaps) => combine_map_results(alloc, all_values(alloc, told)?),
+        Some(ResponsePolicy::Special) | None => {
+            let values = all_values(alloc, told)?;
+            Ok(by_address(alloc, nodes, values)?)
+        }
+    }
+}
+
+/// The first value, or else the last error.
+#[tactic(auto, using(crate::proofs::Running::later_of_none, crate::proofs::Running::later_again))]
+fn first_value(told: Vec<Option<RedisResult<Value>>>) -> RedisResult<Value>
+    ensures { Returns result (reply_or (first_in (values_in (answers_in told.items)))
+        (last_error (answers_in told.items)) (Err (refused Client))) }
+{
+    let mut last = None;
+    for answer in told {
+        match answer {
+            Some(Ok(value)) => return Ok(value),
+            Some(Err(error)) => last = Some(error),
+            None => {}
+        }
+    }
+    match last {
+        Some(error) => Err(error),
+        None => Err(RedisError::from((ErrorKind::Client, "no node was asked"))),
+    }
+}
+
+/// The first value that is not nil, or else the last error, or else nil.
+#[tactic(auto, using(crate::proofs::Running::later_of_none, crate::proofs::Running::later_again))]
+fn first_non_nil(told: Vec<Option<RedisResult<Value>>>) -> RedisResult<Value>
+    ensures { Returns result
+        (reply_or (first_in (filter_map non_nil_in (answers_in told.items)))
+        (last_error (answers_in told.items)) (Ok nil)) }
+{
+    let mut last = None;
+    for answer in told {
+        match answer {
+            Some(Ok(value)) => {
+                if !is_nil(&value) {
+                    return Ok(value);
+                }
+            }
+            Some(Err(error)) => last = Some(error),
+            None => {}
+        }
+    }
+    match last {
+        Some(error) => Err(error),
+        None => Ok(Value::Nil),
+    }
+}
+
+/// Whether the value is nil.
+fn is_nil(value: &Value) -> bool
+    ensures { result ≡ is_none (unless_nil (view value.now)) }
+{
+    matches!(value, Value::Nil)
+}
+
+/// The first value, unless there is an error: then the first error.
+fn first_of_all(told: Vec<Option<RedisResult<Value>>>) -> RedisResult<Value>
+    ensures { Returns result (unless_error (first_error (answers_in told.items))
+        (or_refused Client (first_in (values_in (answers_in told.items))))) }
+{
+    let mut first = None;
+    for answer in told {
+        match answer {
+            Some(Ok(value)) => {
+                if first.is_none() {
+                    first = Some(value);
+                }
+            }
+            Some(Err(error)) => return Err(error),
+            None => {}
+        }
+    }
+    match first {
+        Some(value) => Ok(value),
+        None => Err(RedisError::from((ErrorKind::Client, "no node was asked"))),
+    }
+}
+
+/// The values, or else the first error.
+fn all_values(alloc: Global, told: Vec<Option<RedisResult<Value>>>) -> RedisResult<Vec<Value>>
+    ensures { MatchResult result
+        (λ values. (first_error (answers_in told.items) ≡ None)
+        × (map view values.items ≡ values_in (answers_in told.items)))
+        (λ error. (error ≡ out_of_memory) ⊎ (first_error (answers_in told.items) ≡ Some error)) }
+{
+    let mut values = Vec::with_capacity(alloc, told.len())?;
+    for answer in told {
+        match answer {
+            Some(Ok(value)) => values.push(value)?,
+            Some(Err(error)) => return Err(error),
+            None => {}
+        }
+    }
+    Ok(values)
+}
+
+/// Each node's address as text, with its value.
+fn by_address(
+    alloc: Global,
+    nodes: &[&NodeAddress],
+    values: Vec<Value>,
+) -> Result<Value, AllocError>
+    requires { length nodes.now ≡ length values.items }
+    ensures { IfOk result (λ value. view value
+        ≡ by_address (addresses_behind nodes.now) (map view values.items)) }
+{
+    let mut entries = Vec::with_capacity(alloc, values.len())?;
+    let mut number = 0_usize;
+    for value in values {
+        let text = format!(in alloc; "{}", nodes[number])?;
+        entries.push((Value::BulkString(text.into_bytes()), value))?;
+        number += 1;
+    }
+    Ok(Value::Map(entries))
+}

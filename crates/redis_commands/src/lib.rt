@@ -1,0 +1,15 @@
+//! One plan for every command: the nodes that a command goes to, what each is sent, and the one reply
+//! that their answers make.
+#![tactic(auto)]
+
+mod answers;
+mod combining;
+mod fault;
+mod part;
+mod plan;
+mod target;
+mod ways;
+
+pub use fault::CommandPlanFault;
+pub use part::CommandPart;
+pub use plan::CommandPlan;
