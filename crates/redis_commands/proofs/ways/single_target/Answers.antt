@@ -6,8 +6,7 @@ use Rattle.redis_commands.specs.Targets.{is_slotless}
 use Rattle.redis_commands.proofs.Splits.{if_err, several_fault}
 use Rattle.redis_commands.proofs.ways.single_target.Goals as goal
 
-pub returns-in_ok-addresses_for_all_nodes-in-Random-clause-fault :
-    goal.returns-in_ok-addresses_for_all_nodes-in-Random-clause-fault
+pub returns-in_ok-addresses_for_all_nodes-in-Random-clause-fault : goal.returns-in_ok-addresses_for_all_nodes-in-Random-clause-fault
 returns-in_ok-addresses_for_all_nodes-in-Random-clause-fault g c =
     let entries = c.args.slot_map.now in
     let nodes = c.in_ok-addresses_for_all_nodes-in-Random.field-0.items in

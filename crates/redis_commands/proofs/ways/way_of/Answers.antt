@@ -8,8 +8,7 @@ use Rattle.redis_commands.proofs.Nodes.{no_node, no_primary, one_for_each}
 use Rattle.redis_commands.proofs.Splits.{as_split, if_err, if_err_and, parts_sent, same_routes, same_rule, several_fault, split_fault, split_targets}
 use Rattle.redis_commands.proofs.ways.way_of.Goals as goal
 
-pub returns-in_err-plan-in-MultiSlot-clause-fault :
-    goal.returns-in_err-plan-in-MultiSlot-clause-fault
+pub returns-in_err-plan-in-MultiSlot-clause-fault : goal.returns-in_err-plan-in-MultiSlot-clause-fault
 returns-in_err-plan-in-MultiSlot-clause-fault g c =
     let entries = c.args.slot_map.now in
     let names = names_in c.args.names in
@@ -22,8 +21,7 @@ returns-in_err-plan-in-MultiSlot-clause-fault g c =
     (λ fault is. subst (IsCommandPlanFault entries names args) (sym is)
     (split_fault entries names args (route_lists parts.0.items) parts.1 m.policy (c.requires.routed ∙ ap Some to) err.field-0.0 err.ensures.fault))
 
-pub returns-in_ok-addresses_for_all_nodes-in-AllNodes-clause-fault :
-    goal.returns-in_ok-addresses_for_all_nodes-in-AllNodes-clause-fault
+pub returns-in_ok-addresses_for_all_nodes-in-AllNodes-clause-fault : goal.returns-in_ok-addresses_for_all_nodes-in-AllNodes-clause-fault
 returns-in_ok-addresses_for_all_nodes-in-AllNodes-clause-fault g c =
     let entries = c.args.slot_map.now in
     let slotless : is_slotless (as_routing c.args.info.now) ≡ true = search rules in
@@ -32,8 +30,7 @@ returns-in_ok-addresses_for_all_nodes-in-AllNodes-clause-fault g c =
     (several_fault entries (names_in c.args.names) (g.R.Routable.args c.args.command.now) (as_routing c.args.info.now) found.field-0.items c.requires.routed slotless
     (no_node entries found.field-0.items found.ensures.all))
 
-pub returns-in_ok-addresses_for_all_primaries-in-AllMasters-clause-fault :
-    goal.returns-in_ok-addresses_for_all_primaries-in-AllMasters-clause-fault
+pub returns-in_ok-addresses_for_all_primaries-in-AllMasters-clause-fault : goal.returns-in_ok-addresses_for_all_primaries-in-AllMasters-clause-fault
 returns-in_ok-addresses_for_all_primaries-in-AllMasters-clause-fault g c =
     let entries = c.args.slot_map.now in
     let slotless : is_slotless (as_routing c.args.info.now) ≡ true = search rules in
@@ -42,8 +39,7 @@ returns-in_ok-addresses_for_all_primaries-in-AllMasters-clause-fault g c =
     (several_fault entries (names_in c.args.names) (g.R.Routable.args c.args.command.now) (as_routing c.args.info.now) found.field-0.items c.requires.routed slotless
     (no_primary entries found.field-0.items found.ensures.all))
 
-pub returns-in_ok-answers-in-MultiSlot-clause-targets :
-    goal.returns-in_ok-answers-in-MultiSlot-clause-targets
+pub returns-in_ok-answers-in-MultiSlot-clause-targets : goal.returns-in_ok-answers-in-MultiSlot-clause-targets
 returns-in_ok-answers-in-MultiSlot-clause-targets g c =
     let m = c.in-MultiNode in
     let parts = c.in-MultiSlot.field-0 in
@@ -52,8 +48,7 @@ returns-in_ok-answers-in-MultiSlot-clause-targets g c =
     let routes = same_routes (names_in c.args.names) (g.R.Routable.args c.args.command.now) (route_lists parts.0.items) parts.1 m.policy (c.requires.routed ∙ ap Some to) planned.plan.split planned.ensures.routes in
     split_targets c.args.strategy (λ s. (goal.ReadRoutingStrategy-dyn g s.now).picks s.now.1) c.args.slot_map.now c.args.pick (as_routing c.args.info.now) planned.plan.split.routes (route_lists parts.0.items) parts.1 m.policy planned.plan.nodes to routes planned.ensures.nodes
 
-pub returns-in_ok-answers-in-MultiSlot-clause-rule :
-    goal.returns-in_ok-answers-in-MultiSlot-clause-rule
+pub returns-in_ok-answers-in-MultiSlot-clause-rule : goal.returns-in_ok-answers-in-MultiSlot-clause-rule
 returns-in_ok-answers-in-MultiSlot-clause-rule g c =
     let args = g.R.Routable.args c.args.command.now in
     let m = c.in-MultiNode in
@@ -64,14 +59,12 @@ returns-in_ok-answers-in-MultiSlot-clause-rule g c =
     same_rule (names_in c.args.names) args (route_lists parts.0.items) parts.1 m.policy (c.requires.routed ∙ ap Some to) planned.plan.split new.arguments new.routes new.pattern new.policy
     ∙ ap (rule_of args) (sym to)
 
-pub returns-in_ok-answers-in-MultiSlot-clause-sent :
-    goal.returns-in_ok-answers-in-MultiSlot-clause-sent
+pub returns-in_ok-answers-in-MultiSlot-clause-sent : goal.returns-in_ok-answers-in-MultiSlot-clause-sent
 returns-in_ok-answers-in-MultiSlot-clause-sent g c =
     let planned = c.in_ok-plan-in-MultiSlot in
     parts_sent (part_by_slot c.args.names.registry.now (g.R.Routable.args c.args.command.now)) planned.plan.split.routes planned.plan.parts planned.ensures.parts
 
-pub returns-in_ok-answers-in-MultiSlot-clause-untold :
-    goal.returns-in_ok-answers-in-MultiSlot-clause-untold
+pub returns-in_ok-answers-in-MultiSlot-clause-untold : goal.returns-in_ok-answers-in-MultiSlot-clause-untold
 returns-in_ok-answers-in-MultiSlot-clause-untold g c =
     let nodes = c.in_ok-plan-in-MultiSlot.plan.nodes in
     let many : c.len.result ≡ length nodes = c.len.ensures.len ∙ sym c.len.ensures.plan.nodes in
