@@ -10,6 +10,7 @@ pub mod bytes;
 pub mod client;
 pub mod commands;
 pub mod deleting;
+pub mod every_command;
 pub mod first_drive;
 pub mod interleaved;
 pub mod node_of_key;
