@@ -10,7 +10,9 @@ use Rattle.resp_core.specs.View.{view}
 use Rattle.resp_core.specs.declared.value.Value.{Value}
 use Rattle.redis_routing.specs.Split.{Split}
 use Rattle.redis_routing.specs.declared.policy.ResponsePolicy.TheVariants.{CombineArrays}
-use Rattle.redis_cluster.specs.Plan.{Plan, IsMadeOfParts}
+use Rattle.redis_cluster.specs.MultiKey.{ReplyForm}
+use Rattle.redis_cluster.specs.Plan.{Plan, ArePartReplies, ArePartsAnswered, IsMadeOfParts}
+use Rattle.redis_cluster.specs.Unsplit.{TupleResult}
 use Rattle.redis_commands.specs.Rule.{of_parts, takes_memory, IsCombined, IsJoinedOf, IsReplyBy}
 use Rattle.redis_commands.specs.Answers.{Answer, answers_in, values_in, first_error}
 
@@ -140,6 +142,16 @@ joined split own targets answers values result same are made = by result made
     by (Ok value) is = inr (reply (Ok value) (at_split (λ s. IsMadeOfParts s (map view values) (Ok (view value))) is))
     by (Err error) (inl memory) = inl (ap Err memory.0, ap (λ p. takes_memory (of_parts (record { arguments = split.arguments; routes = split.routes; pattern = split.pattern; policy = p }))) (at_split (λ s. s.policy ≡ CombineArrays) memory.1))
     by (Err error) (inr is) = inr (reply (Err error) (at_split (λ s. IsMadeOfParts s (map view values) (Err error.kind)) is))
+
+-- the plan of a split command whose parts answered values has these replies
+pub plan_replies : (split : Split) (plan : Plan) (answers : List Answer) (values : List Value) (form : ReplyForm) (results : List TupleResult) → plan.split ≡ split → answers ≡ map (λ v. Ok (view v)) values → plan.replies ≡ map Some values
+    → ArePartsAnswered split form results (values_in answers) → ArePartReplies plan form results
+plan_replies split plan answers values form results same are told answered = record {
+  replies = values;
+  all_told = told;
+  answered = subst (ArePartsAnswered plan.split form results) (ap values_in are ∙ each_value values)
+      (subst (λ s. ArePartsAnswered s form results (values_in answers)) (sym same) answered);
+}
 
 -- the reply of a split command is the first error, if there is one
 pub only_error : (split : Split) (targets : List Address) (answers : List Answer) (error : ErrorParts) → first_error answers ≡ Some error → IsReplyBy (of_parts split) targets answers (Err error)

@@ -1,10 +1,14 @@
-ghost use Rattle.std.specs.Prelude.{◌≡◌, ℕ, Result, true, false, map, length, slice_get, slice_set, replicate, is_none, Option, Some, None, Ok, Err, IfOk, IfErr, OnOk};
+ghost use Rattle.std.specs.Prelude.{◌≡◌, ℕ, List, Result, true, false, map, length, slice_get, slice_set, replicate, is_none, Option, Some, None, Ok, Err, IfOk, IfErr, MatchResult, OnOk};
 ghost use Rattle.std.specs.List.{list_any};
 ghost use Rattle.std.specs.Result.{IsErrAnd};
-ghost use Rattle.resp_core.specs.ErrorParts.{ErrorParts};
+ghost use Rattle.resp_core.specs.ErrorParts.{ErrorParts, out_of_memory};
 ghost use Rattle.resp_core.specs.declared.value.Value.{Value};
 ghost use Rattle.resp_core.specs.declared.error.ErrorKind.TheVariants.{Client};
-ghost use Rattle.redis_commands.specs.Answers.{answers_in};
+ghost use Rattle.resp_core.specs.View.{view};
+ghost use Rattle.redis_cluster.specs.MultiKey.{ReplyForm, list};
+ghost use Rattle.redis_cluster.specs.Plan.{ArePartsAnswered};
+ghost use Rattle.redis_cluster.specs.Unsplit.{TupleResult, reply_by};
+ghost use Rattle.redis_commands.specs.Answers.{answers_in, first_error, values_in};
 ghost use Rattle.redis_commands.specs.Rule.{IsCombined, of_parts};
 
 use redis_cluster::driver::SplitPlan;
@@ -96,7 +100,13 @@ pub(crate) fn combine_parts<R: Routable>(
     requires each { length told.items ≡ length plan.split.routes }
     requires untouched { plan.replies ≡ map (λ route. None) plan.split.routes }
     requires all { list_any is_none told.items ≡ false }
-    ensures { IsCombined (of_parts plan.entry.split) plan.entry.nodes (answers_in told.items) result }
+    ensures reply { IsCombined (of_parts plan.entry.split) plan.entry.nodes (answers_in told.items)
+        result }
+    ensures unsplit { (form : ReplyForm) (results : List TupleResult)
+        → ArePartsAnswered plan.entry.split form results (values_in (answers_in told.items))
+        → first_error (answers_in told.items) ≡ None
+        → MatchResult result (λ value. view value ≡ reply_by form results)
+        (λ error. (error ≡ out_of_memory) × (form ≡ list)) }
 {
     let mut plan = plan;
     let mut number = 0_usize;

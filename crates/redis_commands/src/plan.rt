@@ -1,6 +1,7 @@
-ghost use Rattle.std.specs.Prelude.{◌≡◌, ◌<◌, ℕ, pos, List, Bool, true, false, cond, map, length, slice_get, slice_set, option_map, is_none, Option, Some, None, MatchOption, IfOk, IfErr, OnOk};
+ghost use Rattle.std.specs.Prelude.{◌≡◌, ◌<◌, ℕ, pos, List, Bool, true, false, cond, map, length, slice_get, slice_set, option_map, is_none, Option, Some, None, MatchOption, MatchResult, IfOk, IfErr, OnOk};
 ghost use Rattle.std.specs.List.{list_any};
 ghost use Rattle.std.specs.Result.{IsErrAnd};
+ghost use Rattle.resp_core.specs.ErrorParts.{out_of_memory};
 ghost use Rattle.resp_core.specs.declared.error.ErrorKind.TheVariants.{Client};
 ghost use Rattle.resp_core.specs.Reply.{array, bulk, int, replies_of};
 ghost use Rattle.resp_core.specs.View.{view};
@@ -9,12 +10,15 @@ ghost use Rattle.cluster_map.specs.RangeMap.{RangeEntry};
 ghost use Rattle.cluster_map.specs.SlotNodes.{SlotNodes};
 ghost use Rattle.redis_routing.specs.Names.{names_in};
 ghost use Rattle.redis_routing.specs.declared.policy.ResponsePolicy.TheVariants.{Aggregate, CombineArrays};
-ghost use Rattle.redis_cluster.specs.Unsplit.{Keyspace};
+ghost use Rattle.redis_cluster.specs.MultiKey.{ReplyForm, list};
+ghost use Rattle.redis_cluster.specs.Plan.{ArePartsAnswered};
+ghost use Rattle.redis_cluster.specs.Unsplit.{Keyspace, TupleResult, reply_by};
+ghost use Rattle.redis_routing.specs.Split.{Split};
 ghost use Rattle.redis_commands.specs.Keyspaces.{AreKeysOf, AreMeasures, HasCount, IsServed, counted_answer, listed_answer};
 ghost use Rattle.redis_routing.specs.Routing.{routing};
-ghost use Rattle.redis_commands.specs.Answers.{answers_in};
+ghost use Rattle.redis_commands.specs.Answers.{answers_in, first_error, values_in};
 ghost use Rattle.redis_commands.specs.Part.{part_arguments};
-ghost use Rattle.redis_commands.specs.Rule.{IsCombined, by_policy, rule_of, sent_by};
+ghost use Rattle.redis_commands.specs.Rule.{IsCombined, by_policy, of_parts, rule_of, sent_by};
 ghost use Rattle.redis_commands.specs.Planned.{IsPlanned};
 ghost use Rattle.redis_commands.specs.Targets.{AreTargets, IsCommandPlanFault, primaries_in};
 
@@ -35,6 +39,16 @@ use std::marker::Model;
 ///
 /// It sends nothing. A client with connections of its own sends each part to its node, at once or in
 /// any order, and gives the plan each answer as it comes.
+///
+/// ```
+/// for number in 0..plan.len() {
+///     if let (Some(node), Some(part)) = (plan.node(number), plan.part(number)) {
+///         let answer = connections.ask(node, part.command());
+///         let _ = plan.tell(number, answer);
+///     }
+/// }
+/// plan.combine(alloc).map_err(CallError::NotAnswered)
+/// ```
 #[derive(Drop)]
 pub struct CommandPlan<'a, R: Routable> {
     command: &'a R,
@@ -193,17 +207,24 @@ impl<'a, R: Routable> CommandPlan<'a, R> {
     /// - sums, least numbers, bits, arrays, maps: what the combiner makes
     /// - special, or none: a map from each address as text to its value
     ///
-    /// In the last three an error counts first: then the reply is the first error. First and last
-    /// are by the order of the targets, and not by arrival.
+    /// In the last three an error of any target is the reply, the first one. First and last are by
+    /// the order of the targets, and not by arrival.
     ///
     /// # Errors
     ///
     /// An error that a server answered, as above, or the error of the combiner. `Client` if an answer
-    /// is missing. `OutOfMemory` if memory ran out, which it does for one node, for the first three
-    /// policies and for parts other than lists only if a server answered this.
+    /// is missing. `OutOfMemory` if memory ran out. One answer, the first three policies, counts of
+    /// parts and `OK` of parts take no memory.
     pub fn combine(self, alloc: Global) -> RedisResult<Value>
         ensures reply { list_any is_none self.entry.answers ≡ false
             → IsCombined self.entry.rule self.entry.targets (answers_in self.entry.answers) result }
+        // If the keys of a split command have these results, the reply is that of the unsplit command.
+        ensures unsplit { (split : Split) (form : ReplyForm) (results : List TupleResult)
+            → self.entry.rule ≡ of_parts split → list_any is_none self.entry.answers ≡ false
+            → first_error (answers_in self.entry.answers) ≡ None
+            → ArePartsAnswered split form results (values_in (answers_in self.entry.answers))
+            → MatchResult result (λ value. view value ≡ reply_by form results)
+            (λ error. (error ≡ out_of_memory) × (form ≡ list)) }
         // If each primary counts the keys that it has, as by `DBSIZE`, the reply is the count of all.
         ensures counted { (entries : List (RangeEntry SlotNodes)) (keyspace : Keyspace (Unit {0}))
             (counts : List ℕ) → self.entry.rule ≡ by_policy (Some (Aggregate Sum))
