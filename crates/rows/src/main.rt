@@ -1,15 +1,16 @@
-//! Answers rows of calls that keep no node: of values, bytes, slots, maps, routing and combining. A row
-//! names a call, its words and what it returns.
+//! Answers rows of calls that keep no node: of values, bytes, slots, maps, routing, combining and
+//! plans. A row names a call, its words and what it returns.
 #![tactic(auto)]
 
 mod bytes;
 mod commands;
 mod maps;
+mod plans;
 mod routing;
 
 use crate::maps::{Maps, addresses, ranges, slots};
 use crate::routing::{Known, combiners, pipelines};
-use cluster_map::SlotRangeMap;
+use cluster_map::{SlotMap, SlotRangeMap};
 use fixtures::{Calls, bad_row, run};
 use redis_bytes::Table;
 use redis_cluster::pipeline::{ClusterPipeline, cluster_pipe};
@@ -25,6 +26,7 @@ struct Rows {
     known: Known,
     pipeline: ClusterPipeline,
     table: Table,
+    planned: SlotMap,
 }
 
 impl Calls for Rows {
@@ -41,6 +43,7 @@ impl Calls for Rows {
             "routing" => routing::call(&mut self.known, alloc, name, words),
             "combining" => combiners::call(alloc, name, words),
             "pipelines" => pipelines::call(&mut self.pipeline, alloc, name, words),
+            "plans" => plans::call(&mut self.planned, &self.known, alloc, name, words),
             _ => Err(bad_row("no topic of this name")),
         }
     }
@@ -54,6 +57,7 @@ fn main(rt: HostRuntime) -> ExitCode {
         known: Known::new(alloc),
         pipeline: cluster_pipe(alloc),
         table: bytes::tables::empty(alloc),
+        planned: SlotMap::new(alloc),
     };
     run(&rt, &mut rows)
 }
