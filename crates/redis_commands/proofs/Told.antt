@@ -14,13 +14,13 @@ use Rattle.redis_cluster.specs.MultiKey.{ReplyForm}
 use Rattle.redis_cluster.specs.Plan.{Plan, ArePartReplies, ArePartsAnswered, IsMadeOfParts}
 use Rattle.redis_cluster.specs.Unsplit.{TupleResult}
 use Rattle.redis_commands.specs.Rule.{of_parts, takes_memory, IsCombined, IsJoinedOf, IsReplyBy}
-use Rattle.redis_commands.specs.Answers.{Answer, answers_in, values_in, first_error}
+use Rattle.redis_commands.specs.Answers.{Answer, answers_given, values_in, first_error}
 
 -- without an error there is a value of each target
-pub value_of_each : (told : List (Option (Result Value ErrorParts))) → list_any is_none told ≡ false → first_error (answers_in told) ≡ None → length (values_in (answers_in told)) ≡ length told
+pub value_of_each : (told : List (Option (Result Value ErrorParts))) → list_any is_none told ≡ false → first_error (answers_given told) ≡ None → length (values_in (answers_given told)) ≡ length told
 value_of_each [] all none = refl
 value_of_each (None ∷ told) all none = absurd (cc all)
-value_of_each (Some (Ok value) ∷ told) all none = let more : length (values_in (answers_in told)) ≡ length told = value_of_each told all none in omega (arith, more)
+value_of_each (Some (Ok value) ∷ told) all none = let more : length (values_in (answers_given told)) ≡ length told = value_of_each told all none in omega (arith, more)
 value_of_each (Some (Err error) ∷ told) all none = absurd (cc none)
 
 -- the replies of a split command, after the first parts have answered
@@ -44,7 +44,7 @@ pub record AreSoFar (split : Split) (told : List (Option (Result Value ErrorPart
   pub replies_are : plan.replies ≡ replies_after values rest
   pub number_is : length values ≡ number
   pub count : number + length rest ≡ length told
-  pub answers_are : answers_in told ≡ map (λ v. Ok (view v)) values ++ answers_in rest
+  pub answers_are : answers_given told ≡ map (λ v. Ok (view v)) values ++ answers_given rest
   pub all : list_any is_none rest ≡ false
 
 -- values have no error
@@ -77,7 +77,7 @@ none_so_far plan told rest same long untouched all = record {
   replies_are = untouched ∙ none_for_each plan.split.routes told (sym long) ∙ ap (map (λ part. None)) (sym same);
   number_is = refl;
   count = omega (arith, ap length same);
-  answers_are = ap answers_in (sym same);
+  answers_are = ap answers_given (sym same);
   all = ap (list_any is_none) same ∙ all;
 }
 
@@ -101,24 +101,24 @@ module _ (split : Split) (told : List (Option (Result Value ErrorParts))) (plan 
     number_is = length-append so.values (value ∷ []) ∙ ap (λ n. n + 1) so.number_is;
     count = omega (arith, so.count, ap length first);
     answers_are =
-        so.answers_are ∙ ap (λ r. map (λ v. Ok (view v)) so.values ++ answers_in r) first
-        ∙ sym (append_assoc (map (λ v. Ok (view v)) so.values) (Ok (view value) ∷ []) (answers_in later))
-        ∙ ap (λ os. os ++ answers_in later) (sym (map-append (λ v. Ok (view v)) so.values (value ∷ [])));
+        so.answers_are ∙ ap (λ r. map (λ v. Ok (view v)) so.values ++ answers_given r) first
+        ∙ sym (append_assoc (map (λ v. Ok (view v)) so.values) (Ok (view value) ∷ []) (answers_given later))
+        ∙ ap (λ os. os ++ answers_given later) (sym (map-append (λ v. Ok (view v)) so.values (value ∷ [])));
     all = sym (ap (list_any is_none) first) ∙ so.all;
   }
 
   -- the next one answered an error, which is the first
-  pub stopped : (error : ErrorParts) → rest ≡ Some (Err error) ∷ later → first_error (answers_in told) ≡ Some error
+  pub stopped : (error : ErrorParts) → rest ≡ Some (Err error) ∷ later → first_error (answers_given told) ≡ Some error
   stopped error first =
-      ap first_error (so.answers_are ∙ ap (λ r. map (λ v. Ok (view v)) so.values ++ answers_in r) first)
-      ∙ no_error_before so.values (Err error ∷ answers_in later)
+      ap first_error (so.answers_are ∙ ap (λ r. map (λ v. Ok (view v)) so.values ++ answers_given r) first)
+      ∙ no_error_before so.values (Err error ∷ answers_given later)
 
   -- all have answered values
   pub all_replies : rest ≡ [] → plan.replies ≡ map Some so.values
   all_replies none = so.replies_are ∙ ap (replies_after so.values) none ∙ append-nil (map Some so.values)
 
-  pub all_answers : rest ≡ [] → answers_in told ≡ map (λ v. Ok (view v)) so.values
-  all_answers none = so.answers_are ∙ ap (λ r. map (λ v. Ok (view v)) so.values ++ answers_in r) none ∙ append-nil (map (λ v. Ok (view v)) so.values)
+  pub all_answers : rest ≡ [] → answers_given told ≡ map (λ v. Ok (view v)) so.values
+  all_answers none = so.answers_are ∙ ap (λ r. map (λ v. Ok (view v)) so.values ++ answers_given r) none ∙ append-nil (map (λ v. Ok (view v)) so.values)
 
 -- the one reply of a split command is joined of the values
 pub joined : (split own : Split) (targets : List Address) (answers : List Answer) (values : List Value) (result : Result Value ErrorParts) → own ≡ split → answers ≡ map (λ v. Ok (view v)) values →

@@ -14,7 +14,7 @@ use Rattle.cluster_map.proofs.Groups.{same_refl, same_sym}
 use Rattle.redis_cluster.specs.Unsplit.{Keyspace}
 use Rattle.redis_commands.specs.Targets.{primaries_in}
 use Rattle.redis_commands.proofs.Primaries.{primary_is}
-use Rattle.redis_commands.specs.Keyspaces.{primary_from, primary_of_slot, is_it, has_slot, part_in, AreApart, IsAdditive, AreMeasures, IsServed, joined_measures}
+use Rattle.redis_commands.specs.Keyspaces.{primary_from, primary_of_slot, is_it, serves_slot, part_in, ShareNoSlot, IsAdditive, AreMeasures, IsServed, joined_measures}
 
 -- no address stands there twice
 abbrev Distinct : List Address → Type 0
@@ -85,20 +85,20 @@ not_both n ns (Some a) new it others =
     let u : true ≡ false = sym others ∙ ap (λ z. list_any (same_address z) ns) (same_from_address a n it) ∙ new in cc
 
 abbrev among : List (RangeEntry SlotNodes) → List Address → ℕ → Bool
-among entries nodes slot = list_any (λ node. has_slot entries node slot) nodes
+among entries nodes slot = list_any (λ node. serves_slot entries node slot) nodes
 
 there_if : {C : Type 0} (b : Bool) (cell : Option C) → cond b cell None ≢ None → b ≡ true
 there_if true cell some = refl
 there_if false cell some = absurd (some refl)
 
 parts_apart : {C : Type 0} (entries : List (RangeEntry SlotNodes)) (keyspace : Keyspace C) (n : Address) (ns : List Address) → list_any (same_address n) ns ≡ false →
-    AreApart (part_in (has_slot entries n) keyspace) (part_in (among entries ns) keyspace) (part_in (among entries (n ∷ ns)) keyspace)
+    ShareNoSlot (part_in (serves_slot entries n) keyspace) (part_in (among entries ns) keyspace) (part_in (among entries (n ∷ ns)) keyspace)
 parts_apart entries keyspace n ns new = record {
   slots = λ key next one other same.
-      let here : has_slot entries n (key_slot key) ≡ true = there_if (has_slot entries n (key_slot key)) (keyspace key) one in
+      let here : serves_slot entries n (key_slot key) ≡ true = there_if (serves_slot entries n (key_slot key)) (keyspace key) one in
       let there : among entries ns (key_slot next) ≡ true = there_if (among entries ns (key_slot next)) (keyspace next) other in
       not_both n ns (primary_of_slot entries (key_slot key)) new here (ap (among entries ns) same ∙ there);
-  each = λ key. by_test (has_slot entries n (key_slot key))
+  each = λ key. by_test (serves_slot entries n (key_slot key))
       (λ t. by_test (among entries ns (key_slot key))
       (λ s. absurd (not_both n ns (primary_of_slot entries (key_slot key)) new t s))
       (λ s. inl (rw s refl, rw t refl)))
@@ -113,7 +113,7 @@ measured Measures none join additive entries keyspace [] [] d each = additive.em
 measured Measures none join additive entries keyspace [] (x ∷ xs) d each = absurd each
 measured Measures none join additive entries keyspace (n ∷ ns) [] d each = absurd each
 measured Measures none join additive entries keyspace (n ∷ ns) (x ∷ xs) d each =
-    additive.apart (part_in (has_slot entries n) keyspace) (part_in (among entries ns) keyspace) (part_in (among entries (n ∷ ns)) keyspace)
+    additive.apart (part_in (serves_slot entries n) keyspace) (part_in (among entries ns) keyspace) (part_in (among entries (n ∷ ns)) keyspace)
     x (joined_measures none join xs) (parts_apart entries keyspace n ns d.0) each.0
     (measured Measures none join additive entries keyspace ns xs d.1 each.1)
 

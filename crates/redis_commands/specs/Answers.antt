@@ -14,8 +14,8 @@ answer_of (Ok value) = Ok (view value)
 answer_of (Err error) = Err error
 
 -- the answers of those that have answered
-abbrev pub answers_in : List (Option (Result Value ErrorParts)) → List Answer
-answers_in told = filter_map (option_map answer_of) told
+abbrev pub answers_given : List (Option (Result Value ErrorParts)) → List Answer
+answers_given told = filter_map (option_map answer_of) told
 
 abbrev pub value_in : Answer → Option Reply
 value_in (Ok value) = Some value

@@ -26,8 +26,8 @@ is_it node None = false
 is_it node (Some other) = same_address other node
 
 -- whether the node is the primary of the slot
-abbrev pub has_slot : List (RangeEntry SlotNodes) → Address → ℕ → Bool
-has_slot entries node slot = is_it node (primary_of_slot entries slot)
+abbrev pub serves_slot : List (RangeEntry SlotNodes) → Address → ℕ → Bool
+serves_slot entries node slot = is_it node (primary_of_slot entries slot)
 
 module _ {C : Type 0} where
   -- the part of a keyspace whose keys have these slots
@@ -35,7 +35,7 @@ module _ {C : Type 0} where
   part_in here keyspace = λ key. cond (here (key_slot key)) (keyspace key) None
 
   -- no slot has keys of both, and the third keyspace is the two together
-  pub record AreApart (one other both : Keyspace C) : Type 0 where
+  pub record ShareNoSlot (one other both : Keyspace C) : Type 0 where
     pub slots : (key next : List ℕ) → one key ≢ None → other next ≢ None → key_slot key ≢ key_slot next
     pub each : (key : List ℕ)
         → ((other key ≡ None) × (both key ≡ one key)) ⊎ ((one key ≡ None) × (both key ≡ other key))
@@ -46,14 +46,14 @@ module _ {C : Type 0} where
   pub record IsAdditive {X : Type 0} (Measures : Keyspace C → X → Type 0) (none : X) (join : X → X → X)
       : Type 0 where
     pub empty : (keyspace : Keyspace C) → ((key : List ℕ) → keyspace key ≡ None) → Measures keyspace none
-    pub apart : (one other both : Keyspace C) (x y : X) → AreApart one other both → Measures one x
+    pub apart : (one other both : Keyspace C) (x y : X) → ShareNoSlot one other both → Measures one x
         → Measures other y → Measures both (join x y)
 
   -- each node measures what it has of the keyspace
   abbrev pub AreMeasures : {X : Type 0} → (Keyspace C → X → Type 0) → List (RangeEntry SlotNodes)
       → Keyspace C → List Address → List X → Type 0
   AreMeasures Measures entries keyspace nodes measures =
-      AllZip (λ node x. Measures (part_in (has_slot entries node) keyspace) x) nodes measures
+      AllZip (λ node x. Measures (part_in (serves_slot entries node) keyspace) x) nodes measures
 
   -- the entries are those of a map, which covers the slot of each key that is there
   pub record IsServed (entries : List (RangeEntry SlotNodes)) (keyspace : Keyspace C) : Type 0 where

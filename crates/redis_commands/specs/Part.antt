@@ -5,6 +5,6 @@ use Rattle.redis_commands.specs.declared.part.CommandPart.{CommandPart}
 use Rattle.redis_commands.specs.declared.part.CommandPart.TheVariants.{Whole, Split}
 
 -- its arguments, by those of the whole command
-abbrev pub part_arguments : {R : Type 0} → (R → Arguments) → CommandPart R → Arguments
-part_arguments arguments (Whole command) = arguments command.now
-part_arguments arguments (Split part) = map Some part.now
+abbrev pub arguments_sent : {R : Type 0} → (R → Arguments) → CommandPart R → Arguments
+arguments_sent arguments (Whole command) = arguments command.now
+arguments_sent arguments (Split part) = map Some part.now

@@ -50,8 +50,8 @@ or_refused kind None = Err (refused kind)
 or_refused kind (Some reply) = Ok reply
 
 -- each target's address as text, and its value
-abbrev pub by_address : List Address → List Reply → Reply
-by_address targets values =
+abbrev pub values_by_address : List Address → List Reply → Reply
+values_by_address targets values =
     pairs (pairs_of (map (λ p. (bulk (display_text p.0), p.1)) (zip targets values)))
 
 -- the one reply that a policy makes of the values, one of each target
@@ -69,7 +69,7 @@ made_by (Some CombineArrays) targets values =
     (option_map (λ items. array (replies_of items)) (all_items values))
 made_by (Some CombineMaps) targets values = or_refused UnexpectedReturnType (combined_map values)
 made_by (Some AllSucceeded) targets values = or_refused Client (first_in values)
-made_by _ targets values = Ok (by_address targets values)
+made_by _ targets values = Ok (values_by_address targets values)
 
 -- the one reply that a policy makes of the answers, one of each target, in their order
 --

@@ -8,7 +8,7 @@ ghost use Rattle.resp_core.specs.View.{view};
 ghost use Rattle.redis_cluster.specs.MultiKey.{ReplyForm, list};
 ghost use Rattle.redis_cluster.specs.Plan.{ArePartsAnswered};
 ghost use Rattle.redis_cluster.specs.Unsplit.{TupleResult, reply_by};
-ghost use Rattle.redis_commands.specs.Answers.{answers_in, first_error, values_in};
+ghost use Rattle.redis_commands.specs.Answers.{answers_given, first_error, values_in};
 ghost use Rattle.redis_commands.specs.Rule.{IsCombined, of_parts};
 
 use redis_cluster::driver::SplitPlan;
@@ -100,11 +100,11 @@ pub(crate) fn combine_parts<R: Routable>(
     requires each { length told.items ≡ length plan.split.routes }
     requires untouched { plan.replies ≡ map (λ route. None) plan.split.routes }
     requires all { list_any is_none told.items ≡ false }
-    ensures reply { IsCombined (of_parts plan.entry.split) plan.entry.nodes (answers_in told.items)
+    ensures reply { IsCombined (of_parts plan.entry.split) plan.entry.nodes (answers_given told.items)
         result }
     ensures unsplit { (form : ReplyForm) (results : List TupleResult)
-        → ArePartsAnswered plan.entry.split form results (values_in (answers_in told.items))
-        → first_error (answers_in told.items) ≡ None
+        → ArePartsAnswered plan.entry.split form results (values_in (answers_given told.items))
+        → first_error (answers_given told.items) ≡ None
         → MatchResult result (λ value. view value ≡ reply_by form results)
         (λ error. (error ≡ out_of_memory) × (form ≡ list)) }
 {

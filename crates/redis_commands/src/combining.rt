@@ -5,8 +5,8 @@ ghost use Rattle.resp_core.specs.Reply.{nil};
 ghost use Rattle.resp_core.specs.View.{view};
 ghost use Rattle.resp_core.specs.declared.error.ErrorKind.TheVariants.{Client};
 ghost use Rattle.cluster_map.specs.Targets.{addresses_behind};
-ghost use Rattle.redis_commands.specs.Answers.{unless_nil, answers_in, first_in, values_in, non_nil_in, first_error, last_error};
-ghost use Rattle.redis_commands.specs.Policy.{Returns, reply_or, unless_error, or_refused, refused, by_address};
+ghost use Rattle.redis_commands.specs.Answers.{unless_nil, answers_given, first_in, values_in, non_nil_in, first_error, last_error};
+ghost use Rattle.redis_commands.specs.Policy.{Returns, reply_or, unless_error, or_refused, refused, values_by_address};
 ghost use Rattle.redis_commands.specs.Rule.{IsCombined, by_policy};
 
 use cluster_slots::NodeAddress;
@@ -24,7 +24,7 @@ pub(crate) fn combine_by_policy(
 ) -> RedisResult<Value>
     requires each { length nodes.now ≡ length told.items }
     requires all { list_any is_none told.items ≡ false }
-    ensures { IsCombined (by_policy policy) (addresses_behind nodes.now) (answers_in told.items)
+    ensures { IsCombined (by_policy policy) (addresses_behind nodes.now) (answers_given told.items)
         result }
 {
     match policy {
@@ -49,8 +49,8 @@ pub(crate) fn combine_by_policy(
 /// The first value, or else the last error.
 #[tactic(auto, using(crate::proofs::Running::later_of_none, crate::proofs::Running::later_again))]
 fn first_value(told: Vec<Option<RedisResult<Value>>>) -> RedisResult<Value>
-    ensures { Returns result (reply_or (first_in (values_in (answers_in told.items)))
-        (last_error (answers_in told.items)) (Err (refused Client))) }
+    ensures { Returns result (reply_or (first_in (values_in (answers_given told.items)))
+        (last_error (answers_given told.items)) (Err (refused Client))) }
 {
     let mut last = None;
     for answer in told {
@@ -70,8 +70,8 @@ fn first_value(told: Vec<Option<RedisResult<Value>>>) -> RedisResult<Value>
 #[tactic(auto, using(crate::proofs::Running::later_of_none, crate::proofs::Running::later_again))]
 fn first_non_nil(told: Vec<Option<RedisResult<Value>>>) -> RedisResult<Value>
     ensures { Returns result
-        (reply_or (first_in (filter_map non_nil_in (answers_in told.items)))
-        (last_error (answers_in told.items)) (Ok nil)) }
+        (reply_or (first_in (filter_map non_nil_in (answers_given told.items)))
+        (last_error (answers_given told.items)) (Ok nil)) }
 {
     let mut last = None;
     for answer in told {
@@ -100,8 +100,8 @@ fn is_nil(value: &Value) -> bool
 
 /// The first value, unless there is an error: then the first error.
 fn first_of_all(told: Vec<Option<RedisResult<Value>>>) -> RedisResult<Value>
-    ensures { Returns result (unless_error (first_error (answers_in told.items))
-        (or_refused Client (first_in (values_in (answers_in told.items))))) }
+    ensures { Returns result (unless_error (first_error (answers_given told.items))
+        (or_refused Client (first_in (values_in (answers_given told.items))))) }
 {
     let mut first = None;
     for answer in told {
@@ -124,9 +124,9 @@ fn first_of_all(told: Vec<Option<RedisResult<Value>>>) -> RedisResult<Value>
 /// The values, or else the first error.
 fn all_values(alloc: Global, told: Vec<Option<RedisResult<Value>>>) -> RedisResult<Vec<Value>>
     ensures { MatchResult result
-        (λ values. (first_error (answers_in told.items) ≡ None)
-        × (map view values.items ≡ values_in (answers_in told.items)))
-        (λ error. (error ≡ out_of_memory) ⊎ (first_error (answers_in told.items) ≡ Some error)) }
+        (λ values. (first_error (answers_given told.items) ≡ None)
+        × (map view values.items ≡ values_in (answers_given told.items)))
+        (λ error. (error ≡ out_of_memory) ⊎ (first_error (answers_given told.items) ≡ Some error)) }
 {
     let mut values = Vec::with_capacity(alloc, told.len())?;
     for answer in told {
@@ -147,7 +147,7 @@ fn by_address(
 ) -> Result<Value, AllocError>
     requires { length nodes.now ≡ length values.items }
     ensures { IfOk result (λ value. view value
-        ≡ by_address (addresses_behind nodes.now) (map view values.items)) }
+        ≡ values_by_address (addresses_behind nodes.now) (map view values.items)) }
 {
     let mut entries = Vec::with_capacity(alloc, values.len())?;
     let mut number = 0_usize;

@@ -1,5 +1,5 @@
 ghost use Rattle.std.specs.Prelude.{◌≡◌, map, Some};
-ghost use Rattle.redis_commands.specs.Part.{part_arguments};
+ghost use Rattle.redis_commands.specs.Part.{arguments_sent};
 
 use redis_routing::Routable;
 use resp_core::Cmd;
@@ -16,7 +16,7 @@ pub enum CommandPart<'p, R: Routable> {
 impl<'p> CommandPart<'p, Cmd> {
     /// The command that goes out.
     pub fn command(&self) -> &'p Cmd
-        ensures { map Some result.now ≡ part_arguments (λ command. map Some command) self.now }
+        ensures { map Some result.now ≡ arguments_sent (λ command. map Some command) self.now }
     {
         match self {
             CommandPart::Whole(command) => command,

@@ -16,8 +16,8 @@ ghost use Rattle.redis_cluster.specs.Unsplit.{Keyspace, TupleResult, reply_by};
 ghost use Rattle.redis_routing.specs.Split.{Split};
 ghost use Rattle.redis_commands.specs.Keyspaces.{AreKeysOf, AreMeasures, HasCount, IsServed, counted_answer, listed_answer};
 ghost use Rattle.redis_routing.specs.Routing.{routing};
-ghost use Rattle.redis_commands.specs.Answers.{answers_in, first_error, values_in};
-ghost use Rattle.redis_commands.specs.Part.{part_arguments};
+ghost use Rattle.redis_commands.specs.Answers.{answers_given, first_error, values_in};
+ghost use Rattle.redis_commands.specs.Part.{arguments_sent};
 ghost use Rattle.redis_commands.specs.Rule.{IsCombined, by_policy, of_parts, rule_of, sent_by};
 ghost use Rattle.redis_commands.specs.Planned.{IsPlanned};
 ghost use Rattle.redis_commands.specs.Targets.{AreTargets, IsCommandPlanFault, primaries_in};
@@ -154,7 +154,7 @@ impl<'a, R: Routable> CommandPlan<'a, R> {
     /// What this target is sent, if there is such a target: the whole command, or the part of its
     /// slot.
     pub fn part(&self, number: usize) -> Option<CommandPart<'_, R>>
-        ensures { option_map (part_arguments R.args) result ≡ slice_get self.now.sent number }
+        ensures { option_map (arguments_sent R.args) result ≡ slice_get self.now.sent number }
     {
         match &self.way {
             Way::One(_, _) => whole_if(self.command, number == 0),
@@ -217,12 +217,12 @@ impl<'a, R: Routable> CommandPlan<'a, R> {
     /// parts and `OK` of parts take no memory.
     pub fn combine(self, alloc: Global) -> RedisResult<Value>
         ensures reply { list_any is_none self.entry.answers ≡ false
-            → IsCombined self.entry.rule self.entry.targets (answers_in self.entry.answers) result }
+            → IsCombined self.entry.rule self.entry.targets (answers_given self.entry.answers) result }
         // If the keys of a split command have these results, the reply is that of the unsplit command.
         ensures unsplit { (split : Split) (form : ReplyForm) (results : List TupleResult)
             → self.entry.rule ≡ of_parts split → list_any is_none self.entry.answers ≡ false
-            → first_error (answers_in self.entry.answers) ≡ None
-            → ArePartsAnswered split form results (values_in (answers_in self.entry.answers))
+            → first_error (answers_given self.entry.answers) ≡ None
+            → ArePartsAnswered split form results (values_in (answers_given self.entry.answers))
             → MatchResult result (λ value. view value ≡ reply_by form results)
             (λ error. (error ≡ out_of_memory) × (form ≡ list)) }
         // If each primary counts the keys that it has, as by `DBSIZE`, the reply is the count of all.
@@ -230,7 +230,7 @@ impl<'a, R: Routable> CommandPlan<'a, R> {
             (counts : List ℕ) → self.entry.rule ≡ by_policy (Some (Aggregate Sum))
             → IsServed entries keyspace
             → AreMeasures HasCount entries keyspace (primaries_in entries) counts
-            → answers_in self.entry.answers ≡ map counted_answer counts
+            → answers_given self.entry.answers ≡ map counted_answer counts
             → IfOk result (λ value. (count : ℕ) × (view value ≡ int (pos count))
             × HasCount keyspace count) }
         // If each primary lists the wanted keys that it has, as by `KEYS`, the reply lists each wanted
@@ -239,7 +239,7 @@ impl<'a, R: Routable> CommandPlan<'a, R> {
             (keyspace : Keyspace (Unit {0})) (lists : List (List (List ℕ)))
             → self.entry.rule ≡ by_policy (Some CombineArrays) → IsServed entries keyspace
             → AreMeasures (AreKeysOf wanted) entries keyspace (primaries_in entries) lists
-            → answers_in self.entry.answers ≡ map listed_answer lists
+            → answers_given self.entry.answers ≡ map listed_answer lists
             → IfOk result (λ value. (keys : List (List ℕ))
             × (view value ≡ array (replies_of (map bulk keys))) × AreKeysOf wanted keyspace keys) }
         ensures untold { list_any is_none self.entry.answers ≡ true
@@ -266,7 +266,7 @@ impl<'a, R: Routable> CommandPlan<'a, R> {
 
 /// The whole command, if there is such a target.
 fn whole_if<R: Routable>(command: &R, there: bool) -> Option<CommandPart<'_, R>>
-    ensures { option_map (part_arguments R.args) result
+    ensures { option_map (arguments_sent R.args) result
         ≡ cond there (Some (R.args command.now)) None }
 {
     if there {

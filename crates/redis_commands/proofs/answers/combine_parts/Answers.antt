@@ -1,6 +1,6 @@
 use Rattle.std.proofs.Common.{◌≡◌, ◌∷◌, [], Some, Err, Ok, ap, sym, ◌∙◌, inr, rules}
 use Rattle.std.proofs.lemmas.Option.{none-some}
-use Rattle.redis_commands.specs.Answers.{answers_in}
+use Rattle.redis_commands.specs.Answers.{answers_given}
 use Rattle.redis_commands.proofs.ByAddress.{nil_of}
 use Rattle.redis_commands.proofs.Told.{all_answers, all_replies, err_there, joined, none_so_far, ok_there, one_more, only_error, plan_replies, still_untold, stopped}
 use Rattle.redis_commands.proofs.answers.combine_parts.Goals as goal
@@ -20,7 +20,7 @@ unreachable-requires g c =
 pub returns-in-Some-Err-clause-reply : goal.returns-in-Some-Err-clause-reply
 returns-in-Some-Err-clause-reply g c =
     let split = c.args.plan.split in
-    let answers = answers_in c.args.told.items in
+    let answers = answers_given c.args.told.items in
     let error = c.in-Some-Err.error in
     let so = c.loop-answer.invariant.2 in
     let is : c.in-Some.answer ≡ Some (Err error) = search rules in
@@ -44,7 +44,7 @@ returns-clause-reply g c =
     let none : rest ≡ [] = nil_of rest (search rules) in
     let replies = all_replies split c.args.told.items c.loop-answer.plan c.loop-answer.number rest [] so none in
     let answers = all_answers split c.args.told.items c.loop-answer.plan c.loop-answer.number rest [] so none in
-    joined split c.loop-answer.plan.split c.args.plan.nodes (answers_in c.args.told.items) so.values c.combine.result so.split_is answers (c.combine.ensures.joined so.values replies)
+    joined split c.loop-answer.plan.split c.args.plan.nodes (answers_given c.args.told.items) so.values c.combine.result so.split_is answers (c.combine.ensures.joined so.values replies)
 
 pub returns-in-Some-Err-clause-unsplit : goal.returns-in-Some-Err-clause-unsplit
 returns-in-Some-Err-clause-unsplit g c = λ form results answered none.
@@ -63,4 +63,4 @@ returns-clause-unsplit g c = λ form results answered none.
     let replies = all_replies split c.args.told.items c.loop-answer.plan c.loop-answer.number rest [] so over in
     let answers = all_answers split c.args.told.items c.loop-answer.plan c.loop-answer.number rest [] so over in
     c.combine.ensures.unsplit form results
-    (plan_replies split c.loop-answer.plan (answers_in c.args.told.items) so.values form results so.split_is answers replies answered)
+    (plan_replies split c.loop-answer.plan (answers_given c.args.told.items) so.values form results so.split_is answers replies answered)

@@ -1,6 +1,6 @@
 use Rattle.std.proofs.Common.{ap, sym, ◌∙◌}
 use Rattle.cluster_map.specs.Targets.{addresses_behind}
-use Rattle.redis_commands.specs.Answers.{answers_in}
+use Rattle.redis_commands.specs.Answers.{answers_given}
 use Rattle.redis_commands.specs.Rule.{by_policy}
 use Rattle.redis_commands.specs.Way.{planned}
 use Rattle.redis_commands.proofs.Counts.{counted}
@@ -10,11 +10,11 @@ use Rattle.redis_commands.proofs.plan.CommandPlan.combine.Goals as goal
 pub returns-in-Several-clause-counted : goal.returns-in-Several-clause-counted
 returns-in-Several-clause-counted g c = λ entries keyspace counts rule served each told.
     let seen = ap (planned (g.R.Routable.args c.self.inside.command.now)) (sym c.in-Several.is) ∙ c.self.view_is in
-    counted (by_policy c.in-Several.policy) (addresses_behind c.deref-in-Several.result.now) (answers_in c.in-Several.told.items) entries keyspace counts c.combine_by_policy.result c.combine_by_policy.ensures
-    (ap (λ p. p.rule) seen ∙ rule) served each (ap (λ p. answers_in p.answers) seen ∙ told)
+    counted (by_policy c.in-Several.policy) (addresses_behind c.deref-in-Several.result.now) (answers_given c.in-Several.told.items) entries keyspace counts c.combine_by_policy.result c.combine_by_policy.ensures
+    (ap (λ p. p.rule) seen ∙ rule) served each (ap (λ p. answers_given p.answers) seen ∙ told)
 
 pub returns-in-Several-clause-listed : goal.returns-in-Several-clause-listed
 returns-in-Several-clause-listed g c = λ wanted entries keyspace lists rule served each told.
     let seen = ap (planned (g.R.Routable.args c.self.inside.command.now)) (sym c.in-Several.is) ∙ c.self.view_is in
-    listed (by_policy c.in-Several.policy) (addresses_behind c.deref-in-Several.result.now) (answers_in c.in-Several.told.items) wanted entries keyspace lists c.combine_by_policy.result c.combine_by_policy.ensures
-    (ap (λ p. p.rule) seen ∙ rule) served each (ap (λ p. answers_in p.answers) seen ∙ told)
+    listed (by_policy c.in-Several.policy) (addresses_behind c.deref-in-Several.result.now) (answers_given c.in-Several.told.items) wanted entries keyspace lists c.combine_by_policy.result c.combine_by_policy.ensures
+    (ap (λ p. p.rule) seen ∙ rule) served each (ap (λ p. answers_given p.answers) seen ∙ told)
