@@ -260,15 +260,18 @@ impl<'a> PipelinePlan<'a> {
         let PipelinePlan {
             tasks,
             targets: _,
-            parts: _,
+            parts,
             answers,
             nodes: _,
-            places: _,
+            places,
             told,
         } = self;
         if !all_set(&told) {
             return Err(RedisError::from((ErrorKind::Client, "a batch has no answers")));
         }
+        // The replies then take the memory that the parts had.
+        drop(parts);
+        drop(places);
         replies_of(alloc, tasks.as_slice(), answers)
     }
 
