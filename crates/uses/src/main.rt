@@ -1,5 +1,5 @@
-//! What a user of the layer writes: one file for each example. The program runs those that send
-//! commands, and prints a line for each run.
+//! What a user of the layer writes: one file for each example. The program runs some of them, and
+//! prints a line for each run.
 #![tactic(auto)]
 
 pub mod batched_bytes;

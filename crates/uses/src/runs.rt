@@ -15,7 +15,7 @@ use std::fmt::Display;
 use std::{io, mem};
 use wire::Client;
 
-/// Runs each example, and prints a line for each run.
+/// Runs examples, and prints a line for each run.
 pub fn run(rt: &HostRuntime) -> io::Result<()> {
     run_first(rt)?;
     run_in_turn(rt)?;
