@@ -1,5 +1,5 @@
 -- What a clone of the entries of a map keeps.
-use Rattle.std.proofs.Common.{◌≡◌, ◌<◌, List, [], ◌∷◌, map, refl, arith}
+use Rattle.std.proofs.Common.{◌≡◌, List, [], ◌∷◌, map, refl, arith}
 use Rattle.std.specs.List.{AllZip}
 use Rattle.std.proofs.lemmas.Grind.{common_steps}
 use Rattle.cluster_map.specs.RangeMap.{RangeEntry, end_of, Ascends, IsEntryClone}

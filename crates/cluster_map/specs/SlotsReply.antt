@@ -19,11 +19,15 @@ within_u16 (negsuc n) = None
 abbrev pub u16_of : Reply → Option ℕ
 u16_of reply = option_and_then within_u16 (int_of reply)
 
--- the text of a host, with U+FFFD for bytes that are not UTF-8; empty for nil
-abbrev pub host_text : Reply → Option (List ℕ)
-host_text nil = Some []
-host_text (bulk bytes) = Some (encode_utf8_all (lossy_chars bytes))
-host_text reply = None
+-- the bytes of a host; none for nil
+abbrev pub host_bytes : Reply → Option (List ℕ)
+host_bytes nil = Some []
+host_bytes (bulk bytes) = Some bytes
+host_bytes reply = None
+
+-- the text of bytes, with U+FFFD for those that are not UTF-8
+abbrev pub text_of : List ℕ → List ℕ
+text_of bytes = encode_utf8_all (lossy_chars bytes)
 
 -- whether the text names no host, so that the name of the node that answered replaces it
 abbrev pub is_unspecified : List ℕ → Bool
@@ -53,7 +57,8 @@ address_from host port = None
 -- the address in the elements of a node: the host, the port and others
 abbrev pub address_in : List ℕ → List Reply → Option Address
 address_in answering (host ∷ port ∷ more) =
-    address_from (option_and_then (host_for answering) (host_text host)) (u16_of port)
+    address_from (option_and_then (λ bytes. host_for answering (text_of bytes)) (host_bytes host))
+    (u16_of port)
 address_in answering elements = None
 
 -- the address of a node, if it can be used

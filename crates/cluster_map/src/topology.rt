@@ -1,16 +1,14 @@
 //! The reply to `CLUSTER SLOTS`: which nodes serve which slots.
-ghost use Rattle.std.specs.Prelude.{◌≡◌, ◌∷◌, [], IfOk, IfErr, Some, codes, filter_map, map, option_copied, option_map};
-ghost use Rattle.std.specs.Cow.{cow_str_bytes};
+ghost use Rattle.std.specs.Prelude.{◌≡◌, ◌∷◌, [], IfOk, IfErr, Some, codes, filter_map, map, option_copied};
 ghost use Rattle.resp_core.specs.ErrorParts.{out_of_memory};
 ghost use Rattle.resp_core.specs.View.{view};
-ghost use Rattle.cluster_map.specs.SlotsReply.{u16_of, host_text, host_for, node_in, range_from, range_in, leading_arrays, ranges_in};
+ghost use Rattle.cluster_map.specs.SlotsReply.{u16_of, host_bytes as bytes_in, text_of, host_for, address_from, is_unspecified as unspecified, node_in, range_from, range_in, leading_arrays, ranges_in};
 
 use crate::slot_range::SlotRange;
 use bstr::ByteSlice;
 use cluster_slots::NodeAddress;
 use resp_core::{Cmd, RedisResult, Value};
 use std::alloc::{AllocError, Global};
-use std::borrow::CowStr;
 
 /// The command that asks a node for the slot map: `CLUSTER SLOTS`.
 ///
@@ -123,26 +121,38 @@ fn read_node(
     let Some([host, port, ..]) = node.as_array() else {
         return Ok(None);
     };
-    let Some(port) = read_u16(port) else {
+    let (Some(host), Some(port)) = (host_bytes(host), read_u16(port)) else {
         return Ok(None);
     };
-    let Some(text) = read_host(alloc, host)? else {
-        return Ok(None);
-    };
-    match usable_host(text.as_str(), answering) {
-        Some(host) => Ok(Some(NodeAddress::new(alloc, host, port)?)),
-        None => Ok(None),
+    address_of(alloc, host, port, answering)
+}
+
+/// The bytes of a host, none for nil.
+fn host_bytes(host: &Value) -> Option<&[u8]>
+    ensures { option_copied result ≡ bytes_in (view host.now) }
+{
+    match host {
+        Value::Nil => Some(b""),
+        Value::BulkString(bytes) => Some(bytes),
+        _ => None,
     }
 }
 
-/// The text of a host. Takes no memory if it is UTF-8.
-fn read_host(alloc: Global, host: &Value) -> Result<Option<CowStr<'_, Global>>, AllocError>
-    ensures { IfOk result (λ text. option_map cow_str_bytes text ≡ host_text (view host.now)) }
+/// The address of a host and a port, if the host can be used. The text of the host takes no memory
+/// if it is UTF-8.
+fn address_of(
+    alloc: Global,
+    host: &[u8],
+    port: u16,
+    answering: &str,
+) -> Result<Option<NodeAddress>, AllocError>
+    ensures { IfOk result (λ address. address
+        ≡ address_from (host_for answering.now (text_of host.now)) (Some port)) }
 {
-    match host {
-        Value::Nil => Ok(Some(CowStr::Borrowed(""))),
-        Value::BulkString(bytes) => Ok(Some(bytes.as_slice().to_str_lossy(alloc)?)),
-        _ => Ok(None),
+    let text = host.to_str_lossy(alloc)?;
+    match usable_host(&text, answering) {
+        Some(host) => Ok(Some(NodeAddress::new(alloc, host, port)?)),
+        None => Ok(None),
     }
 }
 
@@ -150,12 +160,21 @@ fn read_host(alloc: Global, host: &Value) -> Result<Option<CowStr<'_, Global>>, 
 fn usable_host<'a>(text: &'a str, answering: &'a str) -> Option<&'a str>
     ensures { option_copied result ≡ host_for answering.now text.now }
 {
-    let host = match text {
-        "" | "0.0.0.0" | "::" => answering,
-        "?" => return None,
-        _ => text,
-    };
-    if host.is_empty() { None } else { Some(host) }
+    if is_unspecified(text) {
+        return if answering.is_empty() {
+            None
+        } else {
+            Some(answering)
+        };
+    }
+    if text == "?" { None } else { Some(text) }
+}
+
+/// Whether the name of the node that replied replaces the text.
+fn is_unspecified(text: &str) -> bool
+    ensures { result ≡ unspecified text.now }
+{
+    text.is_empty() || text == "0.0.0.0" || text == "::"
 }
 
 fn read_u16(number: &Value) -> Option<u16>

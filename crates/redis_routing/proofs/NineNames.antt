@@ -1,6 +1,6 @@
 -- The nine rows agree with the tables of all names.
-use Rattle.std.proofs.Common.{◌≡◌, ℕ, List, [], ◌∷◌, ◌++◌, true, Option, None, Some, map, refl, sym, ap, ◌∙◌, cond, arith}
-use Rattle.std.specs.Prelude.{IfSome, option_and_then, is_some, ◌&&◌}
+use Rattle.std.proofs.Common.{◌≡◌, ℕ, List, [], ◌∷◌, ◌++◌, true, Option, None, Some, refl, sym, ap, ◌∙◌, cond, arith}
+use Rattle.std.specs.Prelude.{IfSome, option_and_then, is_some}
 use Rattle.std.specs.Str.{bytes_eq}
 use Rattle.std.proofs.lemmas.Grind.{common_steps}
 use Rattle.resp_core.proofs.Cases.{by_test}
@@ -14,17 +14,16 @@ use Rattle.redis_routing.specs.MultiKeyRows.{multi_key_names}
 use Rattle.redis_routing.specs.declared.policy.ResponsePolicy.{ResponsePolicy}
 use Rattle.redis_routing.specs.declared.route_by.RouteBy.{RouteBy}
 use Rattle.redis_routing.specs.declared.route_by.RouteBy.TheVariants.{MultiSlot}
-use Rattle.redis_routing.specs.declared.tables.TheConstants.{NAMES}
 use Rattle.redis_routing.proofs.Agree.{agree}
-use Rattle.redis_routing.proofs.TableRows.{routing-NAMES, policy-NAMES}
+use Rattle.redis_routing.proofs.TableRows.{all_names, routing-NAMES, policy-NAMES}
 
 -- a pattern and a policy, if both are there
 abbrev both : Option MultiSlotArgPattern → Option ResponsePolicy → Option Registered
 both (Some pattern) (Some policy) = Some (pattern, policy)
 both pattern policy = None
 
-nine-NAMES : (name : List ℕ) → option_and_then (λ v. both (pattern_of (Some v.0)) v.1) (lookup_name (map (λ row. (row.0.now, row.1)) NAMES) name) ≡ lookup_name multi_key_names name
-nine-NAMES name = agree (λ v. both (pattern_of (Some v.0)) v.1) (map (λ row. (row.0.now, row.1)) NAMES) multi_key_names refl refl name
+nine-NAMES : (name : List ℕ) → option_and_then (λ v. both (pattern_of (Some v.0)) v.1) (lookup_name all_names name) ≡ lookup_name multi_key_names name
+nine-NAMES name = agree (λ v. both (pattern_of (Some v.0)) v.1) all_names multi_key_names refl refl name
 
 by_parts : (o : Option (RouteBy × Option ResponsePolicy)) → both (pattern_of (option_and_then (λ v. Some v.0) o)) (option_and_then (λ v. v.1) o) ≡ option_and_then (λ v. both (pattern_of (Some v.0)) v.1) o
 by_parts None = refl
@@ -34,8 +33,8 @@ by_parts (Some v) = refl
 nine_rows : (name : List ℕ) → both (pattern_of (base_routing name)) (policy_of name) ≡ lookup_name multi_key_names name
 nine_rows name =
     ap (λ w. both (pattern_of w) (policy_of name)) (sym (routing-NAMES name))
-    ∙ ap (both (pattern_of (option_and_then (λ v. Some v.0) (lookup_name (map (λ row. (row.0.now, row.1)) NAMES) name)))) (sym (policy-NAMES name))
-    ∙ by_parts (lookup_name (map (λ row. (row.0.now, row.1)) NAMES) name) ∙ nine-NAMES name
+    ∙ ap (both (pattern_of (option_and_then (λ v. Some v.0) (lookup_name all_names name)))) (sym (policy-NAMES name))
+    ∙ by_parts (lookup_name all_names name) ∙ nine-NAMES name
 
 abbrev or_else : Option Registered → Option Registered → Option Registered
 or_else (Some r) other = Some r

@@ -1,5 +1,5 @@
 -- Tables whose names are found by a number of theirs.
-use Rattle.std.specs.Prelude.{ℕ, ◌+◌, ◌-◌, ◌*◌, ◌/◌, ◌%◌, List, Bool, cond, nat_lt, map, length, get_or}
+use Rattle.std.specs.Prelude.{ℕ, ◌+◌, ◌-◌, ◌*◌, ◌/◌, ◌%◌, List, Bool, Option, Some, None, cond, nat_lt, map, length, get_or, slice_get, option_and_then}
 use Rattle.std.specs.List.{range_with_len}
 use Rattle.std.specs.Str.{bytes_eq}
 
@@ -22,3 +22,7 @@ row_of places number = get_or places (number % length places) 0
 -- whether each name stands at its place
 abbrev pub stand_at_their_rows : (List ℕ → ℕ) → List (List ℕ) → Bool
 stand_at_their_rows place names = bytes_eq (map place names) (range_with_len 0 (length names))
+
+-- what stands beside the name in this row, if the row has the name
+abbrev pub value_at : {A : Type 0} → List (List ℕ × A) → ℕ → List ℕ → Option A
+value_at rows row name = option_and_then (λ r. cond (bytes_eq r.0 name) (Some r.1) None) (slice_get rows row)

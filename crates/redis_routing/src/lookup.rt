@@ -1,20 +1,13 @@
 ghost use Rattle.std.specs.Prelude.{◌≡◌, ◌<◌, map, true, length};
 ghost use Rattle.redis_routing.specs.Lookup.{lookup_name, has_name, ascends};
-ghost use Rattle.redis_routing.specs.Places.{name_hash, word_hash, row_of, stand_at_their_rows};
+ghost use Rattle.redis_routing.specs.Places.{name_hash, word_hash, row_of, stand_at_their_rows, value_at};
 
-/// What stands beside the name in a table whose rows stand at the places of their names.
-pub(super) fn find<V: Copy>(rows: &[(&[u8], V)], places: &[u8], name: &[u8]) -> Option<V>
-    requires some { 0 < length places.now }
-    requires placed { stand_at_their_rows (λ name. row_of places.now (name_hash name))
-        (map (λ row. row.0.now) rows.now) ≡ true }
-    ensures { result ≡ lookup_name (map (λ row. (row.0.now, row.1)) rows.now) name.now }
+/// What stands beside the name in this row of a table, if the row has the name.
+pub(super) fn value_at<V: Copy>(rows: &[(&[u8], V)], row: usize, name: &[u8]) -> Option<V>
+    ensures { result ≡ value_at (map (λ row. (row.0.now, row.1)) rows.now) row name.now }
 {
-    let place = row_of(places, name_hash(name));
-    if place < rows.len() && rows[place].0 == name {
-        Some(rows[place].1)
-    } else {
-        None
-    }
+    let (known, value) = rows.get(row)?;
+    if *known == name { Some(*value) } else { None }
 }
 
 /// Whether the word is one of these first words, which stand at their places.
@@ -29,7 +22,7 @@ pub(super) fn is_placed(words: &[&[u8]], places: &[u8], word: &[u8]) -> bool
 }
 
 /// The place that a list of places has for a number.
-fn row_of(places: &[u8], number: usize) -> usize
+pub(super) fn row_of(places: &[u8], number: usize) -> usize
     requires { 0 < length places.now }
     ensures { result ≡ row_of places.now number }
 {

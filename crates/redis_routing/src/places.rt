@@ -1,6 +1,6 @@
 //! Where the names of the tables stand, by their numbers. `tools/name-places` prints this page.
 
-/// The row of `NAMES` that a name has, if it has one, by its number; 255 is no row.
+/// The row of a name, of those of all names, by the number of the name; 255 is no row.
 pub(super) const NAME_PLACES: [u8; 1024] = [
     255, 255, 154, 255, 255, 255, 255, 255, 255, 255, 119, 255, 255, 255, 255, 255, 20, 255, 255,
     255, 70, 255, 255, 255, 255, 255, 255, 255, 255, 255, 255, 255, 255, 255, 255, 45, 255, 255,
@@ -58,7 +58,7 @@ pub(super) const NAME_PLACES: [u8; 1024] = [
     255, 255, 255, 255, 138, 255, 255,
 ];
 
-/// The row of `TWO_WORD_NAMES` that a first word has, if it has one, by its number; 255 is no row.
+/// The row of a first word in `TWO_WORD_NAMES`, by the number of the word; 255 is no row.
 pub(super) const TWO_WORD_PLACES: [u8; 32] = [
     255, 10, 255, 255, 255, 13, 255, 255, 7, 255, 14, 12, 255, 5, 255, 255, 255, 3, 8, 255, 4, 0,
     2, 255, 1, 255, 9, 255, 6, 11, 255, 255,

@@ -1,11 +1,13 @@
-ghost use Rattle.std.specs.Prelude.{◌≡◌, Some, option_and_then};
+ghost use Rattle.std.specs.Prelude.{◌≡◌, Some, map, option_and_then};
+ghost use Rattle.redis_routing.specs.Places.{value_at};
 ghost use Rattle.redis_routing.specs.RouteBy.{base_routing};
 ghost use Rattle.redis_routing.specs.Policies.{policy_of};
+ghost use Rattle.redis_routing.specs.declared.tables.TheConstants.{NAMES_A_TO_C, NAMES_D_TO_L, NAMES_M_TO_S, NAMES_T_TO_Z};
 
-use super::lookup::find;
+use super::lookup::{name_hash, row_of, value_at};
 use super::places::NAME_PLACES;
 use super::policy::ResponsePolicy;
-use super::tables::NAMES;
+use super::tables::{NAMES_A_TO_C, NAMES_D_TO_L, NAMES_M_TO_S, NAMES_T_TO_Z};
 use cluster_slots::MultiSlotArgPattern;
 
 /// Where the commands of a name go. Arguments are counted from 0, the first word of the command.
@@ -57,5 +59,39 @@ fn in_tables(name: &[u8]) -> Option<(RouteBy, Option<ResponsePolicy>)>
     ensures routing { option_and_then (λ row. Some row.0) result ≡ base_routing name.now }
     ensures policy { option_and_then (λ row. row.1) result ≡ policy_of name.now }
 {
-    find(&NAMES, &NAME_PLACES, name)
+    let row = row_of(&NAME_PLACES, name_hash(name));
+    if row < 53 {
+        return in_a_to_c(row, name);
+    }
+    if row < 89 {
+        return in_d_to_l(row - 53, name);
+    }
+    if row < 128 {
+        return in_m_to_s(row - 89, name);
+    }
+    in_t_to_z(row - 128, name)
+}
+
+fn in_a_to_c(row: usize, name: &[u8]) -> Option<(RouteBy, Option<ResponsePolicy>)>
+    ensures { result ≡ value_at (map (λ row. (row.0.now, row.1)) NAMES_A_TO_C) row name.now }
+{
+    value_at(&NAMES_A_TO_C, row, name)
+}
+
+fn in_d_to_l(row: usize, name: &[u8]) -> Option<(RouteBy, Option<ResponsePolicy>)>
+    ensures { result ≡ value_at (map (λ row. (row.0.now, row.1)) NAMES_D_TO_L) row name.now }
+{
+    value_at(&NAMES_D_TO_L, row, name)
+}
+
+fn in_m_to_s(row: usize, name: &[u8]) -> Option<(RouteBy, Option<ResponsePolicy>)>
+    ensures { result ≡ value_at (map (λ row. (row.0.now, row.1)) NAMES_M_TO_S) row name.now }
+{
+    value_at(&NAMES_M_TO_S, row, name)
+}
+
+fn in_t_to_z(row: usize, name: &[u8]) -> Option<(RouteBy, Option<ResponsePolicy>)>
+    ensures { result ≡ value_at (map (λ row. (row.0.now, row.1)) NAMES_T_TO_Z) row name.now }
+{
+    value_at(&NAMES_T_TO_Z, row, name)
 }

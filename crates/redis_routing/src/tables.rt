@@ -2,9 +2,14 @@ use super::policy::ResponsePolicy;
 use super::route_by::RouteBy;
 use cluster_slots::{AggregateOp, LogicalAggregateOp, MultiSlotArgPattern};
 
-/// How commands of a name are routed, and how the replies to them make one, by ascending bytes. It
-/// has no row for most names, whose key is argument 1.
-pub(super) const NAMES: [(&[u8], (RouteBy, Option<ResponsePolicy>)); 155] = [
+/// A name, how its commands are routed, and how the replies to them make one.
+pub(super) type NameRow = (&'static [u8], (RouteBy, Option<ResponsePolicy>));
+
+// The rows of all names are in four tables, by ascending bytes. They have no row for most names, whose
+// key is argument 1. One table of all would take the prover a minute.
+
+/// The rows of the names that begin with A to C.
+pub(super) const NAMES_A_TO_C: [NameRow; 53] = [
     (
         b"ACL DELUSER",
         (RouteBy::AllNodes, Some(ResponsePolicy::AllSucceeded)),
@@ -82,6 +87,10 @@ pub(super) const NAMES: [(&[u8], (RouteBy, Option<ResponsePolicy>)); 155] = [
         b"CONFIG SET",
         (RouteBy::AllNodes, Some(ResponsePolicy::AllSucceeded)),
     ),
+];
+
+/// The rows of the names that begin with D to L.
+pub(super) const NAMES_D_TO_L: [NameRow; 36] = [
     (
         b"DBSIZE",
         (
@@ -205,6 +214,10 @@ pub(super) const NAMES: [(&[u8], (RouteBy, Option<ResponsePolicy>)); 155] = [
     ),
     (b"LMPOP", (RouteBy::CountAt(1), None)),
     (b"LOLWUT", (RouteBy::Random, None)),
+];
+
+/// The rows of the names that begin with M to S.
+pub(super) const NAMES_M_TO_S: [NameRow; 39] = [
     (
         b"MEMORY DOCTOR",
         (RouteBy::AllMasters, Some(ResponsePolicy::Special)),
@@ -322,6 +335,10 @@ pub(super) const NAMES: [(&[u8], (RouteBy, Option<ResponsePolicy>)); 155] = [
         b"SLOWLOG RESET",
         (RouteBy::AllNodes, Some(ResponsePolicy::AllSucceeded)),
     ),
+];
+
+/// The rows of the names that begin with T to Z.
+pub(super) const NAMES_T_TO_Z: [NameRow; 27] = [
     (b"TFCALL", (RouteBy::Random, None)),
     (b"TFCALLASYNC", (RouteBy::Random, None)),
     (b"TFUNCTION DELETE", (RouteBy::Random, None)),
