@@ -45,21 +45,6 @@ fn least<I, O>(
     least
 }
 
-/// `least` for calls whose answers are dropped after the round.
-fn least_kept<O>(rounds: u64, calls: u64, call: &mut impl FnMut() -> O) -> u64 {
-    let mut least = u64::MAX;
-    for _ in 0..rounds {
-        let mut answers = Vec::with_capacity(calls as usize);
-        let began = nanos();
-        for _ in 0..calls {
-            answers.push(call());
-        }
-        least = least.min(nanos() - began);
-        black_box(answers);
-    }
-    least
-}
-
 /// Prints the nanoseconds of a call, by those of so many calls in the least of so many rounds.
 fn print(mut least: impl FnMut(u64, u64) -> u64) {
     let one = least(3, 1).max(1);
@@ -72,11 +57,6 @@ fn print(mut least: impl FnMut(u64, u64) -> u64) {
 
 fn time<I, O>(mut input: impl FnMut() -> I, mut call: impl FnMut(I) -> O) {
     print(|rounds, calls| least(rounds, calls, &mut input, &mut call));
-}
-
-/// `time` for a call whose answer is dropped after the round.
-fn time_kept<O>(mut call: impl FnMut() -> O) {
-    print(|rounds, calls| least_kept(rounds, calls, &mut call));
 }
 
 #[derive(Clone, Copy, PartialEq, Eq, Hash)]
@@ -655,256 +635,6 @@ fn ints(count: usize) -> Vec<Value> {
     (0..count).map(|number| Value::Int(number as i64)).collect()
 }
 
-// Pipelines.
-
-#[derive(Clone, Copy)]
-#[allow(dead_code)]
-enum ErrorKind {
-    UnexpectedReturnType,
-    Client,
-}
-
-#[allow(dead_code)]
-struct RedisError {
-    kind: ErrorKind,
-    text: &'static str,
-    detail: Option<String>,
-}
-
-impl From<Refused> for RedisError {
-    fn from(_: Refused) -> Self {
-        RedisError {
-            kind: ErrorKind::UnexpectedReturnType,
-            text: "the replies of the parts make no reply",
-            detail: None,
-        }
-    }
-}
-
-/// What is answered to a command: a reply, or an error of the server.
-type Answer = Result<Value, RedisError>;
-
-/// What a plan keeps of a command.
-enum Task {
-    /// It goes out as it is.
-    Whole,
-    /// It goes out part by part, and the replies to the parts make one by the policy.
-    Parts(Routes, ResponsePolicy),
-}
-
-/// What goes out.
-enum Part<'a> {
-    Whole(&'a Cmd),
-    Split(Cmd),
-}
-
-impl Part<'_> {
-    fn command(&self) -> &Cmd {
-        match self {
-            Part::Whole(command) => command,
-            Part::Split(command) => command,
-        }
-    }
-}
-
-/// The parts that one node gets, by their numbers.
-struct Batch<'a> {
-    #[allow(dead_code)]
-    node: &'a NodeAddress,
-    parts: Vec<usize>,
-    is_told: bool,
-}
-
-/// A pipeline of commands in batches, one for each node, and the answers to the parts.
-struct PipelinePlan<'a> {
-    tasks: Vec<Task>,
-    parts: Vec<Part<'a>>,
-    batches: Vec<Batch<'a>>,
-    answers: Vec<Option<Answer>>,
-}
-
-impl<'a> PipelinePlan<'a> {
-    /// There is none where a command goes to no single slot and is not split, or where a slot has no
-    /// node.
-    #[inline(never)]
-    fn new(commands: &'a [Cmd], map: &'a SlotMap) -> Option<Self> {
-        let mut plan = PipelinePlan {
-            tasks: Vec::with_capacity(commands.len()),
-            parts: Vec::with_capacity(commands.len()),
-            batches: Vec::new(),
-            answers: Vec::new(),
-        };
-        let mut numbers = HashMap::new();
-        for command in commands {
-            let name = command.name()?;
-            let task = match base_routing(&name) {
-                RouteBy::KeyAt(place) => {
-                    let slot = slot_of(command.arg_idx(place)?);
-                    let node = node_of(map, Route(slot, SlotAddr::Master))?;
-                    plan.add(&mut numbers, node, Part::Whole(command));
-                    Task::Whole
-                }
-                RouteBy::MultiSlot => {
-                    let routes = split(command, width_of(&name), SlotAddr::Master);
-                    for (route, places) in &routes {
-                        let node = node_of(map, *route)?;
-                        plan.add(&mut numbers, node, Part::Split(part(command, places)));
-                    }
-                    Task::Parts(routes, policy(&name)?)
-                }
-                _ => return None,
-            };
-            plan.tasks.push(task);
-        }
-        plan.answers.resize_with(plan.parts.len(), || None);
-        Some(plan)
-    }
-
-    fn add(
-        &mut self,
-        numbers: &mut HashMap<&'a NodeAddress, usize>,
-        node: &'a NodeAddress,
-        part: Part<'a>,
-    ) {
-        let number = *numbers.entry(node).or_insert_with(|| {
-            self.batches.push(Batch {
-                node,
-                parts: Vec::new(),
-                is_told: false,
-            });
-            self.batches.len() - 1
-        });
-        self.batches[number].parts.push(self.parts.len());
-        self.parts.push(part);
-    }
-
-    #[inline(never)]
-    fn batch(&self, number: usize) -> Option<Vec<&Cmd>> {
-        let parts = &self.batches.get(number)?.parts;
-        Some(
-            parts
-                .iter()
-                .map(|part| self.parts[*part].command())
-                .collect(),
-        )
-    }
-
-    /// Gives the answers back where there are not as many as commands, or some were told before.
-    #[inline(never)]
-    fn tell(&mut self, number: usize, answers: Vec<Answer>) -> Result<(), Vec<Answer>> {
-        let Some(batch) = self.batches.get_mut(number) else {
-            return Err(answers);
-        };
-        if batch.is_told || batch.parts.len() != answers.len() {
-            return Err(answers);
-        }
-        batch.is_told = true;
-        for (part, answer) in batch.parts.iter().zip(answers) {
-            self.answers[*part] = Some(answer);
-        }
-        Ok(())
-    }
-
-    /// The answer to each command. There is none where a batch was not told.
-    #[inline(never)]
-    fn combine(self) -> Option<Vec<Answer>> {
-        if !self.batches.iter().all(|batch| batch.is_told) {
-            return None;
-        }
-        let mut answers = self.answers.into_iter().flatten();
-        let mut replies = Vec::with_capacity(self.tasks.len());
-        for task in &self.tasks {
-            replies.push(match task {
-                Task::Whole => answers.next()?,
-                Task::Parts(routes, policy) => {
-                    let own = answers.by_ref().take(routes.len()).collect();
-                    combined(own, routes, *policy)
-                }
-            });
-        }
-        Some(replies)
-    }
-}
-
-/// How many arguments a command has for each key.
-fn width_of(name: &[u8]) -> usize {
-    match name {
-        b"MSET" => 2,
-        b"JSON.MSET" => 3,
-        _ => 1,
-    }
-}
-
-/// The first error of the parts, or else what their replies make.
-fn combined(answers: Vec<Answer>, routes: &Routes, policy: ResponsePolicy) -> Answer {
-    let replies = answers.into_iter().collect::<Result<Vec<_>, _>>()?;
-    Ok(match policy {
-        ResponsePolicy::CombineArrays => sorted(replies, routes)?,
-        ResponsePolicy::Sum => sum(replies)?,
-        _ => replies.into_iter().next().ok_or(Refused)?,
-    })
-}
-
-/// Plans a pipeline, looks at each batch, tells its answers and combines them.
-#[inline(never)]
-fn planned(commands: &[Cmd], map: &SlotMap, answers: Vec<Vec<Answer>>) -> Option<Vec<Answer>> {
-    let mut plan = PipelinePlan::new(commands, map)?;
-    for (number, answers) in answers.into_iter().enumerate() {
-        black_box(plan.batch(number)?);
-        plan.tell(number, answers).ok()?;
-    }
-    plan.combine()
-}
-
-/// So many commands over keys that differ: every tenth is an `MGET` of three, and the others are
-/// `SET` and `GET` in turn.
-fn mixed_pipeline(count: usize) -> Vec<Cmd> {
-    let mut keys = (0..).map(|number| format!("key:{number}").into_bytes());
-    let mut key = || keys.next().unwrap_or_default();
-    let command = |number| match (number % 10, number % 2) {
-        (9, _) => command(&[b"MGET", &key(), &key(), &key()]),
-        (_, 0) => command(&[b"SET", &key(), b"value"]),
-        _ => command(&[b"GET", &key()]),
-    };
-    (0..count).map(command).collect()
-}
-
-/// What a node replies to a command of a mixed pipeline.
-fn reply_to(command: &Cmd) -> Value {
-    let value = || Value::BulkString(b"value".to_vec());
-    match command.arg_idx(0) {
-        Some(b"SET") => Value::Okay,
-        Some(b"GET") => value(),
-        _ => Value::Array((1..command.ends.len()).map(|_| value()).collect()),
-    }
-}
-
-/// The replies to the commands of each batch.
-fn replies_to(plan: &PipelinePlan) -> Vec<Vec<Value>> {
-    let replies = |batch: &Batch| {
-        let parts = batch.parts.iter().map(|part| &plan.parts[*part]);
-        parts.map(|part| reply_to(part.command())).collect()
-    };
-    plan.batches.iter().map(replies).collect()
-}
-
-/// Over a map of so many nodes.
-fn time_pipeline(nodes: usize, size: usize) {
-    let commands = mixed_pipeline(size);
-    let map = map_of(ranges(Hosts::Shared, nodes));
-    let plan = PipelinePlan::new(&commands, &map).expect("a plan");
-    let replies = replies_to(&plan);
-    let answers = || -> Vec<Vec<Answer>> {
-        let answers = |batch: &Vec<Value>| batch.iter().cloned().map(Ok).collect();
-        replies.iter().map(answers).collect()
-    };
-    time(answers, |answers| planned(&commands, &map, answers));
-}
-
-fn time_clone(value: Value) {
-    time_kept(|| black_box(&value).clone());
-}
-
 fn time_sorted(size: usize) {
     let routes = split(
         &command_of_keys(b"MGET", size),
@@ -1000,9 +730,10 @@ fn main() {
             let words = vec![b"argument".as_slice(); size];
             time(|| (), |()| command(&words));
         }
-        "clone-bulk-array" => time_clone(bulks(size)),
-        "pipeline-plan-3" => time_pipeline(3, size),
-        "pipeline-plan-1000" => time_pipeline(1000, size),
+        "clone-bulk-array" => {
+            let value = bulks(size);
+            time(|| (), |()| black_box(&value).clone());
+        }
         _ => {}
     }
 }

@@ -3,26 +3,20 @@ use std::alloc::{AllocError, AllocFailed};
 use std::io;
 
 /// Why nothing was timed.
-#[derive(Drop)]
+#[derive(Clone, Copy)]
 pub enum Fault {
-    /// The words name no operation and size.
+    /// The words name no operation.
     Words,
     /// Memory ran out.
     Memory,
-    /// The clock or the output failed.
+    /// The clock, the input or the output failed.
     Stream,
-    /// A call of the operation was refused, or its input could not be made.
+    /// The input is none for the operation, or a call was refused.
     Refused,
 }
 
 impl From<AllocError> for Fault {
     fn from(_: AllocError) -> Self {
-        Fault::Memory
-    }
-}
-
-impl<T: Drop> From<AllocFailed<T>> for Fault {
-    fn from(_: AllocFailed<T>) -> Self {
         Fault::Memory
     }
 }

@@ -1,5 +1,7 @@
 use crate::fault::Fault;
-use std::alloc::Global;
+use crate::given::Given;
+use resp_core::Value;
+use std::alloc::{AllocError, Global};
 use std::io;
 use std::time::{CpuClock, Duration};
 
@@ -30,13 +32,15 @@ impl<'a> Watch<'a> {
 
     /// Times rounds of a call, which gets the number of its turn and gives something of what it
     /// made.
-    pub fn time<F: Fn(usize) -> Result<usize, Fault>>(&mut self, call: F) -> Result<(), Fault>
+    pub fn time<F>(&mut self, given: &Given<'_>, call: F) -> Result<(), Fault>
+    where
+        F: Fn(&Given<'_>, usize) -> Result<usize, Fault>,
         requires { F.IsAlwaysCallable call }
     {
         for _ in 0..self.rounds {
             self.start()?;
             for turn in 0..self.calls {
-                let answer = call(turn)?;
+                let answer = call(given, turn)?;
                 self.keep(answer);
             }
             self.stop()?;
@@ -44,45 +48,22 @@ impl<'a> Watch<'a> {
         Ok(())
     }
 
-    /// `time` for a call that uses up what is made for it before the round.
-    pub fn time_with<T, M, F>(&mut self, alloc: Global, make: M, call: F) -> Result<(), Fault>
+    /// `time` for a call that uses up a copy of some replies, made before the round.
+    pub fn time_with_copies<F>(
+        &mut self,
+        given: &Given<'_>,
+        replies: &Vec<Value>,
+        call: F,
+    ) -> Result<(), Fault>
     where
-        T: Drop,
-        M: Fn() -> Result<T, Fault>,
-        F: Fn(T) -> Result<usize, Fault>,
-        requires made { M.IsAlwaysCallable make }
-        requires called { F.IsAlwaysCallable call }
-    {
-        for _ in 0..self.rounds {
-            let mut stock = Vec::with_capacity(alloc, self.calls)?;
-            for _ in 0..self.calls {
-                stock.push(make()?)?;
-            }
-            self.start()?;
-            for given in stock {
-                let answer = call(given)?;
-                self.keep(answer);
-            }
-            self.stop()?;
-        }
-        Ok(())
-    }
-
-    /// `time` for a call that uses up a copy of a value, made before the round.
-    pub fn time_copies<T, F>(&mut self, alloc: Global, given: &T, call: F) -> Result<(), Fault>
-    where
-        T: Clone + Drop,
-        F: Fn(T) -> Result<usize, Fault>,
+        F: Fn(&Given<'_>, Vec<Value>) -> Result<usize, Fault>,
         requires { F.IsAlwaysCallable call }
     {
         for _ in 0..self.rounds {
-            let mut stock = Vec::with_capacity(alloc, self.calls)?;
-            for _ in 0..self.calls {
-                stock.push(given.clone()?)?;
-            }
+            let copies = self.copies(given.alloc, replies)?;
             self.start()?;
-            for copy in stock {
-                let answer = call(copy)?;
+            for copy in copies {
+                let answer = call(given, copy)?;
                 self.keep(answer);
             }
             self.stop()?;
@@ -90,23 +71,9 @@ impl<'a> Watch<'a> {
         Ok(())
     }
 
-    /// `time` for a call whose result is dropped after the round.
-    pub fn time_kept<T, F>(&mut self, alloc: Global, call: F) -> Result<(), Fault>
-    where
-        T: Drop,
-        F: Fn() -> Result<T, Fault>,
-        requires { F.IsAlwaysCallable call }
-    {
-        for _ in 0..self.rounds {
-            let mut answers = Vec::with_capacity(alloc, self.calls)?;
-            self.start()?;
-            for _ in 0..self.calls {
-                answers.push(call()?)?;
-            }
-            self.stop()?;
-            self.keep(answers.len());
-        }
-        Ok(())
+    /// A copy of some replies for each call.
+    fn copies(&self, alloc: Global, replies: &Vec<Value>) -> Result<Vec<Vec<Value>>, AllocError> {
+        vec![in alloc; replies.clone()?; self.calls]
     }
 
     fn start(&mut self) -> io::Result<()> {

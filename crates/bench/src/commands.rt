@@ -1,0 +1,74 @@
+//! Calls on commands.
+use crate::fault::Fault;
+use crate::given::{Given, command_of};
+use crate::watch::Watch;
+use memory_nodes::MemoryNodes;
+use redis_cluster::driver::drive;
+use redis_cluster::routing::{RoutingInfo, SingleNodeRoutingInfo, SplitCommand};
+use resp_core::Cmd;
+use std::alloc::{AllocError, Global};
+
+/// A command of words, made and dropped.
+pub fn made(given: &Given<'_>, _turn: usize) -> Result<usize, Fault> {
+    Ok(command_of(given.alloc, given.words)?.len())
+}
+
+/// The slot that a command of one key goes to.
+pub fn route(given: &Given<'_>, _turn: usize) -> Result<usize, Fault> {
+    let info = RoutingInfo::for_routable(given.alloc, given.command, given.names.read_only)?;
+    match &info {
+        Some(RoutingInfo::SingleNode(SingleNodeRoutingInfo::SpecificNode(route))) => {
+            Ok(usize::from(route.slot()))
+        }
+        _ => Err(Fault::Refused),
+    }
+}
+
+/// The split of the command.
+pub fn split_of<'a>(given: &Given<'a>) -> Result<SplitCommand<'a, Cmd>, Fault> {
+    SplitCommand::new(given.alloc, given.command, given.names)?.ok_or(Fault::Refused)
+}
+
+/// The split of a command, without its parts.
+pub fn split(given: &Given<'_>, _turn: usize) -> Result<usize, Fault> {
+    Ok(split_of(given)?.len())
+}
+
+/// The parts of a split command, all at once, as a client has them that sends them itself.
+fn parts_of(alloc: Global, split: &SplitCommand<Cmd>) -> Result<Vec<Cmd>, AllocError> {
+    let mut parts = Vec::with_capacity(alloc, split.len())?;
+    for number in 0..split.len() {
+        parts.push(split.part(alloc, number)?)?;
+    }
+    Ok(parts)
+}
+
+/// The split of a command and its parts, with no plan, nodes or replies.
+pub fn split_with_parts(given: &Given<'_>, _turn: usize) -> Result<usize, Fault> {
+    Ok(parts_of(given.alloc, &split_of(given)?)?.len())
+}
+
+/// A command, driven over nodes in memory that hold no key.
+pub fn driven(watch: &mut Watch<'_>, given: &Given<'_>) -> Result<(), Fault> {
+    let order: Vec<usize> = (0..split_of(given)?.len()).collect(given.alloc)?;
+    watch.time(given, |given, _| sent(given, &order))
+}
+
+/// Drives the command in an order, and counts what was sent.
+fn sent(given: &Given<'_>, order: &[usize]) -> Result<usize, Fault> {
+    let mut nodes = MemoryNodes::new(given.alloc);
+    let read_only = given.names.read_only;
+    match drive(
+        given.alloc,
+        given.command,
+        read_only,
+        given.map,
+        None,
+        0,
+        order,
+        &mut nodes,
+    ) {
+        Ok(_) => Ok(nodes.trace().len()),
+        Err(_) => Err(Fault::Refused),
+    }
+}
