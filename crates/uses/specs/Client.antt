@@ -1,5 +1,5 @@
--- What a client writes, and then reads, and what it asks for.
-use Rattle.std.specs.Prelude.{ℕ, List, [], ◌∷◌, Some, map, codes}
+-- What a client asks for, and what was sent of it.
+use Rattle.std.specs.Prelude.{ℕ, List, [], Some, map}
 use Rattle.cluster_map.specs.Address.{Address}
 use Rattle.cluster_map.specs.RangeMap as ranges
 use Rattle.cluster_map.specs.RouteNode.{IsNodeOfRoute}
@@ -9,14 +9,6 @@ use Rattle.redis_cluster.specs.Driven.{Request, request, IsDelivered}
 use Rattle.redis_cluster.specs.Names.{names_of}
 use Rattle.redis_cluster.specs.Registry.{Registrations}
 use Rattle.redis_cluster.specs.Trace.{Entry}
-
--- the words of the command that writes
-abbrev pub write : List (List ℕ)
-write = codes "MSET" ∷ codes "a" ∷ codes "1" ∷ codes "b" ∷ codes "2" ∷ []
-
--- the words of the command that reads
-abbrev pub read : List (List ℕ)
-read = codes "MGET" ∷ codes "a" ∷ codes "b" ∷ []
 
 module _ (slots : List (ranges.RangeEntry SlotNodes)) where
   -- the address is the primary of the route's slot

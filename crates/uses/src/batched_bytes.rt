@@ -21,22 +21,21 @@ pub trait BatchConnections {
     ) -> Result<(), AllocError>;
 }
 
-/// Sends each batch, and returns the replies, batch after batch.
+/// Sends each batch, and adds the replies, batch after batch.
 pub fn send_each<C: BatchConnections>(
-    alloc: Global,
     connections: &mut C,
     batches: &BatchBytes,
-) -> Result<Vec<u8>, AllocError> {
-    let mut replies = Vec::new(alloc);
+    replies: &mut Vec<u8>,
+) -> Result<(), AllocError> {
     let mut start = 0;
     let counted = batches.nodes.iter().zip(batches.counts.iter());
     for ((node, count), end) in counted.zip(batches.ends.iter()) {
         if let Some(requests) = batches.bytes.get(start..*end) {
-            connections.answer(node, requests, *count, &mut replies)?;
+            connections.answer(node, requests, *count, replies)?;
         }
         start = *end;
     }
-    Ok(replies)
+    Ok(())
 }
 
 /// The replies to the requests of a pipeline, in order, by the replies to its batches.
@@ -63,6 +62,7 @@ pub fn replies_to<C: BatchConnections>(
     slot_map: &SlotMap,
 ) -> Result<Vec<u8>, BatchFault> {
     let batches = split_pipeline(alloc, requests, registry, slot_map)?;
-    let replies = send_each(alloc, connections, &batches)?;
+    let mut replies = Vec::new(alloc);
+    send_each(connections, &batches, &mut replies)?;
     in_order(alloc, requests, registry, slot_map, &replies)
 }

@@ -48,15 +48,26 @@ pub fn send_by_plan<C: BatchConnections>(
         Err(fault) => return Err(NoReplies::NotPlanned(fault)),
     };
     for number in 0..plan.len() {
-        let answers = exchange_batch(alloc, &plan, number, connections)?;
-        if plan.tell(number, answers).is_err() {
-            return Err(NoReplies::NotAnswered(number));
-        }
+        send_batch(alloc, &mut plan, number, connections)?;
     }
     plan.combine(alloc).map_err(NoReplies::NotCombined)
 }
 
-/// Sends one batch of a plan.
+/// Sends one batch of a plan, and passes the answers to the plan.
+fn send_batch<C: BatchConnections>(
+    alloc: Global,
+    plan: &mut PipelinePlan<'_>,
+    number: usize,
+    connections: &mut C,
+) -> Result<(), NoReplies> {
+    let answers = exchange_batch(alloc, plan, number, connections)?;
+    match plan.tell(number, answers) {
+        Ok(()) => Ok(()),
+        Err(_) => Err(NoReplies::NotAnswered(number)),
+    }
+}
+
+/// Sends one batch of a plan, and returns the answers.
 fn exchange_batch<C: BatchConnections>(
     alloc: Global,
     plan: &PipelinePlan<'_>,

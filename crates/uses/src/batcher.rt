@@ -9,8 +9,6 @@ use redis_cluster::driver::{PlanFault, SplitPlan};
 use redis_cluster::routing::{Names, ReadOnlyNames, Registry};
 use resp_core::{Cmd, ErrorKind, RedisError, Value};
 use std::alloc::{AllocError, AllocFailed, Global};
-use std::error::Error;
-use std::fmt;
 
 /// Why there is no reply to a part.
 #[derive(Debug, Drop)]
@@ -54,30 +52,6 @@ pub enum BatchError {
     /// Memory ran out. Parts may have taken effect.
     Memory,
 }
-
-impl fmt::Display for NoReply {
-    fn fmt<W: fmt::Write>(&self, f: &mut fmt::Formatter<W>) -> fmt::Result {
-        match self {
-            NoReply::Refused(error) => write!(f, "refused: {error}"),
-            NoReply::TimedOut => write!(f, "timed out"),
-        }
-    }
-}
-
-impl Error for NoReply {}
-
-impl fmt::Display for BatchError {
-    fn fmt<W: fmt::Write>(&self, f: &mut fmt::Formatter<W>) -> fmt::Result {
-        match self {
-            BatchError::NotPlanned(fault) => write!(f, "{fault}"),
-            BatchError::NotAnswered(number, cause) => write!(f, "part {number}: {cause}"),
-            BatchError::NotCombined(error) => write!(f, "bad reply: {error}"),
-            BatchError::Memory => write!(f, "out of memory"),
-        }
-    }
-}
-
-impl Error for BatchError {}
 
 impl From<AllocError> for BatchError {
     ghost use Rattle.uses.specs.declared.batcher.BatchError.TheVariants as batch;

@@ -3,7 +3,7 @@ use memory_nodes::MemoryNodes;
 use redis_cluster::driver::{DriveError, drive};
 use redis_cluster::routing::ReadOnlyNames;
 use resp_core::{Cmd, RedisResult, Value};
-use std::alloc::Global;
+use std::alloc::{AllocError, Global};
 
 /// A map of two nodes, each with half of the slots.
 pub fn two_nodes(alloc: Global) -> RedisResult<SlotMap> {
@@ -16,6 +16,15 @@ pub fn two_nodes(alloc: Global) -> RedisResult<SlotMap> {
     Ok(SlotMap::from_slots(alloc, slots)?)
 }
 
+/// The command of these words.
+pub fn command(alloc: Global, words: &str) -> Result<Cmd, AllocError> {
+    let mut command = Cmd::new(alloc);
+    for word in words.split(' ') {
+        command.write_arg(word.as_bytes())?;
+    }
+    Ok(command)
+}
+
 /// Sends a command of these words, whose keys lie in two slots, part 0 first.
 pub fn send(
     alloc: Global,
@@ -23,10 +32,7 @@ pub fn send(
     slot_map: &SlotMap,
     nodes: &mut MemoryNodes,
 ) -> Result<Value, DriveError> {
-    let mut command = Cmd::new(alloc);
-    for word in words.split(' ') {
-        command.write_arg(word.as_bytes())?;
-    }
+    let command = command(alloc, words)?;
     let none_only_reads = ReadOnlyNames::new(alloc);
     drive(
         alloc,

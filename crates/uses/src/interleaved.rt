@@ -1,7 +1,7 @@
 //! A read of two keys, and another client's write between its two parts.
 use cluster_map::SlotMap;
 use redis_cluster::driver::{Nodes, SplitPlan, drive};
-use redis_cluster::routing::{Names, ReadOnlyNames, Registry};
+use redis_cluster::routing::{Names, ReadOnlyNames};
 use resp_core::{Cmd, Value};
 use std::alloc::Global;
 
@@ -11,21 +11,26 @@ pub fn read_around<N: Nodes>(
     alloc: Global,
     read: &Cmd,
     write: &Cmd,
+    names: Names<'_>,
     slot_map: &SlotMap,
     nodes: &mut N,
 ) -> Option<Value> {
-    let (none_only_reads, none_registered) = (ReadOnlyNames::new(alloc), Registry::new(alloc));
-    let names = Names {
-        read_only: &none_only_reads,
-        registry: &none_registered,
-    };
-    let Ok(mut plan) = SplitPlan::new(alloc, read, names, slot_map, None, 0) else {
-        return None;
-    };
-    send_part(alloc, &mut plan, 0, slot_map, nodes)?;
-    send(alloc, write, &[0, 1], slot_map, nodes)?;
-    send_part(alloc, &mut plan, 1, slot_map, nodes)?;
+    let mut plan = SplitPlan::new(alloc, read, names, slot_map, None, 0).ok()?;
+    send_around(alloc, &mut plan, write, slot_map, nodes)?;
     plan.combine(alloc).ok()
+}
+
+/// Sends the two parts of a plan, and a write between them.
+fn send_around<N: Nodes>(
+    alloc: Global,
+    plan: &mut SplitPlan<'_, Cmd>,
+    write: &Cmd,
+    slot_map: &SlotMap,
+    nodes: &mut N,
+) -> Option<()> {
+    send_part(alloc, plan, 0, slot_map, nodes)?;
+    send(alloc, write, &[0, 1], slot_map, nodes)?;
+    send_part(alloc, plan, 1, slot_map, nodes)
 }
 
 /// Sends one part of a plan, and passes its reply to the plan.
@@ -42,7 +47,7 @@ fn send_part<N: Nodes>(
 }
 
 /// Sends the parts of a command in this order, and returns its reply, if there is one.
-pub fn send<N: Nodes>(
+fn send<N: Nodes>(
     alloc: Global,
     command: &Cmd,
     order: &[usize],

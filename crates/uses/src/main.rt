@@ -31,7 +31,10 @@ pub mod threads;
 use std::process::ExitCode;
 
 fn main(rt: HostRuntime) -> ExitCode {
-    match runs::run(&rt) {
+    let Ok(map) = first_drive::two_nodes(rt.alloc()) else {
+        return ExitCode::FAILURE;
+    };
+    match runs::run(&rt, &map) {
         Ok(()) => ExitCode::SUCCESS,
         Err(_) => ExitCode::FAILURE,
     }

@@ -1,259 +1,179 @@
 //! Runs of the examples that send commands, over nodes in memory or planned answers.
-use crate::batched_pipelines::send_over;
-use crate::batcher::{self, NoReply, batch};
-use crate::client::{ClientFault, write_and_read};
-use crate::node_of_key::two_nodes;
+use crate::batched_pipelines::{self, NoReplies, send_by_plan};
+use crate::batcher::{self, BatchError, NoReply, batch};
+use crate::client::write_and_read;
+use crate::first_drive::{self, command};
+use crate::interleaved;
 use crate::sending::{self, Answer, Connections, Sockets};
-use crate::{first_drive, interleaved};
 use cluster_map::{NodeAddress, SlotMap};
-use memory_batches::MemoryBatchNodes;
-use memory_nodes::{MemoryNodes, Planned};
-use redis_cluster::routing::{ReadOnlyNames, Registry};
+use memory_nodes::MemoryNodes;
+use redis_cluster::driver::DriveError;
+use redis_cluster::routing::{Names, ReadOnlyNames, Registry};
 use resp_core::{Cmd, ErrorKind, RedisError, RedisResult, Value};
 use std::alloc::{AllocError, Global};
-use std::fmt::Display;
+use std::fmt::Debug;
 use std::{io, mem};
 use wire::Client;
 
-/// Runs examples, and prints a line for each run.
-pub fn run(rt: &HostRuntime) -> io::Result<()> {
-    run_first(rt)?;
-    run_in_turn(rt)?;
-    run_at_once(rt)
-}
-
-/// The example that users read first.
-fn run_first(rt: &HostRuntime) -> io::Result<()> {
+/// Runs examples over a map of two nodes, and prints a line for each run.
+pub fn run(rt: &HostRuntime, map: &SlotMap) -> io::Result<()> {
     let alloc = rt.alloc();
-    let mut nodes = MemoryNodes::new(alloc);
-    let written = drive(alloc, "MSET foo 1 bar 2", &mut nodes);
-    print(rt, "both keys are written", written)?;
-    let counted = drive(alloc, "EXISTS foo bar", &mut nodes);
-    print(rt, "both keys are there", counted)
+    let (read_only, registry) = (ReadOnlyNames::new(alloc), Registry::new(alloc));
+    let names = Names {
+        read_only: &read_only,
+        registry: &registry,
+    };
+    run_in_memory(rt, map, names, &mut MemoryNodes::new(alloc))?;
+    run_planned(rt, map, names)
 }
 
-/// The examples that send parts one after the other.
-fn run_in_turn(rt: &HostRuntime) -> io::Result<()> {
+/// The examples over connections that return planned answers.
+fn run_planned(rt: &HostRuntime, map: &SlotMap, names: Names<'_>) -> io::Result<()> {
     let alloc = rt.alloc();
-    print(rt, "the second part is refused", refuse_second(alloc))?;
-    print(rt, "a client reads what it wrote", read_back(alloc, 4))?;
-    print(rt, "the reply to a write is lost", read_back(alloc, 1))?;
-    print(rt, "the reply to a read is lost", read_back(alloc, 3))?;
-    let (two, refused) = (Answer::Reply(Value::Int(2)), Answer::Error(refusal()));
-    print(rt, "both keys are deleted", delete(alloc, two))?;
-    print(rt, "one key is not deleted", delete(alloc, refused))?;
-    let text = read_around(alloc, "MSET a 0 b 0", "MSET a 1 b 1");
-    print(rt, "a write amid a read", text)?;
-    let text = read_around(alloc, "MSET a 0 b 1", "MSET c 2 d 2");
-    print(rt, "one server's reply", text)
+    show(rt, "a client reads what it wrote", read_back(alloc, map))?;
+    let refused = delete(alloc, map, Answer::Error(error("READONLY")));
+    show(rt, "one key is not deleted", refused)?;
+    let lost = delete(alloc, map, Answer::TimeOut(error("no reply")));
+    show(rt, "one reply is lost", lost)?;
+    let in_time = batched(alloc, map, Ok(Value::Int(0)));
+    show(rt, "two parts at once", in_time)?;
+    let late = batched(alloc, map, Err(NoReply::TimedOut));
+    show(rt, "one part is late", late)?;
+    show(rt, "a pipeline", pipeline(alloc, map, names))
 }
 
-/// The examples that send parts, or batches of commands, at once.
-fn run_at_once(rt: &HostRuntime) -> io::Result<()> {
+/// Prints what a run returned.
+fn show<T: Debug + Drop>(rt: &HostRuntime, run: &str, returned: T) -> io::Result<()> {
+    println!(rt; "{run}: {returned:?}")
+}
+
+/// The examples over nodes that hold keys in memory.
+fn run_in_memory(
+    rt: &HostRuntime,
+    map: &SlotMap,
+    names: Names<'_>,
+    nodes: &mut MemoryNodes,
+) -> io::Result<()> {
     let alloc = rt.alloc();
-    print(
-        rt,
-        "two parts at once",
-        batched(alloc, one(), Ok(Value::Int(0))),
-    )?;
-    let late = batched(alloc, one(), Err(NoReply::TimedOut));
-    print(rt, "one part is late", late)?;
-    let refused = batched(alloc, Err(NoReply::Refused(refusal())), one());
-    print(rt, "one part is refused", refused)?;
-    print(rt, "a pipeline", pipeline(alloc, &[0, 1]))?;
-    print(rt, "a pipeline, node 1 first", pipeline(alloc, &[1, 0]))
+    let written = first_drive::send(alloc, "MSET foo 1 bar 2", map, nodes);
+    show(rt, "both keys are written", written)?;
+    let counted = first_drive::send(alloc, "EXISTS foo bar", map, nodes);
+    show(rt, "both keys are there", counted)?;
+    let read = read_around(alloc, map, names, nodes);
+    show(rt, "a write amid a read", read)
 }
 
-fn one() -> batcher::Answer {
-    Ok(Value::Int(1))
+/// What `MGET foo bar` replies, with a write of both keys between its two parts.
+fn read_around(
+    alloc: Global,
+    map: &SlotMap,
+    names: Names<'_>,
+    nodes: &mut MemoryNodes,
+) -> Option<Value> {
+    let read = command(alloc, "MGET foo bar").ok()?;
+    let write = command(alloc, "MSET foo 3 bar 4").ok()?;
+    interleaved::read_around(alloc, &read, &write, names, map, nodes)
 }
 
-/// Prints what a run returned, or why there is nothing.
-fn print(rt: &HostRuntime, run: &str, text: RedisResult<String>) -> io::Result<()> {
-    match text {
-        Ok(text) => println!(rt; "{run}: {text}"),
-        Err(error) => println!(rt; "{run}: {error}"),
-    }
-}
-
-/// What `Debug` prints of a reply, and `Display` of an error.
-fn reply_text<E: Display>(alloc: Global, given: &Result<Value, E>) -> RedisResult<String> {
-    match given {
-        Ok(reply) => Ok(format!(in alloc; "{reply:?}")?),
-        Err(error) => Ok(format!(in alloc; "{error}")?),
-    }
-}
-
-/// The command of words with a space between them.
-fn command(alloc: Global, words: &str) -> RedisResult<Cmd> {
-    let mut command = Cmd::new(alloc);
-    for word in words.split(' ') {
-        command.write_arg(word.as_bytes())?;
-    }
-    Ok(command)
-}
-
-fn refusal() -> RedisError {
-    RedisError::from((ErrorKind::Client, "READONLY"))
-}
-
-/// The reply to a command over nodes in memory.
-fn drive(alloc: Global, words: &str, nodes: &mut MemoryNodes) -> RedisResult<String> {
-    let map = first_drive::two_nodes(alloc)?;
-    reply_text(alloc, &first_drive::send(alloc, words, &map, nodes))
-}
-
-/// Writes two keys, the second of which is refused.
-fn refuse_second(alloc: Global) -> RedisResult<String> {
-    let mut nodes = MemoryNodes::new(alloc);
-    nodes.plan(vec![in alloc; Planned::Answer, Planned::Refuse]?);
-    drive(alloc, "MSET foo 1 bar 2", &mut nodes)
-}
-
-/// The reply of a list of one text.
-fn list(alloc: Global, text: &[u8]) -> RedisResult<Answer> {
-    let item = Value::BulkString(text.to_vec(alloc)?);
-    Ok(Answer::Reply(Value::Array(vec![in alloc; item]?)))
-}
-
-/// Sockets that return the first of four answers, this many.
-fn sockets(alloc: Global, count: usize) -> RedisResult<Sockets> {
-    let (last, third) = (list(alloc, b"1")?, list(alloc, b"2")?);
-    let (second, first) = (Answer::Reply(Value::Okay), Answer::Reply(Value::Okay));
-    let mut answers = vec![in alloc; first, second, third, last]?;
-    answers.truncate(count);
-    answers.reverse();
-    Ok(Sockets { answers })
-}
-
-/// Writes two keys and reads them, over sockets that return this many answers.
-fn read_back(alloc: Global, count: usize) -> RedisResult<String> {
-    let map = two_nodes(alloc)?;
-    let mut sockets = sockets(alloc, count)?;
+/// Writes two keys and reads them, over sockets.
+fn read_back(alloc: Global, map: &SlotMap) -> Option<Value> {
+    let write = command(alloc, "MSET a 1 b 2").ok()?;
+    let read = command(alloc, "MGET a b").ok()?;
+    let mut sockets = four_answers(alloc).ok()?;
     let connections = Connections {
         sockets: &mut sockets,
     };
     let mut client = Client::over(connections, Registry::new(alloc));
-    client_text(alloc, &write_and_read(alloc, &map, &mut client))
+    write_and_read(alloc, &write, &read, map, &mut client).ok()
 }
 
-fn client_text(alloc: Global, given: &Result<Value, ClientFault>) -> RedisResult<String> {
-    match given {
-        Ok(reply) => Ok(format!(in alloc; "{reply:?}")?),
-        Err(ClientFault::Memory) => Ok(format!(in alloc; "out of memory")?),
-        Err(ClientFault::Write(error)) => Ok(format!(in alloc; "not written: {error}")?),
-        Err(ClientFault::Read(error)) => Ok(format!(in alloc; "not read: {error}")?),
-    }
+/// Sockets that return what two parts of an `MSET`, and then of an `MGET`, reply.
+fn four_answers(alloc: Global) -> RedisResult<Sockets> {
+    let one = Value::Array(vec![in alloc; Value::Int(1)]?);
+    let two = Value::Array(vec![in alloc; Value::Int(2)]?);
+    let answers = vec![in alloc;
+        Answer::Reply(one),
+        Answer::Reply(two),
+        Answer::Reply(Value::Okay),
+        Answer::Reply(Value::Okay),
+    ]?;
+    Ok(Sockets { answers })
 }
 
-/// Deletes two keys, over sockets that return 1 and then this answer.
-fn delete(alloc: Global, answer: Answer) -> RedisResult<String> {
-    let answers = vec![in alloc; answer, Answer::Reply(Value::Int(1))]?;
-    let (map, command) = (two_nodes(alloc)?, command(alloc, "DEL foo bar")?);
-    let mut sockets = Sockets { answers };
-    let reply = sending::send(alloc, &command, &map, &[0, 1], &mut sockets);
-    reply_text(alloc, &reply)
+fn error(text: &'static str) -> RedisError {
+    RedisError::from((ErrorKind::Client, text))
 }
 
-/// What `MGET a b` replies after the first write, with the second one between its two parts.
-fn read_around(alloc: Global, first: &str, second: &str) -> RedisResult<String> {
-    let map = two_nodes(alloc)?;
-    let mut nodes = MemoryNodes::new(alloc);
-    interleaved::send(alloc, &command(alloc, first)?, &[0, 1], &map, &mut nodes);
-    read_amid(alloc, second, &map, &mut nodes)
-}
-
-fn read_amid(
-    alloc: Global,
-    words: &str,
-    map: &SlotMap,
-    nodes: &mut MemoryNodes,
-) -> RedisResult<String> {
-    let (read, write) = (command(alloc, "MGET a b")?, command(alloc, words)?);
-    let reply = interleaved::read_around(alloc, &read, &write, map, nodes);
-    Ok(format!(in alloc; "{reply:?}")?)
+/// Deletes two keys, over sockets. The first part replies 1, and the second one answers this.
+fn delete(alloc: Global, map: &SlotMap, second: Answer) -> Result<Value, DriveError> {
+    let answers = vec![in alloc; second, Answer::Reply(Value::Int(1))];
+    let answers = answers.map_err(AllocError::from)?;
+    let command = command(alloc, "DEL foo bar")?;
+    sending::send(alloc, &command, map, &[0, 1], &mut Sockets { answers })
 }
 
 /// Connections that return these answers, whatever is sent.
 #[derive(Drop)]
-struct Scripted {
+struct Planned {
     answers: Vec<batcher::Answer>,
 }
 
-impl batcher::Connections for Scripted {
+impl batcher::Connections for Planned {
     fn exchange(
         &mut self,
-        parts: &[(&NodeAddress, &Cmd)],
+        _parts: &[(&NodeAddress, &Cmd)],
     ) -> Result<Vec<batcher::Answer>, AllocError> {
-        let _ = parts;
         let none = Vec::new(*self.answers.allocator());
         Ok(mem::replace(&mut self.answers, none))
     }
 }
 
-/// What a batch of `DEL foo bar` returns for these answers to its two parts.
-fn batched(alloc: Global, first: batcher::Answer, second: batcher::Answer) -> RedisResult<String> {
-    let answers = vec![in alloc; first, second]?;
-    let (map, command) = (two_nodes(alloc)?, command(alloc, "DEL foo bar")?);
-    reply_text(
-        alloc,
-        &batch(alloc, &command, &map, &mut Scripted { answers }),
-    )
+/// Deletes two keys at once. The first part replies 1, and the second one answers this.
+fn batched(alloc: Global, map: &SlotMap, second: batcher::Answer) -> Result<Value, BatchError> {
+    let answers = vec![in alloc; Ok(Value::Int(1)), second]?;
+    let command = command(alloc, "DEL foo bar")?;
+    batch(alloc, &command, map, &mut Planned { answers })
 }
 
-/// What goes out for a pipeline, its batches in this order, and then its last reply.
-fn pipeline(alloc: Global, order: &[usize]) -> RedisResult<String> {
-    let commands = pipeline_of(alloc)?;
-    sent_text(alloc, &commands, &two_nodes(alloc)?, order)
-}
-
-fn sent_text(
+/// Connections that answer each command by how many there were before it.
+#[derive(Drop)]
+struct Counting {
     alloc: Global,
-    commands: &[Cmd],
-    map: &SlotMap,
-    order: &[usize],
-) -> RedisResult<String> {
-    let none = ReadOnlyNames::new(alloc);
-    let mut nodes = MemoryBatchNodes::new(alloc);
-    match send_over(alloc, commands, &none, map, None, order, &mut nodes) {
-        Ok(replies) => pipeline_text(alloc, &nodes, replies.last()),
-        Err(error) => Ok(format!(in alloc; "{error}")?),
+    count: i64,
+}
+
+impl batched_pipelines::BatchConnections for Counting {
+    fn exchange(
+        &mut self,
+        _node: &NodeAddress,
+        batch: &[&Cmd],
+    ) -> Result<Vec<batched_pipelines::Answer>, AllocError> {
+        let mut answers = Vec::new(self.alloc);
+        for _ in batch {
+            answers.push(Ok(Value::Int(self.count)))?;
+            self.count = self.count.wrapping_add(1);
+        }
+        Ok(answers)
     }
 }
 
-fn pipeline_of(alloc: Global) -> RedisResult<Vec<Cmd>> {
+/// The replies to a pipeline whose first and last command go to one node.
+fn pipeline(
+    alloc: Global,
+    map: &SlotMap,
+    names: Names<'_>,
+) -> Result<Vec<batched_pipelines::Answer>, NoReplies> {
+    let Ok(commands) = three_commands(alloc) else {
+        return Err(NoReplies::Memory);
+    };
+    let mut connections = Counting { alloc, count: 0 };
+    send_by_plan(alloc, &commands, names, map, None, &mut connections)
+}
+
+fn three_commands(alloc: Global) -> RedisResult<Vec<Cmd>> {
     let mut commands = Vec::new(alloc);
-    for words in ["MSET foo 1 bar 2", "INCR foo", "MGET bar foo"] {
+    for words in ["INCR foo", "INCR bar", "INCR foo"] {
         commands.push(command(alloc, words)?)?;
     }
     Ok(commands)
-}
-
-/// Each command that was sent, after its node, and the last reply.
-fn pipeline_text(
-    alloc: Global,
-    nodes: &MemoryBatchNodes,
-    last: Option<&Result<Value, RedisError>>,
-) -> RedisResult<String> {
-    let mut text = String::new(alloc);
-    for entry in nodes.trace() {
-        push_sent(alloc, &mut text, &entry.node, &entry.command)?;
-    }
-    text.push_str(&format!(in alloc; "{last:?}")?)?;
-    Ok(text)
-}
-
-fn push_sent(
-    alloc: Global,
-    text: &mut String,
-    node: &NodeAddress,
-    command: &Cmd,
-) -> RedisResult<()> {
-    text.push_str(&format!(in alloc; "{node}")?)?;
-    for word in command.args() {
-        text.push(' ')?;
-        text.push_str(&String::from_utf8_lossy(alloc, word)?)?;
-    }
-    text.push_str("; ")?;
-    Ok(())
 }

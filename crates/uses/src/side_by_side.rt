@@ -1,7 +1,7 @@
 //! A client that sends the parts of a command side by side. `batcher` is one with theorems.
 use cluster_map::{NodeAddress, SlotMap};
 use redis_cluster::driver::{PlanFault, SplitPlan};
-use redis_cluster::routing::{Names, ReadOnlyNames, Registry};
+use redis_cluster::routing::Names;
 use resp_core::{Cmd, RedisError, Value};
 use std::alloc::{AllocError, Global};
 
@@ -31,14 +31,10 @@ pub enum BatchError {
 pub fn batch<C: Connections>(
     alloc: Global,
     command: &Cmd,
+    names: Names<'_>,
     slot_map: &SlotMap,
     connections: &mut C,
 ) -> Result<Value, BatchError> {
-    let (none_only_reads, none_registered) = (ReadOnlyNames::new(alloc), Registry::new(alloc));
-    let names = Names {
-        read_only: &none_only_reads,
-        registry: &none_registered,
-    };
     let mut plan = match SplitPlan::new(alloc, command, names, slot_map, None, 0) {
         Ok(plan) => plan,
         Err(fault) => return Err(BatchError::NotPlanned(fault)),

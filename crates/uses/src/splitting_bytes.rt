@@ -36,21 +36,20 @@ pub fn parts_of(
     }
 }
 
-/// Sends each part, and returns the replies one after another, in the order of the parts.
+/// Sends each part, and adds the replies one after another, in the order of the parts.
 pub fn send_parts<C: Connections>(
-    alloc: Global,
     connections: &mut C,
     parts: &Parts,
-) -> Result<Vec<u8>, AllocError> {
-    let mut replies = Vec::new(alloc);
+    replies: &mut Vec<u8>,
+) -> Result<(), AllocError> {
     let mut start = 0;
     for (route, end) in parts.routes.iter().zip(parts.ends.iter()) {
         if let Some(request) = parts.bytes.get(start..*end) {
-            connections.answer(*route, request, &mut replies)?;
+            connections.answer(*route, request, replies)?;
         }
         start = *end;
     }
-    Ok(replies)
+    Ok(())
 }
 
 /// What the client gets: the one reply, or the first error among the replies as it came.
