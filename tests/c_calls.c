@@ -5,7 +5,10 @@
    c_calls exact     what stands behind what is written stays, and so do the fields that a code does
                      not name; what a server refuses is refused, and the code is that of the first fault
    c_calls threads   random calls by four threads at once, with the results of one thread
-   c_calls once N    the call of number N, and its answer; nothing where there is no such call */
+   c_calls once N    the call of number N: its answer, and a sum of all that it writes. The number 0
+                     stands for a call that gets no memory and writes nothing. tests/refusals reads the names
+                     at a case: the library's calls that this one makes, and that take memory.
+                     resp::request_len takes none */
 #define _GNU_SOURCE
 #include "slotroute.h"
 
@@ -350,17 +353,25 @@ static int once(int call) {
     static uint16_t slots[SLOTROUTE_SLOTS];
     static uint8_t out[512];
     static char line[64];
-    size_t ends[8] = {0};
+    size_t ends[8] = {0}, counts[8] = {0};
     slotroute_told told = {0};
     slotroute_routed routed = {0};
     slotroute_redirected redirected = {0};
-    uint32_t answer;
+    uint32_t answer = SLOTROUTE_NO_MEMORY;
     switch (call) {
-    case 1: answer = slotroute_reply_len(BYTES(messages[9]), &told); break;
-    case 2: answer = slotroute_route(BYTES(messages[2]), 1, &routed, &told); break;
-    case 3: answer = slotroute_split(BYTES(messages[1]), slots, 8, ends, 8, out, sizeof out, &told); break;
-    case 4: answer = slotroute_combine(BYTES(messages[2]), BYTES(messages[7]), out, sizeof out, &told); break;
-    case 5:
+    case 1: /* resp::read */
+        answer = slotroute_reply_len(BYTES(messages[9]), &told);
+        break;
+    case 2: /* resp::read_request */
+        answer = slotroute_route(BYTES(messages[2]), 1, &routed, &told);
+        break;
+    case 3: /* redis_bytes::split resp::write_command */
+        answer = slotroute_split(BYTES(messages[1]), slots, 8, ends, 8, out, sizeof out, &told);
+        break;
+    case 4: /* redis_bytes::combine resp::write */
+        answer = slotroute_combine(BYTES(messages[2]), BYTES(messages[7]), out, sizeof out, &told);
+        break;
+    case 5: /* redis_bytes::slot_table redis_bytes::slot_map */
         answer = slotroute_table(BYTES(messages[9]), BYTES("n2"), 2, 0, slots, SLOTROUTE_SLOTS, out,
                                  sizeof out, &told);
         break;
@@ -368,21 +379,22 @@ static int once(int call) {
         answer = slotroute_redirect(BYTES("MOVED 1 a-host-of-more-than-sixteen-bytes:1"), BYTES("n1"), out,
                                     sizeof out, &redirected);
         break;
-    case 7: {
-        size_t counts[8] = {0};
+    case 7: /* redis_batch_bytes::split_pipeline redis_batch_bytes::numbered_map */
         answer = slotroute_split_pipeline(BYTES(PIPELINE), halves, SLOTROUTE_SLOTS, slots, 8, counts, 8, ends,
                                           8, out, sizeof out, &told);
         break;
-    }
-    case 8:
+    case 8: /* redis_batch_bytes::combine_pipeline */
         answer = slotroute_combine_pipeline(BYTES(PIPELINE), halves, SLOTROUTE_SLOTS,
                                             BYTES("-ERR no\r\n*1\r\n$1\r\n1\r\n*1\r\n$-1\r\n"), out,
                                             sizeof out, &told);
         break;
-    default: return 0;
     }
+    uint64_t sum = mixed(mixed(14695981039346656037u, slots, sizeof slots), out, sizeof out);
+    sum = mixed(mixed(sum, ends, sizeof ends), counts, sizeof counts);
+    sum = mixed(mixed(sum, &told, sizeof told), &routed, sizeof routed);
+    sum = mixed(sum, &redirected.host_len, sizeof redirected.host_len);
     setvbuf(stdout, line, _IOFBF, sizeof line);
-    printf("%u\n", (unsigned)answer);
+    printf("%u %016llx\n", (unsigned)answer, (unsigned long long)sum);
     return 0;
 }
 

@@ -1,94 +1,83 @@
-//! Runs of the program, as rows name them.
-mod failing;
-mod runs;
-mod steady_streams;
-mod streams;
-
-use crate::serving::failing::Failing;
-use crate::serving::runs::{Modes, Run, Written, run_of, serve_with, shown};
-use crate::serving::streams::Mode;
-use fixtures::{self, Lent, bad_row, bytes, cut, expanded, number, plain};
+//! Runs of the program, over streams in memory.
+use cluster_map::ReadRoutingStrategy;
+use fixtures::{Turns, bad_row, bytes, cut, pieces, text};
 use resp_core::RedisResult;
-use slotroute_serve::{CommandFault, Refusal};
+use slotroute_serve::serve;
 use std::alloc::Global;
+use std::io::{self, ErrorKind, Write};
 
-/// What a call of this name returns. The strategy is passed to the next `serve`.
-pub fn call(
-    strategy: &mut Option<Lent>,
-    alloc: Global,
-    name: &str,
-    words: &str,
-) -> RedisResult<String> {
-    match name {
-        "strategy" => hand_in(strategy, alloc, words),
-        "serve" => serve(strategy, alloc, &run_of(alloc, words)?),
-        "prints" => prints(alloc, words, true),
-        "ends" => prints(alloc, words, false),
-        "fault" => fault(alloc, words),
-        _ => serve_over(alloc, name, &run_of(alloc, words)?),
+/// Takes a byte at each second call, and is interrupted at the others.
+#[derive(Drop)]
+struct Interrupted<'a> {
+    taken: &'a mut Vec<u8>,
+    is_next: bool,
+}
+
+impl Write for Interrupted<'_> {
+    fn write(&mut self, buf: &[u8]) -> io::Result<usize> {
+        self.is_next = !self.is_next;
+        if self.is_next {
+            return Err(io::Error::from(ErrorKind::Interrupted));
+        }
+        self.taken.write(&buf[..buf.len().min(1)])
+    }
+
+    fn flush(&mut self) -> io::Result<()> {
+        Ok(())
     }
 }
 
-fn hand_in(strategy: &mut Option<Lent>, alloc: Global, name: &str) -> RedisResult<String> {
-    *strategy = Lent::new(name)?;
-    plain(alloc, "handed in")
-}
-
-/// What the fault of a command prints, if no node has this slot of its key.
-fn fault(alloc: Global, slot: &str) -> RedisResult<String> {
-    let fault = CommandFault::Refused(Refusal::NotCovered(number(slot)?));
-    fixtures::shown(alloc, &fault)
-}
-
-/// What a run writes with the strategy that was passed, which it uses up.
-fn serve(strategy: &mut Option<Lent>, alloc: Global, run: &Run) -> RedisResult<String> {
-    let written = match strategy.take() {
-        Some(lent) => serve_with(alloc, run, Modes::whole(), Some(Box::new(alloc, lent)?)),
-        None => serve_with(alloc, run, Modes::whole(), None),
-    };
-    shown(alloc, &written)
-}
-
-/// Whether the output of a run is, or ends with, what stands before the first bar.
-fn prints(alloc: Global, words: &str, is_whole: bool) -> RedisResult<String> {
-    let (want, words) = cut(words, " | ");
-    let want = bytes(alloc, &expanded(alloc, want)?)?;
-    let mut written = serve_with(alloc, &run_of(alloc, words)?, Modes::whole(), None);
-    if written.output.ends_with(&want) && (!is_whole || written.output.len() == want.len()) {
-        written.output.clear();
-        written.output.extend_from_slice(b"so")?;
-    }
-    shown(alloc, &written)
-}
-
-/// What is read of an input that stays open after its last byte, whether more is asked for, and
-/// what the run writes.
-fn open(alloc: Global, written: &Written) -> RedisResult<String> {
-    let told = shown(alloc, written)?;
-    let asked = match written.reading {
-        Mode::Open(true) => "asked for more",
-        _ => "no more asked for",
-    };
-    Ok(format!(in alloc; "{} left, {asked}: {told}", written.unread)?)
-}
-
-/// What a run writes over streams that fail, are interrupted, or take nothing.
-fn serve_over(alloc: Global, name: &str, run: &Run) -> RedisResult<String> {
-    let mut modes = Modes::whole();
-    match name {
-        "open" => modes.reading = Mode::Open(false),
-        "interrupted_input" => modes.reading = Mode::Interrupted(false),
-        "interrupted_output" => modes.writing = Mode::Interrupted(false),
-        "full_output" => modes.writing = Mode::Full,
-        "fails_reading" => return failing::answer(alloc, Failing::Reading, run),
-        "fails_writing" => return failing::answer(alloc, Failing::Writing, run),
-        "fails_telling" => return failing::answer(alloc, Failing::Telling, run),
-        "steadily" => return steady_streams::answer(alloc, run),
+/// What a run of this name writes.
+pub fn call(alloc: Global, name: &str, row: &str) -> RedisResult<String> {
+    // With room, so that a short output does not fail for memory.
+    let mut out = Vec::with_capacity(alloc, 1000)?;
+    let told = match name {
+        "run" => run(alloc, row, &mut out, None)?,
+        "turns" => run(alloc, row, &mut out, Some(Box::new(alloc, Turns::new())?))?,
+        "interrupted" => run_interrupted(alloc, row, &mut out)?,
         _ => return Err(bad_row("no call of this name")),
+    };
+    let out = String::from_utf8_lossy(alloc, &out)?;
+    Ok(format!(in alloc; "{out:?} {told}")?)
+}
+
+fn run_interrupted(alloc: Global, row: &str, taken: &mut Vec<u8>) -> RedisResult<String> {
+    let mut out = Interrupted {
+        taken,
+        is_next: false,
+    };
+    run(alloc, row, &mut out, None)
+}
+
+/// The words of a command line.
+fn words_of(alloc: Global, row: &str) -> RedisResult<Vec<String>> {
+    let mut words = Vec::new(alloc);
+    for word in &pieces(alloc, row, " ")? {
+        words.push(text(alloc, word)?)?;
     }
-    let written = serve_with(alloc, run, modes, None);
-    match modes.reading {
-        Mode::Open(_) => open(alloc, &written),
-        _ => shown(alloc, &written),
-    }
+    Ok(words)
+}
+
+/// Runs the program on the words of a row, and after a bar its input. Returns what goes to the error
+/// stream, and the status.
+fn run<O: Write>(
+    alloc: Global,
+    row: &str,
+    out: &mut O,
+    strategy: Option<Box<dyn ReadRoutingStrategy>>,
+) -> RedisResult<String> {
+    let (words, input) = cut(row, " | ");
+    let words = words_of(alloc, words)?;
+    let input = bytes(alloc, input)?;
+    let mut err = Vec::with_capacity(alloc, 1000)?;
+    let status = serve(
+        alloc,
+        &words,
+        &mut input.as_slice(),
+        out,
+        &mut err,
+        strategy,
+    );
+    let err = String::from_utf8_lossy(alloc, &err)?;
+    Ok(format!(in alloc; "{err:?} {status}")?)
 }

@@ -1,231 +1,116 @@
-//! The map of a cluster, the strategy that it borrows, and its shards.
-pub mod addresses;
-pub mod ranges;
-mod shards;
-pub mod slots;
-
-use cluster_map::{
-    ClusterTopology, ReadRoutingStrategy, Route, SlotAddr, SlotMap, SlotRange, parse_slots,
-    slot_cmd,
-};
+//! The map of a cluster, and its shards.
+use cluster_map::{ClusterTopology, Route, Shard, SlotAddr, SlotMap, parse_slots, slot_cmd};
 use fixtures::{
-    Cluster, Lent, bad_row, bytes, cmd_text, debug, equality, expanded, joined, lines, map, number,
-    okay, push_next, ranges, shown, shown_or_none, slot_addr, text, two, value,
+    Turns, bad_row, cmd_text, debug, equality, lines, map, number, okay, push_next, ranges,
+    slot_addr, two, value,
 };
-use resp_core::{RedisResult, Value};
+use resp_core::RedisResult;
 use std::alloc::Global;
 
-/// The state that rows set and later rows use.
-#[derive(Drop)]
-pub struct Maps {
-    cluster: Cluster,
-    topology: Option<ClusterTopology>,
-}
-
-impl Maps {
-    /// An empty map, and no strategy.
-    pub fn new(alloc: Global) -> Self {
-        Maps {
-            cluster: Cluster::new(alloc),
-            topology: None,
-        }
-    }
-}
-
-/// What a call of this name returns that sets something, or that asks for a node.
-pub fn call(maps: &mut Maps, alloc: Global, name: &str, words: &str) -> RedisResult<String> {
+/// What a call of this name returns. The map is that of earlier rows.
+pub fn call(slots: &mut SlotMap, alloc: Global, name: &str, words: &str) -> RedisResult<String> {
     match name {
-        "map" => set_map(maps, alloc, words),
-        "fill" => fill(maps, alloc, words),
-        "reply" => reply(maps, alloc, words),
-        "strategy" => maps.cluster.set_strategy(alloc, words),
-        "tell" => tell(maps, alloc),
-        "topology" => map_topology(maps, alloc),
-        "shards" => set_topology(maps, alloc, shards::topology_of(alloc, words)?),
-        "copied_topology" => copied_topology(maps, alloc),
-        _ => ask(maps, alloc, name, words),
+        "map" => *slots = map(alloc, words)?,
+        "fill" => slots.fill_slots(ranges(alloc, words)?)?,
+        "reply" => *slots = map_of_reply(alloc, words)?,
+        _ => return ask(slots, alloc, name, words),
     }
-}
-
-fn set_map(maps: &mut Maps, alloc: Global, words: &str) -> RedisResult<String> {
-    maps.cluster.map = map(alloc, &expanded(alloc, words)?)?;
-    count(alloc, &maps.cluster.map)
-}
-
-fn fill(maps: &mut Maps, alloc: Global, words: &str) -> RedisResult<String> {
-    maps.cluster
-        .map
-        .fill_slots(ranges(alloc, &expanded(alloc, words)?)?)?;
-    count(alloc, &maps.cluster.map)
-}
-
-/// Keeps the topology of the map.
-fn map_topology(maps: &mut Maps, alloc: Global) -> RedisResult<String> {
-    let topology = maps.cluster.map.topology(alloc)?;
-    set_topology(maps, alloc, topology)
+    okay(alloc)
 }
 
 /// What a call of this name returns that sets nothing.
-fn ask(maps: &Maps, alloc: Global, name: &str, words: &str) -> RedisResult<String> {
+fn ask(slots: &SlotMap, alloc: Global, name: &str, words: &str) -> RedisResult<String> {
     match name {
-        "node" => node(maps, alloc, words),
-        "nodes" => nodes(maps, alloc, words),
-        "node_of_key" => node_of_key(alloc, &maps.cluster.map, words),
-        "fallback" => {
-            let route = route_of(words)?.0;
-            joined(alloc, &maps.cluster.map.shard_fallback_addrs(alloc, route)?)
-        }
-        "primaries" => joined(alloc, &maps.cluster.map.addresses_for_all_primaries(alloc)?),
-        "all_nodes" => joined(alloc, &maps.cluster.map.addresses_for_all_nodes(alloc)?),
-        "sizes" => sizes(alloc, &maps.cluster.map),
-        "shard" => shards::shard_at(alloc, &maps.topology, words),
-        "printed" => debug(alloc, &maps.cluster.map),
-        "copied_range" => equality(alloc, &range_of(alloc, words)?),
+        "printed" => debug(alloc, slots),
+        "default" => debug(alloc, &SlotMap::default(alloc)),
+        "node" => node(alloc, slots, words),
+        "nodes" => nodes(alloc, slots, words),
+        "fallback" => debug(
+            alloc,
+            &slots.shard_fallback_addrs(alloc, read_of(number(words)?))?,
+        ),
+        "primaries" => debug(alloc, &slots.addresses_for_all_primaries(alloc)?),
+        "all_nodes" => debug(alloc, &slots.addresses_for_all_nodes(alloc)?),
+        "topology" => primaries(alloc, &slots.topology(alloc)?),
+        _ => make(alloc, name, words),
+    }
+}
+
+/// What a call of this name returns that takes no map.
+fn make(alloc: Global, name: &str, words: &str) -> RedisResult<String> {
+    match name {
+        "parsed" => parsed(alloc, words),
+        "shards" => primaries(alloc, &topology_of(alloc, words)?),
+        "copied_shards" => primaries(alloc, &topology_of(alloc, words)?.clone()?),
+        "copied_ranges" => equality(alloc, &ranges(alloc, words)?),
         "slots_command" => cmd_text(alloc, &slot_cmd(alloc)?),
         _ => Err(bad_row("no call of this name")),
     }
 }
 
-/// How many ranges a map has.
-fn count(alloc: Global, map: &SlotMap) -> RedisResult<String> {
-    shown(alloc, &map.values().count())
-}
-
-/// How many ranges, primaries, nodes and shards a map has.
-fn sizes(alloc: Global, map: &SlotMap) -> RedisResult<String> {
-    let ranges = map.values().count();
-    let primaries = map.addresses_for_all_primaries(alloc)?.len();
-    let nodes = map.addresses_for_all_nodes(alloc)?.len();
-    let shards = map.topology(alloc)?.shards().count();
-    Ok(format!(in alloc; "{ranges} ranges, {primaries} primaries, {nodes} nodes, {shards} shards")?)
-}
-
-/// The ranges of a reply. The map is then made of the reply.
-fn reply(maps: &mut Maps, alloc: Global, words: &str) -> RedisResult<String> {
+/// The ranges of a reply, after the host of the node that answered.
+fn parsed(alloc: Global, words: &str) -> RedisResult<String> {
     let (answering, reply) = two(words);
-    let answering = text(alloc, answering)?;
-    let reply = value(alloc, &expanded(alloc, reply)?)?;
-    maps.cluster.map = SlotMap::from_reply(alloc, &reply, &answering)?;
-    ranges_text(alloc, &reply, &answering)
+    debug(
+        alloc,
+        &parse_slots(alloc, &value(alloc, reply)?, answering)?,
+    )
 }
 
-/// Adds a range with its nodes, the primary first.
-fn push_range(alloc: Global, text: &mut String, range: &SlotRange) -> RedisResult<()> {
-    let (start, end, master) = (range.start, range.end, &range.master);
-    push_next(text, "; ", &format!(in alloc; "{start} {end} {master}")?)?;
-    for replica in &range.replicas {
-        push_next(text, " ", &shown(alloc, replica)?)?;
-    }
-    Ok(())
+fn map_of_reply(alloc: Global, words: &str) -> RedisResult<SlotMap> {
+    let (answering, reply) = two(words);
+    SlotMap::from_reply(alloc, &value(alloc, reply)?, answering)
 }
 
-/// The ranges of a reply, or `none`. How many there are if these are more than 10, and how many
-/// bytes their text has if these are more than 1000.
-fn ranges_text(alloc: Global, reply: &Value, answering: &str) -> RedisResult<String> {
-    let mut text = String::new(alloc);
-    let ranges = parse_slots(alloc, reply, answering)?;
-    if ranges.len() > 10 {
-        return Ok(format!(in alloc; "{} ranges", ranges.len())?);
-    }
-    for range in &ranges {
-        push_range(alloc, &mut text, range)?;
-    }
-    match text.len() {
-        0 => Ok(format!(in alloc; "none")?),
-        length if length > 1000 => Ok(format!(in alloc; "{length} bytes")?),
-        _ => Ok(text),
-    }
+fn read_of(slot: u16) -> Route {
+    Route::new(slot, SlotAddr::ReplicaOptional)
 }
 
-/// Passes the shards of the map to the strategy.
-fn tell(maps: &mut Maps, alloc: Global) -> RedisResult<String> {
-    let topology = maps.cluster.map.topology(alloc)?;
-    match &mut maps.cluster.lent {
-        Some(lent) => lent.tell(topology),
-        None => return Err(bad_row("no strategy")),
-    }
-    okay(alloc)
+/// The route of a text: a slot, and which of its nodes.
+fn route_of(words: &str) -> RedisResult<Route> {
+    let (slot, addr) = two(words);
+    Ok(Route::new(number(slot)?, slot_addr(addr)?))
 }
 
-/// Keeps a topology. Returns the primaries of its shards.
-fn set_topology(maps: &mut Maps, alloc: Global, topology: ClusterTopology) -> RedisResult<String> {
-    let primaries = shards::primaries(alloc, &topology);
-    maps.topology = Some(topology);
-    primaries
+/// The node of a route, and how often a strategy was asked for it.
+fn node(alloc: Global, slots: &SlotMap, words: &str) -> RedisResult<String> {
+    let turns = Turns::new();
+    let node = slots.slot_addr_for_route(route_of(words)?, Some(&turns), 0);
+    Ok(format!(in alloc; "{node:?}, asked {}", turns.asked())?)
 }
 
-/// Replaces the topology by a clone.
-fn copied_topology(maps: &mut Maps, alloc: Global) -> RedisResult<String> {
-    let copy = match &maps.topology {
-        Some(topology) => topology.clone()?,
-        None => return Err(bad_row("no topology")),
-    };
-    set_topology(maps, alloc, copy)
-}
-
-/// A route, and the pick that is passed with it.
-fn route_of(words: &str) -> RedisResult<(Route, usize)> {
-    let (slot, others) = two(words);
-    let (addr, pick) = two(others);
-    let pick = if pick.is_empty() { 0 } else { number(pick)? };
-    Ok((Route::new(number(slot)?, slot_addr(addr)?), pick))
-}
-
-/// The one range of a text.
-fn range_of(alloc: Global, words: &str) -> RedisResult<SlotRange> {
-    match ranges(alloc, words)?.pop() {
-        Some(range) => Ok(range),
-        None => Err(bad_row("no range")),
-    }
-}
-
-/// The node of a route, and how often the strategy was asked, if it counts.
-fn node(maps: &Maps, alloc: Global, words: &str) -> RedisResult<String> {
-    let (route, pick) = route_of(words)?;
-    let node = match &maps.cluster.lent {
-        Some(lent) => maps
-            .cluster
-            .map
-            .slot_addr_for_route(route, Some(lent), pick),
-        None => maps.cluster.map.slot_addr_for_route(route, None, pick),
-    };
-    Lent::with_asked(&maps.cluster.lent, alloc, &shown_or_none(alloc, node)?)
-}
-
-/// The routes of a text, a semicolon and a space apart.
+/// The routes of a text, a semicolon and a space apart, each with no index.
 fn routes_of(alloc: Global, words: &str) -> RedisResult<Vec<(Route, Vec<usize>)>> {
     let mut routes = Vec::new(alloc);
     for line in &lines(alloc, words)? {
-        routes.push((route_of(line)?.0, Vec::new(alloc)))?;
+        routes.push((route_of(line)?, Vec::new(alloc)))?;
     }
     Ok(routes)
 }
 
-/// The nodes of many routes, with a strategy.
-fn nodes_by(
-    alloc: Global,
-    map: &SlotMap,
-    strategy: Option<&dyn ReadRoutingStrategy>,
-    words: &str,
-) -> RedisResult<String> {
+/// The nodes of many routes, and how often a strategy was asked for them.
+fn nodes(alloc: Global, slots: &SlotMap, words: &str) -> RedisResult<String> {
+    let routes = routes_of(alloc, words)?;
+    let turns = Turns::new();
+    let nodes = slots.addresses_for_multi_slot(alloc, &routes, Some(&turns), 0)?;
+    Ok(format!(in alloc; "{nodes:?}, asked {}", turns.asked())?)
+}
+
+/// The topology of shards of one range each.
+fn topology_of(alloc: Global, words: &str) -> RedisResult<ClusterTopology> {
+    let mut shards = Vec::new(alloc);
+    for range in ranges(alloc, words)? {
+        let slots = vec![in alloc; (range.start, range.end)]?;
+        shards.push(Shard::new(slots, range.master, range.replicas))?;
+    }
+    Ok(ClusterTopology::from_shards(alloc, shards)?)
+}
+
+/// The hosts of the primaries of all shards.
+fn primaries(alloc: Global, topology: &ClusterTopology) -> RedisResult<String> {
     let mut text = String::new(alloc);
-    for node in &map.addresses_for_multi_slot(alloc, &routes_of(alloc, words)?, strategy, 0)? {
-        push_next(&mut text, " ", &shown_or_none(alloc, *node)?)?;
+    for shard in topology.shards() {
+        push_next(&mut text, " ", shard.primary().host())?;
     }
     Ok(text)
-}
-
-/// The nodes of many routes, and how often the strategy was asked, if it counts.
-fn nodes(maps: &Maps, alloc: Global, words: &str) -> RedisResult<String> {
-    let nodes = match &maps.cluster.lent {
-        Some(lent) => nodes_by(alloc, &maps.cluster.map, Some(lent), words)?,
-        None => nodes_by(alloc, &maps.cluster.map, None, words)?,
-    };
-    Lent::with_asked(&maps.cluster.lent, alloc, &nodes)
-}
-
-/// The node that a write of a key goes to.
-fn node_of_key(alloc: Global, map: &SlotMap, word: &str) -> RedisResult<String> {
-    let route = Route::with_key(&bytes(alloc, word)?, SlotAddr::Master);
-    shown_or_none(alloc, map.slot_addr_for_route(route, None, 0))
 }

@@ -1,14 +1,11 @@
 //! The names that only read, and those that are registered.
 pub mod combiners;
 pub mod pipelines;
-mod policies;
 mod routes;
 mod tables;
-mod texts;
 
-use crate::routing::policies::{pattern, policy};
-use fixtures::{bytes, equality, plain, read_only_names, shown, two};
-use redis_cluster::routing::{Names, ReadOnlyNames, RegisterError, Registry};
+use fixtures::{bytes, equality, okay, or_text, read_only_names};
+use redis_cluster::routing::{MultiSlotArgPattern, Names, ReadOnlyNames, Registry, ResponsePolicy};
 use resp_core::RedisResult;
 use std::alloc::Global;
 
@@ -43,12 +40,9 @@ impl Known {
 pub fn call(known: &mut Known, alloc: Global, name: &str, text: &str) -> RedisResult<String> {
     match name {
         "reading" => reading(alloc, known, text),
-        "reads" => shown(alloc, &known.read_only.contains(&bytes(alloc, text)?)),
-        "registry" => registry(alloc, known, text),
         "register" => register(alloc, known, text),
-        "clone_registry" => equality(alloc, &known.registry),
-        "refusals" => refusals(alloc),
-        "routing" | "policy" | "redirect" | "clone_redirect" | "clone_address" => {
+        "copied_registry" => equality(alloc, &known.registry),
+        "routing" | "policy" | "redirect" | "copied_redirect" | "copied_address" => {
             tables::call(alloc, name, text)
         }
         _ => routes::call(alloc, known, name, text),
@@ -58,33 +52,19 @@ pub fn call(known: &mut Known, alloc: Global, name: &str, text: &str) -> RedisRe
 /// These names only read, and no other does.
 fn reading(alloc: Global, known: &mut Known, text: &str) -> RedisResult<String> {
     known.read_only = read_only_names(alloc, text)?;
-    plain(alloc, "ok")
+    okay(alloc)
 }
 
-/// A new registry, or a copy that replaces the old one. Returns how many names it has.
-fn registry(alloc: Global, known: &mut Known, text: &str) -> RedisResult<String> {
-    known.registry = match text {
-        "new" => Registry::new(alloc),
-        _ => known.registry.clone()?,
-    };
-    shown(alloc, &known.registry.len())
-}
-
-/// Registers a name, after its pattern and its policy.
+/// Registers a name whose arguments are pairs, and whose parts all have to succeed.
 fn register(alloc: Global, known: &mut Known, text: &str) -> RedisResult<String> {
-    let (first, rest) = two(text);
-    let (second, name) = two(rest);
-    let (pattern, policy) = (pattern(first)?, policy(second)?);
-    let name = bytes(alloc, name)?;
-    match known.registry.register(alloc, &name, pattern, policy) {
-        Ok(()) => plain(alloc, "ok"),
-        Err(refusal) => shown(alloc, &refusal),
-    }
-}
-
-/// The texts of all refusals.
-fn refusals(alloc: Global) -> RedisResult<String> {
-    let (name, taken) = (RegisterError::BadName, RegisterError::Taken);
-    let (policy, memory) = (RegisterError::BadPolicy, RegisterError::Memory);
-    Ok(format!(in alloc; "{name}; {taken}; {policy}; {memory}")?)
+    let (pattern, policy) = (
+        MultiSlotArgPattern::KeyValuePairs,
+        ResponsePolicy::AllSucceeded,
+    );
+    let name = bytes(alloc, text)?;
+    or_text(
+        alloc,
+        known.registry.register(alloc, &name, pattern, policy),
+    )?;
+    okay(alloc)
 }

@@ -1,46 +1,17 @@
-//! Answers and errors, as rows write them.
-use fixtures::{bad_row, pieces, push_next, reply_text, value};
-use resp_core::{ErrorKind, RedisError, RedisResult, Value};
+//! Answers, as rows write them.
+use fixtures::{push_next, reply_text, shown, values};
+use redis_batches::PipelineError;
+use resp_core::{RedisError, RedisResult, Value};
 use std::alloc::Global;
 
 /// The answers to the commands of a batch or of a pipeline.
 pub type Answers = Vec<Result<Value, RedisError>>;
 
-/// The errors that nodes refuse a command with. The text of an error is fixed.
-const ERRORS: [&str; 8] = [
-    "ASK 15495 n4:4",
-    "LOADING",
-    "MOVED 15495 n3:3",
-    "MOVED 15495 node-3.example.org:3",
-    "TRYAGAIN later",
-    "e",
-    "error",
-    "f",
-];
-
-/// The error of this text.
-pub fn error_of(text: &str) -> RedisResult<RedisError> {
-    for known in &ERRORS {
-        if *known == text {
-            return Ok(RedisError::from((ErrorKind::Client, *known)));
-        }
-    }
-    Err(bad_row("no error of this text"))
-}
-
-/// The answer of a word.
-fn answer_of(alloc: Global, word: &str) -> RedisResult<Result<Value, RedisError>> {
-    match word {
-        "error" => Ok(Err(error_of(word)?)),
-        _ => Ok(Ok(value(alloc, word)?)),
-    }
-}
-
-/// The answers of a text, a space apart: values without items, and `error` for an error.
+/// The answers of a text, a space apart.
 pub fn answers_of(alloc: Global, text: &str) -> RedisResult<Answers> {
     let mut answers = Vec::new(alloc);
-    for word in &pieces(alloc, text, " ")? {
-        answers.push(answer_of(alloc, word)?)?;
+    for value in values(alloc, text)? {
+        answers.push(Ok(value))?;
     }
     Ok(answers)
 }
@@ -52,4 +23,15 @@ pub fn answers_text(alloc: Global, answers: &[Result<Value, RedisError>]) -> Red
         push_next(&mut text, "; ", &reply_text(alloc, answer)?)?;
     }
     Ok(text)
+}
+
+/// The replies to a pipeline, or why there are none.
+pub fn replies_text(
+    alloc: Global,
+    replies: &Result<Answers, PipelineError>,
+) -> RedisResult<String> {
+    match replies {
+        Ok(replies) => answers_text(alloc, replies),
+        Err(error) => shown(alloc, error),
+    }
 }

@@ -1,7 +1,6 @@
 //! One reply by the replies of several nodes.
-use crate::routing::policies::{pattern, routes, routes_of_each};
-use cluster_map::Route;
-use fixtures::{expanded, outcome_size, outcome_text, two, values};
+use cluster_map::{Route, SlotAddr};
+use fixtures::{bad_row, numbers, pieces, two, value_text, values};
 use redis_cluster::routing::{
     AggregateOp, LogicalAggregateOp, MultiSlotArgPattern, aggregate,
     combine_and_sort_array_results, combine_array_results, combine_map_results, logical_aggregate,
@@ -9,25 +8,15 @@ use redis_cluster::routing::{
 use resp_core::{RedisResult, Value};
 use std::alloc::Global;
 
-/// The reply that the combiner of this name makes, or the kind of its error. `count` and the name
-/// of a combiner return the reply's size.
+/// The reply that the combiner of this name makes.
 pub fn call(alloc: Global, name: &str, words: &str) -> RedisResult<String> {
-    if name == "count" {
-        let (name, words) = two(words);
-        return outcome_size(alloc, &combine(alloc, name, words)?);
+    match name {
+        "sorted" => value_text(alloc, &sorted(alloc, words)?),
+        _ => value_text(alloc, &combined(alloc, name, values(alloc, words)?)?),
     }
-    outcome_text(alloc, &combine(alloc, name, words)?)
 }
 
-/// The result of a combiner. The outer error is that of a row that cannot be read.
-fn combine(alloc: Global, name: &str, words: &str) -> RedisResult<RedisResult<Value>> {
-    if name == "sorted" {
-        return sorted(alloc, words);
-    }
-    Ok(by_name(alloc, name, values(alloc, &expanded(alloc, words)?)?))
-}
-
-fn by_name(alloc: Global, name: &str, replies: Vec<Value>) -> RedisResult<Value> {
+fn combined(alloc: Global, name: &str, replies: Vec<Value>) -> RedisResult<Value> {
     match name {
         "sum" => aggregate(replies, AggregateOp::Sum),
         "min" => aggregate(replies, AggregateOp::Min),
@@ -38,24 +27,32 @@ fn by_name(alloc: Global, name: &str, replies: Vec<Value>) -> RedisResult<Value>
     }
 }
 
-/// The replies after a pattern and the lists of indices; `each` is a list of one index for each
-/// reply.
-fn sorted(alloc: Global, words: &str) -> RedisResult<RedisResult<Value>> {
-    let (word, rest) = two(words);
+/// The replies after a pattern and lists of indices, put in the order of these.
+fn sorted(alloc: Global, words: &str) -> RedisResult<Value> {
+    let (pattern, rest) = two(words);
     let (places, replies) = two(rest);
-    let replies = values(alloc, replies)?;
-    let routes = match places {
-        "each" => routes_of_each(alloc, replies.len())?,
-        _ => routes(alloc, places)?,
-    };
-    Ok(by_places(alloc, replies, &routes, pattern(word)?))
+    let pattern = pattern_of(pattern)?;
+    let routes = routes(alloc, places)?;
+    combine_and_sort_array_results(alloc, values(alloc, replies)?, &routes, &pattern)
 }
 
-fn by_places(
-    alloc: Global,
-    replies: Vec<Value>,
-    routes: &[(Route, Vec<usize>)],
-    pattern: MultiSlotArgPattern,
-) -> RedisResult<Value> {
-    combine_and_sort_array_results(alloc, replies, routes, &pattern)
+/// Routes of these lists of indices, a slash apart.
+fn routes(alloc: Global, text: &str) -> RedisResult<Vec<(Route, Vec<usize>)>> {
+    let mut routes = Vec::new(alloc);
+    for text in &pieces(alloc, text, "/")? {
+        let places = numbers(alloc, text)?;
+        routes.push((Route::new(0, SlotAddr::Master), places))?;
+    }
+    Ok(routes)
+}
+
+/// The pattern of this name.
+fn pattern_of(word: &str) -> RedisResult<MultiSlotArgPattern> {
+    match word {
+        "KeysOnly" => Ok(MultiSlotArgPattern::KeysOnly),
+        "KeyValuePairs" => Ok(MultiSlotArgPattern::KeyValuePairs),
+        "KeysAndLastArg" => Ok(MultiSlotArgPattern::KeysAndLastArg),
+        "KeyWithTwoArgTriples" => Ok(MultiSlotArgPattern::KeyWithTwoArgTriples),
+        _ => Err(bad_row("no pattern of this name")),
+    }
 }

@@ -1,0 +1,105 @@
+//! Commands and pipelines that are driven over connections, which return what a row says.
+use crate::batches::answers::{Answers, replies_text};
+use cluster_map::{NodeAddress, SlotMap};
+use fixtures::{bad_row, cmd, cmds, cut, numbers, push_shown, reply_text, two, values};
+use redis_batches::{PipelineError, drive_pipeline};
+use redis_cluster::routing::{ReadOnlyNames, Registry};
+use resp_core::{Cmd, ErrorKind, RedisError, RedisResult, Value};
+use std::alloc::Global;
+use wire::{Any, BatchClient, BatchTransport, Logged, SendError, Transport, WireNodes, drive_over};
+
+/// Connections that return these values, the last one first, whatever is sent. They have no contract.
+#[derive(Drop)]
+struct Script {
+    alloc: Global,
+    values: Vec<Value>,
+    /// How often something was sent.
+    sent: usize,
+}
+
+impl Transport for Script {
+    fn exchange(&mut self, _node: &NodeAddress, _cmd: &Cmd) -> Result<Value, SendError> {
+        self.sent = self.sent.saturating_add(1);
+        match self.values.pop() {
+            Some(value) => Ok(value),
+            None => Err(SendError::Memory),
+        }
+    }
+}
+
+impl BatchTransport for Script {
+    fn exchange(&mut self, _node: &NodeAddress, batch: &[&Cmd]) -> Result<Answers, SendError> {
+        let mut answers = Vec::new(self.alloc);
+        for _ in 0..batch.len() {
+            let Some(value) = self.values.pop() else {
+                return Err(SendError::Refused(RedisError::from((ErrorKind::Client, "no value"))));
+            };
+            if answers.push(Ok(value)).is_err() {
+                return Err(SendError::Memory);
+            }
+        }
+        Ok(answers)
+    }
+}
+
+/// What a call of this name returns over a map.
+pub fn call(map: &SlotMap, alloc: Global, name: &str, words: &str) -> RedisResult<String> {
+    let (values, words) = cut(words, "; ");
+    let script = script_of(alloc, values)?;
+    match name {
+        "command" => command(alloc, map, script, words),
+        "pipeline" => pipeline(alloc, map, script, words),
+        _ => Err(bad_row("no call of this name")),
+    }
+}
+
+fn script_of(alloc: Global, text: &str) -> RedisResult<Script> {
+    let mut values = values(alloc, text)?;
+    values.reverse();
+    Ok(Script {
+        alloc,
+        values,
+        sent: 0,
+    })
+}
+
+/// The outcome of a command over connections.
+fn driven(alloc: Global, map: &SlotMap, script: &mut Script, words: &str) -> RedisResult<String> {
+    let (order, command) = two(words);
+    let order = numbers(alloc, order)?;
+    let command = cmd(alloc, command)?;
+    let mut nodes = WireNodes::<Logged<&mut Script>, Any>::over(script, Registry::new(alloc));
+    let names = ReadOnlyNames::new(alloc);
+    let given = drive_over(alloc, &command, &names, map, None, 0, &order, &mut nodes);
+    reply_text(alloc, &given)
+}
+
+/// The outcome of a command, and how many parts were sent.
+fn command(alloc: Global, map: &SlotMap, mut script: Script, words: &str) -> RedisResult<String> {
+    let mut text = driven(alloc, map, &mut script, words)?;
+    push_shown(alloc, &mut text, ", sent ", &script.sent)?;
+    Ok(text)
+}
+
+fn driven_pipeline(
+    alloc: Global,
+    map: &SlotMap,
+    script: Script,
+    commands: &[Cmd],
+    order: &[usize],
+) -> Result<Answers, PipelineError> {
+    let names = ReadOnlyNames::new(alloc);
+    let mut nodes = BatchClient::over(script, Registry::new(alloc));
+    drive_pipeline(alloc, commands, &names, map, None, order, &mut nodes)
+}
+
+/// The replies to a pipeline.
+fn pipeline(alloc: Global, map: &SlotMap, script: Script, words: &str) -> RedisResult<String> {
+    let (order, commands) = two(words);
+    let order = numbers(alloc, order)?;
+    let commands = cmds(alloc, commands)?;
+    replies_text(
+        alloc,
+        &driven_pipeline(alloc, map, script, &commands, &order),
+    )
+}

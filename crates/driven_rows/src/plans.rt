@@ -1,0 +1,71 @@
+//! Plans and retries of a client with connections of its own.
+use crate::driving::Driven;
+use cluster_map::{Route, SlotAddr};
+use fixtures::{bad_row, cmd, cut, number, numbers, or_text, shown, two, value_text, values};
+use redis_cluster::driver::{Nodes, Retry, SplitPlan, names_once};
+use redis_cluster::routing::Names;
+use resp_core::{Cmd, RedisResult, Value};
+use std::alloc::Global;
+
+/// What a call of this name returns, with the map of the rows of `drive`.
+pub fn call(driven: &Driven, alloc: Global, name: &str, words: &str) -> RedisResult<String> {
+    match name {
+        "target" => target(alloc, driven, words),
+        "combine" => combine(alloc, driven, words),
+        "once" => once(alloc, words),
+        _ => Err(bad_row("no call of this name")),
+    }
+}
+
+/// The first target of a read of a slot with this many retries, and how many are left.
+fn target(alloc: Global, driven: &Driven, words: &str) -> RedisResult<String> {
+    let (slot, retries) = two(words);
+    let (slot, retries) = (number(slot)?, number(retries)?);
+    let route = Route::new(slot, SlotAddr::ReplicaOptional);
+    match Retry::new(alloc, &driven.cluster.map, route, None, 0, retries)? {
+        Some(retry) => Ok(format!(in alloc; "{:?}, {} left", retry.target(), retry.left())?),
+        None => Err(bad_row("no node has the slot")),
+    }
+}
+
+fn plan_of<'a>(
+    alloc: Global,
+    driven: &'a Driven,
+    command: &'a Cmd,
+) -> RedisResult<SplitPlan<'a, Cmd>> {
+    let names = Names {
+        read_only: &driven.cluster.read_only,
+        registry: driven.nodes.registry(),
+    };
+    let plan = SplitPlan::new(alloc, command, names, &driven.cluster.map, None, 0);
+    or_text(alloc, plan)
+}
+
+/// The reply of a command whose parts have these replies.
+fn combined(
+    alloc: Global,
+    driven: &Driven,
+    command: &Cmd,
+    replies: Vec<Value>,
+) -> RedisResult<Value> {
+    let mut plan = plan_of(alloc, driven, command)?;
+    for (number, reply) in replies.into_iter().enumerate() {
+        let _ = plan.tell(number, reply);
+    }
+    plan.combine(alloc)
+}
+
+/// The outcome of replies that are passed to the parts of a command.
+fn combine(alloc: Global, driven: &Driven, words: &str) -> RedisResult<String> {
+    let (command, replies) = cut(words, "; ");
+    let command = cmd(alloc, command)?;
+    let replies = values(alloc, replies)?;
+    value_text(alloc, &combined(alloc, driven, &command, replies)?)
+}
+
+/// Whether an order names this many parts, each once.
+fn once(alloc: Global, words: &str) -> RedisResult<String> {
+    let (count, order) = two(words);
+    let is_once = names_once(alloc, number(count)?, &numbers(alloc, order)?)?;
+    shown(alloc, &is_once)
+}
