@@ -1,6 +1,6 @@
 -- Answers, if no target is missing.
 use Rattle.std.proofs.Common.{◌≡◌, ◌⊎◌, inl, inr, ◌+◌, ℕ, List, [], ◌∷◌, ◌++◌, true, false, Option, Some, None, Ok, Err, map, length, refl, sym, ap, subst, ◌∙◌, arith, append_assoc, length-append}
-use Rattle.std.specs.Prelude.{IfErr, OnOk, MatchOption, MatchResult, Result, is_none, slice_get, slice_set}
+use Rattle.std.specs.Prelude.{IfErr, OnOk, MatchOption, MatchResult, Result, is_none, is_some, slice_get, slice_set}
 use Rattle.std.specs.Result.{is_err}
 use Rattle.std.proofs.lemmas.List.{append-nil, map-append}
 use Rattle.std.specs.List.{list_any}
@@ -15,6 +15,10 @@ use Rattle.redis_cluster.specs.Plan.{Plan, ArePartReplies, ArePartsAnswered, IsM
 use Rattle.redis_cluster.specs.Unsplit.{TupleResult}
 use Rattle.redis_commands.specs.Rule.{of_parts, takes_memory, IsCombined, IsJoinedOf, IsReplyBy}
 use Rattle.redis_commands.specs.Answers.{Answer, answers_given, values_in, first_error}
+
+pub none_there : {X : Type 0} (o : Option X) → is_some o ≡ false → o ≡ None
+none_there None h = refl
+none_there (Some x) h = absurd (cc h)
 
 -- without an error there is a value of each target
 pub value_of_each : (told : List (Option (Result Value ErrorParts))) → list_any is_none told ≡ false → first_error (answers_given told) ≡ None → length (values_in (answers_given told)) ≡ length told
@@ -140,7 +144,7 @@ joined split own targets answers values result same are made = by result made
     by : (r : Result Value ErrorParts) → MatchResult r (λ value. IsMadeOfParts own (map view values) (Ok (view value)))
         (λ error. ((error ≡ out_of_memory) × (own.policy ≡ CombineArrays)) ⊎ IsMadeOfParts own (map view values) (Err error.kind)) → IsCombined (of_parts split) targets answers r
     by (Ok value) is = inr (reply (Ok value) (at_split (λ s. IsMadeOfParts s (map view values) (Ok (view value))) is))
-    by (Err error) (inl memory) = inl (ap Err memory.0, ap (λ p. takes_memory (of_parts (record { arguments = split.arguments; routes = split.routes; pattern = split.pattern; policy = p }))) (at_split (λ s. s.policy ≡ CombineArrays) memory.1))
+    by (Err error) (inl memory) = inl (ap Err memory.0, ap (λ p. takes_memory (of_parts (record { arguments = split.arguments; routes = split.routes; pattern = split.pattern; policy = p }))) (at_split (λ s. s.policy ≡ CombineArrays) memory.1), ap first_error are ∙ no_error values)
     by (Err error) (inr is) = inr (reply (Err error) (at_split (λ s. IsMadeOfParts s (map view values) (Err error.kind)) is))
 
 -- the plan of a split command whose parts answered values has these replies

@@ -1,5 +1,5 @@
 -- How the answers to a command make one reply, by where the command goes.
-use Rattle.std.specs.Prelude.{◌≡◌, ◌⊎◌, Bool, true, false, List, [], ◌∷◌, Option, Some, Result, Ok, Err, MatchOption, map}
+use Rattle.std.specs.Prelude.{◌≡◌, ◌⊎◌, Bool, true, false, List, [], ◌∷◌, Option, Some, None, Result, Ok, Err, MatchOption, map}
 use Rattle.resp_core.specs.ErrorParts.{ErrorParts, out_of_memory}
 use Rattle.resp_core.specs.Reply.{Reply}
 use Rattle.resp_core.specs.View.{view}
@@ -65,8 +65,8 @@ takes_memory (of_parts split) = joins_lists split.policy
     joins_lists CombineArrays = true
     joins_lists _ = false
 
--- what a call returned is that, or memory ran out for the one reply
+-- what a call returned is that, or memory ran out for the one reply of answers without an error
 abbrev pub IsCombined : ReplyRule → List Address → List Answer → Result Value ErrorParts → Type 0
 IsCombined rule targets answers returned =
-    ((returned ≡ Err out_of_memory) × (takes_memory rule ≡ true))
+    ((returned ≡ Err out_of_memory) × (takes_memory rule ≡ true) × (first_error answers ≡ None))
     ⊎ IsReplyBy rule targets answers returned

@@ -1,4 +1,4 @@
-ghost use Rattle.std.specs.Prelude.{◌≡◌, ◌⊎◌, List, map, length, true, false, Option, Some, None, Ok, Err, MatchResult, filter_map, IfOk, is_none};
+ghost use Rattle.std.specs.Prelude.{◌≡◌, ◌⊎◌, List, map, length, true, false, Option, Some, None, Ok, Err, MatchResult, filter_map, IfOk, is_none, is_some};
 ghost use Rattle.std.specs.List.{list_any};
 ghost use Rattle.resp_core.specs.ErrorParts.{out_of_memory};
 ghost use Rattle.resp_core.specs.Reply.{nil};
@@ -31,6 +31,8 @@ pub(crate) fn combine_by_policy(
         Some(ResponsePolicy::OneSucceeded) => first_value(told),
         Some(ResponsePolicy::FirstSucceededNonEmptyOrAllEmpty) => first_non_nil(told),
         Some(ResponsePolicy::AllSucceeded) => first_of_all(told),
+        // the first error, before memory is taken
+        _ if has_error(&told) => first_of_all(told),
         Some(ResponsePolicy::Aggregate(op)) => aggregate(all_values(alloc, told)?, op),
         Some(ResponsePolicy::AggregateLogical(op)) => {
             logical_aggregate(alloc, all_values(alloc, told)?, op)
@@ -121,18 +123,31 @@ fn first_of_all(told: Vec<Option<RedisResult<Value>>>) -> RedisResult<Value>
     }
 }
 
-/// The values, or else the first error.
-fn all_values(alloc: Global, told: Vec<Option<RedisResult<Value>>>) -> RedisResult<Vec<Value>>
-    ensures { MatchResult result
-        (λ values. (first_error (answers_given told.items) ≡ None)
-        × (map view values.items ≡ values_in (answers_given told.items)))
-        (λ error. (error ≡ out_of_memory) ⊎ (first_error (answers_given told.items) ≡ Some error)) }
+/// Whether an answer is an error.
+fn has_error(told: &[Option<RedisResult<Value>>]) -> bool
+    ensures { result ≡ is_some (first_error (answers_given told.now)) }
+{
+    for answer in told {
+        if matches!(answer, Some(Err(_))) {
+            return true;
+        }
+    }
+    false
+}
+
+/// The values among the answers.
+fn all_values(
+    alloc: Global,
+    told: Vec<Option<RedisResult<Value>>>,
+) -> Result<Vec<Value>, AllocError>
+    ensures { IfOk result
+        (λ values. map view values.items ≡ values_in (answers_given told.items)) }
 {
     let mut values = Vec::with_capacity(alloc, told.len())?;
     for answer in told {
         match answer {
             Some(Ok(value)) => values.push(value)?,
-            Some(Err(error)) => return Err(error),
+            Some(Err(_error)) => {}
             None => {}
         }
     }

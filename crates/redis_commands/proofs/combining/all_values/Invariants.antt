@@ -1,11 +1,10 @@
 use Rattle.std.proofs.Common.{◌≡◌, ◌++◌, map}
 use Rattle.resp_core.specs.View.{view}
-use Rattle.redis_commands.specs.Answers.{answers_given, values_in, first_error}
+use Rattle.redis_commands.specs.Answers.{answers_given, values_in}
 use Rattle.redis_commands.proofs.combining.all_values.Given as goal
 
 abbrev pub invariant-loop-answer : goal.invariant-loop-answer
 invariant-loop-answer l =
     (goal.iterator-loop-answer).can_next l.answer-iterator
     × (goal.iterator-loop-answer).is_finite l.answer-iterator
-    × (first_error (answers_given l.answer-iterator.rest.items) ≡ first_error (answers_given l.fn.told.items))
     × (map view l.values.items ++ values_in (answers_given l.answer-iterator.rest.items) ≡ values_in (answers_given l.fn.told.items))
