@@ -1,6 +1,6 @@
 //! Addresses of nodes.
-use crate::fixtures::{bad_row, debug, equality, number, shown, two};
 use cluster_map::{NodeAddress, split_node_address};
+use fixtures::{bad_row, debug, equality, number, shown, two};
 use resp_core::RedisResult;
 use std::alloc::Global;
 

@@ -1,5 +1,5 @@
 //! Commands, values and errors.
-use crate::fixtures::{bad_row, cmd, debug, equality, number, plain, shown, two, value};
+use fixtures::{bad_row, cmd, debug, equality, number, plain, shown, two, value};
 use resp_core::{Cmd, ErrorKind, RedisError, RedisResult};
 use std::alloc::Global;
 

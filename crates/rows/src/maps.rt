@@ -1,9 +1,9 @@
 //! The map of a cluster, and its shards.
-use crate::fixtures::{
+use cluster_map::{ClusterTopology, Route, Shard, SlotAddr, SlotMap, parse_slots, slot_cmd};
+use fixtures::{
     Turns, bad_row, cmd_text, debug, equality, lines, map, number, okay, push_next, ranges,
     slot_addr, two, value,
 };
-use cluster_map::{ClusterTopology, Route, Shard, SlotAddr, SlotMap, parse_slots, slot_cmd};
 use resp_core::RedisResult;
 use std::alloc::Global;
 

@@ -1,7 +1,7 @@
 //! Plans of commands: the one reply of their answers, if no name only reads and none is registered.
-use crate::fixtures::{cmd, cut, or_text, value_text, values};
 use crate::routing::Known;
 use cluster_map::SlotMap;
+use fixtures::{cmd, cut, or_text, value_text, values};
 use redis_commands::CommandPlan;
 use resp_core::{Cmd, RedisResult, Value};
 use std::alloc::Global;

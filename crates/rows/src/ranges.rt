@@ -1,6 +1,6 @@
 //! Maps of ranges of slots: the first slot of a range, the last, and a value.
-use crate::fixtures::{bad_row, debug, lines, number, plain, two};
 use cluster_map::SlotRangeMap;
+use fixtures::{bad_row, debug, lines, number, plain, two};
 use resp_core::RedisResult;
 use std::alloc::Global;
 

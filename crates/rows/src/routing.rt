@@ -4,7 +4,7 @@ pub mod pipelines;
 mod routes;
 mod tables;
 
-use crate::fixtures::{bytes, equality, okay, or_text, read_only_names};
+use fixtures::{bytes, equality, okay, or_text, read_only_names};
 use redis_cluster::routing::{MultiSlotArgPattern, Names, ReadOnlyNames, Registry, ResponsePolicy};
 use resp_core::RedisResult;
 use std::alloc::Global;

@@ -1,6 +1,6 @@
 //! One reply by the replies of several nodes.
-use crate::fixtures::{bad_row, numbers, pieces, two, value_text, values};
 use cluster_map::{Route, SlotAddr};
+use fixtures::{bad_row, numbers, pieces, two, value_text, values};
 use redis_cluster::routing::{
     AggregateOp, LogicalAggregateOp, MultiSlotArgPattern, aggregate,
     combine_and_sort_array_results, combine_array_results, combine_map_results, logical_aggregate,

@@ -1,5 +1,5 @@
 //! Pipelines, and which of them a cluster refuses.
-use crate::fixtures::{bad_row, bytes, debug, is_same, number, okay, pieces, plain};
+use fixtures::{bad_row, bytes, debug, is_same, number, okay, pieces, plain};
 use redis_cluster::pipeline::{ClusterPipeline, cluster_pipe};
 use resp_core::RedisResult;
 use std::alloc::Global;

@@ -1,9 +1,9 @@
 //! Commands: where they go, and how they are split.
-use crate::fixtures::{
+use crate::routing::Known;
+use fixtures::{
     bad_row, bytes, bytes_or_none, cmd, cmd_text, debug, debug_or_none, equality, number, numbers,
     or_text, two, value,
 };
-use crate::routing::Known;
 use redis_cluster::routing::{
     Routable, RoutingInfo, SplitCommand, command_for_multi_slot_indices,
     command_for_multi_slot_indices_with, multi_slot_routes,

@@ -1,6 +1,6 @@
 //! What the tables say of names, and the redirects in texts.
-use crate::fixtures::{bad_row, debug_or_none, equality, plain};
 use cluster_map::Slot;
+use fixtures::{bad_row, debug_or_none, equality, plain};
 use redis_cluster::routing::{Redirect, ResponsePolicy, SingleNodeRoutingInfo};
 use redis_routing::base_routing;
 use resp_core::RedisResult;

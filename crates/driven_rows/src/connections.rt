@@ -1,7 +1,7 @@
 //! Commands and pipelines that are driven over connections, which return what a row says.
 use crate::batches::answers::{Answers, replies_text};
-use crate::fixtures::{bad_row, cmd, cmds, cut, numbers, push_shown, reply_text, two, values};
 use cluster_map::{NodeAddress, SlotMap};
+use fixtures::{bad_row, cmd, cmds, cut, numbers, push_shown, reply_text, two, values};
 use redis_batches::{PipelineError, drive_pipeline};
 use redis_cluster::routing::{ReadOnlyNames, Registry};
 use resp_core::{Cmd, ErrorKind, RedisError, RedisResult, Value};

@@ -3,8 +3,8 @@ pub mod answers;
 mod planned;
 
 use crate::batches::answers::{Answers, answers_text, replies_text};
-use crate::fixtures::{Cluster, cmds, number, numbers, okay, or_text, two};
 use cluster_map::NodeAddress;
+use fixtures::{Cluster, cmds, number, numbers, okay, or_text, two};
 use memory_batches::MemoryBatchNodes;
 use redis_batches::{BatchNodes, PipelineError, drive_pipeline, drive_pipeline_retrying};
 use resp_core::{Cmd, ErrorKind, RedisError, RedisResult};

@@ -1,6 +1,6 @@
 //! Commands that are driven over nodes in memory.
-use crate::fixtures::{Cluster, bad_row, cmd, number, numbers, okay, reply_text, two};
 use cluster_map::NodeAddress;
+use fixtures::{Cluster, bad_row, cmd, number, numbers, okay, reply_text, two};
 use memory_nodes::{MemoryNodes, Planned};
 use redis_cluster::driver::{DriveError, drive, drive_retrying};
 use redis_cluster::routing::Redirect;

@@ -1,6 +1,6 @@
 //! Pipelines that are planned, and get their answers by hand.
 use crate::batches::answers::{Answers, answers_of, answers_text};
-use crate::fixtures::{Cluster, bad_row, cmds, cut, lines, or_text, push_next};
+use fixtures::{Cluster, bad_row, cmds, cut, lines, or_text, push_next};
 use redis_batches::PipelinePlan;
 use redis_cluster::routing::{Names, Registry};
 use resp_core::{Cmd, RedisResult};

@@ -1,6 +1,6 @@
 //! Runs of the program, over streams in memory.
-use crate::fixtures::{Turns, bad_row, bytes, cut, pieces, text};
 use cluster_map::ReadRoutingStrategy;
+use fixtures::{Turns, bad_row, bytes, cut, pieces, text};
 use resp_core::RedisResult;
 use slotroute_serve::serve;
 use std::alloc::Global;

@@ -1,9 +1,7 @@
-//! Plans of split commands, and retries, of a client with connections of its own.
+//! Plans and retries of a client with connections of its own.
 use crate::driving::Driven;
-use crate::fixtures::{
-    bad_row, cmd, cut, number, numbers, or_text, shown, two, value_text, values,
-};
 use cluster_map::{Route, SlotAddr};
+use fixtures::{bad_row, cmd, cut, number, numbers, or_text, shown, two, value_text, values};
 use redis_cluster::driver::{Nodes, Retry, SplitPlan, names_once};
 use redis_cluster::routing::Names;
 use resp_core::{Cmd, RedisResult, Value};

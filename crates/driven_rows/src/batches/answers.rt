@@ -1,5 +1,5 @@
 //! Answers, as rows write them.
-use crate::fixtures::{push_next, reply_text, shown, values};
+use fixtures::{push_next, reply_text, shown, values};
 use redis_batches::PipelineError;
 use resp_core::{RedisError, RedisResult, Value};
 use std::alloc::Global;
