@@ -4,6 +4,7 @@ use Rattle.std.specs.List.{zip}
 use Rattle.std.proofs.lemmas.List.{map-append, length-append, length-map}
 use Rattle.std.proofs.lemmas.Option.{same_Some}
 use Rattle.std.proofs.lemmas.Grind.{common_steps}
+use Rattle.resp_core.specs.Answer.{Answer}
 use Rattle.cluster_slots.specs.Address.{Address}
 use Rattle.resp_core.specs.ErrorParts.{ErrorParts}
 use Rattle.redis_routing.specs.Registry.{Registrations}
@@ -11,7 +12,7 @@ use Rattle.redis_cluster.specs.Trace.{Ending, refused, entry}
 use Rattle.redis_cluster.specs.Unsplit.{Step, Keyspace}
 use Rattle.redis_cluster.specs.State.{State}
 use Rattle.redis_batches.specs.Turns.{all_after, answers}
-use Rattle.redis_batches.specs.Pipeline.{Answer, Serve, Task, run_ended}
+use Rattle.redis_batches.specs.Pipeline.{Serve, Task, run_ended}
 use Rattle.redis_batches.specs.Taken.{AnswersRefusals, AreAllowed, AreServed, IsTaken, batch_entries, ending_by, task_of}
 use Rattle.redis_batches.proofs.Entries.{allowed_append}
 use Rattle.redis_batches.proofs.Whole.{all_after-append, answers-append}

@@ -4,12 +4,13 @@ use Rattle.std.specs.Prelude.{slice_get}
 use Rattle.std.specs.List.{zip}
 use Rattle.std.proofs.lemmas.List.{length-take-le, take-map}
 use Rattle.std.proofs.lemmas.Grind.{common_steps}
+use Rattle.resp_core.specs.Answer.{Answer}
 use Rattle.cluster_slots.specs.Address.{Address}
 use Rattle.redis_routing.specs.Registry.{Registrations}
 use Rattle.redis_cluster.specs.Trace.{Ending, entry}
 use Rattle.redis_cluster.specs.Unsplit.{Keyspace, Step}
 use Rattle.redis_cluster.specs.State.{State}
-use Rattle.redis_batches.specs.Pipeline.{Answer, Serve, Task, in_slot, over_keys, run_ended}
+use Rattle.redis_batches.specs.Pipeline.{Serve, Task, in_slot, over_keys, run_ended}
 use Rattle.redis_batches.specs.Taken.{IsBegunAtMost, IsTaken, ending_by, task_of}
 use Rattle.redis_batches.specs.Turns.{all_after}
 use Rattle.memory_nodes.specs.Steps.{step}

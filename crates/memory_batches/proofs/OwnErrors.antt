@@ -4,6 +4,7 @@ use Rattle.std.specs.Prelude.{◌+ℤ◌, codes, nat_eq, pos}
 use Rattle.std.specs.Option.{unwrap_or}
 use Rattle.std.proofs.lemmas.Bool.Decides.{nat_tests}
 use Rattle.std.proofs.lemmas.Grind.{common_steps}
+use Rattle.resp_core.specs.Answer.{Answer}
 use Rattle.resp_core.proofs.Cases.{by_test}
 use Rattle.resp_core.specs.ErrorParts.{ErrorParts}
 use Rattle.cluster_slots.specs.Address.{Address}
@@ -11,7 +12,7 @@ use Rattle.redis_routing.specs.RedirectText.{IsRedirectText}
 use Rattle.redis_routing.specs.declared.info.Redirect.{Redirect}
 use Rattle.redis_routing.specs.declared.info.Redirect.TheVariants.{Moved, Ask}
 use Rattle.redis_cluster.specs.Unsplit.{Keyspace}
-use Rattle.redis_batches.specs.Pipeline.{Answer, Task, in_slot, over_keys}
+use Rattle.redis_batches.specs.Pipeline.{Task, in_slot, over_keys}
 use Rattle.redis_batches.specs.Rounds.{SendsOn, StaysHere}
 use Rattle.memory_nodes.specs.Cells.{Cell}
 use Rattle.redis_routing.specs.Command.{command_name}

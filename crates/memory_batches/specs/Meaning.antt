@@ -1,13 +1,14 @@
 -- How a command is served that is not refused.
 use Rattle.std.specs.Prelude.{◌≡◌, ℕ, List, None, Some, IsSome, Result, map}
+use Rattle.resp_core.specs.Answer.{Answer, answer_of}
 use Rattle.resp_core.specs.ErrorParts.{ErrorParts}
 use Rattle.resp_core.specs.declared.value.Value.{Value}
 use Rattle.redis_routing.specs.Registry.{Registrations}
 use Rattle.redis_cluster.specs.MultiKey.{multi_key}
 use Rattle.redis_cluster.specs.Unsplit.{Keyspace}
 use Rattle.redis_batches.specs.Served.{Effect}
-use Rattle.redis_batches.specs.Pipeline.{Answer, in_slot}
-use Rattle.redis_batches.specs.Taken.{answer_of, task_of}
+use Rattle.redis_batches.specs.Pipeline.{in_slot}
+use Rattle.redis_batches.specs.Taken.{task_of}
 use Rattle.memory_nodes.specs.Cells.{Cell}
 use Rattle.memory_batches.specs.declared.meaning.Meaning.{Meaning}
 use Rattle.memory_batches.specs.declared.meaning.Meaning.TheVariants.{OverKeys, InSlot, Nothing}

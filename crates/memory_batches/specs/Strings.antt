@@ -3,6 +3,7 @@ use Rattle.std.specs.Prelude.{ℕ, ◌^◌, ℤ, pos, negsuc, ◌+ℤ◌, List, 
 use Rattle.std.specs.Fmt.{signed_decimal}
 use Rattle.std.specs.Str.{bytes_eq}
 use Rattle.std.specs.Str.Parse.{signed_digits_value}
+use Rattle.resp_core.specs.Answer.{Answer}
 use Rattle.cluster_slots.specs.KeySlot.{key_slot}
 use Rattle.resp_core.specs.ErrorParts.{ErrorParts}
 use Rattle.resp_core.specs.declared.error.ErrorKind.TheVariants.{Client}
@@ -11,7 +12,7 @@ use Rattle.redis_routing.specs.Command.{command_name}
 use Rattle.redis_routing.specs.Lookup.{lookup_name}
 use Rattle.redis_cluster.specs.Unsplit.{Keyspace, put}
 use Rattle.redis_batches.specs.Served.{Effect}
-use Rattle.redis_batches.specs.Pipeline.{Answer, Serve}
+use Rattle.redis_batches.specs.Pipeline.{Serve}
 use Rattle.memory_nodes.specs.Cells.{Cell, value_at}
 use Rattle.memory_nodes.specs.Steps.{single_value, shown, written}
 use Rattle.memory_batches.specs.declared.verb.Verb.{Verb}

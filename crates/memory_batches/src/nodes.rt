@@ -1,7 +1,8 @@
 ghost use Rattle.std.specs.Prelude.{◌≡◌, ◌++◌, ◌+◌, ◌∷◌, ◌↔◌, ℕ, [], None, Some, false, true, IfErr, IfOk, OnErr, OnOk, length, map, option_copied};
+ghost use Rattle.resp_core.specs.Answer.{answer_of};
 ghost use Rattle.redis_cluster.specs.Trace.{Ending, entry};
 ghost use Rattle.redis_batches.specs.Pipeline.{Task};
-ghost use Rattle.redis_batches.specs.Taken.{answer_of, ending_by, task_of, IsBegunAtMost, IsTaken, IsUntaken};
+ghost use Rattle.redis_batches.specs.Taken.{ending_by, task_of, IsBegunAtMost, IsTaken, IsUntaken};
 ghost use Rattle.memory_nodes.specs.Cells.{Cell, value_at};
 ghost use Rattle.memory_nodes.specs.Steps.{step};
 ghost use Rattle.memory_batches.specs.Nodes.{batch_registered, batch_keyspace, batch_trace, batch_mark, batch_state, refusal_in, may_end, MayRefuseCommand, command_entry, AreAsPlanned, IsBegun};

@@ -1,8 +1,6 @@
-ghost use Rattle.std.specs.Prelude.{◌≡◌, ◌<◌, [], IfOk, OnErr, length, slice_index_or, Some, Err, map};
-ghost use Rattle.resp_core.specs.View.{view};
+ghost use Rattle.std.specs.Prelude.{◌≡◌, ◌<◌, [], IfOk, OnErr, length, slice_index_or, Some, Err};
 ghost use Rattle.memory_nodes.specs.Nodes.{keyspace_in, registered_in};
 ghost use Rattle.redis_batches.specs.Served.{AgreeElsewhere, in_shelf, shelf};
-ghost use Rattle.redis_batches.specs.Taken.{answer_of};
 ghost use Rattle.memory_batches.specs.Strings.{get, got, set, incr, raised, lpush, rename_in_slot, serve, own_error, string_at, list_length_at, list_length, integer_at, one_more};
 ghost use Rattle.memory_batches.specs.Meaning.{IsDone};
 ghost use Rattle.std.specs.Prelude.{codes};

@@ -7,6 +7,7 @@ use Rattle.std.proofs.lemmas.Bool.Decides.{nat_tests}
 use Rattle.std.proofs.lemmas.List.{length-append, length-map, map-append, take_all}
 use Rattle.std.proofs.lemmas.List.Elements.{All-contains}
 use Rattle.std.proofs.lemmas.Option.{slice_get-map}
+use Rattle.resp_core.specs.Answer.{Answer, answer_of}
 use Rattle.resp_core.proofs.Cases.{by_test}
 use Rattle.resp_core.specs.ErrorParts.{ErrorParts}
 use Rattle.resp_core.specs.View.{view}
@@ -16,11 +17,9 @@ use Rattle.redis_cluster.specs.Orders.{in_order}
 use Rattle.redis_cluster.proofs.Orders.{in_order-append, length-in_order}
 use Rattle.redis_bytes.specs.Replies.{HasNoForm, IsAnswer}
 use Rattle.redis_batches.specs.Batched.{IsRight}
-use Rattle.redis_batches.specs.Pipeline.{Answer}
 use Rattle.redis_batches.specs.Plan.{IsPlan}
 use Rattle.redis_batches.specs.PipelinePlan.{IsSameBut, PipelineBatches}
 use Rattle.redis_batches.specs.Replies.{AreRepliesFor}
-use Rattle.redis_batches.specs.Taken.{answer_of}
 use Rattle.redis_batches.proofs.Telling.{same_more}
 use Rattle.redis_batches.proofs.Entries.{get_there}
 use Rattle.redis_cluster.proofs.Sending.{set_there}

@@ -1,13 +1,13 @@
 -- The answers to the batches of a plan, as bytes, and the replies to its commands.
 use Rattle.std.specs.Prelude.{◌≡◌, ◌⊎◌, ℕ, List, [], ◌++◌, Some, Ok, length, map, slice_get}
 use Rattle.std.specs.List.{All, concat, flat_map}
+use Rattle.resp_core.specs.Answer.{Answer}
 use Rattle.resp.specs.Forms.{InOrder}
 use Rattle.resp_core.specs.Reply.{Reply}
 use Rattle.redis_routing.specs.Registry.{Registrations}
 use Rattle.redis_cluster.specs.Orders.{in_order}
 use Rattle.redis_bytes.specs.Replies.{HasNoForm, IsAnswer}
 use Rattle.redis_batches.specs.Batched.{IsRight}
-use Rattle.redis_batches.specs.Pipeline.{Answer}
 use Rattle.redis_batches.specs.Placed.{Ranges}
 use Rattle.redis_batches.specs.Plan.{Batches}
 use Rattle.redis_batches.specs.PipelinePlan.{PipelineBatches}

@@ -1,11 +1,11 @@
 -- What a plan takes of the answers in bytes, and how the replies to commands are written.
 use Rattle.std.specs.Prelude.{ℕ, List, [], Option, Some, Ok, Err, codes}
 use Rattle.std.specs.Str.Lossy.{utf8_lossy}
+use Rattle.resp_core.specs.Answer.{Answer}
 use Rattle.resp.specs.Forms as resp
 use Rattle.resp.specs.Forms.{form, line}
 use Rattle.resp_core.specs.ErrorParts.{ErrorParts}
 use Rattle.resp_core.specs.declared.error.ErrorKind.TheVariants.{Client}
-use Rattle.redis_batches.specs.Pipeline.{Answer}
 
 -- an answer as it stands in bytes: a value, or the text of an error
 abbrev pub WireAnswer : Type 0

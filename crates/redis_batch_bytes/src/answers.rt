@@ -1,6 +1,6 @@
 ghost use Rattle.std.specs.Prelude.{◌≡◌, ◌++◌, ℕ, List, map, length, IfOk, IfErr};
+ghost use Rattle.resp_core.specs.Answer.{answer_of};
 ghost use Rattle.redis_bytes.specs.Replies.{IsAnswer};
-ghost use Rattle.redis_batches.specs.Taken.{answer_of};
 ghost use Rattle.redis_batch_bytes.specs.Replies.{StandAsTold};
 ghost use Rattle.redis_batch_bytes.specs.Told.{WireAnswer, answer_of_wire};
 ghost use Rattle.redis_batch_bytes.specs.Unread.{IsNoAnswer, IsUnreadAnswer};

@@ -1,6 +1,6 @@
 ghost use Rattle.std.specs.Prelude.{◌≡◌, IfOk};
+ghost use Rattle.resp_core.specs.Answer.{answer_of};
 ghost use Rattle.resp.specs.Forms.{answer};
-ghost use Rattle.redis_batches.specs.Taken.{answer_of};
 ghost use Rattle.redis_batch_bytes.specs.Told.{said_of, answer_of_wire};
 
 use resp::Response;

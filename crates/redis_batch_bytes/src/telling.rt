@@ -1,10 +1,7 @@
-ghost use Rattle.std.specs.Prelude.{◌≡◌, ◌<◌, ◌++◌, ℕ, List, Some, true, false, map, length, slice_get, slice_set, IfOk, OnOk, IfErr};
+ghost use Rattle.std.specs.Prelude.{◌≡◌, ◌<◌, ◌++◌, ℕ, List, Some, true, false, length, slice_get, slice_set, IfOk, OnOk, IfErr};
 ghost use Rattle.std.specs.List.{All};
-ghost use Rattle.redis_cluster.specs.Orders.{in_order};
-ghost use Rattle.redis_batches.specs.Batched.{IsRight};
-ghost use Rattle.redis_batches.specs.Pipeline.{Answer};
 ghost use Rattle.redis_batches.specs.Plan.{IsPlan};
-ghost use Rattle.redis_batches.specs.PipelinePlan.{IsSameBut, PipelineBatches};
+ghost use Rattle.redis_batches.specs.PipelinePlan.{IsSameBut};
 ghost use Rattle.redis_batch_bytes.specs.Replies.{AreTold, IsToldBatch};
 ghost use Rattle.redis_batch_bytes.specs.Unread.{AreUnreadAnswers, IsUnreadAnswer};
 

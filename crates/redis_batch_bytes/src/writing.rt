@@ -1,8 +1,8 @@
 ghost use Rattle.std.specs.Prelude.{◌≡◌, ◌++◌, ◌⊎◌, map, OnOk, IfOk, IfErr};
 ghost use Rattle.std.specs.List.{flat_map};
+ghost use Rattle.resp_core.specs.Answer.{answer_of};
 ghost use Rattle.resp.specs.Forms.{form, line};
 ghost use Rattle.resp_core.specs.View.{view};
-ghost use Rattle.redis_batches.specs.Taken.{answer_of};
 ghost use Rattle.redis_bytes.specs.Replies.{HasNoForm};
 ghost use Rattle.redis_batch_bytes.specs.Replies.{AreUnwritten};
 ghost use Rattle.redis_batch_bytes.specs.Told.{answer_form, said_of};

@@ -7,6 +7,7 @@ use Rattle.std.proofs.lemmas.List.{length-map}
 use Rattle.std.proofs.lemmas.List.FromFn.{length-enumerate_from}
 use Rattle.std.proofs.lemmas.List.Elements.{All-nil, All-cons, All-head, All-tail, All-append, All-filter, All-map, filter_passes}
 use Rattle.std.proofs.lemmas.Option.{slice_get-map}
+use Rattle.resp_core.specs.Answer.{Answer, answer_of}
 use Rattle.cluster_slots.specs.KeySlot.{key_slot}
 use Rattle.resp_core.specs.ErrorParts.{ErrorParts}
 use Rattle.resp_core.specs.declared.value.Value.{Value}
@@ -15,10 +16,9 @@ use Rattle.redis_cluster.specs.Unsplit.{Step, Keyspace}
 use Rattle.redis_cluster.proofs.Counts.{same_number}
 use Rattle.redis_batches.specs.Served.{Agree, Effect, IsLocal}
 use Rattle.redis_batches.specs.Turns.{all_after, answers, of_slot}
-use Rattle.redis_batches.specs.Pipeline.{Answer, AreSlotsOf, Numbered, Part, Planned, Refusals, Serve, ended, ended_answers, numbered, pieces, refused_by, slot_of}
+use Rattle.redis_batches.specs.Pipeline.{AreSlotsOf, Numbered, Part, Planned, Refusals, Serve, ended, ended_answers, numbered, pieces, refused_by, slot_of}
 use Rattle.redis_batches.specs.Batched.{IsRight}
 use Rattle.redis_batches.specs.Rounds.{Round, is_among}
-use Rattle.redis_batches.specs.Taken.{answer_of}
 use Rattle.redis_batches.specs.Sent.{AreApart, AreLast}
 use Rattle.redis_batches.proofs.Ends.{after_agree, answers_agree, numbers_apart}
 use Rattle.redis_batches.proofs.KeptSlots.{numbered_local}

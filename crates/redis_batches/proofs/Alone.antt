@@ -7,6 +7,7 @@ use Rattle.std.proofs.lemmas.List.FromFn.{length-enumerate_from}
 use Rattle.std.proofs.lemmas.List.Elements.{All-nil, All-cons, All-head, All-tail, All-append, filter_passes}
 use Rattle.std.proofs.lemmas.Option.{same_Some, slice_get-map}
 use Rattle.std.proofs.lemmas.Grind.{common_steps}
+use Rattle.resp_core.specs.Answer.{Answer}
 use Rattle.cluster_slots.specs.KeySlot.{key_slot}
 use Rattle.resp_core.proofs.Cases.{by_test}
 use Rattle.redis_routing.specs.Registry.{Registrations}
@@ -16,7 +17,7 @@ use Rattle.redis_cluster.specs.Unsplit.{Step, Keyspace}
 use Rattle.redis_cluster.proofs.Constructors.{same_head, same_tail}
 use Rattle.redis_cluster.proofs.Counts.{times_here, times_there}
 use Rattle.redis_batches.specs.Turns.{all_after, answers}
-use Rattle.redis_batches.specs.Pipeline.{Answer, AreSlotsOf, Numbered, Part, Planned, Refusals, Serve, Task, ended, in_slot, numbered, over_keys, part, parts_of, pieces, refused_by, slot_of}
+use Rattle.redis_batches.specs.Pipeline.{AreSlotsOf, Numbered, Part, Planned, Refusals, Serve, Task, ended, in_slot, numbered, over_keys, part, parts_of, pieces, refused_by, slot_of}
 use Rattle.redis_batches.specs.Rounds.{alone}
 use Rattle.redis_batches.specs.Taken.{task_of}
 use Rattle.redis_batches.specs.Sent.{AreApart}

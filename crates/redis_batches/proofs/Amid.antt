@@ -3,6 +3,7 @@ use Rattle.std.proofs.Common.{◌≡◌, ℕ, ◌+◌, List, [], ◌∷◌, ◌+
 use Rattle.std.specs.List.{AllByRecursion}
 use Rattle.std.specs.Prelude.{slice_get}
 use Rattle.std.proofs.lemmas.List.{drop-drop}
+use Rattle.resp_core.specs.Answer.{Answer}
 use Rattle.resp_core.specs.Reply.{Reply}
 use Rattle.redis_cluster.specs.Amid.{HeldBySlot, IsAssembled, replies_by}
 use Rattle.redis_cluster.specs.MultiKey.{MultiKey, slots_in}
@@ -10,7 +11,7 @@ use Rattle.redis_cluster.specs.Unsplit.{Step, Keyspace, reply_to}
 use Rattle.redis_cluster.proofs.Amid.{acts_by_slot, outcome_amid}
 use Rattle.redis_cluster.proofs.SplitTuples.{ShareOut}
 use Rattle.redis_batches.specs.Amid.{AreServedAmid}
-use Rattle.redis_batches.specs.Pipeline.{Answer, Task, over_keys}
+use Rattle.redis_batches.specs.Pipeline.{Task, over_keys}
 use Rattle.redis_batches.specs.PipelinePlan.{pieces_of}
 use Rattle.redis_batches.specs.Tasks.{slots_of_task}
 use Rattle.redis_batches.specs.Replies.{AreRepliesTo, all_replies, as_outcome}

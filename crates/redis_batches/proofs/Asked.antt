@@ -3,9 +3,9 @@ use Rattle.std.proofs.Common.{◌≡◌, ◌<◌, inl, inr, ℕ, ◌+◌, List, 
 use Rattle.std.specs.Prelude.{OnErr}
 use Rattle.std.proofs.lemmas.List.{append-nil}
 use Rattle.std.proofs.lemmas.Grind.{common_steps}
+use Rattle.resp_core.specs.Answer.{Answer}
 use Rattle.redis_cluster.specs.declared.nodes.SendError.{SendError}
 use Rattle.redis_batches.specs.Driven.{Grew, HaveAnswered, WereAskedUntil, batch_at}
-use Rattle.redis_batches.specs.Pipeline.{Answer}
 use Rattle.redis_batches.specs.Plan.{Batches}
 use Rattle.redis_batches.specs.Taken.{Batch}
 

@@ -4,6 +4,7 @@ use Rattle.std.specs.List.{flat_map, zip}
 use Rattle.std.proofs.lemmas.Grind.{flat_map-append}
 use Rattle.std.proofs.lemmas.List.{append-nil, length-map, length_push}
 use Rattle.std.proofs.lemmas.Grind.{common_steps}
+use Rattle.resp_core.specs.Answer.{Answer, answer_of}
 use Rattle.cluster_slots.specs.Address.{Address}
 use Rattle.resp_core.specs.ErrorParts.{ErrorParts}
 use Rattle.resp_core.specs.declared.value.Value.{Value}
@@ -18,10 +19,9 @@ use Rattle.redis_batches.specs.DrivenPipeline.{IsBeforeSending}
 use Rattle.redis_batches.specs.Frame.{SameNodes}
 use Rattle.redis_batches.specs.InRounds.{AreSentAgain, IsAgainFault, Stands, WereSentAgain, fault_behind}
 use Rattle.redis_batches.specs.Outgoing.{ArePutAt, GoesBehind, IsNextFault, IsNextSent, IsNextServed}
-use Rattle.redis_batches.specs.Pipeline.{Answer, AreSlotsOf, Numbered, Planned, Refusals, Serve, ended, numbered, slot_of, ended_answers}
+use Rattle.redis_batches.specs.Pipeline.{AreSlotsOf, Numbered, Planned, Refusals, Serve, ended, numbered, slot_of, ended_answers}
 use Rattle.redis_batches.specs.Rounds.{AreRounds, AreSentOn, Follows, IsLast, IsRoundServed, IsRoundStopped, IsSentOn, Round, StaysHere, after_rounds, alone, batch_after, batches_before, go_on, last_round, latest_answers, round_answers, round_batches}
 use Rattle.redis_batches.specs.Sent.{AreLast}
-use Rattle.redis_batches.specs.Taken.{answer_of}
 use Rattle.redis_batches.specs.Turns.{all_after, answers}
 use Rattle.redis_batches.specs.declared.going.Outgoing.{Outgoing}
 use Rattle.redis_batches.specs.declared.nodes.BatchNodes.{Ghosts}

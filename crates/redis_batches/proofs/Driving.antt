@@ -1,6 +1,7 @@
 -- A pipeline that was planned and sent: what its replies are, and what stands after a fault.
 use Rattle.std.proofs.Common.{◌≡◌, ◌∙◌, ℕ, List, Option, All, subst, sym, map, length}
 use Rattle.std.specs.List.{AllByRecursion}
+use Rattle.resp_core.specs.Answer.{Answer}
 use Rattle.cluster_slots.specs.Address.{Address}
 use Rattle.redis_routing.specs.Registry.{Registrations}
 use Rattle.redis_routing.specs.Split.{Split}
@@ -9,7 +10,7 @@ use Rattle.redis_batches.specs.BatchSends.{AreBatchesSent, AreBatchesStopped, Is
 use Rattle.redis_batches.specs.Batched.{AreBatches}
 use Rattle.redis_batches.specs.Driven.{AlwaysAnswers, NeverRefuses}
 use Rattle.redis_batches.specs.DrivenPipeline.{AreAllAsked, AreAllGiven, AreAllTaken, AreAskedUntil, AreMade, IsOneServer, IsPipelineFault, IsPipelineServed, IsSendable, IsWantOfMemory}
-use Rattle.redis_batches.specs.Pipeline.{Answer, AreSlotsOf, Planned, Task}
+use Rattle.redis_batches.specs.Pipeline.{AreSlotsOf, Planned, Task}
 use Rattle.redis_batches.specs.PipelinePlan.{PipelineBatches}
 use Rattle.redis_batches.specs.Placed.{Ranges}
 use Rattle.redis_batches.specs.Plan.{batch_of}

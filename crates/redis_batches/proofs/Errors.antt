@@ -5,11 +5,12 @@ use Rattle.std.specs.List.{enumerate_from}
 use Rattle.std.proofs.lemmas.List.{length-map}
 use Rattle.std.proofs.lemmas.List.Elements.{All-nil, All-append, All-head, All-tail}
 use Rattle.std.proofs.lemmas.Option.{same_Some, slice_get-map}
+use Rattle.resp_core.specs.Answer.{answer_of}
 use Rattle.resp_core.specs.ErrorParts.{ErrorParts}
 use Rattle.resp_core.specs.declared.value.Value.{Value}
 use Rattle.redis_batches.specs.Pipeline.{Numbered, Part, Planned, Refusals, numbered, slot_of}
 use Rattle.redis_batches.specs.Batched.{numbers_in, put_at}
-use Rattle.redis_batches.specs.Taken.{AnswersRefusals, answer_of}
+use Rattle.redis_batches.specs.Taken.{AnswersRefusals}
 use Rattle.redis_batches.specs.Turns.{batch_by_batch, of_slot}
 use Rattle.redis_batches.proofs.Entries.{get_there}
 use Rattle.redis_batches.proofs.Given.{batch_here, elsewhere, put_there}

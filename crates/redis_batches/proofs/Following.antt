@@ -4,6 +4,7 @@ use Rattle.std.specs.List.{AllZip, zip, range_with_len}
 use Rattle.std.specs.Option.{unwrap_or}
 use Rattle.std.proofs.lemmas.List.{length-map}
 use Rattle.std.proofs.lemmas.List.Elements.{All-map}
+use Rattle.resp_core.specs.Answer.{Answer, answer_of}
 use Rattle.cluster_slots.specs.Address.{Address}
 use Rattle.resp_core.specs.ErrorParts.{ErrorParts}
 use Rattle.resp_core.specs.declared.value.Value.{Value}
@@ -12,11 +13,11 @@ use Rattle.redis_cluster.specs.Orders.{NamesOnce}
 use Rattle.redis_batches.specs.Batched.{AreBatches, put_at}
 use Rattle.redis_batches.specs.BatchSends.{AreBatchesSent, AreBatchesStopped, IsServed}
 use Rattle.redis_batches.specs.Outgoing.{ArePartsOf, GoesBehind, IsNext, IsNextSent, IsNextServed, IsNextStopped, IsPlanFor, node_for, node_in, slot_at}
-use Rattle.redis_batches.specs.Pipeline.{Answer, AreSlotsOf, Numbered, Part, Planned, Refusals, numbered, pieces, slot_of}
+use Rattle.redis_batches.specs.Pipeline.{AreSlotsOf, Numbered, Part, Planned, Refusals, numbered, pieces, slot_of}
 use Rattle.redis_batches.specs.Plan.{Batches, IsByNode}
 use Rattle.redis_batches.specs.Rounds.{Follows, IsPrepared, IsSentOn, Round, alone, go_on, goes_to}
 use Rattle.redis_batches.specs.Sent.{AreApart, AreLast}
-use Rattle.redis_batches.specs.Taken.{answer_of, task_of}
+use Rattle.redis_batches.specs.Taken.{task_of}
 use Rattle.redis_batches.specs.declared.going.Outgoing.{Outgoing}
 use Rattle.redis_batches.specs.declared.nodes.BatchNodes.{Ghosts}
 use Rattle.redis_batches.specs.declared.send.Stopped.{Stopped}

@@ -7,6 +7,7 @@ use Rattle.std.proofs.lemmas.Bool.{eqb-true}
 use Rattle.std.proofs.lemmas.Bool.Decides.{nat_tests}
 use Rattle.std.proofs.lemmas.List.{length-set, map_more}
 use Rattle.std.proofs.lemmas.List.Elements.{All-nil, All-cons, All-filter, All-head, All-map, All-tail, All-take}
+use Rattle.resp_core.specs.Answer.{Answer}
 use Rattle.resp_core.proofs.Cases.{by_test}
 use Rattle.std.proofs.lemmas.Option.{same_Some}
 use Rattle.redis_routing.specs.Registry.{Registrations}
@@ -15,7 +16,7 @@ use Rattle.redis_cluster.proofs.Counts.{times_here, times_there}
 use Rattle.redis_batches.specs.Batched.{AreBatches, numbers_in, put_at}
 use Rattle.redis_batches.specs.Driven.{answers_in}
 use Rattle.redis_batches.specs.Plan.{Batches}
-use Rattle.redis_batches.specs.Pipeline.{Answer, Numbered, Part, Planned, numbered, pieces, slot_of}
+use Rattle.redis_batches.specs.Pipeline.{Numbered, Part, Planned, numbered, pieces, slot_of}
 use Rattle.redis_batches.specs.Sent.{AreApart}
 use Rattle.redis_batches.specs.Turns.{of_slot}
 use Rattle.redis_batches.proofs.Ends.{numbers_apart}

@@ -6,13 +6,14 @@ use Rattle.std.specs.Option.{option_or, unwrap_or}
 use Rattle.std.proofs.lemmas.Bool.{eqb-true}
 use Rattle.std.proofs.lemmas.List.Elements.{All-nil, All-cons, All-head, All-tail}
 use Rattle.std.proofs.lemmas.Grind.{common_steps}
+use Rattle.resp_core.specs.Answer.{Answer}
 use Rattle.cluster_slots.specs.Address.{Address}
 use Rattle.resp_core.specs.ErrorParts.{ErrorParts}
 use Rattle.resp_core.proofs.Cases.{by_test}
 use Rattle.redis_cluster.specs.Unsplit.{Step, Keyspace}
 use Rattle.redis_cluster.proofs.Counts.{same_number}
 use Rattle.redis_batches.specs.Turns.{answers, of_slot}
-use Rattle.redis_batches.specs.Pipeline.{Answer, Numbered, Refusals, Serve, Task, ended, in_slot, over_keys, refused_by, run, slot_of}
+use Rattle.redis_batches.specs.Pipeline.{Numbered, Refusals, Serve, Task, ended, in_slot, over_keys, refused_by, run, slot_of}
 use Rattle.redis_batches.specs.Rounds.{IsSentOn, SendsOn, StaysHere, go_on, goes_to, is_settled}
 use Rattle.redis_batches.specs.Sent.{AreApart, AreLast}
 use Rattle.redis_batches.proofs.Again.{IsRefusedBy}

@@ -6,13 +6,14 @@ use Rattle.std.proofs.lemmas.Bool.{eqb-true, cases_lt}
 use Rattle.std.proofs.lemmas.List.{append-nil}
 use Rattle.std.proofs.lemmas.List.Elements.{filter-append, All-nil, All-cons, All-head, All-tail, All-filter}
 use Rattle.std.proofs.lemmas.Grind.{common_steps}
+use Rattle.resp_core.specs.Answer.{Answer}
 use Rattle.resp_core.proofs.Cases.{by_test}
 use Rattle.redis_cluster.specs.Orders.{times, NamesOnce}
 use Rattle.redis_cluster.specs.Unsplit.{Step, Keyspace}
 use Rattle.redis_cluster.proofs.Counts.{same_number, times_here, times_there}
 use Rattle.redis_batches.specs.Served.{IsLocal}
 use Rattle.redis_batches.specs.Turns.{all_after, answers, of_slot, batch_by_batch}
-use Rattle.redis_batches.specs.Pipeline.{Answer, Serve, Planned, Part, pieces, Numbered, numbered, slot_of, KeepsSlots}
+use Rattle.redis_batches.specs.Pipeline.{Serve, Planned, Part, pieces, Numbered, numbered, slot_of, KeepsSlots}
 use Rattle.redis_batches.proofs.Lists.{filter_inside, filter_apart}
 use Rattle.redis_batches.proofs.Whole.{piece, piece_of}
 

@@ -3,12 +3,13 @@ use Rattle.std.proofs.Common.{◌≡◌, ◌≤◌, ℕ, ◌+◌, suc, List, [],
 use Rattle.std.specs.Prelude.{nat_eq}
 use Rattle.std.proofs.lemmas.List.{append_cancel_left}
 use Rattle.std.proofs.lemmas.List.Elements.{All-nil, All-cons, All-filter, All-map}
+use Rattle.resp_core.specs.Answer.{Answer}
 use Rattle.resp_core.specs.ErrorParts.{ErrorParts}
 use Rattle.redis_cluster.specs.Orders.{NamesOnce}
 use Rattle.redis_cluster.specs.Driven.{AreAllAnswered}
 use Rattle.redis_cluster.specs.Trace.{Entry, Ending, answered, refused}
 use Rattle.redis_batches.specs.Turns.{all_after}
-use Rattle.redis_batches.specs.Pipeline.{Answer, run, AreSlotsOf, Planned, pieces, piece_answers, Numbered, numbered, slot_of, Refusals}
+use Rattle.redis_batches.specs.Pipeline.{run, AreSlotsOf, Planned, pieces, piece_answers, Numbered, numbered, slot_of, Refusals}
 use Rattle.redis_batches.specs.BatchSends.{IsServed}
 use Rattle.redis_batches.specs.Plan.{Batches}
 use Rattle.redis_batches.specs.declared.nodes.BatchNodes.{Ghosts}

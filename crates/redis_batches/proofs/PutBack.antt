@@ -4,12 +4,12 @@ use Rattle.std.specs.List.{sum_by}
 use Rattle.std.proofs.lemmas.List.{append-nil, length-map, map-append, map_push, nil_from_length, reverse-append, take_more}
 use Rattle.std.proofs.lemmas.List.Sums.{sum_by_push}
 use Rattle.std.proofs.lemmas.Grind.{common_steps}
+use Rattle.resp_core.specs.Answer.{Answer, answer_of}
 use Rattle.resp_core.specs.ErrorParts.{ErrorParts}
 use Rattle.resp_core.specs.declared.value.Value.{Value}
 use Rattle.redis_batches.specs.declared.task.CommandTask.{CommandTask}
 use Rattle.redis_batches.specs.CommandTask.{split_in}
-use Rattle.redis_batches.specs.Pipeline.{Answer, Task}
-use Rattle.redis_batches.specs.Taken.{answer_of}
+use Rattle.redis_batches.specs.Pipeline.{Task}
 use Rattle.redis_batches.specs.Replies.{AreRepliesFor, AreRepliesTo, IsReplyTo, IsTakenFor, part_count}
 use Rattle.redis_batches.specs.Tasks.{slots_of_task}
 use Rattle.redis_batches.proofs.ServerReplies.{as_many_parts}

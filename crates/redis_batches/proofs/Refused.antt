@@ -3,11 +3,12 @@ use Rattle.std.proofs.Common.{◌≡◌, ℕ, List, [], ◌∷◌, Option, None,
 use Rattle.std.specs.Prelude.{nat_eq}
 use Rattle.std.proofs.lemmas.List.Elements.{All-nil, All-cons, All-head, All-tail, All-filter}
 use Rattle.std.proofs.lemmas.Grind.{common_steps}
+use Rattle.resp_core.specs.Answer.{Answer}
 use Rattle.resp_core.specs.ErrorParts.{ErrorParts}
 use Rattle.redis_cluster.specs.Unsplit.{Step, Keyspace}
 use Rattle.redis_batches.specs.Served.{Effect, IsLocal}
 use Rattle.redis_batches.specs.Turns.{all_after, answers}
-use Rattle.redis_batches.specs.Pipeline.{ended, Answer, Serve, AreSlotsOf, Planned, pieces, Numbered, numbered, slot_of, KeepsSlots, Refusals, refused_by}
+use Rattle.redis_batches.specs.Pipeline.{ended, Serve, AreSlotsOf, Planned, pieces, Numbered, numbered, slot_of, KeepsSlots, Refusals, refused_by}
 use Rattle.redis_batches.proofs.Lists.{all_by_slot}
 use Rattle.redis_batches.proofs.Schedule.{one_keyspace, answers_hold}
 use Rattle.redis_batches.proofs.Whole.{pieces_local, piece_of}

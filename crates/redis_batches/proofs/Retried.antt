@@ -4,6 +4,7 @@ use Rattle.std.specs.List.{AllZip, enumerate_from, flat_map, range_with_len, zip
 use Rattle.std.proofs.lemmas.List.{length-map}
 use Rattle.std.proofs.lemmas.List.FromFn.{length-enumerate_from}
 use Rattle.std.proofs.lemmas.Grind.{common_steps}
+use Rattle.resp_core.specs.Answer.{Answer, answer_of}
 use Rattle.cluster_slots.specs.Address.{Address}
 use Rattle.resp_core.specs.ErrorParts.{ErrorParts}
 use Rattle.resp_core.specs.declared.value.Value.{Value}
@@ -15,14 +16,14 @@ use Rattle.redis_batches.specs.DrivenPipeline.{AreAllTaken, IsOneServer, IsSenda
 use Rattle.redis_batches.specs.Frame.{SameNodes}
 use Rattle.redis_batches.specs.InRounds.{AreSentAgain, IsAgainFault, Stands, StoppedAgain, WereSentAgain}
 use Rattle.redis_batches.specs.Outgoing.{ArePartsOf, GoesBehind, IsNext, slot_at}
-use Rattle.redis_batches.specs.Pipeline.{Answer, Numbered, Part, Planned, Refusals, numbered, pieces, slot_of}
+use Rattle.redis_batches.specs.Pipeline.{Numbered, Part, Planned, Refusals, numbered, pieces, slot_of}
 use Rattle.redis_batches.specs.PipelinePlan.{PipelineBatches}
 use Rattle.redis_batches.specs.Placed.{Ranges}
 use Rattle.redis_batches.specs.Plan.{Batches, batch_of}
 use Rattle.redis_batches.specs.Replies.{AreRepliesTo}
 use Rattle.redis_batches.specs.Rounds.{AreRounds, IsAsOne, IsSentOn, Round, after_rounds, batch_after, batches_before, by_last_answer, go_on, goes_to, latest_answers, round_answers, round_batches, StaysHere}
 use Rattle.redis_batches.specs.Sent.{AreApart}
-use Rattle.redis_batches.specs.Taken.{answer_of, task_of}
+use Rattle.redis_batches.specs.Taken.{task_of}
 use Rattle.redis_batches.specs.Tasks.{with_slots}
 use Rattle.redis_batches.specs.Turns.{of_slot}
 use Rattle.redis_batches.specs.declared.fault.PipelineError.{PipelineError}

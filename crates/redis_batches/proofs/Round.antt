@@ -6,6 +6,7 @@ use Rattle.std.proofs.lemmas.List.{append-nil, length-append, length-map, map-ap
 use Rattle.std.proofs.lemmas.List.FromFn.{length-enumerate_from}
 use Rattle.std.proofs.lemmas.List.Elements.{All-nil, All-cons, All-append, All-filter, All-map}
 use Rattle.std.proofs.lemmas.Grind.{common_steps}
+use Rattle.resp_core.specs.Answer.{Answer, answer_of}
 use Rattle.resp_core.specs.ErrorParts.{ErrorParts}
 use Rattle.resp_core.specs.declared.value.Value.{Value}
 use Rattle.redis_cluster.specs.Orders.{times, NamesOnce, in_order}
@@ -15,8 +16,8 @@ use Rattle.redis_cluster.proofs.Orders.{map-in_order}
 use Rattle.redis_cluster.proofs.Once.{times_more, times-take, names_once-apart}
 use Rattle.redis_batches.specs.Served.{Effect}
 use Rattle.redis_batches.specs.Turns.{all_after, answers, of_slot, batch_by_batch}
-use Rattle.redis_batches.specs.Pipeline.{Answer, Task, AreSlotsOf, Planned, Part, pieces, Numbered, numbered, slot_of, KeepsSlots, Refusals, ended, run_ended}
-use Rattle.redis_batches.specs.Taken.{answer_of, task_of, AreAllowed, AreServed, IsTaken, batch_entries}
+use Rattle.redis_batches.specs.Pipeline.{Task, AreSlotsOf, Planned, Part, pieces, Numbered, numbered, slot_of, KeepsSlots, Refusals, ended, run_ended}
+use Rattle.redis_batches.specs.Taken.{task_of, AreAllowed, AreServed, IsTaken, batch_entries}
 use Rattle.redis_batches.specs.Driven.{node_at}
 use Rattle.redis_batches.specs.BatchSends.{AreTaken, IsServed}
 use Rattle.redis_batches.specs.Plan.{Batches}

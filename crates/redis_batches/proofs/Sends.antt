@@ -9,14 +9,14 @@ use Rattle.std.proofs.lemmas.List.{drop_more, take-append-drop}
 use Rattle.std.proofs.lemmas.List.Elements.{All-nil, All-cons, All-head, All-tail}
 use Rattle.std.proofs.lemmas.Option.{same_Some}
 use Rattle.std.proofs.lemmas.Grind.{common_steps}
+use Rattle.resp_core.specs.Answer.{Answer, answer_of}
 use Rattle.resp_core.proofs.Cases.{by_test}
 use Rattle.redis_cluster.specs.Orders.{in_order}
 use Rattle.redis_cluster.specs.Unsplit.{Keyspace}
 use Rattle.redis_batches.specs.Served.{Effect}
 use Rattle.resp_core.specs.ErrorParts.{ErrorParts}
 use Rattle.resp_core.specs.declared.value.Value.{Value}
-use Rattle.redis_batches.specs.Pipeline.{Answer, Numbered}
-use Rattle.redis_batches.specs.Taken.{answer_of}
+use Rattle.redis_batches.specs.Pipeline.{Numbered}
 use Rattle.redis_batches.specs.Turns.{all_after, answers, of_slot, batch_by_batch}
 use Rattle.redis_batches.proofs.Putting.{AreFor}
 

@@ -2,6 +2,7 @@
 use Rattle.std.proofs.Common.{◌≡◌, ℕ, List, [], ◌∷◌, Option, None, Some, Result, Ok, Err, refl, sym, ap, subst, ◌∙◌, length, map}
 use Rattle.std.specs.List.{AllByRecursion, AllZip}
 use Rattle.std.proofs.lemmas.List.{drop_at, length-map, take_at}
+use Rattle.resp_core.specs.Answer.{Answer}
 use Rattle.resp_core.specs.ErrorParts.{ErrorParts}
 use Rattle.resp_core.specs.Reply.{Reply}
 use Rattle.redis_routing.specs.Registry.{Registrations}
@@ -16,7 +17,7 @@ use Rattle.redis_cluster.proofs.Joined.{outcome_is}
 use Rattle.redis_cluster.proofs.Made.{made_of_command}
 use Rattle.redis_cluster.proofs.Parts.{length-results}
 use Rattle.redis_cluster.proofs.SplitTuples.{ShareOut, command_shares}
-use Rattle.redis_batches.specs.Pipeline.{Answer, Serve, Task, over_keys, in_slot, run, part_answer, piece_answers}
+use Rattle.redis_batches.specs.Pipeline.{Serve, Task, over_keys, in_slot, run, part_answer, piece_answers}
 use Rattle.redis_batches.specs.Turns.{all_after, answers}
 use Rattle.redis_batches.specs.Tasks.{AreSplitsFor, AreSplitsOf, IsSplitAs, IsSplitOfTask, slots_of_task, with_slots}
 use Rattle.redis_batches.specs.CommandTask.{IsKeptOf, IsTaskFor, split_in}

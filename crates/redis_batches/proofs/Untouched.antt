@@ -6,10 +6,11 @@ use Rattle.std.proofs.lemmas.List.{drop-append-le, length-drop, length-map, map-
 use Rattle.std.proofs.lemmas.List.Elements.{All-head, All-tail}
 use Rattle.std.proofs.lemmas.List.FromFn.{length-enumerate_from}
 use Rattle.std.proofs.lemmas.Grind.{common_steps}
+use Rattle.resp_core.specs.Answer.{Answer}
 use Rattle.redis_cluster.specs.Unsplit.{Step, Keyspace}
 use Rattle.redis_batches.specs.Served.{Effect}
 use Rattle.redis_batches.specs.Turns.{all_after, answers}
-use Rattle.redis_batches.specs.Pipeline.{Answer, Serve, Task, run, AreSlotsOf, Planned, parts_of, pieces, part_answer, Numbered, numbered, Refusals, ended, ended_answers}
+use Rattle.redis_batches.specs.Pipeline.{Serve, Task, run, AreSlotsOf, Planned, parts_of, pieces, part_answer, Numbered, numbered, Refusals, ended, ended_answers}
 use Rattle.redis_batches.specs.Tasks.{slots_of_task, with_slots}
 use Rattle.redis_batches.specs.Replies.{AreRepliesTo, AreUntouched, IsMadeOf, IsReplyTo}
 use Rattle.redis_batches.proofs.Ends.{answers_agree}

@@ -5,11 +5,11 @@ use Rattle.std.specs.List.{AllZip, zip}
 use Rattle.std.specs.Option.{option_or}
 use Rattle.std.proofs.lemmas.List.{drop_more}
 use Rattle.std.proofs.lemmas.Grind.{common_steps}
+use Rattle.resp_core.specs.Answer.{Answer}
 use Rattle.cluster_slots.specs.Address.{Address}
 use Rattle.redis_routing.specs.RedirectText.{IsNoRedirect}
 use Rattle.redis_batches.specs.Chosen.{has_slot}
 use Rattle.redis_batches.specs.Outgoing.{IsWalked, node_in, slot_at}
-use Rattle.redis_batches.specs.Pipeline.{Answer}
 use Rattle.redis_batches.specs.Rounds.{IsSentOn, SendsOn}
 use Rattle.redis_batches.specs.declared.going.Walk.{Walk}
 

@@ -3,6 +3,7 @@ use Rattle.std.proofs.Common.{◌≡◌, ◌≤◌, ℕ, List, [], ◌∷◌, �
 use Rattle.std.proofs.lemmas.List.{append-nil, map-append}
 use Rattle.std.proofs.lemmas.List.Elements.{All-head, All-tail, All-nil, All-cons, All-append}
 use Rattle.std.proofs.lemmas.Grind.{common_steps}
+use Rattle.resp_core.specs.Answer.{Answer}
 use Rattle.redis_cluster.specs.MultiKey.{MultiKey, tuples_of_slot, part_of}
 use Rattle.redis_cluster.specs.Orders.{times}
 use Rattle.redis_cluster.specs.SlotItems.{items_of_slot}
@@ -13,7 +14,7 @@ use Rattle.redis_cluster.proofs.Parts.{one_part_more, results_one_more}
 use Rattle.redis_cluster.proofs.Whole.{names_slots_from}
 use Rattle.redis_batches.specs.Served.{Effect, IsLocal}
 use Rattle.redis_batches.specs.Turns.{all_after, answers}
-use Rattle.redis_batches.specs.Pipeline.{Answer, Serve, Task, over_keys, in_slot, run, AreSlotsOf, Planned, Part, parts_of, pieces, part_answer, piece_answers, Numbered}
+use Rattle.redis_batches.specs.Pipeline.{Serve, Task, over_keys, in_slot, run, AreSlotsOf, Planned, Part, parts_of, pieces, part_answer, piece_answers, Numbered}
 use Rattle.redis_batches.proofs.Local.{shelf_local, part_local}
 
 module _ {C R X : Type 0} (effect : X → Effect C R) where

@@ -1,10 +1,11 @@
 -- What the commands of a pipeline over many keys reply on a real cluster. Other clients write the same
 -- keys meanwhile, and replicas lag. Each node runs its part at one moment, on what it holds then.
 use Rattle.std.specs.Prelude.{◌≡◌, ◌++◌, ◌∷◌, List, Some, Ok, map, length, take, drop, slice_get}
+use Rattle.resp_core.specs.Answer.{Answer}
 use Rattle.redis_cluster.specs.Amid.{ActsBySlot, HeldBySlot, IsAssembled, replies_by}
 use Rattle.redis_cluster.specs.MultiKey.{MultiKey, slots_in}
 use Rattle.redis_cluster.specs.Unsplit.{Step, Keyspace, reply_to}
-use Rattle.redis_batches.specs.Pipeline.{Answer, Task, over_keys}
+use Rattle.redis_batches.specs.Pipeline.{Task, over_keys}
 use Rattle.redis_batches.specs.PipelinePlan.{pieces_of}
 
 -- Take any meaning of commands, and any keyspace that has, at each key of a command, what the key's

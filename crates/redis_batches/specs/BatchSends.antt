@@ -1,12 +1,13 @@
 -- What the sends of batches leave.
 use Rattle.std.specs.Prelude.{◌≡◌, ◌<◌, ◌++◌, ℕ, List, [], Some, map, length, get_or, slice_get, take}
 use Rattle.std.specs.List.{All}
+use Rattle.resp_core.specs.Answer.{Answer}
 use Rattle.redis_cluster.specs.Orders.{in_order}
 use Rattle.redis_cluster.specs.State.{State}
 use Rattle.redis_cluster.specs.declared.nodes.SendError.{SendError}
 use Rattle.redis_batches.specs.Batched.{AreBatches, numbers_in, part_entry}
 use Rattle.redis_batches.specs.Driven.{Grew, HaveAnswered, WereAskedUntil, answers_in, batch_at, in_batches, node_at}
-use Rattle.redis_batches.specs.Pipeline.{Answer, AreSlotsOf, Planned, Refusals, ended, numbered}
+use Rattle.redis_batches.specs.Pipeline.{AreSlotsOf, Planned, Refusals, ended, numbered}
 use Rattle.redis_batches.specs.Plan.{Batches}
 use Rattle.redis_batches.specs.Taken.{AnswersRefusals, AreAllowed, Batch, IsNotTaken, IsTaken}
 use Rattle.redis_batches.specs.Turns.{all_after, answers}

@@ -1,14 +1,15 @@
 -- A pipeline in batches, one for each node, and what its replies are.
 use Rattle.std.specs.Prelude.{◌≡◌, ◌<◌, ℕ, List, [], ◌∷◌, Some, Result, map, length, slice_get, slice_set, option_map, get_or}
 use Rattle.std.specs.List.{All}
+use Rattle.resp_core.specs.Answer.{Answer, answer_of}
 use Rattle.resp_core.specs.ErrorParts.{ErrorParts}
 use Rattle.resp_core.specs.declared.value.Value.{Value}
 use Rattle.cluster_slots.specs.Address.{Address}
 use Rattle.redis_routing.specs.Registry.{Registrations}
 use Rattle.redis_cluster.specs.Trace.{Entry, entry}
 use Rattle.redis_batches.specs.Turns.{of_slot}
-use Rattle.redis_batches.specs.Pipeline.{Answer, Planned, pieces, Numbered, numbered, slot_of, Refusals}
-use Rattle.redis_batches.specs.Taken.{answer_of, task_of, ending_by}
+use Rattle.redis_batches.specs.Pipeline.{Planned, pieces, Numbered, numbered, slot_of, Refusals}
+use Rattle.redis_batches.specs.Taken.{task_of, ending_by}
 
 -- the numbers of the parts of a batch, where a part's slot decides its batch
 abbrev pub numbers_in : (ℕ → ℕ) → List Planned → ℕ → List ℕ

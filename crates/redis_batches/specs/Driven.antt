@@ -1,12 +1,13 @@
 -- How the batches of a pipeline were sent, and what they leave and answer.
 use Rattle.std.specs.Prelude.{◌≡◌, ◌≤◌, ◌⊎◌, ◌++◌, ◌∷◌, ℕ, List, [], map, length, get_or}
 use Rattle.std.specs.List.{flat_map}
+use Rattle.resp_core.specs.Answer.{Answer}
 use Rattle.resp_core.specs.ErrorParts.{ErrorParts}
 use Rattle.cluster_slots.specs.Address.{Address}
 use Rattle.redis_cluster.specs.Orders.{in_order}
 use Rattle.redis_cluster.specs.Trace.{Ending, answered, refused}
 use Rattle.redis_batches.specs.Turns.{batch_by_batch}
-use Rattle.redis_batches.specs.Pipeline.{Answer, KeepsSlots, Planned, Numbered, numbered, slot_of}
+use Rattle.redis_batches.specs.Pipeline.{KeepsSlots, Planned, Numbered, numbered, slot_of}
 use Rattle.redis_cluster.specs.declared.nodes.SendError.{SendError}
 use Rattle.redis_cluster.specs.declared.nodes.SendError.TheVariants.{Memory}
 use Rattle.redis_batches.specs.Plan.{Batches}

@@ -1,10 +1,11 @@
 -- How a pipeline was sent in rounds, and its replies.
 use Rattle.std.specs.Prelude.{◌≡◌, ◌≤◌, ◌⊎◌, ◌+◌, ◌++◌, ◌<◌, ℕ, List, [], None, get_or, length, map, take}
 use Rattle.std.specs.List.{All, flat_map}
+use Rattle.resp_core.specs.Answer.{Answer}
 use Rattle.cluster_slots.specs.Address.{Address}
 use Rattle.redis_cluster.specs.State.{State}
 use Rattle.redis_batches.specs.Amid.{AreServedAmid}
-use Rattle.redis_batches.specs.Pipeline.{Answer, KeepsSlots, Refusals, Task, numbered}
+use Rattle.redis_batches.specs.Pipeline.{KeepsSlots, Refusals, Task, numbered}
 use Rattle.redis_batches.specs.Driven.{Grew, HaveAnswered, WereAskedUntil, answers_in, batch_at, parts_by_batch}
 use Rattle.redis_batches.specs.DrivenPipeline.{AreAllTaken, IsEarlyFault, IsOneServer, IsPipelineFault, IsSendable}
 use Rattle.redis_batches.specs.PipelinePlan.{PipelineBatches}

@@ -1,5 +1,6 @@
 -- How a pipeline was sent batch by batch, and its replies.
 use Rattle.std.specs.Prelude.{◌≡◌, ◌<◌, ◌⊎◌, ℕ, List, [], Bool, true, map, length, take, get_or}
+use Rattle.resp_core.specs.Answer.{Answer}
 use Rattle.cluster_slots.specs.Address.{Address}
 use Rattle.redis_routing.specs.Registry.{Registrations}
 use Rattle.redis_cluster.specs.Orders.{NamesOnce}
@@ -8,7 +9,7 @@ use Rattle.redis_cluster.specs.State.{State}
 use Rattle.redis_batches.specs.BatchSends.{IsServed, WasStopped}
 use Rattle.redis_batches.specs.Amid.{AreServedAmid}
 use Rattle.redis_batches.specs.Turns.{all_after, answers}
-use Rattle.redis_batches.specs.Pipeline.{Answer, Serve, Task, run}
+use Rattle.redis_batches.specs.Pipeline.{Serve, Task, run}
 use Rattle.redis_batches.specs.Tasks.{AreTasksOf, with_slots}
 use Rattle.redis_batches.specs.Driven.{AreInTurn, Grew, HaveAnswered, WereAskedUntil, answers_in, batch_at}
 use Rattle.redis_batches.specs.Placed.{Ranges}

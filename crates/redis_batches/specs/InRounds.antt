@@ -1,6 +1,7 @@
 -- What is sent after a first round, and what it makes of the answers.
 use Rattle.std.specs.Prelude.{◌≡◌, ◌≤◌, ◌<◌, ◌⊎◌, ◌+◌, ◌++◌, ℕ, List, Result, length, map}
 use Rattle.std.specs.List.{All, flat_map}
+use Rattle.resp_core.specs.Answer.{answer_of}
 use Rattle.resp_core.specs.ErrorParts.{ErrorParts}
 use Rattle.resp_core.specs.declared.value.Value.{Value}
 use Rattle.redis_cluster.specs.State.{State}
@@ -8,7 +9,6 @@ use Rattle.redis_cluster.specs.Unsplit.{Keyspace, Step}
 use Rattle.redis_batches.specs.Driven.{Grew, HaveAnswered, WereAskedUntil}
 use Rattle.redis_batches.specs.Pipeline.{Planned, Refusals, Serve, ended}
 use Rattle.redis_batches.specs.Rounds.{AreRounds, Follows, IsAsOne, IsLast, IsRoundStopped, Round, after_rounds, batch_after, batches_before, last_round, latest_answers, round_answers, round_batches, StaysHere}
-use Rattle.redis_batches.specs.Taken.{answer_of}
 use Rattle.redis_batches.specs.Turns.{answers}
 use Rattle.redis_batches.specs.declared.nodes.BatchNodes.{Ghosts}
 use Rattle.redis_batches.specs.declared.send.Stopped.{Stopped}

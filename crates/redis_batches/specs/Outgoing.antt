@@ -4,6 +4,7 @@ use Rattle.std.specs.List.{All, AllZip, zip}
 use Rattle.std.specs.Map.{lookup}
 use Rattle.std.specs.Option.{unwrap_or}
 use Rattle.std.specs.Ordering.{is_eq, nat_cmp}
+use Rattle.resp_core.specs.Answer.{Answer, answer_of}
 use Rattle.cluster_slots.specs.Address.{Address}
 use Rattle.resp_core.specs.ErrorParts.{ErrorParts}
 use Rattle.resp_core.specs.declared.value.Value.{Value}
@@ -11,11 +12,11 @@ use Rattle.redis_routing.specs.Registry.{Registrations}
 use Rattle.redis_batches.specs.Batched.{put_at}
 use Rattle.redis_batches.specs.Chosen.{has_slot}
 use Rattle.redis_batches.specs.Driven.{Grew, HaveAnswered, WereAskedUntil}
-use Rattle.redis_batches.specs.Pipeline.{Answer, AreSlotsOf, Planned, numbered, pieces, slot_of}
+use Rattle.redis_batches.specs.Pipeline.{AreSlotsOf, Planned, numbered, pieces, slot_of}
 use Rattle.redis_batches.specs.Plan.{Batches, IsByNode, IsPlan}
 use Rattle.redis_batches.specs.Rounds.{AreSentOn, Follows, IsRoundServed, IsRoundStopped, IsSentOn, Round, batch_after, batches_before, go_on, goes_to, is_settled, round_answers, round_batches}
 use Rattle.redis_batches.specs.Sent.{AreApart, AreLast}
-use Rattle.redis_batches.specs.Taken.{answer_of, task_of}
+use Rattle.redis_batches.specs.Taken.{task_of}
 use Rattle.redis_batches.specs.declared.fault.PipelineError.{PipelineError}
 use Rattle.redis_batches.specs.declared.fault.PipelineError.TheVariants.{Plan, BadOrder, Node, Memory}
 use Rattle.redis_batches.specs.declared.going.Outgoing.{Outgoing}

@@ -1,19 +1,15 @@
 -- What a pipeline means: one server takes its commands one after the other.
-use Rattle.std.specs.Prelude.{◌≡◌, ◌≤◌, ℕ, List, [], ◌∷◌, ◌++◌, map, Option, None, Some, Result, Ok, Err}
+use Rattle.std.specs.Prelude.{◌≡◌, ◌≤◌, ℕ, List, [], ◌∷◌, ◌++◌, map, Option, None, Some, Ok, Err}
 use Rattle.std.specs.List.{All, enumerate_from}
 use Rattle.cluster_slots.specs.KeySlot.{key_slot}
+use Rattle.resp_core.specs.Answer.{Answer}
 use Rattle.resp_core.specs.ErrorParts.{ErrorParts}
-use Rattle.resp_core.specs.Reply.{Reply}
 use Rattle.redis_cluster.specs.MultiKey.{MultiKey, part_of}
 use Rattle.redis_cluster.specs.Orders.{times}
 use Rattle.redis_cluster.specs.SlotItems.{items_of_slot}
 use Rattle.redis_cluster.specs.Unsplit.{Step, Keyspace, keyspace_after, reply_to, reply_by, results_of}
 use Rattle.redis_batches.specs.Served.{Effect, in_shelf}
 use Rattle.redis_batches.specs.Turns.{answers, of_slot}
-
--- what a command answers: a reply, or an error of its own, such as that of a wrong type
-abbrev pub Answer : Type 0
-Answer = Result Reply ErrorParts
 
 -- whatever a command does, by its arguments, to what stands at the keys of its slot
 abbrev pub Serve : Type 0 → Type 0

@@ -4,6 +4,7 @@ use Rattle.std.specs.Result.{result_map_both}
 use Rattle.std.specs.List.{All, enumerate_from}
 use Rattle.std.specs.declared.alloc.Global.{Global}
 use Rattle.std.specs.declared.vec.Vec.{Vec}
+use Rattle.resp_core.specs.Answer.{Answer, answer_of}
 use Rattle.resp_core.specs.ErrorParts.{ErrorParts}
 use Rattle.resp_core.specs.Reply.{Reply}
 use Rattle.resp_core.specs.View.{view}
@@ -15,9 +16,8 @@ use Rattle.redis_cluster.specs.Joined.{IsOutcome}
 use Rattle.redis_cluster.specs.MultiKey.{slots_in}
 use Rattle.redis_cluster.specs.Plan.{IsMadeOfParts}
 use Rattle.redis_cluster.specs.Unsplit.{Step, Keyspace}
-use Rattle.redis_batches.specs.Pipeline.{Answer, Refusals, Serve, Task, in_slot, over_keys, run, ended, numbered, parts_of, pieces}
+use Rattle.redis_batches.specs.Pipeline.{Refusals, Serve, Task, in_slot, over_keys, run, ended, numbered, parts_of, pieces}
 use Rattle.redis_batches.specs.Turns.{all_after}
-use Rattle.redis_batches.specs.Taken.{answer_of}
 use Rattle.redis_batches.specs.Tasks.{AreSplitsOf, IsSplitAs, slots_of_task, with_slots}
 
 -- the replies among some answers, or else the first error

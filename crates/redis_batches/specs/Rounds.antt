@@ -2,6 +2,7 @@
 use Rattle.std.specs.Prelude.{◌≡◌, ◌⊎◌, ◌++◌, ◌∷◌, ◌&&◌, ℕ, Bool, not, cond, List, [], Option, None, Some, MatchOption, Ok, Err, codes, filter, is_none, is_some, length, map, get_or, nat_eq, take}
 use Rattle.std.specs.List.{All, AllZip, list_any, range_with_len, zip}
 use Rattle.std.specs.Option.{option_or, unwrap_or}
+use Rattle.resp_core.specs.Answer.{Answer}
 use Rattle.resp_core.specs.ErrorParts.{ErrorParts}
 use Rattle.cluster_slots.specs.Address.{Address}
 use Rattle.redis_routing.specs.RedirectText.{IsRedirectText, redirect_address}
@@ -9,7 +10,7 @@ use Rattle.redis_routing.specs.declared.info.Redirect.{Redirect}
 use Rattle.redis_cluster.specs.Unsplit.{Keyspace, Step}
 use Rattle.redis_cluster.specs.State.{State}
 use Rattle.redis_batches.specs.Turns.{all_after, of_slot}
-use Rattle.redis_batches.specs.Pipeline.{Answer, Numbered, Planned, Refusals, Serve, Task, over_keys, in_slot, ended, ended_answers, numbered, slot_of}
+use Rattle.redis_batches.specs.Pipeline.{Numbered, Planned, Refusals, Serve, Task, over_keys, in_slot, ended, ended_answers, numbered, slot_of}
 use Rattle.redis_batches.specs.BatchSends.{IsServed, WasStopped}
 use Rattle.redis_batches.specs.Batched.{put_at}
 use Rattle.redis_batches.specs.Plan.{Batches, IsByNode, batch_of}

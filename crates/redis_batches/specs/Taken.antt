@@ -1,11 +1,11 @@
 -- What a node leaves that took a batch of commands.
-use Rattle.std.specs.Prelude.{◌≡◌, ◌<◌, ◌≤◌, ◌⊎◌, ◌+◌, ℕ, List, ◌++◌, Option, None, Some, Result, Ok, Err, true, false, map, length, option_map, slice_get}
+use Rattle.std.specs.Prelude.{◌≡◌, ◌<◌, ◌≤◌, ◌⊎◌, ◌+◌, ℕ, List, ◌++◌, Option, None, Some, Result, Err, true, false, map, length, option_map, slice_get}
 use Rattle.std.specs.Option.{option_or}
 use Rattle.std.specs.Global.{Vec}
 use Rattle.std.specs.List.{zip}
+use Rattle.resp_core.specs.Answer.{Answer}
 use Rattle.cluster_slots.specs.Address.{Address}
 use Rattle.resp_core.specs.ErrorParts.{ErrorParts, out_of_memory}
-use Rattle.resp_core.specs.View.{view}
 use Rattle.resp_core.specs.declared.value.Value.{Value}
 use Rattle.redis_routing.specs.Registry.{Registrations}
 use Rattle.redis_routing.specs.CommandSlot.{command_slot}
@@ -17,12 +17,7 @@ use Rattle.redis_cluster.specs.declared.nodes.SendError.TheVariants as sent
 use Rattle.redis_cluster.specs.State.{State}
 use Rattle.redis_batches.specs.Served.{AgreeElsewhere}
 use Rattle.redis_batches.specs.Turns.{all_after, answers}
-use Rattle.redis_batches.specs.Pipeline.{Answer, Serve, Task, over_keys, in_slot, run, run_ended}
-
--- what was answered
-abbrev pub answer_of : Result Value ErrorParts → Answer
-answer_of (Ok value) = Ok (view value)
-answer_of (Err error) = Err error
+use Rattle.redis_batches.specs.Pipeline.{Serve, Task, over_keys, in_slot, run, run_ended}
 
 -- what a send of a batch gives: an answer to each command, or why there is none
 abbrev pub Came : Type 0

@@ -1,5 +1,6 @@
 ghost use Rattle.std.specs.Prelude.{◌≡◌, ◌⊎◌, false, length, map, IfOk, IfErr, OnOk};
 ghost use Rattle.std.specs.List.{All};
+ghost use Rattle.resp_core.specs.Answer.{answer_of};
 ghost use Rattle.redis_routing.specs.Names.{names_of};
 ghost use Rattle.redis_cluster.specs.Driven.{AreAllAnswered};
 ghost use Rattle.redis_batches.specs.Driven.{AlwaysAnswers, NeverRefuses};
@@ -7,7 +8,6 @@ ghost use Rattle.redis_batches.specs.DrivenPipeline.{AreAllAsked, AreAskedUntil,
 ghost use Rattle.redis_batches.specs.Frame.{SameNodes};
 ghost use Rattle.redis_batches.specs.Plan.{IsPlan};
 ghost use Rattle.redis_batches.specs.Reads.{IsSlotNode};
-ghost use Rattle.redis_batches.specs.Taken.{answer_of};
 ghost use Rattle.redis_batches.specs.Tasks.{AreSplitsFor};
 
 use crate::fault::{PipelineError, PipelineFault};

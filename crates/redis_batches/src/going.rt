@@ -1,11 +1,11 @@
 ghost use Rattle.std.specs.Prelude.{◌≡◌, ◌<◌, ◌++◌, ◌∷◌, [], ℕ, List, Option, None, Some, cond, map, length, nat_eq, IfOk, OnOk};
 ghost use Rattle.std.specs.List.{All};
 ghost use Rattle.std.specs.Option.{option_or, unwrap_or};
+ghost use Rattle.resp_core.specs.Answer.{answer_of};
 ghost use Rattle.cluster_slots.specs.Address.{Address};
 ghost use Rattle.redis_batches.specs.Chosen.{has_slot};
 ghost use Rattle.redis_batches.specs.Outgoing.{IsNext, IsWalked, node_in, slot_at};
 ghost use Rattle.redis_batches.specs.Rounds.{IsNamedBy, IsSentOn};
-ghost use Rattle.redis_batches.specs.Taken.{answer_of};
 
 use cluster_slots::NodeAddress;
 use redis_routing::Redirect;

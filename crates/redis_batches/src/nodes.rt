@@ -1,4 +1,5 @@
 ghost use Rattle.std.specs.Prelude.{◌≡◌, ◌↔◌, ◌++◌, ◌∷◌, ℕ, List, None, Option, [], false, map, length, IfOk, IfErr, OnOk, OnErr};
+ghost use Rattle.resp_core.specs.Answer.{Answer, answer_of};
 ghost use Rattle.redis_routing.specs.Registry.{Registrations};
 ghost use Rattle.resp_core.specs.ErrorParts.{ErrorParts};
 ghost use Rattle.cluster_slots.specs.Address.{Address};
@@ -7,8 +8,8 @@ ghost use Rattle.redis_cluster.specs.Trace.{Ending};
 ghost use Rattle.redis_cluster.specs.Unsplit.{Step};
 ghost use Rattle.redis_cluster.specs.State.{State};
 ghost use Rattle.redis_batches.specs.Driven.{Grew, WereAskedUntil};
-ghost use Rattle.redis_batches.specs.Pipeline.{Answer, Serve};
-ghost use Rattle.redis_batches.specs.Taken.{answer_of, AreAnswered, AreServed, AreTasks, Batch, Came, IsTaken, IsUntaken, batch_entries, batch_for};
+ghost use Rattle.redis_batches.specs.Pipeline.{Serve};
+ghost use Rattle.redis_batches.specs.Taken.{AreAnswered, AreServed, AreTasks, Batch, Came, IsTaken, IsUntaken, batch_entries, batch_for};
 
 use cluster_slots::NodeAddress;
 use redis_cluster::driver::SendError;

@@ -1,6 +1,7 @@
 ghost use Rattle.std.specs.Prelude.{◌≡◌, ◌⊎◌, ℕ, List, Some, true, false, length, map, option_map, slice_get, IfOk, OnOk, IfErr};
 ghost use Rattle.std.specs.List.{All, flat_map, list_all, sum_by};
 ghost use Rattle.std.specs.Result.{IsErrAnd};
+ghost use Rattle.resp_core.specs.Answer.{answer_of};
 ghost use Rattle.resp_core.specs.declared.error.ErrorKind.TheVariants.{Client, OutOfMemory};
 ghost use Rattle.redis_routing.specs.Names.{names_in};
 ghost use Rattle.redis_cluster.specs.Orders.{in_order};
@@ -10,7 +11,6 @@ ghost use Rattle.redis_batches.specs.PipelinePlan.{IsPipelinePlanFault, IsPlanOf
 ghost use Rattle.redis_batches.specs.Plan.{AreFewest, IsByNode, IsPlan};
 ghost use Rattle.redis_batches.specs.Reads.{IsSlotNode};
 ghost use Rattle.redis_batches.specs.Replies.{AreRepliesFor, part_count};
-ghost use Rattle.redis_batches.specs.Taken.{answer_of};
 ghost use Rattle.redis_batches.specs.Tasks.{AreSplitsFor};
 
 use crate::fault::PipelineFault;

@@ -1,12 +1,11 @@
-ghost use Rattle.std.specs.Prelude.{◌≡◌, ◌≤◌, ◌++◌, List, Result, map, length, IfOk, IfErr, reverse};
+ghost use Rattle.std.specs.Prelude.{◌≡◌, ◌≤◌, ◌++◌, Result, map, length, IfOk, IfErr, reverse};
 ghost use Rattle.std.specs.List.{sum_by};
+ghost use Rattle.resp_core.specs.Answer.{answer_of};
 ghost use Rattle.resp_core.specs.View.{view};
 ghost use Rattle.resp_core.specs.declared.error.ErrorKind.TheVariants.{OutOfMemory};
 ghost use Rattle.redis_batches.specs.CommandTask.{split_in};
 ghost use Rattle.redis_cluster.specs.Plan.{IsMadeOfParts};
-ghost use Rattle.redis_batches.specs.Pipeline.{Answer};
 ghost use Rattle.redis_batches.specs.Replies.{AreRepliesFor, IsSplitReply, IsTakenFor, all_replies, as_outcome, part_count, values_among};
-ghost use Rattle.redis_batches.specs.Taken.{answer_of};
 
 use crate::task::CommandTask;
 use redis_cluster::driver::join_replies;

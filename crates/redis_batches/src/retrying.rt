@@ -1,5 +1,6 @@
 ghost use Rattle.std.specs.Prelude.{◌≡◌, ◌++◌, List, length, map, IfOk, IfErr, OnOk};
 ghost use Rattle.std.specs.List.{flat_map, range_with_len};
+ghost use Rattle.resp_core.specs.Answer.{answer_of};
 ghost use Rattle.redis_routing.specs.Names.{names_of};
 ghost use Rattle.redis_routing.specs.RoutingInfo.{route_lists};
 ghost use Rattle.redis_routing.specs.Split.{slots_of};
@@ -13,7 +14,6 @@ ghost use Rattle.redis_batches.specs.PartArguments.{sent_args};
 ghost use Rattle.redis_batches.specs.Pipeline.{Planned};
 ghost use Rattle.redis_batches.specs.Reads.{IsSlotNode};
 ghost use Rattle.redis_batches.specs.Rounds.{Round};
-ghost use Rattle.redis_batches.specs.Taken.{answer_of};
 
 use crate::drive::plan_in_order;
 use crate::fault::PipelineError;

@@ -1,10 +1,10 @@
 ghost use Rattle.std.specs.Prelude.{◌≡◌, ◌<◌, ◌∷◌, [], ℕ, List, Some, false, length, map, slice_get, IfOk, IfErr, OnOk, OnErr};
 ghost use Rattle.std.specs.List.{All};
+ghost use Rattle.resp_core.specs.Answer.{answer_of};
 ghost use Rattle.redis_cluster.specs.Orders.{NamesOnce, in_order};
 ghost use Rattle.redis_batches.specs.Pipeline.{AreSlotsOf, Planned};
 ghost use Rattle.redis_batches.specs.Batched.{AreBatches};
 ghost use Rattle.redis_batches.specs.BatchSends.{AreBatchesSent, AreBatchesStopped, IsBatchNotTaken, IsBatchTaken};
-ghost use Rattle.redis_batches.specs.Taken.{answer_of};
 ghost use Rattle.redis_batches.specs.Driven.{Grew, batch_at, WereAskedUntil};
 ghost use Rattle.redis_batches.specs.Frame.{SameNodes};
 ghost use Rattle.redis_batches.specs.PipelinePlan.{IsSameBut, told_batch};

@@ -138,6 +138,9 @@ impl<'a, R: Routable> SplitPlan<'a, R> {
         ensures fault { IfErr result
             (λ fault.
             IsPlanFault slot_map.now (names_in names.entry) (R.args command.now) fault) }
+        // A command that is split by slot is complete.
+        ensures not_split { IfErr result (λ fault. fault ≡ PlanFault.NotMultiKey
+            → multi_slot_routes (names_in names.entry) (R.args command.now) ≡ None) }
     {
         let Some(split) = SplitCommand::new(alloc, command, names)? else {
             return Err(PlanFault::NotMultiKey);

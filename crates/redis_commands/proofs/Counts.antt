@@ -5,6 +5,7 @@ use Rattle.std.specs.Str.{bytes_eq}
 use Rattle.std.proofs.lemmas.Int.{ints}
 use Rattle.std.proofs.lemmas.List.Sums.{sum_by-append}
 use Rattle.std.proofs.lemmas.Option.{none-some, same_Some}
+use Rattle.resp_core.specs.Answer.{Answer}
 use Rattle.resp_core.proofs.Cases.{by_test}
 use Rattle.resp_core.specs.Reply.{Reply, int}
 use Rattle.redis_combiners.specs.Aggregate.{numbers, total, fits_i64, in_i64, sum_of, aggregate_of}
@@ -18,7 +19,7 @@ use Rattle.cluster_slots.specs.Address.{Address}
 use Rattle.cluster_map.specs.RangeMap.{RangeEntry}
 use Rattle.cluster_map.specs.SlotNodes.{SlotNodes}
 use Rattle.redis_routing.specs.declared.policy.ResponsePolicy.TheVariants.{Aggregate}
-use Rattle.redis_commands.specs.Answers.{Answer, values_in, first_error}
+use Rattle.redis_commands.specs.Answers.{values_in, first_error}
 use Rattle.redis_commands.specs.Policy.{or_refused, reply_by_policy}
 use Rattle.redis_commands.specs.Rule.{ReplyRule, by_policy, IsCombined}
 use Rattle.redis_commands.specs.Targets.{primaries_in}

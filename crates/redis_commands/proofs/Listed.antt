@@ -1,6 +1,7 @@
 -- Lists of keys, joined into one array, list the keys of the whole keyspace.
 use Rattle.std.proofs.Common.{◌≡◌, ℕ, Bool, List, [], ◌∷◌, ◌++◌, map, Option, Some, None, refl, sym, ap, subst, ◌∙◌, inl, inr}
 use Rattle.std.specs.Prelude.{option_map, Result, Ok, Err, IfOk}
+use Rattle.resp_core.specs.Answer.{Answer}
 use Rattle.resp_core.specs.ErrorParts.{ErrorParts}
 use Rattle.resp_core.specs.Reply.{Reply, array, bulk, replies_of, items_in, array_of}
 use Rattle.resp_core.specs.View.{view}
@@ -13,7 +14,7 @@ use Rattle.redis_combiners.specs.AllItems.{all_items}
 use Rattle.cluster_slots.specs.Lists.{all_some, flatten}
 use Rattle.redis_routing.specs.declared.policy.ResponsePolicy.TheVariants.{CombineArrays}
 use Rattle.redis_cluster.specs.Unsplit.{Keyspace}
-use Rattle.redis_commands.specs.Answers.{Answer, values_in, first_error}
+use Rattle.redis_commands.specs.Answers.{values_in, first_error}
 use Rattle.redis_commands.specs.Policy.{or_refused, reply_by_policy}
 use Rattle.redis_commands.specs.Rule.{ReplyRule, by_policy, IsCombined}
 use Rattle.redis_commands.specs.Targets.{primaries_in}

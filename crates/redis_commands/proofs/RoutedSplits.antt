@@ -1,5 +1,5 @@
 -- A command that is routed to a node of each slot is complete, and is split as it is routed.
-use Rattle.std.proofs.Common.{◌≡◌, ℕ, zero, suc, List, [], ◌∷◌, Bool, true, Option, None, Some, length, refl, sym, ap, ◌∙◌, arith}
+use Rattle.std.proofs.Common.{◌≡◌, ℕ, zero, suc, List, [], ◌∷◌, Bool, true, Option, None, Some, length, refl, sym, ap, subst, ◌∙◌, arith}
 use Rattle.std.specs.Prelude.{◌≢◌, nat_lt, option_map}
 use Rattle.std.proofs.lemmas.Bool.Decides.{nat_tests}
 use Rattle.resp_core.proofs.Cases.{by_test}
@@ -17,20 +17,24 @@ use Rattle.redis_routing.specs.PresentArguments.{present_arguments}
 use Rattle.redis_routing.specs.Registry.{Registered, Registrations, tables_with}
 use Rattle.redis_routing.specs.RouteBy.{base_routing}
 use Rattle.redis_routing.specs.Routing.{argument_number, by_count, routes_of, routing, routing_by, routing_by_name, routing_of_routes, to_key, to_key_after, to_key_or_any, to_slot, to_slots}
-use Rattle.redis_routing.specs.RoutingInfo.{Routing, multi_slot, multi_node}
+use Rattle.redis_routing.specs.RoutingInfo.{Routing, SingleNodeRouting, by_address, multi_slot, multi_node, random, random_primary, single_node, specific_node}
 use Rattle.redis_routing.specs.Split.{policy_by_name}
 use Rattle.redis_routing.specs.declared.policy.ResponsePolicy.{ResponsePolicy}
 use Rattle.redis_routing.specs.declared.route_by.RouteBy.{RouteBy}
 use Rattle.redis_routing.specs.declared.route_by.RouteBy.TheVariants as route_by
+use Rattle.redis_commands.specs.Way.{is_by_name}
 use Rattle.redis_routing.proofs.NineNames.{found_nine, found_registered}
 use Rattle.redis_routing.proofs.SplitPolicies.{split_has_policy}
 
 abbrev pub Routes : Type 0
 Routes = List (SlotRoute × List ℕ)
 
--- what holds of a routing to a node of each slot, if it is one
+-- what holds of a routing to a node of each slot, if it is one; no name is routed to any primary, or to
+-- an address
 abbrev pub IfSplit : (Routes → MultiSlotArgPattern → Option ResponsePolicy → Type 0) → Option Routing → Type 0
 IfSplit P (Some (multi_node (multi_slot routes pattern) policy)) = P routes pattern policy
+IfSplit P (Some (single_node random_primary)) = ⊥
+IfSplit P (Some (single_node (by_address host port))) = ⊥
 IfSplit P _ = Unit {0}
 
 module _ (P : Routes → MultiSlotArgPattern → Option ResponsePolicy → Type 0) (args : Arguments) (reads : Bool) (policy : Option ResponsePolicy) where
@@ -143,3 +147,10 @@ routed_split names args = by_name (command_name args) refl
           pattern_is = ap (pattern_by_name names.registered) named ∙ found;
           own_is = ap (policy_by_name names.registered) named ∙ ap (option_map (λ s. s.1)) split.2;
         })
+
+-- a name alone routes a command to any node, or to one of a slot
+pub routed_by_name : (names : Names) (args : Arguments) (to : SingleNodeRouting) → routing names args ≡ Some (single_node to) → is_by_name to ≡ true
+routed_by_name names args random is = refl
+routed_by_name names args (specific_node route) is = refl
+routed_by_name names args random_primary is = absurd (subst (IfSplit (IsSplitSo names args)) is (routed_split names args))
+routed_by_name names args (by_address host port) is = absurd (subst (IfSplit (IsSplitSo names args)) is (routed_split names args))

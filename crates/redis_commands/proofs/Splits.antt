@@ -1,6 +1,6 @@
 -- The plan of a split command has the rule and the parts of where the command is routed.
-use Rattle.std.proofs.Common.{◌≡◌, ◌⊎◌, inl, inr, ℕ, List, [], ◌∷◌, Bor, Vec, Global, Option, None, Some, true, map, refl, sym, ap, subst, ◌∙◌}
-use Rattle.std.specs.Prelude.{IfErr, IfSome, Result, Ok, Err, option_map}
+use Rattle.std.proofs.Common.{◌≡◌, ◌⊎◌, inl, inr, ℕ, List, [], Bor, Vec, Global, Option, None, Some, true, map, refl, sym, ap, subst, ◌∙◌}
+use Rattle.std.specs.Prelude.{IfErr, Result, Ok, Err, option_map}
 use Rattle.std.specs.Result.{IsErrAnd}
 use Rattle.std.specs.List.{AllZip}
 use Rattle.std.proofs.lemmas.Option.{none-some, same_Some}
@@ -20,9 +20,9 @@ use Rattle.redis_routing.specs.declared.info.MultipleNodeRoutingInfo.{MultipleNo
 use Rattle.redis_routing.specs.declared.info.MultipleNodeRoutingInfo.TheVariants.{MultiSlot}
 use Rattle.redis_routing.specs.declared.info.RoutingInfo.{RoutingInfo}
 use Rattle.redis_routing.specs.declared.info.RoutingInfo.TheVariants.{MultiNode}
-use Rattle.redis_routing.specs.Split.{Split, policy_by_name, slots_of}
+use Rattle.redis_routing.specs.Split.{Split, policy_by_name}
 use Rattle.redis_routing.specs.declared.policy.ResponsePolicy.{ResponsePolicy}
-use Rattle.redis_cluster.specs.Driven.{IsFirstUncovered, command_routes_by}
+use Rattle.redis_cluster.specs.Driven.{IsFirstUncovered}
 use Rattle.redis_cluster.specs.Faults.{IsPlanFault}
 use Rattle.redis_cluster.specs.MultiKey.{MultiKey, command_routes, multi_key}
 use Rattle.redis_cluster.proofs.CommandParts.{routes_by_command}
@@ -30,7 +30,7 @@ use Rattle.redis_cluster.specs.declared.fault.PlanFault.{PlanFault}
 use Rattle.redis_cluster.specs.declared.fault.PlanFault.TheVariants as plan
 use Rattle.redis_commands.specs.Rule.{of_parts, rule_of}
 use Rattle.redis_commands.specs.SplitFault.{fault_of_split}
-use Rattle.redis_commands.specs.Targets.{AreTargets, IsCommandPlanFault, is_slotless, is_split}
+use Rattle.redis_commands.specs.Targets.{AreTargets, IsCommandPlanFault, is_slotless}
 use Rattle.redis_commands.specs.declared.fault.CommandPlanFault.{CommandPlanFault}
 use Rattle.redis_commands.specs.declared.fault.CommandPlanFault.TheVariants as own
 use Rattle.redis_commands.proofs.RoutedSplits.{Routes, IsSplitSo, IfSplit, routed_split}
@@ -62,14 +62,6 @@ split_targets strategy picks_of entries pick to own routes pattern policy nodes 
     subst (λ r. AreTargets strategy picks_of entries pick r nodes) (sym is)
     (subst (λ rs. AllZip (λ route target. IsRouteNode strategy picks_of entries pick route.0 target) rs nodes) same each)
 
--- the parts of the slots, one after the other
-pub parts_sent : (part_at : ℕ → Arguments) (routes : Routes) (parts : List (List (List ℕ))) → AllZip (λ route part. map Some part ≡ part_at route.0.slot) routes parts → map (map Some) parts ≡ map part_at (slots_of routes)
-parts_sent part_at [] [] each = refl
-parts_sent part_at [] (part ∷ parts) each = absurd each
-parts_sent part_at (route ∷ routes) [] each = absurd each
-parts_sent part_at (route ∷ routes) (part ∷ parts) each =
-    ap (λ p. p ∷ map (map Some) parts) each.0 ∙ ap (λ ps. part_at route.0.slot ∷ ps) (parts_sent part_at routes parts each.1)
-
 -- a routing to a node of each slot
 pub as_split : (info : RoutingInfo) (many : MultipleNodeRoutingInfo) (policy : Option ResponsePolicy) (parts : Vec (SlotRoute × Vec ℕ Global) Global × MultiSlotArgPattern) → info ≡ MultiNode (many, policy) → many ≡ MultiSlot parts
     → as_routing info ≡ multi_node (multi_slot (route_lists parts.0.items) parts.1) policy
@@ -82,14 +74,15 @@ routes_found names args routes found (Some command) is routed by = sym (same_Som
 
 -- why a split command has no plan
 pub split_fault : (entries : List (RangeEntry SlotNodes)) (names : Names) (args : Arguments) (routes : Routes) (pattern : MultiSlotArgPattern) (policy : Option ResponsePolicy) → routing names args ≡ Some (multi_node (multi_slot routes pattern) policy)
-    → (fault : PlanFault) → IsPlanFault entries names args fault → IsCommandPlanFault entries names args (fault_of_split fault)
-split_fault entries names args routes pattern policy is plan.NotMultiKey none =
-    subst (λ to. IfSome to (λ to. (is_split to ≡ true) × (command_routes_by names args ≡ None))) (sym is) (refl, none)
-split_fault entries names args routes pattern policy is (plan.NotCovered slot) (found, by, first) =
+    → (fault : PlanFault) → IsPlanFault entries names args fault → (fault ≡ plan.NotMultiKey → multi_slot_routes names args ≡ None) → IsCommandPlanFault entries names args (fault_of_split fault)
+split_fault entries names args routes pattern policy is plan.NotMultiKey none not_split =
+    let so = split_so names args routes pattern policy is in
+    absurd (none-some routes (sym (not_split refl) ∙ so.routes_are))
+split_fault entries names args routes pattern policy is (plan.NotCovered slot) (found, by, first) not_split =
     let so = split_so names args routes pattern policy is in
     let same = routes_found names args routes found (multi_key names.registered args) refl so.routes_are by in
     (multi_node (multi_slot routes pattern) policy, is, subst (λ rs. IsFirstUncovered entries rs slot) same first)
-split_fault entries names args routes pattern policy is plan.Memory none = tt
+split_fault entries names args routes pattern policy is plan.Memory none not_split = tt
 
 -- why a command that goes to several nodes has no plan
 pub several_fault : (entries : List (RangeEntry SlotNodes)) (names : Names) (args : Arguments) (to : Routing) (nodes : List (Bor Address)) → routing names args ≡ Some to → is_slotless to ≡ true → (nodes ≡ [] → entries ≡ [])

@@ -4,6 +4,7 @@ use Rattle.std.specs.Prelude.{IfErr, OnOk, MatchOption, MatchResult, Result, is_
 use Rattle.std.specs.Result.{is_err}
 use Rattle.std.proofs.lemmas.List.{append-nil, map-append}
 use Rattle.std.specs.List.{list_any}
+use Rattle.resp_core.specs.Answer.{Answer}
 use Rattle.resp_core.specs.ErrorParts.{ErrorParts, out_of_memory}
 use Rattle.cluster_slots.specs.Address.{Address}
 use Rattle.resp_core.specs.View.{view}
@@ -14,7 +15,7 @@ use Rattle.redis_cluster.specs.MultiKey.{ReplyForm}
 use Rattle.redis_cluster.specs.Plan.{Plan, ArePartReplies, ArePartsAnswered, IsMadeOfParts}
 use Rattle.redis_cluster.specs.Unsplit.{TupleResult}
 use Rattle.redis_commands.specs.Rule.{of_parts, takes_memory, IsCombined, IsJoinedOf, IsReplyBy}
-use Rattle.redis_commands.specs.Answers.{Answer, answers_given, values_in, first_error}
+use Rattle.redis_commands.specs.Answers.{answers_given, values_in, first_error}
 
 pub none_there : {X : Type 0} (o : Option X) → is_some o ≡ false → o ≡ None
 none_there None h = refl

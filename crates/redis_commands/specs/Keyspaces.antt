@@ -2,6 +2,7 @@
 use Rattle.std.specs.Prelude.{◌≡◌, pos, Ok, map, ◌≢◌, ◌⊎◌, ℕ, nat_le, Bool, true, false, cond, List, [], ◌∷◌, Option, Some, None, option_and_then, find, is_some, ◌&&◌, length, count_by}
 use Rattle.std.specs.Str.{bytes_eq}
 use Rattle.std.specs.List.{AllZip}
+use Rattle.resp_core.specs.Answer.{Answer}
 use Rattle.cluster_slots.specs.Address.{Address, same_address}
 use Rattle.cluster_slots.specs.KeySlot.{key_slot}
 use Rattle.cluster_map.specs.RangeMap.{RangeEntry, end_of, value_of, Ascends}
@@ -9,7 +10,6 @@ use Rattle.cluster_map.specs.ReplyNode.{IsCovered}
 use Rattle.cluster_map.specs.SlotNodes.{SlotNodes}
 use Rattle.redis_cluster.specs.Unsplit.{Keyspace}
 use Rattle.resp_core.specs.Reply.{int, array, bulk, replies_of}
-use Rattle.redis_commands.specs.Answers.{Answer}
 
 -- the primary of the entry, if the entry begins at the slot or before it
 abbrev pub primary_from : ℕ → RangeEntry SlotNodes → Option Address

@@ -1,6 +1,7 @@
 -- The one reply that a policy makes of what the targets of a command answered.
 use Rattle.std.specs.Prelude.{◌≡◌, List, Option, Some, None, Result, Ok, Err, map, option_map, filter_map}
 use Rattle.std.specs.List.{zip}
+use Rattle.resp_core.specs.Answer.{Answer}
 use Rattle.resp_core.specs.ErrorParts.{ErrorParts}
 use Rattle.resp_core.specs.Reply.{Reply, nil, bulk, array, pairs, pairs_of, replies_of}
 use Rattle.resp_core.specs.declared.error.ErrorKind.{ErrorKind}
@@ -14,7 +15,7 @@ use Rattle.redis_combiners.specs.Logical.{logical_items}
 use Rattle.redis_combiners.specs.Totals.{combined_map}
 use Rattle.redis_routing.specs.declared.policy.ResponsePolicy.{ResponsePolicy}
 use Rattle.redis_routing.specs.declared.policy.ResponsePolicy.TheVariants.{OneSucceeded, FirstSucceededNonEmptyOrAllEmpty, AllSucceeded, AggregateLogical, Aggregate, CombineArrays, CombineMaps}
-use Rattle.redis_commands.specs.Answers.{Answer, non_nil_in, first_in, values_in, first_error, last_error}
+use Rattle.redis_commands.specs.Answers.{non_nil_in, first_in, values_in, first_error, last_error}
 
 -- why there is no reply: an error of a target, as it came, or a refusal of the values, of this kind
 pub data Failure : Type 0 where

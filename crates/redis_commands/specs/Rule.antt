@@ -1,5 +1,6 @@
 -- How the answers to a command make one reply, by where the command goes.
 use Rattle.std.specs.Prelude.{◌≡◌, ◌⊎◌, Bool, true, false, List, [], ◌∷◌, Option, Some, None, Result, Ok, Err, MatchOption, map}
+use Rattle.resp_core.specs.Answer.{Answer, answer_of}
 use Rattle.resp_core.specs.ErrorParts.{ErrorParts, out_of_memory}
 use Rattle.resp_core.specs.Reply.{Reply}
 use Rattle.resp_core.specs.View.{view}
@@ -7,13 +8,11 @@ use Rattle.resp_core.specs.declared.value.Value.{Value}
 use Rattle.cluster_slots.specs.Address.{Address}
 use Rattle.redis_routing.specs.Command.{Arguments}
 use Rattle.redis_routing.specs.RoutingInfo.{Routing, multi_slot, single_node, multi_node}
-use Rattle.redis_routing.specs.Registry.{Registrations}
-use Rattle.redis_routing.specs.Split.{Split, slots_of}
+use Rattle.redis_routing.specs.Split.{Split, slots_of, split_part}
 use Rattle.redis_routing.specs.declared.policy.ResponsePolicy.{ResponsePolicy}
 use Rattle.redis_routing.specs.declared.policy.ResponsePolicy.TheVariants.{OneSucceeded, FirstSucceededNonEmptyOrAllEmpty, AllSucceeded, CombineArrays}
-use Rattle.redis_cluster.specs.MultiKey.{part_by_slot}
 use Rattle.redis_cluster.specs.Plan.{IsMadeOfParts}
-use Rattle.redis_commands.specs.Answers.{Answer, answer_of, values_in, first_error}
+use Rattle.redis_commands.specs.Answers.{values_in, first_error}
 use Rattle.redis_commands.specs.Policy.{Returns, reply_by_policy}
 
 -- The answer of the only target is the reply; or a policy makes it of the answers to the whole
@@ -34,9 +33,9 @@ rule_of args (multi_node (multi_slot routes pattern) (Some policy)) =
 rule_of args (multi_node to policy) = by_policy policy
 
 -- what each target is sent: the part of its slot, or else the whole command
-abbrev pub sent_by : Registrations → Arguments → ReplyRule → List Address → List Arguments
-sent_by registered args (of_parts split) targets = map (part_by_slot registered args) (slots_of split.routes)
-sent_by registered args rule targets = map (λ target. args) targets
+abbrev pub sent_by : Arguments → ReplyRule → List Address → List Arguments
+sent_by args (of_parts split) targets = map (split_part split) (slots_of split.routes)
+sent_by args rule targets = map (λ target. args) targets
 
 -- what a call returned is joined of the replies to the parts
 abbrev pub IsJoinedOf : Split → List Reply → Result Value ErrorParts → Type 0

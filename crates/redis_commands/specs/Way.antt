@@ -1,21 +1,22 @@
 -- Where a command goes and what its targets answered, as the code holds them.
-use Rattle.std.specs.Prelude.{◌≡◌, List, [], ◌∷◌, map, Option, Some, None, Result}
+use Rattle.std.specs.Prelude.{◌≡◌, Bool, true, false, List, [], ◌∷◌, map, Option, Some, None, Result}
 use Rattle.resp_core.specs.ErrorParts.{ErrorParts}
 use Rattle.resp_core.specs.declared.value.Value.{Value}
 use Rattle.cluster_slots.specs.Address.{Address}
 use Rattle.cluster_map.specs.Targets.{addresses_behind}
 use Rattle.redis_routing.specs.Command.{Arguments}
+use Rattle.redis_routing.specs.RoutingInfo.{SingleNodeRouting, random, specific_node}
 use Rattle.redis_cluster.specs.Plan.{IsRoutedPlan}
 use Rattle.redis_commands.specs.Rule.{ReplyRule, only_answer, by_policy, of_parts}
 use Rattle.redis_commands.specs.Planned.{PlannedCommand, IsPlanned}
-use Rattle.redis_commands.specs.declared.target.Target.{Target}
-use Rattle.redis_commands.specs.declared.target.Target.TheVariants.{OfMap, Given}
 use Rattle.redis_commands.specs.declared.ways.Way.{Way}
 use Rattle.redis_commands.specs.declared.ways.Way.TheVariants.{One, Several, Split}
 
-abbrev pub address_of : Target → Address
-address_of (OfMap node) = node.now
-address_of (Given node) = node
+-- whether a name alone routes a command so: no name has the other two
+abbrev pub is_by_name : SingleNodeRouting → Bool
+is_by_name random = true
+is_by_name (specific_node route) = true
+is_by_name _ = false
 
 module _ {R : Type 0} where
   abbrev pub rule_in : Way R → ReplyRule
@@ -24,7 +25,7 @@ module _ {R : Type 0} where
   rule_in (Split plan told) = of_parts plan.split
 
   abbrev pub targets_in : Way R → List Address
-  targets_in (One target told) = address_of target ∷ []
+  targets_in (One node told) = node.now ∷ []
   targets_in (Several nodes policy told) = addresses_behind nodes.items
   targets_in (Split plan told) = plan.nodes
 

@@ -1,4 +1,4 @@
-ghost use Rattle.std.specs.Prelude.{◌≡◌, ℕ, List, Result, true, false, map, length, slice_get, slice_set, replicate, is_none, Option, Some, None, Ok, Err, IfOk, IfErr, MatchResult, OnOk};
+ghost use Rattle.std.specs.Prelude.{◌≡◌, List, Result, false, map, length, slice_get, slice_set, replicate, is_none, Option, Some, None, Ok, Err, IfOk, IfErr, MatchResult, OnOk};
 ghost use Rattle.std.specs.List.{list_any};
 ghost use Rattle.std.specs.Result.{IsErrAnd};
 ghost use Rattle.resp_core.specs.ErrorParts.{ErrorParts, out_of_memory};

@@ -1,6 +1,5 @@
-ghost use Rattle.std.specs.Prelude.{◌≡◌, ◌⊎◌, List, map, length, true, false, Option, Some, None, Ok, Err, MatchResult, filter_map, IfOk, is_none, is_some};
+ghost use Rattle.std.specs.Prelude.{◌≡◌, map, length, true, false, Option, Some, None, Ok, Err, filter_map, IfOk, is_none, is_some};
 ghost use Rattle.std.specs.List.{list_any};
-ghost use Rattle.resp_core.specs.ErrorParts.{out_of_memory};
 ghost use Rattle.resp_core.specs.Reply.{nil};
 ghost use Rattle.resp_core.specs.View.{view};
 ghost use Rattle.resp_core.specs.declared.error.ErrorKind.TheVariants.{Client};
@@ -49,7 +48,6 @@ pub(crate) fn combine_by_policy(
 }
 
 /// The first value, or else the last error.
-#[tactic(auto, using(crate::proofs::Running::later_of_none, crate::proofs::Running::later_again))]
 fn first_value(told: Vec<Option<RedisResult<Value>>>) -> RedisResult<Value>
     ensures { Returns result (reply_or (first_in (values_in (answers_given told.items)))
         (last_error (answers_given told.items)) (Err (refused Client))) }
@@ -69,7 +67,6 @@ fn first_value(told: Vec<Option<RedisResult<Value>>>) -> RedisResult<Value>
 }
 
 /// The first value that is not nil, or else the last error, or else nil.
-#[tactic(auto, using(crate::proofs::Running::later_of_none, crate::proofs::Running::later_again))]
 fn first_non_nil(told: Vec<Option<RedisResult<Value>>>) -> RedisResult<Value>
     ensures { Returns result
         (reply_or (first_in (filter_map non_nil_in (answers_given told.items)))

@@ -8,8 +8,9 @@ use std::fmt;
 /// Why a command has no plan.
 #[derive(Debug, Drop)]
 pub enum CommandPlanFault {
-    /// `RoutingInfo` knows no node for it: it has no name, or its keys are missing, or commands of
-    /// its name go nowhere, such as `SCAN`.
+    /// It goes nowhere: it has no name, or commands of its name go nowhere, such as `SCAN`. Or the
+    /// keys, the count or the slot number that it is routed by are missing or wrong, such as in
+    /// `MSET a` and `CLUSTER ADDSLOTS 16384`.
     NotRoutable,
     /// No node serves this slot: that of the first route that has none.
     NotCovered(u16),

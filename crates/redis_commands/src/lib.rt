@@ -7,7 +7,6 @@ mod combining;
 mod fault;
 mod part;
 mod plan;
-mod target;
 mod ways;
 
 pub use fault::CommandPlanFault;

@@ -75,9 +75,8 @@ impl<'a, R: Routable> CommandPlan<'a, R> {
     /// Plans a command, by where `RoutingInfo` says that it goes.
     ///
     /// - To one node, such as `GET a` or `MGET a {a}b`: the map names the node of the route, and the
-    ///   strategy if reads may go to replicas. Without a strategy, `pick` chooses among the replicas
-    ///   if the route requires one. If any node will do, such as for `ECHO a`, it is the one at
-    ///   `pick` modulo their number.
+    ///   strategy if reads may go to replicas. If any node will do, such as for `ECHO a`, it is the
+    ///   one at `pick` modulo their number.
     /// - To each primary or each node once, such as `DBSIZE` or `CONFIG SET`, in the order of
     ///   `addresses_for_all_primaries` or `addresses_for_all_nodes`.
     /// - In parts, such as `MGET a b`: to a node of each slot, as `SplitPlan` has it.
@@ -103,7 +102,7 @@ impl<'a, R: Routable> CommandPlan<'a, R> {
             (routing (names_in names.entry) (R.args command.now))) }
         ensures sent { IfOk result
             (λ plan. plan.sent
-            ≡ sent_by names.entry.registry.now (R.args command.now) plan.rule plan.targets) }
+            ≡ sent_by (R.args command.now) plan.rule plan.targets) }
         ensures some { IfOk result (λ plan. 0 < length plan.targets) }
         ensures untold { IfOk result
             (λ plan. plan.answers ≡ map (λ target. None) plan.targets) }
@@ -141,7 +140,7 @@ impl<'a, R: Routable> CommandPlan<'a, R> {
         ensures { option_map (λ node. node.now) result ≡ slice_get self.now.targets number }
     {
         match &self.way {
-            Way::One(target, _) if number == 0 => Some(target.address()),
+            Way::One(node, _) if number == 0 => Some(*node),
             Way::One(_, _) => None,
             Way::Several(nodes, _, _) => {
                 let node = nodes.get(number)?;

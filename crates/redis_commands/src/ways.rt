@@ -1,4 +1,4 @@
-ghost use Rattle.std.specs.Prelude.{◌≡◌, ◌⊎◌, [], ◌∷◌, map, Option, Some, None, IfOk, IfErr};
+ghost use Rattle.std.specs.Prelude.{◌≡◌, ◌⊎◌, [], ◌∷◌, true, map, Option, Some, None, IfOk, IfErr};
 ghost use Rattle.cluster_map.specs.Targets.{addresses_behind};
 ghost use Rattle.redis_routing.specs.Command.{Arguments};
 ghost use Rattle.redis_routing.specs.Names.{names_in};
@@ -7,11 +7,10 @@ ghost use Rattle.redis_routing.specs.Routing.{routing};
 ghost use Rattle.redis_routing.specs.RoutingInfo.{as_routing, as_single_node, single_node};
 ghost use Rattle.redis_commands.specs.Rule.{rule_of, sent_by, by_policy};
 ghost use Rattle.redis_commands.specs.Targets.{AreTargets, IsPickOf, IsCommandPlanFault};
-ghost use Rattle.redis_commands.specs.Way.{IsWay, address_of, rule_in, targets_in, sent_in, told_in};
+ghost use Rattle.redis_commands.specs.Way.{IsWay, is_by_name, rule_in, targets_in, sent_in, told_in};
 
 use crate::answers::no_answers;
 use crate::fault::CommandPlanFault;
-use crate::target::Target;
 use cluster_map::{ReadRoutingStrategy, SlotMap};
 use cluster_slots::NodeAddress;
 use redis_cluster::driver::SplitPlan;
@@ -25,7 +24,7 @@ use std::alloc::Global;
 #[derive(Drop)]
 pub(crate) enum Way<'a, R: Routable> {
     /// To one node.
-    One(Target<'a>, Option<RedisResult<Value>>),
+    One(&'a NodeAddress, Option<RedisResult<Value>>),
     /// Whole, to each of these nodes.
     Several(Vec<&'a NodeAddress>, Option<ResponsePolicy>, Vec<Option<RedisResult<Value>>>),
     /// In parts, each to a node of its slot.
@@ -48,7 +47,7 @@ pub(crate) fn way_of<'a, R: Routable>(
     ensures rule { IfOk result
         (λ way. rule_in way ≡ rule_of (R.args command.now) (as_routing info.now)) }
     ensures sent { IfOk result (λ way. sent_in (R.args command.now) way
-        ≡ sent_by names.entry.registry.now (R.args command.now) (rule_in way) (targets_in way)) }
+        ≡ sent_by (R.args command.now) (rule_in way) (targets_in way)) }
     ensures untold { IfOk result (λ way. told_in way ≡ map (λ target. None) (targets_in way)) }
     ensures way { IfOk result (λ way. IsWay (R.args command.now) way) }
     ensures fault { IfErr result
@@ -56,8 +55,8 @@ pub(crate) fn way_of<'a, R: Routable>(
 {
     match info {
         RoutingInfo::SingleNode(single) => {
-            let target = single_target(alloc, single, slot_map, strategy, pick)?;
-            Ok(Way::One(target, None))
+            let node = single_target(alloc, single, slot_map, strategy, pick)?;
+            Ok(Way::One(node, None))
         }
         RoutingInfo::MultiNode((many, policy)) => match many {
             MultipleNodeRoutingInfo::AllNodes => {
@@ -82,41 +81,38 @@ fn single_target<'a>(
     slot_map: &'a SlotMap,
     strategy: Option<&dyn ReadRoutingStrategy>,
     pick: usize,
-) -> Result<Target<'a>, CommandPlanFault>
-    ensures target { IfOk result (λ target. AreTargets strategy.entry (λ s. picks s.now)
-        slot_map.now pick (single_node (as_single_node info.now)) (address_of target ∷ [])) }
+) -> Result<&'a NodeAddress, CommandPlanFault>
+    requires named { is_by_name (as_single_node info.now) ≡ true }
+    ensures target { IfOk result (λ node. AreTargets strategy.entry (λ s. picks s.now)
+        slot_map.now pick (single_node (as_single_node info.now)) (node.now ∷ [])) }
     ensures fault { IfErr result (λ fault. (names : known.Names) (args : Arguments)
         → routing names args ≡ Some (single_node (as_single_node info.now))
         → IsCommandPlanFault slot_map.now names args fault) }
 {
     match info {
         SingleNodeRoutingInfo::Random => picked(slot_map.addresses_for_all_nodes(alloc)?, pick),
-        SingleNodeRoutingInfo::RandomPrimary => {
-            picked(slot_map.addresses_for_all_primaries(alloc)?, pick)
-        }
         SingleNodeRoutingInfo::SpecificNode(route) => {
             match slot_map.slot_addr_for_route(*route, strategy, pick) {
-                Some(node) => Ok(Target::OfMap(node)),
+                Some(node) => Ok(node),
                 None => Err(CommandPlanFault::NotCovered(route.slot())),
             }
         }
-        SingleNodeRoutingInfo::ByAddress { host, port } => {
-            Ok(Target::Given(NodeAddress::new(alloc, host, *port)?))
-        }
+        SingleNodeRoutingInfo::RandomPrimary
+        | SingleNodeRoutingInfo::ByAddress { host: _, port: _ } => unreachable!(),
     }
 }
 
 /// The node at `pick` modulo their number.
-fn picked(nodes: Vec<&NodeAddress>, pick: usize) -> Result<Target<'_>, CommandPlanFault>
-    ensures target { IfOk result (λ target.
-        IsPickOf (addresses_behind nodes.entry.items) pick (address_of target ∷ [])) }
+fn picked(nodes: Vec<&NodeAddress>, pick: usize) -> Result<&NodeAddress, CommandPlanFault>
+    ensures target { IfOk result (λ node.
+        IsPickOf (addresses_behind nodes.entry.items) pick (node.now ∷ [])) }
     ensures fault { IfErr result (λ fault.
         (fault ≡ CommandPlanFault.NoNode) × (nodes.entry.items ≡ [])) }
 {
     if nodes.is_empty() {
         return Err(CommandPlanFault::NoNode);
     }
-    Ok(Target::OfMap(nodes[pick % nodes.len()]))
+    Ok(nodes[pick % nodes.len()])
 }
 
 /// The way to each of these nodes.

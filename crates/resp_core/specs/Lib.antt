@@ -1,3 +1,4 @@
+pub mod Answer
 pub mod CmdArgs
 pub mod Copying
 pub mod ErrorParts

@@ -1,8 +1,8 @@
 //! A client with connections of its own, which sends a pipeline as one batch for each node.
 ghost use Rattle.std.specs.Prelude.{◌≡◌, [], map, IfOk};
+ghost use Rattle.resp_core.specs.Answer.{answer_of};
 ghost use Rattle.redis_cluster.specs.Driven.{AreAllAnswered};
 ghost use Rattle.redis_batches.specs.DrivenPipeline.{IsOneServer};
-ghost use Rattle.redis_batches.specs.Taken.{answer_of};
 ghost use Rattle.wire.specs.Held.{batch_registry_in};
 
 use cluster_map::{NodeAddress, SlotMap};

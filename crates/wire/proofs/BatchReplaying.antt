@@ -2,12 +2,13 @@
 use Rattle.std.proofs.Common.{◌≡◌, ℕ, zero, suc, List, [], ◌∷◌, ◌++◌, Bool, true, false, cond, Option, None, Some, Ok, Err, length, map, arith, refl, sym, ap, ◌∙◌, subst, append_assoc}
 use Rattle.std.specs.List.{zip}
 use Rattle.std.proofs.lemmas.List.{append-nil, length-map}
+use Rattle.resp_core.specs.Answer.{Answer}
 use Rattle.resp_core.specs.ErrorParts.{ErrorParts}
 use Rattle.cluster_slots.specs.Address.{Address}
 use Rattle.redis_routing.specs.Registry.{Registrations}
 use Rattle.redis_cluster.specs.Trace.{Entry, entry}
 use Rattle.redis_cluster.specs.Unsplit.{Step, Keyspace}
-use Rattle.redis_batches.specs.Pipeline.{Answer, Serve, Task, run, run_ended}
+use Rattle.redis_batches.specs.Pipeline.{Serve, Task, run, run_ended}
 use Rattle.redis_batches.specs.Taken.{AnswersRefusals, AreAnswered, AreServed, AreTasks, IsInPart, batch_entries, ending_by, task_of}
 use Rattle.redis_batches.specs.Turns.{answers}
 use Rattle.wire.specs.Said.{SendOutcome, said, answer, loss}

@@ -1,12 +1,13 @@
 -- Batches of commands: their entries in a trace, and what they mean.
 use Rattle.std.specs.Prelude.{◌≡◌, ℕ, suc, List, [], ◌∷◌, ◌++◌, Bool, cond, Option, None, Some, Ok, Err, map, ⊤}
 use Rattle.std.specs.List.{zip}
+use Rattle.resp_core.specs.Answer.{Answer}
 use Rattle.resp_core.specs.ErrorParts.{ErrorParts}
 use Rattle.cluster_slots.specs.Address.{Address}
 use Rattle.redis_routing.specs.Registry.{Registrations}
 use Rattle.redis_cluster.specs.Trace.{Entry}
 use Rattle.redis_cluster.specs.Unsplit.{Step, Keyspace}
-use Rattle.redis_batches.specs.Pipeline.{Answer, Serve, Task, run_ended}
+use Rattle.redis_batches.specs.Pipeline.{Serve, Task, run_ended}
 use Rattle.redis_batches.specs.Taken.{Batch, batch_for, batch_entries, lost_entries, task_of}
 use Rattle.redis_batches.specs.Turns.{all_after, answers}
 use Rattle.wire.specs.Replay.{replay, AreKept}

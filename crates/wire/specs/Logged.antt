@@ -1,5 +1,6 @@
 -- What a log of sends says.
 use Rattle.std.specs.Prelude.{ℕ, List, [], Result, Ok, Err, cond, codes, get_or, length, map, nat_eq, None}
+use Rattle.resp_core.specs.Answer.{answer_of}
 use Rattle.resp_core.specs.ErrorParts.{ErrorParts, out_of_memory}
 use Rattle.resp_core.specs.View.{view}
 use Rattle.resp_core.specs.declared.error.ErrorKind.TheVariants.{Client}
@@ -7,7 +8,7 @@ use Rattle.resp_core.specs.declared.value.Value.{Value}
 use Rattle.cluster_slots.specs.Address.{Address}
 use Rattle.redis_cluster.specs.declared.nodes.SendError.{SendError}
 use Rattle.redis_cluster.specs.declared.nodes.SendError.TheVariants.{Refused, Redirected, Lost, Memory}
-use Rattle.redis_batches.specs.Taken.{answer_of, Came}
+use Rattle.redis_batches.specs.Taken.{Came}
 use Rattle.wire.specs.Said.{SendOutcome, answer, refusal, redirection, loss, said}
 use Rattle.wire.specs.Commands.{SaidCommand}
 use Rattle.wire.specs.Batches.{SaidBatch}

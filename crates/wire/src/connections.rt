@@ -1,8 +1,9 @@
 ghost use Rattle.std.specs.Prelude.{◌≡◌, ◌++◌, ◌∷◌, [], ℕ, List, Result, map, length, IfOk, IfErr};
+ghost use Rattle.resp_core.specs.Answer.{answer_of};
 ghost use Rattle.cluster_slots.specs.Address.{Address};
 ghost use Rattle.resp_core.specs.declared.value.Value.{Value as Held};
 ghost use Rattle.redis_cluster.specs.declared.nodes.SendError.{SendError as Unsent};
-ghost use Rattle.redis_batches.specs.Taken.{answer_of, Came};
+ghost use Rattle.redis_batches.specs.Taken.{Came};
 ghost use Rattle.resp_core.specs.View.{view};
 ghost use Rattle.wire.specs.Said.{said, answer, IsUnsaid};
 ghost use Rattle.wire.specs.Commands.{SaidCommand};

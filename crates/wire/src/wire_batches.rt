@@ -1,6 +1,6 @@
 ghost use Rattle.std.specs.Prelude.{◌≡◌, ◌↔◌, List, [], false, map, ⊤};
+ghost use Rattle.resp_core.specs.Answer.{Answer};
 ghost use Rattle.redis_cluster.specs.State.{state};
-ghost use Rattle.redis_batches.specs.Pipeline.{Answer};
 ghost use Rattle.redis_batches.specs.Taken.{Batch};
 ghost use Rattle.wire.specs.Said.{replies_in};
 ghost use Rattle.wire.specs.Batches.{batch_by, trace_by, replay_batches, AreBatchesKept};

@@ -1,8 +1,7 @@
 use Rattle.std.proofs.Common.{◌≡◌, ◌+◌, [], ◌∷◌, ◌++◌, length, map, sym, ap, subst, ◌∙◌}
 use Rattle.std.proofs.lemmas.List.{length_push, map_push}
+use Rattle.resp_core.specs.Answer.{Answer, answer_of}
 use Rattle.redis_bytes.specs.Replies.{IsAnswer}
-use Rattle.redis_batches.specs.Pipeline.{Answer}
-use Rattle.redis_batches.specs.Taken.{answer_of}
 use Rattle.redis_batch_bytes.specs.Replies.{StandAsTold}
 use Rattle.redis_batch_bytes.proofs.Batchwise.{more_told}
 use Rattle.redis_batch_bytes.proofs.Fronts.{in_order-one}

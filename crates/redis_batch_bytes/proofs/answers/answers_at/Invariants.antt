@@ -1,5 +1,5 @@
 use Rattle.std.proofs.Common.{◌≡◌, length, map}
-use Rattle.redis_batches.specs.Taken.{answer_of}
+use Rattle.resp_core.specs.Answer.{answer_of}
 use Rattle.redis_batch_bytes.specs.Replies.{StandAsTold}
 use Rattle.redis_batch_bytes.proofs.answers.answers_at.Given as goal
 

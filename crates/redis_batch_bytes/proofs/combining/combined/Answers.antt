@@ -1,10 +1,10 @@
 use Rattle.std.proofs.Common.{◌≡◌, List, map, ap, subst, ◌∙◌}
 use Rattle.std.specs.List.{flat_map}
+use Rattle.resp_core.specs.Answer.{answer_of}
 use Rattle.resp_core.specs.ErrorParts.{ErrorParts}
 use Rattle.resp_core.specs.declared.value.Value.{Value}
 use Rattle.std.proofs.Common.{Result}
 use Rattle.redis_batches.specs.PipelinePlan.{PipelineBatches}
-use Rattle.redis_batches.specs.Taken.{answer_of}
 use Rattle.redis_batch_bytes.specs.Replies.{RepliesAreWritten, AreUnwritten, IsUncombinedBy}
 use Rattle.redis_batch_bytes.specs.Told.{answer_form}
 use Rattle.redis_batch_bytes.proofs.Batchwise.{answered, if_err, if_ok, uncombined}

@@ -1,10 +1,9 @@
 use Rattle.std.proofs.Common.{◌≡◌, ◌<◌, [], ℕ, List, Some, All, ap, length, map, get_or, ◌∙◌, arith, subst, sym}
 use Rattle.std.specs.Prelude.{slice_get}
 use Rattle.std.proofs.lemmas.List.{length-map}
+use Rattle.resp_core.specs.Answer.{Answer, answer_of}
 use Rattle.redis_batches.specs.Batched.{IsRight}
-use Rattle.redis_batches.specs.Pipeline.{Answer}
 use Rattle.redis_batches.specs.PipelinePlan.{PipelineBatches}
-use Rattle.redis_batches.specs.Taken.{answer_of}
 use Rattle.redis_batches.proofs.Entries.{get_there}
 use Rattle.redis_batches.proofs.Putting.{put_kept, put_right}
 use Rattle.redis_batches.proofs.Telling.{told_put, told_same}

@@ -1,6 +1,6 @@
 use Rattle.std.proofs.Common.{◌≡◌, map, take}
 use Rattle.std.specs.List.{flat_map}
-use Rattle.redis_batches.specs.Taken.{answer_of}
+use Rattle.resp_core.specs.Answer.{answer_of}
 use Rattle.redis_batch_bytes.specs.Told.{answer_form}
 use Rattle.redis_batch_bytes.proofs.writing.written.Given as goal
 

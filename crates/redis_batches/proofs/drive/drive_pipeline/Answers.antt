@@ -1,7 +1,7 @@
 use Rattle.std.proofs.Common.{◌∙◌, ap, inr, map, refl}
 use Rattle.std.proofs.lemmas.List.{length-map}
+use Rattle.resp_core.specs.Answer.{answer_of}
 use Rattle.redis_batches.specs.PipelinePlan.{PipelineBatches}
-use Rattle.redis_batches.specs.Taken.{answer_of}
 use Rattle.redis_batches.proofs.Driving as driving
 use Rattle.redis_batches.proofs.drive.drive_pipeline.Goals as goal
 

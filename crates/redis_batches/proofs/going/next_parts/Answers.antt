@@ -1,7 +1,7 @@
 use Rattle.std.proofs.Common.{◌≡◌, ◌<◌, ◌+◌, ◌-◌, ◌∙◌, arith, ap, get_or, length, map, refl, subst, sym}
 use Rattle.std.proofs.lemmas.List.{get_or-map, length-map}
+use Rattle.resp_core.specs.Answer.{answer_of}
 use Rattle.redis_batches.specs.Rounds.{IsSentOn}
-use Rattle.redis_batches.specs.Taken.{answer_of}
 use Rattle.redis_batches.proofs.Walking.{IsWalkedFrom, none_walked, one_walked}
 use Rattle.redis_batches.proofs.going.next_parts.Goals as goal
 

@@ -1,5 +1,5 @@
 use Rattle.std.proofs.Common.{map}
-use Rattle.redis_batches.specs.Taken.{answer_of}
+use Rattle.resp_core.specs.Answer.{answer_of}
 use Rattle.redis_batches.proofs.Walking.{IsWalkedFrom}
 use Rattle.redis_batches.proofs.going.next_parts.Given as goal
 

@@ -1,6 +1,6 @@
 use Rattle.std.proofs.Common.{IfOk, subst, sym}
+use Rattle.resp_core.specs.Answer.{answer_of}
 use Rattle.redis_batches.specs.Rounds.{IsNamedBy, IsSentOn}
-use Rattle.redis_batches.specs.Taken.{answer_of}
 use Rattle.redis_batches.proofs.going.sent_on.Goals as goal
 
 pub returns-in-Err : goal.returns-in-Err

@@ -1,8 +1,8 @@
 use Rattle.std.proofs.Common.{◌-◌, arith, length, map, subst, sym, take}
 use Rattle.std.proofs.Math.Seq.{take-length}
+use Rattle.resp_core.specs.Answer.{answer_of}
 use Rattle.redis_batches.specs.CommandTask.{split_in}
 use Rattle.redis_batches.specs.Replies.{AreRepliesFor}
-use Rattle.redis_batches.specs.Taken.{answer_of}
 use Rattle.redis_batches.proofs.PutBack.{all_put_back, last_of, none_put_back, one_put_back}
 use Rattle.redis_batches.proofs.replies.replies_of.Goals as goal
 

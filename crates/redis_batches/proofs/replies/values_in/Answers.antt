@@ -1,8 +1,8 @@
 use Rattle.std.proofs.Common.{◌≡◌, ◌∙◌, ◌∷◌, [], rules, ap, sym, map, reverse}
 use Rattle.std.proofs.lemmas.List.{map_push}
+use Rattle.resp_core.specs.Answer.{answer_of}
 use Rattle.resp_core.specs.View.{view}
 use Rattle.redis_batches.specs.Replies.{all_replies}
-use Rattle.redis_batches.specs.Taken.{answer_of}
 use Rattle.redis_batches.proofs.Answered.{from_end, replies_then, then_error, then_none, then_push}
 use Rattle.redis_batches.proofs.replies.values_in.Goals as goal
 

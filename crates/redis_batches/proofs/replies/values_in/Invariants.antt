@@ -1,7 +1,7 @@
 use Rattle.std.proofs.Common.{◌≡◌, map, reverse, vec_len}
+use Rattle.resp_core.specs.Answer.{answer_of}
 use Rattle.resp_core.specs.View.{view}
 use Rattle.redis_batches.specs.Replies.{all_replies}
-use Rattle.redis_batches.specs.Taken.{answer_of}
 use Rattle.redis_batches.proofs.Answered.{replies_then}
 use Rattle.redis_batches.proofs.replies.values_in.Given as goal
 

@@ -1,10 +1,10 @@
 use Rattle.std.proofs.Common.{◌∙◌, ap, inl, length, map, refl, sym}
 use Rattle.std.specs.List.{flat_map}
 use Rattle.std.proofs.lemmas.List.{length-map}
+use Rattle.resp_core.specs.Answer.{answer_of}
 use Rattle.redis_batches.specs.CommandTask.{slots_kept, split_in}
 use Rattle.redis_batches.specs.PartArguments.{sent_args}
 use Rattle.redis_batches.specs.PipelinePlan.{PipelineBatches}
-use Rattle.redis_batches.specs.Taken.{answer_of}
 use Rattle.redis_batches.proofs.Chain.{not_before}
 use Rattle.redis_batches.proofs.Driving as driving
 use Rattle.redis_batches.proofs.Retried as retried

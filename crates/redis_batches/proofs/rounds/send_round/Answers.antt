@@ -1,10 +1,10 @@
 use Rattle.std.proofs.Common.{◌∙◌, ap, inr, length, map, subst, sym}
 use Rattle.std.specs.List.{range_with_len}
 use Rattle.std.proofs.lemmas.List.{length-map}
+use Rattle.resp_core.specs.Answer.{answer_of}
 use Rattle.redis_batches.specs.Outgoing.{IsNext}
 use Rattle.redis_batches.specs.PartArguments.{sent_args}
 use Rattle.redis_batches.specs.PipelinePlan.{PipelineBatches}
-use Rattle.redis_batches.specs.Taken.{answer_of}
 use Rattle.redis_batches.proofs.Following as steps
 use Rattle.redis_batches.proofs.rounds.send_round.Goals as goal
 

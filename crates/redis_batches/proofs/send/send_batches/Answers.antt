@@ -2,6 +2,7 @@ use Rattle.std.proofs.Common.{◌≡◌, ◌<◌, ◌≤◌, ◌∙◌, ℕ, ◌
 use Rattle.std.specs.Prelude.{nat_eq, slice_get, slice_set}
 use Rattle.std.proofs.lemmas.List.{append-nil, length-map, length-take-le}
 use Rattle.std.proofs.lemmas.Option.{same_Some}
+use Rattle.resp_core.specs.Answer.{Answer, answer_of}
 use Rattle.resp_core.proofs.Cases.{by_test}
 use Rattle.redis_routing.specs.Registry.{Registrations}
 use Rattle.redis_cluster.specs.Orders.{NamesOnce, in_order, times}
@@ -9,13 +10,13 @@ use Rattle.redis_cluster.specs.Trace.{refused}
 use Rattle.redis_cluster.specs.declared.nodes.SendError.{SendError}
 use Rattle.redis_cluster.proofs.Counts.{same_number}
 use Rattle.redis_cluster.proofs.Once.{times_more, times-take, names_once-apart}
-use Rattle.redis_batches.specs.Pipeline.{Answer, Planned}
+use Rattle.redis_batches.specs.Pipeline.{Planned}
 use Rattle.redis_batches.specs.BatchSends.{IsBatchNotTaken, IsBatchTaken}
 use Rattle.redis_batches.specs.Batched.{AreBatches, numbers_in, put_at}
 use Rattle.redis_batches.specs.Frame.{SameNodes}
 use Rattle.redis_batches.specs.PipelinePlan.{PipelineBatches}
 use Rattle.redis_batches.specs.Plan.{Batches}
-use Rattle.redis_batches.specs.Taken.{Batch, answer_of, batch_for, IsNotTaken, IsTaken}
+use Rattle.redis_batches.specs.Taken.{Batch, batch_for, IsNotTaken, IsTaken}
 use Rattle.redis_batches.specs.Driven.{Grew, WereAskedUntil, answers_in, batch_at, node_at}
 use Rattle.redis_batches.specs.declared.nodes.BatchNodes.{Ghosts}
 use Rattle.redis_batches.proofs.Asked.{asked_last, asked_more, asked_next, asked_none, same_batch}

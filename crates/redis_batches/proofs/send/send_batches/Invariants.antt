@@ -1,12 +1,12 @@
 use Rattle.std.proofs.Common.{◌≡◌, ◌<◌, ℕ, List, All, Some, false, length, map, take}
 use Rattle.std.specs.Prelude.{slice_get}
+use Rattle.resp_core.specs.Answer.{answer_of}
 use Rattle.redis_cluster.specs.Orders.{NamesOnce, times}
 use Rattle.redis_batches.specs.Pipeline.{AreSlotsOf, Planned}
 use Rattle.redis_batches.specs.Batched.{AreBatches}
 use Rattle.redis_batches.specs.Driven.{Grew, answers_in, batch_at}
 use Rattle.redis_batches.specs.Frame.{SameNodes}
 use Rattle.redis_batches.specs.PipelinePlan.{IsSameBut}
-use Rattle.redis_batches.specs.Taken.{answer_of}
 use Rattle.redis_batches.proofs.Round.{IsSoFar}
 use Rattle.redis_batches.proofs.send.send_batches.Given as goal
 

@@ -2,10 +2,11 @@ use Rattle.std.proofs.Common.{◌≡◌, ◌<◌, ◌∙◌, ℕ, List, [], ◌�
 use Rattle.std.specs.Prelude.{IfErr, IfOk, OnOk, slice_get}
 use Rattle.std.proofs.lemmas.Option.{same_Some}
 use Rattle.std.proofs.lemmas.Result.{IfErr-weaker}
+use Rattle.resp_core.specs.Answer.{answer_of}
 use Rattle.cluster_slots.specs.Address.{Address}
 use Rattle.redis_cluster.specs.Orders.{in_order}
 use Rattle.redis_batches.specs.BatchSends.{IsBatchNotTaken, IsBatchTaken}
-use Rattle.redis_batches.specs.Taken.{answer_of, batch_for}
+use Rattle.redis_batches.specs.Taken.{batch_for}
 use Rattle.redis_batches.specs.Driven.{Grew, WereAskedUntil, batch_at, node_at}
 use Rattle.redis_batches.specs.Plan.{Batches, IsPlan}
 use Rattle.redis_batches.proofs.Asked.{asked_none, none_more}

@@ -1,6 +1,7 @@
 use Rattle.std.proofs.Common.{◌≡◌, Err}
 use Rattle.resp_core.specs.declared.error.ErrorKind.TheVariants.{Client}
-use Rattle.redis_commands.specs.Answers.{answers_given, value_in, first_in, values_in, last_error}
+use Rattle.std.specs.Result.{result_ok}
+use Rattle.redis_commands.specs.Answers.{answers_given, first_in, values_in, last_error}
 use Rattle.redis_commands.specs.Policy.{refused, reply_or}
 use Rattle.redis_commands.proofs.Running.{to_come}
 use Rattle.redis_commands.proofs.combining.first_value.Given as goal
@@ -9,5 +10,5 @@ abbrev pub invariant-loop-answer : goal.invariant-loop-answer
 invariant-loop-answer l =
     (goal.iterator-loop-answer).can_next l.answer-iterator
     × (goal.iterator-loop-answer).is_finite l.answer-iterator
-    × (to_come value_in l.last (answers_given l.answer-iterator.rest.items) (Err (refused Client))
+    × (to_come result_ok l.last (answers_given l.answer-iterator.rest.items) (Err (refused Client))
     ≡ reply_or (first_in (values_in (answers_given l.fn.told.items))) (last_error (answers_given l.fn.told.items)) (Err (refused Client)))

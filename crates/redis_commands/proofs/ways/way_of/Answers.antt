@@ -1,11 +1,11 @@
 use Rattle.std.proofs.Common.{◌≡◌, None, Some, true, ap, sym, ◌∙◌, subst, length, replicate, rules}
 use Rattle.redis_routing.specs.Names.{names_in}
-use Rattle.redis_routing.specs.RoutingInfo.{as_routing, route_lists}
-use Rattle.redis_cluster.specs.MultiKey.{part_by_slot}
+use Rattle.redis_routing.specs.RoutingInfo.{as_routing, as_single_node, route_lists}
 use Rattle.redis_commands.specs.Rule.{rule_of}
 use Rattle.redis_commands.specs.Targets.{IsCommandPlanFault, is_slotless}
 use Rattle.redis_commands.proofs.Nodes.{no_node, no_primary, one_for_each}
-use Rattle.redis_commands.proofs.Splits.{as_split, if_err, if_err_and, parts_sent, same_routes, same_rule, several_fault, split_fault, split_targets}
+use Rattle.redis_commands.proofs.RoutedSplits.{routed_by_name}
+use Rattle.redis_commands.proofs.Splits.{as_split, if_err, if_err_and, same_routes, same_rule, several_fault, split_fault, split_targets}
 use Rattle.redis_commands.proofs.ways.way_of.Goals as goal
 
 pub returns-in_err-plan-in-MultiSlot-clause-fault : goal.returns-in_err-plan-in-MultiSlot-clause-fault
@@ -19,7 +19,7 @@ returns-in_err-plan-in-MultiSlot-clause-fault g c =
     let err = c.in_err-plan-in-MultiSlot in
     if_err_and _ _ c.from_residual-in_err-plan-in-MultiSlot.result c.from_residual-in_err-plan-in-MultiSlot.ensures.1
     (λ fault is. subst (IsCommandPlanFault entries names args) (sym is)
-    (split_fault entries names args (route_lists parts.0.items) parts.1 m.policy (c.requires.routed ∙ ap Some to) err.field-0.0 err.ensures.fault))
+    (split_fault entries names args (route_lists parts.0.items) parts.1 m.policy (c.requires.routed ∙ ap Some to) err.field-0.0 err.ensures.fault err.ensures.not_split))
 
 pub returns-in_ok-addresses_for_all_nodes-in-AllNodes-clause-fault : goal.returns-in_ok-addresses_for_all_nodes-in-AllNodes-clause-fault
 returns-in_ok-addresses_for_all_nodes-in-AllNodes-clause-fault g c =
@@ -61,11 +61,15 @@ returns-in_ok-answers-in-MultiSlot-clause-rule g c =
 
 pub returns-in_ok-answers-in-MultiSlot-clause-sent : goal.returns-in_ok-answers-in-MultiSlot-clause-sent
 returns-in_ok-answers-in-MultiSlot-clause-sent g c =
-    let planned = c.in_ok-plan-in-MultiSlot in
-    parts_sent (part_by_slot c.args.names.registry.now (g.R.Routable.args c.args.command.now)) planned.plan.split.routes planned.plan.parts planned.ensures.parts
+    c.len.ensures.plan.parts
 
 pub returns-in_ok-answers-in-MultiSlot-clause-untold : goal.returns-in_ok-answers-in-MultiSlot-clause-untold
 returns-in_ok-answers-in-MultiSlot-clause-untold g c =
     let nodes = c.in_ok-plan-in-MultiSlot.plan.nodes in
     let many : c.len.result ≡ length nodes = c.len.ensures.len ∙ sym c.len.ensures.plan.nodes in
     c.in_ok-answers-in-MultiSlot.ensures ∙ ap (λ n. replicate n None) many ∙ one_for_each None nodes
+
+pub single_target-requires : goal.single_target-requires
+single_target-requires g c =
+    let args = g.R.Routable.args c.args.command.now in
+    record { named = routed_by_name (names_in c.args.names) args (as_single_node c.in-SingleNode.single) (c.requires.routed ∙ ap (λ i. Some (as_routing i)) c.in-SingleNode.is) }

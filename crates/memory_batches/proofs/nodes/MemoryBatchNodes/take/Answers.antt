@@ -1,6 +1,6 @@
 use Rattle.std.proofs.Common.{[], ◌∷◌, ◌++◌, length, map, ap, sym, ◌∙◌}
+use Rattle.resp_core.specs.Answer.{answer_of}
 use Rattle.redis_cluster.specs.State.{state}
-use Rattle.redis_batches.specs.Taken.{answer_of}
 use Rattle.memory_nodes.specs.Nodes as held
 use Rattle.memory_nodes.specs.Steps.{step}
 use Rattle.memory_batches.specs.Nodes.{batch_registered, batch_trace, batch_mark, batch_state, command_entry, refusal_in, MayRefuseCommand}

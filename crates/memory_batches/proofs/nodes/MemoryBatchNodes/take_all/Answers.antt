@@ -2,9 +2,10 @@ use Rattle.std.proofs.Common.{◌≡◌, ◌+◌, Bor, Some, ap, refl, subst, sy
 use Rattle.std.specs.Prelude.{slice_get}
 use Rattle.std.proofs.lemmas.List.{length-map, length-take-le, map-append}
 use Rattle.std.proofs.lemmas.Option.{slice_get-map, slice_get_read}
+use Rattle.resp_core.specs.Answer.{answer_of}
 use Rattle.resp_core.specs.declared.cmd.Cmd.{Cmd}
 use Rattle.redis_batches.proofs.ByNode.{at_take}
-use Rattle.redis_batches.specs.Taken.{answer_of, task_of, IsBegunAtMost, IsTaken}
+use Rattle.redis_batches.specs.Taken.{task_of, IsBegunAtMost, IsTaken}
 use Rattle.memory_nodes.specs.Steps.{step}
 use Rattle.memory_batches.specs.Nodes.{batch_registered, batch_keyspace, batch_state, MayRefuseCommand}
 use Rattle.memory_batches.specs.Strings.{serve}

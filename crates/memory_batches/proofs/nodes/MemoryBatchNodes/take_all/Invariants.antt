@@ -1,5 +1,6 @@
 use Rattle.std.proofs.Common.{◌≡◌, length, map, take}
-use Rattle.redis_batches.specs.Taken.{answer_of, IsTaken}
+use Rattle.resp_core.specs.Answer.{answer_of}
+use Rattle.redis_batches.specs.Taken.{IsTaken}
 use Rattle.memory_nodes.specs.Steps.{step}
 use Rattle.memory_batches.specs.Nodes.{batch_registered, batch_state, AreAsPlanned, MayRefuseCommand}
 use Rattle.memory_batches.specs.Strings.{serve}

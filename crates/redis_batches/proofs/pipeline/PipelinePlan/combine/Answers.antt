@@ -1,9 +1,9 @@
 use Rattle.std.proofs.Common.{◌∙◌, ap, map, subst}
 use Rattle.std.proofs.lemmas.Result.{IfOk-weaker}
+use Rattle.resp_core.specs.Answer.{answer_of}
 use Rattle.redis_batches.specs.CommandTask.{split_in}
 use Rattle.redis_batches.specs.PipelinePlan.{PipelineBatches}
 use Rattle.redis_batches.specs.Replies.{AreRepliesFor}
-use Rattle.redis_batches.specs.Taken.{answer_of}
 use Rattle.redis_batches.proofs.pipeline.PipelinePlan.combine.Goals as goal
 
 pub returns-clause-replies : goal.returns-clause-replies

@@ -7,14 +7,14 @@ use Rattle.redis_commands.proofs.Counts.{counted}
 use Rattle.redis_commands.proofs.Listed.{listed}
 use Rattle.redis_commands.proofs.plan.CommandPlan.combine.Goals as goal
 
-pub returns-in-Several-clause-counted : goal.returns-in-Several-clause-counted
-returns-in-Several-clause-counted g c = λ entries keyspace counts rule served each told.
+pub returns-else-is_untold-clause-counted : goal.returns-else-is_untold-clause-counted
+returns-else-is_untold-clause-counted g c = λ entries keyspace counts rule served each told.
     let seen = ap (planned (g.R.Routable.args c.self.inside.command.now)) (sym c.in-Several.is) ∙ c.self.view_is in
     counted (by_policy c.in-Several.policy) (addresses_behind c.deref-in-Several.result.now) (answers_given c.in-Several.told.items) entries keyspace counts c.combine_by_policy.result c.combine_by_policy.ensures
     (ap (λ p. p.rule) seen ∙ rule) served each (ap (λ p. answers_given p.answers) seen ∙ told)
 
-pub returns-in-Several-clause-listed : goal.returns-in-Several-clause-listed
-returns-in-Several-clause-listed g c = λ wanted entries keyspace lists rule served each told.
+pub returns-else-is_untold-clause-listed : goal.returns-else-is_untold-clause-listed
+returns-else-is_untold-clause-listed g c = λ wanted entries keyspace lists rule served each told.
     let seen = ap (planned (g.R.Routable.args c.self.inside.command.now)) (sym c.in-Several.is) ∙ c.self.view_is in
     listed (by_policy c.in-Several.policy) (addresses_behind c.deref-in-Several.result.now) (answers_given c.in-Several.told.items) wanted entries keyspace lists c.combine_by_policy.result c.combine_by_policy.ensures
     (ap (λ p. p.rule) seen ∙ rule) served each (ap (λ p. answers_given p.answers) seen ∙ told)

@@ -1,6 +1,7 @@
 use Rattle.std.proofs.Common.{inl, ap, map, refl, sym, ◌∙◌, ◌++◌}
 use Rattle.std.proofs.lemmas.List.{append-nil, length-map}
-use Rattle.redis_batches.specs.Taken.{answer_of, batch_entries}
+use Rattle.resp_core.specs.Answer.{answer_of}
+use Rattle.redis_batches.specs.Taken.{batch_entries}
 use Rattle.wire.specs.Said.{answer, refusal, redirection, loss}
 use Rattle.wire.specs.Batches.{after_batch, batch_by, refusal_by, trace_by, IsBatchKept}
 use Rattle.wire.proofs.BatchReplaying.{lost_keys, none_each, now_keys, refusals_answered, said_keeps, said_kept, said_trace, served, stays, stays_answered}
