@@ -5,7 +5,8 @@ use crate::watch::Watch;
 use memory_nodes::MemoryNodes;
 use redis_cluster::driver::drive;
 use redis_cluster::routing::{RoutingInfo, SingleNodeRoutingInfo, SplitCommand};
-use resp_core::Cmd;
+use redis_commands::CommandPlan;
+use resp_core::{Cmd, Value};
 use std::alloc::{AllocError, Global};
 
 /// A command of words, made and dropped.
@@ -46,6 +47,20 @@ fn parts_of(alloc: Global, split: &SplitCommand<Cmd>) -> Result<Vec<Cmd>, AllocE
 /// The split of a command and its parts, with no plan, nodes or replies.
 pub fn split_with_parts(given: &Given<'_>, _turn: usize) -> Result<usize, Fault> {
     Ok(parts_of(given.alloc, &split_of(given)?)?.len())
+}
+
+/// The one reply to a command of which each target answers 1.
+pub fn planned(given: &Given<'_>, _turn: usize) -> Result<usize, Fault> {
+    let Ok(mut plan) = CommandPlan::new(given.alloc, given.command, given.names, given.map, None, 0)
+    else {
+        return Err(Fault::Refused);
+    };
+    let count = plan.len();
+    for number in 0..count {
+        let _ = plan.tell(number, Ok(Value::Int(1)));
+    }
+    let _ = plan.combine(given.alloc)?;
+    Ok(count)
 }
 
 /// A command, driven over nodes in memory that hold no key.

@@ -43,6 +43,7 @@ fn call(name: &str, watch: &mut Watch<'_>, given: &Given<'_>) -> Result<(), Faul
         "split-del" => watch.time(given, commands::split),
         "split-and-parts-del" => watch.time(given, commands::split_with_parts),
         "command" => watch.time(given, commands::made),
+        "plan-get" | "plan-dbsize" => watch.time(given, commands::planned),
         "drive-del" => commands::driven(watch, given),
         "combine-sums" => replies::summed(watch, given),
         "combine-sorted" => replies::sorted(watch, given),
