@@ -28,7 +28,8 @@ MOVING = 5  # seconds after ASK or TRYAGAIN during which a slot's commands go on
 
 # The commands that the proxy takes. Each is answered once and at once, and leaves the connection,
 # which other clients share, as it was.
-TAKEN = {b"FUNCTION DELETE", b"FUNCTION FLUSH", b"FUNCTION LOAD", b"MEMORY USAGE", b"SCRIPT FLUSH", b"SCRIPT LOAD"}
+TAKEN = {b"FUNCTION DELETE", b"FUNCTION FLUSH", b"FUNCTION LOAD", b"MEMORY USAGE", b"PUBSUB CHANNELS", b"PUBSUB NUMPAT"}
+TAKEN |= {b"PUBSUB NUMSUB", b"SCRIPT EXISTS", b"SCRIPT FLUSH", b"SCRIPT KILL", b"SCRIPT LOAD"}
 TAKEN.update(
     b"""
     APPEND BITCOUNT BITFIELD BITFIELD_RO BITOP BITPOS COMMAND COPY DBSIZE DECR DECRBY DEL DUMP ECHO EVAL EVALSHA
@@ -39,9 +40,9 @@ TAKEN.update(
     HSETEX HSETNX HSTRLEN HTTL HVALS INCR INCRBY INCRBYFLOAT JSON.ARRAPPEND JSON.ARRINDEX JSON.ARRINSERT
     JSON.ARRLEN JSON.ARRPOP JSON.ARRTRIM JSON.CLEAR JSON.DEL JSON.FORGET JSON.GET JSON.MERGE JSON.MGET JSON.MSET
     JSON.NUMINCRBY JSON.NUMMULTBY JSON.OBJKEYS JSON.OBJLEN JSON.SET JSON.STRAPPEND JSON.STRLEN JSON.TOGGLE
-    JSON.TYPE LCS LINDEX LINSERT LLEN LMOVE LMPOP LPOP LPOS LPUSH LPUSHX LRANGE LREM LSET LTRIM MGET MSET MSETNX
-    OBJECT PERSIST PEXPIRE PEXPIREAT PEXPIRETIME PFADD PFCOUNT PFMERGE PING PSETEX PTTL PUBLISH RENAME RENAMENX
-    RESTORE RPOP RPOPLPUSH RPUSH RPUSHX SADD SCARD SDIFF SDIFFSTORE SET SETBIT SETEX SETNX SETRANGE SINTER
+    JSON.TYPE KEYS LCS LINDEX LINSERT LLEN LMOVE LMPOP LPOP LPOS LPUSH LPUSHX LRANGE LREM LSET LTRIM MGET MSET MSETNX
+    OBJECT PERSIST PEXPIRE PEXPIREAT PEXPIRETIME PFADD PFCOUNT PFMERGE PING PSETEX PTTL PUBLISH RANDOMKEY RENAME
+    RENAMENX RESTORE RPOP RPOPLPUSH RPUSH RPUSHX SADD SCARD SDIFF SDIFFSTORE SET SETBIT SETEX SETNX SETRANGE SINTER
     SINTERCARD SINTERSTORE SISMEMBER SMEMBERS SMISMEMBER SMOVE SORT SORT_RO SPOP SPUBLISH SRANDMEMBER SREM SSCAN
     STRLEN SUBSTR SUNION SUNIONSTORE TIME TOUCH TTL TYPE UNLINK XACK XADD XAUTOCLAIM XCLAIM XDEL XGROUP XINFO
     XLEN XPENDING XRANGE XREVRANGE XSETID XTRIM ZADD ZCARD ZCOUNT ZDIFF ZDIFFSTORE ZINCRBY ZINTER ZINTERCARD
@@ -50,7 +51,7 @@ TAKEN.update(
     ZSCAN ZSCORE ZUNION ZUNIONSTORE
     """.split()
 )
-ASK, SUM = 2, 7  # a kind of redirect, and the policy that adds the replies of all nodes
+ASK, REPLICA = 2, 2  # a kind of redirect, and of a slot's node
 REDIRECTS, ASKING = (b"-MOVED ", b"-ASK ", b"-TRYAGAIN "), request("ASKING")
 RESET_AT_CLOSE = socket.SOL_SOCKET, socket.SO_LINGER, struct.pack("ii", 1, 0)  # drops what is not sent yet
 
@@ -221,6 +222,7 @@ class Cluster:
     def __init__(self, library, password, host, port):
         self.library, self.password, self.nodes = library, password, {}
         self.known = [self.node(host, port)]  # the primaries, by their numbers in the table
+        self.all = self.known  # and the replicas
         self.refreshing, self.moving = None, {}
 
     def node(self, host, port):
@@ -252,9 +254,18 @@ class Cluster:
                 why.append(f"{node.host}:{node.port}: {caught}")
                 continue
             self.known = [self.node(host, port) for host, port in named]
+            self.all = [*self.known, *self.replicas(reply, node.host.encode())]
             self.numbers = slotroute.slot_numbers(numbers)
             return None
         return "no map of the cluster: " + "; ".join(why)
+
+    def replicas(self, reply, host):
+        """The replicas of a map: the first of each shard, then the second, until none is new."""
+        found, pick = {}, 0
+        while new := set(self.library.table(reply, host, REPLICA, pick)[1]) - found.keys():
+            found |= dict.fromkeys(new)
+            pick += 1
+        return [it for it in (self.node(*of) for of in found) if it not in self.known]
 
     def refresh_later(self):
         if self.refreshing is None or self.refreshing.done():
@@ -354,13 +365,10 @@ class Cluster:
         except Refused as caught:
             return error(str(caught)) * len(messages)
 
-    async def send_all(self, message, policy):
-        """The reply of all primaries: an error, their sum, or that of the first."""
-        replies = [reply for (reply,) in await asyncio.gather(*(self.ask(it, message) for it in self.known))]
-        errors = [it for it in replies if it[:1] == b"-"]
-        if errors or policy != SUM:
-            return (errors or replies)[0]
-        return b":%d\r\n" % sum(int(it[1:]) for it in replies)
+    async def send_all(self, message, nodes, policy):
+        """The one reply of nodes."""
+        replies = await asyncio.gather(*(self.ask(it, message) for it in nodes))
+        return self.library.combine_answers(policy, [reply for (reply,) in replies])
 
     async def answer(self, message):
         if not is_taken(message):
@@ -371,8 +379,10 @@ class Cluster:
                 return await self.split(message)
             if routed.kind == slotroute.TO_SLOT:
                 return await self.send(routed.slot, message)
-            if routed.kind in (slotroute.TO_ALL, slotroute.TO_ALL_PRIMARIES):
-                return await self.send_all(message, routed.policy)
+            if routed.kind == slotroute.TO_ALL:
+                return await self.send_all(message, self.all, routed.policy)
+            if routed.kind == slotroute.TO_ALL_PRIMARIES:
+                return await self.send_all(message, self.known, routed.policy)
             return (await self.ask(self.known[0], message))[0]
         except Refused as caught:
             return error(str(caught))

@@ -51,6 +51,7 @@ class Library:
             ("route", [*BYTES_IN, c_uint32, POINTER(Routed), *told], c_uint32),
             ("split", BYTES_IN + slots + ends + BYTES_OUT + told, c_uint32),
             ("combine", BYTES_IN * 2 + BYTES_OUT + told, c_uint32),
+            ("combine_answers", [c_uint32, c_size_t, *BYTES_IN, *BYTES_OUT, *told], c_uint32),
             ("table", BYTES_IN * 2 + [c_uint32, c_size_t] + slots + BYTES_OUT + told, c_uint32),
             ("split_pipeline", BYTES_IN + slots * 2 + ends * 2 + BYTES_OUT + told, c_uint32),
             ("combine_pipeline", BYTES_IN + slots + BYTES_IN + BYTES_OUT + told, c_uint32),
@@ -110,34 +111,22 @@ class Library:
 
     def combine(self, request, replies):
         """The one reply, by the replies to the parts in their order."""
-        replies, told = b"".join(replies), Told()
-        room = len(replies) + 64
-        while True:
-            out = ctypes.create_string_buffer(room)
-            answer = self.lib.slotroute_combine(
-                request, len(request), replies, len(replies), out, room, byref(told)
-            )
-            if answer != TOO_SMALL:
-                break
-            room = told.bytes
-        self._expect_done(answer, told)
-        return out.raw[: told.bytes]
+        replies = b"".join(replies)
+        data = request, len(request), replies, len(replies)
+        return self._written(self.lib.slotroute_combine, data, len(replies) + 64)
+
+    def combine_answers(self, policy, replies):
+        """The one reply to a request that went whole to several nodes, by the policy of its route."""
+        count, replies = len(replies), b"".join(replies)
+        data = policy, count, replies, len(replies)
+        return self._written(self.lib.slotroute_combine_answers, data, len(replies) + 64)
 
     def table(self, reply, answering, addr=0, pick=0):
         """The number of each slot's node, or NO_NODE, and the host and port of each node."""
-        numbers, told = (c_uint16 * SLOTS)(), Told()
-        room = len(reply) + 64
-        while True:
-            nodes = ctypes.create_string_buffer(room)
-            answer = self.lib.slotroute_table(
-                reply, len(reply), answering, len(answering), addr, pick,
-                numbers, SLOTS, nodes, room, byref(told),
-            )  # fmt: skip
-            if answer != TOO_SMALL:
-                break
-            room = told.bytes
-        self._expect_done(answer, told)
-        lines = nodes.raw[: told.bytes].decode().split("\n")[:-1]
+        numbers = (c_uint16 * SLOTS)()
+        data = reply, len(reply), answering, len(answering), addr, pick, numbers, SLOTS
+        nodes = self._written(self.lib.slotroute_table, data, len(reply) + 64)
+        lines = nodes.decode().split("\n")[:-1]
         return list(numbers), [(host, int(port)) for host, _, port in (it.rpartition(":") for it in lines)]
 
     def split_pipeline(self, requests, numbers):
@@ -161,19 +150,9 @@ class Library:
 
     def combine_pipeline(self, requests, numbers, replies):
         """The replies to the requests, by the replies to the batches, batch after batch."""
-        replies, told = b"".join(replies), Told()
-        room = len(replies) + 64
-        while True:
-            out = ctypes.create_string_buffer(room)
-            answer = self.lib.slotroute_combine_pipeline(
-                requests, len(requests), numbers, len(numbers), replies, len(replies), out, room,
-                byref(told),
-            )  # fmt: skip
-            if answer != TOO_SMALL:
-                break
-            room = told.bytes
-        self._expect_done(answer, told)
-        return out.raw[: told.bytes]
+        replies = b"".join(replies)
+        data = requests, len(requests), numbers, len(numbers), replies, len(replies)
+        return self._written(self.lib.slotroute_combine_pipeline, data, len(replies) + 64)
 
     def redirect(self, text, answering):
         """What the text of an error tells of a redirect, with its host; None of another text."""
@@ -185,6 +164,18 @@ class Library:
             return None
         self._expect_done(answer, Told())
         return told, host.raw[: told.host_len].decode()
+
+    def _written(self, call, data, room):
+        """The bytes that a call writes, which is made again if they do not fit this room."""
+        told = Told()
+        while True:
+            out = ctypes.create_string_buffer(room)
+            answer = call(*data, out, room, byref(told))
+            if answer != TOO_SMALL:
+                break
+            room = told.bytes
+        self._expect_done(answer, told)
+        return out.raw[: told.bytes]
 
     def _expect_done(self, answer, told):
         if answer:
@@ -216,6 +207,8 @@ def main():
         print("node", node, count, "commands", len(batch), "bytes")
     replies = [b"+OK\r\n*1\r\n$1\r\n1\r\n", b"+OK\r\n*1\r\n$1\r\n2\r\n"]
     print(library.combine_pipeline(asked, numbers, replies))
+    routed = library.route(request("KEYS", "*"))
+    print(library.combine_answers(routed.policy, [b"*1\r\n$3\r\nfoo\r\n", b"*1\r\n$3\r\nbar\r\n"]))
     told, host = library.redirect(b"MOVED 3999 127.0.0.1:6381", b"n1")
     print("moved to", host, told.port, "slot", told.slot)
     try:

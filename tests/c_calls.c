@@ -38,6 +38,7 @@ static const char *const messages[] = {
     "ASK 3999 :6381",
     "*2\r\n$3\r\nGET\r\n$1\r\na\r\n*3\r\n$4\r\nMGET\r\n$1\r\nb\r\n$1\r\na\r\n*2\r\n$3\r\nGET\r\n$1\r\nb\r\n",
     "$1\r\n1\r\n*1\r\n:1\r\n-ERR no\r\n$-1\r\n",
+    "*2\r\n$1\r\na\r\n:1\r\n*4\r\n$1\r\nb\r\n:2\r\n$1\r\na\r\n:3\r\n",
 };
 #define MESSAGES (sizeof messages / sizeof *messages)
 
@@ -101,7 +102,7 @@ static uint64_t some_calls(pool *of, uint64_t seed, int times) {
         slotroute_redirected redirected = {0};
         uint32_t answer = 0;
         memset(out, 0xA5, out_len);
-        switch (next(&seed) % 11) {
+        switch (next(&seed) % 12) {
         case 0: answer = slotroute_slot(bytes, len); break;
         case 1: answer = slotroute_request_len(bytes, len, &told); break;
         case 2: answer = slotroute_reply_len(bytes, len, &told); break;
@@ -145,6 +146,11 @@ static uint64_t some_calls(pool *of, uint64_t seed, int times) {
             answer = slotroute_combine_pipeline(bytes, len, halves, SLOTROUTE_SLOTS, others, other_len, out,
                                                 out_len, &told);
             break;
+        case 11: {
+            uint32_t policy = next(&seed) % 12;
+            answer = slotroute_combine_answers(policy, next(&seed) % 4, bytes, len, out, out_len, &told);
+            break;
+        }
         }
         sum = mixed(mixed(sum, &answer, sizeof answer), out, out_len);
         sum = mixed(mixed(sum, &told, sizeof told), &routed, sizeof routed);
@@ -258,6 +264,9 @@ static int small(void) {
             != SLOTROUTE_TOO_SMALL
         || told.bytes != 21 || !is_untouched(out, sizeof out))
         return 7;
+    if (slotroute_combine_answers(SLOTROUTE_SUM, 2, BYTES(":3\r\n:4\r\n"), out, 3, &told) != SLOTROUTE_TOO_SMALL
+        || told.bytes != 4 || !is_untouched(out, sizeof out))
+        return 8;
     if (slotroute_message(SLOTROUTE_NO_MEMORY, out, 12) != 13 || !is_untouched(out, sizeof out)) return 5;
     return 0;
 }
@@ -387,6 +396,9 @@ static int once(int call) {
         answer = slotroute_combine_pipeline(BYTES(PIPELINE), halves, SLOTROUTE_SLOTS,
                                             BYTES("-ERR no\r\n*1\r\n$1\r\n1\r\n*1\r\n$-1\r\n"), out,
                                             sizeof out, &told);
+        break;
+    case 9: /* redis_batch_bytes::combine_answers */
+        answer = slotroute_combine_answers(SLOTROUTE_MAPS, 2, BYTES(messages[14]), out, sizeof out, &told);
         break;
     }
     uint64_t sum = mixed(mixed(14695981039346656037u, slots, sizeof slots), out, sizeof out);

@@ -11,7 +11,8 @@ use Rattle.cluster_slots.proofs.Orders.{same_from_address}
 use Rattle.cluster_map.specs.SlotNodes.{SlotNodes}
 use Rattle.cluster_map.specs.RangeMap.{RangeEntry, EndsAfter, Ascends, IsUncovered, end_of, insert_entries}
 use Rattle.cluster_map.specs.Shards.{ShardNodes}
-use Rattle.cluster_map.specs.Topology.{Topology, IsShardAt, entry_primary, has_primary, range_of_entry, shard_of, shards_of, place_entry, place_entries, topology_of, Agrees}
+use Rattle.cluster_map.specs.EachOnce.{entry_primary}
+use Rattle.cluster_map.specs.Topology.{Topology, IsShardAt, has_primary, range_of_entry, shard_of, shards_of, place_entry, place_entries, topology_of, Agrees}
 use Rattle.cluster_map.specs.Inner.Topology.{primary_of}
 use Rattle.cluster_map.proofs.Groups.{primaries, primary_shards, primary_shards-are, primaries_cover, same_refl, same_sym}
 use Rattle.cluster_map.proofs.Inserts.{insert_steps, insert_steps-is, answer, answer-some, answer-is, by_option, with_value, with_value-insert_steps, with_value-answer}

@@ -10,7 +10,8 @@ use Rattle.cluster_slots.proofs.Orders.{same_from_address, address_decides}
 use Rattle.cluster_map.specs.SlotNodes.{SlotNodes}
 use Rattle.cluster_map.specs.RangeMap.{RangeEntry}
 use Rattle.cluster_map.specs.Shards.{ShardNodes}
-use Rattle.cluster_map.specs.Topology.{entry_primary, has_primary, first_replicas, shard_with, shard_of, shards_of}
+use Rattle.cluster_map.specs.EachOnce.{entry_primary}
+use Rattle.cluster_map.specs.Topology.{has_primary, first_replicas, shard_with, shard_of, shards_of}
 use Rattle.cluster_map.specs.Inner.Topology.{primary_of}
 use Rattle.cluster_map.proofs.Places.{cons_cond}
 use Rattle.cluster_map.proofs.Members.{add_new, added_once, list_any-last}

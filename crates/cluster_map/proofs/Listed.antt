@@ -9,8 +9,8 @@ use Rattle.cluster_slots.specs.Address.{Address, same_address}
 use Rattle.resp_core.proofs.Cases.{by_test}
 use Rattle.cluster_map.specs.SlotNodes.{SlotNodes}
 use Rattle.cluster_map.specs.RangeMap.{RangeEntry, value_of, Ascends, insert_entries}
-use Rattle.cluster_map.specs.EachOnce.{once_by, each_once}
-use Rattle.cluster_map.specs.Topology.{entry_primary, shard_of, shards_of, place_entries, topology_of, at_places, shards_left}
+use Rattle.cluster_map.specs.EachOnce.{once_by, each_once, entry_primary}
+use Rattle.cluster_map.specs.Topology.{shard_of, shards_of, place_entries, topology_of, at_places, shards_left}
 use Rattle.cluster_map.specs.Inner.Topology.{primary_of}
 use Rattle.cluster_map.proofs.Members.{added_once}
 use Rattle.cluster_map.proofs.Groups.{Distinct, primaries-distinct, same_refl}

@@ -3,15 +3,11 @@ use Rattle.std.specs.Prelude.{◌≡◌, ◌↔◌, ℕ, suc, Bool, nat_eq, List
 use Rattle.std.specs.List.{filter_map}
 use Rattle.cluster_slots.specs.Address.{Address, same_address}
 use Rattle.cluster_slots.specs.declared.slot.SlotAddr.TheVariants.{Master}
-use Rattle.cluster_map.specs.EachOnce.{once_by, each_once}
+use Rattle.cluster_map.specs.EachOnce.{once_by, entry_primary, primaries_in}
 use Rattle.cluster_map.specs.SlotNodes.{SlotNodes}
 use Rattle.cluster_map.specs.RangeMap.{RangeEntry, value_of, insert_entries, IsAnswerAt}
 use Rattle.cluster_map.specs.RouteNode.{IsNodeOfRoute}
 use Rattle.cluster_map.specs.Shards.{ShardNodes}
-
--- the primary of an entry
-abbrev pub entry_primary : RangeEntry SlotNodes → Address
-entry_primary e = (value_of e).primary
 
 -- whether an entry has this primary
 abbrev pub has_primary : Address → RangeEntry SlotNodes → Bool
@@ -36,7 +32,7 @@ shard_of es primary = shard_with primary (filter (has_primary primary) es)
 
 -- a shard for each primary, in order of its first entry
 abbrev pub shards_of : List (RangeEntry SlotNodes) → List ShardNodes
-shards_of es = map (shard_of es) (each_once (map entry_primary es))
+shards_of es = map (shard_of es) (primaries_in es)
 
 -- shards, and entries whose values are indices of shards
 pub record Topology : Type 0 where

@@ -1,13 +1,13 @@
-ghost use Rattle.std.specs.Prelude.{◌≡◌, ℕ, List, [], map, Option, IfOk, IfErr, ◌↔◌, MatchOption, Contains, IsPermutation, ◌<◌, ◌≤◌, ◌^◌, length, take, flat_map, OnOk, OnErr};
+ghost use Rattle.std.specs.Prelude.{◌≡◌, ℕ, List, [], map, Option, IfOk, IfErr, ◌↔◌, MatchOption, Contains, IsPermutation, ◌<◌, ◌≤◌, ◌^◌, length, take, OnOk, OnErr};
 ghost use Rattle.std.specs.List.{AllZip};
 ghost use Rattle.resp_core.specs.ErrorParts.{out_of_memory};
 ghost use Rattle.resp_core.specs.Reply.{Reply};
 ghost use Rattle.resp_core.specs.View.{view};
 ghost use Rattle.cluster_slots.specs.Address.{Address};
 ghost use Rattle.cluster_slots.specs.SlotRoute.{SlotRoute};
-ghost use Rattle.cluster_map.specs.SlotNodes.{SlotNodes, RangeNodes, nodes_of, range_entry, insert_ranges, nodes_in};
+ghost use Rattle.cluster_map.specs.SlotNodes.{SlotNodes, RangeNodes, nodes_of, range_entry, insert_ranges};
 ghost use Rattle.cluster_map.specs.RangeMap.{RangeEntry, Ascends, AreDisjoint, IsUncovered, value_of};
-ghost use Rattle.cluster_map.specs.EachOnce.{each_once};
+ghost use Rattle.cluster_map.specs.EachOnce.{all_nodes_in, primaries_in};
 ghost use Rattle.cluster_map.specs.Fallback.{fallback, IsFallback};
 ghost use Rattle.cluster_map.specs.Targets.{addresses_behind};
 ghost use Rattle.cluster_map.specs.RouteNode.{IsNodeFor, IsPicked, IsRouteNode};
@@ -336,8 +336,7 @@ impl SlotMap {
         &self,
         alloc: Global,
     ) -> Result<Vec<&NodeAddress>, AllocError>
-        ensures all { IfOk result (λ found. addresses_behind found.items
-            ≡ each_once (map (λ (e : RangeEntry SlotNodes). (value_of e).primary) self.now)) }
+        ensures all { IfOk result (λ found. addresses_behind found.items ≡ primaries_in self.now) }
         ensures order { Ascends self.now }
     {
         let misses = Cell::new(0);
@@ -354,8 +353,7 @@ impl SlotMap {
     ///
     /// If memory runs out.
     pub fn addresses_for_all_nodes(&self, alloc: Global) -> Result<Vec<&NodeAddress>, AllocError>
-        ensures all { IfOk result (λ found. addresses_behind found.items
-            ≡ each_once (flat_map (λ (e : RangeEntry SlotNodes). nodes_in (value_of e)) self.now)) }
+        ensures all { IfOk result (λ found. addresses_behind found.items ≡ all_nodes_in self.now) }
         ensures order { Ascends self.now }
     {
         let misses = Cell::new(0);

@@ -165,7 +165,7 @@ unread old now count bytes rest own (faults.AfterReplies n) so_far at next = abs
 unread old now count bytes rest own (faults.NoForm n) so_far at next = first_unread old now count bytes rest own (faults.NoForm n) so_far at next
 
 pub followed : (old now : PipelineBatches) (count : ℕ) (bytes rest : List ℕ) → SoFar old now count bytes rest → length old.batches.places ≤ count → 0 < length rest
-    → AnswersAreFollowed old.batches.places bytes (length bytes - length rest)
+    → AnswersAreFollowed (length (concat old.batches.places)) bytes (length bytes - length rest)
 followed old now count bytes rest so_far every some = record {
   said = so_far.stand.said;
   front = so_far.stand.front;

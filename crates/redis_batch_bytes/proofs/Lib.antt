@@ -3,3 +3,4 @@ pub mod Lists
 pub mod Sent
 pub mod Batchwise
 pub mod Runs
+pub mod OneReply

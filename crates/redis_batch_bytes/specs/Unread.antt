@@ -45,19 +45,20 @@ pub record IsFirstUnreadBatch (places : List (List ℕ)) (bytes : List ℕ) (fau
   pub all : length said ≡ length (concat (take batch places))
   pub next : IsFirstNoAnswer batch (length own) rest fault
 
--- The answers to all batches are at the front and end at index `end`, and more bytes follow.
-pub record AnswersAreFollowed (places : List (List ℕ)) (bytes : List ℕ) (end : ℕ) : Type 0 where
+-- `count` answers are at the front and end at index `end`, and more bytes follow.
+pub record AnswersAreFollowed (count : ℕ) (bytes : List ℕ) (end : ℕ) : Type 0 where
   pub said : List WireAnswer
   pub front : List ℕ
   pub rest : List ℕ
   pub bytes_are : bytes ≡ front ++ rest
   pub are : InOrder IsAnswer said front
-  pub all : length said ≡ length (concat places)
+  pub all : length said ≡ count
   pub end_is : end ≡ length front
   pub more : 0 < length rest
 
 -- why bytes are not the answers to the parts at these indices, batch after batch
 abbrev pub AreUnreadAnswers : List (List ℕ) → List ℕ → BatchFault → Type 0
 AreUnreadAnswers places bytes Memory = Unit {0}
-AreUnreadAnswers places bytes (AfterReplies end) = AnswersAreFollowed places bytes end
+AreUnreadAnswers places bytes (AfterReplies end) =
+    AnswersAreFollowed (length (concat places)) bytes end
 AreUnreadAnswers places bytes fault = IsFirstUnreadBatch places bytes fault

@@ -1,6 +1,5 @@
-ghost use Rattle.std.specs.Prelude.{◌≡◌, false, ℕ, List, IfOk, IfErr};
+ghost use Rattle.std.specs.Prelude.{◌≡◌, false, IfOk, IfErr};
 ghost use Rattle.std.specs.List.{All};
-ghost use Rattle.redis_batches.specs.Plan.{IsPlan};
 ghost use Rattle.redis_batches.specs.PipelinePlan.{PipelineBatches};
 ghost use Rattle.redis_batch_bytes.specs.Plans.{EachIsSent, IsPlanOfRequests};
 ghost use Rattle.redis_batch_bytes.specs.Replies.{RepliesAreWritten, PipelineIsUncombined, IsUncombinedBy};

@@ -26,8 +26,8 @@ pub enum BatchFault {
     Reply(usize, usize, Fault),
     /// Bytes follow the last reply, which ends at this index.
     AfterReplies(usize),
-    /// The reply to the command of this number has no form: `resp::write` says when. No input is
-    /// known that causes this.
+    /// The reply to the command of this number has no form. Only `combine_answers` is known to cause
+    /// this, and says when.
     NoForm(usize),
 }
 

@@ -1,4 +1,4 @@
-ghost use Rattle.std.specs.Prelude.{◌≡◌, ◌<◌, ◌++◌, ℕ, List, Some, true, false, length, slice_get, slice_set, IfOk, OnOk, IfErr};
+ghost use Rattle.std.specs.Prelude.{◌≡◌, ◌<◌, ℕ, List, Some, true, false, length, slice_get, slice_set, IfOk, OnOk, IfErr};
 ghost use Rattle.std.specs.List.{All};
 ghost use Rattle.redis_batches.specs.Plan.{IsPlan};
 ghost use Rattle.redis_batches.specs.PipelinePlan.{IsSameBut};

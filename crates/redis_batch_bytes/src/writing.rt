@@ -43,18 +43,26 @@ fn push_value(
     ensures fault { IfErr result (λ fault. (fault ≡ BatchFault.Memory)
         ⊎ ((fault ≡ BatchFault.NoForm number) × HasNoForm (view value.now))) }
 {
+    let one = form_of(alloc, number, value)?;
+    bytes.extend_from_slice(&one)?;
+    Ok(())
+}
+
+/// The bytes of a value, the reply to the command of this number.
+pub(super) fn form_of(alloc: Global, number: usize, value: &Value) -> Result<Vec<u8>, BatchFault>
+    ensures bytes { IfOk result (λ bytes. bytes.items ≡ form (view value.now)) }
+    ensures fault { IfErr result (λ fault. (fault ≡ BatchFault.Memory)
+        ⊎ ((fault ≡ BatchFault.NoForm number) × HasNoForm (view value.now))) }
+{
     match write(alloc, value) {
-        Ok(one) => {
-            bytes.extend_from_slice(&one)?;
-            Ok(())
-        }
+        Ok(bytes) => Ok(bytes),
         Err(WriteError::Memory) => Err(BatchFault::Memory),
         Err(WriteError::NoForm) => Err(BatchFault::NoForm(number)),
     }
 }
 
 /// Adds the line of an error.
-fn push_error(bytes: &mut Vec<u8>, error: &RedisError) -> Result<(), AllocError>
+pub(super) fn push_error(bytes: &mut Vec<u8>, error: &RedisError) -> Result<(), AllocError>
     ensures { OnOk result (bytes.new.items ≡ bytes.old.items ++ line 45 (said_of error.now)) }
 {
     bytes.push(b'-')?;

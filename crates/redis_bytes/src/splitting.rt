@@ -1,4 +1,4 @@
-ghost use Rattle.std.specs.Prelude.{◌≡◌, ◌++◌, ℕ, List, Some, map, length, IfOk, OnOk, IfErr, MatchResult};
+ghost use Rattle.std.specs.Prelude.{◌≡◌, ◌++◌, Some, map, IfOk, OnOk, IfErr, MatchResult};
 ghost use Rattle.std.specs.List.{flat_map};
 ghost use Rattle.resp.specs.Forms.{request};
 ghost use Rattle.resp_core.specs.ItemEnds.{item_ends};

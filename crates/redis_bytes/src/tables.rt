@@ -1,7 +1,6 @@
 ghost use Rattle.std.specs.Prelude.{◌≡◌, ◌≤◌, ◌<◌, ◌++◌, ℕ, Contains, Some, ◌⊎◌, map, length, slice_get, slice_index, IfOk, OnOk, IfErr, MatchResult};
 ghost use Rattle.std.specs.List.{flat_map};
 ghost use Rattle.resp_core.specs.Reply.{Reply};
-ghost use Rattle.cluster_slots.specs.Address.{Address};
 ghost use Rattle.cluster_map.specs.ReplyNode.{entries_in};
 ghost use Rattle.redis_bytes.specs.Replies.{IsReply, AreUnread};
 ghost use Rattle.redis_bytes.specs.Table.{IsTable, IsNoTable, IsNodeNumber, IsUnprinted, AreUsed, AreDistinct, AreNumbersOf, ArePlain, Grows, node_line, addresses};

@@ -14,15 +14,14 @@ use Rattle.std.specs.Prelude.{Result, Ok, Err, IfOk}
 use Rattle.resp_core.specs.ErrorParts.{ErrorParts}
 use Rattle.resp_core.specs.View.{view}
 use Rattle.resp_core.specs.declared.value.Value.{Value}
-use Rattle.resp_core.specs.declared.error.ErrorKind.TheVariants.{UnexpectedReturnType}
 use Rattle.cluster_slots.specs.Address.{Address}
+use Rattle.cluster_map.specs.EachOnce.{primaries_in}
 use Rattle.cluster_map.specs.RangeMap.{RangeEntry}
 use Rattle.cluster_map.specs.SlotNodes.{SlotNodes}
 use Rattle.redis_routing.specs.declared.policy.ResponsePolicy.TheVariants.{Aggregate}
 use Rattle.redis_commands.specs.Answers.{values_in, first_error}
 use Rattle.redis_commands.specs.Policy.{or_refused, reply_by_policy}
 use Rattle.redis_commands.specs.Rule.{ReplyRule, by_policy, IsCombined}
-use Rattle.redis_commands.specs.Targets.{primaries_in}
 use Rattle.redis_commands.proofs.Whole.{whole_keyspace}
 use Rattle.redis_cluster.specs.Unsplit.{Keyspace}
 use Rattle.redis_commands.specs.Keyspaces.{IsServed, AreMeasures, counted_answer, IsAdditive, AreKeysOf, HasCount, joined_measures}
@@ -109,14 +108,14 @@ counts_are : (ns : List ℕ) → values_in (map counted_answer ns) ≡ map as_re
 counts_are [] = refl
 counts_are (n ∷ ns) = ap (λ rs. as_reply n ∷ rs) (counts_are ns)
 
-pub made_some : (o : Option Reply) (value : Reply) → or_refused UnexpectedReturnType o ≡ Ok value → o ≡ Some value
-made_some None value h = let u : or_refused UnexpectedReturnType None ≡ Ok value = h in absurd (cc)
+pub made_some : (o : Option Reply) (value : Reply) → or_refused o ≡ Ok value → o ≡ Some value
+made_some None value h = let u : or_refused None ≡ Ok value = h in absurd (cc)
 made_some (Some r) value h = let u : Ok r ≡ Ok value = h in cc
 
 -- what is made of counts is the count of the whole
 of_counts : (targets : List Address) (ns : List ℕ) (value : Reply) → reply_by_policy (Some (Aggregate Sum)) targets (map counted_answer ns) ≡ Ok value → value ≡ int (pos (joined_measures 0 ◌+◌ ns))
 of_counts targets ns value made =
-    let plain : reply_by_policy (Some (Aggregate Sum)) targets (map counted_answer ns) ≡ or_refused UnexpectedReturnType (aggregate_of Sum (map as_reply ns)) =
+    let plain : reply_by_policy (Some (Aggregate Sum)) targets (map counted_answer ns) ≡ or_refused (aggregate_of Sum (map as_reply ns)) =
     rw (no_errors ns, counts_are ns) refl in
     sum_is ns value (made_some (aggregate_of Sum (map as_reply ns)) value (sym plain ∙ made))
 

@@ -6,8 +6,8 @@ use Rattle.resp_core.specs.ErrorParts.{ErrorParts}
 use Rattle.resp_core.specs.Reply.{Reply, array, bulk, replies_of, items_in, array_of}
 use Rattle.resp_core.specs.View.{view}
 use Rattle.resp_core.specs.declared.value.Value.{Value}
-use Rattle.resp_core.specs.declared.error.ErrorKind.TheVariants.{UnexpectedReturnType}
 use Rattle.cluster_slots.specs.Address.{Address}
+use Rattle.cluster_map.specs.EachOnce.{primaries_in}
 use Rattle.cluster_map.specs.RangeMap.{RangeEntry}
 use Rattle.cluster_map.specs.SlotNodes.{SlotNodes}
 use Rattle.redis_combiners.specs.AllItems.{all_items}
@@ -17,7 +17,6 @@ use Rattle.redis_cluster.specs.Unsplit.{Keyspace}
 use Rattle.redis_commands.specs.Answers.{values_in, first_error}
 use Rattle.redis_commands.specs.Policy.{or_refused, reply_by_policy}
 use Rattle.redis_commands.specs.Rule.{ReplyRule, by_policy, IsCombined}
-use Rattle.redis_commands.specs.Targets.{primaries_in}
 use Rattle.redis_commands.specs.Keyspaces.{IsServed, AreMeasures, AreKeysOf, listed_answer, joined_measures}
 use Rattle.redis_commands.proofs.Counts.{lists_add, made_some}
 use Rattle.redis_commands.proofs.Whole.{whole_keyspace}
@@ -59,7 +58,7 @@ some_is a b h = cc
 -- what is made of lists of keys lists the keys of the whole
 of_lists : (targets : List Address) (ls : List (List (List ℕ))) (value : Reply) → reply_by_policy (Some CombineArrays) targets (map listed_answer ls) ≡ Ok value → value ≡ array (replies_of (map bulk (joined_lists ls)))
 of_lists targets ls value made =
-    let plain : reply_by_policy (Some CombineArrays) targets (map listed_answer ls) ≡ or_refused UnexpectedReturnType (as_array (Some (map bulk (joined_lists ls)))) =
+    let plain : reply_by_policy (Some CombineArrays) targets (map listed_answer ls) ≡ or_refused (as_array (Some (map bulk (joined_lists ls)))) =
     rw (no_errors ls, items_of ls) refl in
     some_is (array (replies_of (map bulk (joined_lists ls)))) value (made_some (as_array (Some (map bulk (joined_lists ls)))) value (sym plain ∙ made))
 

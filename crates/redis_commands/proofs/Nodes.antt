@@ -5,11 +5,11 @@ use Rattle.std.proofs.lemmas.Bool.{le-ltb, lt-ltb}
 use Rattle.std.proofs.lemmas.Option.{slice_get_cases}
 use Rattle.cluster_slots.specs.Address.{Address}
 use Rattle.cluster_slots.specs.SlotRoute.{SlotRoute}
+use Rattle.cluster_map.specs.EachOnce.{all_nodes_in, primaries_in}
 use Rattle.cluster_map.specs.RangeMap.{RangeEntry, IsUncovered}
 use Rattle.cluster_map.specs.SlotNodes.{SlotNodes}
 use Rattle.cluster_map.specs.Targets.{addresses_behind}
 use Rattle.redis_cluster.specs.Driven.{IsFirstUncovered}
-use Rattle.redis_commands.specs.Targets.{all_nodes_in, primaries_in}
 
 -- a map without a primary is empty
 pub no_primary : (entries : List (RangeEntry SlotNodes)) (nodes : List (Bor Address)) → addresses_behind nodes ≡ primaries_in entries → nodes ≡ [] → entries ≡ []

@@ -1,6 +1,6 @@
 -- Answers, if no target is missing.
 use Rattle.std.proofs.Common.{◌≡◌, ◌⊎◌, inl, inr, ◌+◌, ℕ, List, [], ◌∷◌, ◌++◌, true, false, Option, Some, None, Ok, Err, map, length, refl, sym, ap, subst, ◌∙◌, arith, append_assoc, length-append}
-use Rattle.std.specs.Prelude.{IfErr, OnOk, MatchOption, MatchResult, Result, is_none, is_some, slice_get, slice_set}
+use Rattle.std.specs.Prelude.{Bool, IfErr, IfOk, OnOk, MatchOption, MatchResult, Result, is_none, slice_get, slice_set}
 use Rattle.std.specs.Result.{is_err}
 use Rattle.std.proofs.lemmas.List.{append-nil, map-append}
 use Rattle.std.specs.List.{list_any}
@@ -17,16 +17,10 @@ use Rattle.redis_cluster.specs.Unsplit.{TupleResult}
 use Rattle.redis_commands.specs.Rule.{of_parts, takes_memory, IsCombined, IsJoinedOf, IsReplyBy}
 use Rattle.redis_commands.specs.Answers.{answers_given, values_in, first_error}
 
-pub none_there : {X : Type 0} (o : Option X) → is_some o ≡ false → o ≡ None
-none_there None h = refl
-none_there (Some x) h = absurd (cc h)
-
--- without an error there is a value of each target
-pub value_of_each : (told : List (Option (Result Value ErrorParts))) → list_any is_none told ≡ false → first_error (answers_given told) ≡ None → length (values_in (answers_given told)) ≡ length told
-value_of_each [] all none = refl
-value_of_each (None ∷ told) all none = absurd (cc all)
-value_of_each (Some (Ok value) ∷ told) all none = let more : length (values_in (answers_given told)) ≡ length told = value_of_each told all none in omega (arith, more)
-value_of_each (Some (Err error) ∷ told) all none = absurd (cc none)
+-- what holds of a success, if there is none while an answer is missing
+pub if_told : {T E : Type 0} (P : T → Type 0) (untold : Bool) (result : Result T E) (error : E) → (untold ≡ true → result ≡ Err error) → (untold ≡ false → IfOk result P) → IfOk result P
+if_told P true result error missing there = subst (λ r. IfOk r P) (sym (missing refl)) tt
+if_told P false result error missing there = there refl
 
 -- the replies of a split command, after the first parts have answered
 abbrev pub replies_after : List Value → List (Option (Result Value ErrorParts)) → List (Option Value)

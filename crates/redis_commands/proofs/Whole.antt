@@ -7,12 +7,11 @@ use Rattle.resp_core.proofs.Cases.{by_test}
 use Rattle.cluster_slots.specs.Address.{Address, same_address}
 use Rattle.cluster_slots.specs.KeySlot.{key_slot}
 use Rattle.cluster_slots.proofs.Orders.{same_from_address}
-use Rattle.cluster_map.specs.EachOnce.{each_once}
+use Rattle.cluster_map.specs.EachOnce.{each_once, primaries_in}
 use Rattle.cluster_map.specs.RangeMap.{RangeEntry, end_of, value_of}
 use Rattle.cluster_map.specs.SlotNodes.{SlotNodes}
 use Rattle.cluster_map.proofs.Groups.{same_refl, same_sym}
 use Rattle.redis_cluster.specs.Unsplit.{Keyspace}
-use Rattle.redis_commands.specs.Targets.{primaries_in}
 use Rattle.redis_commands.proofs.Primaries.{primary_is}
 use Rattle.redis_commands.specs.Keyspaces.{primary_from, primary_of_slot, is_it, serves_slot, part_in, ShareNoSlot, IsAdditive, AreMeasures, IsServed, joined_measures}
 

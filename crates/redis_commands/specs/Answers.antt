@@ -1,15 +1,20 @@
 -- What the targets of a command answered.
-use Rattle.std.specs.Prelude.{List, [], ◌∷◌, Option, Some, None, Result, Ok, Err, filter_map, option_map}
+use Rattle.std.specs.Prelude.{List, [], ◌∷◌, Option, Some, None, Result, Ok, Err, codes, filter_map, option_map}
 use Rattle.std.specs.List.{last_or}
 use Rattle.std.specs.Result.{result_err, result_ok}
 use Rattle.resp_core.specs.Answer.{Answer, answer_of}
 use Rattle.resp_core.specs.ErrorParts.{ErrorParts}
 use Rattle.resp_core.specs.Reply.{Reply, nil}
+use Rattle.resp_core.specs.declared.error.ErrorKind.TheVariants.{Client}
 use Rattle.resp_core.specs.declared.value.Value.{Value}
 
 -- the answers of those that have answered
 abbrev pub answers_given : List (Option (Result Value ErrorParts)) → List Answer
 answers_given told = filter_map (option_map answer_of) told
+
+-- the error if one of them is missing
+abbrev pub missing_answer : ErrorParts
+missing_answer = record { kind = Client; desc = codes "a target has not answered"; detail = None }
 
 -- the value, unless it is nil
 abbrev pub unless_nil : Reply → Option Reply

@@ -4,8 +4,7 @@ use Rattle.std.specs.List.{zip}
 use Rattle.resp_core.specs.Answer.{Answer}
 use Rattle.resp_core.specs.ErrorParts.{ErrorParts}
 use Rattle.resp_core.specs.Reply.{Reply, nil, bulk, array, pairs, pairs_of, replies_of}
-use Rattle.resp_core.specs.declared.error.ErrorKind.{ErrorKind}
-use Rattle.resp_core.specs.declared.error.ErrorKind.TheVariants.{Client, UnexpectedReturnType}
+use Rattle.resp_core.specs.declared.error.ErrorKind.TheVariants.{UnexpectedReturnType}
 use Rattle.resp_core.specs.View.{view}
 use Rattle.resp_core.specs.declared.value.Value.{Value}
 use Rattle.cluster_slots.specs.Address.{Address, display_text}
@@ -17,17 +16,17 @@ use Rattle.redis_routing.specs.declared.policy.ResponsePolicy.{ResponsePolicy}
 use Rattle.redis_routing.specs.declared.policy.ResponsePolicy.TheVariants.{OneSucceeded, FirstSucceededNonEmptyOrAllEmpty, AllSucceeded, AggregateLogical, Aggregate, CombineArrays, CombineMaps}
 use Rattle.redis_commands.specs.Answers.{non_nil_in, first_in, values_in, first_error, last_error}
 
--- why there is no reply: an error of a target, as it came, or a refusal of the values, of this kind
+-- why there is no reply: an error of a target, as it came, or the values do not fit the policy
 pub data Failure : Type 0 where
   of_target : ErrorParts → Failure
-  refused : ErrorKind → Failure
+  refused : Failure
 
 abbrev pub Combined : Type 0
 Combined = Result Reply Failure
 
 abbrev pub IsFailure : Failure → ErrorParts → Type 0
 IsFailure (of_target own) error = error ≡ own
-IsFailure (refused kind) error = error.kind ≡ kind
+IsFailure refused error = error.kind ≡ UnexpectedReturnType
 
 -- what a call returned is this reply, or an error for this failure
 abbrev pub Returns : Result Value ErrorParts → Combined → Type 0
@@ -46,9 +45,9 @@ abbrev pub unless_error : Option ErrorParts → Combined → Combined
 unless_error None made = made
 unless_error (Some error) made = Err (of_target error)
 
-abbrev pub or_refused : ErrorKind → Option Reply → Combined
-or_refused kind None = Err (refused kind)
-or_refused kind (Some reply) = Ok reply
+abbrev pub or_refused : Option Reply → Combined
+or_refused None = Err refused
+or_refused (Some reply) = Ok reply
 
 -- each target's address as text, and its value
 abbrev pub values_by_address : List Address → List Reply → Reply
@@ -62,14 +61,12 @@ values_by_address targets values =
 -- `INFO`, x and y of n1:1 and n2:2: the map of `n1:1` to x and of `n2:2` to y
 abbrev pub made_by : Option ResponsePolicy → List Address → List Reply → Combined
 made_by (Some (AggregateLogical op)) targets values =
-    or_refused UnexpectedReturnType
-    (option_map (λ items. array (replies_of items)) (logical_items op values))
-made_by (Some (Aggregate op)) targets values = or_refused UnexpectedReturnType (aggregate_of op values)
+    or_refused (option_map (λ items. array (replies_of items)) (logical_items op values))
+made_by (Some (Aggregate op)) targets values = or_refused (aggregate_of op values)
 made_by (Some CombineArrays) targets values =
-    or_refused UnexpectedReturnType
-    (option_map (λ items. array (replies_of items)) (all_items values))
-made_by (Some CombineMaps) targets values = or_refused UnexpectedReturnType (combined_map values)
-made_by (Some AllSucceeded) targets values = or_refused Client (first_in values)
+    or_refused (option_map (λ items. array (replies_of items)) (all_items values))
+made_by (Some CombineMaps) targets values = or_refused (combined_map values)
+made_by (Some AllSucceeded) targets values = or_refused (first_in values)
 made_by _ targets values = Ok (values_by_address targets values)
 
 -- the one reply that a policy makes of the answers, one of each target, in their order
@@ -79,7 +76,7 @@ made_by _ targets values = Ok (values_by_address targets values)
 -- Each other policy: the first error, if there is one
 abbrev pub reply_by_policy : Option ResponsePolicy → List Address → List Answer → Combined
 reply_by_policy (Some OneSucceeded) targets answers =
-    reply_or (first_in (values_in answers)) (last_error answers) (Err (refused Client))
+    reply_or (first_in (values_in answers)) (last_error answers) (Err refused)
 reply_by_policy (Some FirstSucceededNonEmptyOrAllEmpty) targets answers =
     reply_or (first_in (filter_map non_nil_in answers)) (last_error answers) (Ok nil)
 reply_by_policy policy targets answers =

@@ -1,13 +1,13 @@
 -- The nodes that a command goes to, by where it is routed.
-use Rattle.std.specs.Prelude.{◌≡◌, ℕ, ◌%◌, Bool, true, false, List, [], ◌∷◌, Option, None, Some, map, flat_map, length, slice_get}
+use Rattle.std.specs.Prelude.{◌≡◌, ℕ, ◌%◌, Bool, true, false, List, [], ◌∷◌, Option, None, Some, map, length, slice_get}
 use Rattle.std.specs.List.{AllZip}
 use Rattle.cluster_slots.specs.Address.{Address}
 use Rattle.cluster_slots.specs.SlotRoute.{SlotRoute}
 use Rattle.cluster_map.specs.Candidates.{Candidates}
-use Rattle.cluster_map.specs.EachOnce.{each_once}
-use Rattle.cluster_map.specs.RangeMap.{RangeEntry, value_of}
+use Rattle.cluster_map.specs.EachOnce.{all_nodes_in, primaries_in}
+use Rattle.cluster_map.specs.RangeMap.{RangeEntry}
 use Rattle.cluster_map.specs.RouteNode.{IsRouteNode}
-use Rattle.cluster_map.specs.SlotNodes.{SlotNodes, nodes_in}
+use Rattle.cluster_map.specs.SlotNodes.{SlotNodes}
 use Rattle.redis_routing.specs.RoutingInfo.{Routing, random, specific_node, all_nodes, all_masters, multi_slot, single_node, multi_node}
 use Rattle.redis_routing.specs.Command.{Arguments}
 use Rattle.redis_routing.specs.Names.{Names}
@@ -15,14 +15,6 @@ use Rattle.redis_routing.specs.Routing.{routing}
 use Rattle.redis_cluster.specs.Driven.{IsFirstUncovered}
 use Rattle.redis_commands.specs.declared.fault.CommandPlanFault.{CommandPlanFault}
 use Rattle.redis_commands.specs.declared.fault.CommandPlanFault.TheVariants.{NotRoutable, NotCovered, NoNode, Memory}
-
--- each primary once, in the order of its first range
-abbrev pub primaries_in : List (RangeEntry SlotNodes) → List Address
-primaries_in entries = each_once (map (λ (e : RangeEntry SlotNodes). (value_of e).primary) entries)
-
--- each node once, in the order of its first range, of which the primary comes first
-abbrev pub all_nodes_in : List (RangeEntry SlotNodes) → List Address
-all_nodes_in entries = each_once (flat_map (λ (e : RangeEntry SlotNodes). nodes_in (value_of e)) entries)
 
 -- one of the nodes alone, at `pick` modulo their number
 --

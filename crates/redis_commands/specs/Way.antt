@@ -22,17 +22,17 @@ module _ {R : Type 0} where
   abbrev pub rule_in : Way R → ReplyRule
   rule_in (One target told) = only_answer
   rule_in (Several nodes policy told) = by_policy policy
-  rule_in (Split plan told) = of_parts plan.split
+  rule_in (Split plan told) = of_parts plan.value.split
 
   abbrev pub targets_in : Way R → List Address
   targets_in (One node told) = node.now ∷ []
   targets_in (Several nodes policy told) = addresses_behind nodes.items
-  targets_in (Split plan told) = plan.nodes
+  targets_in (Split plan told) = plan.value.nodes
 
   abbrev pub sent_in : Arguments → Way R → List Arguments
   sent_in args (One target told) = args ∷ []
   sent_in args (Several nodes policy told) = map (λ node. args) nodes.items
-  sent_in args (Split plan told) = map (map Some) plan.parts
+  sent_in args (Split plan told) = map (map Some) plan.value.parts
 
   abbrev pub told_in : Way R → List (Option (Result Value ErrorParts))
   told_in (One target told) = told ∷ []
@@ -51,7 +51,7 @@ module _ {R : Type 0} where
   -- the plan of a split is one that has no reply yet
   abbrev pub IsUntouched : Way R → Type 0
   IsUntouched (Split plan told) =
-      IsRoutedPlan plan × (plan.replies ≡ map (λ route. None) plan.split.routes)
+      IsRoutedPlan plan.value × (plan.value.replies ≡ map (λ route. None) plan.value.split.routes)
   IsUntouched _ = Unit {0}
 
   abbrev pub IsWay : Arguments → Way R → Type 0

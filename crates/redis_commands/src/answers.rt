@@ -1,14 +1,12 @@
 ghost use Rattle.std.specs.Prelude.{◌≡◌, List, Result, false, map, length, slice_get, slice_set, replicate, is_none, Option, Some, None, Ok, Err, IfOk, IfErr, MatchResult, OnOk};
 ghost use Rattle.std.specs.List.{list_any};
-ghost use Rattle.std.specs.Result.{IsErrAnd};
 ghost use Rattle.resp_core.specs.ErrorParts.{ErrorParts, out_of_memory};
 ghost use Rattle.resp_core.specs.declared.value.Value.{Value};
-ghost use Rattle.resp_core.specs.declared.error.ErrorKind.TheVariants.{Client};
 ghost use Rattle.resp_core.specs.View.{view};
 ghost use Rattle.redis_cluster.specs.MultiKey.{ReplyForm, list};
 ghost use Rattle.redis_cluster.specs.Plan.{ArePartsAnswered};
 ghost use Rattle.redis_cluster.specs.Unsplit.{TupleResult, reply_by};
-ghost use Rattle.redis_commands.specs.Answers.{answers_given, first_error, values_in};
+ghost use Rattle.redis_commands.specs.Answers.{answers_given, first_error, missing_answer, values_in};
 ghost use Rattle.redis_commands.specs.Rule.{IsCombined, of_parts};
 
 use redis_cluster::driver::SplitPlan;
@@ -40,7 +38,7 @@ pub(crate) fn is_untold(told: &[Option<RedisResult<Value>>]) -> bool
 /// The error of a plan in which an answer is missing.
 #[cold]
 pub(crate) fn missing() -> RedisError
-    ensures { result.kind ≡ Client }
+    ensures { result ≡ missing_answer }
 {
     RedisError::from((ErrorKind::Client, "a target has not answered"))
 }
@@ -83,7 +81,7 @@ pub(crate) fn tell_at(
 /// The answer of the only target.
 pub(crate) fn only_answer(told: Option<RedisResult<Value>>) -> RedisResult<Value>
     ensures some { (answer : Result Value ErrorParts) → told ≡ Some answer → result ≡ answer }
-    ensures none { told ≡ None → IsErrAnd result (λ error. error.kind ≡ Client) }
+    ensures none { told ≡ None → result ≡ Err missing_answer }
 {
     match told {
         Some(answer) => answer,

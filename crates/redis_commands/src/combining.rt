@@ -1,28 +1,61 @@
-ghost use Rattle.std.specs.Prelude.{◌≡◌, map, length, true, false, Option, Some, None, Ok, Err, filter_map, IfOk, is_none, is_some};
+ghost use Rattle.std.specs.Prelude.{◌≡◌, map, true, false, Option, Some, None, Ok, Err, filter_map, IfOk, is_none, is_some};
 ghost use Rattle.std.specs.List.{list_any};
 ghost use Rattle.resp_core.specs.Reply.{nil};
 ghost use Rattle.resp_core.specs.View.{view};
-ghost use Rattle.resp_core.specs.declared.error.ErrorKind.TheVariants.{Client};
 ghost use Rattle.cluster_map.specs.Targets.{addresses_behind};
-ghost use Rattle.redis_commands.specs.Answers.{unless_nil, answers_given, first_in, values_in, non_nil_in, first_error, last_error};
+ghost use Rattle.redis_commands.specs.Answers.{unless_nil, answers_given, first_in, missing_answer, values_in, non_nil_in, first_error, last_error};
 ghost use Rattle.redis_commands.specs.Policy.{Returns, reply_or, unless_error, or_refused, refused, values_by_address};
 ghost use Rattle.redis_commands.specs.Rule.{IsCombined, by_policy};
 
+use crate::answers::{is_untold, missing};
 use cluster_slots::NodeAddress;
 use redis_combiners::{aggregate, combine_array_results, combine_map_results, logical_aggregate};
 use redis_routing::ResponsePolicy;
 use resp_core::{ErrorKind, RedisError, RedisResult, Value};
 use std::alloc::{AllocError, Global};
 
-/// The one reply that a policy makes of the answers, one of each node, in the order of the nodes.
-pub(crate) fn combine_by_policy(
+/// The one reply to a command that went whole to several nodes, by the policy of its name. There is
+/// an answer of each node, in the order of the nodes.
+///
+/// - one succeeded, such as `SCRIPT KILL`: the first value, else the last error
+/// - first succeeded that is not empty, such as `RANDOMKEY`: the first value that is not nil, else
+///   the last error, else nil
+/// - all succeeded, such as `FLUSHALL`: the first value
+/// - sums, least numbers, bits, arrays, maps, such as `DBSIZE` and `KEYS`: what the combiner makes
+/// - special, or none, such as `INFO`: a map from each address as text to its value
+///
+/// In the last three an error of any node is the reply, the first one. First and last are by the
+/// order of the nodes, and not by arrival. Only a map of addresses needs `nodes`. It has no entry
+/// for a value without a node, or a node without a value.
+///
+/// # Errors
+///
+/// An error of a node, as above. `Client` if an answer is missing. `UnexpectedReturnType` if the
+/// values do not fit the policy, or if the first value is wanted and no node has answered.
+/// `OutOfMemory` if memory ran out. The first three policies take no memory.
+pub fn combine_answers(
+    alloc: Global,
+    policy: Option<ResponsePolicy>,
+    nodes: &[&NodeAddress],
+    answers: Vec<Option<RedisResult<Value>>>,
+) -> RedisResult<Value>
+    ensures reply { list_any is_none answers.items ≡ false → IsCombined (by_policy policy)
+        (addresses_behind nodes.now) (answers_given answers.items) result }
+    ensures untold { list_any is_none answers.items ≡ true → result ≡ Err missing_answer }
+{
+    if is_untold(&answers) {
+        return Err(missing());
+    }
+    combine_by_policy(alloc, policy, nodes, answers)
+}
+
+/// The one reply that a policy makes of the answers of nodes.
+fn combine_by_policy(
     alloc: Global,
     policy: Option<ResponsePolicy>,
     nodes: &[&NodeAddress],
     told: Vec<Option<RedisResult<Value>>>,
 ) -> RedisResult<Value>
-    requires each { length nodes.now ≡ length told.items }
-    requires all { list_any is_none told.items ≡ false }
     ensures { IsCombined (by_policy policy) (addresses_behind nodes.now) (answers_given told.items)
         result }
 {
@@ -47,10 +80,18 @@ pub(crate) fn combine_by_policy(
     }
 }
 
+/// The error if no node has answered.
+#[cold]
+fn no_answer() -> RedisError
+    ensures { result.kind ≡ ErrorKind.UnexpectedReturnType }
+{
+    RedisError::from((ErrorKind::UnexpectedReturnType, "no node has answered"))
+}
+
 /// The first value, or else the last error.
 fn first_value(told: Vec<Option<RedisResult<Value>>>) -> RedisResult<Value>
     ensures { Returns result (reply_or (first_in (values_in (answers_given told.items)))
-        (last_error (answers_given told.items)) (Err (refused Client))) }
+        (last_error (answers_given told.items)) (Err refused)) }
 {
     let mut last = None;
     for answer in told {
@@ -62,7 +103,7 @@ fn first_value(told: Vec<Option<RedisResult<Value>>>) -> RedisResult<Value>
     }
     match last {
         Some(error) => Err(error),
-        None => Err(RedisError::from((ErrorKind::Client, "no node was asked"))),
+        None => Err(no_answer()),
     }
 }
 
@@ -100,7 +141,7 @@ fn is_nil(value: &Value) -> bool
 /// The first value, unless there is an error: then the first error.
 fn first_of_all(told: Vec<Option<RedisResult<Value>>>) -> RedisResult<Value>
     ensures { Returns result (unless_error (first_error (answers_given told.items))
-        (or_refused Client (first_in (values_in (answers_given told.items))))) }
+        (or_refused (first_in (values_in (answers_given told.items))))) }
 {
     let mut first = None;
     for answer in told {
@@ -116,7 +157,7 @@ fn first_of_all(told: Vec<Option<RedisResult<Value>>>) -> RedisResult<Value>
     }
     match first {
         Some(value) => Ok(value),
-        None => Err(RedisError::from((ErrorKind::Client, "no node was asked"))),
+        None => Err(no_answer()),
     }
 }
 
@@ -151,19 +192,21 @@ fn all_values(
     Ok(values)
 }
 
-/// Each node's address as text, with its value.
+/// Each node's address as text, with its value, as far as there are both.
 fn by_address(
     alloc: Global,
     nodes: &[&NodeAddress],
     values: Vec<Value>,
 ) -> Result<Value, AllocError>
-    requires { length nodes.now ≡ length values.items }
     ensures { IfOk result (λ value. view value
         ≡ values_by_address (addresses_behind nodes.now) (map view values.items)) }
 {
     let mut entries = Vec::with_capacity(alloc, values.len())?;
     let mut number = 0_usize;
     for value in values {
+        if number >= nodes.len() {
+            return Ok(Value::Map(entries));
+        }
         let text = format!(in alloc; "{}", nodes[number])?;
         entries.push((Value::BulkString(text.into_bytes()), value))?;
         number += 1;

@@ -9,6 +9,7 @@ mod part;
 mod plan;
 mod ways;
 
+pub use combining::combine_answers;
 pub use fault::CommandPlanFault;
 pub use part::CommandPart;
 pub use plan::CommandPlan;

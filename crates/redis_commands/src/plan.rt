@@ -1,11 +1,10 @@
-ghost use Rattle.std.specs.Prelude.{◌≡◌, ◌<◌, ℕ, pos, List, Bool, true, false, cond, map, length, slice_get, slice_set, option_map, is_none, Option, Some, None, MatchOption, MatchResult, IfOk, IfErr, OnOk};
+ghost use Rattle.std.specs.Prelude.{◌≡◌, ◌<◌, ℕ, pos, List, Bool, true, false, cond, map, length, slice_get, slice_set, option_map, is_none, Option, Some, None, Err, MatchOption, MatchResult, IfOk, IfErr, OnOk};
 ghost use Rattle.std.specs.List.{list_any};
-ghost use Rattle.std.specs.Result.{IsErrAnd};
 ghost use Rattle.resp_core.specs.ErrorParts.{out_of_memory};
-ghost use Rattle.resp_core.specs.declared.error.ErrorKind.TheVariants.{Client};
 ghost use Rattle.resp_core.specs.Reply.{array, bulk, int, replies_of};
 ghost use Rattle.resp_core.specs.View.{view};
 ghost use Rattle.cluster_slots.specs.declared.aggregate_op.AggregateOp.TheVariants.{Sum};
+ghost use Rattle.cluster_map.specs.EachOnce.{primaries_in};
 ghost use Rattle.cluster_map.specs.RangeMap.{RangeEntry};
 ghost use Rattle.cluster_map.specs.SlotNodes.{SlotNodes};
 ghost use Rattle.redis_routing.specs.Names.{names_in};
@@ -16,14 +15,14 @@ ghost use Rattle.redis_cluster.specs.Unsplit.{Keyspace, TupleResult, reply_by};
 ghost use Rattle.redis_routing.specs.Split.{Split};
 ghost use Rattle.redis_commands.specs.Keyspaces.{AreKeysOf, AreMeasures, HasCount, IsServed, counted_answer, listed_answer};
 ghost use Rattle.redis_routing.specs.Routing.{routing};
-ghost use Rattle.redis_commands.specs.Answers.{answers_given, first_error, values_in};
+ghost use Rattle.redis_commands.specs.Answers.{answers_given, first_error, missing_answer, values_in};
 ghost use Rattle.redis_commands.specs.Part.{arguments_sent};
 ghost use Rattle.redis_commands.specs.Rule.{IsCombined, by_policy, of_parts, rule_of, sent_by};
 ghost use Rattle.redis_commands.specs.Planned.{IsPlanned};
-ghost use Rattle.redis_commands.specs.Targets.{AreTargets, IsCommandPlanFault, primaries_in};
+ghost use Rattle.redis_commands.specs.Targets.{AreTargets, IsCommandPlanFault};
 
 use crate::answers::{combine_parts, is_untold, missing, only_answer, tell_at, tell_one};
-use crate::combining::combine_by_policy;
+use crate::combining::combine_answers;
 use crate::fault::CommandPlanFault;
 use crate::part::CommandPart;
 use crate::ways::{Way, way_of};
@@ -196,24 +195,14 @@ impl<'a, R: Routable> CommandPlan<'a, R> {
     /// The one reply of the command, once the plan has each answer.
     ///
     /// Of a command to one node it is the answer. Of a command in parts it is what `SplitPlan` makes
-    /// of the replies, or the first error. Of a command to each primary or each node, the policy of
-    /// its name makes it:
-    ///
-    /// - one succeeded: the first value, else the last error
-    /// - first succeeded that is not empty: the first value that is not nil, else the last error,
-    ///   else nil
-    /// - all succeeded: the first value
-    /// - sums, least numbers, bits, arrays, maps: what the combiner makes
-    /// - special, or none: a map from each address as text to its value
-    ///
-    /// In the last three an error of any target is the reply, the first one. First and last are by
-    /// the order of the targets, and not by arrival.
+    /// of the replies, or the first error. Of a command to each primary or each node it is what
+    /// `combine_answers` makes, by the policy of its name.
     ///
     /// # Errors
     ///
-    /// An error that a server answered, as above, or the error of the combiner. `Client` if an answer
-    /// is missing. `OutOfMemory` if memory ran out. One answer, the first three policies, counts of
-    /// parts and `OK` of parts take no memory.
+    /// An error that a server answered, or the error of the combiner. `Client` if an answer is
+    /// missing. `OutOfMemory` if memory ran out. One answer, counts of parts and `OK` of parts take
+    /// no memory.
     pub fn combine(self, alloc: Global) -> RedisResult<Value>
         ensures reply { list_any is_none self.entry.answers ≡ false
             → IsCombined self.entry.rule self.entry.targets (answers_given self.entry.answers) result }
@@ -241,23 +230,17 @@ impl<'a, R: Routable> CommandPlan<'a, R> {
             → answers_given self.entry.answers ≡ map listed_answer lists
             → IfOk result (λ value. (keys : List (List ℕ))
             × (view value ≡ array (replies_of (map bulk keys))) × AreKeysOf wanted keyspace keys) }
-        ensures untold { list_any is_none self.entry.answers ≡ true
-            → IsErrAnd result (λ error. error.kind ≡ Client) }
+        ensures untold { list_any is_none self.entry.answers ≡ true → result ≡ Err missing_answer }
     {
         let CommandPlan { command: _, way } = self;
         match way {
             Way::One(_, told) => only_answer(told),
-            Way::Several(nodes, policy, told) => {
-                if is_untold(&told) {
-                    return Err(missing());
-                }
-                combine_by_policy(alloc, policy, &nodes, told)
-            }
+            Way::Several(nodes, policy, told) => combine_answers(alloc, policy, &nodes, told),
             Way::Split(plan, told) => {
                 if is_untold(&told) {
                     return Err(missing());
                 }
-                combine_parts(alloc, plan, told)
+                combine_parts(alloc, Box::into_inner(plan), told)
             }
         }
     }

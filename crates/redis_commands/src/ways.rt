@@ -27,8 +27,8 @@ pub(crate) enum Way<'a, R: Routable> {
     One(&'a NodeAddress, Option<RedisResult<Value>>),
     /// Whole, to each of these nodes.
     Several(Vec<&'a NodeAddress>, Option<ResponsePolicy>, Vec<Option<RedisResult<Value>>>),
-    /// In parts, each to a node of its slot.
-    Split(SplitPlan<'a, R>, Vec<Option<RedisResult<Value>>>),
+    /// In parts, each to a node of its slot. In a box, so that the other two are moved at little cost.
+    Split(Box<SplitPlan<'a, R>>, Vec<Option<RedisResult<Value>>>),
 }
 
 /// The way of a command that is routed so.
@@ -68,7 +68,7 @@ pub(crate) fn way_of<'a, R: Routable>(
             MultipleNodeRoutingInfo::MultiSlot(_) => {
                 let plan = SplitPlan::new(alloc, command, names, slot_map, strategy, pick)?;
                 let answers = no_answers(alloc, plan.len())?;
-                Ok(Way::Split(plan, answers))
+                Ok(Way::Split(Box::new(alloc, plan)?, answers))
             }
         },
     }

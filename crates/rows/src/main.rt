@@ -38,7 +38,7 @@ impl Calls for Rows {
             "routing" => routing::call(&mut self.known, alloc, name, words),
             "combining" => combiners::call(alloc, name, words),
             "pipelines" => pipelines::call(&mut self.pipeline, alloc, name, words),
-            "plans" => plans::call(&self.map, alloc, words),
+            "plans" => plans::call(&self.map, alloc, name, words),
             _ => Err(bad_row("no topic of this name")),
         }
     }

@@ -1,37 +1,70 @@
-//! Plans of commands: the one reply of their answers, if no name only reads and none is registered.
+//! Plans of commands: their targets, and the one reply of their answers, if no name only reads and
+//! none is registered.
 use crate::routing::Known;
 use cluster_map::SlotMap;
-use fixtures::{cmd, cut, or_text, value_text, values};
+use fixtures::{bad_row, cmd, cut, number, or_text, push_next, shown, two, value_text, values};
 use redis_commands::CommandPlan;
-use resp_core::{Cmd, RedisResult, Value};
+use resp_core::{Cmd, ErrorKind, RedisError, RedisResult, Value};
 use std::alloc::Global;
 
-/// The one reply to a command if its targets answer these in their order.
-pub fn call(slots: &SlotMap, alloc: Global, words: &str) -> RedisResult<String> {
-    let (command, answers) = cut(words, "; ");
-    let command = cmd(alloc, command)?;
-    value_text(
-        alloc,
-        &made(alloc, slots, &command, values(alloc, answers)?)?,
-    )
+/// What a call of this name returns.
+pub fn call(slots: &SlotMap, alloc: Global, name: &str, words: &str) -> RedisResult<String> {
+    match name {
+        "made" => {
+            let (command, answers) = cut(words, "; ");
+            let command = cmd(alloc, command)?;
+            let answers = values(alloc, answers)?;
+            value_text(alloc, &made(alloc, slots, &command, answers)?)
+        }
+        "nodes" => {
+            let (pick, command) = two(words);
+            let command = cmd(alloc, command)?;
+            nodes(alloc, &plan_of(alloc, slots, &command, number(pick)?)?)
+        }
+        _ => Err(bad_row("no call of this name")),
+    }
 }
 
+/// The one reply to a command if its targets answer these in their order.
 fn made(alloc: Global, slots: &SlotMap, command: &Cmd, answers: Vec<Value>) -> RedisResult<Value> {
-    let mut plan = plan_of(alloc, slots, command)?;
+    let mut plan = plan_of(alloc, slots, command, 0)?;
     for (number, answer) in answers.into_iter().enumerate() {
-        let _ = plan.tell(number, Ok(answer));
+        let _ = plan.tell(number, answer_of(alloc, answer)?);
     }
     plan.combine(alloc)
+}
+
+/// What a target answered: an error, if a row writes it as a simple string that begins with `-`.
+fn answer_of(alloc: Global, value: Value) -> RedisResult<RedisResult<Value>> {
+    if let Value::SimpleString(text) = &value {
+        if text.starts_with("-") {
+            let detail = shown(alloc, text)?;
+            return Ok(Err(RedisError::from((ErrorKind::Client, "", detail))));
+        }
+    }
+    Ok(Ok(value))
+}
+
+/// The targets of a plan, a space apart.
+fn nodes(alloc: Global, plan: &CommandPlan<'_, Cmd>) -> RedisResult<String> {
+    let mut text = String::new(alloc);
+    for number in 0..plan.len() {
+        if let Some(node) = plan.node(number) {
+            push_next(&mut text, " ", &shown(alloc, node)?)?;
+        }
+    }
+    Ok(text)
 }
 
 fn plan_of<'a>(
     alloc: Global,
     slots: &'a SlotMap,
     command: &'a Cmd,
+    pick: usize,
 ) -> RedisResult<CommandPlan<'a, Cmd>> {
     let none = Known::new(alloc);
     or_text(
         alloc,
-        CommandPlan::new(alloc, command, none.names(), slots, None, 0),
+        CommandPlan::new(alloc, command, none.names(), slots, None, pick),
     )
 }

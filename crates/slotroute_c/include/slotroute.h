@@ -46,7 +46,7 @@ enum {
     SLOTROUTE_REPLY_IS_ERROR = 10,    /* the reply is an error, or holds one */
     SLOTROUTE_AFTER_REPLIES = 11,     /* bytes follow the last reply, which ends at told.at */
     SLOTROUTE_UNFIT = 12,             /* the replies do not fit the parts */
-    SLOTROUTE_NO_FORM = 13,           /* the one reply has no form; no input is known to cause it */
+    SLOTROUTE_NO_FORM = 13,           /* the replies of several nodes make no one reply, as of INFO */
     SLOTROUTE_NOT_TEXT = 14,          /* a text or a host is not UTF-8 */
     SLOTROUTE_NO_REDIRECT = 15,       /* the text is no redirect */
     SLOTROUTE_LINE_FEED_IN_HOST = 16, /* the host of a slot's node has a line feed */
@@ -134,6 +134,16 @@ uint32_t slotroute_split(const uint8_t *request, size_t request_len,
 uint32_t slotroute_combine(const uint8_t *request, size_t request_len,
                            const uint8_t *replies, size_t replies_len,
                            uint8_t *out, size_t out_len, slotroute_told *told);
+
+/* Writes the one reply to a request that went whole to count nodes, as KEYS. policy is that of
+ * slotroute_route. replies has the reply of each node, in the order of the nodes. The one reply may
+ * be an error of a node. A map is an array of its keys and values. told->bytes is the length of the
+ * one reply. SLOTROUTE_NO_FORM: the policy is SLOTROUTE_NO_POLICY, SLOTROUTE_SPECIAL, as of INFO, or
+ * no number of a policy; or the replies do not fit the policy. told->request is then 0, and if a
+ * reply is at fault, told->batch is 0. */
+uint32_t slotroute_combine_answers(uint32_t policy, size_t count,
+                                   const uint8_t *replies, size_t replies_len,
+                                   uint8_t *out, size_t out_len, slotroute_told *told);
 
 #define SLOTROUTE_SLOTS 16384u
 #define SLOTROUTE_NO_NODE 65535u

@@ -1,5 +1,5 @@
 -- A routing as four numbers, which `include/slotroute.h` names.
-use Rattle.std.specs.Prelude.{◌≡◌, ℕ, zero, suc, List, [], map, nat_lt, IfSome, Option, None, Some}
+use Rattle.std.specs.Prelude.{◌≡◌, ◌<◌, ◌⊎◌, ℕ, zero, suc, List, [], map, nat_lt, IfSome, Option, None, Some}
 use Rattle.cluster_slots.specs.declared.slot.SlotAddr.{SlotAddr}
 use Rattle.cluster_slots.specs.declared.slot.SlotAddr.TheVariants.{Master, ReplicaOptional, ReplicaRequired}
 use Rattle.cluster_slots.specs.declared.aggregate_op.AggregateOp.TheVariants.{Min, Sum}
@@ -34,6 +34,10 @@ policy_number (Some (Aggregate Sum)) = 7
 policy_number (Some CombineArrays) = 8
 policy_number (Some Special) = 9
 policy_number (Some CombineMaps) = 10
+
+-- the policy with this number, or none if it is the number of no policy
+abbrev pub IsPolicyOf : ℕ → Option ResponsePolicy → Type 0
+IsPolicyOf number policy = (number ≡ policy_number policy) ⊎ ((10 < number) × (policy ≡ None))
 
 abbrev pub routed : ℕ → ℕ → ℕ → ℕ → Routed
 routed kind slot addr policy = record { kind = kind; slot = slot; addr = addr; policy = policy }

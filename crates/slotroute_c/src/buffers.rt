@@ -1,4 +1,4 @@
-ghost use Rattle.std.specs.Prelude.{◌≡◌, ◌≤◌, length};
+ghost use Rattle.std.specs.Prelude.{◌≤◌, length};
 ghost use Rattle.slotroute_c.specs.Buffers.{IsWritten};
 
 /// Writes items to the front of a buffer.

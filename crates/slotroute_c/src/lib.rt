@@ -11,5 +11,6 @@ mod parts;
 mod pipelines;
 mod redirects;
 mod routes;
+mod several;
 mod tables;
 mod told;

@@ -170,7 +170,7 @@ fn numbers_of(alloc: Global, nodes: &[NodeAddress]) -> Result<Vec<u16>, AllocErr
 }
 
 /// The code of a pipeline's fault. `told` gets the numbers that go with it.
-fn code_of_batch(fault: &BatchFault, told: &mut Told) -> u32
+pub(super) fn code_of_batch(fault: &BatchFault, told: &mut Told) -> u32
     ensures code { result ≡ code (outcome_of_batch fault.now) }
     ensures told { told.new ≡ with_batch_fault fault.now told.old }
     ensures other { IsOther result }

@@ -1,5 +1,5 @@
 //! A client with connections of its own, which sends a pipeline as one batch for each node.
-ghost use Rattle.std.specs.Prelude.{◌≡◌, [], map, IfOk};
+ghost use Rattle.std.specs.Prelude.{map, IfOk};
 ghost use Rattle.resp_core.specs.Answer.{answer_of};
 ghost use Rattle.redis_cluster.specs.Driven.{AreAllAnswered};
 ghost use Rattle.redis_batches.specs.DrivenPipeline.{IsOneServer};

@@ -2,7 +2,7 @@
 ghost use Rattle.std.specs.Prelude.{IfErr, IfOk};
 ghost use Rattle.redis_routing.specs.Names.{names_in};
 ghost use Rattle.redis_routing.specs.Split.{Split};
-ghost use Rattle.redis_bytes.specs.Requests.{IsSplitRequest, AreParts, IsUnsplit};
+ghost use Rattle.redis_bytes.specs.Requests.{IsSplitRequest, IsUnsplit};
 ghost use Rattle.redis_bytes.specs.Replies.{AreCombined};
 
 use cluster_map::Route;

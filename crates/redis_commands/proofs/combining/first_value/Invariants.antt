@@ -1,5 +1,4 @@
 use Rattle.std.proofs.Common.{◌≡◌, Err}
-use Rattle.resp_core.specs.declared.error.ErrorKind.TheVariants.{Client}
 use Rattle.std.specs.Result.{result_ok}
 use Rattle.redis_commands.specs.Answers.{answers_given, first_in, values_in, last_error}
 use Rattle.redis_commands.specs.Policy.{refused, reply_or}
@@ -10,5 +9,5 @@ abbrev pub invariant-loop-answer : goal.invariant-loop-answer
 invariant-loop-answer l =
     (goal.iterator-loop-answer).can_next l.answer-iterator
     × (goal.iterator-loop-answer).is_finite l.answer-iterator
-    × (to_come result_ok l.last (answers_given l.answer-iterator.rest.items) (Err (refused Client))
-    ≡ reply_or (first_in (values_in (answers_given l.fn.told.items))) (last_error (answers_given l.fn.told.items)) (Err (refused Client)))
+    × (to_come result_ok l.last (answers_given l.answer-iterator.rest.items) (Err refused)
+    ≡ reply_or (first_in (values_in (answers_given l.fn.told.items))) (last_error (answers_given l.fn.told.items)) (Err refused))

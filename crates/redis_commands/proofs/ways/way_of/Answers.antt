@@ -39,35 +39,37 @@ returns-in_ok-addresses_for_all_primaries-in-AllMasters-clause-fault g c =
     (several_fault entries (names_in c.args.names) (g.R.Routable.args c.args.command.now) (as_routing c.args.info.now) found.field-0.items c.requires.routed slotless
     (no_primary entries found.field-0.items found.ensures.all))
 
-pub returns-in_ok-answers-in-MultiSlot-clause-targets : goal.returns-in_ok-answers-in-MultiSlot-clause-targets
-returns-in_ok-answers-in-MultiSlot-clause-targets g c =
+pub returns-in_ok-new-in-MultiSlot-clause-targets : goal.returns-in_ok-new-in-MultiSlot-clause-targets
+returns-in_ok-new-in-MultiSlot-clause-targets g c =
     let m = c.in-MultiNode in
     let parts = c.in-MultiSlot.field-0 in
     let planned = c.in_ok-plan-in-MultiSlot in
     let to = as_split c.args.info.now m.many m.policy parts m.is c.in-MultiSlot.is in
     let routes = same_routes (names_in c.args.names) (g.R.Routable.args c.args.command.now) (route_lists parts.0.items) parts.1 m.policy (c.requires.routed ∙ ap Some to) planned.plan.split planned.ensures.routes in
-    split_targets c.args.strategy (λ s. (goal.ReadRoutingStrategy-dyn g s.now).picks s.now.1) c.args.slot_map.now c.args.pick (as_routing c.args.info.now) planned.plan.split.routes (route_lists parts.0.items) parts.1 m.policy planned.plan.nodes to routes planned.ensures.nodes
+    rw (c.in_ok-new-in-MultiSlot.ensures.ok)
+    (split_targets c.args.strategy (λ s. (goal.ReadRoutingStrategy-dyn g s.now).picks s.now.1) c.args.slot_map.now c.args.pick (as_routing c.args.info.now) planned.plan.split.routes (route_lists parts.0.items) parts.1 m.policy planned.plan.nodes to routes planned.ensures.nodes)
 
-pub returns-in_ok-answers-in-MultiSlot-clause-rule : goal.returns-in_ok-answers-in-MultiSlot-clause-rule
-returns-in_ok-answers-in-MultiSlot-clause-rule g c =
+pub returns-in_ok-new-in-MultiSlot-clause-rule : goal.returns-in_ok-new-in-MultiSlot-clause-rule
+returns-in_ok-new-in-MultiSlot-clause-rule g c =
     let args = g.R.Routable.args c.args.command.now in
     let m = c.in-MultiNode in
     let parts = c.in-MultiSlot.field-0 in
     let planned = c.in_ok-plan-in-MultiSlot in
     let new = planned.ensures in
     let to = as_split c.args.info.now m.many m.policy parts m.is c.in-MultiSlot.is in
-    same_rule (names_in c.args.names) args (route_lists parts.0.items) parts.1 m.policy (c.requires.routed ∙ ap Some to) planned.plan.split new.arguments new.routes new.pattern new.policy
-    ∙ ap (rule_of args) (sym to)
+    rw (c.in_ok-new-in-MultiSlot.ensures.ok)
+    (same_rule (names_in c.args.names) args (route_lists parts.0.items) parts.1 m.policy (c.requires.routed ∙ ap Some to) planned.plan.split new.arguments new.routes new.pattern new.policy
+    ∙ ap (rule_of args) (sym to))
 
-pub returns-in_ok-answers-in-MultiSlot-clause-sent : goal.returns-in_ok-answers-in-MultiSlot-clause-sent
-returns-in_ok-answers-in-MultiSlot-clause-sent g c =
-    c.len.ensures.plan.parts
+pub returns-in_ok-new-in-MultiSlot-clause-sent : goal.returns-in_ok-new-in-MultiSlot-clause-sent
+returns-in_ok-new-in-MultiSlot-clause-sent g c =
+    rw (c.in_ok-new-in-MultiSlot.ensures.ok) c.len.ensures.plan.parts
 
-pub returns-in_ok-answers-in-MultiSlot-clause-untold : goal.returns-in_ok-answers-in-MultiSlot-clause-untold
-returns-in_ok-answers-in-MultiSlot-clause-untold g c =
+pub returns-in_ok-new-in-MultiSlot-clause-untold : goal.returns-in_ok-new-in-MultiSlot-clause-untold
+returns-in_ok-new-in-MultiSlot-clause-untold g c =
     let nodes = c.in_ok-plan-in-MultiSlot.plan.nodes in
     let many : c.len.result ≡ length nodes = c.len.ensures.len ∙ sym c.len.ensures.plan.nodes in
-    c.in_ok-answers-in-MultiSlot.ensures ∙ ap (λ n. replicate n None) many ∙ one_for_each None nodes
+    rw (c.in_ok-new-in-MultiSlot.ensures.ok) (c.in_ok-answers-in-MultiSlot.ensures ∙ ap (λ n. replicate n None) many ∙ one_for_each None nodes)
 
 pub single_target-requires : goal.single_target-requires
 single_target-requires g c =

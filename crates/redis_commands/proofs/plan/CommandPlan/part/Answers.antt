@@ -17,6 +17,7 @@ returns-in-Several g c =
 pub returns-in_ok-part-in-Split : goal.returns-in_ok-part-in-Split
 returns-in_ok-part-in-Split g c =
     let args = g.R.Routable.args c.self.inside.command.now in
-    let parts = c.in-Split.plan.parts in
+    let parts = c.in-Split.plan.value.parts in
     let seen = sym (ap (λ p. p.sent) c.self.view_is) ∙ ap (sent_in args) c.in-Split.is in
-    ap (option_map (map Some)) c.in_ok-part-in-Split.ensures ∙ sym (slice_get-map (map Some) parts c.args.number) ∙ ap (λ s. slice_get s c.args.number) (sym seen)
+    let there = ap (λ p. slice_get p.parts c.args.number) c.deref-in-Split.ensures in
+    ap (option_map (map Some)) (c.in_ok-part-in-Split.ensures ∙ there) ∙ sym (slice_get-map (map Some) parts c.args.number) ∙ ap (λ s. slice_get s c.args.number) (sym seen)

@@ -1,0 +1,65 @@
+-- The one reply to a request that went whole to several nodes, as bytes.
+use Rattle.std.specs.Prelude.{◌≡◌, ◌⊎◌, ℕ, List, [], ◌∷◌, Bool, true, false, Option, Some, None, Ok, Err, length}
+use Rattle.resp.specs.Forms.{form, line}
+use Rattle.resp_core.specs.Answer.{Answer}
+use Rattle.resp_core.specs.Reply.{Reply, Pairs, array, pairs, no_pairs, pair, replies_of}
+use Rattle.redis_routing.specs.declared.policy.ResponsePolicy.{ResponsePolicy}
+use Rattle.redis_routing.specs.declared.policy.ResponsePolicy.TheVariants.{Special}
+use Rattle.redis_bytes.specs.Replies.{HasNoForm}
+use Rattle.redis_commands.specs.Policy.{Combined, of_target, refused, reply_by_policy}
+use Rattle.redis_batch_bytes.specs.declared.fault.BatchFault.{BatchFault}
+use Rattle.redis_batch_bytes.specs.declared.fault.BatchFault.TheVariants.{AfterReplies, NoForm}
+use Rattle.redis_batch_bytes.specs.Replies.{StandAsTold}
+use Rattle.redis_batch_bytes.specs.Told.{said_of}
+use Rattle.redis_batch_bytes.specs.Unread.{AnswersAreFollowed, IsUnreadAnswer}
+
+-- keys and values in turn
+abbrev pub flat_items : Pairs → List Reply
+flat_items no_pairs = []
+flat_items (pair key value more) = key ∷ value ∷ flat_items more
+
+-- a map as version 2 of the protocol has it: an array of its keys and values
+--
+-- `PUBSUB NUMSUB a b`, the map of a to 1 and of b to 2: [a, 1, b, 2]
+abbrev pub without_map : Reply → Reply
+without_map (pairs items) = array (replies_of (flat_items items))
+without_map reply = reply
+
+-- whether a policy makes a reply that names no address
+abbrev pub has_no_addresses : Option ResponsePolicy → Bool
+has_no_addresses None = false
+has_no_addresses (Some Special) = false
+has_no_addresses policy = true
+
+-- the bytes are those of the one reply: a value, or an error of a node
+abbrev pub IsReplyForm : List ℕ → Combined → Type 0
+IsReplyForm bytes (Ok reply) = bytes ≡ form (without_map reply)
+IsReplyForm bytes (Err (of_target error)) = bytes ≡ line 45 (said_of error)
+IsReplyForm bytes (Err refused) = ⊥
+
+-- there is no one reply in bytes: the values do not fit the policy, or the reply has no form
+abbrev pub HasNoReplyForm : Combined → Type 0
+HasNoReplyForm (Ok reply) = HasNoForm (without_map reply)
+HasNoReplyForm (Err (of_target error)) = ⊥
+HasNoReplyForm (Err refused) = Unit {0}
+
+-- The bytes are so many answers, and what the policy makes of these fulfils `IsSo`.
+pub record AreAnswersBy (policy : Option ResponsePolicy) (count : ℕ) (bytes : List ℕ)
+    (IsSo : Combined → Type 0) : Type 0 where
+  pub plain : has_no_addresses policy ≡ true
+  pub answers : List Answer
+  pub all : length answers ≡ count
+  pub stand : StandAsTold bytes [] answers
+  pub so : IsSo (reply_by_policy policy [] answers)
+
+-- why there is no one reply, if the policy names no address
+abbrev pub IsUnanswered : Option ResponsePolicy → ℕ → List ℕ → BatchFault → Type 0
+IsUnanswered policy count bytes (NoForm number) =
+    (number ≡ 0) × AreAnswersBy policy count bytes HasNoReplyForm
+IsUnanswered policy count bytes (AfterReplies end) = AnswersAreFollowed count bytes end
+IsUnanswered policy count bytes fault = IsUnreadAnswer 0 count bytes fault
+
+-- why a policy makes no one reply of bytes
+abbrev pub IsUnreplied : Option ResponsePolicy → ℕ → List ℕ → BatchFault → Type 0
+IsUnreplied policy count bytes fault = ((has_no_addresses policy ≡ false) × (fault ≡ NoForm 0))
+    ⊎ ((has_no_addresses policy ≡ true) × IsUnanswered policy count bytes fault)
