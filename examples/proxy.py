@@ -1,7 +1,7 @@
 """A proxy before a Redis cluster: clients speak to it as to one server.
 
-    tools/c-archive FOLDER
-    python3 examples/proxy.py FOLDER/libslotroute.so PORT NODE_HOST:NODE_PORT
+    tools/c-archive PREFIX
+    python3 examples/proxy.py PREFIX/lib/libslotroute.so PORT NODE_HOST:NODE_PORT
 
 The library says where a request goes, how one over many keys is split, how the replies to its
 parts make one, what a redirect means, and whether a message is well formed. This file has the

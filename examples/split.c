@@ -1,6 +1,7 @@
 /* Splits a request by slot and combines the replies to its parts:
  *
- *     tools/c-archive FOLDER && cc -IFOLDER -o split examples/split.c FOLDER/libslotroute.a && ./split
+ *     tools/c-archive PREFIX
+ *     cc -IPREFIX/include -o split examples/split.c PREFIX/lib/libslotroute.a && ./split
  */
 #include "slotroute.h"
 

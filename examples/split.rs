@@ -1,6 +1,6 @@
 //! Splits a request by slot and combines the replies to its parts, from Rust:
 //!
-//!     tools/c-archive FOLDER && rustc -O -L FOLDER -l static=slotroute examples/split.rs && ./split
+//!     tools/c-archive PREFIX && rustc -O -L PREFIX/lib -l static=slotroute examples/split.rs && ./split
 //!
 //! No function of the library asks more than what Rust's slices hold, so these wrappers are safe.
 

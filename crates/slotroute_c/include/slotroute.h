@@ -26,6 +26,8 @@
 #include <stddef.h>
 #include <stdint.h>
 
+#define SLOTROUTE_VERSION "0.1.0"
+
 #ifdef __cplusplus
 extern "C" {
 #endif
@@ -81,7 +83,7 @@ uint32_t slotroute_reply_len(const uint8_t *bytes, size_t bytes_len, slotroute_t
 
 /* Where a request goes. */
 enum {
-    SLOTROUTE_GOES_NOWHERE = 0, /* the layer does not route it, as GET with no key */
+    SLOTROUTE_GOES_NOWHERE = 0, /* the layer does not route it, as SCAN, or DEL with no key */
     SLOTROUTE_TO_ANY = 1,       /* any node */
     SLOTROUTE_TO_ANY_PRIMARY = 2,
     SLOTROUTE_TO_SLOT = 3,      /* slot and addr say which */
