@@ -18,6 +18,7 @@ import time
 from collections import deque
 from contextlib import suppress
 
+sys.path.append(os.path.join(os.path.dirname(os.path.abspath(__file__)), "..", "python"))  # if it is not installed
 import slotroute
 from slotroute import Library, Refused, request
 

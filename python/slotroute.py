@@ -1,6 +1,7 @@
 """The routing layer from Python, by ctypes over the shared object that tools/c-archive makes.
 
-    python3 examples/slotroute.py LIBRARY
+    pip install ./python
+    python3 -m slotroute LIBRARY
 
 prints the split of a request, and the one reply of the replies to its parts.
 """
