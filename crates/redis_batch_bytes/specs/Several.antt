@@ -43,7 +43,7 @@ HasNoReplyForm (Ok reply) = HasNoForm (without_map reply)
 HasNoReplyForm (Err (of_target error)) = ⊥
 HasNoReplyForm (Err refused) = Unit {0}
 
--- The bytes are so many answers, and what the policy makes of these fulfils `IsSo`.
+-- The bytes are `count` answers, and what the policy makes of these fulfils `IsSo`.
 pub record AreAnswersBy (policy : Option ResponsePolicy) (count : ℕ) (bytes : List ℕ)
     (IsSo : Combined → Type 0) : Type 0 where
   pub plain : has_no_addresses policy ≡ true
@@ -52,14 +52,14 @@ pub record AreAnswersBy (policy : Option ResponsePolicy) (count : ℕ) (bytes : 
   pub stand : StandAsTold bytes [] answers
   pub so : IsSo (reply_by_policy policy [] answers)
 
--- why there is no one reply, if the policy names no address
-abbrev pub IsUnanswered : Option ResponsePolicy → ℕ → List ℕ → BatchFault → Type 0
-IsUnanswered policy count bytes (NoForm number) =
+-- why bytes are not `count` answers that make one reply
+abbrev pub HaveNoReply : Option ResponsePolicy → ℕ → List ℕ → BatchFault → Type 0
+HaveNoReply policy count bytes (NoForm number) =
     (number ≡ 0) × AreAnswersBy policy count bytes HasNoReplyForm
-IsUnanswered policy count bytes (AfterReplies end) = AnswersAreFollowed count bytes end
-IsUnanswered policy count bytes fault = IsUnreadAnswer 0 count bytes fault
+HaveNoReply policy count bytes (AfterReplies end) = AnswersAreFollowed count bytes end
+HaveNoReply policy count bytes fault = IsUnreadAnswer 0 count bytes fault
 
 -- why a policy makes no one reply of bytes
 abbrev pub IsUnreplied : Option ResponsePolicy → ℕ → List ℕ → BatchFault → Type 0
 IsUnreplied policy count bytes fault = ((has_no_addresses policy ≡ false) × (fault ≡ NoForm 0))
-    ⊎ ((has_no_addresses policy ≡ true) × IsUnanswered policy count bytes fault)
+    ⊎ ((has_no_addresses policy ≡ true) × HaveNoReply policy count bytes fault)

@@ -139,7 +139,7 @@ fn value_form(alloc: Global, value: &Value) -> Result<Vec<u8>, BatchFault>
     }
 }
 
-/// Keys and values in turn.
+/// Keys and values in turn, copied: no other crate than `resp_core` takes a value apart.
 fn flat_items(alloc: Global, entries: &[(Value, Value)]) -> Result<Vec<Value>, AllocError>
     ensures { IfOk result (λ items. map view items.items
         ≡ flat_items (pairs_of (map view_pair entries.now))) }
