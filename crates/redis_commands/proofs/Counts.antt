@@ -3,6 +3,7 @@ use Rattle.std.proofs.Common.{◌≡◌, ◌+◌, ℕ, ℤ, pos, ◌+ℤ◌, Boo
 use Rattle.std.specs.Prelude.{count_by, is_some, option_map, option_and_then}
 use Rattle.std.specs.Str.{bytes_eq}
 use Rattle.std.proofs.lemmas.Int.{ints}
+use Rattle.std.proofs.lemmas.List.{length-append}
 use Rattle.std.proofs.lemmas.List.Sums.{sum_by-append}
 use Rattle.std.proofs.lemmas.Option.{none-some, same_Some}
 use Rattle.resp_core.specs.Answer.{Answer}
@@ -28,10 +29,6 @@ use Rattle.redis_commands.specs.Keyspaces.{IsServed, AreMeasures, counted_answer
 
 count_append : (p : List ℕ → Bool) (xs ys : List (List ℕ)) → count_by p (xs ++ ys) ≡ count_by p xs + count_by p ys
 count_append p xs ys = sum_by-append (λ x. cond (p x) 1 0) xs ys
-
-length_append : (xs ys : List (List ℕ)) → length (xs ++ ys) ≡ length xs + length ys
-length_append [] ys = omega arith
-length_append (x ∷ xs) ys = let more : length (xs ++ ys) ≡ length xs + length ys = length_append xs ys in omega (arith, more)
 
 -- whether a key counts
 abbrev counts : Bool → Option (Unit {0}) → ℕ
@@ -67,7 +64,7 @@ counts_add =
     record {
       empty = λ keyspace none. ([], lists.empty keyspace none, refl);
       apart = λ one other both x y apart hx hy.
-          (hx.0 ++ hy.0, lists.apart one other both hx.0 hy.0 apart hx.1 hy.1, length_append hx.0 hy.0 ∙ ap (λ n. n + length hy.0) hx.2 ∙ ap (λ n. x + n) hy.2);
+          (hx.0 ++ hy.0, lists.apart one other both hx.0 hy.0 apart hx.1 hy.1, length-append hx.0 hy.0 ∙ ap (λ n. n + length hy.0) hx.2 ∙ ap (λ n. x + n) hy.2);
     }
 
 abbrev as_reply : ℕ → Reply

@@ -25,7 +25,7 @@ use crate::answers::{combine_parts, is_untold, missing, only_answer, tell_at, te
 use crate::combining::combine_answers;
 use crate::fault::CommandPlanFault;
 use crate::part::CommandPart;
-use crate::ways::{Way, way_of};
+use crate::ways::{Way, plan_by};
 use cluster_map::{ReadRoutingStrategy, SlotMap};
 use cluster_slots::NodeAddress;
 use redis_routing::{Names, Routable, RoutingInfo};
@@ -50,8 +50,8 @@ use std::marker::Model;
 /// ```
 #[derive(Drop)]
 pub struct CommandPlan<'a, R: Routable> {
-    command: &'a R,
-    way: Way<'a, R>,
+    pub(crate) command: &'a R,
+    pub(crate) way: Way<'a, R>,
 }
 
 impl<'a, R: Routable> Model for CommandPlan<'a, R> {
@@ -115,11 +115,10 @@ impl<'a, R: Routable> CommandPlan<'a, R> {
             names.read_only,
             names.registry,
         )?;
-        let Some(routing) = routing else {
-            return Err(CommandPlanFault::NotRoutable);
-        };
-        let way = way_of(alloc, command, names, &routing, slot_map, strategy, pick)?;
-        Ok(CommandPlan { command, way })
+        match routing {
+            Some(routing) => plan_by(alloc, command, names, &routing, slot_map, strategy, pick),
+            None => Err(CommandPlanFault::NotRoutable),
+        }
     }
 
     /// How many targets there are, which is at least one.

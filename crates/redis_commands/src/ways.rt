@@ -1,4 +1,4 @@
-ghost use Rattle.std.specs.Prelude.{◌≡◌, ◌⊎◌, [], ◌∷◌, true, map, Option, Some, None, IfOk, IfErr};
+ghost use Rattle.std.specs.Prelude.{◌≡◌, ◌<◌, ◌⊎◌, [], ◌∷◌, true, length, map, Option, Some, None, IfOk, IfErr};
 ghost use Rattle.cluster_map.specs.Targets.{addresses_behind};
 ghost use Rattle.redis_routing.specs.Command.{Arguments};
 ghost use Rattle.redis_routing.specs.Names.{names_in};
@@ -7,10 +7,11 @@ ghost use Rattle.redis_routing.specs.Routing.{routing};
 ghost use Rattle.redis_routing.specs.RoutingInfo.{as_routing, as_single_node, single_node};
 ghost use Rattle.redis_commands.specs.Rule.{rule_of, sent_by, by_policy};
 ghost use Rattle.redis_commands.specs.Targets.{AreTargets, IsPickOf, IsCommandPlanFault};
-ghost use Rattle.redis_commands.specs.Way.{IsWay, is_by_name, rule_in, targets_in, sent_in, told_in};
+ghost use Rattle.redis_commands.specs.Way.{is_by_name};
 
 use crate::answers::no_answers;
 use crate::fault::CommandPlanFault;
+use crate::plan::CommandPlan;
 use cluster_map::{ReadRoutingStrategy, SlotMap};
 use cluster_slots::NodeAddress;
 use redis_cluster::driver::SplitPlan;
@@ -31,8 +32,8 @@ pub(crate) enum Way<'a, R: Routable> {
     Split(Box<SplitPlan<'a, R>>, Vec<Option<RedisResult<Value>>>),
 }
 
-/// The way of a command that is routed so.
-pub(crate) fn way_of<'a, R: Routable>(
+/// The plan of a command that is routed so.
+pub(crate) fn plan_by<'a, R: Routable>(
     alloc: Global,
     command: &'a R,
     names: Names<'_>,
@@ -40,35 +41,39 @@ pub(crate) fn way_of<'a, R: Routable>(
     slot_map: &'a SlotMap,
     strategy: Option<&dyn ReadRoutingStrategy>,
     pick: usize,
-) -> Result<Way<'a, R>, CommandPlanFault>
+) -> Result<CommandPlan<'a, R>, CommandPlanFault>
     requires routed { routing (names_in names) (R.args command.now) ≡ Some (as_routing info.now) }
-    ensures targets { IfOk result (λ way. AreTargets strategy.entry (λ s. picks s.now) slot_map.now
-        pick (as_routing info.now) (targets_in way)) }
+    ensures targets { IfOk result (λ plan. AreTargets strategy.entry (λ s. picks s.now) slot_map.now
+        pick (as_routing info.now) plan.targets) }
     ensures rule { IfOk result
-        (λ way. rule_in way ≡ rule_of (R.args command.now) (as_routing info.now)) }
-    ensures sent { IfOk result (λ way. sent_in (R.args command.now) way
-        ≡ sent_by (R.args command.now) (rule_in way) (targets_in way)) }
-    ensures untold { IfOk result (λ way. told_in way ≡ map (λ target. None) (targets_in way)) }
-    ensures way { IfOk result (λ way. IsWay (R.args command.now) way) }
+        (λ plan. plan.rule ≡ rule_of (R.args command.now) (as_routing info.now)) }
+    ensures sent { IfOk result
+        (λ plan. plan.sent ≡ sent_by (R.args command.now) plan.rule plan.targets) }
+    ensures some { IfOk result (λ plan. 0 < length plan.targets) }
+    ensures untold { IfOk result (λ plan. plan.answers ≡ map (λ target. None) plan.targets) }
     ensures fault { IfErr result
         (λ fault. IsCommandPlanFault slot_map.now (names_in names.entry) (R.args command.now) fault) }
 {
     match info {
         RoutingInfo::SingleNode(single) => {
             let node = single_target(alloc, single, slot_map, strategy, pick)?;
-            Ok(Way::One(node, None))
+            let way = Way::One(node, None);
+            Ok(CommandPlan { command, way })
         }
         RoutingInfo::MultiNode((many, policy)) => match many {
             MultipleNodeRoutingInfo::AllNodes => {
-                several(alloc, slot_map.addresses_for_all_nodes(alloc)?, *policy)
+                let nodes = slot_map.addresses_for_all_nodes(alloc)?;
+                several(alloc, command, nodes, *policy)
             }
             MultipleNodeRoutingInfo::AllMasters => {
-                several(alloc, slot_map.addresses_for_all_primaries(alloc)?, *policy)
+                let nodes = slot_map.addresses_for_all_primaries(alloc)?;
+                several(alloc, command, nodes, *policy)
             }
             MultipleNodeRoutingInfo::MultiSlot(_) => {
                 let plan = SplitPlan::new(alloc, command, names, slot_map, strategy, pick)?;
                 let answers = no_answers(alloc, plan.len())?;
-                Ok(Way::Split(Box::new(alloc, plan)?, answers))
+                let way = Way::Split(Box::new(alloc, plan)?, answers);
+                Ok(CommandPlan { command, way })
             }
         },
     }
@@ -115,18 +120,18 @@ fn picked(nodes: Vec<&NodeAddress>, pick: usize) -> Result<&NodeAddress, Command
     Ok(nodes[pick % nodes.len()])
 }
 
-/// The way to each of these nodes.
+/// The plan of a command that goes to each of these nodes.
 fn several<'a, R: Routable>(
     alloc: Global,
+    command: &'a R,
     nodes: Vec<&'a NodeAddress>,
     policy: Option<ResponsePolicy>,
-) -> Result<Way<'a, R>, CommandPlanFault>
-    ensures targets { IfOk result (λ way. targets_in way ≡ addresses_behind nodes.entry.items) }
-    ensures rule { IfOk result (λ way. rule_in way ≡ by_policy policy) }
-    ensures sent { IfOk result (λ way. (args : Arguments)
-        → sent_in args way ≡ map (λ target. args) (targets_in way)) }
-    ensures untold { IfOk result (λ way. told_in way ≡ map (λ target. None) (targets_in way)) }
-    ensures way { IfOk result (λ way. (args : Arguments) → IsWay args way) }
+) -> Result<CommandPlan<'a, R>, CommandPlanFault>
+    ensures targets { IfOk result (λ plan. plan.targets ≡ addresses_behind nodes.entry.items) }
+    ensures rule { IfOk result (λ plan. plan.rule ≡ by_policy policy) }
+    ensures sent { IfOk result (λ plan. plan.sent ≡ map (λ target. R.args command.now) plan.targets) }
+    ensures some { IfOk result (λ plan. 0 < length plan.targets) }
+    ensures untold { IfOk result (λ plan. plan.answers ≡ map (λ target. None) plan.targets) }
     ensures fault { IfErr result (λ fault. (fault ≡ CommandPlanFault.Memory)
         ⊎ ((fault ≡ CommandPlanFault.NoNode) × (nodes.entry.items ≡ []))) }
 {
@@ -134,5 +139,6 @@ fn several<'a, R: Routable>(
         return Err(CommandPlanFault::NoNode);
     }
     let answers = no_answers(alloc, nodes.len())?;
-    Ok(Way::Several(nodes, policy, answers))
+    let way = Way::Several(nodes, policy, answers);
+    Ok(CommandPlan { command, way })
 }

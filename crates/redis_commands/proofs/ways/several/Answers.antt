@@ -5,7 +5,7 @@ use Rattle.redis_commands.proofs.Nodes.{one_for_each, same_for_each}
 use Rattle.redis_commands.proofs.ways.several.Goals as goal
 
 pub returns-clause-sent : goal.returns-clause-sent
-returns-clause-sent g c = λ args. same_for_each args c.args.nodes.items
+returns-clause-sent g c = same_for_each (g.R.Routable.args c.args.command.now) c.args.nodes.items
 
 pub returns-clause-untold : goal.returns-clause-untold
 returns-clause-untold g c =

@@ -6,7 +6,7 @@ use Rattle.redis_commands.specs.Targets.{IsCommandPlanFault, is_slotless}
 use Rattle.redis_commands.proofs.Nodes.{no_node, no_primary, one_for_each}
 use Rattle.redis_commands.proofs.RoutedSplits.{routed_by_name}
 use Rattle.redis_commands.proofs.Splits.{as_split, if_err, if_err_and, same_routes, same_rule, several_fault, split_fault, split_targets}
-use Rattle.redis_commands.proofs.ways.way_of.Goals as goal
+use Rattle.redis_commands.proofs.ways.plan_by.Goals as goal
 
 pub returns-in_err-plan-in-MultiSlot-clause-fault : goal.returns-in_err-plan-in-MultiSlot-clause-fault
 returns-in_err-plan-in-MultiSlot-clause-fault g c =
@@ -21,23 +21,23 @@ returns-in_err-plan-in-MultiSlot-clause-fault g c =
     (λ fault is. subst (IsCommandPlanFault entries names args) (sym is)
     (split_fault entries names args (route_lists parts.0.items) parts.1 m.policy (c.requires.routed ∙ ap Some to) err.field-0.0 err.ensures.fault err.ensures.not_split))
 
-pub returns-in_ok-addresses_for_all_nodes-in-AllNodes-clause-fault : goal.returns-in_ok-addresses_for_all_nodes-in-AllNodes-clause-fault
-returns-in_ok-addresses_for_all_nodes-in-AllNodes-clause-fault g c =
+pub returns-in_ok-nodes-in-AllNodes-clause-fault : goal.returns-in_ok-nodes-in-AllNodes-clause-fault
+returns-in_ok-nodes-in-AllNodes-clause-fault g c =
     let entries = c.args.slot_map.now in
     let slotless : is_slotless (as_routing c.args.info.now) ≡ true = search rules in
-    let found = c.in_ok-addresses_for_all_nodes-in-AllNodes in
+    let found = c.in_ok-nodes-in-AllNodes in
     if_err _ _ c.several.result c.several.ensures.fault
-    (several_fault entries (names_in c.args.names) (g.R.Routable.args c.args.command.now) (as_routing c.args.info.now) found.field-0.items c.requires.routed slotless
-    (no_node entries found.field-0.items found.ensures.all))
+    (several_fault entries (names_in c.args.names) (g.R.Routable.args c.args.command.now) (as_routing c.args.info.now) found.nodes.items c.requires.routed slotless
+    (no_node entries found.nodes.items found.ensures.all))
 
-pub returns-in_ok-addresses_for_all_primaries-in-AllMasters-clause-fault : goal.returns-in_ok-addresses_for_all_primaries-in-AllMasters-clause-fault
-returns-in_ok-addresses_for_all_primaries-in-AllMasters-clause-fault g c =
+pub returns-in_ok-nodes-in-AllMasters-clause-fault : goal.returns-in_ok-nodes-in-AllMasters-clause-fault
+returns-in_ok-nodes-in-AllMasters-clause-fault g c =
     let entries = c.args.slot_map.now in
     let slotless : is_slotless (as_routing c.args.info.now) ≡ true = search rules in
-    let found = c.in_ok-addresses_for_all_primaries-in-AllMasters in
+    let found = c.in_ok-nodes-in-AllMasters in
     if_err _ _ c.several-in-AllMasters.result c.several-in-AllMasters.ensures.fault
-    (several_fault entries (names_in c.args.names) (g.R.Routable.args c.args.command.now) (as_routing c.args.info.now) found.field-0.items c.requires.routed slotless
-    (no_primary entries found.field-0.items found.ensures.all))
+    (several_fault entries (names_in c.args.names) (g.R.Routable.args c.args.command.now) (as_routing c.args.info.now) found.nodes.items c.requires.routed slotless
+    (no_primary entries found.nodes.items found.ensures.all))
 
 pub returns-in_ok-new-in-MultiSlot-clause-targets : goal.returns-in_ok-new-in-MultiSlot-clause-targets
 returns-in_ok-new-in-MultiSlot-clause-targets g c =
