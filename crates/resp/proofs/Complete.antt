@@ -1,5 +1,5 @@
 -- What is incomplete can be completed.
-use Rattle.std.proofs.Common.{◌≡◌, ℕ, ℤ, pos, zero, suc, ◌-◌, ◌<◌, ◌≤◌, Bool, true, false, ◌&&◌, ◌||◌, eqb, ltb, List, [], ◌∷◌, ◌++◌, length, take, drop, codes, append_assoc, append-nil, Option, Some, None, Result, Ok, Err, refl, sym, ap, subst, ◌∙◌, arith, ◌⊎◌, inl, inr}
+use Rattle.std.proofs.Common.{◌≡◌, ℕ, ℤ, pos, zero, suc, ◌-◌, ◌<◌, ◌≤◌, Bool, true, false, ◌||◌, eqb, ltb, List, [], ◌∷◌, ◌++◌, length, take, drop, codes, append_assoc, append-nil, Option, Some, None, Result, Ok, Err, refl, sym, ap, subst, ◌∙◌, arith, ◌⊎◌, inl, inr}
 use Rattle.std.specs.Prelude.{bytes_eq}
 use Rattle.std.proofs.lemmas.Bool.{eqb-true, ltb-true, ltb-false}
 use Rattle.std.proofs.lemmas.Bool.Decides.{nat_tests}
@@ -9,8 +9,9 @@ use Rattle.std.proofs.lemmas.Grind.{common_steps}
 use Rattle.resp_core.specs.Reply.{nil, int, bulk}
 use Rattle.resp.specs.declared.fault.Fault.{Fault}
 use Rattle.resp.specs.declared.fault.Fault.TheVariants.{Incomplete, Malformed, TooDeep}
+use Rattle.resp.specs.declared.fault.ReadError.TheVariants as errors
 use Rattle.resp.specs.Forms.{Answer, answer_before, array_of_all, simple_of, number_up_to, int_in, length_in, crlf}
-use Rattle.resp.specs.Reading.{◌>>=◌, or_malformed, Items, after_line_end, text_until_line_end, after_text, is_before_digits, is_before_length, int_at, length_at, bytes_at, flat_at, times_at, array_items_at, array_at, front_at, answer_at, CanBeCompleted, HasNoAnswer, BeginsNone}
+use Rattle.resp.specs.Reading.{◌>>=◌, or_malformed, Items, after_line_end, text_until_line_end, after_text, is_before_digits, is_before_length, int_at, length_at, bytes_at, flat_at, times_at, array_items_at, array_at, front_at, answer_at, CanBeCompleted, HasNoAnswer, BeginsNone, Cause}
 use Rattle.resp_core.proofs.Cases.{by_test}
 use Rattle.resp.proofs.Steps.{chosen, done, failed, both}
 use Rattle.resp.proofs.Lines.{ended_longer, open_longer, ended_takes}
@@ -308,7 +309,7 @@ answer_completes (suc levels) = front_complete (array_at (times_at (answer_at le
 
 -- ---- the causes
 
-pub incomplete : (bytes : List ℕ) → answer_at 32 bytes ≡ Err Incomplete → CanBeCompleted bytes
+incomplete : (bytes : List ℕ) → answer_at 32 bytes ≡ Err Incomplete → CanBeCompleted bytes
 incomplete bytes e = grind (arith, answer_completes, answer_takes, append-nil)
 
 no_answer : {A : Type 0} (x : A) (f : Fault) → done x ≡ failed f → ⊥
@@ -320,8 +321,13 @@ none_stands bytes fault fails = λ a form rest is e. no_answer (a, rest) fault (
 begins_none : (bytes : List ℕ) (fault : Fault) → ((more : List ℕ) → answer_at 32 (bytes ++ more) ≡ Err fault) → BeginsNone bytes
 begins_none bytes fault stays = λ more. none_stands (bytes ++ more) fault (stays more)
 
-pub malformed : (bytes : List ℕ) → answer_at 32 bytes ≡ Err Malformed → BeginsNone bytes
+malformed : (bytes : List ℕ) → answer_at 32 bytes ≡ Err Malformed → BeginsNone bytes
 malformed bytes e = begins_none bytes Malformed (λ more. subst (λ (r : Result (Answer × List ℕ) Fault). Continues r more (answer_at 32 (bytes ++ more))) e (answer_continues 32 bytes more))
 
-pub too_deep : (bytes : List ℕ) → answer_at 32 bytes ≡ Err TooDeep → BeginsNone bytes
+too_deep : (bytes : List ℕ) → answer_at 32 bytes ≡ Err TooDeep → BeginsNone bytes
 too_deep bytes e = begins_none bytes TooDeep (λ more. subst (λ (r : Result (Answer × List ℕ) Fault). Continues r more (answer_at 32 (bytes ++ more))) e (answer_continues 32 bytes more))
+
+pub fault_cause : (bytes : List ℕ) (fault : Fault) → answer_at 32 bytes ≡ Err fault → Cause bytes (errors.Fault fault)
+fault_cause bytes Incomplete e = (e, (none_stands bytes Incomplete e, incomplete bytes e))
+fault_cause bytes Malformed e = (e, malformed bytes e)
+fault_cause bytes TooDeep e = (e, too_deep bytes e)

@@ -7,7 +7,8 @@ use Rattle.resp.specs.declared.stop.Stop.{Stop}
 use Rattle.resp.specs.declared.stop.Stop.TheVariants.{WantsMore, StopsAt}
 use Rattle.resp.specs.declared.fault.RequestFault.TheVariants.{Malformed}
 use Rattle.resp.specs.Forms.{crlf, line, IsRequest, bulk_form, request}
-use Rattle.resp.specs.Requests.{Read, and_then, byte_at, digits_at, line_at, so_many_at, word_at, bulk_at, bulks_at, request_at, rest_of, IsStopIn, fault_at, CanBeRequest, BeginsNoRequest, RequestCause}
+use Rattle.resp.specs.Reading.{rest_of}
+use Rattle.resp.specs.Requests.{Read, and_then, byte_at, digits_at, line_at, so_many_at, word_at, bulk_at, bulks_at, request_at, IsStopIn, fault_at, CanBeRequest, BeginsNoRequest, RequestCause}
 use Rattle.resp.proofs.NumberLines.{number_front, digits_again, digits_reader, digits_wants}
 use Rattle.resp.proofs.Readers.{read, no_read, no_stop, same_value, same_rest, Filled, IsReader, joint_reader, nothing_reader, nothing_begins, byte_reader, byte_front, byte_again, byte_wants, so_many_again, so_many_front, so_many_reader, so_many_begins}
 
@@ -241,18 +242,6 @@ cause_is bytes (StopsAt left) e = stops_there bytes left e
 
 pub only_this : (bytes rest : List ℕ) (args : Words) → request_at bytes ≡ Ok (args, rest) → (others : Words) (form more : List ℕ) → IsRequest others form → bytes ≡ form ++ more → (args ≡ others) × (rest ≡ more)
 only_this bytes rest args e others form more is same = grind (arith, read, request_again, same_value, same_rest)
-
--- ---- what follows alone
-
-pub rest_read : (r : Read Words) (rest : List ℕ) → rest_of r ≡ Ok rest → (args : Words) × (r ≡ Ok (args, rest))
-rest_read (Ok x) rest e =
-    let same : x.1 ≡ rest = cc in
-    (x.0, ap (λ (t : List ℕ). read x.0 t) same)
-rest_read (Err s) rest e = absurd cc
-
-pub rest_stopped : (r : Read Words) (stop : Stop) → rest_of r ≡ Err stop → r ≡ Err stop
-rest_stopped (Ok x) stop e = absurd cc
-rest_stopped (Err s) stop e = grind (arith, common_steps)
 
 -- ---- the loops over the bulk strings
 

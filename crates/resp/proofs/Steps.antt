@@ -1,7 +1,7 @@
 -- Steps of reading.
-use Rattle.std.proofs.Common.{◌≡◌, Bool, true, false, ◌&&◌, cond, Option, Some, None, Result, Ok, Err, refl, ◌⊎◌, inl, inr}
+use Rattle.std.proofs.Common.{◌≡◌, ℕ, Bool, true, false, ◌&&◌, cond, List, Option, Some, None, Result, Ok, Err, refl, ap, ◌⊎◌, inl, inr}
 use Rattle.resp.specs.declared.fault.Fault.{Fault}
-use Rattle.resp.specs.Reading.{◌>>=◌, or_malformed}
+use Rattle.resp.specs.Reading.{◌>>=◌, or_malformed, rest_of}
 
 pub bind_ok : {A B : Type 0} (r : Result A Fault) (f : A → Result B Fault) (y : B) → (r >>= f) ≡ Ok y → (x : A) × (r ≡ Ok x) × (f x ≡ Ok y)
 bind_ok (Ok x) f y e = (x, refl, e)
@@ -29,3 +29,15 @@ pub both : (a b : Bool) → (a && b) ≡ true → (a ≡ true) × (b ≡ true)
 both true true e = (refl, refl)
 both true false e = absurd cc
 both false b e = absurd cc
+
+-- ---- what follows alone
+
+pub rest_read : {A E : Type 0} (r : Result (A × List ℕ) E) (rest : List ℕ) → rest_of r ≡ Ok rest → (x : A) × (r ≡ Ok (x, rest))
+rest_read (Ok x) rest e =
+    let same : x.1 ≡ rest = cc in
+    (x.0, ap (λ (t : List ℕ). Ok (x.0, t)) same)
+rest_read (Err s) rest e = absurd cc
+
+pub rest_stopped : {A E : Type 0} (r : Result (A × List ℕ) E) (stop : E) → rest_of r ≡ Err stop → r ≡ Err stop
+rest_stopped (Ok x) stop e = absurd cc
+rest_stopped (Err s) stop e = cc

@@ -24,6 +24,16 @@ abbrev pub Gives : {X Y : Type 0} → (X → Y) → Result X ReadError → Resul
 Gives view (Ok x) read = read ≡ Ok (view x)
 Gives view (Err e) read = Fails e read
 
+-- What a function returned, seen by view, is what reading gives.
+abbrev pub IsRead : {E X Y : Type 0} → (X → Y) → Result X E → Result Y E → Type 0
+IsRead view (Ok x) read = read ≡ Ok (view x)
+IsRead view (Err e) read = read ≡ Err e
+
+-- what follows, without what was read
+abbrev pub rest_of : {A E : Type 0} → Result (A × List ℕ) E → Result (List ℕ) E
+rest_of (Ok x) = Ok x.1
+rest_of (Err e) = Err e
+
 -- ---- a line
 
 -- the text of the line that begins here

@@ -20,11 +20,6 @@ abbrev pub and_then : {A B : Type 0} → Read A → (A → List ℕ → Read B) 
 and_then (Ok x) next = next x.0 x.1
 and_then (Err stop) next = Err stop
 
--- What a function returned, seen by view, is what reading gives.
-abbrev pub IsRead : {X Y : Type 0} → (X → Y) → Result X Stop → Result Y Stop → Type 0
-IsRead view (Ok x) read = read ≡ Ok (view x)
-IsRead view (Err stop) read = read ≡ Err stop
-
 -- The function stopped as reading does, or memory ran out.
 abbrev pub Stopped : {Y : Type 0} → Unread → Result Y Stop → Type 0
 Stopped unread.Memory read = Unit {0}
@@ -88,11 +83,6 @@ bulks_at (suc n) bytes = and_then (bulk_at bytes) λ word after.
 
 unfoldable pub request_at : List ℕ → Read (List (List ℕ))
 request_at bytes = and_then (line_at 42 bytes) bulks_at
-
--- what follows, without what was read
-abbrev pub rest_of : {A : Type 0} → Read A → Result (List ℕ) Stop
-rest_of (Ok x) = Ok x.1
-rest_of (Err stop) = Err stop
 
 -- ---- why nothing was read
 

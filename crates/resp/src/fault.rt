@@ -1,6 +1,6 @@
 ghost use Rattle.std.specs.Prelude.{◌≡◌, Some};
 ghost use Rattle.resp.specs.Texts.{fault_text, read_error_text, request_fault_text, request_error_text, write_error_text};
-ghost use Rattle.resp.specs.declared.fault.ReadError.TheVariants.{Memory};
+ghost use Rattle.resp.specs.declared.fault.ReadError.TheVariants as read;
 ghost use Rattle.resp.specs.declared.fault.WriteError.TheVariants as write;
 
 use std::alloc::{AllocError, AllocFailed};
@@ -55,7 +55,7 @@ impl fmt::Display for ReadError {
 impl Error for ReadError {}
 
 impl From<AllocError> for ReadError {
-    ghost from_gives = { λ _ e. e ≡ Memory };
+    ghost from_gives = { λ _ e. e ≡ read.Memory };
 
     fn from(_e: AllocError) -> ReadError {
         ReadError::Memory
@@ -63,10 +63,18 @@ impl From<AllocError> for ReadError {
 }
 
 impl<T: Drop> From<AllocFailed<T>> for ReadError {
-    ghost from_gives = { λ _ e. e ≡ Memory };
+    ghost from_gives = { λ _ e. e ≡ read.Memory };
 
     fn from(_e: AllocFailed<T>) -> ReadError {
         ReadError::Memory
+    }
+}
+
+impl From<Fault> for ReadError {
+    ghost from_gives = { λ fault e. e ≡ read.Fault fault };
+
+    fn from(fault: Fault) -> ReadError {
+        ReadError::Fault(fault)
     }
 }
 

@@ -1,6 +1,7 @@
-ghost use Rattle.std.specs.Prelude.{◌≡◌, IfOk};
+ghost use Rattle.std.specs.Prelude.{◌≡◌, Ok, Some, IfOk};
 ghost use Rattle.resp.specs.Forms.{answer, simple_of};
-ghost use Rattle.resp.specs.Reading.{Gives, text_until_line_end, after_text, after_line_end, is_before_digits, is_before_length, int_at, length_at, bytes_at, flat_at};
+ghost use Rattle.resp.specs.Reading.{Gives, IsRead, text_until_line_end, after_text, after_line_end, is_before_digits, is_before_length, int_at, length_at, bytes_at, flat_at};
+ghost use Rattle.resp_core.specs.Reply.{bulk};
 ghost use Rattle.resp_core.specs.View.{view};
 
 use crate::fault::{Fault, ReadError};
@@ -23,13 +24,13 @@ pub(super) fn line_of(bytes: &[u8]) -> (&[u8], &[u8])
 }
 
 /// What follows the line's end that begins here.
-fn end_of(after: &[u8]) -> Result<&[u8], ReadError>
-    ensures { Gives (λ x. x.now) result (after_line_end after.now) }
+pub(super) fn end_of(after: &[u8]) -> Result<&[u8], Fault>
+    ensures { IsRead (λ rest. rest.now) result (after_line_end after.now) }
 {
     match after {
         [b'\r', b'\n', rest @ ..] => Ok(rest),
-        [] | [b'\r'] => Err(ReadError::Fault(Fault::Incomplete)),
-        _ => Err(ReadError::Fault(Fault::Malformed)),
+        [] | [b'\r'] => Err(Fault::Incomplete),
+        _ => Err(Fault::Malformed),
     }
 }
 
@@ -45,16 +46,18 @@ fn is_before_length(text: &[u8], after: &[u8]) -> bool
     after.is_empty() && (text.is_empty() || text == b"-".as_slice())
 }
 
-/// The number of a line, by its text and what follows the text.
+/// The number of a line, by its text and what follows the text. Inline, since it is called for each
+/// number of a reply.
+#[inline(always)]
 #[tactic(auto, unfolding(crate::specs::Reading::int_at))]
-fn int_at<'a>(text: &[u8], after: &'a [u8]) -> Result<(i64, &'a [u8]), ReadError>
-    ensures { Gives (λ x. (x.0, x.1.now)) result (int_at text.now after.now) }
+pub(super) fn int_at<'a>(text: &[u8], after: &'a [u8]) -> Result<(i64, &'a [u8]), Fault>
+    ensures { IsRead (λ x. (x.0, x.1.now)) result (int_at text.now after.now) }
 {
     if is_before_digits(text, after) {
-        return Err(ReadError::Fault(Fault::Incomplete));
+        return Err(Fault::Incomplete);
     }
     let Some(number) = int_of(text) else {
-        return Err(ReadError::Fault(Fault::Malformed));
+        return Err(Fault::Malformed);
     };
     let rest = end_of(after)?;
     Ok((number, rest))
@@ -62,24 +65,34 @@ fn int_at<'a>(text: &[u8], after: &'a [u8]) -> Result<(i64, &'a [u8]), ReadError
 
 /// The length in a line, by its text and what follows the text. `None` for -1.
 #[tactic(auto, unfolding(crate::specs::Reading::length_at))]
-pub(super) fn length_at<'a>(
-    text: &[u8],
-    after: &'a [u8],
-) -> Result<(Option<u64>, &'a [u8]), ReadError>
-    ensures { Gives (λ x. (x.0, x.1.now)) result (length_at text.now after.now) }
+pub(super) fn length_at<'a>(text: &[u8], after: &'a [u8]) -> Result<(Option<u64>, &'a [u8]), Fault>
+    ensures { IsRead (λ x. (x.0, x.1.now)) result (length_at text.now after.now) }
 {
     if text == b"-1".as_slice() {
         let rest = end_of(after)?;
         return Ok((None, rest));
     }
     if is_before_length(text, after) {
-        return Err(ReadError::Fault(Fault::Incomplete));
+        return Err(Fault::Incomplete);
     }
     let Some(length) = length_of(text) else {
-        return Err(ReadError::Fault(Fault::Malformed));
+        return Err(Fault::Malformed);
     };
     let rest = end_of(after)?;
     Ok((Some(length), rest))
+}
+
+/// The bytes of a bulk string of this length, and what follows its end.
+#[tactic(auto, unfolding(crate::specs::Reading::bytes_at))]
+pub(super) fn bulk_of(length: u64, rest: &[u8]) -> Result<(&[u8], &[u8]), Fault>
+    ensures { IsRead (λ x. (Ok (bulk x.0.now), x.1.now)) result (bytes_at (Some length) rest.now) }
+{
+    if (rest.len() as u64) < length {
+        return Err(Fault::Incomplete);
+    }
+    let (bytes, after) = rest.split_at(length as usize);
+    let rest = end_of(after)?;
+    Ok((bytes, rest))
 }
 
 /// A bulk string of this length, or nil for `None`.
@@ -90,11 +103,7 @@ fn bytes_of(alloc: Global, length: Option<u64>, rest: &[u8]) -> Result<(Response
     let Some(length) = length else {
         return Ok((Response::Value(Value::Nil), rest));
     };
-    if (rest.len() as u64) < length {
-        return Err(ReadError::Fault(Fault::Incomplete));
-    }
-    let (bytes, after) = rest.split_at(length as usize);
-    let rest = end_of(after)?;
+    let (bytes, rest) = bulk_of(length, rest)?;
     Ok((
         Response::Value(Value::BulkString(Vec::from_slice(alloc, bytes)?)),
         rest,

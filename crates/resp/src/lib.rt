@@ -7,6 +7,7 @@ mod numbers;
 mod reading;
 mod requests;
 mod response;
+mod skipping;
 mod stop;
 mod writing;
 
@@ -14,4 +15,5 @@ pub use fault::{Fault, ReadError, RequestError, RequestFault, WriteError};
 pub use reading::{MAX_LEVELS, read};
 pub use requests::{read_request, request_len};
 pub use response::Response;
-pub use writing::{write, write_command};
+pub use skipping::reply_len;
+pub use writing::{push_command, write, write_command};

@@ -30,7 +30,8 @@ pub(super) fn length_of(text: &[u8]) -> Option<u64>
     number_of(text, 1 << 63)
 }
 
-/// A number of 64 bits, with or without a sign.
+/// A number of 64 bits, with or without a sign. Inline in `int_at`, wherever that is called.
+#[inline(always)]
 #[tactic(auto, unfolding(crate::specs::Forms::int_in))]
 pub(super) fn int_of(text: &[u8]) -> Option<i64>
     ensures { result ≡ int_in text.now }

@@ -1,11 +1,18 @@
 ghost use Rattle.std.specs.Prelude.{◌≡◌, ◌++◌, ◌<◌, ◌^◌, ℕ, List, length, Ok, true, false, IfOk, IfErr, MatchResult};
 ghost use Rattle.resp.specs.Forms.{IsRequest};
-ghost use Rattle.resp.specs.Requests.{IsRead, Tells, byte_at, with_digit, digits_at, line_at, so_many_at, bulk_at, bulks_at, request_at, rest_of, IsStopIn, fault_at, RequestCause, RequestErrorCause};
+ghost use Rattle.resp.specs.Reading.{IsRead, rest_of};
+ghost use Rattle.resp.specs.Requests.{Tells, byte_at, with_digit, digits_at, line_at, so_many_at, bulk_at, bulks_at, request_at, IsStopIn, fault_at, RequestCause, RequestErrorCause};
 
 use crate::fault::{RequestError, RequestFault};
 use crate::stop::{Stop, Unread};
 use resp_core::Cmd;
 use std::alloc::Global;
+
+/// The most arguments that room is made for at first, since a count may announce any number.
+const MOST_ITEMS: u64 = 8;
+
+/// The most bytes that room is made for at first.
+const MOST_BYTES: usize = 64;
 
 /// Reads the request at the front of some bytes, and returns it with the bytes after it. A request
 /// is an array of bulk strings, as `*1\r\n$4\r\nPING\r\n`.
@@ -81,7 +88,8 @@ fn command_at(alloc: Global, bytes: &[u8]) -> Result<(Cmd, &[u8]), Unread>
 fn bulks_at(alloc: Global, count: u64, bytes: &[u8]) -> Result<(Cmd, &[u8]), Unread>
     ensures { Tells (λ x. (x.0, x.1.now)) result (bulks_at count bytes.now) }
 {
-    let mut words = Cmd::new(alloc);
+    let few = count.min(MOST_ITEMS) as usize;
+    let mut words = Cmd::with_room(alloc, few, bytes.len().min(MOST_BYTES))?;
     let mut rest = bytes;
     for _ in 0..count {
         let (word, after) = bulk_at(rest)?;

@@ -2,7 +2,7 @@ ghost use Rattle.std.specs.Prelude.{◌≡◌, ◌++◌, ◌≤◌, ◌<◌, ◌
 ghost use Rattle.std.specs.List.{flat_map, AllByRecursion};
 ghost use Rattle.resp_core.specs.Reply.{simple, replies_of};
 ghost use Rattle.resp_core.specs.View.{view};
-ghost use Rattle.resp.specs.Forms.{line, form, forms, bulk_form, IsRequest, depth, depth_items, HasForm, HaveForm, IsInLine, IsForm};
+ghost use Rattle.resp.specs.Forms.{line, form, forms, bulk_form, request, IsRequest, depth, depth_items, HasForm, HaveForm, IsInLine, IsForm};
 
 use crate::fault::WriteError;
 use crate::reading::MAX_LEVELS;
@@ -41,13 +41,27 @@ pub fn write_command(alloc: Global, command: &Cmd) -> Result<Vec<u8>, AllocError
     ensures { IfOk result (λ bytes. IsRequest command.now bytes.items) }
 {
     let mut out = Vec::new(alloc);
-    push_count(&mut out, b'*', command.len())?;
+    push_command(&mut out, command)?;
+    Ok(out)
+}
+
+/// Appends the bytes of a request to a buffer, as `write_command` returns them.
+///
+/// # Errors
+///
+/// If memory runs out. Then a beginning of the request may stand at the end of the buffer.
+pub fn push_command(out: &mut Vec<u8>, command: &Cmd) -> Result<(), AllocError>
+    ensures bytes { OnOk result (out.new.items ≡ out.old.items ++ request command.now) }
+    // `read_request` reads the appended bytes as this command.
+    ensures readable { OnOk result (IsRequest command.now (request command.now)) }
+{
+    push_count(out, b'*', command.len())?;
     for index in 0..command.len() {
         if let Some(arg) = command.arg_idx(index) {
-            push_bulk(&mut out, arg)?;
+            push_bulk(out, arg)?;
         }
     }
-    Ok(out)
+    Ok(())
 }
 
 fn push_bulk(out: &mut Vec<u8>, bytes: &[u8]) -> Result<(), AllocError>

@@ -1,5 +1,6 @@
 //! Commands, values and errors.
 use fixtures::{bad_row, cmd, debug, equality, number, plain, shown, two, value};
+use resp::write_command;
 use resp_core::{Cmd, ErrorKind, RedisError, RedisResult};
 use std::alloc::Global;
 
@@ -10,6 +11,7 @@ pub fn call(alloc: Global, name: &str, words: &str) -> RedisResult<String> {
         "with_capacity" => debug(alloc, &Cmd::with_capacity(alloc, number(words)?)?),
         "with_room" => with_room(alloc, words),
         "arg" => arg(alloc, words),
+        "request" => debug(alloc, &write_command(alloc, &cmd(alloc, words)?)?),
         "copied" => equality(alloc, &cmd(alloc, words)?),
         "copied_value" => equality(alloc, &value(alloc, words)?),
         "error" => shown(alloc, &error(alloc, words)?),

@@ -3,6 +3,7 @@ use Rattle.std.proofs.lemmas.Result.{err_from_is_err_and}
 use Rattle.resp_core.specs.Reply.{Reply}
 use Rattle.resp_core.proofs.Views.{view-Nil}
 use Rattle.resp.specs.declared.fault.Fault.{Fault}
+use Rattle.resp.specs.declared.fault.ReadError.TheVariants as errors
 use Rattle.resp.specs.Forms.{Answer, answer, answers_in, answer_after}
 use Rattle.resp.specs.Reading.{Gives, answer_at, times_at}
 use Rattle.resp.proofs.Steps.{ok_is}
@@ -39,7 +40,7 @@ pub response_at-returns-in_err-count : goal.response_at-returns-in_err-count
 response_at-returns-in_err-count t c =
     let above : 0 < c.args.levels = omega arith in
     let p = err_from_is_err_and c.from_residual.result c.from_residual.ensures.1 in
-    rw (p.1, p.2) (count_fails c.in_err-count.field-0.0 c.args.levels c.args.bytes.now c.line_of.result.0.now c.line_of.result.1.now c.in-len1-up.len_at_least c.if-mark-ne42.false above c.line_of.ensures.text c.line_of.ensures.after c.in_err-count.ensures)
+    rw (p.1, p.2) (count_fails (errors.Fault c.in_err-count.field-0.0) c.args.levels c.args.bytes.now c.line_of.result.0.now c.line_of.result.1.now c.in-len1-up.len_at_least c.if-mark-ne42.false above c.line_of.ensures.text c.line_of.ensures.after c.in_err-count.ensures)
 
 pub response_at-returns-in_default-count : goal.response_at-returns-in_default-count
 response_at-returns-in_default-count t c =

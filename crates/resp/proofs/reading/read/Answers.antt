@@ -1,12 +1,11 @@
 use Rattle.std.proofs.Common.{◌≡◌, ◌++◌, ℕ, List, Bor, IfOk, IfErr, Result, Ok, Err, ap, subst, ◌∙◌}
 use Rattle.resp.specs.declared.response.Response.{Response}
-use Rattle.resp.specs.declared.fault.Fault.TheVariants.{Incomplete, Malformed, TooDeep}
 use Rattle.resp.specs.declared.fault.ReadError.{ReadError}
 use Rattle.resp.specs.declared.fault.ReadError.TheVariants as errors
 use Rattle.resp.specs.Forms.{Answer, answer, IsForm}
 use Rattle.resp.specs.Reading.{Gives, Cause, answer_at}
 use Rattle.resp.proofs.Grammar.{answer_takes, answer_again}
-use Rattle.resp.proofs.Complete.{none_stands, incomplete, malformed, too_deep}
+use Rattle.resp.proofs.Complete.{fault_cause}
 use Rattle.resp.proofs.reading.read.Goals as goal
 
 is_found : (bytes : List ℕ) (r : Result (Response × Bor (List ℕ)) ReadError) → Gives {Y = Answer × List ℕ} (λ x. (answer x.0, x.1.now)) r (answer_at 32 bytes)
@@ -17,9 +16,7 @@ is_found bytes (Err e) given = tt
 has_cause : (bytes : List ℕ) (r : Result (Response × Bor (List ℕ)) ReadError) → Gives {Y = Answer × List ℕ} (λ x. (answer x.0, x.1.now)) r (answer_at 32 bytes) → IfErr r (λ e. Cause bytes e)
 has_cause bytes (Ok x) given = tt
 has_cause bytes (Err errors.Memory) given = tt
-has_cause bytes (Err (errors.Fault Incomplete)) given = (given, (none_stands bytes Incomplete given, incomplete bytes given))
-has_cause bytes (Err (errors.Fault Malformed)) given = (given, malformed bytes given)
-has_cause bytes (Err (errors.Fault TooDeep)) given = (given, too_deep bytes given)
+has_cause bytes (Err (errors.Fault fault)) given = fault_cause bytes fault given
 
 pub returns-clause-found : goal.returns-clause-found
 returns-clause-found c = is_found c.args.bytes.now c.response_at.result c.response_at.ensures

@@ -1,6 +1,6 @@
 use Rattle.std.proofs.Common.{sym, ap, ◌∙◌}
 use Rattle.std.proofs.lemmas.Result.{err_from_is_err_and}
-use Rattle.resp.specs.Requests.{rest_of}
+use Rattle.resp.specs.Reading.{rest_of}
 use Rattle.resp.proofs.RequestGrammar.{rest_more, bulk_fails, bulks_done}
 use Rattle.resp.proofs.requests.after_bulks.Goals as goal
 

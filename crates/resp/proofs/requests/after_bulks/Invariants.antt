@@ -1,5 +1,6 @@
 use Rattle.std.proofs.Common.{◌≡◌, ◌-◌}
-use Rattle.resp.specs.Requests.{bulks_at, rest_of}
+use Rattle.resp.specs.Reading.{rest_of}
+use Rattle.resp.specs.Requests.{bulks_at}
 use Rattle.resp.proofs.requests.after_bulks.Given as goal
 
 -- what follows the words that are left

@@ -5,11 +5,11 @@ use Rattle.resp.proofs.RequestGrammar.{with_words, words_begin, words_more, bulk
 use Rattle.resp.proofs.requests.bulks_at.Goals as goal
 
 pub loop-init : goal.loop-init
-loop-init c = rw c.new-words.ensures (words_begin c.args.count c.args.bytes.now)
+loop-init c = rw c.in_ok-words.ensures (words_begin c.args.count c.args.bytes.now)
 
 pub returns-in_err-word : goal.returns-in_err-word
 returns-in_err-word c =
-    let p = err_from_is_err_and c.from_residual.result c.from_residual.ensures.1 in
+    let p = err_from_is_err_and c.from_residual-in_err-word.result c.from_residual-in_err-word.ensures.1 in
     rw (p.1, p.2) (sym c.loop.invariant ∙ ap (with_words c.loop.words) (bulk_fails c.args.count c.loop.counter c.loop.rest.now c.loop-test.true c.in_err-word.field-0.0 c.in_err-word.ensures))
 
 pub loop-preserved : goal.loop-preserved

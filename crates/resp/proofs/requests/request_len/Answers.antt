@@ -1,8 +1,10 @@
 use Rattle.std.proofs.Common.{◌≡◌, ◌+◌, ◌-◌, ◌++◌, ℕ, List, Ok, length, ap, ◌∙◌, arith}
 use Rattle.std.proofs.lemmas.List.{length-append}
 use Rattle.resp.specs.Forms.{IsRequest}
-use Rattle.resp.specs.Requests.{request_at, rest_of}
-use Rattle.resp.proofs.RequestGrammar.{request_front, only_this, only_none, stop_is_in, cause_is, rest_read, rest_stopped}
+use Rattle.resp.specs.Reading.{rest_of}
+use Rattle.resp.specs.Requests.{request_at}
+use Rattle.resp.proofs.Steps.{rest_read, rest_stopped}
+use Rattle.resp.proofs.RequestGrammar.{request_front, only_this, only_none, stop_is_in, cause_is}
 use Rattle.resp.proofs.requests.request_len.Goals as goal
 
 -- what is read, and how long it is

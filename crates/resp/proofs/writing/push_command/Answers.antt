@@ -1,10 +1,10 @@
-use Rattle.std.proofs.Common.{Vec, Global, ◌≡◌, ◌++◌, [], ◌<◌, ◌^◌, ℕ, List, length, decimal, get_or, take, ap, subst, ◌∙◌, arith}
+use Rattle.std.proofs.Common.{Vec, Global, ◌≡◌, ◌++◌, [], ◌<◌, ◌^◌, ℕ, List, length, decimal, get_or, take, refl, ap, subst, ◌∙◌, arith}
 use Rattle.std.specs.List.{flat_map, AllByRecursion}
 use Rattle.std.proofs.lemmas.List.{take_all}
-use Rattle.resp.specs.Forms.{line, bulk_form, request}
+use Rattle.resp.specs.Forms.{line, bulk_form}
 use Rattle.resp.proofs.Written.{words_more, word_at, none_at, short_more}
-use Rattle.resp.proofs.writing.write_command.Goals as goal
-use Rattle.resp.proofs.writing.write_command.Goals.{in-Some+in_ok-push_bulk, in_default}
+use Rattle.resp.proofs.writing.push_command.Goals as goal
+use Rattle.resp.proofs.writing.push_command.Goals.{in-Some+in_ok-push_bulk, in_default}
 
 pub loop-index-preserved : goal.loop-index-preserved
 loop-index-preserved c =
@@ -17,16 +17,21 @@ loop-index-preserved c =
           let short : length w.in-Some.arg.now < 2 ^ 63 = w.in_ok-push_bulk.ensures.short in (
             ap (λ (v : Vec ℕ Global). v.items) w.out-is ∙ w.in_ok-push_bulk.ensures.bytes
                 ∙ ap (λ (t : List ℕ). t ++ bulk_form w.in-Some.arg.now) c.loop-index.invariant.0
-                ∙ words_more [] (line 42 (decimal (length args))) args index w.in-Some.arg.now lt is,
+                ∙ words_more c.args.out.now.items (line 42 (decimal (length args))) args index w.in-Some.arg.now lt is,
             short_more args index w.in-Some.arg.now lt is short c.loop-index.invariant.1,
           )
       | in_default w ↦ absurd (none_at args index lt w.in_default.ensures.item)
     ]
 
-pub returns : goal.returns
-returns c =
+pub returns-clause-bytes : goal.returns-clause-bytes
+returns-clause-bytes c =
+    let args = c.args.command.now in
+    let whole : take c.loop-index.index args ≡ args = take_all c.loop-index.index args (omega arith) in
+    c.loop-index.invariant.0 ∙ ap (λ (ws : List (List ℕ)). c.args.out.now.items ++ (line 42 (decimal (length args)) ++ flat_map bulk_form ws)) whole
+
+pub returns-clause-readable : goal.returns-clause-readable
+returns-clause-readable c =
     let args = c.args.command.now in
     let whole : take c.loop-index.index args ≡ args = take_all c.loop-index.index args (omega arith) in
     let few : length args < 2 ^ 63 = omega arith in
-    let bytes : c.loop-index.out.items ≡ request args = c.loop-index.invariant.0 ∙ ap (λ (ws : List (List ℕ)). line 42 (decimal (length args)) ++ flat_map bulk_form ws) whole in
-    (bytes, few, subst (AllByRecursion (λ w. length w < 2 ^ 63)) whole c.loop-index.invariant.1)
+    (refl, few, subst (AllByRecursion (λ w. length w < 2 ^ 63)) whole c.loop-index.invariant.1)
