@@ -46,13 +46,17 @@ pub record IsSplitRequest (names : Names) (bytes : List ℕ) (split : Split) : T
   pub is : IsRequest words bytes
   pub split_is : IsSplitOf names (map Some words) split
 
--- The requests of the parts, one for each route, end to end, and where each ends.
-pub record AreParts (split : Split) (parts : Parts) : Type 0 where
+-- The bytes are requests with these arguments, end to end, and this is where each ends.
+pub record AreWritten (arguments : List Arguments) (ends bytes : List ℕ) : Type 0 where
   pub commands : List Words
-  pub each : map (map Some) commands ≡ map (split_part split) (slots_of split.routes)
+  pub each : map (map Some) commands ≡ arguments
+  pub ends_are : ends ≡ item_ends 0 (map request commands)
+  pub bytes_are : bytes ≡ flat_map request commands
+
+-- The requests of the parts, one for each route.
+pub record AreParts (split : Split) (parts : Parts) : Type 0 where
   pub routes : parts.routes.items ≡ map (λ r. r.0) split.routes
-  pub ends : parts.ends.items ≡ item_ends 0 (map request commands)
-  pub bytes : parts.bytes.items ≡ flat_map request commands
+  pub written : AreWritten (map (split_part split) (slots_of split.routes)) parts.ends.items parts.bytes.items
 
 -- why the bytes are not split: they are not one request, or not a complete multi-key command
 abbrev pub IsUnsplit : Names → List ℕ → BytesFault → Type 0

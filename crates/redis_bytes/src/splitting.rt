@@ -1,18 +1,14 @@
-ghost use Rattle.std.specs.Prelude.{◌≡◌, ◌++◌, Some, map, IfOk, OnOk, IfErr, MatchResult};
-ghost use Rattle.std.specs.List.{flat_map};
-ghost use Rattle.resp.specs.Forms.{request};
-ghost use Rattle.resp_core.specs.ItemEnds.{item_ends};
+ghost use Rattle.std.specs.Prelude.{◌≡◌, map, IfOk, IfErr, MatchResult};
 ghost use Rattle.redis_routing.specs.Names.{names_in};
 ghost use Rattle.redis_routing.specs.RoutingInfo.{route_lists};
 ghost use Rattle.redis_routing.specs.Split.{Split, slots_of, split_part};
-ghost use Rattle.redis_bytes.specs.Requests.{IsSplitRequest, AreParts, IsUnsplit};
+ghost use Rattle.redis_bytes.specs.Requests.{IsSplitRequest, AreParts, AreWritten, IsUnsplit};
 
 use crate::fault::BytesFault;
 use crate::requests::command_in;
 use cluster_slots::Route;
 use redis_routing::{Names, Routable, SplitCommand};
-use resp::write_command;
-use resp_core::Cmd;
+use resp::push_command;
 use std::alloc::{AllocError, Global};
 
 /// The parts of a request: for each its route, and where its bytes end among those of all parts.
@@ -57,8 +53,7 @@ fn parts_of<R: Routable>(alloc: Global, split: &SplitCommand<'_, R>) -> Result<P
     ensures { IfOk result (λ parts. AreParts split.now parts) }
 {
     let routes = routes_in(alloc, split.routes())?;
-    let parts = parts_in(alloc, split)?;
-    let (ends, bytes) = written(alloc, &parts)?;
+    let (ends, bytes) = written(alloc, split)?;
     Ok(Parts {
         routes,
         ends,
@@ -76,35 +71,20 @@ fn routes_in(alloc: Global, routes: &[(Route, Vec<usize>)]) -> Result<Vec<Route>
     Ok(found)
 }
 
-/// The part of each route.
-fn parts_in<R: Routable>(alloc: Global, split: &SplitCommand<'_, R>) -> Result<Vec<Cmd>, AllocError>
-    ensures { IfOk result (λ parts. map (map Some) parts.items
-        ≡ map (split_part split.now) (slots_of split.now.routes)) }
+/// The requests of the parts, one after the other, and where each ends.
+fn written<R: Routable>(
+    alloc: Global,
+    split: &SplitCommand<'_, R>,
+) -> Result<(Vec<usize>, Vec<u8>), AllocError>
+    ensures { IfOk result (λ x.
+        AreWritten (map (split_part split.now) (slots_of split.now.routes)) x.0.items x.1.items) }
 {
-    let mut parts = Vec::with_capacity(alloc, split.len())?;
-    for number in 0..split.len() {
-        parts.push(split.part(alloc, number)?)?;
-    }
-    Ok(parts)
-}
-
-/// The requests of some commands, one after the other, and where each ends.
-fn written(alloc: Global, commands: &[Cmd]) -> Result<(Vec<usize>, Vec<u8>), AllocError>
-    ensures { IfOk result (λ found. (found.0.items ≡ item_ends 0 (map request commands.now))
-        × (found.1.items ≡ flat_map request commands.now)) }
-{
-    let mut ends = Vec::with_capacity(alloc, commands.len())?;
+    let mut ends = Vec::with_capacity(alloc, split.len())?;
     let mut bytes = Vec::new(alloc);
-    for command in commands {
-        push_command(alloc, &mut bytes, command)?;
+    for number in 0..split.len() {
+        let part = split.part(alloc, number)?;
+        push_command(&mut bytes, &part)?;
         ends.push(bytes.len())?;
     }
     Ok((ends, bytes))
-}
-
-fn push_command(alloc: Global, bytes: &mut Vec<u8>, command: &Cmd) -> Result<(), AllocError>
-    ensures { OnOk result (bytes.new.items ≡ bytes.old.items ++ request command.now) }
-{
-    let one = write_command(alloc, command)?;
-    bytes.extend_from_slice(&one)
 }

@@ -1,11 +1,8 @@
-use Rattle.std.proofs.Common.{◌≡◌, take, map}
-use Rattle.std.specs.List.{flat_map}
-use Rattle.resp_core.specs.ItemEnds.{item_ends}
-use Rattle.resp.specs.Forms.{request}
+use Rattle.std.proofs.Common.{map, take}
+use Rattle.redis_routing.specs.Split.{slots_of, split_part}
+use Rattle.redis_bytes.specs.Requests.{AreWritten}
 use Rattle.redis_bytes.proofs.splitting.written.Given as goal
 
-abbrev pub invariant-loop-command : goal.invariant-loop-command
-invariant-loop-command l = record {
-  ends : l.ends.items ≡ item_ends 0 (map request (take l.command-index l.commands));
-  bytes : l.bytes.items ≡ flat_map request (take l.command-index l.commands);
-}
+-- the parts of the first slots are written
+abbrev pub invariant-loop-number : goal.invariant-loop-number
+invariant-loop-number g l = AreWritten (map (split_part l.split) (take l.number (slots_of l.split.routes))) l.ends.items l.bytes.items
