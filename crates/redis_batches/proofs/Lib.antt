@@ -29,7 +29,6 @@ pub mod Given
 pub mod Errors
 pub mod Untaken
 pub mod Counting
-pub mod Primaries
 pub mod Driving
 pub mod Again
 pub mod GoOn

@@ -1,45 +1,25 @@
--- Parts are placed one by one, up to the first whose slot has no node.
-use Rattle.std.proofs.Common.{◌≡◌, ◌<◌, ◌+◌, ℕ, List, [], ◌∷◌, ◌++◌, Option, Some, Result, Ok, Err, IfErr, IsErrAnd, OnOk, All, Bor, refl, sym, ap, subst, ◌∙◌, length, map, option_map, take, drop, get_or, arith}
+-- Parts are made one by one, and their slots have nodes up to the first that has none.
+use Rattle.std.proofs.Common.{◌≡◌, ◌<◌, ◌≤◌, ◌+◌, ◌-◌, ℕ, zero, suc, List, [], ◌∷◌, ◌++◌, Option, None, Some, All, Bor, refl, sym, ap, subst, ◌∙◌, length, map, option_map, take, get_or, arith}
 use Rattle.std.specs.Prelude.{slice_get}
 use Rattle.std.specs.List.{AllZip, flat_map}
-use Rattle.std.specs.declared.alloc.Global.{Global}
-use Rattle.std.specs.declared.vec.Vec.{Vec}
-use Rattle.std.proofs.lemmas.List.{append_assoc, map_push, take-append-drop, take-map}
-use Rattle.std.proofs.lemmas.List.Elements.{All-append, All-cons, All-map, All-more, All-nil}
-use Rattle.std.proofs.lemmas.Option.{slice_get-map, slice_get_read}
+use Rattle.std.proofs.lemmas.List.{append-nil, append_assoc, length-append, map_push, take_all}
+use Rattle.std.proofs.lemmas.List.Elements.{All-cons, All-head, All-nil, All-tail}
+use Rattle.std.proofs.lemmas.Option.{same_Some, slice_get-map, slice_get_read, slice_get_within}
 use Rattle.std.proofs.lemmas.Slice.Zip.{all_zipped_more}
 use Rattle.std.proofs.lemmas.Grind.{common_steps}
 use Rattle.cluster_slots.specs.Address.{Address}
 use Rattle.cluster_slots.specs.SlotRoute.{SlotRoute}
-use Rattle.cluster_map.specs.RangeMap.{IsUncovered}
+use Rattle.cluster_map.specs.Candidates.{Candidates}
 use Rattle.cluster_map.specs.ReplyNode.{IsCovered}
-use Rattle.redis_routing.specs.RoutingInfo.{route_lists}
 use Rattle.redis_routing.specs.Split.{Split, route_part, slots_of, split_part}
-use Rattle.redis_batches.specs.CommandTask.{SlotPart, slot_parts, slots_kept, split_parts}
+use Rattle.redis_batches.specs.CommandTask.{ArePartsFor, SlotPart, split_parts}
+use Rattle.redis_batches.specs.Chosen.{AreIn, AreRight, AreStill, IsChosen}
 use Rattle.redis_batches.specs.PartArguments.{sent_args}
-use Rattle.redis_batches.specs.Placed.{ArePlaced, IsFirstWithoutNode, IsOwnFault, IsPartFault, IsSlotFault, Ranges}
-use Rattle.redis_batches.specs.Chosen.{AreIn, AreStill, IsChosen}
+use Rattle.redis_batches.specs.Placed.{IsFirstWithout, Ranges, StopsAt}
+use Rattle.redis_batches.specs.declared.chosen.Placed.{Placed}
 use Rattle.redis_batches.specs.declared.part.PartCommand.{PartCommand}
-use Rattle.redis_batches.specs.declared.parts.Placed.{Placed}
-use Rattle.redis_batches.specs.declared.fault.PipelineFault.{PipelineFault}
-use Rattle.redis_batches.specs.declared.fault.PipelineFault.TheVariants.{NotRoutable, NotCovered, Memory}
-use Rattle.redis_batches.specs.declared.task.CommandTask.{CommandTask}
-use Rattle.redis_batches.proofs.ByNode.{at_drop, at_take}
-use Rattle.redis_batches.proofs.Choosing.{chosen_still}
-
--- what holds of the error of a result that is one
-pub err_from : {T E : Type 0} (P Q : E → Type 0) (r : Result T E) → IsErrAnd r P → ((e : E) → P e → Q e) → IfErr r Q
-err_from P Q (Ok x) is gives = tt
-err_from P Q (Err e) is gives = gives e is
-
--- what follows of a result that is no error, and of an error
-pub ok_weaker : {T E : Type 0} (r : Result T E) (P Q : Type 0) → (P → Q) → OnOk r P → OnOk r Q
-ok_weaker (Ok x) P Q gives is = gives is
-ok_weaker (Err e) P Q gives is = tt
-
-pub err_weaker : {T E : Type 0} (r : Result T E) (P Q : E → Type 0) → ((e : E) → P e → Q e) → IfErr r P → IfErr r Q
-err_weaker (Ok x) P Q gives is = tt
-err_weaker (Err e) P Q gives is = gives e is
+use Rattle.redis_batches.proofs.ByNode.{at_take}
+use Rattle.redis_batches.proofs.Choosing.{chosen_covered, chosen_still}
 
 zip_weaker : {A B : Type 0} (R Q : A → B → Type 0) (xs : List A) (ys : List B) → ((x : A) (y : B) → R x y → Q x y) → AllZip R xs ys → AllZip Q xs ys
 zip_weaker R Q [] [] weaker each = tt
@@ -47,37 +27,18 @@ zip_weaker R Q [] (y ∷ ys) weaker each = absurd each
 zip_weaker R Q (x ∷ xs) [] weaker each = absurd each
 zip_weaker R Q (x ∷ xs) (y ∷ ys) weaker each = (weaker x y each.0, zip_weaker R Q xs ys weaker each.1)
 
+pub zipped_long : {A B : Type 0} (R : A → B → Type 0) (xs : List A) (ys : List B) → AllZip R xs ys → length xs ≡ length ys
+zipped_long R [] [] each = refl
+zipped_long R [] (y ∷ ys) each = absurd each
+zipped_long R (x ∷ xs) [] each = absurd each
+zipped_long R (x ∷ xs) (y ∷ ys) each = ap suc (zipped_long R xs ys each.1)
+
 -- one part more
-placed_more : (is_node : ℕ → Address → Type 0) (of : List SlotPart) (parts : List (List (List ℕ))) (nodes : List Address) (part : SlotPart) (args : List (List ℕ)) (node : Address) → map Some args ≡ part.1 → is_node part.0 node
-    → ArePlaced is_node of parts nodes → ArePlaced is_node (of ++ part ∷ []) (parts ++ args ∷ []) (nodes ++ node ∷ [])
-placed_more is_node of parts nodes part args node same own placed = record {
-  parts_are =
-      map_push (map Some) parts args ∙ ap (λ l. l ++ map Some args ∷ []) placed.parts_are
-      ∙ ap (λ a. map (λ (p : SlotPart). p.1) of ++ a ∷ []) same ∙ sym (map_push (λ (p : SlotPart). p.1) of part);
-  nodes_are = all_zipped_more (λ (p : SlotPart) (n : Address). is_node p.0 n) of nodes part node placed.nodes_are own;
-}
-
--- as vectors have them
-pub in_more : {S : Type 0} (strategy : Option S) (ranges : Ranges) (of : List SlotPart) (old new : Placed) (part : SlotPart) (command : PartCommand) (node : Bor Address) → new.parts.items ≡ old.parts.items ++ command ∷ [] → new.nodes.items ≡ old.nodes.items ++ node ∷ []
-    → AreStill old.chosen.entries new.chosen.entries → map Some (sent_args command) ≡ part.1 → IsChosen strategy ranges new.chosen.entries part.0 node.now → AreIn strategy ranges of old → AreIn strategy ranges (of ++ part ∷ []) new
-in_more strategy ranges of old new part command node parts nodes still same own placed =
-    let now : Bor Address → Address = λ n. n.now in
-    let is_node : ℕ → Address → Type 0 = IsChosen strategy ranges new.chosen.entries in
-    let kept : ArePlaced is_node of (map sent_args old.parts.items) (map now old.nodes.items) = record {
-      parts_are = placed.parts_are;
-      nodes_are = zip_weaker (λ (p : SlotPart) (n : Address). IsChosen strategy ranges old.chosen.entries p.0 n) (λ (p : SlotPart) (n : Address). is_node p.0 n) of (map now old.nodes.items)
-          (λ p n is. chosen_still strategy ranges old.chosen.entries new.chosen.entries still p.0 n is) placed.nodes_are;
-    } in
-    subst (λ ps. ArePlaced is_node (of ++ part ∷ []) ps (map now new.nodes.items)) (sym (ap (map sent_args) parts ∙ map_push sent_args old.parts.items command))
-    (subst (ArePlaced is_node (of ++ part ∷ []) (map sent_args old.parts.items ++ sent_args command ∷ [])) (sym (ap (map now) nodes ∙ map_push now old.nodes.items node))
-    (placed_more is_node of (map sent_args old.parts.items) (map now old.nodes.items) part (sent_args command) node.now same own kept))
-
--- a route as its split has it
-pub route_at : (routes : List (SlotRoute × Vec ℕ Global)) (split : Split) (i : ℕ) (route : SlotRoute × Vec ℕ Global) → i < length routes → route ≡ get_or routes i route → route_lists routes ≡ split.routes
-    → slice_get split.routes i ≡ Some (route.0, route.1.items)
-route_at routes split i route within is are =
-    let listed : SlotRoute × Vec ℕ Global → SlotRoute × List ℕ = λ r. (r.0, r.1.items) in
-    ap (λ rs. slice_get rs i) (sym are) ∙ slice_get-map listed routes i ∙ ap (option_map listed) (slice_get_read routes (length routes) i route refl within is)
+pub parts_more : (of : List SlotPart) (old new : List PartCommand) (part : SlotPart) (command : PartCommand) → new ≡ old ++ command ∷ [] → map Some (sent_args command) ≡ part.1
+    → ArePartsFor of old → ArePartsFor (of ++ part ∷ []) new
+parts_more of old new part command push same are =
+    ap (λ ps. map (map Some) (map sent_args ps)) push ∙ ap (map (map Some)) (map_push sent_args old command) ∙ map_push (map Some) (map sent_args old) (sent_args command)
+    ∙ ap (λ l. l ++ map Some (sent_args command) ∷ []) are ∙ ap (λ a. map (λ (p : SlotPart). p.1) of ++ a ∷ []) same ∙ sym (map_push (λ (p : SlotPart). p.1) of part)
 
 -- the parts of a split and its slots, with the next route
 pub parts_next : (split : Split) (i : ℕ) (route : SlotRoute × List ℕ) → slice_get split.routes i ≡ Some route → take (i + 1) (split_parts split) ≡ take i (split_parts split) ++ (route.0.slot, split_part split route.0.slot) ∷ []
@@ -88,57 +49,94 @@ parts_next split i route at =
 pub part_next : (split : Split) (i : ℕ) (route : SlotRoute × List ℕ) (args : List (List ℕ)) → slice_get split.routes i ≡ Some route → Some (map Some args) ≡ route_part split i → map Some args ≡ split_part split route.0.slot
 part_next split i route args at is = grind (arith, common_steps)
 
--- one that is covered, after those before
-pub covered_next : (ranges : Ranges) {X : Type 0} (slot : X → ℕ) (xs : List X) (i : ℕ) (x : X) → slice_get xs i ≡ Some x → IsCovered ranges (slot x) → All (IsCovered ranges) (take i (map slot xs)) → All (IsCovered ranges) (take (i + 1) (map slot xs))
-covered_next ranges slot xs i x at here before =
-    subst (All (IsCovered ranges)) (sym (at_take slot xs i x at))
-    (All-append (IsCovered ranges) (take i (map slot xs)) (slot x ∷ []) before (All-cons (IsCovered ranges) (slot x) [] here (All-nil (IsCovered ranges))))
-
--- the first that is not
-pub first_without : (ranges : Ranges) {X : Type 0} (slot : X → ℕ) (xs : List X) (i : ℕ) (x : X) → slice_get xs i ≡ Some x → All (IsCovered ranges) (take i (map slot xs)) → IsUncovered ranges (slot x)
-    → IsFirstWithoutNode ranges (map slot xs ∷ []) 0 (slot x)
-first_without ranges slot xs i x at covered uncovered = record {
-  earlier = All-nil (All (IsCovered ranges));
-  before = take i (map slot xs);
-  rest = drop (i + 1) (map slot xs);
-  own = ap Some (sym (take-append-drop i (map slot xs)) ∙ ap (λ l. take i (map slot xs) ++ l) (at_drop slot xs i x at));
-  covered = covered;
-  uncovered = uncovered;
-}
-
 -- the part of the next route comes behind those before
 pub parts_behind : (split : Split) (i : ℕ) (route : SlotRoute × List ℕ) (of : List SlotPart) (part : SlotPart) → slice_get split.routes i ≡ Some route → part ≡ (route.0.slot, split_part split route.0.slot)
     → (of ++ take i (split_parts split)) ++ part ∷ [] ≡ of ++ take (i + 1) (split_parts split)
 parts_behind split i route of part at same =
     append_assoc of (take i (split_parts split)) (part ∷ []) ∙ ap (λ p. of ++ (take i (split_parts split) ++ p ∷ [])) same ∙ ap (λ l. of ++ l) (sym (parts_next split i route at))
 
--- why a part of a command can't be placed, after those that could be
-pub own_fault : (ranges : Ranges) (number : ℕ) {X : Type 0} (slot : X → ℕ) (xs : List X) (i : ℕ) (x : X) (fault : PipelineFault) → slice_get xs i ≡ Some x → All (IsCovered ranges) (take i (map slot xs))
-    → IsSlotFault ranges (slot x) number fault → IsOwnFault ranges (map slot xs) number fault
-own_fault ranges number slot xs i x (NotRoutable other) at covered is = absurd is
-own_fault ranges number slot xs i x Memory at covered is = tt
-own_fault ranges number slot xs i x (NotCovered other own) at covered is =
-    (is.0, subst (IsFirstWithoutNode ranges (map slot xs ∷ []) 0) (sym is.1) (first_without ranges slot xs i x at covered is.2))
+-- ---- the slots up to the first without a node
 
--- why the parts of one command can't be placed, after those that could be
-pub fault_of_command : (ranges : Ranges) (tasks : List CommandTask) (i : ℕ) (task : CommandTask) (fault : PipelineFault) → i < length tasks → task ≡ get_or tasks i task
-    → All (λ t. All (IsCovered ranges) (slots_kept t)) (take i tasks) → IsOwnFault ranges (slots_kept task) i fault → IsPartFault ranges (map slots_kept tasks) fault
-fault_of_command ranges tasks i task (NotRoutable number) within is covered own = absurd own
-fault_of_command ranges tasks i task Memory within is covered own = tt
-fault_of_command ranges tasks i task (NotCovered number slot) within is covered own =
-    subst (λ n. IsFirstWithoutNode ranges (map slots_kept tasks) n slot) (sym own.0) (record {
-      earlier = subst (All (All (IsCovered ranges))) (sym (take-map slots_kept i tasks)) (All-map (All (IsCovered ranges)) slots_kept (take i tasks) covered);
-      before = own.1.before;
-      rest = own.1.rest;
-      own = slice_get-map slots_kept tasks i ∙ ap (option_map slots_kept) (slice_get_read tasks (length tasks) i task refl within is) ∙ own.1.own;
-      covered = own.1.covered;
-      uncovered = own.1.uncovered;
-    })
+module _ (has has_none : ℕ → Type 0) where
+  -- what is at the front of a list, up to an index inside it
+  front_of : (own more : List ℕ) (index slot : ℕ) → index < length own → slice_get (own ++ more) index ≡ Some slot → All has (take index (own ++ more))
+      → (before : List ℕ) × (rest : List ℕ) × (own ≡ before ++ slot ∷ rest) × All has before
+  front_of [] more index slot within at all = absurd (omega (arith, within))
+  front_of (x ∷ own) more zero slot within at all = ([], own, ap (λ y. y ∷ own) (same_Some x slot at), All-nil has)
+  front_of (x ∷ own) more (suc index) slot within at all =
+      let found = front_of own more index slot (omega (arith, within)) at (All-tail has x (take index (own ++ more)) all) in
+      (x ∷ found.0, found.1, ap (λ l. x ∷ l) found.2, All-cons has x found.0 (All-head has x (take index (own ++ more)) all) found.3)
 
--- one command more
-pub command_next : (tasks : List CommandTask) (i : ℕ) (task : CommandTask) → i < length tasks → task ≡ get_or tasks i task → flat_map slot_parts (take i tasks) ++ slot_parts task ≡ flat_map slot_parts (take (i + 1) tasks)
-command_next tasks i task within is = grind (arith, common_steps)
+  -- what is behind the front of a list
+  behind_front : (own more : List ℕ) (index slot : ℕ) → slice_get (own ++ more) (length own + index) ≡ Some slot → All has (take (length own + index) (own ++ more))
+      → (slice_get more index ≡ Some slot) × All has own × All has (take index more)
+  behind_front [] more index slot at all = let e : 0 + index ≡ index = omega arith in (ap (slice_get more) (sym e) ∙ at, All-nil has, subst (λ k. All has (take k more)) e all)
+  behind_front (x ∷ own) more index slot at all =
+      let e : suc (length own) + index ≡ suc (length own + index) = omega arith in
+      let found = behind_front own more index slot (ap (slice_get (x ∷ (own ++ more))) (sym e) ∙ at) (All-tail has x (take (length own + index) (own ++ more)) (subst (λ k. All has (take k (x ∷ (own ++ more)))) e all)) in
+      (found.0, All-cons has x own (All-head has x (take (length own + index) (own ++ more)) (subst (λ k. All has (take k (x ∷ (own ++ more)))) e all)) found.1, found.2)
 
-pub commands_covered : (ranges : Ranges) (tasks : List CommandTask) (i : ℕ) (task : CommandTask) → i < length tasks → task ≡ get_or tasks i task → All (λ t. All (IsCovered ranges) (slots_kept t)) (take i tasks)
-    → All (IsCovered ranges) (slots_kept task) → All (λ t. All (IsCovered ranges) (slots_kept t)) (take (i + 1) tasks)
-commands_covered ranges tasks i task within is before own = All-more (λ t. All (IsCovered ranges) (slots_kept t)) tasks i task within before (subst (λ t. All (IsCovered ranges) (slots_kept t)) is own)
+  -- The slot of this index is the first without a node, and the command of this number has it.
+  pub first_without : {X : Type 0} (slots_of : X → List ℕ) (xs : List X) (number index slot : ℕ) → length (flat_map slots_of (take number xs)) ≤ index → index < length (flat_map slots_of (take (number + 1) xs))
+      → slice_get (flat_map slots_of xs) index ≡ Some slot → All has (take index (flat_map slots_of xs)) → has_none slot → IsFirstWithout has has_none (map slots_of xs) number slot
+  first_without slots_of [] number index slot from to at all none = absurd (cc at)
+  first_without slots_of (x ∷ xs) zero index slot from to at all none =
+      let e : 0 + 1 ≡ suc 0 = omega arith in
+      let within : index < length (slots_of x) = subst (λ l. index < length l) (append-nil (slots_of x)) (subst (λ k. index < length (flat_map slots_of (take k (x ∷ xs)))) e to) in
+      let found = front_of (slots_of x) (flat_map slots_of xs) index slot within at all in
+      record { earlier = All-nil (All has); before = found.0; rest = found.1; own = ap Some found.2; covered = found.3; uncovered = none }
+  first_without slots_of (x ∷ xs) (suc number) index slot from to at all none =
+      let own = slots_of x in
+      let more = flat_map slots_of xs in
+      let e : suc number + 1 ≡ suc (number + 1) = omega arith in
+      let some : length own + length (flat_map slots_of (take number xs)) ≤ index = omega (arith, from, length-append own (flat_map slots_of (take number xs))) in
+      let few : index < length own + length (flat_map slots_of (take (number + 1) xs)) =
+      omega (arith, subst (λ k. index < length (flat_map slots_of (take k (x ∷ xs)))) e to, length-append own (flat_map slots_of (take (number + 1) xs))) in
+      let i = index - length own in
+      let is : index ≡ length own + i = omega (arith, some) in
+      let left = behind_front own more i slot (ap (slice_get (own ++ more)) (sym is) ∙ at) (subst (λ k. All has (take k (own ++ more))) is all) in
+      let found = first_without slots_of xs number i slot (omega (arith, some)) (omega (arith, few, some)) left.0 left.2 none in
+      record { earlier = All-cons (All has) own (take number (map slots_of xs)) left.1 found.earlier; before = found.before; rest = found.rest; own = found.own; covered = found.covered; uncovered = none }
+
+-- a loop stops at a slot without a node, or behind the last slot
+pub stops_at : (has_none : ℕ → Type 0) (slots : List ℕ) (count i slot : ℕ) → count ≡ i → i < length slots → slot ≡ get_or slots i slot → has_none slot → StopsAt has_none slots count
+stops_at has_none slots count i slot same within is none =
+    (omega (arith, within, same), λ other at. subst has_none (same_Some slot other (sym (slice_get_read slots (length slots) i slot refl within is) ∙ ap (slice_get slots) (sym same) ∙ at)) none)
+
+pub stops_behind : (has_none : ℕ → Type 0) (slots : List ℕ) (count : ℕ) → count ≡ length slots → StopsAt has_none slots count
+stops_behind has_none slots count last = (omega (arith, last), λ slot at. absurd (omega (arith, slice_get_within slots count slot at, last)))
+
+-- what a result that is there was made of
+pub by_found : {X Y : Type 0} (found : Option X) (f : X → Y) (y : Y) → Some y ≡ option_map f found → (x : X) × (found ≡ Some x)
+by_found None f y is = absurd (cc is)
+by_found (Some x) f y is = (x, refl)
+
+module _ {S : Type 0} (strategy : Option S) (ranges : Ranges) where
+  -- the nodes of slots, after more were chosen
+  pub nodes_still : (slots : List ℕ) (old new : Placed) → new.nodes.items ≡ old.nodes.items → AreStill old.chosen.entries new.chosen.entries → AreIn strategy ranges slots old → AreIn strategy ranges slots new
+  nodes_still slots old new same still are =
+      let now : Bor Address → Address = λ n. n.now in
+      let is_node : ℕ → Address → Type 0 = IsChosen strategy ranges new.chosen.entries in
+      subst (AllZip is_node slots) (sym (ap (map now) same))
+      (zip_weaker (IsChosen strategy ranges old.chosen.entries) is_node slots (map now old.nodes.items) (λ s n is. chosen_still strategy ranges old.chosen.entries new.chosen.entries still s n is) are)
+
+  -- the node of one slot more
+  pub nodes_more : (slots : List ℕ) (old new : Placed) (slot : ℕ) (node : Bor Address) → new.nodes.items ≡ old.nodes.items ++ node ∷ [] → AreStill old.chosen.entries new.chosen.entries
+      → IsChosen strategy ranges new.chosen.entries slot node.now → AreIn strategy ranges slots old → AreIn strategy ranges (slots ++ slot ∷ []) new
+  nodes_more slots old new slot node push still own are =
+      let now : Bor Address → Address = λ n. n.now in
+      let is_node : ℕ → Address → Type 0 = IsChosen strategy ranges new.chosen.entries in
+      subst (AllZip is_node (slots ++ slot ∷ [])) (sym (ap (map now) push ∙ map_push now old.nodes.items node))
+      (all_zipped_more is_node slots (map now old.nodes.items) slot node.now (nodes_still slots old (record { nodes = old.nodes; chosen = new.chosen }) refl still are) own)
+
+  -- all slots have nodes
+  pub all_placed : (slots kept : List ℕ) (placed : Placed) → length slots ≤ length placed.nodes.items → slots ≡ kept → AreIn strategy ranges (take (length placed.nodes.items) slots) placed → AreIn strategy ranges kept placed
+  all_placed slots kept placed all same are = subst (λ l. AreIn strategy ranges l placed) (take_all (length placed.nodes.items) slots all ∙ same) are
+
+  -- slots that have nodes are covered
+  pub covered_in : (picks_of : S → Candidates → Address → Type 0) (written : List ℕ) (chosen : List (ℕ × Bor Address)) (slots : List ℕ) (nodes : List Address) → AreRight strategy picks_of ranges written chosen → AllZip (IsChosen strategy ranges chosen) slots nodes → All (IsCovered ranges) slots
+  covered_in picks_of written chosen [] [] right are = All-nil (IsCovered ranges)
+  covered_in picks_of written chosen [] (n ∷ nodes) right are = absurd are
+  covered_in picks_of written chosen (s ∷ slots) [] right are = absurd are
+  covered_in picks_of written chosen (s ∷ slots) (n ∷ nodes) right are =
+      All-cons (IsCovered ranges) s slots (chosen_covered strategy picks_of ranges written chosen s n right are.0) (covered_in picks_of written chosen slots nodes right are.1)

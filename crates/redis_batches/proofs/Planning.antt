@@ -21,16 +21,14 @@ use Rattle.redis_cluster.proofs.Counts.{same_number}
 use Rattle.redis_batches.specs.Pipeline.{AreSlotsOf, HasSlots, Part, Planned, Task, over_keys, in_slot, part, parts_of}
 use Rattle.redis_batches.specs.Batched.{AreBatches}
 use Rattle.redis_batches.specs.Taken.{task_of}
-use Rattle.redis_batches.specs.Tasks.{IsSplitOfTask, slots_of_task, with_slots}
+use Rattle.redis_batches.specs.Tasks.{AreTasksOf, IsSplitOfTask, slots_of_task, with_slots}
 use Rattle.redis_batches.specs.CommandTask.{IsKeptOf, IsTaskFor, SlotPart, slot_parts, slots_kept, split_in, split_parts}
-use Rattle.redis_batches.specs.Placed.{ArePlaced, IsPartFault, Ranges}
+use Rattle.redis_batches.specs.Placed.{IsFirstWithout}
 use Rattle.redis_batches.specs.Reads.{slots_written}
 use Rattle.redis_batches.specs.Chosen.{all_written}
-use Rattle.redis_batches.specs.PipelinePlan.{IsPipelinePlanFault, IsPlanOfCommands, PipelineBatches, pieces_of}
+use Rattle.redis_batches.specs.PipelinePlan.{IsPlanOfCommands, IsPlanOfTasks, PipelineBatches, pieces_of}
 use Rattle.redis_batches.specs.Plan.{IsByNode}
 use Rattle.redis_batches.specs.Replies.{part_count}
-use Rattle.redis_batches.specs.declared.fault.PipelineFault.{PipelineFault}
-use Rattle.redis_batches.specs.declared.fault.PipelineFault.TheVariants.{NotRoutable, NotCovered, Memory}
 use Rattle.redis_batches.specs.declared.task.CommandTask.{CommandTask}
 use Rattle.redis_batches.specs.declared.task.CommandTask.TheVariants.{InSlot, OverKeys}
 use Rattle.redis_batches.proofs.ByNode.{by_node_batches}
@@ -97,16 +95,12 @@ meant registered [] (p ∷ of) qs same each = absurd (cc same)
 meant registered (a ∷ parts) (p ∷ of) [] same each = absurd each
 meant registered (a ∷ parts) (p ∷ of) (q ∷ qs) same each = grind (arith, common_steps, meant registered parts of qs (same_tail same) each.1)
 
--- the nodes of the parts
-nodes_of : (is_node : ℕ → Address → Type 0) (registered : Registrations) (of : List SlotPart) (qs : List Part) (nodes : List Address) → AllZip (λ p node. is_node p.0 node) of nodes → AllZip (IsPartOf registered) of qs
-    → AllZip (λ q node. is_node q.slot node) qs nodes
-nodes_of is_node registered [] [] [] placed each = tt
-nodes_of is_node registered [] (q ∷ qs) nodes placed each = absurd each
-nodes_of is_node registered [] [] (n ∷ nodes) placed each = absurd placed
-nodes_of is_node registered (p ∷ of) [] nodes placed each = absurd each
-nodes_of is_node registered (p ∷ of) (q ∷ qs) [] placed each = absurd placed
-nodes_of is_node registered (p ∷ of) (q ∷ qs) (n ∷ nodes) placed each =
-    (subst (λ slot. is_node slot n) each.0.0 placed.0, nodes_of is_node registered of qs nodes placed.1 each.1)
+-- the nodes of the parts, by their slots
+nodes_of : (is_node : ℕ → Address → Type 0) (qs : List Part) (nodes : List Address) → AllZip is_node (map (λ q. q.slot) qs) nodes → AllZip (λ q node. is_node q.slot node) qs nodes
+nodes_of is_node [] [] each = tt
+nodes_of is_node [] (n ∷ nodes) each = absurd each
+nodes_of is_node (q ∷ qs) [] each = absurd each
+nodes_of is_node (q ∷ qs) (n ∷ nodes) each = (each.0, nodes_of is_node qs nodes each.1)
 
 -- the node of the first part of a slot
 node_in : List Part → List Address → ℕ → Address
@@ -148,29 +142,18 @@ all_slots_of_kept registered [] (k ∷ kept) each = absurd each
 all_slots_of_kept registered (t ∷ tasks) [] each = absurd each
 all_slots_of_kept registered (t ∷ tasks) (k ∷ kept) each = grind (arith, common_steps, all_slots_of_kept registered tasks kept each.1)
 
-counts_of_kept : (kept : List CommandTask) → length (flat_map slot_parts kept) ≡ sum_by part_count (map split_in kept)
+-- how many parts there are
+pub counts_of_kept : (kept : List CommandTask) → length (flat_map slots_kept kept) ≡ sum_by part_count (map split_in kept)
 counts_of_kept [] = refl
 counts_of_kept (k ∷ kept) = grind (arith, common_steps, counts_of_kept kept)
 
-pub has_parts : (is_node : ℕ → Address → Type 0) (kept : List CommandTask) (parts : List (List (List ℕ))) (nodes : List Address) → ArePlaced is_node (flat_map slot_parts kept) parts nodes → sum_by part_count (map split_in kept) ≡ length parts
-has_parts is_node kept parts nodes placed =
-    sym (counts_of_kept kept) ∙ sym (length-map (flat_map slot_parts kept) (λ p. p.1)) ∙ sym (ap length placed.parts_are) ∙ length-map parts (map Some)
+parts_of_slots : (kept : List CommandTask) → length (flat_map slot_parts kept) ≡ length (flat_map slots_kept kept)
+parts_of_slots [] = refl
+parts_of_slots (k ∷ kept) = grind (arith, common_steps, parts_of_slots kept)
 
--- there are as many nodes as parts
-as_many : (is_node : ℕ → Address → Type 0) (of : List SlotPart) (nodes : List Address) → AllZip (λ p node. is_node p.0 node) of nodes → length nodes ≡ length of
-as_many is_node [] [] each = refl
-as_many is_node [] (n ∷ nodes) each = absurd each
-as_many is_node (p ∷ of) [] each = absurd each
-as_many is_node (p ∷ of) (n ∷ nodes) each = ap suc (as_many is_node of nodes each.1)
-
-pub nodes_for_parts : (is_node : ℕ → Address → Type 0) (of : List SlotPart) (parts : List (List (List ℕ))) (nodes : List Address) → ArePlaced is_node of parts nodes → length nodes ≡ length parts
-nodes_for_parts is_node of parts nodes placed =
-    as_many is_node of nodes placed.nodes_are ∙ sym (length-map of (λ p. p.1)) ∙ sym (ap length placed.parts_are) ∙ length-map parts (map Some)
-
--- the parts as a plan has them
-pub placed_parts : (is_node : ℕ → Address → Type 0) (tasks kept : List CommandTask) (made parts : List (List (List ℕ))) (nodes targets : List Address) → tasks ≡ kept → parts ≡ made → targets ≡ nodes → ArePlaced is_node (flat_map slot_parts tasks) made nodes
-    → ArePlaced is_node (flat_map slot_parts kept) parts targets
-placed_parts is_node tasks kept made parts nodes targets is same at placed = grind (arith, common_steps)
+pub has_parts : (kept : List CommandTask) (parts : List (List (List ℕ))) → map (map Some) parts ≡ map (λ p. p.1) (flat_map slot_parts kept) → length (flat_map slots_kept kept) ≡ length parts
+has_parts kept parts same =
+    sym (parts_of_slots kept) ∙ sym (length-map (flat_map slot_parts kept) (λ p. p.1)) ∙ sym (ap length same) ∙ length-map parts (map Some)
 
 -- there are as many tasks as commands
 pub tasks_long : (registered : Registrations) (commands : List (List (List ℕ))) (kept : List CommandTask) → AllZip (IsTaskFor registered) commands kept → length kept ≡ length commands
@@ -202,38 +185,37 @@ slots_of_parts registered (t ∷ tasks) (k ∷ kept) each =
     ∙ sym (map-append (λ (q : Part). q.slot) (parts_of (with_slots t)) (pieces_of tasks))
 
 -- The plan of commands. Each slot has one node among those that were chosen, which is one that it may have.
-pub is_plan_of : (registered : Registrations) (chosen is_node : ℕ → Address → Type 0) (commands : List (List (List ℕ))) (kept : List CommandTask) (plan : PipelineBatches) → IsOne chosen
-    → ((slot : ℕ) (node : Address) → chosen slot node → is_node slot node) → AllZip (IsTaskFor registered) commands kept → plan.slots ≡ flat_map slots_kept kept → ArePlaced chosen (flat_map slot_parts kept) plan.batches.parts plan.targets → IsByNode plan.batches plan.targets
+pub is_plan_of : (registered : Registrations) (chosen is_node : ℕ → Address → Type 0) (commands : List (List (List ℕ))) (kept : List CommandTask) (targets : List Address) (plan : PipelineBatches) → IsOne chosen
+    → ((slot : ℕ) (node : Address) → chosen slot node → is_node slot node) → AllZip (IsTaskFor registered) commands kept → IsPlanOfTasks kept targets plan → AllZip chosen (flat_map slots_kept kept) targets
     → IsPlanOfCommands registered is_node commands plan
-is_plan_of registered chosen is_node commands kept plan one may each slots placed by_node =
-    let nodes = plan.targets in
+is_plan_of registered chosen is_node commands kept targets plan one may each is placed =
     let found = tasks_from registered commands kept each in
     let tasks : List Task = found.0 in
     let qs : List Part = pieces_of tasks in
     let parts = parts_of_kept registered tasks kept found.2 in
-    let at : AllZip (λ q node. chosen q.slot node) qs nodes = nodes_of chosen registered (flat_map slot_parts kept) qs nodes placed.nodes_are parts in
-    let node : ℕ → Address = λ slot. node_in qs nodes slot in
+    let at : AllZip (λ q node. chosen q.slot node) qs targets = nodes_of chosen qs targets (subst (λ slots. AllZip chosen slots targets) (slots_of_parts registered tasks kept found.2) placed) in
+    let node : ℕ → Address = λ slot. node_in qs targets slot in
     let all : All (λ q. chosen q.slot (node q.slot)) qs =
-    All-weaker (λ (q : Part). list_any (λ r. nat_eq r.slot q.slot) qs ≡ true) (λ q. chosen q.slot (node q.slot)) (λ q there. own_in chosen qs nodes at q.slot there) qs (all_there (λ (q : Part). q.slot) qs) in
+    All-weaker (λ (q : Part). list_any (λ r. nat_eq r.slot q.slot) qs ≡ true) (λ q. chosen q.slot (node q.slot)) (λ q there. own_in chosen qs targets at q.slot there) qs (all_there (λ (q : Part). q.slot) qs) in
+    let same = same_nodes chosen one node qs targets at all in
     record {
       tasks = tasks;
       tasks_are = found.1;
-      parts_are = meant registered plan.batches.parts (flat_map slot_parts kept) qs placed.parts_are parts;
-      arguments = placed.parts_are ∙ found.3;
+      parts_are = meant registered plan.batches.parts (flat_map slot_parts kept) qs is.parts parts;
+      arguments = is.parts ∙ found.3;
       node_of = node;
       nodes_are = All-weaker (λ (q : Part). chosen q.slot (node q.slot)) (λ q. is_node q.slot (node q.slot)) (λ q is. may q.slot (node q.slot) is) qs all;
-      by_node = subst (IsByNode plan.batches) (same_nodes chosen one node qs nodes at all) by_node;
-      slots_are = slots ∙ slots_of_parts registered tasks kept found.2;
-      targets_are = same_nodes chosen one node qs nodes at all;
+      by_node = subst (IsByNode plan.batches) same is.by_node;
+      slots_are = is.slots ∙ slots_of_parts registered tasks kept found.2;
+      targets_are = is.targets_are ∙ same;
     }
 
-pub part_fault : (registered : Registrations) (ranges : Ranges) (commands : List (List (List ℕ))) (kept : List CommandTask) (fault : PipelineFault) → AllZip (IsTaskFor registered) commands kept → IsPartFault ranges (map slots_kept kept) fault
-    → IsPipelinePlanFault registered ranges commands fault
-part_fault registered ranges commands kept (NotRoutable number) each is = absurd is
-part_fault registered ranges commands kept Memory each is = tt
-part_fault registered ranges commands kept (NotCovered number slot) each is =
+-- the first slot without a node, by what the commands mean
+pub first_fault : (registered : Registrations) (has has_none : ℕ → Type 0) (commands : List (List (List ℕ))) (kept : List CommandTask) (number slot : ℕ) → AllZip (IsTaskFor registered) commands kept
+    → IsFirstWithout has has_none (map slots_kept kept) number slot → (tasks : List Task) × AreTasksOf registered commands tasks × IsFirstWithout has has_none (map slots_of_task tasks) number slot
+first_fault registered has has_none commands kept number slot each is =
     let found = tasks_from registered commands kept each in
-    (found.0, found.1, subst (λ slots. IsPartFault ranges slots (NotCovered number slot)) (all_slots_of_kept registered found.0 kept found.2) is)
+    (found.0, found.1, subst (λ slots. IsFirstWithout has has_none slots number slot) (all_slots_of_kept registered found.0 kept found.2) is)
 
 -- a number stands among those of some things, of which it is one's
 all_here : {X : Type 0} (number : X → ℕ) (xs : List X) → All (λ x. list_any (nat_eq (number x)) (map number xs) ≡ true) xs

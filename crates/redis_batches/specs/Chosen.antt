@@ -1,18 +1,17 @@
 -- The node that was chosen for a slot, once for a pipeline.
 use denote.Ref.{Bor}
 use Rattle.std.specs.Prelude.{◌≡◌, ℕ, Bool, not, cond, List, [], Option, Some, map, MatchOption, nat_eq, option_map}
-use Rattle.std.specs.List.{flat_map, list_any, zip}
+use Rattle.std.specs.List.{AllZip, flat_map, list_any, zip}
 use Rattle.std.specs.Map.{lookup}
 use Rattle.std.specs.Ordering.{is_eq, nat_cmp}
 use Rattle.cluster_slots.specs.Address.{Address}
 use Rattle.cluster_map.specs.Candidates.{Candidates}
 use Rattle.cluster_map.specs.RouteNode.{IsRouteNode}
 use Rattle.redis_routing.specs.Routing.{nodes_for}
-use Rattle.redis_batches.specs.CommandTask.{SlotPart, slots_kept}
-use Rattle.redis_batches.specs.PartArguments.{sent_args}
-use Rattle.redis_batches.specs.Placed.{ArePlaced, IsPrimaryOf, Ranges}
+use Rattle.redis_batches.specs.CommandTask.{slots_kept}
+use Rattle.redis_batches.specs.Placed.{IsPrimaryOf, Ranges}
 use Rattle.redis_batches.specs.Reads.{only_reads}
-use Rattle.redis_batches.specs.declared.parts.Placed.{Placed}
+use Rattle.redis_batches.specs.declared.chosen.Placed.{Placed}
 use Rattle.redis_batches.specs.declared.task.CommandTask.{CommandTask}
 
 -- the slots that a command may write to, by what is kept of it
@@ -60,8 +59,8 @@ abbrev pub AreStill : List (ℕ × Bor Address) → List (ℕ × Bor Address) �
 AreStill old new =
     (slot : ℕ) (node : Address) → chosen_for old slot ≡ Some node → chosen_for new slot ≡ Some node
 
--- these are the parts in these vectors, each with the node that was chosen for its slot
-abbrev pub AreIn : {S : Type 0} → Option S → Ranges → List SlotPart → Placed → Type 0
-AreIn strategy ranges of placed =
-    ArePlaced (IsChosen strategy ranges placed.chosen.entries) of
-    (map sent_args placed.parts.items) (map (λ node. node.now) placed.nodes.items)
+-- these are the nodes of slots, each the one that was chosen for it
+abbrev pub AreIn : {S : Type 0} → Option S → Ranges → List ℕ → Placed → Type 0
+AreIn strategy ranges slots placed =
+    AllZip (IsChosen strategy ranges placed.chosen.entries) slots
+    (map (λ node. node.now) placed.nodes.items)

@@ -7,6 +7,8 @@ use Rattle.redis_cluster.specs.MultiKey.{MultiKey}
 use Rattle.redis_batches.specs.Pipeline.{Task, over_keys, in_slot}
 use Rattle.redis_batches.specs.Taken.{task_of}
 use Rattle.redis_batches.specs.Tasks.{IsSplitOfTask, part_arguments}
+use Rattle.redis_batches.specs.PartArguments.{sent_args}
+use Rattle.redis_batches.specs.declared.part.PartCommand.{PartCommand}
 use Rattle.redis_batches.specs.declared.task.CommandTask.{CommandTask}
 use Rattle.redis_batches.specs.declared.task.CommandTask.TheVariants.{InSlot, OverKeys}
 
@@ -27,6 +29,10 @@ split_parts split = map (λ slot. (slot, split_part split slot)) (slots_of split
 abbrev pub slot_parts : CommandTask → List SlotPart
 slot_parts (InSlot slot command) = (slot, map Some command.now) ∷ []
 slot_parts (OverKeys split) = split_parts split
+
+-- parts with these arguments go out
+abbrev pub ArePartsFor : List SlotPart → List PartCommand → Type 0
+ArePartsFor of parts = map (map Some) (map sent_args parts) ≡ map (λ part. part.1) of
 
 -- the slots of a command, as they are kept
 abbrev pub slots_kept : CommandTask → List ℕ

@@ -4,6 +4,8 @@ use Rattle.std.specs.List.{All, flat_map, sum_by, zip}
 use Rattle.resp_core.specs.ErrorParts.{ErrorParts}
 use Rattle.resp_core.specs.declared.value.Value.{Value}
 use Rattle.cluster_slots.specs.Address.{Address}
+use Rattle.cluster_map.specs.RangeMap.{IsUncovered}
+use Rattle.cluster_map.specs.ReplyNode.{IsCovered}
 use Rattle.redis_routing.specs.Registry.{Registrations}
 use Rattle.redis_routing.specs.Split.{Split}
 use Rattle.redis_batches.specs.Batched.{put_at}
@@ -11,11 +13,13 @@ use Rattle.redis_batches.specs.Pipeline.{Part, Task, pieces}
 use Rattle.redis_batches.specs.Taken.{task_of}
 use Rattle.redis_batches.specs.Tasks.{AreTasksOf, part_arguments, slots_of_task, with_slots}
 use Rattle.redis_batches.specs.Pipelined.{IsFirstMeaningless}
-use Rattle.redis_batches.specs.Placed.{IsFirstWithoutNode, Ranges}
+use Rattle.redis_batches.specs.CommandTask.{slot_parts, slots_kept, split_in}
+use Rattle.redis_batches.specs.Placed.{IsFirstWithout, Ranges}
 use Rattle.redis_batches.specs.Plan.{Batches, IsByNode, IsPlan}
 use Rattle.redis_batches.specs.Replies.{part_count}
 use Rattle.redis_batches.specs.declared.fault.PipelineFault.{PipelineFault}
 use Rattle.redis_batches.specs.declared.fault.PipelineFault.TheVariants.{NotRoutable, NotCovered, Memory}
+use Rattle.redis_batches.specs.declared.task.CommandTask.{CommandTask}
 
 -- the split of each command, if it is over many keys, the batches of their parts, and the slot and
 -- the node of each part
@@ -67,11 +71,20 @@ pub record IsPlanOfCommands (registered : Registrations) (is_node : ℕ → Addr
   pub slots_are : plan.slots ≡ map (λ q. q.slot) (pieces_of tasks)
   pub targets_are : plan.targets ≡ map (λ q. node_of q.slot) (pieces_of tasks)
 
+-- The plan is of commands of which this is kept, and these are the nodes of their parts.
+pub record IsPlanOfTasks (kept : List CommandTask) (targets : List Address) (plan : PipelineBatches)
+    : Type 0 where
+  pub splits : plan.splits ≡ map split_in kept
+  pub slots : plan.slots ≡ flat_map slots_kept kept
+  pub targets_are : plan.targets ≡ targets
+  pub parts : map (map Some) plan.batches.parts ≡ map (λ part. part.1) (flat_map slot_parts kept)
+  pub by_node : IsByNode plan.batches targets
+
 -- Why commands have no plan. Where a slot has no node, each command means something.
 abbrev pub IsPipelinePlanFault : Registrations → Ranges → List (List (List ℕ)) → PipelineFault → Type 0
 IsPipelinePlanFault registered ranges commands (NotRoutable number) =
     IsFirstMeaningless registered commands number
 IsPipelinePlanFault registered ranges commands (NotCovered number slot) =
     (tasks : List Task) × AreTasksOf registered commands tasks
-    × IsFirstWithoutNode ranges (map slots_of_task tasks) number slot
+    × IsFirstWithout (IsCovered ranges) (IsUncovered ranges) (map slots_of_task tasks) number slot
 IsPipelinePlanFault registered ranges commands Memory = Unit {0}

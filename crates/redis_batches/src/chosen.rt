@@ -1,18 +1,55 @@
-ghost use Rattle.std.specs.Prelude.{◌≡◌, Some, not, MatchOption, IfOk, OnOk};
+ghost use Rattle.std.specs.Prelude.{◌≡◌, Some, length, not, take, MatchOption, IfOk, OnOk};
 ghost use Rattle.cluster_map.specs.RangeMap.{IsUncovered};
 ghost use Rattle.redis_routing.specs.Routing.{nodes_for};
-ghost use Rattle.redis_batches.specs.Chosen.{AreRight, AreStill, IsChosen, chosen_for, has_slot};
-ghost use Rattle.redis_batches.specs.Placed.{IsPrimaryOf};
+ghost use Rattle.redis_batches.specs.Chosen.{AreIn, AreRight, AreStill, IsChosen, chosen_for, has_slot};
+ghost use Rattle.redis_batches.specs.Placed.{IsPrimaryOf, StopsAt};
 
 use cluster_map::{ReadRoutingStrategy, SlotMap};
 use cluster_slots::{NodeAddress, Route, SlotAddr};
-use std::alloc::AllocError;
+use std::alloc::{AllocError, Global};
 use std::collections::{BTreeMap, BTreeSet};
+
+/// Nodes of slots, and the nodes that were chosen for slots.
+#[derive(Drop)]
+pub(super) struct Placed<'a> {
+    pub(super) nodes: Vec<&'a NodeAddress>,
+    pub(super) chosen: BTreeMap<u16, &'a NodeAddress>,
+}
+
+/// The nodes of some slots, up to the first slot that no range holds for. The strategy is asked for
+/// slots to which no command writes, once for each, in their order.
+pub(super) fn nodes_of<'a>(
+    alloc: Global,
+    slots: &[u16],
+    written: &BTreeSet<u16>,
+    slot_map: &'a SlotMap,
+    strategy: Option<&dyn ReadRoutingStrategy>,
+) -> Result<Placed<'a>, AllocError>
+    ensures nodes { IfOk result (λ placed.
+        AreIn strategy.entry slot_map.now (take (length placed.nodes.items) slots.now) placed) }
+    ensures right { IfOk result (λ placed. AreRight strategy.entry (λ s. picks s.now) slot_map.now
+        written.now.keys placed.chosen.entries) }
+    ensures stops { IfOk result (λ placed. StopsAt (IsUncovered slot_map.now) slots.now
+        (length placed.nodes.items)) }
+{
+    let mut placed = Placed {
+        nodes: Vec::with_capacity(alloc, slots.len())?,
+        chosen: BTreeMap::new(alloc),
+    };
+    for slot in slots {
+        let node = node_of(&mut placed.chosen, written, *slot, slot_map, strategy)?;
+        let Some(node) = node else {
+            return Ok(placed);
+        };
+        placed.nodes.push(node)?;
+    }
+    Ok(placed)
+}
 
 /// The node of a slot, if a range holds for the slot. Without a strategy it is the primary. Else it
 /// is chosen once and kept, so that each part of the slot goes to one node: the primary where a
 /// command may write to the slot, and the node that the strategy picks if all only read.
-pub(super) fn node_of<'a>(
+fn node_of<'a>(
     chosen: &mut BTreeMap<u16, &'a NodeAddress>,
     written: &BTreeSet<u16>,
     slot: u16,

@@ -25,3 +25,4 @@ pub use nodes::BatchNodes;
 pub use pipeline::PipelinePlan;
 pub use retrying::drive_pipeline_retrying;
 pub use send::Stopped;
+pub use task::{CommandTask, command_of, slots_of, tasks_of};

@@ -7,20 +7,21 @@ ghost use Rattle.redis_routing.specs.Names.{names_in};
 ghost use Rattle.redis_cluster.specs.Orders.{in_order};
 ghost use Rattle.redis_batches.specs.CommandTask.{slots_kept, split_in};
 ghost use Rattle.redis_batches.specs.PartArguments.{sent_args};
-ghost use Rattle.redis_batches.specs.PipelinePlan.{IsPipelinePlanFault, IsPlanOfCommands, IsWhole, told_batch};
+ghost use Rattle.redis_batches.specs.PipelinePlan.{IsPipelinePlanFault, IsPlanOfCommands, IsPlanOfTasks, IsWhole, told_batch};
 ghost use Rattle.redis_batches.specs.Plan.{AreFewest, IsByNode, IsPlan};
 ghost use Rattle.redis_batches.specs.Reads.{IsSlotNode};
 ghost use Rattle.redis_batches.specs.Replies.{AreRepliesFor, part_count};
 ghost use Rattle.redis_batches.specs.Tasks.{AreSplitsFor};
 
+use crate::chosen::nodes_of;
 use crate::fault::PipelineFault;
 use crate::grouping::{number_nodes, places_by_number};
 use crate::part::PartCommand;
-use crate::parts::{Placed, parts_of};
+use crate::parts::parts_of;
 use crate::plan::{all_set, no_answers, put_answers, refs_at};
 use crate::reads::written_slots;
 use crate::replies::replies_of;
-use crate::task::{CommandTask, tasks_of};
+use crate::task::{CommandTask, command_of, slots_of, tasks_of};
 use cluster_map::{ReadRoutingStrategy, SlotMap};
 use cluster_slots::NodeAddress;
 use redis_routing::Names;
@@ -124,14 +125,37 @@ impl<'a> PipelinePlan<'a> {
         // Its ranges ascend, so that a slot has one node.
         let _ranges = slot_map.values();
         let tasks = tasks_of(alloc, commands, names.registry)?;
+        let slots = slots_of(alloc, tasks.as_slice())?;
         let written = written_slots(alloc, commands, tasks.as_slice(), names.read_only, strategy)?;
-        let placed = parts_of(alloc, tasks.as_slice(), &written, slot_map, strategy)?;
-        let Placed {
-            parts,
-            nodes,
-            chosen: _,
-        } = placed;
-        let plan = PipelinePlan::of_parts(alloc, tasks, parts, nodes)?;
+        let placed = nodes_of(alloc, slots.as_slice(), &written, slot_map, strategy)?;
+        if placed.nodes.len() < slots.len() {
+            let index = placed.nodes.len();
+            let number = command_of(tasks.as_slice(), index);
+            return Err(PipelineFault::NotCovered(number, slots[index]));
+        }
+        let plan = PipelinePlan::of_tasks(alloc, tasks, placed.nodes)?;
+        Ok(plan)
+    }
+
+    /// Plans commands by what is kept of each, and by the node of each part, in the order of
+    /// `slots_of`. So a caller with a table of its own says where each slot is.
+    ///
+    /// # Errors
+    ///
+    /// If memory runs out.
+    pub fn of_tasks(
+        alloc: Global,
+        tasks: Vec<CommandTask<'a>>,
+        targets: Vec<&'a NodeAddress>,
+    ) -> Result<Self, AllocError>
+        requires nodes { length targets.items ≡ length (flat_map slots_kept tasks.items) }
+        ensures plan { IfOk result (λ plan. IsPlanOfTasks tasks.entry.items
+            (map (λ node. node.now) targets.entry.items) plan) }
+        ensures fewest { IfOk result (λ plan. AreFewest plan.batches) }
+        ensures untold { IfOk result (λ plan. All (λ told. told ≡ false) plan.batches.told) }
+    {
+        let parts = parts_of(alloc, tasks.as_slice())?;
+        let plan = PipelinePlan::of_parts(alloc, tasks, parts, targets)?;
         Ok(plan)
     }
 

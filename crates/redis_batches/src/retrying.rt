@@ -1,9 +1,7 @@
-ghost use Rattle.std.specs.Prelude.{◌≡◌, ◌++◌, List, length, map, IfOk, IfErr, OnOk};
+ghost use Rattle.std.specs.Prelude.{◌≡◌, List, length, map, IfOk, IfErr, OnOk};
 ghost use Rattle.std.specs.List.{flat_map, range_with_len};
 ghost use Rattle.resp_core.specs.Answer.{answer_of};
 ghost use Rattle.redis_routing.specs.Names.{names_of};
-ghost use Rattle.redis_routing.specs.RoutingInfo.{route_lists};
-ghost use Rattle.redis_routing.specs.Split.{slots_of};
 ghost use Rattle.redis_batches.specs.CommandTask.{slots_kept};
 ghost use Rattle.redis_batches.specs.DrivenInRounds.{AreServedInRounds, IsRoundsFault};
 ghost use Rattle.redis_batches.specs.DrivenPipeline.{IsBeforeSending};
@@ -23,9 +21,9 @@ use crate::part::PartCommand;
 use crate::replies::replies_of;
 use crate::rounds::{first_numbers, send_round};
 use crate::send::send_batches;
-use crate::task::CommandTask;
+use crate::task::{CommandTask, slots_of};
 use cluster_map::{ReadRoutingStrategy, SlotMap};
-use cluster_slots::{NodeAddress, Route};
+use cluster_slots::NodeAddress;
 use redis_routing::ReadOnlyNames;
 use resp_core::{Cmd, RedisError, Value};
 use std::alloc::{AllocError, Global};
@@ -188,7 +186,7 @@ fn behind_first(
         (range_with_len 0 (length found.0.items)) (map (λ node. node.now) targets.now)
         (map answer_of given.now) found.1) }
 {
-    let slots = all_slots(alloc, tasks)?;
+    let slots = slots_of(alloc, tasks)?;
     let out = first_parts(alloc, slots.as_slice(), targets, given)?;
     Ok((slots, out))
 }
@@ -207,38 +205,4 @@ fn first_parts(
 {
     let numbers = first_numbers(alloc, slots.len())?;
     next_parts(alloc, slots, numbers.as_slice(), targets, given)
-}
-
-/// The slot of each part of some commands.
-fn all_slots(alloc: Global, tasks: &[CommandTask<'_>]) -> Result<Vec<u16>, AllocError>
-    ensures { IfOk result (λ slots. slots.items ≡ flat_map slots_kept tasks.now) }
-{
-    let mut slots = Vec::with_capacity(alloc, tasks.len())?;
-    for task in tasks {
-        push_slots(&mut slots, task)?;
-    }
-    Ok(slots)
-}
-
-/// Adds the slots of a command.
-fn push_slots(slots: &mut Vec<u16>, task: &CommandTask<'_>) -> Result<(), AllocError>
-    ensures { OnOk result (slots.new.items ≡ slots.old.items ++ slots_kept task.now) }
-{
-    match task {
-        CommandTask::InSlot(slot, _) => {
-            slots.push(*slot)?;
-            Ok(())
-        }
-        CommandTask::OverKeys(split) => push_routes(slots, split.routes()),
-    }
-}
-
-/// Adds the slots of routes.
-fn push_routes(slots: &mut Vec<u16>, routes: &[(Route, Vec<usize>)]) -> Result<(), AllocError>
-    ensures { OnOk result (slots.new.items ≡ slots.old.items ++ slots_of (route_lists routes.now)) }
-{
-    for (route, _) in routes {
-        slots.push(route.slot())?;
-    }
-    Ok(())
 }

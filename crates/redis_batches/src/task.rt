@@ -1,11 +1,13 @@
-ghost use Rattle.std.specs.Prelude.{◌≡◌, [], None, Some, IfOk, IfErr, IfSome};
-ghost use Rattle.std.specs.List.{AllZip};
-ghost use Rattle.redis_routing.specs.RoutingInfo.{as_routing, slot_routed};
-ghost use Rattle.redis_batches.specs.CommandTask.{IsTaskFor};
+ghost use Rattle.std.specs.Prelude.{◌≡◌, ◌<◌, ◌≤◌, ◌+◌, ◌++◌, [], None, Some, length, take, IfOk, IfErr, IfSome, OnOk};
+ghost use Rattle.std.specs.List.{AllZip, flat_map};
+ghost use Rattle.redis_routing.specs.RoutingInfo.{as_routing, route_lists, slot_routed};
+ghost use Rattle.redis_routing.specs.Split.{slots_of};
+ghost use Rattle.redis_batches.specs.CommandTask.{IsTaskFor, slots_kept};
 ghost use Rattle.redis_batches.specs.Pipelined.{IsTaskFault};
 ghost use Rattle.redis_batches.specs.Taken.{task_of};
 
 use crate::fault::PipelineFault;
+use cluster_slots::Route;
 use redis_routing::{
     Names, ReadOnlyNames, Registry, RoutingInfo, SingleNodeRoutingInfo, SplitCommand,
 };
@@ -14,15 +16,20 @@ use std::alloc::{AllocError, Global};
 
 /// What a plan keeps of a command.
 #[derive(Drop)]
-pub(super) enum CommandTask<'a> {
+pub enum CommandTask<'a> {
     /// It keeps to this slot, and goes out as it is.
     InSlot(u16, &'a Cmd),
     /// It is over many keys, and goes out part by part.
     OverKeys(SplitCommand<'a, Cmd>),
 }
 
-/// What is kept of each command, or the number of the first one that means nothing in a pipeline.
-pub(super) fn tasks_of<'a>(
+/// What is kept of each command, by the names that are registered besides those of the tables.
+///
+/// # Errors
+///
+/// `NotRoutable` for the first command that goes to no single slot and is not split by slot, as
+/// `PING`. `Memory` if memory runs out.
+pub fn tasks_of<'a>(
     alloc: Global,
     commands: &'a [Cmd],
     registry: &Registry,
@@ -43,6 +50,72 @@ pub(super) fn tasks_of<'a>(
         }
     }
     Ok(tasks)
+}
+
+/// The slot of each part of some commands, in the order of the commands and of the routes of each.
+/// A command of one slot is one part.
+///
+/// # Errors
+///
+/// If memory runs out.
+pub fn slots_of(alloc: Global, tasks: &[CommandTask<'_>]) -> Result<Vec<u16>, AllocError>
+    ensures { IfOk result (λ slots. slots.items ≡ flat_map slots_kept tasks.now) }
+{
+    let mut slots = Vec::with_capacity(alloc, tasks.len())?;
+    for task in tasks {
+        push_slots(&mut slots, task)?;
+    }
+    Ok(slots)
+}
+
+/// Adds the slots of a command.
+fn push_slots(slots: &mut Vec<u16>, task: &CommandTask<'_>) -> Result<(), AllocError>
+    ensures { OnOk result (slots.new.items ≡ slots.old.items ++ slots_kept task.now) }
+{
+    match task {
+        CommandTask::InSlot(slot, _) => {
+            slots.push(*slot)?;
+            Ok(())
+        }
+        CommandTask::OverKeys(split) => push_routes(slots, split.routes()),
+    }
+}
+
+/// Adds the slots of routes.
+fn push_routes(slots: &mut Vec<u16>, routes: &[(Route, Vec<usize>)]) -> Result<(), AllocError>
+    ensures { OnOk result (slots.new.items ≡ slots.old.items ++ slots_of (route_lists routes.now)) }
+{
+    for (route, _) in routes {
+        slots.push(route.slot())?;
+    }
+    Ok(())
+}
+
+/// The number of the command that has the part of this index among the parts of all.
+pub fn command_of(tasks: &[CommandTask<'_>], index: usize) -> usize
+    requires within { index < length (flat_map slots_kept tasks.now) }
+    ensures from { length (flat_map slots_kept (take result tasks.now)) ≤ index }
+    ensures to { index < length (flat_map slots_kept (take (result + 1) tasks.now)) }
+{
+    let mut before = index;
+    for (number, task) in tasks.iter().enumerate() {
+        let count = part_count(task);
+        if before < count {
+            return number;
+        }
+        before -= count;
+    }
+    unreachable!()
+}
+
+/// How many parts a command has.
+fn part_count(task: &CommandTask<'_>) -> usize
+    ensures { result ≡ length (slots_kept task.now) }
+{
+    match task {
+        CommandTask::InSlot(_, _) => 1,
+        CommandTask::OverKeys(split) => split.len(),
+    }
 }
 
 /// What is kept of a command, if it means something in a pipeline.
