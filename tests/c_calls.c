@@ -8,7 +8,7 @@
    c_calls once N    the call of number N: its answer, and a sum of all that it writes. The number 0
                      stands for a call that gets no memory and writes nothing. tests/refusals reads the names
                      at a case: the library's calls that this one makes, and that take memory.
-                     resp::request_len takes none */
+                     resp::request_len and resp::reply_len take none */
 #define _GNU_SOURCE
 #include "slotroute.h"
 
@@ -368,13 +368,13 @@ static int once(int call) {
     slotroute_redirected redirected = {0};
     uint32_t answer = SLOTROUTE_NO_MEMORY;
     switch (call) {
-    case 1: /* resp::read */
-        answer = slotroute_reply_len(BYTES(messages[9]), &told);
+    case 1: /* redis_batch_bytes::combine_answers resp::read */
+        answer = slotroute_combine_answers(SLOTROUTE_MAPS, 2, BYTES(messages[14]), out, sizeof out, &told);
         break;
     case 2: /* resp::read_request */
         answer = slotroute_route(BYTES(messages[2]), 1, &routed, &told);
         break;
-    case 3: /* redis_bytes::split resp::write_command */
+    case 3: /* redis_bytes::split resp::push_command */
         answer = slotroute_split(BYTES(messages[1]), slots, 8, ends, 8, out, sizeof out, &told);
         break;
     case 4: /* redis_bytes::combine resp::write */
@@ -388,7 +388,8 @@ static int once(int call) {
         answer = slotroute_redirect(BYTES("MOVED 1 a-host-of-more-than-sixteen-bytes:1"), BYTES("n1"), out,
                                     sizeof out, &redirected);
         break;
-    case 7: /* redis_batch_bytes::split_pipeline redis_batch_bytes::numbered_map */
+    case 7: /* redis_batch_bytes::split_pipeline redis_batches::tasks_of redis_batches::slots_of
+               redis_batches::PipelinePlan::of_tasks */
         answer = slotroute_split_pipeline(BYTES(PIPELINE), halves, SLOTROUTE_SLOTS, slots, 8, counts, 8, ends,
                                           8, out, sizeof out, &told);
         break;
@@ -396,9 +397,6 @@ static int once(int call) {
         answer = slotroute_combine_pipeline(BYTES(PIPELINE), halves, SLOTROUTE_SLOTS,
                                             BYTES("-ERR no\r\n*1\r\n$1\r\n1\r\n*1\r\n$-1\r\n"), out,
                                             sizeof out, &told);
-        break;
-    case 9: /* redis_batch_bytes::combine_answers */
-        answer = slotroute_combine_answers(SLOTROUTE_MAPS, 2, BYTES(messages[14]), out, sizeof out, &told);
         break;
     }
     uint64_t sum = mixed(mixed(14695981039346656037u, slots, sizeof slots), out, sizeof out);

@@ -2,5 +2,5 @@ pub mod Fronts
 pub mod Lists
 pub mod Sent
 pub mod Batchwise
-pub mod Runs
+pub mod ByTable
 pub mod OneReply

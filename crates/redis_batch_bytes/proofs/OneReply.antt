@@ -1,5 +1,5 @@
 -- The one reply that a policy makes of answers in bytes, and what is returned of it.
-use Rattle.std.proofs.Common.{◌≡◌, ◌≢◌, ◌⊎◌, ℕ, Vec, Global, IfOk, IfErr, List, [], ◌∷◌, ◌++◌, Bool, false, true, Option, Some, None, Result, Ok, Err, inl, inr, map, refl, sym, ap, subst, ◌∙◌}
+use Rattle.std.proofs.Common.{◌≡◌, ◌≢◌, ◌⊎◌, ℕ, Vec, Global, IfOk, IfErr, List, [], ◌∷◌, false, Option, Some, None, Result, Ok, Err, inl, inr, map, refl, sym, ap, subst, ◌∙◌}
 use Rattle.std.specs.Prelude.{filter_map, is_none}
 use Rattle.std.specs.List.{last_or, list_any}
 use Rattle.std.specs.Result.{result_err}
@@ -8,13 +8,12 @@ use Rattle.resp_core.specs.Answer.{Answer, answer_of}
 use Rattle.resp_core.specs.ErrorParts.{ErrorParts, out_of_memory}
 use Rattle.resp_core.specs.Reply.{Reply}
 use Rattle.resp_core.specs.View.{view}
-use Rattle.resp_core.specs.declared.error.ErrorKind.{ErrorKind}
 use Rattle.resp_core.specs.declared.error.ErrorKind.TheVariants.{Client, OutOfMemory, UnexpectedReturnType}
 use Rattle.resp_core.specs.declared.value.Value.{Value}
 use Rattle.redis_routing.specs.declared.policy.ResponsePolicy.{ResponsePolicy}
 use Rattle.redis_routing.specs.declared.policy.ResponsePolicy.TheVariants.{OneSucceeded, FirstSucceededNonEmptyOrAllEmpty, AllSucceeded, AggregateLogical, Aggregate, CombineArrays, Special, CombineMaps}
-use Rattle.redis_commands.specs.Answers.{answers_given, first_error, last_error, values_in}
-use Rattle.redis_commands.specs.Policy.{Combined, Returns, made_by, of_target, or_refused, refused, reply_by_policy, reply_or, unless_error}
+use Rattle.redis_commands.specs.Answers.{answers_given, first_error, last_error}
+use Rattle.redis_commands.specs.Policy.{Combined, Returns, of_target, or_refused, refused, reply_by_policy, reply_or, unless_error}
 use Rattle.redis_commands.specs.Rule.{IsCombined, by_policy}
 use Rattle.redis_bytes.specs.Replies.{HasNoForm}
 use Rattle.redis_batch_bytes.specs.declared.fault.BatchFault.{BatchFault}

@@ -8,7 +8,6 @@ use Rattle.redis_routing.specs.Registry.{Registrations}
 use Rattle.redis_cluster.specs.Orders.{in_order}
 use Rattle.redis_bytes.specs.Replies.{HasNoForm, IsAnswer}
 use Rattle.redis_batches.specs.Batched.{IsRight}
-use Rattle.redis_batches.specs.Placed.{Ranges}
 use Rattle.redis_batches.specs.Plan.{Batches}
 use Rattle.redis_batches.specs.PipelinePlan.{PipelineBatches}
 use Rattle.redis_batches.specs.Replies.{AreRepliesFor}
@@ -61,9 +60,10 @@ IsUncombinedBy plan bytes fault = AreUnreadAnswers plan.batches.places bytes fau
 
 -- why replies to a pipeline are not combined: it has no plan, or the bytes are not the answers to
 -- its batches
-abbrev pub PipelineIsUncombined : Registrations → Ranges → List ℕ → List ℕ → BatchFault → Type 0
-PipelineIsUncombined registered ranges requests bytes fault = IsUnplanned registered ranges requests fault
-    ⊎ ((plan : PipelineBatches) × IsPlanOfRequests registered ranges requests plan
+abbrev pub PipelineIsUncombined : Registrations → List ℕ → List ℕ → List ℕ → BatchFault → Type 0
+PipelineIsUncombined registered numbers requests bytes fault =
+    IsUnplanned registered numbers requests fault
+    ⊎ ((plan : PipelineBatches) × IsPlanOfRequests registered numbers requests plan
     × IsUncombinedBy plan bytes fault)
 
 -- ---- passing answers to a plan

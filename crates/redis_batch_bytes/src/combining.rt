@@ -6,17 +6,16 @@ ghost use Rattle.redis_batch_bytes.specs.Replies.{RepliesAreWritten, PipelineIsU
 
 use crate::commands::commands_in;
 use crate::fault::BatchFault;
-use crate::planning::plan_of;
+use crate::planning::{plan_of, tasks_by};
 use crate::telling::tell_all;
 use crate::writing::written;
-use cluster_map::SlotMap;
 use redis_batches::PipelinePlan;
 use redis_routing::Registry;
 use std::alloc::Global;
 
 /// The replies to the requests of a pipeline, one after another, by the replies to its batches.
 /// `replies` has these batch after batch in the order of `split_pipeline`, in whatever order they
-/// came. Pass the registry and the map that the pipeline was split by.
+/// came. Pass the registry and the numbers that the pipeline was split by.
 ///
 /// An error is the reply to its command, and stops nothing. A command that was split gets the first
 /// error of its parts. Bytes of its text that are not UTF-8 come back as U+FFFD.
@@ -30,20 +29,21 @@ pub fn combine_pipeline(
     alloc: Global,
     requests: &[u8],
     registry: &Registry,
-    slot_map: &SlotMap,
+    numbers: &[u16],
     replies: &[u8],
 ) -> Result<Vec<u8>, BatchFault>
     // The bytes are a reply to each command of each batch, and the replies to the commands are
     // written by these.
     ensures combined { IfOk result (λ combined. (plan : PipelineBatches)
-        × IsPlanOfRequests registry.now slot_map.now requests.now plan
+        × IsPlanOfRequests registry.now numbers.now requests.now plan
         × RepliesAreWritten plan replies.now combined.items) }
     // Each fault has its cause.
     ensures fault { IfErr result (λ fault.
-        PipelineIsUncombined registry.now slot_map.now requests.now replies.now fault) }
+        PipelineIsUncombined registry.now numbers.now requests.now replies.now fault) }
 {
     let commands = commands_in(alloc, requests)?;
-    let plan = plan_of(alloc, commands.as_slice(), registry, slot_map)?;
+    let (tasks, nodes) = tasks_by(alloc, commands.as_slice(), registry, numbers)?;
+    let plan = plan_of(alloc, tasks, nodes.as_slice())?;
     combined(alloc, plan, replies)
 }
 

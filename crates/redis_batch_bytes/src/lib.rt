@@ -6,7 +6,6 @@ mod combining;
 mod commands;
 mod errors;
 mod fault;
-mod numbers;
 mod planning;
 mod several;
 mod splitting;
@@ -15,6 +14,5 @@ mod writing;
 
 pub use combining::combine_pipeline;
 pub use fault::BatchFault;
-pub use numbers::numbered_map;
 pub use several::combine_answers;
 pub use splitting::{BatchBytes, split_pipeline};

@@ -9,19 +9,18 @@ ghost use Rattle.redis_batch_bytes.specs.Batches.{AreBatchesOf, batch_bytes};
 
 use crate::commands::commands_in;
 use crate::fault::BatchFault;
-use crate::planning::plan_of;
-use cluster_map::{NodeAddress, SlotMap};
+use crate::planning::{plan_of, tasks_by};
 use redis_batches::PipelinePlan;
 use redis_routing::Registry;
-use resp::write_command;
+use resp::push_command;
 use resp_core::Cmd;
 use std::alloc::{AllocError, Global};
 
 /// The batches of a pipeline, in the order in which their nodes first appear.
 #[derive(Drop)]
 pub struct BatchBytes {
-    /// The node of each batch.
-    pub nodes: Vec<NodeAddress>,
+    /// The number of each batch's node.
+    pub nodes: Vec<u16>,
     /// The number of commands of each batch, and so of the replies to it.
     pub counts: Vec<usize>,
     /// The index after the last byte of each batch.
@@ -32,7 +31,9 @@ pub struct BatchBytes {
 
 /// Splits a pipeline of requests into one batch for each node. `SET a 1`, `SET b 2`, `MGET b a`
 /// become `SET a 1`, `MGET a` for the node of `a`, and `SET b 2`, `MGET b` for the node of `b`.
-/// Each part goes to the primary of its slot. `registry` has the names of a module's commands.
+/// `numbers` has the number of each slot's node, as `redis_bytes::slot_table` returns them. A slot
+/// with `NO_NODE`, or without a number, is not covered. `registry` has the names of a module's
+/// commands.
 ///
 /// A node has to run the commands of a batch in order, as it does for one connection. The batches
 /// may be sent in any order, or at once.
@@ -46,18 +47,19 @@ pub fn split_pipeline(
     alloc: Global,
     requests: &[u8],
     registry: &Registry,
-    slot_map: &SlotMap,
+    numbers: &[u16],
 ) -> Result<BatchBytes, BatchFault>
     // The bytes are requests, and the batches are those of a plan of their commands.
     ensures batches { IfOk result (λ found. (plan : PipelineBatches)
-        × IsPlanOfRequests registry.now slot_map.now requests.now plan
+        × IsPlanOfRequests registry.now numbers.now requests.now plan
         × AreBatchesOf plan.batches found) }
     // Each fault has its cause.
     ensures fault { IfErr result (λ fault.
-        IsUnplanned registry.now slot_map.now requests.now fault) }
+        IsUnplanned registry.now numbers.now requests.now fault) }
 {
     let commands = commands_in(alloc, requests)?;
-    let plan = plan_of(alloc, commands.as_slice(), registry, slot_map)?;
+    let (tasks, nodes) = tasks_by(alloc, commands.as_slice(), registry, numbers)?;
+    let plan = plan_of(alloc, tasks, nodes.as_slice())?;
     Ok(batches_of(alloc, &plan)?)
 }
 
@@ -65,7 +67,7 @@ pub fn split_pipeline(
 fn batches_of(alloc: Global, plan: &PipelinePlan<'_>) -> Result<BatchBytes, AllocError>
     ensures { IfOk result (λ found. AreBatchesOf plan.now.batches found) }
 {
-    let nodes = nodes_of(alloc, plan)?;
+    let nodes = numbers_of(alloc, plan)?;
     let (counts, ends, bytes) = written(alloc, plan)?;
     Ok(BatchBytes {
         nodes,
@@ -75,18 +77,19 @@ fn batches_of(alloc: Global, plan: &PipelinePlan<'_>) -> Result<BatchBytes, Allo
     })
 }
 
-/// The node of each batch.
-fn nodes_of(alloc: Global, plan: &PipelinePlan<'_>) -> Result<Vec<NodeAddress>, AllocError>
-    ensures { IfOk result (λ nodes. nodes.items ≡ plan.now.batches.nodes) }
+/// The number of each batch's node.
+fn numbers_of(alloc: Global, plan: &PipelinePlan<'_>) -> Result<Vec<u16>, AllocError>
+    ensures { IfOk result (λ numbers.
+        numbers.items ≡ map (λ node. node.port) plan.now.batches.nodes) }
 {
-    let mut nodes = Vec::with_capacity(alloc, plan.len())?;
+    let mut numbers = Vec::with_capacity(alloc, plan.len())?;
     for number in 0..plan.len() {
         let Some(node) = plan.node(number) else {
             unreachable!()
         };
-        nodes.push(node.clone()?)?;
+        numbers.push(node.port())?;
     }
-    Ok(nodes)
+    Ok(numbers)
 }
 
 /// How many commands each batch has, where its bytes end, and the bytes of all.
@@ -129,18 +132,17 @@ fn push_batch(
     let Some(batch) = plan.batch(alloc, number)? else {
         unreachable!()
     };
-    push_commands(alloc, batch.as_slice(), bytes)?;
+    push_commands(batch.as_slice(), bytes)?;
     Ok(batch.len())
 }
 
 /// Adds the requests of some commands, one after the other.
-fn push_commands(alloc: Global, commands: &[&Cmd], bytes: &mut Vec<u8>) -> Result<(), AllocError>
+fn push_commands(commands: &[&Cmd], bytes: &mut Vec<u8>) -> Result<(), AllocError>
     ensures { OnOk result (bytes.new.items
         ≡ bytes.old.items ++ flat_map request (map (λ command. command.now) commands.now)) }
 {
     for command in commands {
-        let one = write_command(alloc, *command)?;
-        bytes.extend_from_slice(&one)?;
+        push_command(bytes, *command)?;
     }
     Ok(())
 }

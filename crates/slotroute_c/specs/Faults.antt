@@ -1,7 +1,5 @@
 -- The outcome of each fault, and what `told` reports of it.
 use Rattle.std.specs.Prelude.{◌≢◌, ℕ}
-use Rattle.resp.specs.declared.fault.ReadError.{ReadError}
-use Rattle.resp.specs.declared.fault.ReadError.TheVariants as read
 use Rattle.resp.specs.declared.fault.RequestFault.{RequestFault}
 use Rattle.resp.specs.declared.fault.RequestFault.TheVariants as request
 use Rattle.redis_bytes.specs.declared.fault.BytesFault.{BytesFault}
@@ -46,12 +44,3 @@ with_fault (faults.Reply number fault) told = with_reply_number number told
 with_fault (faults.Error number text) told = with_reply_number number told
 with_fault (faults.AfterReplies end) told = with_at end told
 with_fault _ told = told
-
--- the outcome if the first reply is not read
-abbrev pub of_read : ReadError → Outcome
-of_read read.Memory = NoMemory
-of_read (read.Fault fault) = of_reply fault
-
-abbrev pub with_read_fault : ReadError → Told → Told
-with_read_fault read.Memory told = told
-with_read_fault (read.Fault fault) told = with_reply_number 0 told

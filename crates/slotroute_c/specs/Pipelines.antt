@@ -1,15 +1,12 @@
 -- The batches of a pipeline by a table of node numbers, its replies, and what `told` reports.
-use Rattle.std.specs.Prelude.{◌<◌, ◌⊎◌, ℕ, List, [], map, length}
-use Rattle.cluster_slots.specs.Address.{Address}
-use Rattle.redis_batches.specs.Placed.{Ranges}
+use Rattle.std.specs.Prelude.{◌<◌, ◌⊎◌, ℕ, List, [], length}
 use Rattle.redis_batches.specs.PipelinePlan.{PipelineBatches}
 use Rattle.redis_batch_bytes.specs.declared.fault.BatchFault.{BatchFault}
 use Rattle.redis_batch_bytes.specs.declared.fault.BatchFault.TheVariants as faults
 use Rattle.redis_batch_bytes.specs.declared.splitting.BatchBytes.{BatchBytes}
 use Rattle.redis_batch_bytes.specs.Batches.{AreBatchesOf}
-use Rattle.redis_batch_bytes.specs.Numbered.{IsNumberedMap}
-use Rattle.redis_batch_bytes.specs.Plans.{IsPlanOfRequests, IsUnplanned}
-use Rattle.redis_batch_bytes.specs.Replies.{RepliesAreWritten, PipelineIsUncombined}
+use Rattle.redis_batch_bytes.specs.Plans.{IsPlanOfRequests}
+use Rattle.redis_batch_bytes.specs.Replies.{RepliesAreWritten}
 use Rattle.slotroute_c.specs.declared.outcomes.Outcome.{Outcome}
 use Rattle.slotroute_c.specs.declared.outcomes.Outcome.TheVariants.{AfterReplies, NoForm, NoMemory, NotCovered, NotRoutable}
 use Rattle.slotroute_c.specs.declared.told.Told.{Told}
@@ -17,23 +14,16 @@ use Rattle.slotroute_c.specs.Fields.{with_at, with_batch, with_reply_number, wit
 use Rattle.slotroute_c.specs.Faults.{of_request, with_request_fault}
 use Rattle.slotroute_c.specs.Outcomes.{of_reply}
 
--- The bytes are requests, and these are the batches of a plan of their commands. The map is that of
--- a table with the number of each slot's node.
-pub record AreBatchesBy (numbers requests : List ℕ) (batches : BatchBytes) : Type 0 where
-  pub ranges : Ranges
-  pub map_is : IsNumberedMap numbers ranges
-  pub plan : PipelineBatches
-  pub plan_is : IsPlanOfRequests [] ranges requests plan
-  pub are : AreBatchesOf plan.batches batches
+-- the bytes are requests, and these are the batches of a plan of their commands, by a table that has
+-- the number of each slot's node
+abbrev pub AreBatchesBy : List ℕ → List ℕ → BatchBytes → Type 0
+AreBatchesBy numbers requests batches = (plan : PipelineBatches)
+    × IsPlanOfRequests [] numbers requests plan × AreBatchesOf plan.batches batches
 
 -- the number of batches and of bytes is reported
 abbrev pub with_batches : BatchBytes → Told → Told
 with_batches batches told =
     with_sizes (length batches.nodes.items) (length batches.bytes.items) told
-
--- the number of each node, which is its port
-abbrev pub node_numbers : List Address → List ℕ
-node_numbers nodes = map (λ node. node.port) nodes
 
 -- one of the buffers, by their lengths, is too small
 abbrev pub IsOneTooSmall : BatchBytes → ℕ → ℕ → ℕ → ℕ → Type 0
@@ -41,25 +31,10 @@ IsOneTooSmall batches nodes counts ends out =
     (nodes < length batches.nodes.items) ⊎ (counts < length batches.counts.items)
     ⊎ (ends < length batches.ends.items) ⊎ (out < length batches.bytes.items)
 
--- why requests have no batches by a table
-abbrev pub IsUnplannedBy : List ℕ → List ℕ → BatchFault → Type 0
-IsUnplannedBy numbers requests faults.Memory = Unit {0}
-IsUnplannedBy numbers requests fault =
-    (ranges : Ranges) × IsNumberedMap numbers ranges × IsUnplanned [] ranges requests fault
-
--- The bytes are the replies to the batches, and by these the replies to the commands are written.
-pub record AreCombinedBy (numbers requests replies combined : List ℕ) : Type 0 where
-  pub ranges : Ranges
-  pub map_is : IsNumberedMap numbers ranges
-  pub plan : PipelineBatches
-  pub plan_is : IsPlanOfRequests [] ranges requests plan
-  pub are : RepliesAreWritten plan replies combined
-
--- why the replies to batches by a table are not combined
-abbrev pub TableIsUncombined : List ℕ → List ℕ → List ℕ → BatchFault → Type 0
-TableIsUncombined numbers requests replies faults.Memory = Unit {0}
-TableIsUncombined numbers requests replies fault =
-    (ranges : Ranges) × IsNumberedMap numbers ranges × PipelineIsUncombined [] ranges requests replies fault
+-- the bytes are the replies to the batches, and by these the replies to the commands are written
+abbrev pub AreCombinedBy : List ℕ → List ℕ → List ℕ → List ℕ → Type 0
+AreCombinedBy numbers requests replies combined = (plan : PipelineBatches)
+    × IsPlanOfRequests [] numbers requests plan × RepliesAreWritten plan replies combined
 
 -- the outcome of each fault of a pipeline
 abbrev pub outcome_of_batch : BatchFault → Outcome

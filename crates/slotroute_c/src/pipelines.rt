@@ -1,20 +1,21 @@
-ghost use Rattle.std.specs.Prelude.{◌≡◌, ◌≢◌, ◌<◌, ℕ, List, IfOk, IfErr, length};
+ghost use Rattle.std.specs.Prelude.{◌≡◌, ◌≢◌, ◌<◌, ℕ, List, [], IfOk, IfErr, length};
 ghost use Rattle.redis_batch_bytes.specs.declared.fault.BatchFault as faults;
 ghost use Rattle.redis_batch_bytes.specs.declared.splitting.BatchBytes as declared;
+ghost use Rattle.redis_batch_bytes.specs.Plans.{IsUnplanned};
+ghost use Rattle.redis_batch_bytes.specs.Replies.{PipelineIsUncombined};
 ghost use Rattle.slotroute_c.specs.Outcomes.{code};
 ghost use Rattle.slotroute_c.specs.Buffers.{IsWritten};
 ghost use Rattle.slotroute_c.specs.Fields.{with_bytes};
 ghost use Rattle.slotroute_c.specs.Faults.{IsOther};
-ghost use Rattle.slotroute_c.specs.Pipelines.{AreBatchesBy, AreCombinedBy, IsOneTooSmall, TableIsUncombined, IsUnplannedBy, node_numbers, outcome_of_batch, with_batch_fault, with_batches};
+ghost use Rattle.slotroute_c.specs.Pipelines.{AreBatchesBy, AreCombinedBy, IsOneTooSmall, outcome_of_batch, with_batch_fault, with_batches};
 
 use crate::buffers::put_all;
 use crate::faults::{code_of_reply, code_of_request};
 use crate::outcomes::Outcome;
 use crate::told::Told;
-use cluster_slots::NodeAddress;
-use redis_batch_bytes::{BatchBytes, BatchFault, combine_pipeline, numbered_map, split_pipeline};
+use redis_batch_bytes::{BatchBytes, BatchFault, combine_pipeline, split_pipeline};
 use redis_routing::Registry;
-use std::alloc::{AllocError, Global};
+use std::alloc::Global;
 
 /// Splits a pipeline of requests into one batch for each node, by a table of `slotroute_table`.
 /// Writes each batch's node number to `nodes`, its number of commands to `counts`, the end of its
@@ -40,7 +41,7 @@ pub extern "C" fn slotroute_split_pipeline(
     ensures done { result ≡ code Outcome.Done → (batches : declared.BatchBytes)
         × AreBatchesBy numbers.now requests.now batches
         × (told.new ≡ with_batches batches told.old)
-        × IsWritten (node_numbers batches.nodes.items) nodes.old nodes.new
+        × IsWritten batches.nodes.items nodes.old nodes.new
         × IsWritten batches.counts.items counts.old counts.new
         × IsWritten batches.ends.items ends.old ends.new
         × IsWritten batches.bytes.items out.old out.new }
@@ -51,7 +52,7 @@ pub extern "C" fn slotroute_split_pipeline(
         (length out.old) }
     ensures fault { result ≢ code Outcome.Done → result ≢ code Outcome.TooSmall
         → (fault : faults.BatchFault) × (result ≡ code (outcome_of_batch fault))
-        × IsUnplannedBy numbers.now requests.now fault
+        × IsUnplanned [] numbers.now requests.now fault
         × (told.new ≡ with_batch_fault fault told.old) }
     ensures unwritten { result ≢ code Outcome.Done → (nodes.new ≡ nodes.old)
         × (counts.new ≡ counts.old) × (ends.new ≡ ends.old) × (out.new ≡ out.old) }
@@ -59,9 +60,6 @@ pub extern "C" fn slotroute_split_pipeline(
     let batches = match batches_by(alloc, requests, numbers) {
         Ok(batches) => batches,
         Err(fault) => return code_of_batch(&fault, told),
-    };
-    let Ok(found) = numbers_of(alloc, &batches.nodes) else {
-        return code_of_batch(&BatchFault::Memory, told);
     };
     told.parts = batches.nodes.len();
     told.bytes = batches.bytes.len();
@@ -77,7 +75,7 @@ pub extern "C" fn slotroute_split_pipeline(
     if out.len() < batches.bytes.len() {
         return Outcome::TooSmall.code();
     }
-    put_all(nodes, &found);
+    put_all(nodes, &batches.nodes);
     put_all(counts, &batches.counts);
     put_all(ends, &batches.ends);
     put_all(out, &batches.bytes);
@@ -114,7 +112,7 @@ pub extern "C" fn slotroute_combine_pipeline(
         × (told.new ≡ with_bytes (length combined) told.old) }
     ensures fault { result ≢ code Outcome.Done → result ≢ code Outcome.TooSmall
         → (fault : faults.BatchFault) × (result ≡ code (outcome_of_batch fault))
-        × TableIsUncombined numbers.now requests.now replies.now fault
+        × PipelineIsUncombined [] numbers.now requests.now replies.now fault
         × (told.new ≡ with_batch_fault fault told.old) }
     ensures unwritten { result ≢ code Outcome.Done → out.new ≡ out.old }
 {
@@ -133,11 +131,10 @@ pub extern "C" fn slotroute_combine_pipeline(
 /// The batches of a pipeline by a table.
 fn batches_by(alloc: Global, requests: &[u8], numbers: &[u16]) -> Result<BatchBytes, BatchFault>
     ensures batches { IfOk result (λ batches. AreBatchesBy numbers.now requests.now batches) }
-    ensures fault { IfErr result (λ fault. IsUnplannedBy numbers.now requests.now fault) }
+    ensures fault { IfErr result (λ fault. IsUnplanned [] numbers.now requests.now fault) }
 {
     let registry = Registry::new(alloc);
-    let slot_map = numbered_map(alloc, numbers)?;
-    split_pipeline(alloc, requests, &registry, &slot_map)
+    split_pipeline(alloc, requests, &registry, numbers)
 }
 
 /// The replies to the requests of a pipeline, by the replies to its batches and a table.
@@ -150,23 +147,10 @@ fn combined_by(
     ensures combined { IfOk result (λ combined.
         AreCombinedBy numbers.now requests.now replies.now combined.items) }
     ensures fault { IfErr result (λ fault.
-        TableIsUncombined numbers.now requests.now replies.now fault) }
+        PipelineIsUncombined [] numbers.now requests.now replies.now fault) }
 {
     let registry = Registry::new(alloc);
-    let slot_map = numbered_map(alloc, numbers)?;
-    combine_pipeline(alloc, requests, &registry, &slot_map, replies)
-}
-
-/// The number of each node.
-fn numbers_of(alloc: Global, nodes: &[NodeAddress]) -> Result<Vec<u16>, AllocError>
-    ensures numbers { IfOk result (λ numbers. numbers.items ≡ node_numbers nodes.now) }
-    ensures count { IfOk result (λ numbers. length numbers.items ≡ length nodes.now) }
-{
-    let mut numbers = Vec::with_capacity(alloc, nodes.len())?;
-    for node in nodes {
-        numbers.push(node.port())?;
-    }
-    Ok(numbers)
+    combine_pipeline(alloc, requests, &registry, numbers, replies)
 }
 
 /// The code of a pipeline's fault. `told` gets the numbers that go with it.

@@ -4,17 +4,17 @@ ghost use Rattle.redis_batches.specs.PipelinePlan.{PipelineBatches};
 ghost use Rattle.redis_batch_bytes.specs.Plans.{IsPlanOfRequests};
 ghost use Rattle.redis_batch_bytes.specs.Replies.{RepliesAreWritten};
 
-use cluster_map::{NodeAddress, SlotMap};
 use redis_batch_bytes::{BatchBytes, BatchFault, combine_pipeline, split_pipeline};
 use redis_cluster::routing::Registry;
 use std::alloc::{AllocError, Global};
 
-/// Connections to the nodes: each takes requests, and adds the bytes of as many replies.
+/// Connections to the nodes, by their numbers: each takes requests, and adds the bytes of as many
+/// replies.
 pub trait BatchConnections {
     /// Sends the requests of a batch to a node, and adds the bytes of the replies.
     fn answer(
         &mut self,
-        node: &NodeAddress,
+        node: u16,
         requests: &[u8],
         count: usize,
         replies: &mut Vec<u8>,
@@ -31,7 +31,7 @@ pub fn send_each<C: BatchConnections>(
     let counted = batches.nodes.iter().zip(batches.counts.iter());
     for ((node, count), end) in counted.zip(batches.ends.iter()) {
         if let Some(requests) = batches.bytes.get(start..*end) {
-            connections.answer(node, requests, *count, replies)?;
+            connections.answer(*node, requests, *count, replies)?;
         }
         start = *end;
     }
@@ -43,25 +43,25 @@ pub fn in_order(
     alloc: Global,
     requests: &[u8],
     registry: &Registry,
-    slot_map: &SlotMap,
+    numbers: &[u16],
     replies: &[u8],
 ) -> Result<Vec<u8>, BatchFault>
     ensures combined { IfOk result (λ combined. (plan : PipelineBatches)
-        × IsPlanOfRequests registry.now slot_map.now requests.now plan
+        × IsPlanOfRequests registry.now numbers.now requests.now plan
         × RepliesAreWritten plan replies.now combined.items) }
 {
-    combine_pipeline(alloc, requests, registry, slot_map, replies)
+    combine_pipeline(alloc, requests, registry, numbers, replies)
 }
 
-/// What the client gets for its pipeline.
+/// What the client gets for its pipeline, by the numbers of a `Table`.
 pub fn replies_to<C: BatchConnections>(
     alloc: Global,
     connections: &mut C,
     requests: &[u8],
     registry: &Registry,
-    slot_map: &SlotMap,
+    numbers: &[u16],
 ) -> Result<Vec<u8>, BatchFault> {
-    let batches = split_pipeline(alloc, requests, registry, slot_map)?;
+    let batches = split_pipeline(alloc, requests, registry, numbers)?;
     let mut replies = Vec::new(alloc);
     send_each(connections, &batches, &mut replies)?;
     in_order(alloc, requests, registry, slot_map, &replies)

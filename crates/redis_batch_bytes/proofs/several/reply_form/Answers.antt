@@ -1,4 +1,3 @@
-use Rattle.std.proofs.Common.{◌≡◌}
 use Rattle.redis_batch_bytes.proofs.OneReply.{error_faults, error_forms, value_faults, value_forms}
 use Rattle.redis_batch_bytes.proofs.several.reply_form.Goals as goal
 

@@ -1,6 +1,5 @@
-use Rattle.std.proofs.Common.{◌≡◌, ℕ, List, length, refl, subst, ap, ◌∙◌, rules}
-use Rattle.slotroute_c.specs.Buffers.{IsWritten}
-use Rattle.slotroute_c.specs.Pipelines.{IsOneTooSmall, node_numbers}
+use Rattle.std.proofs.Common.{◌≡◌, length, refl, rules}
+use Rattle.slotroute_c.specs.Pipelines.{IsOneTooSmall}
 use Rattle.slotroute_c.proofs.pipelines.slotroute_split_pipeline.Goals as goal
 
 pub returns-then-nodes-len-clause-too_small : goal.returns-then-nodes-len-clause-too_small
@@ -40,6 +39,4 @@ returns-clause-done c =
     let batches = c.in-Ok.batches in
     let count : c.len-told.result ≡ length batches.nodes.items = search rules in
     let bytes : c.len-told-2.result ≡ length batches.bytes.items = search rules in
-    let found : c.in-Ok-numbers_of.found.items ≡ node_numbers batches.nodes.items = c.in-Ok-numbers_of.ensures.numbers ∙ ap node_numbers c.deref.ensures.value in
-    let nodes : IsWritten (node_numbers batches.nodes.items) c.args.nodes.now c.put_all.new.buffer = subst (λ (xs : List ℕ). IsWritten xs c.args.nodes.now c.put_all.new.buffer) found c.put_all.ensures in
-    λ answer. (batches, c.in-Ok.ensures.batches, rw (count, bytes) refl, nodes, c.put_all-2.ensures, c.put_all-3.ensures, c.put_all-4.ensures)
+    λ answer. (batches, c.in-Ok.ensures.batches, rw (count, bytes) refl, c.put_all.ensures, c.put_all-2.ensures, c.put_all-3.ensures, c.put_all-4.ensures)
