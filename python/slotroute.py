@@ -46,6 +46,7 @@ class Library:
         slots, ends = [POINTER(c_uint16), c_size_t], [POINTER(c_size_t), c_size_t]
         for name, takes, gives in (
             ("message", [c_uint32, *BYTES_OUT], c_size_t),
+            ("version", [], c_uint32),
             ("slot", BYTES_IN, c_uint16),
             ("request_len", BYTES_IN + told, c_uint32),
             ("reply_len", BYTES_IN + told, c_uint32),
@@ -65,6 +66,10 @@ class Library:
         text = ctypes.create_string_buffer(100)
         length = self.lib.slotroute_message(answer, text, 100)
         return text.raw[:length].decode()
+
+    def version(self):
+        """The version of the library as a number: 100 for 0.1.0."""
+        return self.lib.slotroute_version()
 
     def slot(self, key):
         return self.lib.slotroute_slot(key, len(key))

@@ -82,7 +82,7 @@ target_is_client policy said e h = by policy h
     first made never h = first_is_client said e (unless_target (first_error answers) made e never h)
 
     by : (policy : Option ResponsePolicy) → reply_by_policy policy [] answers ≡ Err (of_target e) → e.kind ≡ Client
-    by None h = first _ (λ is. absurd (cc is)) h
+    by None h = first _ (no_target _ e) h
     by (Some OneSucceeded) h = last_of said e (or_target _ (last_error answers) _ e (λ is. absurd (cc is)) h)
     by (Some FirstSucceededNonEmptyOrAllEmpty) h = last_of said e (or_target _ (last_error answers) _ e (λ is. absurd (cc is)) h)
     by (Some AllSucceeded) h = first _ (no_target _ e) h
@@ -90,7 +90,7 @@ target_is_client policy said e h = by policy h
     by (Some (Aggregate op)) h = first _ (no_target _ e) h
     by (Some CombineArrays) h = first _ (no_target _ e) h
     by (Some CombineMaps) h = first _ (no_target _ e) h
-    by (Some Special) h = first _ (λ is. absurd (cc is)) h
+    by (Some Special) h = first _ (no_target _ e) h
 
 -- ---- what is written
 

@@ -1,5 +1,5 @@
 -- The one reply that a policy makes of what the targets of a command answered.
-use Rattle.std.specs.Prelude.{◌≡◌, List, Option, Some, None, Result, Ok, Err, map, option_map, filter_map}
+use Rattle.std.specs.Prelude.{◌≡◌, List, Option, Some, None, Result, Ok, Err, cond, filter_map, length, map, nat_eq, option_map}
 use Rattle.std.specs.List.{zip}
 use Rattle.resp_core.specs.Answer.{Answer}
 use Rattle.resp_core.specs.ErrorParts.{ErrorParts}
@@ -67,7 +67,8 @@ made_by (Some CombineArrays) targets values =
     or_refused (option_map (λ items. array (replies_of items)) (all_items values))
 made_by (Some CombineMaps) targets values = or_refused (combined_map values)
 made_by (Some AllSucceeded) targets values = or_refused (first_in values)
-made_by _ targets values = Ok (values_by_address targets values)
+made_by _ targets values = or_refused (cond (nat_eq (length targets) (length values))
+    (Some (values_by_address targets values)) None)
 
 -- the one reply that a policy makes of the answers, one of each target, in their order
 --

@@ -1,4 +1,4 @@
-ghost use Rattle.std.specs.Prelude.{◌≡◌, map, true, false, Option, Some, None, Ok, Err, filter_map, IfOk, is_none, is_some};
+ghost use Rattle.std.specs.Prelude.{◌≡◌, length, map, true, false, Option, Some, None, Ok, Err, filter_map, IfOk, is_none, is_some};
 ghost use Rattle.std.specs.List.{list_any};
 ghost use Rattle.resp_core.specs.Reply.{nil};
 ghost use Rattle.resp_core.specs.View.{view};
@@ -25,14 +25,13 @@ use std::alloc::{AllocError, Global};
 /// - special, or none, such as `INFO`: a map from each address as text to its value
 ///
 /// In the last three an error of any node is the reply, the first one. First and last are by the
-/// order of the nodes, and not by arrival. Only a map of addresses needs `nodes`. It has no entry
-/// for a value without a node, or a node without a value.
+/// order of the nodes, and not by arrival. Only a map of addresses needs `nodes`.
 ///
 /// # Errors
 ///
 /// An error of a node, as above. `Client` if an answer is missing. `UnexpectedReturnType` if the
-/// values do not fit the policy, or if the first value is wanted and no node has answered.
-/// `OutOfMemory` if memory ran out. The first three policies take no memory.
+/// values do not fit the policy, or if the first value is wanted and no node has answered. So it is
+/// for a map of addresses, unless there are as many nodes as answers. `OutOfMemory` if memory ran out. The first three policies take no memory.
 pub fn combine_answers(
     alloc: Global,
     policy: Option<ResponsePolicy>,
@@ -75,6 +74,9 @@ fn combine_by_policy(
         Some(ResponsePolicy::CombineMaps) => combine_map_results(alloc, all_values(alloc, told)?),
         Some(ResponsePolicy::Special) | None => {
             let values = all_values(alloc, told)?;
+            if values.len() != nodes.len() {
+                return Err(unlike());
+            }
             Ok(by_address(alloc, nodes, values)?)
         }
     }
@@ -86,6 +88,17 @@ fn no_answer() -> RedisError
     ensures { result.kind ≡ ErrorKind.UnexpectedReturnType }
 {
     RedisError::from((ErrorKind::UnexpectedReturnType, "no node has answered"))
+}
+
+/// The error if there is not a node for each answer.
+#[cold]
+fn unlike() -> RedisError
+    ensures { result.kind ≡ ErrorKind.UnexpectedReturnType }
+{
+    RedisError::from((
+        ErrorKind::UnexpectedReturnType,
+        "there are not as many nodes as answers",
+    ))
 }
 
 /// The first value, or else the last error.
@@ -192,21 +205,19 @@ fn all_values(
     Ok(values)
 }
 
-/// Each node's address as text, with its value, as far as there are both.
+/// Each node's address as text, with its value.
 fn by_address(
     alloc: Global,
     nodes: &[&NodeAddress],
     values: Vec<Value>,
 ) -> Result<Value, AllocError>
+    requires same { length values.items ≡ length nodes.now }
     ensures { IfOk result (λ value. view value
         ≡ values_by_address (addresses_behind nodes.now) (map view values.items)) }
 {
     let mut entries = Vec::with_capacity(alloc, values.len())?;
     let mut number = 0_usize;
     for value in values {
-        if number >= nodes.len() {
-            return Ok(Value::Map(entries));
-        }
         let text = format!(in alloc; "{}", nodes[number])?;
         entries.push((Value::BulkString(text.into_bytes()), value))?;
         number += 1;

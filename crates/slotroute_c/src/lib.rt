@@ -14,3 +14,4 @@ mod routes;
 mod several;
 mod tables;
 mod told;
+mod version;
