@@ -154,6 +154,35 @@ static void time_combining(void) {
     }
 }
 
+/* Pipelines of SET by a table in which each slot has another node than the next. */
+static void time_pipelines(void) {
+    static uint16_t numbers[SLOTROUTE_SLOTS], nodes[3];
+    size_t counts[3], ends[3];
+    double own;
+    for (size_t slot = 0; slot < SLOTROUTE_SLOTS; slot++) numbers[slot] = (uint16_t)(slot % 3);
+    for (size_t commands = 1; commands <= 1000; commands *= 10) {
+        text requests = some_room(commands * 64), replies = some_room(commands * 8);
+        text out = some_room(commands * 64);
+        slotroute_told told = {0};
+        for (size_t i = 0; i < commands; i++) {
+            add(&requests, "*3\r\n$3\r\nSET\r\n$11\r\nkey:%07zu\r\n", i * 7919);
+            add(&requests, "$8\r\nvalue%03zu\r\n", i);
+            add(&replies, "+OK\r\n", i);
+        }
+        LEAST(own, 20000 / commands + 1,
+              sink += slotroute_split_pipeline(requests.bytes, requests.len, numbers, SLOTROUTE_SLOTS, nodes, 3,
+                                               counts, 3, ends, 3, out.bytes, commands * 64, &told));
+        printf("| split a pipeline of SET | %zu | %.0f | |\n", commands, own);
+        LEAST(own, 20000 / commands + 1,
+              sink += slotroute_combine_pipeline(requests.bytes, requests.len, numbers, SLOTROUTE_SLOTS,
+                                                 replies.bytes, replies.len, out.bytes, commands * 64, &told));
+        printf("| combine its replies | %zu | %.0f | |\n", commands, own);
+        free(requests.bytes);
+        free(replies.bytes);
+        free(out.bytes);
+    }
+}
+
 static void time_the_rest(void) {
     static uint16_t numbers[SLOTROUTE_SLOTS];
     static uint8_t lines[4096];
@@ -190,6 +219,7 @@ int main(void) {
     time_reading();
     time_splitting("DEL");
     time_combining();
+    time_pipelines();
     time_the_rest();
     return 0;
 }

@@ -169,7 +169,7 @@ uint32_t slotroute_table(const uint8_t *reply, size_t reply_len,
  * slotroute_table. Batch i goes to the node of the number nodes[i], which has to run its commands
  * in order and returns counts[i] replies. Its bytes are those of out from ends[i - 1], or from 0,
  * up to ends[i]. told->parts is the number of batches, and told->bytes the number of bytes. Each
- * command has to keep to one slot, or to be one that slotroute_split splits. If a request is at
+ * command goes to the slot of its first key, or is one that slotroute_split splits. If a request is at
  * fault, told->request is its number. */
 uint32_t slotroute_split_pipeline(const uint8_t *requests, size_t requests_len,
                                   const uint16_t *numbers, size_t numbers_len,
@@ -182,8 +182,8 @@ uint32_t slotroute_split_pipeline(const uint8_t *requests, size_t requests_len,
  * these batch after batch, in whatever order the batches were sent. numbers has to be as it was for
  * the split. An error is the reply to its command, or to the command whose part it answers.
  * told->bytes is the length of the replies. If a reply is at fault, told->batch is the number of
- * its batch and told->reply its number there. If one has no form, told->request is the number of
- * its request. */
+ * its batch and told->reply its number there. If the reply to a request
+ * cannot be written (SLOTROUTE_NO_FORM), told->request is the number of the request. */
 uint32_t slotroute_combine_pipeline(const uint8_t *requests, size_t requests_len,
                                     const uint16_t *numbers, size_t numbers_len,
                                     const uint8_t *replies, size_t replies_len,

@@ -64,5 +64,5 @@ pub fn replies_to<C: BatchConnections>(
     let batches = split_pipeline(alloc, requests, registry, numbers)?;
     let mut replies = Vec::new(alloc);
     send_each(connections, &batches, &mut replies)?;
-    in_order(alloc, requests, registry, slot_map, &replies)
+    in_order(alloc, requests, registry, numbers, &replies)
 }
