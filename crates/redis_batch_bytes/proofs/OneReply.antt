@@ -8,7 +8,7 @@ use Rattle.resp_core.specs.Answer.{Answer, answer_of}
 use Rattle.resp_core.specs.ErrorParts.{ErrorParts, out_of_memory}
 use Rattle.resp_core.specs.Reply.{Reply}
 use Rattle.resp_core.specs.View.{view}
-use Rattle.resp_core.specs.declared.error.ErrorKind.TheVariants.{Client, OutOfMemory, UnexpectedReturnType}
+use Rattle.resp_core.specs.declared.error.ErrorKind.TheVariants.{InvalidClientConfig, OutOfMemory, UnexpectedReturnType}
 use Rattle.resp_core.specs.declared.value.Value.{Value}
 use Rattle.redis_routing.specs.declared.policy.ResponsePolicy.{ResponsePolicy}
 use Rattle.redis_routing.specs.declared.policy.ResponsePolicy.TheVariants.{OneSucceeded, FirstSucceededNonEmptyOrAllEmpty, AllSucceeded, AggregateLogical, Aggregate, CombineArrays, Special, CombineMaps}
@@ -41,13 +41,13 @@ returns_made policy xs given returned are combined ample = elim (combined (ap (l
 
 -- ---- the kinds of errors
 
-first_is_client : (said : List WireAnswer) (e : ErrorParts) → first_error (map answer_of_wire said) ≡ Some e → e.kind ≡ Client
+first_is_client : (said : List WireAnswer) (e : ErrorParts) → first_error (map answer_of_wire said) ≡ Some e → e.kind ≡ InvalidClientConfig
 first_is_client [] e h = absurd (cc h)
 first_is_client (Ok reply ∷ said) e h = first_is_client said e h
 first_is_client (Err text ∷ said) e h = let is : e ≡ error_of text = cc h in ap (λ (x : ErrorParts). x.kind) is
 
-last_is_client : (before : Option ErrorParts) (said : List WireAnswer) (e : ErrorParts) → ((x : ErrorParts) → before ≡ Some x → x.kind ≡ Client)
-    → last_or before (filter_map result_err (map answer_of_wire said)) ≡ Some e → e.kind ≡ Client
+last_is_client : (before : Option ErrorParts) (said : List WireAnswer) (e : ErrorParts) → ((x : ErrorParts) → before ≡ Some x → x.kind ≡ InvalidClientConfig)
+    → last_or before (filter_map result_err (map answer_of_wire said)) ≡ Some e → e.kind ≡ InvalidClientConfig
 last_is_client before [] e own h = own e h
 last_is_client before (Ok reply ∷ said) e own h = last_is_client before said e own h
 last_is_client before (Err text ∷ said) e own h = last_is_client (Some (error_of text)) said e (λ x is. let same : x ≡ error_of text = cc is in ap (λ (y : ErrorParts). y.kind) same) h
@@ -65,23 +65,23 @@ or_target (Some reply) o otherwise e never h = absurd (cc h)
 or_target None (Some x) otherwise e never h = cc h
 or_target None None otherwise e never h = absurd (never h)
 
-no_error : (before : Option ErrorParts) → before ≡ None → (x : ErrorParts) → before ≡ Some x → x.kind ≡ Client
+no_error : (before : Option ErrorParts) → before ≡ None → (x : ErrorParts) → before ≡ Some x → x.kind ≡ InvalidClientConfig
 no_error before none x is = absurd (cc (none, is))
 
-last_of : (said : List WireAnswer) (e : ErrorParts) → last_error (map answer_of_wire said) ≡ Some e → e.kind ≡ Client
+last_of : (said : List WireAnswer) (e : ErrorParts) → last_error (map answer_of_wire said) ≡ Some e → e.kind ≡ InvalidClientConfig
 last_of said e h = last_is_client None said e (no_error None refl) h
 
 -- an error that a policy makes of answers in bytes is one of these
-target_is_client : (policy : Option ResponsePolicy) (said : List WireAnswer) (e : ErrorParts) → reply_by_policy policy [] (map answer_of_wire said) ≡ Err (of_target e) → e.kind ≡ Client
+target_is_client : (policy : Option ResponsePolicy) (said : List WireAnswer) (e : ErrorParts) → reply_by_policy policy [] (map answer_of_wire said) ≡ Err (of_target e) → e.kind ≡ InvalidClientConfig
 target_is_client policy said e h = by policy h
   where
     answers : List Answer
     answers = map answer_of_wire said
 
-    first : (made : Combined) → (made ≡ Err (of_target e) → ⊥) → unless_error (first_error answers) made ≡ Err (of_target e) → e.kind ≡ Client
+    first : (made : Combined) → (made ≡ Err (of_target e) → ⊥) → unless_error (first_error answers) made ≡ Err (of_target e) → e.kind ≡ InvalidClientConfig
     first made never h = first_is_client said e (unless_target (first_error answers) made e never h)
 
-    by : (policy : Option ResponsePolicy) → reply_by_policy policy [] answers ≡ Err (of_target e) → e.kind ≡ Client
+    by : (policy : Option ResponsePolicy) → reply_by_policy policy [] answers ≡ Err (of_target e) → e.kind ≡ InvalidClientConfig
     by None h = first _ (no_target _ e) h
     by (Some OneSucceeded) h = last_of said e (or_target _ (last_error answers) _ e (λ is. absurd (cc is)) h)
     by (Some FirstSucceededNonEmptyOrAllEmpty) h = last_of said e (or_target _ (last_error answers) _ e (λ is. absurd (cc is)) h)
@@ -105,7 +105,7 @@ error_form (Ok reply) error bytes returned other written = absurd returned
 error_form (Err (of_target own)) error bytes returned other written = written ∙ ap (λ (e : ErrorParts). line 45 (said_of e)) returned
 error_form (Err refused) error bytes returned other written = absurd (other returned)
 
-refused_form : (combined : Combined) (error : ErrorParts) → Returns (Err error) combined → error.kind ≡ UnexpectedReturnType → ((own : ErrorParts) → combined ≡ Err (of_target own) → own.kind ≡ Client) → HasNoReplyForm combined
+refused_form : (combined : Combined) (error : ErrorParts) → Returns (Err error) combined → error.kind ≡ UnexpectedReturnType → ((own : ErrorParts) → combined ≡ Err (of_target own) → own.kind ≡ InvalidClientConfig) → HasNoReplyForm combined
 refused_form (Ok reply) error returned is client = absurd returned
 refused_form (Err (of_target own)) error returned is client = absurd (cc (sym is ∙ ap (λ (e : ErrorParts). e.kind) returned ∙ client own refl))
 refused_form (Err refused) error returned is client = tt

@@ -7,6 +7,10 @@ use resp::Response;
 use resp_core::{ErrorKind, RedisError, Value};
 use std::alloc::{AllocError, Global};
 
+/// The kind of a node's error. Replies that make no one reply give an error of another kind, so the
+/// two are never mixed up.
+const OF_NODE: ErrorKind = ErrorKind::InvalidClientConfig;
+
 /// What a plan takes of an answer. The text of an error becomes its detail, and its fixed text is
 /// empty.
 pub(super) fn told(
@@ -19,7 +23,7 @@ pub(super) fn told(
         Response::Value(value) => Ok(Ok(value)),
         Response::Error(text) => {
             let text = String::from_utf8_lossy(alloc, &text)?;
-            Ok(Err(RedisError::from((ErrorKind::Client, "", text))))
+            Ok(Err(RedisError::from((OF_NODE, "", text))))
         }
     }
 }
@@ -29,7 +33,7 @@ pub(super) fn told(
 pub(super) fn said_of(error: &RedisError) -> &str
     ensures { result.now ≡ said_of error.now }
 {
-    if error.desc().is_empty() {
+    if error.kind() == OF_NODE {
         if let Some(text) = error.detail() {
             return text;
         }

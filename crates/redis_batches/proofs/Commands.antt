@@ -83,12 +83,12 @@ module _ (names : Names) (args : Arguments) (split : Split) (arguments : split.a
 -- a split command is kept as its split
 pub kept_split : (names : Names) (args : List (List ℕ)) (split : Split) → split.arguments ≡ map Some args → Some split.routes ≡ multi_slot_routes names (map Some args)
     → Some split.pattern ≡ pattern_by_name names.registered (command_name (map Some args)) → Some split.policy ≡ policy_by_name names.registered (command_name (map Some args)) → IsSplit split
-    → IsTaskFor names.registered args (OverKeys split)
-kept_split names args split arguments routes pattern policy held =
+    → Some split.routes ≡ multi_slot_routes (names_of [] names.registered) split.arguments → IsTaskFor names.registered args (OverKeys split)
+kept_split names args split arguments routes pattern policy held own =
     let found = split_of_task names (map Some args) split arguments routes pattern policy held in (
       over_keys found.0,
       ap (task_by names.registered args) found.1,
-      (found.0, refl, found.2),
+      (found.0, refl, found.2, own),
       sym (map_map (λ (part : SlotPart). part.1) (λ slot. (slot, split_part split slot)) (slots_of split.routes)) ∙ found.3,
     )
 

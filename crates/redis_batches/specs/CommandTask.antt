@@ -1,6 +1,8 @@
 -- What a plan keeps of a command: its slot, or its split.
 use Rattle.std.specs.Prelude.{◌≡◌, ℕ, List, [], ◌∷◌, Option, None, Some, map}
 use Rattle.redis_routing.specs.Command.{Arguments}
+use Rattle.redis_routing.specs.Complete.{multi_slot_routes}
+use Rattle.redis_routing.specs.Names.{names_of}
 use Rattle.redis_routing.specs.Registry.{Registrations}
 use Rattle.redis_routing.specs.Split.{Split, split_part, slots_of}
 use Rattle.redis_cluster.specs.MultiKey.{MultiKey}
@@ -39,12 +41,13 @@ abbrev pub slots_kept : CommandTask → List ℕ
 slots_kept (InSlot slot command) = slot ∷ []
 slots_kept (OverKeys split) = slots_of split.routes
 
--- this is kept of a command that means this
+-- this is kept of a command that means this; its routes are those of a command that may write
 abbrev pub IsKeptOf : Registrations → Task → CommandTask → Type 0
 IsKeptOf registered task (InSlot slot command) =
     (task ≡ in_slot slot command.now) × (task_of registered command.now ≡ Some task)
 IsKeptOf registered task (OverKeys split) =
     (command : MultiKey) × (task ≡ over_keys command) × IsSplitOfTask registered command split
+    × (Some split.routes ≡ multi_slot_routes (names_of [] registered) split.arguments)
 
 -- the command with these arguments means something in a pipeline, and this is kept of it, whose
 -- parts have the arguments of the command's parts

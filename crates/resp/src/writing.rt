@@ -49,7 +49,7 @@ pub fn write_command(alloc: Global, command: &Cmd) -> Result<Vec<u8>, AllocError
 ///
 /// # Errors
 ///
-/// If memory runs out. Then a beginning of the request may stand at the end of the buffer.
+/// If memory runs out. Then the buffer may end with a beginning of the request.
 pub fn push_command(out: &mut Vec<u8>, command: &Cmd) -> Result<(), AllocError>
     ensures bytes { OnOk result (out.new.items ≡ out.old.items ++ request command.now) }
     // `read_request` reads the appended bytes as this command.

@@ -13,8 +13,9 @@ returns-in-Some-clause-some c =
     let new = c.in_ok-split.ensures in
     let found = c.in_ok-split.field-0 in
     let split = c.in-Some.split in
+    let own : Some split.routes ≡ multi_slot_routes (names_of [] c.args.names.registry.now) split.arguments = search rules in
     kept_split (names_in c.args.names) c.args.command.now split (of_some _ found split c.in-Some.is new.arguments)
-    (sym (ap (option_map (λ s. s.routes)) c.in-Some.is) ∙ new.routes) (of_some _ found split c.in-Some.is new.pattern) (of_some _ found split c.in-Some.is new.policy) c.routes-routes.ensures.split
+    (sym (ap (option_map (λ s. s.routes)) c.in-Some.is) ∙ new.routes) (of_some _ found split c.in-Some.is new.pattern) (of_some _ found split c.in-Some.is new.policy) c.routes-routes.ensures.split own
 
 pub returns-in-Some-slot_routed-clause-some : goal.returns-in-Some-slot_routed-clause-some
 returns-in-Some-slot_routed-clause-some c =
