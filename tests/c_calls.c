@@ -349,9 +349,8 @@ static int exact(void) {
     if (!is_no_request("*00\r\n", 2) || !is_no_request("*01\r\n$4\r\nPING\r\n", 2)
         || !is_no_request("*1\r\n$04\r\nPING\r\n", 6))
         return 4;
-    char deep[4 * 33 + 1] = "";
-    for (int level = 0; level < 33; level++) strcat(deep, "*1\r\n");
-    if (!is_reply_fault(deep, SLOTROUTE_REPLY_TOO_DEEP) || !is_reply_fault("*1\r\nx", SLOTROUTE_REPLY_MALFORMED))
+    if (!is_reply_fault("*1\r\nx", SLOTROUTE_REPLY_MALFORMED) || !is_reply_fault("+a\n", SLOTROUTE_REPLY_MALFORMED)
+        || !is_reply_fault("|1\r\n+a\r\n:1\r\n", SLOTROUTE_REPLY_INCOMPLETE))
         return 5;
     if (!is_routed("*2\r\n$3\r\nGET\r\n$3\r\nfoo\r\n", 12182, SLOTROUTE_REPLICA_OPTIONAL)
         || !is_routed("*3\r\n$7\r\nCLUSTER\r\n$8\r\nADDSLOTS\r\n$1\r\n5\r\n", 5, SLOTROUTE_PRIMARY))

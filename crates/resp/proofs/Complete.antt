@@ -25,7 +25,7 @@ Filled {A} read bytes = (more : List ℕ) × (x : A) × (read (bytes ++ more) �
 abbrev pub Completable : {A : Type 0} → (List ℕ → Result (A × List ℕ) Fault) → Type 0
 Completable read = (bytes : List ℕ) → read bytes ≡ Err Incomplete → Filled read bytes
 
-no_ok : {A : Type 0} (x : A) → done x ≡ failed Incomplete → ⊥
+pub no_ok : {A : Type 0} (x : A) → done x ≡ failed Incomplete → ⊥
 no_ok x e = absurd cc
 
 no_malformed : {A : Type 0} → failed {A = A} Malformed ≡ failed Incomplete → ⊥
@@ -57,7 +57,7 @@ module _ {A B : Type 0} (F : List ℕ → Result (A × List ℕ) Fault) (G : A �
   filled_by bytes (Err Malformed) is first second begins e = absurd (no_malformed e)
   filled_by bytes (Err TooDeep) is first second begins e = absurd (no_too_deep e)
 
-  complete_bind : Completable F → ((x : A) → Completable (G x)) → ((x : A) → Filled (G x) []) → Completable sequel
+  pub complete_bind : Completable F → ((x : A) → Completable (G x)) → ((x : A) → Filled (G x) []) → Completable sequel
   complete_bind first second begins bytes e = filled_by bytes (F bytes) refl first second begins e
 
 -- ---- a line
@@ -179,7 +179,7 @@ length_line bytes o given f =
     let whole : after_text (bytes ++ f.0) ≡ 13 ∷ 10 ∷ [] = ended_takes (after_text (bytes ++ f.0)) [] f.2 in
     (f.0, o, rw (whole, f.1) given)
 
-lengths_complete : Completable (λ bytes. length_at (text_until_line_end bytes) (after_text bytes))
+pub lengths_complete : Completable (λ bytes. length_at (text_until_line_end bytes) (after_text bytes))
 unfolding length_at
 lengths_complete bytes e =
     let text = text_until_line_end bytes in
@@ -202,7 +202,7 @@ lengths_complete bytes e =
       ]
     ]
 
-text_complete : {A : Type 0} (means : List ℕ → A) → Completable (λ bytes. after_line_end (after_text bytes) >>= λ rest. Ok (means (text_until_line_end bytes), rest))
+pub text_complete : {A : Type 0} (means : List ℕ → A) → Completable (λ bytes. after_line_end (after_text bytes) >>= λ rest. Ok (means (text_until_line_end bytes), rest))
 text_complete means bytes e =
     let f = line_completes bytes (lacks (after_line_end (after_text bytes)) (means (text_until_line_end bytes)) e) in
     (f.0, means (text_until_line_end (bytes ++ f.0)), rw f.2 refl)
@@ -221,7 +221,7 @@ zeros_length (suc n) = ap suc (zeros_length n)
 bytes_filled : (n : ℕ) (bytes : List ℕ) → length bytes ≡ n → bytes_at (Some n) (bytes ++ crlf) ≡ Ok (Ok (bulk bytes), [])
 bytes_filled n bytes is = subst (λ (k : ℕ). bytes_at (Some k) (bytes ++ crlf) ≡ Ok (Ok (bulk bytes), [])) is (bytes_again bytes)
 
-bytes_complete : (o : Option ℕ) → Completable (bytes_at o)
+pub bytes_complete : (o : Option ℕ) → Completable (bytes_at o)
 unfolding bytes_at
 bytes_complete None rest e = absurd (no_ok (Ok nil, rest) e)
 bytes_complete (Some n) rest e =
@@ -239,7 +239,7 @@ bytes_complete (Some n) rest e =
           (m.0, Ok (bulk (take n (rest ++ m.0))), rw (g, drop_front n rest m.0 le, m.1) refl)
     ]
 
-bytes_begin : (o : Option ℕ) → Filled (bytes_at o) []
+pub bytes_begin : (o : Option ℕ) → Filled (bytes_at o) []
 unfolding bytes_at
 bytes_begin None = ([], Ok nil, refl)
 bytes_begin (Some n) = (zeros n ++ crlf, Ok (bulk (zeros n)), bytes_filled n (zeros n) (zeros_length n))
@@ -315,7 +315,7 @@ incomplete bytes e = grind (arith, answer_completes, answer_takes, append-nil)
 no_answer : {A : Type 0} (x : A) (f : Fault) → done x ≡ failed f → ⊥
 no_answer x f e = absurd cc
 
-pub none_stands : (bytes : List ℕ) (fault : Fault) → answer_at 32 bytes ≡ Err fault → HasNoAnswer bytes
+none_stands : (bytes : List ℕ) (fault : Fault) → answer_at 32 bytes ≡ Err fault → HasNoAnswer bytes
 none_stands bytes fault fails = λ a form rest is e. no_answer (a, rest) fault (sym (answer_again 32 a form rest is) ∙ ap (answer_at 32) (sym e) ∙ fails)
 
 begins_none : (bytes : List ℕ) (fault : Fault) → ((more : List ℕ) → answer_at 32 (bytes ++ more) ≡ Err fault) → BeginsNone bytes

@@ -9,7 +9,7 @@ use Rattle.resp.specs.declared.fault.Fault.TheVariants.{Incomplete, TooDeep}
 use Rattle.resp.specs.declared.fault.ReadError.{ReadError}
 use Rattle.resp.specs.declared.fault.ReadError.TheVariants as errors
 use Rattle.resp.specs.Forms.{Answer, array_of_all}
-use Rattle.resp.specs.Reading.{◌>>=◌, Fails, Items, rest_of, text_until_line_end, after_text, length_at, flat_at, array_items_at, array_at, front_at, times_at, answer_at}
+use Rattle.resp.specs.Reading.{◌>>=◌, Fails, Items, text_until_line_end, after_text, length_at, flat_at, array_items_at, array_at, front_at, times_at, answer_at}
 
 abbrev tail : List ℕ → List ℕ
 tail bytes = take (length bytes - 1) (drop 1 bytes)
@@ -69,17 +69,6 @@ pub nothing : (levels : ℕ) (bytes text after rest : List ℕ) (o : Option ℕ)
     → length_at text after ≡ Ok (o, rest) → o ≡ None → answer_at levels bytes ≡ Ok (Ok nil, rest)
 unfolding array_items_at
 nothing levels bytes text after rest o some star above t a h none = array_opened levels bytes text after some star above t a ∙ rw (h, none) refl
-
--- what follows an array is what follows its items
-pub rest_of_items : (levels : ℕ) (bytes text after rest : List ℕ) (o : Option ℕ) (n : ℕ) → 1 ≤ length bytes → get_or bytes 0 0 ≡ 42 → 0 < levels → text ≡ text_until_line_end (tail bytes) → after ≡ after_text (tail bytes)
-    → length_at text after ≡ Ok (o, rest) → o ≡ Some n → rest_of (answer_at levels bytes) ≡ rest_of (times_at (answer_at (levels - 1)) n rest)
-unfolding array_items_at
-rest_of_items levels bytes text after rest o n some star above t a h is =
-    ap rest_of (array_opened levels bytes text after some star above t a) ∙ rw (h, is) (unchanged (times_at (answer_at (levels - 1)) n rest))
-  where
-    unchanged : (r : Result (Items × List ℕ) Fault) → rest_of (r >>= λ x. Ok (array_of_all x.0, x.1)) ≡ rest_of r
-    unchanged (Ok x) = refl
-    unchanged (Err f) = refl
 
 pub items_fail : (e : ReadError) (levels : ℕ) (bytes text after rest : List ℕ) (o : Option ℕ) (n : ℕ) → 1 ≤ length bytes → get_or bytes 0 0 ≡ 42 → 0 < levels → text ≡ text_until_line_end (tail bytes) → after ≡ after_text (tail bytes)
     → length_at text after ≡ Ok (o, rest) → o ≡ Some n → Fails e (times_at (answer_at (levels - 1)) n rest) → Fails e (answer_at levels bytes)

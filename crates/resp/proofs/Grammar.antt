@@ -33,16 +33,16 @@ char_in_line b large =
 
 -- ---- what is read
 
-abbrev IsLength : List ℕ → Option ℕ → Type 0
+abbrev pub IsLength : List ℕ → Option ℕ → Type 0
 IsLength text o = ((text ≡ codes "-1") × (o ≡ None)) ⊎ ((n : ℕ) × (length_in text ≡ Some n) × (o ≡ Some n))
 
-end_takes : {A : Type 0} (x : A) (after : List ℕ) (y : A × List ℕ) → (after_line_end after >>= λ rest. Ok (x, rest)) ≡ Ok y → (after ≡ 13 ∷ 10 ∷ y.1) × (x ≡ y.0)
+pub end_takes : {A : Type 0} (x : A) (after : List ℕ) (y : A × List ℕ) → (after_line_end after >>= λ rest. Ok (x, rest)) ≡ Ok y → (after ≡ 13 ∷ 10 ∷ y.1) × (x ≡ y.0)
 end_takes {A = A} x after y e =
     let a = bind_ok (after_line_end after) (λ rest. Ok (x, rest)) y e in
     let is = ok_is (x, a.0) y a.2 in
     (ended_takes after a.0 a.1 ∙ ap (λ (p : A × List ℕ). 13 ∷ 10 ∷ p.1) is, ap (λ (p : A × List ℕ). p.0) is)
 
-length_takes : (text after : List ℕ) (y : Option ℕ × List ℕ) → length_at text after ≡ Ok y → (after ≡ 13 ∷ 10 ∷ y.1) × IsLength text y.0
+pub length_takes : (text after : List ℕ) (y : Option ℕ × List ℕ) → length_at text after ≡ Ok y → (after ≡ 13 ∷ 10 ∷ y.1) × IsLength text y.0
 unfolding length_at
 length_takes text after y e =
     elim (chosen (bytes_eq text (codes "-1")) (after_line_end after >>= λ rest. Ok (None, rest)) _ (done y) e) [
@@ -69,7 +69,7 @@ int_takes text after y e =
           (t.0, some_of (int_in text) a.0 a.1 ∙ ap (λ (n : ℤ). Some n) t.1)
     ]
 
-bytes_take : (n : ℕ) (rest : List ℕ) (x : Answer × List ℕ) → bytes_at (Some n) rest ≡ Ok x
+pub bytes_take : (n : ℕ) (rest : List ℕ) (x : Answer × List ℕ) → bytes_at (Some n) rest ≡ Ok x
     → (bytes : List ℕ) × (length bytes ≡ n) × (rest ≡ (bytes ++ crlf) ++ x.1) × (x.0 ≡ Ok (bulk bytes))
 unfolding bytes_at
 bytes_take n rest x e =
@@ -170,7 +170,7 @@ nested_takes Each read each bytes x e =
           (t.1, l.0 ∙ ap (λ (r : List ℕ). 13 ∷ 10 ∷ r) t.3 ∙ ap (λ (y : Answer × List ℕ). 13 ∷ 10 ∷ (t.1 ++ y.1)) is, inr (refl, t.0, q.1 ∙ ap (λ (k : ℕ). Some k) (sym t.2), t.4, sym (ap (λ (y : Answer × List ℕ). y.0) is) ∙ ap array_of_all t.5))
     ]
 
-spelt : (mark : ℕ) (bytes body rest : List ℕ) → after_text bytes ≡ 13 ∷ 10 ∷ (body ++ rest) → mark ∷ bytes ≡ (line mark (text_until_line_end bytes) ++ body) ++ rest
+pub spelt : (mark : ℕ) (bytes body rest : List ℕ) → after_text bytes ≡ 13 ∷ 10 ∷ (body ++ rest) → mark ∷ bytes ≡ (line mark (text_until_line_end bytes) ++ body) ++ rest
 spelt mark bytes body rest e =
     ap (λ (t : List ℕ). mark ∷ t) (line_is bytes ∙ ap (λ (t : List ℕ). text_until_line_end bytes ++ t) e ∙ sym (after_line (text_until_line_end bytes) (body ++ rest)))
     ∙ sym (append_assoc (line mark (text_until_line_end bytes)) body rest)
@@ -256,10 +256,10 @@ nested_again Each read each a mark text body bytes (inl h) t e = (h.0, rw (t, e,
 nested_again Each read each a mark text body bytes (inr h) t e =
     (h.0, rw (t, e, h.4, length_again text body (length h.1) h.2, times_again Each read each h.1 body h.3) refl)
 
-line_text : (text body : List ℕ) → AllByRecursion IsInLine text → text_until_line_end ((text ++ crlf) ++ body) ≡ text
+pub line_text : (text body : List ℕ) → AllByRecursion IsInLine text → text_until_line_end ((text ++ crlf) ++ body) ≡ text
 line_text text body clean = ap text_until_line_end (after_line text body) ∙ text_again text (10 ∷ body) clean
 
-line_after : (text body : List ℕ) → AllByRecursion IsInLine text → after_text ((text ++ crlf) ++ body) ≡ 13 ∷ 10 ∷ body
+pub line_after : (text body : List ℕ) → AllByRecursion IsInLine text → after_text ((text ++ crlf) ++ body) ≡ 13 ∷ 10 ∷ body
 line_after text body clean = ap after_text (after_line text body) ∙ after_again text (10 ∷ body) clean
 
 no_array : (a : Answer) (mark : ℕ) (text body : List ℕ) → IsUnnested a mark text body → eqb mark 42 ≡ false

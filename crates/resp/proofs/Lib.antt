@@ -6,6 +6,8 @@ pub mod Grammar
 pub mod Complete
 pub mod Times
 pub mod Fronts
+pub mod HeadGrammar
+pub mod Messages
 pub mod Written
 pub mod Readers
 pub mod NumberLines

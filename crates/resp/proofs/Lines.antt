@@ -1,7 +1,8 @@
 -- Where the text of a line ends.
-use Rattle.std.proofs.Common.{◌≡◌, ◌≢◌, ℕ, ◌+◌, ◌<◌, ◌≤◌, Bool, true, false, ◌&&◌, ◌||◌, eqb, List, [], ◌∷◌, ◌++◌, length, get_or, take, drop, Ok, refl, ap, ◌∙◌, arith}
+use Rattle.std.proofs.Common.{◌≡◌, ◌≢◌, ℕ, zero, suc, ◌+◌, ◌<◌, ◌≤◌, Bool, true, false, ◌||◌, eqb, List, [], ◌∷◌, ◌++◌, length, get_or, take, drop, append_assoc, Ok, refl, sym, ap, ◌∙◌, arith}
 use Rattle.std.specs.List.{AllByRecursion}
 use Rattle.std.proofs.lemmas.Bool.Decides.{nat_tests}
+use Rattle.std.proofs.lemmas.List.{length-append, take_at, drop_at, take-append-drop, length-take-le}
 use Rattle.std.proofs.lemmas.Grind.{common_steps}
 use Rattle.resp_core.proofs.Cases.{by_test}
 use Rattle.resp.specs.Forms.{IsInLine}
@@ -100,3 +101,34 @@ end_13 b e = rw e refl
 
 pub end_10 : (b : ℕ) → b ≡ 10 → is_end b ≡ true
 end_10 b e = rw e refl
+
+-- ---- a search that goes on
+
+-- no line ends in the bytes that were searched
+line_goes_on : (bytes : List ℕ) (n : ℕ) → AllByRecursion IsInLine (take n bytes) → OpenUntil n bytes
+unfolding text_until_line_end after_text
+line_goes_on bytes zero h = (refl, refl)
+line_goes_on [] (suc n) h = (refl, refl)
+line_goes_on (b ∷ bytes) (suc n) h =
+    let one : b ≢ 13 = h.0.0 in
+    let two : b ≢ 10 = h.0.1 in
+    let f : eqb b 13 ≡ false = grind (arith, nat_tests) in
+    let g : eqb b 10 ≡ false = grind (arith, nat_tests) in
+    let later = line_goes_on bytes n h.1 in
+    rw (f, g) (ap (λ (bs : List ℕ). b ∷ bs) later.0, later.1)
+
+pub text_short : (bytes : List ℕ) → length (text_until_line_end bytes) ≤ length bytes
+text_short bytes = omega (arith, ap (length {A = ℕ}) (line_is bytes), length-append (text_until_line_end bytes) (after_text bytes))
+
+pub from_searched : (bytes : List ℕ) (n : ℕ) → n ≤ length bytes → AllByRecursion IsInLine (take n bytes) → (text : List ℕ) → text ≡ text_until_line_end (drop n bytes)
+    → (take (n + length text) bytes ≡ text_until_line_end bytes) × (drop (n + length text) bytes ≡ after_text bytes)
+from_searched bytes n le clean text is =
+    let goes = line_goes_on bytes n clean in
+    let more = drop n bytes in
+    let front = take n bytes ++ text_until_line_end more in
+    let whole : bytes ≡ front ++ after_text more =
+    sym (take-append-drop n bytes) ∙ ap (λ (r : List ℕ). take n bytes ++ r) (line_is more) ∙ sym (append_assoc (take n bytes) (text_until_line_end more) (after_text more)) in
+    let long : length front ≡ n + length text = omega (arith, length-append (take n bytes) (text_until_line_end more), length-take-le n bytes le, ap (length {A = ℕ}) is) in (
+      ap (take (n + length text)) whole ∙ take_at front (after_text more) (n + length text) long ∙ sym goes.0,
+      ap (drop (n + length text)) whole ∙ drop_at front (after_text more) (n + length text) long ∙ sym goes.1,
+    )

@@ -181,7 +181,7 @@ unfolding bytes_at
 bytes_continue None rest more = refl
 bytes_continue (Some n) rest more = grind (arith, common_steps)
 
-text_steady : {A : Type 0} (means : List ℕ → A) → Steady (λ text after. after_line_end after >>= λ rest. Ok (means text, rest))
+pub text_steady : {A : Type 0} (means : List ℕ → A) → Steady (λ text after. after_line_end after >>= λ rest. Ok (means text, rest))
 text_steady means = (λ text b rest more. end_continues (means text) (b ∷ rest) more, λ text t after more. tt)
 
 flat_continues : (mark : ℕ) → Continuous (λ bytes. flat_at mark (text_until_line_end bytes) (after_text bytes))

@@ -1,4 +1,5 @@
 pub mod Forms
 pub mod Reading
+pub mod Messages
 pub mod Requests
 pub mod Texts

@@ -1,13 +1,15 @@
-//! Reading and writing replies and requests in the Redis serialization protocol, version 2.
+//! Reading and writing replies and requests in the Redis serialization protocol, version 2, and
+//! finding where messages of versions 2 and 3 end.
 #![tactic(auto)]
 
 mod fault;
 mod fields;
+mod heads;
 mod numbers;
 mod reading;
 mod requests;
 mod response;
-mod skipping;
+mod scanning;
 mod stop;
 mod writing;
 
@@ -15,5 +17,5 @@ pub use fault::{Fault, ReadError, RequestError, RequestFault, WriteError};
 pub use reading::{MAX_LEVELS, read};
 pub use requests::{read_request, request_len};
 pub use response::Response;
-pub use skipping::reply_len;
+pub use scanning::{Progress, reply_len, scan};
 pub use writing::{push_command, write, write_command};

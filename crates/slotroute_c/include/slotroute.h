@@ -80,8 +80,8 @@ uint16_t slotroute_slot(const uint8_t *key, size_t key_len);
  * zero is malformed: a server closes the connection there. */
 uint32_t slotroute_request_len(const uint8_t *bytes, size_t bytes_len, slotroute_told *told);
 
-/* Writes the length of the first reply, which may be an error, to told->bytes. Takes no memory. If
- * the reply is at fault, told->reply is 0. */
+/* Writes the length of the first reply, which may be an error, to told->bytes. The reply is of RESP2
+ * or RESP3. Takes no memory. If the reply is at fault, told->reply is 0. */
 uint32_t slotroute_reply_len(const uint8_t *bytes, size_t bytes_len, slotroute_told *told);
 
 /* Where a request goes. */

@@ -1,10 +1,9 @@
 ghost use Rattle.std.specs.Prelude.{◌≡◌, ◌≢◌, ◌++◌, ℕ, List, length};
-ghost use Rattle.resp.specs.Forms.{Answer, IsForm, IsRequest};
+ghost use Rattle.resp.specs.Forms.{IsRequest};
+ghost use Rattle.resp.specs.Messages.{IsMessage, MessageCause};
 ghost use Rattle.resp.specs.Requests.{RequestCause};
 ghost use Rattle.resp.specs.declared.fault.Fault as replies;
-ghost use Rattle.resp.specs.declared.fault.ReadError.TheVariants as errors;
 ghost use Rattle.resp.specs.declared.fault.RequestFault as requests;
-ghost use Rattle.resp.specs.Reading.{Cause};
 ghost use Rattle.slotroute_c.specs.declared.outcomes.Outcome.TheVariants as outcome;
 ghost use Rattle.slotroute_c.specs.Fields.{with_bytes, with_reply_number};
 ghost use Rattle.slotroute_c.specs.Faults.{of_request, with_request_fault};
@@ -15,20 +14,20 @@ use crate::outcomes::Outcome;
 use crate::told::Told;
 use resp::{reply_len, request_len};
 
-/// Writes the number of bytes of the first reply, which may be an error, to `told.bytes`. Takes no
-/// memory.
+/// Writes the number of bytes of the first message, a reply of version 2 or 3, to `told.bytes`. An
+/// error counts as a reply. Takes no memory.
 ///
 /// # Errors
 ///
-/// `ReplyIncomplete` if more bytes can complete the reply, `ReplyMalformed` and `ReplyTooDeep` if
-/// none can. For these `told.reply` is 0.
+/// `ReplyIncomplete` if more bytes can complete the reply, `ReplyMalformed` if none can. For these
+/// `told.reply` is 0.
 #[unsafe(no_mangle)]
 pub extern "C" fn slotroute_reply_len(bytes: &[u8], told: &mut Told) -> u32
-    ensures done { result ≡ code outcome.Done → (a : Answer) × (form : List ℕ) × (rest : List ℕ)
-        × (bytes.now ≡ form ++ rest) × IsForm 32 a form
-        × (told.new ≡ with_bytes (length form) told.old) }
+    ensures done { result ≡ code outcome.Done → (message : List ℕ) × (rest : List ℕ)
+        × (bytes.now ≡ message ++ rest) × IsMessage message
+        × (told.new ≡ with_bytes (length message) told.old) }
     ensures fault { result ≢ code outcome.Done → (fault : replies.Fault)
-        × (result ≡ code (of_reply fault)) × Cause bytes.now (errors.Fault fault)
+        × (result ≡ code (of_reply fault)) × MessageCause bytes.now fault
         × (told.new ≡ with_reply_number 0 told.old) }
 {
     match reply_len(bytes) {
