@@ -8,7 +8,7 @@ prints the split of a request, and the one reply of the replies to its parts.
 
 import ctypes
 import sys
-from ctypes import POINTER, byref, c_char, c_char_p, c_size_t, c_uint16, c_uint32
+from ctypes import POINTER, byref, c_char, c_char_p, c_size_t, c_uint16, c_uint32, c_uint64
 from itertools import pairwise
 
 TOO_SMALL, REQUEST_INCOMPLETE, REPLY_INCOMPLETE, REPLY_IS_ERROR, NO_REDIRECT = 2, 3, 7, 10, 15
@@ -28,6 +28,12 @@ class Routed(ctypes.Structure):
 
 class Redirected(ctypes.Structure):
     _fields_ = [(name, c_uint32) for name in ("kind", "slot", "port")] + [("host_len", c_size_t)]
+
+
+class Progress(ctypes.Structure):
+    """How far `scan` has come in a message. A new message begins with `Progress()`."""
+
+    _fields_ = [("bytes", c_size_t), ("searched", c_size_t), ("after", c_uint64)]
 
 
 class Refused(Exception):
@@ -50,6 +56,7 @@ class Library:
             ("slot", BYTES_IN, c_uint16),
             ("request_len", BYTES_IN + told, c_uint32),
             ("reply_len", BYTES_IN + told, c_uint32),
+            ("scan", [*BYTES_IN, POINTER(Progress)], c_uint32),
             ("route", [*BYTES_IN, c_uint32, POINTER(Routed), *told], c_uint32),
             ("split", BYTES_IN + slots + ends + BYTES_OUT + told, c_uint32),
             ("combine", BYTES_IN * 2 + BYTES_OUT + told, c_uint32),
@@ -82,9 +89,22 @@ class Library:
         """How many bytes the first reply has, or None if more are needed. A bytearray is not copied."""
         return self._len(self.lib.slotroute_reply_len, data, REPLY_INCOMPLETE)
 
+    def scan(self, data, progress):
+        """How many bytes the first message has, or None if more are needed. Then call again with all
+        bytes and the same progress: it goes on where it stopped. A bytearray is not copied."""
+        answer = self.lib.slotroute_scan(self._start(data), len(data), byref(progress))
+        if answer == REPLY_INCOMPLETE:
+            return None
+        self._expect_done(answer, Told())
+        return progress.bytes
+
+    @staticmethod
+    def _start(data):
+        return data if isinstance(data, bytes) else byref(c_char.from_buffer(data))
+
     def _len(self, call, data, incomplete):
-        told, start = Told(), data if isinstance(data, bytes) else byref(c_char.from_buffer(data))
-        answer = call(start, len(data), byref(told))
+        told = Told()
+        answer = call(self._start(data), len(data), byref(told))
         if answer == incomplete:
             return None
         self._expect_done(answer, told)

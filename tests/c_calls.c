@@ -1,6 +1,7 @@
 /* Calls the library for C as careless and hostile callers may.
 
-   c_calls pages     random calls, each buffer ending where memory that may not be touched begins
+   c_calls pages     random calls, each buffer ending where memory that may not be touched begins; and
+                     messages that are scanned byte by byte, from such buffers
    c_calls small     buffers that are too small: nothing is written, and told says what is needed
    c_calls exact     what stands behind what is written stays, and so do the fields that a code does
                      not name; what a server refuses is refused, and the code is that of the first fault
@@ -8,7 +9,7 @@
    c_calls once N    the call of number N: its answer, and a sum of all that it writes. The number 0
                      stands for a call that gets no memory and writes nothing. tests/refusals reads the names
                      at a case: the library's calls that this one makes, and that take memory.
-                     resp::request_len and resp::reply_len take none */
+                     resp::request_len, resp::reply_len and resp::scan take none */
 #define _GNU_SOURCE
 #include "slotroute.h"
 
@@ -39,6 +40,8 @@ static const char *const messages[] = {
     "*2\r\n$3\r\nGET\r\n$1\r\na\r\n*3\r\n$4\r\nMGET\r\n$1\r\nb\r\n$1\r\na\r\n*2\r\n$3\r\nGET\r\n$1\r\nb\r\n",
     "$1\r\n1\r\n*1\r\n:1\r\n-ERR no\r\n$-1\r\n",
     "*2\r\n$1\r\na\r\n:1\r\n*4\r\n$1\r\nb\r\n:2\r\n$1\r\na\r\n:3\r\n",
+    "%2\r\n+first\r\n|1\r\n+ttl\r\n:9\r\n#t\r\n$1\r\n\r\r\n~2\r\n,1.5\r\n(12345678901234567890\r\n",
+    ">3\r\n=8\r\ntxt:some\r\n!5\r\nERR a\r\n*3\r\n_\r\n*-1\r\n$-1\r\n",
 };
 #define MESSAGES (sizeof messages / sizeof *messages)
 
@@ -68,7 +71,7 @@ static uint8_t *some_message(pool *of, int region, uint64_t *seed, size_t *len) 
     uint8_t *bytes = of->end[region] - kept;
     memcpy(bytes, text, kept);
     for (uint32_t changes = next(seed) % 3; kept > 0 && changes > 0; changes--)
-        bytes[next(seed) % kept] = (uint8_t)("0123456789*$:+-\r\nx"[next(seed) % 18]);
+        bytes[next(seed) % kept] = (uint8_t)("0123456789*$:+-\r\nx%>|~"[next(seed) % 22]);
     *len = kept;
     return bytes;
 }
@@ -102,7 +105,7 @@ static uint64_t some_calls(pool *of, uint64_t seed, int times) {
         slotroute_redirected redirected = {0};
         uint32_t answer = 0;
         memset(out, 0xA5, out_len);
-        switch (next(&seed) % 12) {
+        switch (next(&seed) % 13) {
         case 0: answer = slotroute_slot(bytes, len); break;
         case 1: answer = slotroute_request_len(bytes, len, &told); break;
         case 2: answer = slotroute_reply_len(bytes, len, &told); break;
@@ -151,6 +154,15 @@ static uint64_t some_calls(pool *of, uint64_t seed, int times) {
             answer = slotroute_combine_answers(policy, next(&seed) % 4, bytes, len, out, out_len, &told);
             break;
         }
+        case 12: {
+            slotroute_progress progress = {0};
+            progress.bytes = next(&seed) % 2 ? next(&seed) % 64 : (size_t)0 - next(&seed) % 64;
+            progress.searched = next(&seed) % 2 ? next(&seed) % 16 : (size_t)0 - next(&seed) % 16;
+            progress.after = next(&seed) % 2 ? next(&seed) % 4 : (uint64_t)0 - next(&seed) % 4;
+            answer = slotroute_scan(bytes, len, &progress);
+            sum = mixed(sum, &progress, sizeof progress);
+            break;
+        }
         }
         sum = mixed(mixed(sum, &answer, sizeof answer), out, out_len);
         sum = mixed(mixed(sum, &told, sizeof told), &routed, sizeof routed);
@@ -161,9 +173,26 @@ static uint64_t some_calls(pool *of, uint64_t seed, int times) {
 
 #define TIMES 100000
 
+/* Whether the first message, of this length, is incomplete as it arrives byte by byte, and then whole. */
+static int is_scanned(pool *of, const char *text, size_t whole) {
+    slotroute_told told = {0};
+    slotroute_progress progress = {0};
+    for (size_t len = 0; len <= whole; len++) {
+        const uint8_t *bytes = memcpy(of->end[0] - len, text, len);
+        uint32_t wanted = len < whole ? SLOTROUTE_REPLY_INCOMPLETE : SLOTROUTE_DONE;
+        if (slotroute_scan(bytes, len, &progress) != wanted) return 0;
+        if (slotroute_reply_len(bytes, len, &told) != wanted) return 0;
+    }
+    return told.bytes == whole && progress.bytes == whole && progress.searched == 0 && progress.after == 0;
+}
+
 static int pages(void) {
     pool of;
     make_pool(&of);
+    if (!is_scanned(&of, messages[0], strlen(messages[0])) || !is_scanned(&of, messages[5], 4)
+        || !is_scanned(&of, messages[9], strlen(messages[9])) || !is_scanned(&of, messages[15], strlen(messages[15]))
+        || !is_scanned(&of, messages[16], strlen(messages[16])))
+        return 1;
     some_calls(&of, 1, 10 * TIMES);
     return 0;
 }

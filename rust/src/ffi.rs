@@ -12,6 +12,18 @@ pub struct Told {
     pub batch: usize,
 }
 
+/// How far `scan` has come in a message. A new message begins with the default.
+#[repr(C)]
+#[derive(Clone, Copy, Debug, Default, PartialEq, Eq)]
+pub struct Progress {
+    /// How many bytes were stepped over. After a message, its length.
+    pub bytes: usize,
+    /// How many bytes after those hold no end of a line.
+    pub searched: usize,
+    /// How many items are wanted after the next one.
+    pub after: u64,
+}
+
 /// Where a request goes. The header lists the values.
 #[repr(C)]
 #[derive(Clone, Copy, Debug, Default, PartialEq, Eq)]
@@ -38,6 +50,7 @@ unsafe extern "C" {
     pub(crate) fn slotroute_slot(key: *const u8, key_len: usize) -> u16;
     pub(crate) fn slotroute_request_len(bytes: *const u8, bytes_len: usize, told: *mut Told) -> u32;
     pub(crate) fn slotroute_reply_len(bytes: *const u8, bytes_len: usize, told: *mut Told) -> u32;
+    pub(crate) fn slotroute_scan(bytes: *const u8, bytes_len: usize, progress: *mut Progress) -> u32;
     pub(crate) fn slotroute_route(
         request: *const u8, request_len: usize, only_reads: u32, routed: *mut Routed, told: *mut Told,
     ) -> u32;

@@ -14,7 +14,7 @@
 
 mod ffi;
 
-pub use ffi::{Routed, Told};
+pub use ffi::{Progress, Routed, Told};
 use std::{error::Error, fmt, iter};
 
 const DONE: u32 = 0;
@@ -73,6 +73,18 @@ pub fn reply_len(bytes: &[u8]) -> Result<Option<usize>, Refused> {
     // SAFETY: as in `slot`.
     let code = unsafe { ffi::slotroute_reply_len(bytes.as_ptr(), bytes.len(), &mut told) };
     len_unless(REPLY_INCOMPLETE, code, told)
+}
+
+/// The length of the first message, or `None` if more bytes are needed. Then call again with all
+/// bytes and the same `progress`: it goes on where it stopped. A new message begins with
+/// `Progress::default()`.
+pub fn scan(bytes: &[u8], progress: &mut Progress) -> Result<Option<usize>, Refused> {
+    // SAFETY: as in `slot`.
+    match unsafe { ffi::slotroute_scan(bytes.as_ptr(), bytes.len(), progress) } {
+        DONE => Ok(Some(progress.bytes)),
+        REPLY_INCOMPLETE => Ok(None),
+        code => Err(Refused { code, told: Told::default() }),
+    }
 }
 
 fn len_unless(incomplete: u32, code: u32, told: Told) -> Result<Option<usize>, Refused> {
@@ -360,6 +372,10 @@ mod tests {
         assert_eq!(request_len(b"*1\r\n$4\r\nPING\r\n+"), Ok(Some(14)));
         assert_eq!(reply_len(b"*2\r\n:1\r\n"), Ok(None));
         assert_eq!(reply_len(b"?").map_err(|refused| refused.code), Err(8));
+        let (mut progress, message) = (Progress::default(), b"%1\r\n+a\r\n#t\r\n:5\r\n");
+        assert!((0..12).all(|len| scan(&message[..len], &mut progress) == Ok(None)));
+        assert_eq!(scan(message, &mut progress), Ok(Some(12)));
+        assert_eq!(scan(b"?", &mut Progress::default()).map_err(|refused| refused.code), Err(8));
         let routed = route(b"*2\r\n$3\r\nGET\r\n$3\r\nfoo\r\n", true);
         assert_eq!(routed, Ok(Routed { kind: 3, slot: 12182, addr: 1, policy: 0 }));
         let error = split(b"*2\r\n$3\r\nGET\r\n$3\r\nfoo\r\n").unwrap_err();

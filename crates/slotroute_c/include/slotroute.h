@@ -84,6 +84,21 @@ uint32_t slotroute_request_len(const uint8_t *bytes, size_t bytes_len, slotroute
  * or RESP3. Takes no memory. If the reply is at fault, told->reply is 0. */
 uint32_t slotroute_reply_len(const uint8_t *bytes, size_t bytes_len, slotroute_told *told);
 
+/* How far slotroute_scan has come in a message. */
+typedef struct slotroute_progress {
+    size_t bytes;    /* how many bytes were stepped over; after SLOTROUTE_DONE, the message's length */
+    size_t searched; /* how many bytes after those hold no end of a line */
+    uint64_t after;  /* how many items are wanted after the next one */
+} slotroute_progress;
+
+/* Looks for the end of the first message, of RESP2 or RESP3, and goes on where the last call
+ * stopped. All fields of progress are 0 for a new message. bytes begins with the message's first
+ * byte at each call, and has all bytes of the earlier calls. Takes no memory. SLOTROUTE_DONE:
+ * progress->bytes is the message's length. SLOTROUTE_REPLY_INCOMPLETE: call again, with more bytes
+ * and the same progress. SLOTROUTE_REPLY_MALFORMED: no bytes complete the message. A request is such
+ * a message too, but slotroute_request_len is stricter. */
+uint32_t slotroute_scan(const uint8_t *bytes, size_t bytes_len, slotroute_progress *progress);
+
 /* Where a request goes. */
 enum {
     SLOTROUTE_GOES_NOWHERE = 0, /* the layer does not route it, as SCAN, or DEL with no key */

@@ -11,6 +11,7 @@ mod parts;
 mod pipelines;
 mod redirects;
 mod routes;
+mod scans;
 mod several;
 mod tables;
 mod told;
