@@ -5,3 +5,4 @@ pub mod Splits
 pub mod Numbers
 pub mod Untabled
 pub mod Printed
+pub mod NameLines
