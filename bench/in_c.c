@@ -110,7 +110,7 @@ static void time_splitting(const char *name) {
             lens[i] = strlen(words[i]);
         }
         LEAST(own, 20000 / keys + 1,
-              sink += slotroute_split(request.bytes, request.len, slots, keys, ends, keys, out.bytes,
+              sink += slotroute_split(request.bytes, request.len, NULL, 0, slots, keys, ends, keys, out.bytes,
                                       keys * 128 + 64, &told));
         LEAST(other, 20000 / keys + 1, sink += format_by_hiredis(keys, told.parts, words, lens));
         printf("| split %s (hiredis: write its %zu parts) | %zu | %.0f | %.0f |\n", name, told.parts, keys,
@@ -135,7 +135,7 @@ static void time_combining(void) {
         size_t *ends = calloc(keys, sizeof *ends);
         slotroute_told told = {0};
         text replies = some_room(keys * 32 + 64);
-        slotroute_split(request.bytes, request.len, slots, keys, ends, keys, out.bytes, keys * 128 + 64,
+        slotroute_split(request.bytes, request.len, NULL, 0, slots, keys, ends, keys, out.bytes, keys * 128 + 64,
                         &told);
         for (size_t i = 0, parts = told.parts; i < parts; i++) {
             size_t values = (size_t)atoi((char *)out.bytes + (i == 0 ? 0 : ends[i - 1]) + 1) - 1;
@@ -143,7 +143,7 @@ static void time_combining(void) {
             for (size_t j = 0; j < values; j++) add(&replies, "$5\r\nvalue\r\n", j);
         }
         LEAST(own, 20000 / keys + 1,
-              sink += slotroute_combine(request.bytes, request.len, replies.bytes, replies.len, out.bytes,
+              sink += slotroute_combine(request.bytes, request.len, NULL, 0, replies.bytes, replies.len, out.bytes,
                                         keys * 128 + 64, &told));
         printf("| combine the replies of MGET | %zu | %.0f | |\n", keys, own);
         free(request.bytes);
@@ -170,11 +170,11 @@ static void time_pipelines(void) {
             add(&replies, "+OK\r\n", i);
         }
         LEAST(own, 20000 / commands + 1,
-              sink += slotroute_split_pipeline(requests.bytes, requests.len, numbers, SLOTROUTE_SLOTS, nodes, 3,
+              sink += slotroute_split_pipeline(requests.bytes, requests.len, NULL, 0, numbers, SLOTROUTE_SLOTS, nodes, 3,
                                                counts, 3, ends, 3, out.bytes, commands * 64, &told));
         printf("| split a pipeline of SET | %zu | %.0f | |\n", commands, own);
         LEAST(own, 20000 / commands + 1,
-              sink += slotroute_combine_pipeline(requests.bytes, requests.len, numbers, SLOTROUTE_SLOTS,
+              sink += slotroute_combine_pipeline(requests.bytes, requests.len, NULL, 0, numbers, SLOTROUTE_SLOTS,
                                                  replies.bytes, replies.len, out.bytes, commands * 64, &told));
         printf("| combine its replies | %zu | %.0f | |\n", commands, own);
         free(requests.bytes);
@@ -194,7 +194,7 @@ static void time_the_rest(void) {
     const uint8_t *moved = (const uint8_t *)"MOVED 3999 127.0.0.1:6381";
     LEAST(own, 1000000, sink += slotroute_slot((const uint8_t *)"foo", 3));
     printf("| slot of a key of 3 bytes | | %.1f | |\n", own);
-    LEAST(own, 20000, sink += slotroute_route(get.bytes, get.len, 1, &routed, &told));
+    LEAST(own, 20000, sink += slotroute_route(get.bytes, get.len, NULL, 0, 1, &routed, &told));
     printf("| route of a GET | | %.0f | |\n", own);
     LEAST(own, 20000,
           sink += slotroute_redirect(moved, strlen((const char *)moved), moved, 0, lines, sizeof lines,

@@ -39,8 +39,12 @@ static const char *const messages[] = {
     "*2\r\n$3\r\nGET\r\n$1\r\na\r\n*3\r\n$4\r\nMGET\r\n$1\r\nb\r\n$1\r\na\r\n*2\r\n$3\r\nGET\r\n$1\r\nb\r\n",
     "$1\r\n1\r\n*1\r\n:1\r\n-ERR no\r\n$-1\r\n",
     "*2\r\n$1\r\na\r\n:1\r\n*4\r\n$1\r\nb\r\n:2\r\n$1\r\na\r\n:3\r\n",
+    "*3\r\n$9\r\ncountkeys\r\n$1\r\na\r\n$1\r\nb\r\n",
 };
 #define MESSAGES (sizeof messages / sizeof *messages)
+
+/* Names of a module's commands. */
+#define NAMES "multi keys sum COUNTKEYS\nmulti pairs ok OBJECT PUT\n"
 
 /* Memory in regions, behind each of which a page may not be touched. */
 typedef struct pool {
@@ -97,6 +101,8 @@ static uint64_t some_calls(pool *of, uint64_t seed, int times) {
         uint8_t *bytes = some_message(of, 0, &seed, &len);
         uint8_t *others = some_message(of, 1, &seed, &other_len);
         uint8_t *out = of->end[2] - out_len;
+        const uint8_t *names = next(&seed) % 4 ? NULL : (const uint8_t *)NAMES;
+        size_t names_len = names ? most(&seed, strlen(NAMES)) : 0;
         slotroute_told told = {0};
         slotroute_routed routed = {0};
         slotroute_redirected redirected = {0};
@@ -106,7 +112,7 @@ static uint64_t some_calls(pool *of, uint64_t seed, int times) {
         case 0: answer = slotroute_slot(bytes, len); break;
         case 1: answer = slotroute_request_len(bytes, len, &told); break;
         case 2: answer = slotroute_reply_len(bytes, len, &told); break;
-        case 3: answer = slotroute_route(bytes, len, next(&seed) % 2, &routed, &told); break;
+        case 3: answer = slotroute_route(bytes, len, names, names_len, next(&seed) % 2, &routed, &told); break;
         case 4: {
             slots_len = most(&seed, 4);
             ends_len = most(&seed, 4);
@@ -114,11 +120,14 @@ static uint64_t some_calls(pool *of, uint64_t seed, int times) {
             size_t *ends = (size_t *)(void *)of->end[4] - ends_len;
             memset(slots, 0xA5, 2 * slots_len);
             memset(ends, 0xA5, sizeof *ends * ends_len);
-            answer = slotroute_split(bytes, len, slots, slots_len, ends, ends_len, out, out_len, &told);
+            answer = slotroute_split(bytes, len, names, names_len, slots, slots_len, ends, ends_len, out,
+                                     out_len, &told);
             sum = mixed(mixed(sum, slots, 2 * slots_len), ends, sizeof *ends * ends_len);
             break;
         }
-        case 5: answer = slotroute_combine(bytes, len, others, other_len, out, out_len, &told); break;
+        case 5:
+            answer = slotroute_combine(bytes, len, names, names_len, others, other_len, out, out_len, &told);
+            break;
         case 6: {
             slots_len = next(&seed) % 2 ? SLOTROUTE_SLOTS : most(&seed, 8);
             uint16_t *numbers = (uint16_t *)(void *)of->end[3] - slots_len;
@@ -128,7 +137,7 @@ static uint64_t some_calls(pool *of, uint64_t seed, int times) {
             break;
         }
         case 7: answer = slotroute_redirect(bytes, len, others, other_len, out, out_len, &redirected); break;
-        case 8: answer = (uint32_t)slotroute_message(next(&seed) % 20, out, out_len); break;
+        case 8: answer = (uint32_t)slotroute_message(next(&seed) % 21, out, out_len); break;
         case 9: {
             size_t nodes_len = most(&seed, 4), numbers_len = SLOTROUTE_SLOTS - next(&seed) % 2 * 8192;
             slots_len = most(&seed, 4);
@@ -137,14 +146,14 @@ static uint64_t some_calls(pool *of, uint64_t seed, int times) {
             size_t *counts = (size_t *)(void *)of->end[4] - slots_len, *ends = counts - ends_len;
             memset(nodes, 0xA5, 2 * nodes_len);
             memset(ends, 0xA5, sizeof *ends * (ends_len + slots_len));
-            answer = slotroute_split_pipeline(bytes, len, halves, numbers_len, nodes, nodes_len, counts,
-                                              slots_len, ends, ends_len, out, out_len, &told);
+            answer = slotroute_split_pipeline(bytes, len, names, names_len, halves, numbers_len, nodes, nodes_len,
+                                              counts, slots_len, ends, ends_len, out, out_len, &told);
             sum = mixed(mixed(sum, nodes, 2 * nodes_len), ends, sizeof *ends * (ends_len + slots_len));
             break;
         }
         case 10:
-            answer = slotroute_combine_pipeline(bytes, len, halves, SLOTROUTE_SLOTS, others, other_len, out,
-                                                out_len, &told);
+            answer = slotroute_combine_pipeline(bytes, len, names, names_len, halves, SLOTROUTE_SLOTS, others,
+                                                other_len, out, out_len, &told);
             break;
         case 11: {
             uint32_t policy = next(&seed) % 12;
@@ -215,8 +224,8 @@ static int is_no_batch(size_t nodes_len, size_t counts_len, size_t ends_len, siz
     memset(counts, 0xA5, sizeof counts);
     memset(ends, 0xA5, sizeof ends);
     memset(out, 0xA5, sizeof out);
-    uint32_t answer = slotroute_split_pipeline(BYTES(PIPELINE), halves, SLOTROUTE_SLOTS, nodes, nodes_len,
-                                               counts, counts_len, ends, ends_len, out, bytes, &told);
+    uint32_t answer = slotroute_split_pipeline(BYTES(PIPELINE), NULL, 0, halves, SLOTROUTE_SLOTS, nodes,
+                                               nodes_len, counts, counts_len, ends, ends_len, out, bytes, &told);
     return answer == SLOTROUTE_TOO_SMALL && told.parts == 2 && told.bytes == 69
         && is_untouched(nodes, sizeof nodes) && is_untouched(counts, sizeof counts)
         && is_untouched(ends, sizeof ends) && is_untouched(out, sizeof out);
@@ -231,7 +240,7 @@ static int is_refused(size_t parts, size_t ends_len, size_t bytes) {
     memset(slots, 0xA5, sizeof slots);
     memset(ends, 0xA5, sizeof ends);
     memset(out, 0xA5, sizeof out);
-    uint32_t answer = slotroute_split(BYTES(messages[0]), slots, parts, ends, ends_len, out, bytes, &told);
+    uint32_t answer = slotroute_split(BYTES(messages[0]), NULL, 0, slots, parts, ends, ends_len, out, bytes, &told);
     return answer == SLOTROUTE_TOO_SMALL && told.parts == 2 && told.bytes == 58
         && is_untouched(slots, sizeof slots) && is_untouched(ends, sizeof ends)
         && is_untouched(out, sizeof out);
@@ -245,7 +254,7 @@ static int small(void) {
     memset(out, 0xA5, sizeof out);
     memset(numbers, 0xA5, sizeof numbers);
     if (!is_refused(1, 2, 58) || !is_refused(2, 1, 58) || !is_refused(2, 2, 57)) return 1;
-    if (slotroute_combine(BYTES(messages[0]), BYTES(":1\r\n:2\r\n"), out, 3, &told) != SLOTROUTE_TOO_SMALL
+    if (slotroute_combine(BYTES(messages[0]), NULL, 0, BYTES(":1\r\n:2\r\n"), out, 3, &told) != SLOTROUTE_TOO_SMALL
         || told.bytes != 4 || !is_untouched(out, sizeof out))
         return 2;
     if (slotroute_table(BYTES(messages[9]), BYTES("n2"), 0, 0, numbers, SLOTROUTE_SLOTS, out, 15, &told)
@@ -259,7 +268,7 @@ static int small(void) {
     if (!is_no_batch(1, 2, 2, 69) || !is_no_batch(2, 1, 2, 69) || !is_no_batch(2, 2, 1, 69)
         || !is_no_batch(2, 2, 2, 68))
         return 6;
-    if (slotroute_combine_pipeline(BYTES(PIPELINE), halves, SLOTROUTE_SLOTS,
+    if (slotroute_combine_pipeline(BYTES(PIPELINE), NULL, 0, halves, SLOTROUTE_SLOTS,
                                    BYTES("+OK\r\n*1\r\n$1\r\n1\r\n*1\r\n$-1\r\n"), out, 20, &told)
             != SLOTROUTE_TOO_SMALL
         || told.bytes != 21 || !is_untouched(out, sizeof out))
@@ -322,7 +331,7 @@ static int is_reply_fault(const char *text, uint32_t wanted) {
 static int is_routed(const char *request, uint32_t slot, uint32_t addr) {
     slotroute_told told = told_before();
     slotroute_routed routed = {0};
-    return slotroute_route(BYTES(request), 1, &routed, &told) == SLOTROUTE_DONE
+    return slotroute_route(BYTES(request), NULL, 0, 1, &routed, &told) == SLOTROUTE_DONE
         && is_told(told, NULL, NULL, NULL, NULL) && routed.kind == SLOTROUTE_TO_SLOT && routed.slot == slot
         && routed.addr == addr;
 }
@@ -336,13 +345,13 @@ static int exact(void) {
     memset(slots, 0xA5, sizeof slots);
     memset(ends, 0xA5, sizeof ends);
     memset(out, 0xA5, sizeof out);
-    if (slotroute_split(BYTES(messages[0]), slots, 4, ends, 4, out, sizeof out, &told) != SLOTROUTE_DONE
+    if (slotroute_split(BYTES(messages[0]), NULL, 0, slots, 4, ends, 4, out, sizeof out, &told) != SLOTROUTE_DONE
         || !is_told(told, &parts, &bytes, NULL, NULL) || !is_untouched(slots + 2, 2 * sizeof *slots)
         || !is_untouched(ends + 2, 2 * sizeof *ends) || !is_untouched(out + 58, sizeof out - 58))
         return 1;
     told = told_before();
     memset(out, 0xA5, sizeof out);
-    if (slotroute_combine(BYTES(messages[0]), BYTES(":1\r\n:2\r\n"), out, sizeof out, &told) != SLOTROUTE_DONE
+    if (slotroute_combine(BYTES(messages[0]), NULL, 0, BYTES(":1\r\n:2\r\n"), out, sizeof out, &told) != SLOTROUTE_DONE
         || !is_told(told, NULL, &whole, NULL, NULL) || !is_untouched(out + 4, sizeof out - 4))
         return 2;
     if (!is_framed(messages[0], strlen(messages[0])) || !is_framed("$3\r\nabc\r\n", 9)) return 3;
@@ -373,13 +382,13 @@ static int once(int call) {
         answer = slotroute_combine_answers(SLOTROUTE_MAPS, 2, BYTES(messages[14]), out, sizeof out, &told);
         break;
     case 2: /* resp::read_request */
-        answer = slotroute_route(BYTES(messages[2]), 1, &routed, &told);
+        answer = slotroute_route(BYTES(messages[2]), BYTES(NAMES), 1, &routed, &told);
         break;
     case 3: /* redis_bytes::split resp::push_command */
-        answer = slotroute_split(BYTES(messages[1]), slots, 8, ends, 8, out, sizeof out, &told);
+        answer = slotroute_split(BYTES(messages[1]), NULL, 0, slots, 8, ends, 8, out, sizeof out, &told);
         break;
     case 4: /* redis_bytes::combine resp::write */
-        answer = slotroute_combine(BYTES(messages[2]), BYTES(messages[7]), out, sizeof out, &told);
+        answer = slotroute_combine(BYTES(messages[2]), NULL, 0, BYTES(messages[7]), out, sizeof out, &told);
         break;
     case 5: /* redis_bytes::slot_table redis_bytes::slot_map */
         answer = slotroute_table(BYTES(messages[9]), BYTES("n2"), 2, 0, slots, SLOTROUTE_SLOTS, out,
@@ -391,11 +400,11 @@ static int once(int call) {
         break;
     case 7: /* redis_batch_bytes::split_pipeline redis_batches::tasks_of redis_batches::slots_of
                redis_batches::PipelinePlan::of_tasks */
-        answer = slotroute_split_pipeline(BYTES(PIPELINE), halves, SLOTROUTE_SLOTS, slots, 8, counts, 8, ends,
-                                          8, out, sizeof out, &told);
+        answer = slotroute_split_pipeline(BYTES(PIPELINE), NULL, 0, halves, SLOTROUTE_SLOTS, slots, 8, counts,
+                                          8, ends, 8, out, sizeof out, &told);
         break;
     case 8: /* redis_batch_bytes::combine_pipeline */
-        answer = slotroute_combine_pipeline(BYTES(PIPELINE), halves, SLOTROUTE_SLOTS,
+        answer = slotroute_combine_pipeline(BYTES(PIPELINE), NULL, 0, halves, SLOTROUTE_SLOTS,
                                             BYTES("-ERR no\r\n*1\r\n$1\r\n1\r\n*1\r\n$-1\r\n"), out,
                                             sizeof out, &told);
         break;
