@@ -5,6 +5,8 @@
    c_calls exact     what stands behind what is written stays, and so do the fields that a code does
                      not name; what a server refuses is refused, and the code is that of the first fault
    c_calls threads   random calls by four threads at once, with the results of one thread
+   c_calls null      a null pointer stands for no bytes and for no room
+   c_calls stack     a split takes at most 8 KB of stack, any call at most 16 KB
    c_calls once N    the call of number N: its answer, and a sum of all that it writes. The number 0
                      stands for a call that gets no memory and writes nothing. tests/refusals reads the names
                      at a case: the library's calls that this one makes, and that take memory.
@@ -368,6 +370,107 @@ static int exact(void) {
     return 0;
 }
 
+/* Each argument that may be empty is a null pointer. */
+static int null(void) {
+    slotroute_told told = {0};
+    slotroute_routed routed = {0};
+    slotroute_redirected redirected = {0};
+    uint8_t none[1];
+    if (slotroute_slot(NULL, 0) != slotroute_slot(none, 0) || slotroute_message(1, NULL, 0) != 13
+        || slotroute_request_len(NULL, 0, &told) != SLOTROUTE_REQUEST_INCOMPLETE
+        || slotroute_reply_len(NULL, 0, &told) != SLOTROUTE_REPLY_INCOMPLETE
+        || slotroute_route(NULL, 0, NULL, 0, 0, &routed, &told) != SLOTROUTE_REQUEST_INCOMPLETE)
+        return 1;
+    if (slotroute_split(NULL, 0, NULL, 0, NULL, 0, NULL, 0, NULL, 0, &told) != SLOTROUTE_REQUEST_INCOMPLETE
+        || slotroute_split(BYTES(messages[0]), NULL, 0, NULL, 0, NULL, 0, NULL, 0, &told) != SLOTROUTE_TOO_SMALL
+        || slotroute_combine(BYTES(messages[0]), NULL, 0, NULL, 0, NULL, 0, &told) != SLOTROUTE_REPLY_INCOMPLETE
+        || slotroute_combine(BYTES(messages[0]), NULL, 0, BYTES(messages[5]), NULL, 0, &told)
+               != SLOTROUTE_TOO_SMALL
+        || slotroute_combine_answers(SLOTROUTE_SUM, 1, NULL, 0, NULL, 0, &told) != SLOTROUTE_REPLY_INCOMPLETE)
+        return 2;
+    if (slotroute_split_pipeline(NULL, 0, NULL, 0, NULL, 0, NULL, 0, NULL, 0, NULL, 0, NULL, 0, &told)
+            != SLOTROUTE_DONE
+        || slotroute_split_pipeline(BYTES(PIPELINE), NULL, 0, NULL, 0, NULL, 0, NULL, 0, NULL, 0, NULL, 0, &told)
+               != SLOTROUTE_NOT_COVERED
+        || slotroute_combine_pipeline(NULL, 0, NULL, 0, NULL, 0, NULL, 0, NULL, 0, &told) != SLOTROUTE_DONE)
+        return 3;
+    if (slotroute_table(NULL, 0, NULL, 0, 0, 0, NULL, 0, NULL, 0, &told) != SLOTROUTE_REPLY_INCOMPLETE
+        || slotroute_table(BYTES(messages[9]), NULL, 0, 0, 0, NULL, 0, NULL, 0, &told) != SLOTROUTE_TOO_SMALL
+        || slotroute_redirect(NULL, 0, NULL, 0, NULL, 0, &redirected) != SLOTROUTE_NO_REDIRECT
+        || slotroute_redirect(BYTES(messages[10]), NULL, 0, NULL, 0, &redirected) != SLOTROUTE_TOO_SMALL)
+        return 4;
+    return 0;
+}
+
+#define KEYS 65
+#define STACK (64 * PAGE)
+
+static char many[KEYS * 32], deep[KEYS * 256];
+
+/* MGET of many keys, and replies to its parts with arrays as deep as may be. */
+static void make_deep(void) {
+    char *end = many + sprintf(many, "*%d\r\n$4\r\nMGET\r\n", KEYS + 1);
+    for (int key = 0; key < KEYS; key++) end += sprintf(end, "$5\r\nk%04d\r\n", key);
+    end = deep;
+    for (int key = 0; key < KEYS; key++) {
+        for (int level = 0; level < 32; level++) end += sprintf(end, "*1\r\n");
+        end += sprintf(end, ":1\r\n");
+    }
+}
+
+static void *no_call(void *answer) { return answer; }
+
+static void *split_call(void *answer) {
+    static uint16_t slots[KEYS];
+    static size_t ends[KEYS];
+    static uint8_t out[KEYS * 64];
+    slotroute_told told = {0};
+    *(uint32_t *)answer = slotroute_split(BYTES(many), NULL, 0, slots, KEYS, ends, KEYS, out, sizeof out, &told);
+    return answer;
+}
+
+static void *combine_call(void *answer) {
+    static uint8_t out[sizeof deep];
+    slotroute_told told = {0};
+    *(uint32_t *)answer = slotroute_combine(BYTES(many), NULL, 0, BYTES(deep), out, sizeof out, &told);
+    return answer;
+}
+
+static void *pipeline_call(void *answer) {
+    static uint8_t out[sizeof deep];
+    slotroute_told told = {0};
+    *(uint32_t *)answer = slotroute_combine_pipeline(BYTES(many), NULL, 0, halves, SLOTROUTE_SLOTS, BYTES(deep),
+                                                     out, sizeof out, &told);
+    return answer;
+}
+
+/* How much of its stack a thread takes. */
+static size_t taken(void *(*call)(void *)) {
+    uint8_t *stack = mmap(NULL, STACK, PROT_READ | PROT_WRITE, MAP_PRIVATE | MAP_ANONYMOUS, -1, 0);
+    pthread_attr_t in_room;
+    pthread_t id;
+    uint32_t answer = 0;
+    size_t free_bytes = 0;
+    if (stack == MAP_FAILED) exit(3);
+    memset(stack, 0xA5, STACK);
+    if (pthread_attr_init(&in_room) != 0 || pthread_attr_setstack(&in_room, stack, STACK) != 0
+        || pthread_create(&id, &in_room, call, &answer) != 0 || pthread_join(id, NULL) != 0
+        || answer != SLOTROUTE_DONE)
+        exit(3);
+    while (free_bytes < STACK && stack[free_bytes] == 0xA5) free_bytes++;
+    munmap(stack, STACK);
+    return STACK - free_bytes;
+}
+
+static int stack(void) {
+    make_deep();
+    size_t none = taken(no_call);
+    if (taken(split_call) > none + 8192) return 1;
+    if (taken(combine_call) > none + 16384) return 2;
+    if (taken(pipeline_call) > none + 16384) return 3;
+    return 0;
+}
+
 static int once(int call) {
     static uint16_t slots[SLOTROUTE_SLOTS];
     static uint8_t out[512];
@@ -424,6 +527,8 @@ int main(int count, char **words) {
     if (count == 2 && strcmp(words[1], "small") == 0) return small();
     if (count == 2 && strcmp(words[1], "exact") == 0) return exact();
     if (count == 2 && strcmp(words[1], "threads") == 0) return threads();
+    if (count == 2 && strcmp(words[1], "null") == 0) return null();
+    if (count == 2 && strcmp(words[1], "stack") == 0) return stack();
     if (count == 3 && strcmp(words[1], "once") == 0) return once(atoi(words[2]));
     return 2;
 }

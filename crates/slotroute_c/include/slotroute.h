@@ -7,7 +7,7 @@
  *
  * What a caller owes, and nothing checks:
  *  - A pointer and its length name memory that may be read (const) or read and written for the
- *    whole call, all of it initialized. A pointer is never null, also if its length is 0.
+ *    whole call, all of it initialized. A pointer may be null if its length is 0.
  *  - What is written overlaps nothing else that is passed.
  *  - malloc, realloc and free are of one allocator, and align a block to each power of two up to 16
  *    that divides its size.
@@ -41,7 +41,7 @@ enum {
     SLOTROUTE_REQUEST_MALFORMED = 4,  /* no request can have the byte at told.at there */
     SLOTROUTE_AFTER_REQUEST = 5,      /* bytes follow the request, which ends at told.at */
     SLOTROUTE_NOT_MULTI_KEY = 6,      /* not a complete DEL, EXISTS, JSON.MGET, JSON.MSET, MGET,
-                                         MSET, TOUCH, UNLINK or WATCH */
+                                         MSET, TOUCH, UNLINK or WATCH, nor of a name in `names` */
     SLOTROUTE_REPLY_INCOMPLETE = 7,   /* the reply of the number told.reply; so in the next three */
     SLOTROUTE_REPLY_MALFORMED = 8,
     SLOTROUTE_REPLY_TOO_DEEP = 9,     /* arrays are nested more than 32 deep */
@@ -64,7 +64,7 @@ typedef struct slotroute_told {
     size_t parts; /* how many parts there are */
     size_t bytes; /* how many bytes there are */
     size_t reply; /* the number of a reply, counted from 0 */
-    size_t at;    /* the index of a byte, counted from 0 */
+    size_t at;    /* the index of a byte, or of a line of names, counted from 0 */
     size_t request; /* the number of a request of a pipeline, counted from 0 */
     size_t batch;   /* the number of a batch of a pipeline, counted from 0 */
 } slotroute_told;
