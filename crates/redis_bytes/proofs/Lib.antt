@@ -6,3 +6,4 @@ pub mod Numbers
 pub mod Untabled
 pub mod Printed
 pub mod NameLines
+pub mod PartArguments

@@ -16,4 +16,4 @@ pub use reading::{MAX_LEVELS, read};
 pub use requests::{read_request, request_len};
 pub use response::Response;
 pub use skipping::reply_len;
-pub use writing::{push_command, write, write_command};
+pub use writing::{push_array_line, push_bulk, push_command, write, write_command};
